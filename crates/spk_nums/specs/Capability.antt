@@ -1,0 +1,8 @@
+use Rattle.std.specs.Prelude.{ℕ}
+use Rattle.spk_nums.specs.declared.kinds.Kind.{Kind}
+
+-- a capability as contracts see it: its kind, the frame that it names, and its number
+pub record Capability : Type 0 where
+  pub kind : Kind
+  pub frame : ℕ
+  pub arg : ℕ

@@ -1,0 +1,13 @@
+//! Want of memory.
+
+use std::alloc::AllocError;
+
+/// Memory was wanting: the one answer that no contract ties to a cause.
+#[derive(Clone, Copy, PartialEq, Eq, Debug)]
+pub struct Memory;
+
+impl From<AllocError> for Memory {
+    fn from(_error: AllocError) -> Memory {
+        Memory
+    }
+}
