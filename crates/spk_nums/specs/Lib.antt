@@ -1,2 +1,10 @@
+pub mod Built
+pub mod CallLimits
 pub mod Capability
+pub mod CoreSets
+pub mod Grants
 pub mod Limits
+pub mod Listed
+pub mod Qualities
+pub mod Setting
+pub mod Translations

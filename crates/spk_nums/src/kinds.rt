@@ -94,3 +94,29 @@ impl Flags for PageFlags {
         PageFlags(bits)
     }
 }
+
+impl PageFlags {
+    /// Neither written nor executed.
+    #[inline]
+    pub fn none() -> PageFlags
+        ensures { result ≡ record { 0 = 0 } }
+    {
+        PageFlags(0)
+    }
+
+    /// The flags of these bits.
+    #[inline]
+    pub fn of_bits(bits: u8) -> PageFlags
+        ensures { result ≡ record { 0 = bits } }
+    {
+        PageFlags(bits)
+    }
+
+    /// The bits as a number, bit 0 to write, bit 1 to execute.
+    #[inline]
+    pub fn number(self) -> u8
+        ensures { result ≡ self.0 }
+    {
+        self.0
+    }
+}

@@ -1,18 +1,30 @@
 //! Numbers, capabilities, calls and replies: the words that every other crate speaks in.
 #![tactic(auto)]
 
+mod built;
 mod calls;
 mod cap;
+mod grants;
 mod kinds;
+mod limits;
 mod memory;
 mod numbers;
+mod qualities;
 mod replies;
+mod setup;
 mod steps;
+mod translations;
 
+pub use built::is_built;
 pub use calls::{Call, Make};
 pub use cap::Cap;
+pub use grants::{Grant, Grants};
 pub use kinds::{FrameKind, Kind, Obj, PageFlags};
+pub use limits::in_limits;
 pub use memory::Memory;
 pub use numbers::{CapId, CoreNo, EntryNo, FrameArg, FrameNo, PageNo, Stamp};
+pub use qualities::Qualities;
 pub use replies::{Decision, Reply, Value};
+pub use setup::Setup;
 pub use steps::{How, Item, StageEnd, WordOp};
+pub use translations::{CoreEnd, Translation, Translations};
