@@ -1,3 +1,4 @@
+pub mod Bounds
 pub mod Built
 pub mod CallLimits
 pub mod Capability
@@ -5,6 +6,8 @@ pub mod CoreSets
 pub mod Grants
 pub mod Limits
 pub mod Listed
+pub mod Merging
+pub mod Names
 pub mod Qualities
 pub mod Setting
 pub mod Translations

@@ -1,0 +1,6 @@
+use Rattle.std.proofs.Common.{rules}
+use Rattle.spk_nums.proofs.CoreSets.{set_bit}
+use Rattle.spk_nums.proofs.core_set.CoreSet.with.Goals as goal
+
+pub returns : goal.returns
+returns c other small = rw c.number.ensures.value (set_bit c.args.self.0 c.args.core other c.number.ensures.range)
