@@ -10,4 +10,5 @@ pub mod Merging
 pub mod Names
 pub mod Qualities
 pub mod Setting
+pub mod Texts
 pub mod Translations

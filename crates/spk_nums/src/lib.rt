@@ -15,6 +15,7 @@ mod qualities;
 mod replies;
 mod setup;
 mod steps;
+mod texts;
 mod translations;
 
 pub use built::is_built;
@@ -31,4 +32,5 @@ pub use qualities::Qualities;
 pub use replies::{Decision, Reply, Value};
 pub use setup::Setup;
 pub use steps::{How, Item, StageEnd, WordOp};
+pub use texts::ReplyLine;
 pub use translations::{CoreEnd, Translation, Translations};
