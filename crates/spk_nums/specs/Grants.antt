@@ -1,4 +1,4 @@
-use Rattle.std.specs.Prelude.{◌≡◌, ℕ, ◌<◌, ◌≤◌, ◌^◌, List, length, take}
+use Rattle.std.specs.Prelude.{◌≡◌, List, length, take}
 use Rattle.spk_nums.specs.Listed.{IsListed, padded, padded-listed, length-listed}
 use Rattle.spk_nums.specs.declared.grants.Grant.{Grant}
 use Rattle.spk_nums.specs.declared.grants.Grants.TheInside.{Inside}

@@ -1,4 +1,4 @@
-use Rattle.std.proofs.Common.{rules, All, List, subst, arith}
+use Rattle.std.proofs.Common.{rules, All, List, subst}
 use Rattle.std.proofs.lemmas.List.{take_all}
 use Rattle.std.proofs.lemmas.List.Elements.{All-more}
 use Rattle.spk_nums.specs.declared.grants.Grant.{Grant}

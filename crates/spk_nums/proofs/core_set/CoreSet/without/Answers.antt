@@ -1,4 +1,3 @@
-use Rattle.std.proofs.Common.{rules}
 use Rattle.spk_nums.proofs.CoreSets.{clear_bit}
 use Rattle.spk_nums.proofs.core_set.CoreSet.without.Goals as goal
 

@@ -1,4 +1,3 @@
-use Rattle.std.proofs.Common.{rules}
 use Rattle.spk_nums.proofs.Cells.{filled}
 use Rattle.spk_nums.proofs.qualities.Qualities.add.Goals as goal
 
