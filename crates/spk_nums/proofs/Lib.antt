@@ -1,2 +1,5 @@
 pub mod Cells
+pub mod Choices
 pub mod CoreSets
+pub mod MarkLemmas
+pub mod OneSpelling

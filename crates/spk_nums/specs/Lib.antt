@@ -6,9 +6,11 @@ pub mod CoreSets
 pub mod Grants
 pub mod Limits
 pub mod Listed
+pub mod Marks
 pub mod Merging
 pub mod Names
 pub mod Qualities
 pub mod Setting
+pub mod Spelling
 pub mod Texts
 pub mod Translations
