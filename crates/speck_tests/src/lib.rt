@@ -1,0 +1,7 @@
+//! Tests that cross crates, and those of the base crates, which all others wait for.
+#![tactic(auto)]
+
+#[cfg(test)]
+mod numbers;
+#[cfg(test)]
+mod texts;
