@@ -1,5 +1,5 @@
 -- One number for each mark.
-use Rattle.std.proofs.Common.{◌≡◌, ◌≢◌, ℕ, ◌+◌, ◌-◌, ◌<◌, ◌==◌, Option, Some, None, refl, sym, ap, ◌∙◌, arith, nat_lt}
+use Rattle.std.proofs.Common.{◌≡◌, ◌≢◌, ℕ, ◌+◌, ◌-◌, ◌<◌, ◌==◌, Option, Some, None, refl, sym, arith, nat_lt}
 use Rattle.std.proofs.lemmas.Bool.{ne_eqb, lt-ltb, ltb-true, eqb-true, eqb-false}
 use Rattle.spk_nums.proofs.Choices.{kept, chosen}
 use Rattle.spk_nums.specs.Marks.{MarkFits, number_of_mark, mark_of_number}

@@ -1,0 +1,134 @@
+-- One spelling for each entry.
+use Rattle.std.proofs.Common.{◌≡◌, ◌≢◌, ℕ, ◌+◌, ◌*◌, ◌/◌, ◌%◌, ◌^◌, ◌<◌, ◌≤◌, ◌==◌, ◌&&◌, nat_lt, nat_le, Option, Some, None, IfSome, refl, subst, arith}
+use Rattle.std.proofs.lemmas.Bool.{ne_eqb, lt-ltb, le-leb, and_parts, ltb-true, leb-true, eqb-true}
+use Rattle.std.proofs.lemmas.Bool.Decides.{nat_tests}
+use Rattle.spk_nums.proofs.Choices.{kept, chosen}
+use Rattle.spk_nums.proofs.OneSpelling.{spelling_reads, spelling_spells}
+use Rattle.spk_nums.specs.Limits.{least_arg, end_of_arg}
+use Rattle.spk_nums.specs.Spelling.{IsOneSpelling}
+use Rattle.spk_nums.specs.declared.kinds.Kind.{Kind}
+use Rattle.spk_nums.specs.declared.kinds.Kind.TheVariants.{Range, Table, Leaf, Pages, Pleaf, Comp, Gate, Thread, Tcap, Link, Page}
+use Rattle.entry_words.specs.Kinds.{number_of_kind, kind_of_number}
+use Rattle.entry_words.specs.EntryWord.{EntryFits, word_of_entry, entry_of_word, held_of, closing_of, quiescing_of}
+use Rattle.entry_words.specs.declared.entry.Entry.{Entry}
+use Rattle.entry_words.specs.declared.entry.Entry.TheVariants.{Free, Held, Closing, Quiescing}
+
+-- a kind has a number below 16 and is found again from it; its capabilities' numbers are below 2 ^ 24
+record IsNumbered (k : Kind) : Type 0 where
+  below : number_of_kind k < 16
+  back : kind_of_number (number_of_kind k) ≡ Some k
+  arg : end_of_arg k ≤ 2 ^ 24
+
+numbered : (k : Kind) → IsNumbered k
+numbered Range = record { below = omega arith; back = refl; arg = omega arith }
+numbered Table = record { below = omega arith; back = refl; arg = omega arith }
+numbered Leaf = record { below = omega arith; back = refl; arg = omega arith }
+numbered Pages = record { below = omega arith; back = refl; arg = omega arith }
+numbered Pleaf = record { below = omega arith; back = refl; arg = omega arith }
+numbered Comp = record { below = omega arith; back = refl; arg = omega arith }
+numbered Gate = record { below = omega arith; back = refl; arg = omega arith }
+numbered Thread = record { below = omega arith; back = refl; arg = omega arith }
+numbered Tcap = record { below = omega arith; back = refl; arg = omega arith }
+numbered Link = record { below = omega arith; back = refl; arg = omega arith }
+numbered Page = record { below = omega arith; back = refl; arg = omega arith }
+
+number_of_kind_of : (n : ℕ) (k : Kind) → kind_of_number n ≡ Some k → number_of_kind k ≡ n
+number_of_kind_of n k h = grind (arith, nat_tests)
+
+reads : (v : Entry) → EntryFits v → entry_of_word (word_of_entry v) ≡ Some v
+unfolding word_of_entry entry_of_word
+reads Free h = refl
+reads (Held cap) h =
+    let k : ℕ = number_of_kind cap.kind in
+    let n : IsNumbered cap.kind = numbered cap.kind in
+    let w : ℕ = 1 + 2 ^ 2 * k + 2 ^ 6 * cap.frame + 2 ^ 16 * cap.arg in
+    let some : w ≢ 0 = omega arith in
+    let tag : w % 2 ^ 2 ≡ 1 = omega arith in
+    let kind : w / 2 ^ 2 % 2 ^ 4 ≡ k = omega arith in
+    let frame : w / 2 ^ 6 % 2 ^ 10 ≡ cap.frame = omega arith in
+    let arg : w / 2 ^ 16 ≡ cap.arg = omega arith in
+    rw (ne_eqb w 0 some, tag, kind, frame, arg, n.back, lt-ltb cap.frame 512 h.0, le-leb (least_arg cap.kind) cap.arg h.1, lt-ltb cap.arg (end_of_arg cap.kind) h.2)
+reads (Closing by) h =
+    let w : ℕ = 2 + 2 ^ 2 * by in
+    let some : w ≢ 0 = omega arith in
+    let tag : w % 2 ^ 2 ≡ 2 = omega arith in
+    let core : w / 2 ^ 2 ≡ by = omega arith in
+    rw (ne_eqb w 0 some, tag, core, lt-ltb by 8 h)
+reads (Quiescing s) h =
+    let w : ℕ = 3 + 2 ^ 32 * s in
+    let some : w ≢ 0 = omega arith in
+    let tag : w % 2 ^ 2 ≡ 3 = omega arith in
+    let low : w % 2 ^ 32 ≡ 3 = omega arith in
+    let stamp : w / 2 ^ 32 ≡ s = omega arith in
+    rw (ne_eqb w 0 some, tag, low, stamp, le-leb 1 s h.0, lt-ltb s (2 ^ 28) h.1)
+
+-- an entry within its ranges, whose word is this one
+Spells : ℕ → Entry → Type 0
+Spells w v = EntryFits v × (word_of_entry v ≡ w)
+
+spells_free : (w : ℕ) (v : Entry) → w ≡ 0 → Some Free ≡ Some v → Spells w v
+unfolding Spells word_of_entry
+spells_free w v none h =
+    let value : Free ≡ v = cc in
+    subst (Spells w) value (tt, omega arith)
+
+spells_held : (o : Option Kind) (w : ℕ) (v : Entry) → o ≡ kind_of_number (w / 2 ^ 2 % 2 ^ 4) → w % 2 ^ 2 ≡ 1 → held_of o (w / 2 ^ 6 % 2 ^ 10) (w / 2 ^ 16) ≡ Some v → Spells w v
+unfolding Spells word_of_entry
+spells_held None w v from tag h = absurd (cc)
+spells_held (Some k) w v from tag h =
+    let f : ℕ = w / 2 ^ 6 % 2 ^ 10 in
+    let a : ℕ = w / 2 ^ 16 in
+    let (tests, value) = kept (nat_lt f 512 && (nat_le (least_arg k) a && nat_lt a (end_of_arg k))) (Held (record { kind = k; frame = f; arg = a })) v h in
+    let (frame, arg) = and_parts (nat_lt f 512) _ tests in
+    let (least, last) = and_parts (nat_le (least_arg k) a) _ arg in
+    let kind : number_of_kind k ≡ w / 2 ^ 2 % 2 ^ 4 = number_of_kind_of (w / 2 ^ 2 % 2 ^ 4) k (cc) in
+    subst (Spells w) value ((ltb-true f 512 frame, leb-true (least_arg k) a least, ltb-true a (end_of_arg k) last), omega (arith, kind))
+
+spells_closing : (w : ℕ) (v : Entry) → w % 2 ^ 2 ≡ 2 → closing_of (w / 2 ^ 2) ≡ Some v → Spells w v
+unfolding Spells word_of_entry
+spells_closing w v tag h =
+    let by : ℕ = w / 2 ^ 2 in
+    let (core, value) = kept (nat_lt by 8) (Closing by) v h in
+    subst (Spells w) value (ltb-true by 8 core, omega arith)
+
+spells_quiescing : (w : ℕ) (v : Entry) → w % 2 ^ 32 ≡ 3 → quiescing_of (w / 2 ^ 32) ≡ Some v → Spells w v
+unfolding Spells word_of_entry
+spells_quiescing w v tag h =
+    let s : ℕ = w / 2 ^ 32 in
+    let (tests, value) = kept (nat_le 1 s && nat_lt s (2 ^ 28)) (Quiescing s) v h in
+    let (least, last) = and_parts (nat_le 1 s) _ tests in
+    subst (Spells w) value ((leb-true 1 s least, ltb-true s (2 ^ 28) last), omega arith)
+
+spells : (w : ℕ) (v : Entry) → entry_of_word w ≡ Some v → Spells w v
+unfolding Spells word_of_entry entry_of_word
+spells w v h =
+    chosen (w == 0) _ _ (Some v) h
+    (λ e f. spells_free w v (eqb-true w 0 e) f)
+    (λ _ h1. chosen (w % 2 ^ 2 == 1) _ _ (Some v) h1
+    (λ e f. spells_held _ w v refl (eqb-true (w % 2 ^ 2) 1 e) f)
+    (λ _ h2. chosen (w % 2 ^ 2 == 2) _ _ (Some v) h2
+    (λ e f. spells_closing w v (eqb-true (w % 2 ^ 2) 2 e) f)
+    (λ _ h3. chosen (w % 2 ^ 32 == 3) _ _ (Some v) h3
+    (λ e f. spells_quiescing w v (eqb-true (w % 2 ^ 32) 3 e) f)
+    (λ _ f. absurd (cc)))))
+
+small : (v : Entry) → EntryFits v → word_of_entry v < 2 ^ 64
+unfolding word_of_entry
+small Free h = omega arith
+small (Held cap) h =
+    let n : IsNumbered cap.kind = numbered cap.kind in
+    let last : end_of_arg cap.kind ≤ 2 ^ 24 = n.arg in
+    omega arith
+small (Closing by) h = omega arith
+small (Quiescing s) h = omega arith
+
+pub spelling : IsOneSpelling EntryFits word_of_entry entry_of_word
+unfolding Spells
+spelling = record { reads = reads; spells = spells; small = small }
+
+-- what `unpack` says of the value read from a word
+pub entry_reads : (o : Option Entry) (w : ℕ) → o ≡ entry_of_word w → (v : Entry) → EntryFits v → word_of_entry v ≡ w → o ≡ Some v
+entry_reads = spelling_reads spelling
+
+pub entry_spells : (o : Option Entry) (w : ℕ) → o ≡ entry_of_word w → IfSome o (λ v. EntryFits v × (word_of_entry v ≡ w))
+entry_spells = spelling_spells spelling

@@ -1,0 +1,244 @@
+//! What the word of a place says.
+
+ghost use Rattle.std.specs.Prelude.{◌≡◌, ◌≤◌, ◌<◌, ◌↔◌, IsTrue, IfSome, Some};
+ghost use Rattle.spk_nums.specs.Limits.{least_arg, end_of_arg};
+ghost use Rattle.spk_nums.specs.Spelling.{IsOneSpelling};
+ghost use Rattle.entry_words.specs.Kinds.{kind_of_number};
+ghost use Rattle.entry_words.specs.declared.entry.Entry.{Entry};
+ghost use Rattle.entry_words.specs.declared.entry.Entry.TheVariants.{Free};
+ghost use Rattle.entry_words.specs.EntryWord.{EntryFits, word_of_entry, entry_of_word, held_of, closing_of, quiescing_of};
+
+use spk_nums::{Cap, CoreNo, FrameNo, Kind, Stamp};
+
+/// A place in a node, as its word says it.
+#[derive(Clone, Copy, PartialEq, Eq, Debug)]
+pub enum Entry {
+    /// Nothing is there.
+    Free,
+    /// A capability, or another entry of a node.
+    Held(Cap),
+    /// A core is removing what was there.
+    Closing {
+        /// The core that removes it.
+        by: CoreNo,
+    },
+    /// What was there is removed, and the place waits until no core can still be using it.
+    Quiescing {
+        /// The stamp that the removal drew, at least 1.
+        stamp: Stamp,
+    },
+}
+
+impl Entry {
+    /// The entry's word. The stamp of a Quiescing entry is at least 1.
+    #[inline]
+    #[tactic(auto, unfolding(crate::specs::EntryWord::word_of_entry))]
+    pub fn pack(self) -> u64
+        requires { EntryFits self }
+        ensures { result ≡ word_of_entry self }
+    {
+        match self {
+            Entry::Free => 0,
+            Entry::Held(cap) => 1
+                + ((cap.kind() as u64) << 2)
+                + ((cap.frame().number() as u64) << 6)
+                + ((cap.arg() as u64) << 16),
+            Entry::Closing { by } => 2 + ((by.number() as u64) << 2),
+            Entry::Quiescing { stamp } => 3 + ((stamp.number() as u64) << 32),
+        }
+    }
+
+    /// The entry whose word this is; None exactly where it is the word of no entry.
+    #[inline]
+    #[tactic(auto, using(crate::proofs::Spelling::entry_spells))]
+    pub fn unpack(word: u64) -> Option<Entry>
+        ensures value { result ≡ entry_of_word word }
+        ensures reads { (v : Entry) → EntryFits v → word_of_entry v ≡ word → result ≡ Some v }
+        ensures spells { IfSome result (λ v. EntryFits v × (word_of_entry v ≡ word)) }
+    {
+        read(word)
+    }
+}
+
+/// The fields of a word, where each is within its range.
+#[inline]
+#[tactic(auto, unfolding(crate::specs::EntryWord::entry_of_word))]
+fn read(word: u64) -> Option<Entry>
+    ensures { result ≡ entry_of_word word }
+{
+    match word & 3 {
+        1 => held((word >> 2) & 0xf, (word >> 6) & 0x3ff, word >> 16),
+        2 => closing(word >> 2),
+        3 if word & 0xffff_ffff == 3 => quiescing(word >> 32),
+        _ if word == 0 => Some(Entry::Free),
+        _ => None,
+    }
+}
+
+/// The entry that holds the capability of these three numbers, where each is within its range.
+#[inline]
+fn held(kind: u64, frame: u64, arg: u64) -> Option<Entry>
+    ensures { result ≡ held_of (kind_of_number kind) frame arg }
+{
+    let kind = kind_numbered(kind)?;
+    if frame < 512 && takes_argument(kind, arg) {
+        Some(Entry::Held(Cap::new(kind, FrameNo::new(frame as u16), arg as u32)))
+    } else {
+        None
+    }
+}
+
+/// The entry that this core is closing, where there is such a core.
+#[inline]
+fn closing(by: u64) -> Option<Entry>
+    ensures { result ≡ closing_of by }
+{
+    if by < 8 {
+        Some(Entry::Closing {
+            by: CoreNo::new(by as u8),
+        })
+    } else {
+        None
+    }
+}
+
+/// The entry that waits since this stamp, where that is within its range.
+#[inline]
+fn quiescing(stamp: u64) -> Option<Entry>
+    ensures { result ≡ quiescing_of stamp }
+{
+    if 1 <= stamp && stamp < 1 << 28 {
+        Some(Entry::Quiescing {
+            stamp: Stamp::new(stamp as u32),
+        })
+    } else {
+        None
+    }
+}
+
+/// Whether a capability of this kind may carry this number.
+#[inline]
+fn takes_argument(kind: Kind, arg: u64) -> bool
+    ensures { IsTrue result ↔ ((least_arg kind ≤ arg) × (arg < end_of_arg kind)) }
+{
+    match kind {
+        Kind::Range => arg < 1 << 24,
+        Kind::Gate => 1 <= arg && arg < 1 << 16,
+        Kind::Page => arg < 4,
+        _ => arg == 0,
+    }
+}
+
+/// The kind of this number in a word.
+#[inline]
+fn kind_numbered(number: u64) -> Option<Kind>
+    ensures { result ≡ kind_of_number number }
+{
+    match number {
+        0 => Some(Kind::Range),
+        1 => Some(Kind::Table),
+        2 => Some(Kind::Leaf),
+        3 => Some(Kind::Pages),
+        4 => Some(Kind::Pleaf),
+        5 => Some(Kind::Comp),
+        6 => Some(Kind::Gate),
+        7 => Some(Kind::Thread),
+        8 => Some(Kind::Tcap),
+        9 => Some(Kind::Link),
+        10 => Some(Kind::Page),
+        _ => None,
+    }
+}
+
+/// Each entry within its ranges has one word, and is read from that word alone. The word of a free place is 0.
+pub fn entry_spelling()
+    ensures spelling { IsOneSpelling EntryFits word_of_entry entry_of_word }
+    ensures free { word_of_entry Free ≡ 0 }
+{}
+
+#[cfg(test)]
+mod tests {
+    use super::*;
+    use std::process::Abort;
+
+    // An entry and its word, both ways.
+    fn spells(rt: &impl Abort, entry: &Entry, word: u64)
+        requires { EntryFits entry.now }
+    {
+        assert_eq!(rt; entry.pack(), word);
+        assert_eq!(rt; Entry::unpack(word), Some(*entry), "at {word:#018x}");
+    }
+
+    fn held(kind: Kind, frame: u16, arg: u32) -> Entry
+        requires frame { frame < 512 }
+        requires least { least_arg kind ≤ arg }
+        requires end { arg < end_of_arg kind }
+        ensures { EntryFits result }
+    {
+        Entry::Held(Cap::new(kind, FrameNo::new(frame), arg))
+    }
+
+    #[test]
+    fn spells_worked_words(rt: HostRuntime) {
+        spells(&rt, &Entry::Free, 0);
+        spells(&rt, &held(Kind::Range, 0, 0), 1);
+        spells(&rt, &held(Kind::Table, 0, 0), 0x0000_0000_0000_0005);
+        spells(&rt, &held(Kind::Range, 8, 24), 0x0000_0000_0018_0201);
+        spells(&rt, &Entry::Closing { by: CoreNo::new(1) }, 6);
+        spells(
+            &rt,
+            &Entry::Quiescing {
+                stamp: Stamp::new(5),
+            },
+            0x0000_0005_0000_0003,
+        );
+    }
+
+    #[test]
+    fn spells_the_ends_of_each_field(rt: HostRuntime) {
+        spells(
+            &rt,
+            &held(Kind::Range, 511, 0xff_ffff),
+            0x0000_00ff_ffff_7fc1,
+        );
+        spells(&rt, &held(Kind::Gate, 0, 1), 0x0000_0000_0001_0019);
+        spells(&rt, &held(Kind::Gate, 511, 0xffff), 0x0000_0000_ffff_7fd9);
+        spells(&rt, &held(Kind::Page, 511, 3), 0x0000_0000_0003_7fe9);
+        spells(&rt, &Entry::Closing { by: CoreNo::new(0) }, 2);
+        spells(&rt, &Entry::Closing { by: CoreNo::new(7) }, 0x1e);
+        spells(
+            &rt,
+            &Entry::Quiescing {
+                stamp: Stamp::new(1),
+            },
+            0x0000_0001_0000_0003,
+        );
+        spells(
+            &rt,
+            &Entry::Quiescing {
+                stamp: Stamp::new(0xfff_ffff),
+            },
+            0x0fff_ffff_0000_0003,
+        );
+    }
+
+    #[test]
+    fn refuses_words_of_no_entry(rt: HostRuntime) {
+        let words = [
+            1 << 40,
+            3,
+            4,
+            0x2d,
+            0x8001,
+            0x0000_0100_0000_0001,
+            0x19,
+            0x0000_0000_0004_0029,
+            0x22,
+            0x0000_0005_0000_0007,
+            0x1000_0000_0000_0003,
+        ];
+        for word in words {
+            assert_eq!(rt; Entry::unpack(word), None, "at {word:#018x}");
+        }
+    }
+}

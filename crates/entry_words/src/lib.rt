@@ -1,0 +1,6 @@
+//! The packed word of a place in a node: free, held, closing or quiescing.
+#![tactic(auto)]
+
+mod entry;
+
+pub use entry::{Entry, entry_spelling};
