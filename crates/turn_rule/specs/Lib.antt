@@ -1,0 +1,4 @@
+pub mod Steps
+pub mod Trace
+pub mod Seats
+pub mod Rule

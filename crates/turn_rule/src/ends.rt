@@ -1,0 +1,128 @@
+//! How a table begins, with a seat for each program, and how it ends.
+
+ghost use Rattle.std.specs.Prelude.{◌≡◌, ℕ, ◌+◌, ◌<◌, [], length, slice_get, vec_len, All, IfOk, Some};
+ghost use Rattle.std.specs.Slots.{slots_items, slots_len, IsFull};
+ghost use Rattle.turn_rule.specs.Trace.{program_after};
+ghost use Rattle.turn_rule.specs.Rule.{start_of, part, Stays, Begins};
+ghost use Rattle.turn_rule.specs.Seats.{AreAllSeats, AreFresh, EndsAt};
+
+use crate::plays::{Deals, Gathers, Starts, Takes};
+use crate::program::CoreProgram;
+use crate::seat::TurnSeat;
+use crate::table::TurnTable;
+use crate::view::{Boot, View};
+use atomic_table::{Closed, Seat, Table};
+use spk_nums::Memory;
+use std::alloc::{AllocError, Global};
+use std::snapshot::Snapshot;
+
+impl<P: CoreProgram> TurnTable<P> {
+    /// A table of these words, and a seat for each program, in their order. Each seat has seen the empty trace.
+    pub fn new(
+        alloc: Global,
+        words: Vec<u64>,
+        programs: Vec<P>,
+    ) -> Result<(TurnTable<P>, Vec<TurnSeat<P>>), Memory>
+        requires words { 0 < vec_len words }
+        requires sizes { All (λ p. P.steps.size p ≡ vec_len words) programs.items }
+        ensures start { IfOk result (λ r. (r.0.start.words ≡ words.items) × (r.0.start.programs ≡ programs.items)) }
+        ensures seats { IfOk result (λ r. AreAllSeats r.0 r.1.items) }
+        ensures fresh { IfOk result (λ r. AreFresh r.0 r.1.items) }
+    {
+        let boot = Boot {
+            words: Snapshot::of(&words),
+            programs: Snapshot::of(&programs),
+        };
+        let (table, rest) = Table::of_words(alloc, words.as_slice(), &boot)?;
+        let table = TurnTable { table };
+        let seats = table.deal(alloc, rest, programs)?;
+        Ok((table, seats))
+    }
+
+    // Cuts the view of all cores into a seat for each program.
+    fn deal(
+        &self,
+        alloc: Global,
+        mut rest: Seat<(), View<P, P::Call>>,
+        programs: Vec<P>,
+    ) -> Result<Vec<TurnSeat<P>>, AllocError>
+        requires table { (rest.table_id ≡ self.now.id) × (self.now.start.programs ≡ programs.items) }
+        requires all { rest.me.0.own ≡ part self.now.start 0 (length programs.items) [] }
+        requires sizes { All (λ p. P.steps.size p ≡ self.now.id.words) programs.items }
+        ensures seats { IfOk result (λ v. AreAllSeats self.now v.items) }
+        ensures fresh { IfOk result (λ v. AreFresh self.now v.items) }
+    {
+        let mut seats = Vec::with_capacity(alloc, programs.len())?;
+        for program in programs {
+            let seat = self.table.shared.split_seat::<Deals>(&mut rest);
+            let core = seats.len();
+            seats.push(TurnSeat {
+                seat,
+                core,
+                program,
+            })?;
+        }
+        Ok(seats)
+    }
+
+    /// Gives back the words and the programs. The seats are all seats of the table, in the order of their cores.
+    pub fn close(
+        self,
+        alloc: Global,
+        seats: Vec<TurnSeat<P>>,
+    ) -> Result<(Vec<u64>, Vec<P>), Memory>
+        requires { AreAllSeats self seats.items }
+        ensures { IfOk result (λ r. EndsAt P.steps self seats.items r.0.items r.1.items) }
+    {
+        let words = vec![in alloc; 0; self.table.word_count()]?;
+        let mut all = self.table.shared.load_new_seat::<Starts<P>>(0).1;
+        let programs = self.gather(&mut all, alloc, seats)?;
+        let TurnTable { table } = self;
+        let closed = table.close_with(all);
+        Ok((words_of(closed, words), programs))
+    }
+
+    // Joins all seats into one, and gives their programs.
+    fn gather(
+        &self,
+        all: &mut Seat<(), View<P, P::Call>>,
+        alloc: Global,
+        seats: Vec<TurnSeat<P>>,
+    ) -> Result<Vec<P>, AllocError>
+        requires table { (all.old.table_id ≡ self.now.id) × (all.old.me.0.own.from ≡ 0) × Stays P.steps all.old.me.0.own 0 all.old.me.0.own }
+        requires seats { AreAllSeats self.now seats.items }
+        ensures table { (all.new.table_id ≡ all.old.table_id) × (all.new.id ≡ all.old.id) }
+        ensures count { IfOk result (λ v. length v.items ≡ length seats.items) }
+        ensures all { IfOk result (λ v. Stays P.steps all.old.me.0.own (length seats.items) all.new.me.0.own) }
+        ensures programs { IfOk result (λ v. (k : ℕ) (p : _) → slice_get v.items k ≡ Some p → program_after P.steps all.new.me.0.own.start all.new.me.0.own.seen k ≡ Some p) }
+        ensures seen { IfOk result (λ v. (k : ℕ) (s : _) → slice_get seats.items k ≡ Some s → Begins all.new.me.0.own.seen (part self.now.start k (k + 1) s.seen)) }
+    {
+        let shared = &self.table.shared;
+        let mut programs = Vec::with_capacity(alloc, seats.len())?;
+        for one in seats {
+            let TurnSeat {
+                seat,
+                core: _,
+                program,
+            } = one;
+            shared.join_seat::<Takes>(all, seat);
+            shared.load::<Gathers<P>>(all, 0);
+            programs.push(program)?;
+        }
+        Ok(programs)
+    }
+}
+
+// The words of a table that was closed.
+fn words_of(closed: Closed<(), Global>, mut words: Vec<u64>) -> Vec<u64>
+    requires full { IsFull closed.words }
+    requires empty { slots_len closed.slots ≡ 0 }
+    requires room { length words.items ≡ slots_len closed.words }
+    ensures { result.items ≡ slots_items closed.words }
+{
+    for at in 0..words.len() {
+        words[at] = closed.word(at);
+    }
+    closed.free();
+    words
+}

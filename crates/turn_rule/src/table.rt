@@ -1,0 +1,131 @@
+//! The table, and the steps that a seat makes on it.
+
+ghost use Rattle.std.specs.Prelude.{◌≡◌, ◌↔◌, Some, None, IsTrue, IsNone, IsSome, IsSomeAnd, MatchOption};
+ghost use Rattle.turn_rule.specs.Rule.{Goes, IsDue};
+ghost use Rattle.turn_rule.specs.Seats.{FollowsTrace, MakesStep, Meets};
+
+use crate::plays::{Adds, CatchesUp, Compares, Loads, Notes, Said, Stores, Takes};
+use crate::program::CoreProgram;
+use crate::seat::{TurnNote, TurnSeat};
+use crate::view::{Boot, OneTrace, View};
+use atomic_table::{Seat, Table};
+use spk_nums::WordOp;
+use std::alloc::Global;
+use std::marker::{Brand, Model};
+use std::snapshot::Snapshot;
+
+/// Shared words at which each core has a seat. Every seat and note that a call takes is of this table.
+#[derive(Drop)]
+pub struct TurnTable<P: CoreProgram> {
+    pub(crate) table: Table<(), View<P, P::Call>, Boot<P>, OneTrace<P>, Global>,
+}
+
+impl<P: CoreProgram> Model for TurnTable<P> {
+    ghost use Rattle.turn_rule.specs.Seats.{TableValue};
+
+    ghost Value = { TableValue P };
+
+    ghost use Rattle.std.specs.Prelude.{◌≡◌, ◌<◌, length};
+    ghost use Rattle.turn_rule.specs.Rule.{start_of};
+
+    ghost view = { λ t. record { id = t.table.shared.table_id; start = start_of t.table.shared.key.words.value.items t.table.shared.key.programs.value.items } };
+
+    ghost invariant = { λ t. (0 < t.table.shared.table_id.words) × (t.table.shared.table_id.slots ≡ 0) × (t.table.shared.table_id.words ≡ length t.table.shared.key.words.value.items) };
+}
+
+impl<P: CoreProgram> TurnTable<P> {
+    // Makes the step `op`, which is due once the call that W names, if any, is begun. It returns the word that the
+    // program is told: the word found, or for a store the word stored.
+    #[inline]
+    fn make<W: Said<P::Call>>(&self, seat: &mut Seat<(), View<P, P::Call>>, op: WordOp) -> u64
+        requires table { seat.old.table_id ≡ self.now.id }
+        requires due { IsDue P.steps self.now.id.words seat.old.me W.call op }
+        ensures table { seat.new.table_id ≡ seat.old.table_id }
+        ensures goes { Goes P.steps seat.old.me.0.own W.call op result seat.new.me.0.own × (seat.new.me.1 ≡ seat.old.me.1) }
+    {
+        let shared = &self.table.shared;
+        match op {
+            WordOp::Load { at } => shared.load::<Loads<P, W>>(seat, at as usize),
+            WordOp::Compare { at, expected, word } => {
+                shared.compare_exchange::<Compares<P, W>>(seat, at as usize, expected, word)
+            }
+            WordOp::Store { at, word } => {
+                shared.store::<Stores<P, W>>(seat, at as usize, word);
+                word
+            }
+            WordOp::Add { at, by } => shared.fetch_add::<Adds<P, W>>(seat, at as usize, by),
+        }
+    }
+
+    // Makes the first step of the call that was `said`, which is begun. It gives the proof a place to name the call.
+    #[inline]
+    fn make_first<W: Said<P::Call>>(
+        &self,
+        seat: &mut Seat<(), View<P, P::Call>>,
+        op: WordOp,
+        said: &Snapshot<P::Call>,
+    ) -> u64
+        requires said { W.call ≡ Some said.now.value }
+        requires table { seat.old.table_id ≡ self.now.id }
+        requires due { IsDue P.steps self.now.id.words seat.old.me (Some said.now.value) op }
+        ensures table { seat.new.table_id ≡ seat.old.table_id }
+        ensures goes { Goes P.steps seat.old.me.0.own (Some said.now.value) op result seat.new.me.0.own × (seat.new.me.1 ≡ seat.old.me.1) }
+    {
+        self.make::<W>(seat, op)
+    }
+
+    /// Makes the core's next step, and says whether there was one. Without one the seat stays as it is.
+    pub fn turn(&self, seat: &mut TurnSeat<P>) -> bool
+        requires { seat.old.table ≡ self.now }
+        ensures some { IsTrue result ↔ IsSome (P.steps.next seat.old.program) }
+        ensures step { MatchOption (P.steps.next seat.old.program) (seat.new ≡ seat.old) (λ op. MakesStep P.steps seat.old None op seat.new) }
+        ensures follows { FollowsTrace P.steps seat.new }
+    {
+        match seat.program.next_op() {
+            None => false,
+            Some(op) => {
+                let found = self.make::<Brand>(&mut seat.seat, op);
+                seat.program.absorb(found);
+                true
+            }
+        }
+    }
+
+    /// Begins the call and makes its first step. The two are one change of the seat: the step's entry has the call.
+    pub fn first(&self, seat: &mut TurnSeat<P>, call: P::Call)
+        requires table { seat.old.table ≡ self.now }
+        requires idle { IsNone (P.steps.next seat.old.program) }
+        requires fit { P.steps.fit seat.old.program call }
+        ensures step { IsSomeAnd (P.steps.next (P.steps.begun seat.old.program call)) (λ op. MakesStep P.steps seat.old (Some call) op seat.new) }
+        ensures follows { FollowsTrace P.steps seat.new }
+    {
+        let said = Snapshot::of(&call);
+        seat.program.begin(call);
+        let op = seat.program.next_op().unwrap();
+        let found = self.make_first::<Brand>(&mut seat.seat, op, &said);
+        seat.program.absorb(found);
+    }
+
+    /// Gives a note of what the seat has seen, and leaves the seat as it is.
+    pub fn split(&self, seat: &mut TurnSeat<P>) -> TurnNote<P>
+        requires { seat.old.table ≡ self.now }
+        ensures same { seat.new ≡ seat.old }
+        ensures note { (result.table ≡ seat.old.table) × (result.seen ≡ seat.old.seen) }
+    {
+        TurnNote {
+            seat: self.table.shared.split_seat::<Notes>(&mut seat.seat),
+        }
+    }
+
+    /// Joins in what the note tells, and all that was made before the load. The core makes no step.
+    pub fn meet(&self, seat: &mut TurnSeat<P>, note: TurnNote<P>)
+        requires { (seat.old.table ≡ self.now) × (note.table ≡ self.now) }
+        ensures met { Meets seat.old note seat.new }
+        ensures follows { FollowsTrace P.steps seat.new }
+    {
+        let TurnNote { seat: told } = note;
+        let shared = &self.table.shared;
+        shared.join_seat::<Takes>(&mut seat.seat, told);
+        shared.load::<CatchesUp<P>>(&mut seat.seat, 0);
+    }
+}
