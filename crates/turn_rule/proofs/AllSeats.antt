@@ -98,8 +98,9 @@ module _ {P C : Type 0} (T : Steps P C) where
         let lt = slice_get_within seats k one e in
         let b : Begins h.trace (part table.start k (k + 1) one.seen) = begins_on h.trace v.own (part table.start k (k + 1) one.seen) mine (seen k one e) (omega arith) (omega arith) in
         let core = cores k one e in record { since = b.since; whole = b.whole; apart = subst (λ (c : ℕ). AreOfOthers c b.since) (sym core) (b.apart k (omega arith) (omega arith)) };
-    count = ap length (sym are) ∙ h.count;
+    word_count = ap length (sym are) ∙ h.count;
     word = λ i. ap (λ (l : List ℕ). get_or l i 0) (sym are) ∙ h.words i;
+    program_count = count ∙ all;
     program = λ c. ⊎_elim
         (λ (t : (p : P) × (c < length programs) × (slice_get programs c ≡ Some p) × (get_or programs c p ≡ p)).
         let lt = t.1 in t.2 ∙ sym (program_seen T table.start h.trace v.own c mine (omega arith) (omega arith) ∙ ap (λ (z : Start P). program_after T z v.own.seen c) (sym same) ∙ run c t.0 t.2))

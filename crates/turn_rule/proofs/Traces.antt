@@ -1,5 +1,7 @@
 -- What a trace leaves, and what its sound steps keep.
-use Rattle.std.proofs.Common.{◌≡◌, ◌≢◌, ℕ, ◌<◌, ◌≤◌, ◌==◌, true, false, List, [], ◌∷◌, ◌++◌, length, slice_get, if◌then◌else◌, Option, Some, None, refl, sym, ap, ◌∙◌, eq-eqb, ne_eqb, append_assoc}
+use Rattle.std.proofs.Common.{◌≡◌, ◌≢◌, ℕ, ◌<◌, ◌≤◌, ◌==◌, true, false, List, [], ◌∷◌, ◌++◌, length, slice_get, if◌then◌else◌, Option, Some, None, refl, sym, ap, ◌∙◌, eq-eqb, ne_eqb, append_assoc, lt_of_not-le}
+use Rattle.std.proofs.lemmas.Option.{slice_get_past, none-some}
+use native.Mathlib.Decide.{dec_le}
 use Rattle.std.specs.Option.{option_map}
 use Rattle.turn_rule.specs.declared.view.Entry.{Entry}
 use Rattle.turn_rule.specs.declared.view.Start.{Start}
@@ -61,6 +63,14 @@ module _ {P C : Type 0} (T : Steps P C) (start : Start P) where
       either_way : (b : _) (o : Option P) → o ≡ None → (if b then option_map (λ q. after_entry T q e) o else o) ≡ None
       either_way true o is = ap (option_map (λ q. after_entry T q e)) is
       either_way false o is = is
+
+  -- so a core with a program is one of the table's
+  pub core_inside : (t : List (Entry C)) (c : ℕ) (p : P) → program_after T start t c ≡ Some p → c < length start.programs
+  core_inside t c p runs = by_order (dec_le (length start.programs) c)
+    where
+      by_order : Dec (length start.programs ≤ c) → c < length start.programs
+      by_order (yes past) = absurd (none-some p (sym (no_program t c (slice_get_past start.programs c past)) ∙ runs))
+      by_order (no inside) = lt_of_not-le inside
 
   -- each earlier moment of a sound trace is sound
   pub sound_before : (since t : List (Entry C)) → IsSound T start (since ++ t) → IsSound T start t

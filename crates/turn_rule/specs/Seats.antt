@@ -64,6 +64,7 @@ module _ {P C : Type 0} (T : Steps P C) where
     pub trace : List (Entry C)
     pub sound : IsSound T table.start trace
     pub begins : (k : ℕ) (s : SeatValue P C) → slice_get seats k ≡ Some s → ExtendsByOthers s.core s.seen trace
-    pub count : length words ≡ length table.start.words
+    pub word_count : length words ≡ length table.start.words
     pub word : (i : ℕ) → slice_index words i ≡ word_after table.start trace i
+    pub program_count : length programs ≡ length table.start.programs
     pub program : (c : ℕ) → slice_get programs c ≡ program_after T table.start trace c

@@ -66,11 +66,7 @@ impl<P: CoreProgram> TurnTable<P> {
     }
 
     /// Gives back the words and the programs. The seats are all seats of the table, in the order of their cores.
-    pub fn close(
-        self,
-        alloc: Global,
-        seats: Vec<TurnSeat<P>>,
-    ) -> Result<(Vec<u64>, Vec<P>), Memory>
+    pub fn close(self, alloc: Global, seats: Vec<TurnSeat<P>>) -> Result<(Vec<u64>, Vec<P>), Memory>
         requires { AreAllSeats self seats.items }
         ensures { IfOk result (λ r. EndsAt P.steps self seats.items r.0.items r.1.items) }
     {

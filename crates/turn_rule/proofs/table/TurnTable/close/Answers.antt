@@ -18,4 +18,4 @@ returns g c =
     let joined = c.in_ok-programs.ensures in
     let kept = subst (λ (t : TableValue g.row.P.Denot). Kept T t.start last.0) c.self.view_is last.1.0 in
     ends T c.args.self last.0 kept all.id all.me.0 last.1.1 c.args.seats.items joined.all.end (joined.all.from ∙ first.from) (joined.all.start ∙ first.start ∙ ap (λ t. t.start) c.self.view_is) c.requires.count c.requires.core joined.seen
-        c.words_of.result.items (last.2 ∙ sym c.words_of.ensures) c.in_ok-programs.programs.items joined.count joined.programs
+    c.words_of.result.items (last.2 ∙ sym c.words_of.ensures) c.in_ok-programs.programs.items joined.count joined.programs

@@ -32,7 +32,7 @@ invariant_of-push g c =
     let own = ap (λ z. z.0.own) split.4 ∙ ap (λ (p : Part g.row.P.Denot g.row.P-Call.Denot). (first_core (view p)).own) i.rest in
     let size = All-get_or (λ (p : g.row.P.Denot). T.size p ≡ c.args.self.now.id.words) c.args.programs.items n c.in-Some.program turn.0 c.requires.sizes in
     dealt T _ _ n start c.split_seat-seat.result.me c.in-Some.program own (ap (λ z. z.1) split.4) core (ap (λ l. slice_get l n) c.requires.table.1 ∙ here)
-        (ap T.size turn.1 ∙ size ∙ sym (ap (λ z. z.words) (split.3 ∙ i.table)))
+    (ap T.size turn.1 ∙ size ∙ sym (ap (λ z. z.words) (split.3 ∙ i.table)))
 
 pub loop-program-preserved : goal.loop-program-preserved
 loop-program-preserved g c =

@@ -1,0 +1,4 @@
+pub mod Calls
+pub mod Wins
+pub mod Zips
+pub mod Kept
