@@ -1,5 +1,5 @@
 -- How all seats are dealt and gathered, one after another.
-use Rattle.std.proofs.Common.{◌≡◌, ◌⊎◌, ℕ, zero, suc, ◌+◌, ◌<◌, ◌≤◌, true, List, [], ◌∷◌, ◌++◌, length, get_or, slice_get, Some, None, refl, sym, ap, ◌∙◌, subst, ⊎_elim, inl, inr, arith, append_assoc}
+use Rattle.std.proofs.Common.{◌≡◌, ◌⊎◌, ℕ, zero, suc, ◌+◌, ◌<◌, ◌≤◌, List, [], ◌∷◌, ◌++◌, length, get_or, slice_get, Some, None, refl, sym, ap, ◌∙◌, subst, ⊎_elim, inl, inr, arith, append_assoc}
 use Rattle.std.proofs.lemmas.Option.{slice_get_within, slice_get_past, slice_get_cases}
 use mathlib.Core.Option.{some}
 use lib.ListN.{get_elem?}
@@ -9,7 +9,7 @@ use Rattle.turn_rule.specs.declared.view.Start.{Start}
 use Rattle.turn_rule.specs.declared.view.Part.{Part}
 use Rattle.turn_rule.specs.declared.view.View.{View}
 use Rattle.turn_rule.specs.Steps.{Steps}
-use Rattle.turn_rule.specs.Trace.{AreOfOthers, ExtendsByOthers, program_after, IsSound}
+use Rattle.turn_rule.specs.Trace.{AreOfOthers, program_after, IsSound}
 use Rattle.turn_rule.specs.Seats.{TableValue, SeatValue, EndsAt}
 use Rattle.turn_rule.specs.Rule.{part, Begins, Kept, IsSeated, Stays, Gathers}
 use Rattle.turn_rule.proofs.Traces.{AreOfOthers-append, no_program}

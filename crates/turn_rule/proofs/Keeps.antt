@@ -1,5 +1,5 @@
 -- A step of a core keeps the rule.
-use Rattle.std.proofs.Common.{◌≡◌, ◌≢◌, ◌⊎◌, ℕ, ◌+◌, ◌<◌, ◌≤◌, ◌==◌, true, List, [], ◌∷◌, ◌++◌, length, get_or, set, length-set, get_or-set_other, get_or-set_same, if◌then◌else◌, Option, Some, refl, sym, ap, ◌∙◌, subst, ⊎_elim, arith, eq-eqb, ne_eqb, append-nil}
+use Rattle.std.proofs.Common.{◌≡◌, ◌≢◌, ℕ, ◌<◌, ◌≤◌, ◌==◌, List, [], ◌∷◌, ◌++◌, length, get_or, set, length-set, get_or-set_other, get_or-set_same, if◌then◌else◌, Option, Some, refl, sym, ap, ◌∙◌, subst, ⊎_elim, arith, eq-eqb, ne_eqb, append-nil}
 use mathlib.Core.Logic.{dite}
 use mathlib.Core.Option.{some}
 use native.Mathlib.Decide.{ℕ_discrete}
@@ -12,8 +12,8 @@ use Rattle.turn_rule.specs.declared.view.Start.{Start}
 use Rattle.turn_rule.specs.declared.view.Part.{Part}
 use Rattle.turn_rule.specs.declared.view.View.{View}
 use Rattle.turn_rule.specs.Steps.{Steps, place_of, left_by, told_by}
-use Rattle.turn_rule.specs.Trace.{entry, AreOfOthers, word_after, called, MayCall, program_after, IsStep, MayFollow, IsSound, Follows}
-use Rattle.turn_rule.specs.Rule.{part, nothing, view, Begins, Fits, Kept, IsSeated, IsDue, Stays, Goes}
+use Rattle.turn_rule.specs.Trace.{entry, AreOfOthers, called, MayCall, program_after, IsStep, MayFollow, IsSound}
+use Rattle.turn_rule.specs.Rule.{part, nothing, view, Begins, Fits, Kept, IsSeated, IsDue, Goes}
 use Rattle.turn_rule.proofs.Traces.{program_here, program_stays}
 
 -- a word after one was stored

@@ -1,5 +1,5 @@
 -- The word counts the wins of all cores.
-use Rattle.std.proofs.Common.{◌≡◌, ◌≢◌, ◌⊎◌, ℕ, zero, suc, ◌+◌, ◌<◌, ◌≤◌, ◌%◌, ◌^◌, ◌==◌, List, [], ◌∷◌, length, slice_get, sum_by, if◌then◌else◌, Option, Some, None, inl, inr, ⊎_elim, refl, sym, ap, ◌∙◌, subst, arith, eq-eqb, ne_eqb}
+use Rattle.std.proofs.Common.{◌≡◌, ◌≢◌, ◌⊎◌, ℕ, zero, suc, ◌+◌, ◌<◌, ◌%◌, ◌^◌, ◌==◌, List, [], ◌∷◌, length, slice_get, sum_by, if◌then◌else◌, Option, Some, None, inl, inr, ⊎_elim, refl, sym, ap, ◌∙◌, arith, eq-eqb, ne_eqb}
 use Rattle.std.proofs.lemmas.Option.{none-some}
 use Rattle.std.proofs.lemmas.List.Sums.{sum_by-cons}
 use mathlib.Core.Logic.{dite}
@@ -91,7 +91,7 @@ module _ (start : Start Counter) where
       let all = total_changed n e.core (wins_after t) (wins_after (e ∷ t)) (core_inside counter_steps start t e.core m.program m.runs)
       (λ c other. ap wins_of (program_elsewhere counter_steps start e t c (λ same. other (sym same)))) in
       ⊎_elim (λ (z : (e.left ≡ e.found) × ((after_at q.stage q.wins (told_by m.step.op e.found)).wins ≡ q.wins)). let left = z.0 in let wins = z.1 in omega arith)
-          (λ (z : (e.left ≡ (e.found + 1) % 2 ^ 64) × ((after_at q.stage q.wins (told_by m.step.op e.found)).wins ≡ (q.wins + 1) % 2 ^ 64)). let left = z.0 in let wins = z.1 in omega arith) step.1
+      (λ (z : (e.left ≡ (e.found + 1) % 2 ^ 64) × ((after_at q.stage q.wins (told_by m.step.op e.found)).wins ≡ (q.wins + 1) % 2 ^ 64)). let left = z.0 in let wins = z.1 in omega arith) step.1
 
   pub counts_wins : (t : List (Entry ℕ)) → IsSound counter_steps start t → word_after {C = ℕ} start [] 0 ≡ sum_by (λ p. p.wins) start.programs % 2 ^ 64
       → (w : ℕ) → w ≡ word_after start t 0 → (programs : List Counter) → ((c : ℕ) → slice_get programs c ≡ program_after counter_steps start t c) → length programs ≡ length start.programs

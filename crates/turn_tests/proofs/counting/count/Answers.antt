@@ -1,4 +1,4 @@
-use Rattle.std.proofs.Common.{◌≡◌, ◌+◌, ◌<◌, ◌≤◌, ℕ, [], ◌∷◌, Some, None, arith, ap, ◌∙◌, sym}
+use Rattle.std.proofs.Common.{◌≡◌, ◌+◌, [], ◌∷◌, Some, None, arith, ap}
 use Rattle.spk_nums.specs.declared.steps.WordOp.TheVariants.{Load}
 use Rattle.turn_rule.specs.Steps.{told_by}
 use Rattle.turn_rule.specs.Seats.{MakesStep}

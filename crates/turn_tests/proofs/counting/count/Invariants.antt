@@ -1,4 +1,4 @@
-use Rattle.std.proofs.Common.{◌≡◌, ◌+◌, ◌≤◌, ℕ, [], ◌∷◌}
+use Rattle.std.proofs.Common.{◌+◌, ◌≤◌, ℕ, [], ◌∷◌}
 use Rattle.turn_tests.specs.Counter.{steps_left}
 use Rattle.turn_tests.specs.Counting.{Makes}
 use Rattle.turn_tests.proofs.counting.count.Given as goal

@@ -1,4 +1,4 @@
-use Rattle.std.proofs.Common.{◌≡◌, ℕ, List, length, sym, ap, ◌∙◌, subst}
+use Rattle.std.proofs.Common.{ℕ, List, length, sym, ap, ◌∙◌, subst}
 use Rattle.turn_rule.specs.Seats.{SeatValue, AreAllSeats}
 use Rattle.turn_tests.specs.declared.counter.Counter.{Counter}
 use Rattle.turn_tests.proofs.Kept.{all_go_on}

@@ -1,6 +1,6 @@
 use Rattle.std.proofs.Common.{[], length, refl, sym, ap, ◌∙◌, subst}
 use Rattle.turn_rule.specs.Rule.{start_of, part, view, Kept}
-use Rattle.turn_rule.specs.Seats.{TableValue, EndsAt}
+use Rattle.turn_rule.specs.Seats.{TableValue}
 use Rattle.turn_rule.proofs.Views.{comes}
 use Rattle.turn_rule.proofs.AllSeats.{ends}
 use Rattle.turn_rule.proofs.table.TurnTable.close.Goals as goal

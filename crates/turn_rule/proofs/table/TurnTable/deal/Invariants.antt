@@ -1,4 +1,4 @@
-use Rattle.std.proofs.Common.{◌≡◌, ◌+◌, ℕ, [], length, slice_get, Some}
+use Rattle.std.proofs.Common.{◌≡◌, ℕ, [], length, slice_get, Some}
 use Rattle.turn_rule.specs.Rule.{part}
 use Rattle.turn_rule.proofs.table.TurnTable.deal.Given as goal
 

@@ -1,4 +1,4 @@
-use Rattle.std.proofs.Common.{◌≡◌, Some, IsNone, sym, ap, ◌∙◌, subst}
+use Rattle.std.proofs.Common.{Some, sym, ap, ◌∙◌, subst}
 use Rattle.turn_rule.specs.Trace.{MayCall}
 use Rattle.turn_rule.proofs.Keeps.{seated_on}
 use Rattle.turn_rule.proofs.table.TurnTable.first.Goals as goal
