@@ -25,7 +25,8 @@ impl<P: CoreProgram> TurnTable<P> {
     ) -> Result<(TurnTable<P>, Vec<TurnSeat<P>>), Memory>
         requires words { 0 < vec_len words }
         requires sizes { All (λ p. P.steps.size p ≡ vec_len words) programs.items }
-        ensures start { IfOk result (λ r. (r.0.start.words ≡ words.items) × (r.0.start.programs ≡ programs.items)) }
+        ensures words { IfOk result (λ r. r.0.start.words ≡ words.items) }
+        ensures programs { IfOk result (λ r. r.0.start.programs ≡ programs.items) }
         ensures seats { IfOk result (λ r. AreAllSeats r.0 r.1.items) }
         ensures fresh { IfOk result (λ r. AreFresh r.0 r.1.items) }
     {
@@ -85,13 +86,16 @@ impl<P: CoreProgram> TurnTable<P> {
         alloc: Global,
         seats: Vec<TurnSeat<P>>,
     ) -> Result<Vec<P>, AllocError>
-        requires table { (all.old.table_id ≡ self.now.id) × (all.old.me.0.own.from ≡ 0) × Stays P.steps all.old.me.0.own 0 all.old.me.0.own }
+        requires table { (all.old.table_id ≡ self.now.id) × (all.old.me.0.own.from ≡ 0) }
+        requires none { Stays P.steps all.old.me.0.own 0 all.old.me.0.own }
         requires seats { AreAllSeats self.now seats.items }
         ensures table { (all.new.table_id ≡ all.old.table_id) × (all.new.id ≡ all.old.id) }
         ensures count { IfOk result (λ v. length v.items ≡ length seats.items) }
         ensures all { IfOk result (λ v. Stays P.steps all.old.me.0.own (length seats.items) all.new.me.0.own) }
-        ensures programs { IfOk result (λ v. (k : ℕ) (p : _) → slice_get v.items k ≡ Some p → program_after P.steps all.new.me.0.own.start all.new.me.0.own.seen k ≡ Some p) }
-        ensures seen { IfOk result (λ v. (k : ℕ) (s : _) → slice_get seats.items k ≡ Some s → Begins all.new.me.0.own.seen (part self.now.start k (k + 1) s.seen)) }
+        ensures programs { IfOk result (λ v. (k : ℕ) (p : _) → slice_get v.items k ≡ Some p
+            → program_after P.steps all.new.me.0.own.start all.new.me.0.own.seen k ≡ Some p) }
+        ensures seen { IfOk result (λ v. (k : ℕ) (s : _) → slice_get seats.items k ≡ Some s
+            → Begins all.new.me.0.own.seen (part self.now.start k (k + 1) s.seen)) }
     {
         let shared = &self.table.shared;
         let mut programs = Vec::with_capacity(alloc, seats.len())?;

@@ -23,7 +23,12 @@ impl<P: CoreProgram> Model for TurnSeat<P> {
 
     ghost use Rattle.turn_rule.specs.Rule.{IsSeated};
 
-    ghost view = { λ s. record { table = record { id = s.seat.table_id; start = s.seat.me.0.own.start }; core = s.core; seen = s.seat.me.0.own.seen; program = s.program } };
+    ghost view = { λ s. let own = s.seat.me.0.own in record {
+      table = record { id = s.seat.table_id; start = own.start };
+      core = s.core;
+      seen = own.seen;
+      program = s.program;
+    } };
 
     ghost invariant = { λ s. IsSeated P.steps s.seat.table_id.words s.core s.seat.me s.program };
 }
@@ -41,7 +46,10 @@ impl<P: CoreProgram> Model for TurnNote<P> {
 
     ghost use Rattle.std.specs.Prelude.{◌≡◌, []};
 
-    ghost view = { λ n. record { table = record { id = n.seat.table_id; start = n.seat.me.0.own.start }; seen = n.seat.me.0.own.seen } };
+    ghost view = { λ n. let own = n.seat.me.0.own in record {
+      table = record { id = n.seat.table_id; start = own.start };
+      seen = own.seen;
+    } };
 
     ghost invariant = { λ n. n.seat.me.1 ≡ [] };
 }

@@ -28,9 +28,15 @@ impl<P: CoreProgram> Model for TurnTable<P> {
     ghost use Rattle.std.specs.Prelude.{◌≡◌, ◌<◌, length};
     ghost use Rattle.turn_rule.specs.Rule.{start_of};
 
-    ghost view = { λ t. record { id = t.table.shared.table_id; start = start_of t.table.shared.key.words.value.items t.table.shared.key.programs.value.items } };
+    ghost view = { λ t. let shared = t.table.shared in record {
+      id = shared.table_id;
+      start = start_of shared.key.words.value.items shared.key.programs.value.items;
+    } };
 
-    ghost invariant = { λ t. (0 < t.table.shared.table_id.words) × (t.table.shared.table_id.slots ≡ 0) × (t.table.shared.table_id.words ≡ length t.table.shared.key.words.value.items) };
+    ghost invariant = { λ t. let shared = t.table.shared in
+        (0 < shared.table_id.words)
+        × (shared.table_id.slots ≡ 0)
+        × (shared.table_id.words ≡ length shared.key.words.value.items) };
 }
 
 impl<P: CoreProgram> TurnTable<P> {
@@ -41,7 +47,8 @@ impl<P: CoreProgram> TurnTable<P> {
         requires table { seat.old.table_id ≡ self.now.id }
         requires due { IsDue P.steps self.now.id.words seat.old.me W.call op }
         ensures table { seat.new.table_id ≡ seat.old.table_id }
-        ensures goes { Goes P.steps seat.old.me.0.own W.call op result seat.new.me.0.own × (seat.new.me.1 ≡ seat.old.me.1) }
+        ensures goes { Goes P.steps seat.old.me.0.own W.call op result seat.new.me.0.own
+            × (seat.new.me.1 ≡ seat.old.me.1) }
     {
         let shared = &self.table.shared;
         match op {
@@ -69,7 +76,8 @@ impl<P: CoreProgram> TurnTable<P> {
         requires table { seat.old.table_id ≡ self.now.id }
         requires due { IsDue P.steps self.now.id.words seat.old.me (Some said.now.value) op }
         ensures table { seat.new.table_id ≡ seat.old.table_id }
-        ensures goes { Goes P.steps seat.old.me.0.own (Some said.now.value) op result seat.new.me.0.own × (seat.new.me.1 ≡ seat.old.me.1) }
+        ensures goes { Goes P.steps seat.old.me.0.own (Some said.now.value) op result seat.new.me.0.own
+            × (seat.new.me.1 ≡ seat.old.me.1) }
     {
         self.make::<W>(seat, op)
     }
@@ -78,7 +86,9 @@ impl<P: CoreProgram> TurnTable<P> {
     pub fn turn(&self, seat: &mut TurnSeat<P>) -> bool
         requires { seat.old.table ≡ self.now }
         ensures some { IsTrue result ↔ IsSome (P.steps.next seat.old.program) }
-        ensures step { MatchOption (P.steps.next seat.old.program) (seat.new ≡ seat.old) (λ op. MakesStep P.steps seat.old None op seat.new) }
+        ensures step { MatchOption (P.steps.next seat.old.program)
+            (seat.new ≡ seat.old)
+            (λ op. MakesStep P.steps seat.old None op seat.new) }
         ensures follows { FollowsTrace P.steps seat.new }
     {
         match seat.program.next_op() {
@@ -96,7 +106,8 @@ impl<P: CoreProgram> TurnTable<P> {
         requires table { seat.old.table ≡ self.now }
         requires idle { IsNone (P.steps.next seat.old.program) }
         requires fit { P.steps.fit seat.old.program call }
-        ensures step { IsSomeAnd (P.steps.next (P.steps.begun seat.old.program call)) (λ op. MakesStep P.steps seat.old (Some call) op seat.new) }
+        ensures step { IsSomeAnd (P.steps.next (P.steps.begun seat.old.program call))
+            (λ op. MakesStep P.steps seat.old (Some call) op seat.new) }
         ensures follows { FollowsTrace P.steps seat.new }
     {
         let said = Snapshot::of(&call);

@@ -55,5 +55,6 @@ impl<P: CoreProgram> TableRule<(), View<P, P::Call>, Boot<P>> for OneTrace<P> {
 
     ghost holds = { λ key. Kept P.steps (start_of key.words.value.items key.programs.value.items) };
 
-    ghost first = { λ key. view (part (start_of key.words.value.items key.programs.value.items) 0 (length key.programs.value.items) []) };
+    ghost first = { λ key. let start = start_of key.words.value.items key.programs.value.items in
+        view (part start 0 (length start.programs) []) };
 }

@@ -1,8 +1,10 @@
 -- Calls and steps in a trace.
-use Rattle.std.specs.Prelude.{◌≡◌, ℕ, ◌+◌, ◌≤◌, ◌==◌, List, [], ◌∷◌, ◌++◌, if◌then◌else◌, option_to_list}
+use Rattle.std.specs.Prelude.{◌≡◌, ℕ, ◌+◌, ◌≤◌, ◌==◌, List, [], ◌∷◌, ◌++◌, if◌then◌else◌, option_to_list, IsNone}
 use Rattle.turn_rule.specs.declared.view.Entry.{Entry}
 use Rattle.turn_rule.specs.Trace.{Extends}
-use Rattle.turn_rule.specs.Seats.{SeatValue}
+use Rattle.turn_rule.specs.Seats.{TableValue, SeatValue}
+use Rattle.turn_tests.specs.declared.counter.Counter.{Counter}
+use Rattle.turn_tests.specs.Counter.{next_at}
 
 module _ {C : Type 0} where
   -- the calls that core c began, the newest first
@@ -28,3 +30,7 @@ pub record GoesOn {P C : Type 0} (seat now : SeatValue P C) : Type 0 where
   pub begins : Extends seat.seen now.seen
   pub core : now.core ≡ seat.core
   pub table : now.table ≡ seat.table
+
+-- the seat is of this table, and its core is between calls
+abbrev pub MayCount : TableValue Counter → SeatValue Counter ℕ → Type 0
+MayCount table seat = (seat.table ≡ table) × IsNone (next_at seat.program.stage)

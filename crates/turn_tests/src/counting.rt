@@ -6,7 +6,7 @@ ghost use Rattle.std.specs.List.{AllZip};
 ghost use Rattle.turn_rule.specs.Trace.{Extends};
 ghost use Rattle.turn_rule.specs.Seats.{AreAllSeats};
 ghost use Rattle.turn_tests.specs.Counter.{counter_steps};
-ghost use Rattle.turn_tests.specs.Counting.{Makes, GoesOn};
+ghost use Rattle.turn_tests.specs.Counting.{Makes, GoesOn, MayCount};
 
 use crate::counter::Counter;
 use spk_nums::Memory;
@@ -58,7 +58,8 @@ pub fn tell(table: &TurnTable<Counter>, seat: &mut TurnSeat<Counter>, other: &mu
     requires { (seat.old.table ≡ table.now) × (other.old.table ≡ table.now) }
     ensures other { other.new ≡ other.old }
     ensures told { Extends other.old.seen seat.new.seen }
-    ensures same { (seat.new.table ≡ seat.old.table) × (seat.new.core ≡ seat.old.core) × (seat.new.program ≡ seat.old.program) }
+    ensures goes_on { GoesOn seat.old seat.new }
+    ensures same { seat.new.program ≡ seat.old.program }
 {
     let note = table.split(other);
     table.meet(seat, note);
@@ -72,7 +73,7 @@ pub fn count_all<R: Threads + Sync>(
     calls: u32,
     seats: &mut [TurnSeat<Counter>],
 )
-    requires { All (λ s. (s.table ≡ table.now) × IsNone (counter_steps.next s.program)) seats.old }
+    requires { All (λ s. MayCount table.now s) seats.old }
     ensures { AllZip GoesOn seats.old seats.new }
 {
     if seats.len() == 0 {
@@ -86,11 +87,11 @@ pub fn count_all<R: Threads + Sync>(
     join_mut(
         rt,
         &mut ||
-            requires { IsSync R.row × All (λ s. (s.table ≡ table.now) × IsNone (counter_steps.next s.program)) front.now }
+            requires { IsSync R.row × All (λ s. MayCount table.now s) front.now }
             ensures { AllZip GoesOn front.entry.now front.exit.now }
         { count_all(rt, table, calls, front) },
         &mut ||
-            requires { IsSync R.row × All (λ s. (s.table ≡ table.now) × IsNone (counter_steps.next s.program)) back.now }
+            requires { IsSync R.row × All (λ s. MayCount table.now s) back.now }
             ensures { AllZip GoesOn back.entry.now back.exit.now }
         { count_all(rt, table, calls, back) },
     );
