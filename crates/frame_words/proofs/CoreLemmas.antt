@@ -1,6 +1,6 @@
 -- One spelling for each core word.
-use Rattle.std.proofs.Common.{◌≡◌, ℕ, Bool, true, false, ◌+◌, ◌*◌, ◌/◌, ◌%◌, ◌^◌, ◌<◌, nat_lt, ◌==◌, Option, Some, None, IfSome, refl, subst, arith}
-use Rattle.std.proofs.lemmas.Bool.{eq-eqb, ne_eqb, lt-ltb, ltb-true, eqb-true, eqb-false}
+use Rattle.std.proofs.Common.{◌≡◌, ℕ, Bool, true, false, ◌+◌, ◌*◌, ◌/◌, ◌%◌, ◌^◌, ◌<◌, nat_lt, ◌==◌, Option, Some, IfSome, refl, subst, arith}
+use Rattle.std.proofs.lemmas.Bool.{lt-ltb, ltb-true, eqb-true, eqb-false}
 use Rattle.spk_nums.proofs.Choices.{kept}
 use Rattle.spk_nums.proofs.OneSpelling.{spelling_reads, spelling_spells}
 use Rattle.spk_nums.specs.Spelling.{IsOneSpelling}

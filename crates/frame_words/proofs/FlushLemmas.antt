@@ -1,5 +1,5 @@
 -- One spelling for each flush word.
-use Rattle.std.proofs.Common.{◌≡◌, ℕ, ◌^◌, ◌<◌, nat_lt, Option, Some, None, IfSome, refl, subst, arith}
+use Rattle.std.proofs.Common.{◌≡◌, ℕ, ◌^◌, ◌<◌, nat_lt, Option, Some, IfSome, refl, subst, arith}
 use Rattle.std.proofs.lemmas.Bool.{lt-ltb, ltb-true}
 use Rattle.spk_nums.proofs.Choices.{kept}
 use Rattle.spk_nums.proofs.OneSpelling.{spelling_reads, spelling_spells}

@@ -1,7 +1,7 @@
 -- One spelling for each quality word.
 use Rattle.std.proofs.Common.{◌≡◌, ◌≢◌, true, ℕ, ◌+◌, ◌*◌, ◌/◌, ◌%◌, ◌^◌, ◌<◌, ◌≤◌, ◌==◌, ◌&&◌, nat_lt, nat_le, Option, Some, None, IfSome, refl, subst, arith}
 use Rattle.std.proofs.lemmas.Bool.{and_parts, ne_eqb, lt-ltb, le-leb, ltb-true, leb-true, eqb-true}
-use Rattle.spk_nums.proofs.Choices.{kept, chosen}
+use Rattle.spk_nums.proofs.Choices.{chosen}
 use Rattle.spk_nums.proofs.OneSpelling.{spelling_reads, spelling_spells}
 use Rattle.spk_nums.specs.Spelling.{IsOneSpelling}
 use Rattle.tcap_words.specs.Quality.{PairFits, QualityFits, word_of_quality, quality_of_word}
