@@ -12,14 +12,14 @@ use spk_nums::{CoreNo, Stamp};
 pub enum Hold {
     /// None.
     Unheld,
-    /// A core whose call will settle the count.
+    /// A core whose call has acquired the count and will commit it.
     Pinned {
-        /// The core that will settle it.
+        /// The core that will commit it.
         by: CoreNo,
     },
-    /// A core that is retyping the frame.
+    /// A core that has frozen the count, to retype the frame.
     Closed {
-        /// The core that retypes it.
+        /// The core that retypes the frame.
         by: CoreNo,
     },
 }
