@@ -1,6 +1,6 @@
 //! What the word of a place says.
 
-ghost use Rattle.std.specs.Prelude.{◌≡◌, ◌≤◌, ◌<◌, ◌↔◌, IsTrue, IfSome, Some};
+ghost use Rattle.std.specs.Prelude.{◌≡◌, ◌≤◌, ◌<◌, IfSome, Some};
 ghost use Rattle.spk_nums.specs.Limits.{least_arg, end_of_arg};
 ghost use Rattle.spk_nums.specs.Spelling.{IsOneSpelling};
 ghost use Rattle.entry_words.specs.Kinds.{kind_of_number};
@@ -81,7 +81,7 @@ fn held(kind: u64, frame: u64, arg: u64) -> Option<Entry>
     ensures { result ≡ held_of (kind_of_number kind) frame arg }
 {
     let kind = kind_numbered(kind)?;
-    if frame < 512 && takes_argument(kind, arg) {
+    if frame < 512 && least_number(kind) <= arg && arg < end_of_numbers(kind) {
         Some(Entry::Held(Cap::new(kind, FrameNo::new(frame as u16), arg as u32)))
     } else {
         None
@@ -116,16 +116,27 @@ fn quiescing(stamp: u64) -> Option<Entry>
     }
 }
 
-/// Whether a capability of this kind may carry this number.
+/// The least number that a capability of this kind carries.
 #[inline]
-fn takes_argument(kind: Kind, arg: u64) -> bool
-    ensures { IsTrue result ↔ ((least_arg kind ≤ arg) × (arg < end_of_arg kind)) }
+fn least_number(kind: Kind) -> u64
+    ensures { result ≡ least_arg kind }
 {
     match kind {
-        Kind::Range => arg < 1 << 24,
-        Kind::Gate => 1 <= arg && arg < 1 << 16,
-        Kind::Page => arg < 4,
-        _ => arg == 0,
+        Kind::Gate => 1,
+        _ => 0,
+    }
+}
+
+/// The end of the numbers that a capability of this kind carries.
+#[inline]
+fn end_of_numbers(kind: Kind) -> u64
+    ensures { result ≡ end_of_arg kind }
+{
+    match kind {
+        Kind::Range => 1 << 24,
+        Kind::Gate => 1 << 16,
+        Kind::Page => 4,
+        _ => 1,
     }
 }
 

@@ -1,0 +1,199 @@
+//! The word that counts the references to a frame.
+
+ghost use Rattle.std.specs.Prelude.{◌≡◌, ◌<◌, ◌^◌, IfSome, Some};
+ghost use Rattle.spk_nums.specs.Spelling.{IsOneSpelling};
+ghost use Rattle.frame_words.specs.Count.{CountFits, NumberFits, number_of_count, count_of_number, number_of_hold, hold_of_number, word_of_count, count_of_word};
+ghost use Rattle.frame_words.specs.declared.count_word.CountWord.{CountWord};
+
+use spk_nums::{CoreNo, Stamp};
+
+/// Which core holds a count word.
+#[derive(Clone, Copy, PartialEq, Eq, Debug)]
+pub enum Hold {
+    /// None.
+    Unheld,
+    /// A core whose call has acquired the count and will commit it.
+    Pinned {
+        /// The core that will commit it.
+        by: CoreNo,
+    },
+    /// A core that has frozen the count, to retype the frame.
+    Closed {
+        /// The core that retypes the frame.
+        by: CoreNo,
+    },
+}
+
+/// What a core counts of the references to a frame: those made less those released, so it may be below 0.
+#[derive(Clone, Copy, PartialEq, Eq, Debug)]
+pub struct CountWord {
+    /// Which core holds the word.
+    pub hold: Hold,
+    /// References made less those released, from -2^30 to 2^30 - 1.
+    pub count: i32,
+    /// The stamp of the latest release, or 0.
+    pub stamp: Stamp,
+}
+
+impl CountWord {
+    /// The count's word. The count is from -2^30 to 2^30 - 1.
+    #[inline]
+    #[tactic(auto, unfolding(crate::specs::Count::word_of_count))]
+    pub fn pack(self) -> u64
+        requires { CountFits self }
+        ensures { result ≡ word_of_count self }
+    {
+        self.stamp.number() as u64
+            + (count_number(self.count) << 28)
+            + (hold_number(self.hold) << 59)
+    }
+
+    /// The count word whose word this is; None exactly where it is the word of none.
+    #[inline]
+    #[tactic(auto, using(crate::proofs::CountLemmas::count_spells))]
+    pub fn unpack(word: u64) -> Option<CountWord>
+        ensures value { result ≡ count_of_word word }
+        ensures reads { (v : CountWord) → CountFits v → word_of_count v ≡ word → result ≡ Some v }
+        ensures spells { IfSome result (λ v. CountFits v × (word_of_count v ≡ word)) }
+    {
+        read(word)
+    }
+}
+
+/// The fields of a word, where there is such a hold.
+#[inline]
+#[tactic(auto, unfolding(crate::specs::Count::count_of_word))]
+fn read(word: u64) -> Option<CountWord>
+    ensures { result ≡ count_of_word word }
+{
+    let hold = hold_numbered(word >> 59)?;
+    let count = count_numbered((word >> 28) & 0x7fff_ffff);
+    let stamp = Stamp::new((word & 0xfff_ffff) as u32);
+    Some(CountWord { hold, count, stamp })
+}
+
+/// A count's number in a word, below 2^31.
+#[inline]
+fn count_number(count: i32) -> u64
+    requires { NumberFits count }
+    ensures { result ≡ number_of_count count }
+{
+    (count + (1 << 30)) as u64
+}
+
+/// The count of this number in a word, which is below 2^31.
+#[inline]
+fn count_numbered(number: u64) -> i32
+    requires { number < 2 ^ 31 }
+    ensures { result ≡ count_of_number number }
+{
+    number as i32 - (1 << 30)
+}
+
+/// A hold's number in a word, below 2^5.
+#[inline]
+fn hold_number(hold: Hold) -> u64
+    ensures { result ≡ number_of_hold hold }
+{
+    match hold {
+        Hold::Unheld => 0,
+        Hold::Pinned { by } => by.number() as u64 + 1,
+        Hold::Closed { by } => by.number() as u64 + 17,
+    }
+}
+
+/// The hold of this number in a word.
+#[inline]
+fn hold_numbered(number: u64) -> Option<Hold>
+    ensures { result ≡ hold_of_number number }
+{
+    match number {
+        0 => Some(Hold::Unheld),
+        1..=8 => Some(Hold::Pinned {
+            by: CoreNo::new((number - 1) as u8),
+        }),
+        17..=24 => Some(Hold::Closed {
+            by: CoreNo::new((number - 17) as u8),
+        }),
+        _ => None,
+    }
+}
+
+/// Each count word within its ranges has one word, and is read from that word alone.
+pub fn count_spelling()
+    ensures { IsOneSpelling CountFits word_of_count count_of_word }
+{}
+
+#[cfg(test)]
+mod tests {
+    use super::*;
+    use std::process::Abort;
+
+    // A value and its word, both ways.
+    fn spells(rt: &impl Abort, value: &CountWord, word: u64)
+        requires { CountFits value.now }
+    {
+        assert_eq!(rt; value.pack(), word);
+        assert_eq!(rt; CountWord::unpack(word), Some(*value), "at {word:#018x}");
+    }
+
+    #[test]
+    fn spells_worked_words_and_ends(rt: HostRuntime) {
+        spells(
+            &rt,
+            &CountWord {
+                hold: Hold::Unheld,
+                count: 2,
+                stamp: Stamp::new(0),
+            },
+            0x0400_0000_2000_0000,
+        );
+        spells(
+            &rt,
+            &CountWord {
+                hold: Hold::Unheld,
+                count: -0x4000_0000,
+                stamp: Stamp::new(0),
+            },
+            0,
+        );
+        spells(
+            &rt,
+            &CountWord {
+                hold: Hold::Unheld,
+                count: 0x3fff_ffff,
+                stamp: Stamp::new(0xfff_ffff),
+            },
+            0x07ff_ffff_ffff_ffff,
+        );
+        spells(
+            &rt,
+            &CountWord {
+                hold: Hold::Pinned { by: CoreNo::new(7) },
+                count: 0,
+                stamp: Stamp::new(0),
+            },
+            0x4400_0000_0000_0000,
+        );
+        spells(
+            &rt,
+            &CountWord {
+                hold: Hold::Closed { by: CoreNo::new(0) },
+                count: -1,
+                stamp: Stamp::new(1),
+            },
+            0x8bff_ffff_f000_0001,
+        );
+    }
+
+    #[test]
+    fn refuses_words_of_no_value(rt: HostRuntime) {
+        for word in [
+            0x8000_0000_0000_0000,
+            0x4800_0000_0000_0000,
+            0xc800_0000_0000_0000,
+        ] {
+            assert_eq!(rt; CountWord::unpack(word), None, "at {word:#018x}");
+        }
+    }
+}

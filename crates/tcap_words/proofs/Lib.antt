@@ -1,0 +1,4 @@
+pub mod HeadLemmas
+pub mod QualityLemmas
+pub mod StackLemmas
+pub mod ThreadLemmas

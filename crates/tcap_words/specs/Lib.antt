@@ -1,0 +1,4 @@
+pub mod Head
+pub mod Quality
+pub mod Stack
+pub mod Thread

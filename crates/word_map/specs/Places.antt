@@ -1,0 +1,63 @@
+use Rattle.std.specs.Prelude.{ℕ, ◌≡◌, ◌+◌, ◌*◌, ◌<◌, ◌≤◌}
+use Rattle.word_map.specs.Word.{Word, EntryAt, FrameAt, CountAt, CoreAt, FlushAt, LiveAt, ClockAt}
+
+-- a layout as contracts see it: the machine's cores and frames
+pub record Shape : Type 0 where
+  pub cores : ℕ
+  pub frames : ℕ
+
+-- the limits of a machine: 1 to 8 cores, and 4 + 2 * cores to 512 frames
+pub record IsShape (s : Shape) : Type 0 where
+  pub some_core : 1 ≤ s.cores
+  pub most_cores : s.cores ≤ 8
+  pub least_frames : 4 + 2 * s.cores ≤ s.frames
+  pub most_frames : s.frames ≤ 512
+
+-- the machine has a word of this name
+abbrev pub IsIn : Shape → Word → Type 0
+IsIn s (EntryAt f i) = (f < s.frames) × (i < 64)
+IsIn s (FrameAt f) = f < s.frames
+IsIn s (CountAt f c) = (f < s.frames) × (c < s.cores)
+IsIn s (CoreAt c) = c < s.cores
+IsIn s (FlushAt c) = c < s.cores
+IsIn s (LiveAt l) = l < 64
+IsIn s ClockAt = Unit {0}
+
+-- the place of a word: first the frames' 64 words each, then a word for each frame, its counts, the cores' words, the liveness words, the clock
+unfoldable pub place_of : Shape → Word → ℕ
+place_of s (EntryAt f i) = 64 * f + i
+place_of s (FrameAt f) = 64 * s.frames + f
+place_of s (CountAt f c) = 65 * s.frames + s.cores * f
+place_of s (CoreAt c) = 65 * s.frames + s.cores * s.frames + c
+place_of s (FlushAt c) = 65 * s.frames + s.cores * s.frames + s.cores + c
+place_of s (LiveAt l) = 65 * s.frames + s.cores * s.frames + 2 * s.cores + l
+place_of s ClockAt = 65 * s.frames + s.cores * s.frames + 2 * s.cores + 64
+
+-- how many words the table has
+unfoldable pub size_of : Shape → ℕ
+size_of s = 65 * s.frames + s.cores * s.frames + 2 * s.cores + 65
+
+-- the core that counts the references of a core to a frame: all cores share core 0's count word
+abbrev pub counter_of : ℕ → ℕ
+counter_of core = 0
+
+-- the word that stands at a word's place
+abbrev pub shared : Word → Word
+shared (EntryAt f i) = EntryAt f i
+shared (FrameAt f) = FrameAt f
+shared (CountAt f c) = CountAt f (counter_of c)
+shared (CoreAt c) = CoreAt c
+shared (FlushAt c) = FlushAt c
+shared (LiveAt l) = LiveAt l
+shared ClockAt = ClockAt
+
+-- the words of a machine have distinct places, but for the counts that cores share
+pub record HasPlaces (s : Shape) : Type 0 where
+  -- a word's place is in the table
+  pub below : (w : Word) → IsIn s w → place_of s w < size_of s
+  -- words at one place are one, up to sharing
+  pub distinct : (w u : Word) → IsIn s w → IsIn s u → place_of s w ≡ place_of s u → shared w ≡ shared u
+  -- words that are shared have one place
+  pub together : (w : Word) → place_of s (shared w) ≡ place_of s w
+  -- the table has at most 37,457 words
+  pub small : size_of s ≤ 37457

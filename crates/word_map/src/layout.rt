@@ -1,0 +1,224 @@
+//! Where each word of the table stands.
+//!
+//! The table begins with the 64 words of each frame, frame 0 first. Behind them stand a word for each frame, the
+//! counts of each frame, the cores' words, the cores' flush words, 64 liveness words and the clock. The cores of a
+//! machine share one count word for each frame.
+#![tactic(auto, using(crate::proofs::PlaceLemmas::row_ends, crate::proofs::PlaceLemmas::counts_end), unfolding(crate::specs::Places::place_of, crate::specs::Places::size_of))]
+
+ghost use Rattle.std.specs.Prelude.{◌≡◌, ◌≤◌, ◌<◌, ◌↔◌, true};
+ghost use Rattle.std.specs.Option.{SomeIff};
+ghost use Rattle.word_map.specs.Word.{Word, same_word, EntryAt, FrameAt, CountAt, CoreAt, FlushAt, LiveAt, ClockAt};
+ghost use Rattle.word_map.specs.Places.{Shape, IsShape, IsIn, HasPlaces, place_of, size_of};
+
+use spk_nums::{CoreNo, EntryNo, FrameNo};
+use std::marker::Model;
+
+/// The places of the words of a machine of some cores and frames.
+#[derive(Clone, Copy, PartialEq, Eq, Debug)]
+pub struct Layout {
+    cores: u8,
+    frames: u16,
+}
+
+impl Model for Layout {
+    ghost use Rattle.word_map.specs.Places.{Shape, IsShape};
+
+    ghost Value = { Shape };
+
+    ghost view = { λ l. record { cores = l.cores; frames = l.frames } };
+
+    ghost invariant = { λ l. IsShape record { cores = l.cores; frames = l.frames } };
+
+    ghost inverse = { λ s. record { cores = s.cores; frames = s.frames } };
+}
+
+impl Layout {
+    /// The layout of a machine: None exactly outside 1 to 8 cores and `4 + 2 * cores` to 512 frames.
+    pub fn new(cores: u8, frames: u16) -> Option<Layout>
+        ensures { let shape : Shape = record { cores = cores; frames = frames } in SomeIff result (IsShape shape) shape }
+    {
+        if 1 <= cores && cores <= 8 && 4 + 2 * u16::from(cores) <= frames && frames <= 512 {
+            Some(Layout { cores, frames })
+        } else {
+            None
+        }
+    }
+
+    /// The number of cores, 1 to 8.
+    #[inline]
+    pub fn cores(&self) -> u8
+        ensures value { result ≡ self.now.cores }
+        ensures limits { IsShape self.now }
+    {
+        self.cores
+    }
+
+    /// The number of frames, `4 + 2 * cores` to 512.
+    #[inline]
+    pub fn frames(&self) -> u16
+        ensures value { result ≡ self.now.frames }
+        ensures limits { IsShape self.now }
+    {
+        self.frames
+    }
+
+    /// The place of an entry of a node, or of a word of another object, by its frame. The frame is below the
+    /// machine's frames, and the entry below 64.
+    #[inline]
+    pub fn entry_at(&self, frame: FrameNo, entry: EntryNo) -> u32
+        requires { IsIn self.now (EntryAt frame entry) }
+        ensures place { result ≡ place_of self.now (EntryAt frame entry) }
+        ensures below { result < size_of self.now }
+    {
+        64 * u32::from(frame.number()) + u32::from(entry.number())
+    }
+
+    /// The place of the word that says what a frame is. The frame is below the machine's frames.
+    #[inline]
+    pub fn frame_at(&self, frame: FrameNo) -> u32
+        requires { IsIn self.now (FrameAt frame) }
+        ensures place { result ≡ place_of self.now (FrameAt frame) }
+        ensures below { result < size_of self.now }
+    {
+        64 * u32::from(self.frames) + u32::from(frame.number())
+    }
+
+    /// The place of a core's count of the references to a frame, the same for all cores. The frame is below the
+    /// machine's frames, and the core below its cores.
+    #[inline]
+    pub fn count_at(&self, frame: FrameNo, core: CoreNo) -> u32
+        requires { IsIn self.now (CountAt frame core) }
+        ensures place { result ≡ place_of self.now (CountAt frame core) }
+        ensures below { result < size_of self.now }
+    {
+        65 * u32::from(self.frames) + u32::from(self.cores) * u32::from(frame.number())
+    }
+
+    /// The place of the word that says whether a core is inside a call. The core is below the machine's cores.
+    #[inline]
+    pub fn core_at(&self, core: CoreNo) -> u32
+        requires { IsIn self.now (CoreAt core) }
+        ensures place { result ≡ place_of self.now (CoreAt core) }
+        ensures below { result < size_of self.now }
+    {
+        self.cores_begin() + u32::from(core.number())
+    }
+
+    /// The place of a core's flush word. The core is below the machine's cores.
+    #[inline]
+    pub fn flush_at(&self, core: CoreNo) -> u32
+        requires { IsIn self.now (FlushAt core) }
+        ensures place { result ≡ place_of self.now (FlushAt core) }
+        ensures below { result < size_of self.now }
+    {
+        self.cores_begin() + u32::from(self.cores) + u32::from(core.number())
+    }
+
+    /// The place of the word of a liveness number, which is below 64.
+    #[inline]
+    pub fn live_at(&self, number: u8) -> u32
+        requires { IsIn self.now (LiveAt number) }
+        ensures place { result ≡ place_of self.now (LiveAt number) }
+        ensures below { result < size_of self.now }
+    {
+        self.lives_begin() + u32::from(number)
+    }
+
+    /// The place of the clock.
+    #[inline]
+    pub fn clock_at(&self) -> u32
+        ensures place { result ≡ place_of self.now ClockAt }
+        ensures below { result < size_of self.now }
+    {
+        self.lives_begin() + 64
+    }
+
+    /// How many words the table has: 37,457 at most.
+    #[inline]
+    pub fn size(&self) -> u32
+        ensures value { result ≡ size_of self.now }
+        ensures most { result ≤ 37457 }
+    {
+        self.lives_begin() + 65
+    }
+
+    /// The first place behind the counts.
+    #[inline]
+    fn cores_begin(&self) -> u32
+        ensures place { result ≡ place_of self.now (CoreAt 0) }
+        ensures most { result ≤ 37376 }
+    {
+        65 * u32::from(self.frames) + u32::from(self.cores) * u32::from(self.frames)
+    }
+
+    /// The first place behind the cores' words.
+    #[inline]
+    fn lives_begin(&self) -> u32
+        ensures place { result ≡ place_of self.now (LiveAt 0) }
+        ensures most { result ≤ 37392 }
+    {
+        self.cores_begin() + 2 * u32::from(self.cores)
+    }
+}
+
+/// Distinct words of a machine have distinct places, all in the table, but for the counts that cores share.
+pub fn places_are_distinct()
+    ensures { (s : Shape) → IsShape s → HasPlaces s }
+{}
+
+/// The test of two words' names finds them one exactly where they are.
+pub fn names_are_told_apart()
+    ensures { (w u : Word) → (same_word w u ≡ true) ↔ (w ≡ u) }
+{}
+
+#[cfg(test)]
+mod tests {
+    use super::*;
+
+    #[test]
+    fn has_worked_places(rt: HostRuntime) {
+        if let Some(largest) = Layout::new(8, 512) {
+            assert_eq!(rt; largest.size(), 37_457);
+            assert_eq!(rt; largest.clock_at(), 37_456);
+            assert_eq!(rt;
+                largest.entry_at(FrameNo::new(511), EntryNo::new(63)),
+                32_767
+            );
+            assert_eq!(rt; largest.frame_at(FrameNo::new(511)), 33_279);
+            assert_eq!(rt; largest.flush_at(CoreNo::new(7)), 37_391);
+        }
+        if let Some(two_cores) = Layout::new(2, 32) {
+            assert_eq!(rt; two_cores.entry_at(FrameNo::new(0), EntryNo::new(0)), 0);
+            assert_eq!(rt; two_cores.count_at(FrameNo::new(9), CoreNo::new(0)), 2_098);
+            assert_eq!(rt; two_cores.count_at(FrameNo::new(9), CoreNo::new(1)), 2_098);
+            assert_eq!(rt; two_cores.core_at(CoreNo::new(1)), 2_145);
+            assert_eq!(rt; two_cores.flush_at(CoreNo::new(0)), 2_146);
+            assert_eq!(rt; two_cores.live_at(0), 2_148);
+            assert_eq!(rt; two_cores.live_at(63), 2_211);
+            assert_eq!(rt; two_cores.size(), 2_213);
+            assert_eq!(rt; (two_cores.cores(), two_cores.frames()), (2, 32));
+        }
+    }
+
+    #[test]
+    fn keeps_to_the_limits(rt: HostRuntime) {
+        let rows = [
+            (0, 100, false),
+            (1, 5, false),
+            (1, 6, true),
+            (8, 19, false),
+            (8, 20, true),
+            (8, 512, true),
+            (8, 513, false),
+            (9, 512, false),
+            (2, 32, true),
+        ];
+        for (cores, frames, fits) in rows {
+            assert_eq!(rt;
+                Layout::new(cores, frames).is_some(),
+                fits,
+                "{cores} cores, {frames} frames"
+            );
+        }
+    }
+}

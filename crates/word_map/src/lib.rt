@@ -1,0 +1,8 @@
+//! The places of the shared table's words.
+#![tactic(auto)]
+
+mod closed;
+mod layout;
+
+pub use closed::Closed;
+pub use layout::{Layout, names_are_told_apart, places_are_distinct};
