@@ -1,7 +1,7 @@
 -- Reading digits one by one.
-use Rattle.std.proofs.Common.{◌≡◌, ℕ, zero, suc, ◌+◌, ◌-◌, ◌*◌, ◌^◌, ◌<◌, ◌≤◌, Bool, true, false, cond, ltb, leb, List, [], ◌∷◌, length, get_or, drop, Option, Some, None, refl, sym, ap, ◌∙◌, arith}
+use Rattle.std.proofs.Common.{◌≡◌, ℕ, zero, suc, ◌+◌, ◌-◌, ◌*◌, ◌^◌, ◌<◌, ◌≤◌, Bool, true, false, cond, ltb, leb, List, [], ◌∷◌, length, get_or, drop, Option, Some, None, refl, sym, ap, ◌∙◌, arith, inl, inr}
 use Rattle.std.specs.Prelude.{◌&&◌}
-use Rattle.std.proofs.lemmas.Bool.{cases_Bool, le-ltb, lt-ltb, and_left, and_right, and_from}
+use Rattle.std.proofs.lemmas.Bool.{cases_Bool, le-ltb, lt-ltb, ltb-false, and_left, and_right, and_from}
 use Rattle.std.proofs.lemmas.List.{drop_more, drop_all}
 use Rattle.script_reader.specs.Numerals.{is_digit, all_digits, is_digits, value_from, value_of, number_of}
 
@@ -69,3 +69,20 @@ reads_all word i n le some r =
     let digits : is_digits word ≡ true = and_from _ _ (lt-ltb 0 (length word) some) (digits_end word i le r.digits) in
     let value : n ≡ value_of word = ap (value_from n) (sym (drop_all i word le)) ∙ r.value in
     ap Some value ∙ number_is word digits (omega (arith, r.fits))
+
+-- digits that are a number stand for it, and those that are none are past every core
+pub digits_some : (word : List ℕ) (n : ℕ) → is_digits word ≡ true → Some n ≡ number_of word → n ≡ value_of word
+unfolding number_of
+digits_some word n good is =
+    elim (cases_Bool (ltb (value_of word) (2 ^ 64))) [
+      | inl e ↦ let found : Some n ≡ Some (value_of word) = rw (good, e) at is in cc
+      | inr e ↦ let found : Some n ≡ None = rw (good, e) at is in absurd cc
+    ]
+
+pub digits_none : (word : List ℕ) → is_digits word ≡ true → None ≡ number_of word → 2 ^ 64 ≤ value_of word
+unfolding number_of
+digits_none word good is =
+    elim (cases_Bool (ltb (value_of word) (2 ^ 64))) [
+      | inl e ↦ let found : None ≡ Some (value_of word) = rw (good, e) at is in absurd cc
+      | inr e ↦ ltb-false _ _ e
+    ]

@@ -1,7 +1,8 @@
 -- A script as a whole: the lines of its bytes, one after another, and the end.
-use Rattle.std.specs.Prelude.{◌≡◌, ◌<◌, ℕ, List, [], ◌∷◌, ◌++◌, Bool, Result, Ok, Err, map, take, length, slice_get, slice_set, slice_index_or, ◌+◌, ◌==◌, All, replicate, if◌then◌else◌}
+use Rattle.std.specs.Prelude.{◌≡◌, ◌<◌, ℕ, List, [], ◌∷◌, ◌++◌, Bool, true, false, Result, Ok, Err, map, take, length, slice_get, slice_set, slice_index_or, ◌+◌, ◌==◌, All, replicate, if◌then◌else◌}
 use Rattle.spk_nums.specs.declared.calls.Call.{Call}
 use Rattle.spk_nums.specs.declared.steps.Item.{Item}
+use Rattle.spk_nums.specs.CallLimits.{InLimits}
 use Rattle.spk_nums.specs.Setting.{Setting}
 use Rattle.script_tokens.specs.declared.scanning.ByteFault.{ByteFault}
 use Rattle.script_tokens.specs.declared.scanning.ByteFault.TheVariants.{NotAscii, TooManyLines}
@@ -22,7 +23,7 @@ use Rattle.script_reader.specs.declared.head.Line.TheVariants as line
 use Rattle.script_reader.specs.declared.reading.Draft.{Draft}
 use Rattle.script_reader.specs.declared.reading.Script.{Script}
 use Rattle.script_reader.specs.Causes.{◌>>=◌}
-use Rattle.script_reader.specs.Heads.{line_of, no_head, is_whole}
+use Rattle.script_reader.specs.Heads.{line_of, no_head, is_whole, IsHead}
 use Rattle.script_reader.specs.Orders.{items_of}
 
 -- ---- lines
@@ -129,6 +130,27 @@ unfoldable pub script_of : List ℕ → Result Meaning First_fault
 script_of source = and_then (draft_from no_draft (rows_of (words_of source))) (λ d. meaning_at d (ending_of source))
 
 -- ---- what the reader answers
+
+-- how many words at the front stand in that line
+abbrev pub words_in : ℕ → List Word → ℕ
+words_in number [] = 0
+words_in number (w ∷ ws) = if w.line == number then words_in number ws + 1 else 0
+
+-- how many words at the front stand in the line of the first
+abbrev pub run_length : List Word → ℕ
+run_length [] = 0
+run_length (w ∷ ws) = words_in w.line (w ∷ ws)
+
+-- each item's core is below the number of cores
+abbrev pub BelowCores : ℕ → List Item → Type 0
+BelowCores cores order = All (λ (item : Item). item.core < cores) order
+
+-- a draft that lines lead to
+pub record IsDraft (d : Draft_of) : Type 0 where
+  pub head : IsHead d.head
+  pub eight : length d.lists ≡ 8
+  pub limits : All (All InLimits) d.lists
+  pub below : BelowCores d.head.cores d.order
 
 -- a line that was taken leaves that value, unless memory was wanting
 abbrev pub Takes : {A : Type 0} → Result Unit LineFault → A → Result A Cause → Type 0

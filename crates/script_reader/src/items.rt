@@ -1,9 +1,9 @@
 //! The items of an order of steps.
 
-ghost use Rattle.std.specs.Prelude.{◌≡◌, ◌≤◌, ◌<◌, true, map, length, All, OnOk};
+ghost use Rattle.std.specs.Prelude.{◌≡◌, ◌≤◌, ◌<◌, true, IfOk, IfSome};
 ghost use Rattle.script_reader.specs.Numerals.{is_digits, value_of};
 ghost use Rattle.script_reader.specs.Arguments.{texts};
-ghost use Rattle.script_reader.specs.Orders.{how_of, lent_parts, parts_of, no_item, item_of, core_below, items_of};
+ghost use Rattle.script_reader.specs.Orders.{how_of, lent_parts, suffixed, parts_of, no_item, item_of, core_below, items_of};
 ghost use Rattle.script_reader.specs.Readings.{Takes, BelowCores};
 
 use crate::cause::{Cause, LineFault};
@@ -26,14 +26,11 @@ fn how_of(suffix: u8) -> Option<How>
     }
 }
 
-// The digits of an item, and how far it goes on.
-#[tactic(auto, unfolding(crate::specs::Orders::parts_of))]
-fn parts_of(word: &[u8]) -> Option<(&[u8], How)>
-    ensures { lent_parts (λ p. record { digits = p.0.now; how = p.1 }) result ≡ parts_of word.now }
+// Digits with a suffix directly behind.
+fn suffixed(word: &[u8]) -> Option<(&[u8], How)>
+    ensures value { lent_parts (λ p. record { digits = p.0.now; how = p.1 }) result ≡ suffixed word.now }
+    ensures digits { IfSome result (λ p. is_digits p.0.now ≡ true) }
 {
-    if is_digits(word) {
-        return Some((word, How::One));
-    }
     let (last, digits) = word.split_last()?;
     let how = how_of(*last)?;
     if is_digits(digits) {
@@ -43,15 +40,35 @@ fn parts_of(word: &[u8]) -> Option<(&[u8], How)>
     }
 }
 
+// The digits of an item, and how far it goes on.
+#[tactic(auto, unfolding(crate::specs::Orders::parts_of))]
+fn parts_of(word: &[u8]) -> Option<(&[u8], How)>
+    ensures value { lent_parts (λ p. record { digits = p.0.now; how = p.1 }) result ≡ parts_of word.now }
+    ensures digits { IfSome result (λ p. is_digits p.0.now ≡ true) }
+{
+    if is_digits(word) {
+        Some((word, How::One))
+    } else {
+        suffixed(word)
+    }
+}
+
 // The core of these digits, below `cores`.
 fn core_below(digits: &[u8], cores: u8) -> Result<CoreNo, Cause>
     requires digits { is_digits digits.now ≡ true }
     requires cores { cores ≤ 8 }
-    ensures { result ≡ core_below (value_of digits.now) cores }
+    ensures value { result ≡ core_below (value_of digits.now) cores }
+    ensures below { IfOk result (λ core. core < cores) }
 {
     match read_number(digits) {
-        Some(number) if number < u64::from(cores) => Ok(CoreNo::new(number as u8)),
-        _ => Err(Cause::S6),
+        Some(number) => {
+            if number < u64::from(cores) {
+                Ok(CoreNo::new(number as u8))
+            } else {
+                Err(Cause::S6)
+            }
+        }
+        None => Err(Cause::S6),
     }
 }
 
@@ -69,7 +86,8 @@ fn no_item(word: &[u8]) -> Cause
 #[tactic(auto, unfolding(crate::specs::Orders::item_of))]
 fn item_of(cores: u8, word: &[u8]) -> Result<Item, Cause>
     requires { cores ≤ 8 }
-    ensures { result ≡ item_of cores word.now }
+    ensures value { result ≡ item_of cores word.now }
+    ensures below { IfOk result (λ item. item.core < cores) }
 {
     match parts_of(word) {
         Some((digits, how)) => {
@@ -84,6 +102,7 @@ fn item_of(cores: u8, word: &[u8]) -> Result<Item, Cause>
 pub fn take_items(order: &mut Vec<Item>, words: &[Token], cores: u8) -> Result<(), LineFault>
     requires { cores ≤ 8 }
     ensures value { Takes result order.new.items (items_of cores order.old.items (texts words.now)) }
+    ensures below { BelowCores cores order.old.items → BelowCores cores order.new.items }
 {
     'items: for word in words {
         let item = item_of(cores, word.text)?;
