@@ -1,5 +1,6 @@
 -- A script as a whole: the lines of its bytes, one after another, and the end.
-use Rattle.std.specs.Prelude.{◌≡◌, ◌<◌, ℕ, List, [], ◌∷◌, ◌++◌, Bool, true, false, Result, Ok, Err, map, take, length, slice_get, slice_set, slice_index_or, ◌+◌, ◌==◌, All, replicate, if◌then◌else◌}
+use Rattle.std.specs.Prelude.{◌≡◌, ◌<◌, ℕ, List, [], ◌∷◌, ◌++◌, Bool, true, false, Result, Ok, Err, map, take, length, slice_get, slice_set, slice_index_or, ◌+◌, ◌-◌, ◌^◌, ◌==◌, All, replicate, if◌then◌else◌}
+use Rattle.std.specs.Global.{Vec}
 use Rattle.spk_nums.specs.declared.calls.Call.{Call}
 use Rattle.spk_nums.specs.declared.steps.Item.{Item}
 use Rattle.spk_nums.specs.CallLimits.{InLimits}
@@ -76,12 +77,16 @@ abbrev pub is_order : Section → Bool
 is_order section.Order = true
 is_order _ = false
 
+-- the draft behind a line before the order of steps
+unfoldable pub behind_line : Draft_of → List (List ℕ) → Result Draft_of Cause
+behind_line d words = line_of d.head words >>= λ line. Ok (with_line d line)
+
 -- the draft behind a line
 unfoldable pub draft_behind : Draft_of → List (List ℕ) → Result Draft_of Cause
 draft_behind d words =
     if is_order d.head.section
     then (items_of d.head.cores d.order words >>= λ order. Ok (record d { order = order }))
-    else (line_of d.head words >>= λ line. Ok (with_line d line))
+    else behind_line d words
 
 -- ---- the whole
 
@@ -110,11 +115,15 @@ pub record Meaning : Type 0 where
   pub lists : List (List Call)
   pub order : List Item
 
--- what a whole draft says
+-- the setup that a head says
+abbrev pub setting_of : Head → Setting
+setting_of h = record { cores = h.cores; frames = h.frames; grants = h.grants; calls = h.calls; epochs = h.epochs }
+
+-- what a whole draft says: the lists of its cores alone
 abbrev pub meaning_of : Draft_of → Meaning
 meaning_of d =
     record {
-      setup = record { cores = d.head.cores; frames = d.head.frames; grants = d.head.grants; calls = d.head.calls; epochs = d.head.epochs };
+      setup = setting_of d.head;
       lists = take d.head.cores d.lists;
       order = d.order;
     }
@@ -136,11 +145,6 @@ abbrev pub words_in : ℕ → List Word → ℕ
 words_in number [] = 0
 words_in number (w ∷ ws) = if w.line == number then words_in number ws + 1 else 0
 
--- how many words at the front stand in the line of the first
-abbrev pub run_length : List Word → ℕ
-run_length [] = 0
-run_length (w ∷ ws) = words_in w.line (w ∷ ws)
-
 -- each item's core is below the number of cores
 abbrev pub BelowCores : ℕ → List Item → Type 0
 BelowCores cores order = All (λ (item : Item). item.core < cores) order
@@ -151,6 +155,7 @@ pub record IsDraft (d : Draft_of) : Type 0 where
   pub eight : length d.lists ≡ 8
   pub limits : All (All InLimits) d.lists
   pub below : BelowCores d.head.cores d.order
+  pub before : is_order d.head.section ≡ false → d.order ≡ []
 
 -- a line that was taken leaves that value, unless memory was wanting
 abbrev pub Takes : {A : Type 0} → Result Unit LineFault → A → Result A Cause → Type 0
@@ -158,19 +163,45 @@ Takes (Ok done) new read = read ≡ Ok new
 Takes (Err (line_fault.Cause c)) new read = read ≡ Err c
 Takes (Err line_fault.Memory) new read = Unit {0}
 
--- an answer gives what was to be read, unless memory was wanting
+-- an answer that is none tells the first fault, unless memory was wanting
 abbrev pub Fails : {A : Type 0} → ReadFault → Result A First_fault → Type 0
 Fails (read_fault.Script number c) read = read ≡ Err (record { line = number; cause = c })
 Fails read_fault.Memory read = Unit {0}
 
+-- the fault of a line
+abbrev pub fault_at : ℕ → LineFault → ReadFault
+fault_at number (line_fault.Cause c) = read_fault.Script number c
+fault_at number line_fault.Memory = read_fault.Memory
+
+-- lines that were taken leave that draft, unless memory was wanting
+abbrev pub Leads : {A : Type 0} → Result Unit ReadFault → A → Result A First_fault → Type 0
+Leads (Ok done) new read = read ≡ Ok new
+Leads (Err e) new read = Fails e read
+
+-- the answer gives what was to be read, unless memory was wanting
 abbrev pub Gives : {X A : Type 0} → (X → A) → Result X ReadFault → Result A First_fault → Type 0
 Gives view (Ok x) read = read ≡ Ok (view x)
 Gives view (Err e) read = Fails e read
 
+-- lists of calls, seen without where they lie in memory
+abbrev pub lists_of : List (Vec Call) → List (List Call)
+lists_of lists = map (λ v. v.items) lists
+
 -- a draft, seen without where it lies in memory
 abbrev pub draft_view : Draft → Draft_of
-draft_view d = record { head = d.head; lists = map (λ v. v.items) d.lists.items; order = d.order.items }
+draft_view d = record { head = d.head; lists = lists_of d.lists.items; order = d.order.items }
 
 -- a script, seen so
 abbrev pub script_view : Script → Meaning
-script_view s = record { setup = s.setup; lists = map (λ v. v.items) s.lists.items; order = s.order.items }
+script_view s = record { setup = s.setup; lists = lists_of s.lists.items; order = s.order.items }
+
+-- the end of the bytes was told: no more lines than there may be
+abbrev pub IsTold : Ending → Type 0
+IsTold (Whole lines) = lines < 2 ^ 32 - 1
+IsTold (Faulty fault) = Unit {0}
+
+-- a script has a list for each core, its calls are in range, and its items are of its cores
+pub record IsScript (s : Script) : Type 0 where
+  pub lists : length s.lists.items ≡ s.setup.cores
+  pub limits : All (λ (v : Vec Call). All InLimits v.items) s.lists.items
+  pub below : BelowCores s.setup.cores s.order.items
