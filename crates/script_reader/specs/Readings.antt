@@ -203,5 +203,5 @@ IsTold (Faulty fault) = Unit {0}
 -- a script has a list for each core, its calls are in range, and its items are of its cores
 pub record IsScript (s : Script) : Type 0 where
   pub lists : length s.lists.items ≡ s.setup.cores
-  pub limits : All (λ (v : Vec Call). All InLimits v.items) s.lists.items
+  pub limits : All (All InLimits) (lists_of s.lists.items)
   pub below : BelowCores s.setup.cores s.order.items

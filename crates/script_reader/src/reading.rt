@@ -84,6 +84,7 @@ fn add_call(lists: &mut Vec<Vec<Call>>, core: CoreNo, call: Call) -> Result<(), 
 }
 
 // Takes what a line before the order of steps says.
+#[tactic(auto, unfolding(crate::specs::Readings::behind_line))]
 fn take_head_line(draft: &mut Draft, words: &[Token]) -> Result<(), LineFault>
     requires draft { IsDraft (draft_view draft.old) }
     requires section { is_order draft.old.head.section ≡ false }
