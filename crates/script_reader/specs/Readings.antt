@@ -195,11 +195,6 @@ draft_view d = record { head = d.head; lists = lists_of d.lists.items; order = d
 abbrev pub script_view : Script → Meaning
 script_view s = record { setup = s.setup; lists = lists_of s.lists.items; order = s.order.items }
 
--- the end of the bytes was told: no more lines than there may be
-abbrev pub IsTold : Ending → Type 0
-IsTold (Whole lines) = lines < 2 ^ 32 - 1
-IsTold (Faulty fault) = Unit {0}
-
 -- a script has a list for each core, its calls are in range, and its items are of its cores
 pub record IsScript (s : Script) : Type 0 where
   pub lists : length s.lists.items ≡ s.setup.cores

@@ -1,12 +1,12 @@
 //! Reads a script, line by line.
 
 ghost use Rattle.std.specs.Prelude.{◌≡◌, ◌<◌, ◌≤◌, ◌^◌, true, false, [], length, replicate, IfOk, IfErr, OnOk};
-ghost use Rattle.script_tokens.specs.Words.{views, words_of};
+ghost use Rattle.script_tokens.specs.Words.{views, words_of, FewLines};
 ghost use Rattle.script_reader.specs.Arguments.{texts};
 ghost use Rattle.script_reader.specs.declared.cause.LineFault.TheVariants as line_fault;
 ghost use Rattle.script_reader.specs.declared.cause.ReadFault.TheVariants as read_fault;
 ghost use Rattle.script_reader.specs.Heads.{is_whole, IsHead};
-ghost use Rattle.script_reader.specs.Readings.{draft_view, script_view, draft_behind, draft_from, rows_of, script_of, no_draft, meaning_at, words_in, lists_of, with_call, behind_line, fault_at, is_order, setting_of, Takes, Leads, Gives, IsDraft, IsScript, IsTold};
+ghost use Rattle.script_reader.specs.Readings.{draft_view, script_view, draft_behind, draft_from, rows_of, script_of, no_draft, meaning_at, words_in, lists_of, with_call, behind_line, fault_at, is_order, setting_of, Takes, Leads, Gives, IsDraft, IsScript};
 
 use crate::cause::{Cause, LineFault, ReadFault};
 use crate::head::{Head, Line, Section, is_whole, line_of, no_head};
@@ -177,7 +177,7 @@ fn fault_at(line: u32, fault: LineFault) -> ReadFault
 // Ends a script.
 fn finish<'a>(draft: Draft, ending: Ending, tokens: Vec<Token<'a>>) -> Result<Script<'a>, ReadFault>
     requires draft { IsDraft (draft_view draft) }
-    requires lines { IsTold ending }
+    requires lines { FewLines ending }
     ensures value { Gives script_view result (meaning_at (draft_view draft) ending) }
     ensures tokens { IfOk result (λ s. s.tokens.items ≡ tokens.entry.items) }
     ensures script { IfOk result IsScript }
@@ -218,6 +218,7 @@ fn script_fault(line: u32, cause: Cause) -> ReadFault
 /// `Script` where the bytes are no script, with their first fault: lines are judged one after another,
 /// and within a line the number of the line, its bytes, its first word and its arguments from left to
 /// right. `Memory` where memory is wanting.
+#[tactic(auto, unfolding(crate::specs::Readings::script_of))]
 pub fn read<'a>(alloc: Global, source: &'a [u8]) -> Result<Script<'a>, ReadFault>
     requires { length source.now < 2 ^ 32 }
     // What is read is what the bytes say, or their first fault.
