@@ -1,5 +1,5 @@
 -- The words of a script's bytes, and the first byte or line that may not stand there.
-use Rattle.std.specs.Prelude.{◌≡◌, ℕ, List, [], ◌∷◌, Bool, true, false, Option, Some, None, ◌==◌, ◌||◌, not, nat_lt, count_by, filter, map, slice_get, slice_range, length, ◌+◌, ◌-◌, ◌<◌, if◌then◌else◌}
+use Rattle.std.specs.Prelude.{◌≡◌, ℕ, List, [], ◌∷◌, Bool, true, false, Option, Some, None, ◌==◌, ◌||◌, not, nat_lt, count_by, filter, map, slice_get, slice_range, length, ◌+◌, ◌-◌, ◌<◌, ◌≤◌, if◌then◌else◌}
 use Rattle.script_tokens.specs.declared.scanning.ByteFault.{ByteFault}
 use Rattle.script_tokens.specs.declared.scanning.ByteFault.TheVariants.{NotAscii, TooManyLines}
 use Rattle.script_tokens.specs.declared.scanning.TokenFault.{TokenFault}
@@ -56,6 +56,11 @@ ending_from (Some fault) lines = Fault fault
 -- how a source ends: whole, with its number of lines, or with its first fault
 abbrev pub ending_of : List ℕ → Ending
 ending_of source = ending_from (first_fault 1 source) (line_count source)
+
+-- a whole source has at most 20,000 lines
+abbrev pub FewLines : Ending → Type 0
+FewLines (Whole lines) = lines ≤ 20000
+FewLines (Fault fault) = Unit {0}
 
 -- the line of a fault
 abbrev pub line_of_fault : ByteFault → ℕ

@@ -7,7 +7,7 @@
 ghost use Rattle.std.specs.Prelude.{◌≡◌, ◌<◌, ◌≤◌, ◌^◌, ◌+◌, ◌++◌, length, All, IfOk, IfErr, OnOk, map, count_by, slice_get};
 ghost use Rattle.std.specs.Option.{ForSome};
 ghost use Rattle.script_tokens.specs.Bytes.{is_feed};
-ghost use Rattle.script_tokens.specs.Words.{views, words_of, ending_of, line_count, first_fault, Ascend, IsFault};
+ghost use Rattle.script_tokens.specs.Words.{views, words_of, ending_of, line_count, first_fault, Ascend, IsFault, FewLines};
 ghost use Rattle.script_tokens.specs.Scanning.{span_of, IsSlice, place_after, word_before, last_word, ended, line_after, whole_after, fault_at, is_fault};
 
 use crate::bytes::{is_allowed, is_word_byte};
@@ -183,6 +183,8 @@ pub fn scan<'a>(alloc: Global, source: &'a [u8]) -> Result<Scanned<'a>, AllocErr
     ensures words { IfOk result (λ scan. views scan.words.items ≡ words_of source.now) }
     ensures ending { IfOk result (λ scan. scan.ending ≡ ending_of source.now) }
     ensures ascend { IfOk result (λ scan. Ascend (views scan.words.items)) }
+    ensures lines { IfOk result (λ scan. FewLines scan.ending) }
+    ensures few { IfOk result (λ scan. length scan.words.items ≤ length source.now) }
 {
     let mut words = Vec::new(alloc);
     let mut whole = 0;

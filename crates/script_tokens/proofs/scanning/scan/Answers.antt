@@ -6,6 +6,8 @@ use Rattle.script_tokens.specs.declared.scanning.Ending.TheVariants.{Fault}
 use Rattle.script_tokens.specs.Words.{spans_of}
 use Rattle.script_tokens.specs.Scanning.{span_of, IsSlice, is_fault, ended, word_before, last_word, whole_after}
 use Rattle.script_tokens.proofs.Steps.{turns, stops, told, rises, ends}
+use Rattle.script_tokens.specs.Words.{FewLines}
+use Rattle.script_tokens.proofs.Sizes.{few_lines, few_words}
 use Rattle.script_tokens.proofs.scanning.scan.Goals as goal
 
 pub returns-then-is_fault-clause-words : goal.returns-then-is_fault-clause-words
@@ -56,3 +58,14 @@ returns-clause-ascend c =
     let new : map span_of c.end_word-2.new.words.items ≡ map span_of c.bytes.words.items ++ ended (last_word c.bytes.place) c.bytes.line c.bytes.at =
     c.in_ok-end_word-2.ensures.spans ∙ ap (λ o. map span_of c.bytes.words.items ++ ended o c.bytes.line (length source)) c.last_word.ensures ∙ ap (λ n. map span_of c.bytes.words.items ++ ended (last_word c.bytes.place) c.bytes.line n) here in
     rises source c.end_word-2.new.words.items (new ∙ e.words)
+
+pub returns-then-is_fault-clause-few : goal.returns-then-is_fault-clause-few
+returns-then-is_fault-clause-few c = few_words c.args.source.now c.truncate.new.self.items (returns-then-is_fault-clause-words c)
+
+pub returns-clause-lines : goal.returns-clause-lines
+returns-clause-lines c =
+    let e = ends c.args.source.now c.bytes.at c.bytes.place c.bytes.line c.bytes.whole _ c.bytes.invariant.holds c.bytes-test.false in
+    rw c.line_count.ensures (subst FewLines e.ending (few_lines c.args.source.now))
+
+pub returns-clause-few : goal.returns-clause-few
+returns-clause-few c = few_words c.args.source.now c.end_word-2.new.words.items (returns-clause-words c)

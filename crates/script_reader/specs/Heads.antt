@@ -1,0 +1,166 @@
+-- What comes before the calls, and where each line may stand.
+use Rattle.std.specs.Prelude.{◌≡◌, ◌<◌, ◌≤◌, ◌^◌, All, ℕ, List, [], ◌∷◌, ◌++◌, Bool, true, false, Option, Some, None, Result, Ok, Err, length, slice_get, ◌+◌, ◌*◌, ◌==◌, if◌then◌else◌}
+use Rattle.std.specs.Option.{ok_or, option_and_then}
+use Rattle.spk_nums.specs.declared.calls.Call.{Call}
+use Rattle.spk_nums.specs.declared.grants.Grant.{Grant}
+use Rattle.spk_nums.specs.CallLimits.{InLimits}
+use Rattle.spk_nums.specs.Setting.{GrantFits}
+use Rattle.script_reader.specs.declared.cause.Cause.{Cause}
+use Rattle.script_reader.specs.declared.cause.Cause.TheVariants.{S2, S7}
+use Rattle.script_reader.specs.declared.first_words.FirstWord.{FirstWord}
+use Rattle.script_reader.specs.declared.first_words.FirstWord.TheVariants as first
+use Rattle.script_reader.specs.declared.head.Section.{Section}
+use Rattle.script_reader.specs.declared.head.Section.TheVariants as section
+use Rattle.script_reader.specs.declared.head.Head.{Head}
+use Rattle.script_reader.specs.declared.head.Line.{Line}
+use Rattle.script_reader.specs.declared.head.Line.TheVariants as line
+use Rattle.script_reader.specs.Causes.{◌>>=◌}
+use Rattle.script_reader.specs.Arguments.{number_at, core_at, end_at}
+use Rattle.script_reader.specs.FirstWords.{first_word}
+use Rattle.script_reader.specs.CallLines.{call_line}
+
+-- what may stand next: the head's lines in turn; then `calls`, `epochs` and `core`, each only before what is later;
+-- behind a `core` line also calls; no other line than `order` begins the order of steps
+abbrev pub may_stand : Section → FirstWord → Bool
+may_stand section.Version first.Speck = true
+may_stand section.Cores first.Cores = true
+may_stand section.Frames first.Frames = true
+may_stand section.Grants first.Grant = true
+may_stand section.Calls first.Calls = true
+may_stand section.Calls first.Epochs = true
+may_stand section.Calls first.Core = true
+may_stand section.Calls first.Order = true
+may_stand section.Epochs first.Epochs = true
+may_stand section.Epochs first.Core = true
+may_stand section.Epochs first.Order = true
+may_stand section.Lists first.Core = true
+may_stand section.Lists first.Order = true
+may_stand section.List first.Core = true
+may_stand section.List first.Order = true
+may_stand section.List (first.Call verb) = true
+may_stand _ _ = false
+
+-- `speck 1`
+unfoldable pub speck_line : Head → List (List ℕ) → Result Head Cause
+speck_line head words = do
+  version ← number_at words 1 1 1
+  done ← end_at words 2
+  Ok (record head { section = section.Cores })
+
+-- `cores n`
+unfoldable pub cores_line : Head → List (List ℕ) → Result Head Cause
+cores_line head words = do
+  n ← number_at words 1 1 8
+  done ← end_at words 2
+  Ok (record head { section = section.Frames; cores = n })
+
+-- `frames F`
+unfoldable pub frames_line : Head → List (List ℕ) → Result Head Cause
+frames_line head words = do
+  n ← number_at words 1 (4 + 2 * head.cores) 512
+  done ← end_at words 2
+  Ok (record head { section = section.Grants; frames = n })
+
+-- behind the grant of the last core come the limits
+abbrev pub granted : Head → Grant → Head
+granted head grant =
+    record head {
+      section = (if length head.grants + 1 == head.cores then section.Calls else section.Grants);
+      grants = head.grants ++ grant ∷ [];
+    }
+
+-- `grant B S W`: what the next core is granted
+unfoldable pub grant_line : Head → List (List ℕ) → Result Head Cause
+grant_line head words = do
+  b ← number_at words 1 0 500000000
+  s ← number_at words 2 0 63
+  w ← number_at words 3 1 16777215
+  done ← end_at words 4
+  Ok (granted head (record { budget = b; sched = s; quality = w }))
+
+-- `calls N`
+unfoldable pub calls_line : Head → List (List ℕ) → Result Head Cause
+calls_line head words = do
+  n ← number_at words 1 0 4194304
+  done ← end_at words 2
+  Ok (record head { section = section.Epochs; calls = n })
+
+-- `epochs N`
+unfoldable pub epochs_line : Head → List (List ℕ) → Result Head Cause
+epochs_line head words = do
+  n ← number_at words 1 1 65535
+  done ← end_at words 2
+  Ok (record head { section = section.Lists; epochs = n })
+
+-- `core c`: the calls behind are that core's
+unfoldable pub core_line : Head → List (List ℕ) → Result Head Cause
+core_line head words = do
+  c ← core_at words 1 head.cores
+  done ← end_at words 2
+  Ok (record head { section = section.List; core = c })
+
+-- `order`
+unfoldable pub order_line : Head → List (List ℕ) → Result Head Cause
+order_line head words = do
+  done ← end_at words 1
+  Ok (record head { section = section.Order })
+
+abbrev pub goes_on : Result Head Cause → Result Line Cause
+goes_on read = read >>= λ head. Ok (line.Head head)
+
+-- the line of a first word that may stand there
+unfoldable pub line_by : Head → List (List ℕ) → FirstWord → Result Line Cause
+line_by head words first.Speck = goes_on (speck_line head words)
+line_by head words first.Cores = goes_on (cores_line head words)
+line_by head words first.Frames = goes_on (frames_line head words)
+line_by head words first.Grant = goes_on (grant_line head words)
+line_by head words first.Calls = goes_on (calls_line head words)
+line_by head words first.Epochs = goes_on (epochs_line head words)
+line_by head words first.Core = goes_on (core_line head words)
+line_by head words first.Order = goes_on (order_line head words)
+line_by head words (first.Call verb) = call_line words verb >>= λ call. Ok (line.Call call)
+
+-- a line before the order of steps: its first word is judged for S2, then S7, and then its arguments
+unfoldable pub line_of : Head → List (List ℕ) → Result Line Cause
+line_of head words = do
+  word ← ok_or (option_and_then first_word (slice_get words 0)) S2
+  if may_stand head.section word then line_by head words word else Err S7
+
+-- the setup before the first line
+abbrev pub no_head : Head
+no_head = record { section = section.Version; cores = 1; frames = 6; grants = []; calls = 4194304; epochs = 65535; core = 0 }
+
+-- the head is whole: its last grant was read
+abbrev pub is_whole : Section → Bool
+is_whole section.Version = false
+is_whole section.Cores = false
+is_whole section.Frames = false
+is_whole section.Grants = false
+is_whole _ = true
+
+-- the frames fit the cores
+abbrev pub AreFrames : Head → Type 0
+AreFrames h = (4 + 2 * h.cores ≤ h.frames) × (h.frames ≤ 512)
+
+-- what holds of a head by the section that it has come to
+abbrev pub HasCome : Section → Head → Type 0
+HasCome section.Version h = h.grants ≡ []
+HasCome section.Cores h = h.grants ≡ []
+HasCome section.Frames h = h.grants ≡ []
+HasCome section.Grants h = AreFrames h × (length h.grants < h.cores)
+HasCome _ h = AreFrames h × (length h.grants ≡ h.cores)
+
+-- a head that lines lead to
+pub record IsHead (h : Head) : Type 0 where
+  pub some_core : 1 ≤ h.cores
+  pub most_cores : h.cores ≤ 8
+  pub fit : All GrantFits h.grants
+  pub most_calls : h.calls ≤ 4194304
+  pub some_epoch : 1 ≤ h.epochs
+  pub most_epochs : h.epochs < 2 ^ 16
+  pub come : HasCome h.section h
+
+-- what a line says is in range
+abbrev pub IsLine : Line → Type 0
+IsLine (line.Head head) = IsHead head
+IsLine (line.Call call) = InLimits call

@@ -1,0 +1,20 @@
+//! Reads scripts: the setup of a machine, a list of calls for each core, and an order of steps, or the
+//! first fault of bytes that are no script.
+#![tactic(auto)]
+
+mod arguments;
+mod call_lines;
+mod cause;
+mod first_words;
+mod head;
+mod items;
+mod numerals;
+mod reading;
+
+pub use cause::{Cause, ReadFault};
+pub use items::MOST_ITEMS;
+pub use reading::{Script, read};
+pub use spk_nums::{How, Item};
+
+#[cfg(test)]
+mod tests;

@@ -1,0 +1,234 @@
+//! Reads a script, line by line.
+
+ghost use Rattle.std.specs.Prelude.{◌≡◌, ◌<◌, ◌≤◌, ◌^◌, true, false, [], length, replicate, IfOk, IfErr, OnOk};
+ghost use Rattle.script_tokens.specs.Words.{views, words_of, FewLines};
+ghost use Rattle.script_reader.specs.Arguments.{texts};
+ghost use Rattle.script_reader.specs.declared.cause.LineFault.TheVariants as line_fault;
+ghost use Rattle.script_reader.specs.declared.cause.ReadFault.TheVariants as read_fault;
+ghost use Rattle.script_reader.specs.Heads.{is_whole, IsHead};
+ghost use Rattle.script_reader.specs.Readings.{draft_view, script_view, draft_behind, draft_from, rows_of, script_of, no_draft, meaning_at, words_in, lists_of, with_call, behind_line, fault_at, is_order, setting_of, Takes, Leads, Gives, IsDraft, IsScript};
+
+use crate::cause::{Cause, LineFault, ReadFault};
+use crate::head::{Head, Line, Section, is_whole, line_of, no_head};
+use crate::items::take_items;
+use script_tokens::{ByteFault, Ending, Scanned, Token, scan};
+use spk_nums::{Call, CoreNo, Item, Make, Setup};
+use std::alloc::{AllocError, Global};
+
+/// A script: its setup, a list of calls for each core, core 0 first, the items of its order, and the
+/// words that it is made of, lent from its bytes.
+#[derive(Debug, Drop)]
+pub struct Script<'a> {
+    pub setup: Setup,
+    pub lists: Vec<Vec<Call>>,
+    pub order: Vec<Item>,
+    pub tokens: Vec<Token<'a>>,
+}
+
+// What the lines so far say. Each core that a machine may have has a list.
+#[derive(Drop)]
+struct Draft {
+    head: Head,
+    lists: Vec<Vec<Call>>,
+    order: Vec<Item>,
+}
+
+// A list for each core that a machine may have, without calls.
+fn no_lists(alloc: Global) -> Result<Vec<Vec<Call>>, AllocError>
+    ensures { IfOk result (λ lists. lists_of lists.items ≡ replicate 8 []) }
+{
+    let lists = vec![in alloc;
+        Vec::new(alloc),
+        Vec::new(alloc),
+        Vec::new(alloc),
+        Vec::new(alloc),
+        Vec::new(alloc),
+        Vec::new(alloc),
+        Vec::new(alloc),
+        Vec::new(alloc),
+    ]?;
+    Ok(lists)
+}
+
+fn no_draft(alloc: Global) -> Result<Draft, AllocError>
+    ensures value { IfOk result (λ d. draft_view d ≡ no_draft) }
+    ensures draft { IfOk result (λ d. IsDraft (draft_view d)) }
+{
+    let lists = no_lists(alloc)?;
+    Ok(Draft {
+        head: no_head(),
+        lists,
+        order: Vec::new(alloc),
+    })
+}
+
+fn is_order(section: Section) -> bool
+    ensures { result ≡ is_order section }
+{
+    match section {
+        Section::Order => true,
+        _ => false,
+    }
+}
+
+// Adds a call to the list of a core.
+fn add_call(lists: &mut Vec<Vec<Call>>, core: CoreNo, call: Call) -> Result<(), LineFault>
+    requires { length lists.old.items ≡ 8 }
+    ensures ok { OnOk result (lists_of lists.new.items ≡ with_call (lists_of lists.old.items) core call) }
+    ensures fault { IfErr result (λ e. e ≡ line_fault.Memory) }
+{
+    // The check of a function that moves calls asks for the types that they hold.
+    let _made: Option<Make> = None;
+    lists[usize::from(core.number())].push(call)?;
+    Ok(())
+}
+
+// Takes what a line before the order of steps says.
+#[tactic(auto, unfolding(crate::specs::Readings::behind_line))]
+fn take_head_line(draft: &mut Draft, words: &[Token]) -> Result<(), LineFault>
+    requires draft { IsDraft (draft_view draft.old) }
+    requires section { is_order draft.old.head.section ≡ false }
+    ensures value { Takes result (draft_view draft.new) (behind_line (draft_view draft.old) (texts words.now)) }
+    ensures draft { OnOk result (IsDraft (draft_view draft.new)) }
+{
+    // As in `add_call`.
+    let _made: Option<Make> = None;
+    match line_of(&draft.head, words)? {
+        Line::Head(head) => draft.head = head,
+        Line::Call(call) => add_call(&mut draft.lists, draft.head.core, call)?,
+    }
+    Ok(())
+}
+
+// Takes a line.
+#[tactic(auto, unfolding(crate::specs::Readings::draft_behind))]
+fn take_line(draft: &mut Draft, words: &[Token]) -> Result<(), LineFault>
+    requires { IsDraft (draft_view draft.old) }
+    ensures value { Takes result (draft_view draft.new) (draft_behind (draft_view draft.old) (texts words.now)) }
+    ensures draft { OnOk result (IsDraft (draft_view draft.new)) }
+{
+    if is_order(draft.head.section) {
+        let cores = draft.head.cores;
+        take_items(&mut draft.order, words, cores)
+    } else {
+        take_head_line(draft, words)
+    }
+}
+
+// The setup of a whole head.
+fn setup_of(head: &Head) -> Setup
+    requires head { IsHead head.now }
+    requires whole { is_whole head.now.section ≡ true }
+    ensures { result ≡ setting_of head.now }
+{
+    let setup = Setup::new(
+        head.cores,
+        head.frames,
+        head.grants,
+        head.calls,
+        head.epochs,
+    );
+    setup.unwrap()
+}
+
+// How many tokens at the front stand in a line.
+fn line_length(tokens: &[Token], line: u32) -> usize
+    ensures value { result ≡ words_in line (views tokens.now) }
+    ensures within { result ≤ length tokens.now }
+{
+    let mut length = 0;
+    'words: for token in tokens {
+        if token.line != line {
+            return length;
+        }
+        length += 1;
+    }
+    length
+}
+
+// Takes the lines of these tokens.
+fn take_lines(draft: &mut Draft, tokens: &[Token]) -> Result<(), ReadFault>
+    requires { IsDraft (draft_view draft.old) }
+    ensures value { Leads result (draft_view draft.new) (draft_from (draft_view draft.old) (rows_of (views tokens.now))) }
+    ensures draft { OnOk result (IsDraft (draft_view draft.new)) }
+{
+    let mut at = 0;
+    'lines: while at < tokens.len() {
+        let line = tokens[at].line;
+        let end = at + line_length(&tokens[at..], line);
+        if let Err(fault) = take_line(draft, &tokens[at..end]) {
+            return Err(fault_at(line, fault));
+        }
+        at = end;
+    }
+    Ok(())
+}
+
+// The fault of a line.
+fn fault_at(line: u32, fault: LineFault) -> ReadFault
+    ensures { result ≡ fault_at line fault }
+{
+    match fault {
+        LineFault::Cause(cause) => ReadFault::Script { line, cause },
+        LineFault::Memory => ReadFault::Memory,
+    }
+}
+
+// Ends a script.
+fn finish<'a>(draft: Draft, ending: Ending, tokens: Vec<Token<'a>>) -> Result<Script<'a>, ReadFault>
+    requires draft { IsDraft (draft_view draft) }
+    requires lines { FewLines ending }
+    ensures value { Gives script_view result (meaning_at (draft_view draft) ending) }
+    ensures tokens { IfOk result (λ s. s.tokens.items ≡ tokens.entry.items) }
+    ensures script { IfOk result IsScript }
+{
+    let line = match ending {
+        Ending::Fault(ByteFault::NotAscii { line }) => return Err(script_fault(line, Cause::S8)),
+        Ending::Fault(ByteFault::TooManyLines) => return Err(script_fault(20_001, Cause::S9)),
+        Ending::Whole { lines } => lines + 1,
+    };
+    if !is_whole(draft.head.section) {
+        return Err(script_fault(line, Cause::S7));
+    }
+    let Draft {
+        head,
+        mut lists,
+        order,
+    } = draft;
+    lists.truncate(usize::from(head.cores));
+    let setup = setup_of(&head);
+    Ok(Script {
+        setup,
+        lists,
+        order,
+        tokens,
+    })
+}
+
+fn script_fault(line: u32, cause: Cause) -> ReadFault
+    ensures { result ≡ read_fault.Script line cause }
+{
+    ReadFault::Script { line, cause }
+}
+
+/// Reads a script of fewer than 2^32 bytes.
+///
+/// # Errors
+///
+/// `Script` where the bytes are no script, with their first fault: lines are judged one after another,
+/// and within a line the number of the line, its bytes, its first word and its arguments from left to
+/// right. `Memory` where memory is wanting.
+#[tactic(auto, unfolding(crate::specs::Readings::script_of))]
+pub fn read<'a>(alloc: Global, source: &'a [u8]) -> Result<Script<'a>, ReadFault>
+    requires { length source.now < 2 ^ 32 }
+    // What is read is what the bytes say, or their first fault.
+    ensures value { Gives script_view result (script_of source.now) }
+    // Its tokens are the words of the bytes.
+    ensures tokens { IfOk result (λ s. views s.tokens.items ≡ words_of source.now) }
+    ensures script { IfOk result IsScript }
+{
+    let Scanned { words, ending } = scan(alloc, source)?;
+    let mut draft = no_draft(alloc)?;
+    take_lines(&mut draft, &words)?;
+    finish(draft, ending, words)
+}
