@@ -1,0 +1,4 @@
+pub mod Entries
+pub mod Good
+pub mod Advance
+pub mod Boot

@@ -1,0 +1,13 @@
+//! The machine of one thread, and the top call.
+#![tactic(auto)]
+
+mod flight;
+mod lone;
+
+mod seats;
+
+
+pub use flight::{Entry, Stage, Took, Turn};
+pub use lone::{LoneKernel, Moved};
+
+pub use seats::Core;
