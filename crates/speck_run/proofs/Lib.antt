@@ -2,3 +2,4 @@ pub mod Entries
 pub mod Good
 pub mod Advance
 pub mod Boot
+pub mod Runs

@@ -340,7 +340,7 @@ impl LoneKernel {
         }
     }
 
-    fn take(&mut self, item: &Item)
+    fn take(&mut self, item: &Item) -> Moved
         requires { item.now.core < self.old.setup.cores }
         ensures setup { self.new.setup ≡ self.old.setup }
         ensures lists { self.new.lists ≡ self.old.lists }
@@ -352,7 +352,7 @@ impl LoneKernel {
             How::Ready => self.until_ready(core),
             How::Decide => self.through_decision(core),
             How::Return => self.to_return(core),
-        };
+        }
     }
 
     /// Takes the items of an order, one after another.
