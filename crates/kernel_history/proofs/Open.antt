@@ -2,7 +2,7 @@
 use Rattle.std.proofs.Common.{◌≡◌, ◌≢◌, ℕ, ◌∷◌, Option, Some, None, refl, sym, ◌∙◌, ap}
 use Rattle.std.specs.Prelude.{IsSome}
 use Rattle.spk_nums.specs.declared.replies.Reply.{Reply}
-use Rattle.spk_nums.specs.declared.setup.Setup.{Setup}
+use Rattle.spk_nums.specs.Setting.{Setting}
 use Rattle.kernel_history.specs.Trace.{Step, Trace, Phase, Out, Open, Decided, phase, after_enter, after_decide, after_return}
 use Rattle.kernel_history.specs.Legal.{MayFollow}
 use Rattle.kernel_history.proofs.Steps.{phase-own}
@@ -13,7 +13,7 @@ stays_in (Some r) Out h = λ e. h refl
 stays_in (Some r) (Open call) h = λ e. cc
 stays_in (Some r) (Decided call q) h = λ e. cc
 
-module _ (setup : Setup) (t : Trace) (e : Step) (c : ℕ) (own : e.core ≡ c) (follows : MayFollow setup t e) where
+module _ (setup : Setting) (t : Trace) (e : Step) (c : ℕ) (own : e.core ≡ c) (follows : MayFollow setup t e) where
   pub open_after : e.returns ≡ None → phase (e ∷ t) c ≢ Out
   open_after none out =
       stays_in e.decides (after_enter e.enters (phase t e.core)) follows.in_call

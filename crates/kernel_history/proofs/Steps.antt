@@ -2,7 +2,7 @@
 use Rattle.std.proofs.Common.{◌≡◌, ◌≢◌, ℕ, ◌+◌, ◌++◌, ◌∷◌, Option, Some, None, refl, cond}
 use Rattle.std.specs.Prelude.{option_to_list, is_some}
 use Rattle.std.proofs.lemmas.Bool.{eq-eqb, ne_eqb}
-use Rattle.spk_nums.specs.declared.setup.Setup.{Setup}
+use Rattle.spk_nums.specs.Setting.{Setting}
 use Rattle.kernel_history.specs.Words.{Word}
 use Rattle.kernel_history.specs.Trace.{Step, Trace, phase, after_enter, after_decide, after_return, last_left, calls_of, steps_in_call, own_left}
 use Rattle.kernel_history.proofs.Words.{same_word-same, same_word-other}
@@ -36,7 +36,7 @@ module _ (c : ℕ) (e : Step) (t : Trace) (other : c ≢ e.core) where
   pub own_left-other : (w : Word) → own_left (e ∷ t) c w ≡ own_left t c w
   own_left-other w = rw (ne_eqb c e.core other)
 
-module _ (setup : Setup) (w : Word) (e : Step) (t : Trace) where
+module _ (setup : Setting) (w : Word) (e : Step) (t : Trace) where
   pub last_left-here : w ≡ e.word → last_left setup (e ∷ t) w ≡ e.left
   last_left-here here = rw (same_word-same w e.word here)
 

@@ -3,7 +3,7 @@ use Rattle.std.specs.Prelude.{ℕ, ◌+◌, ◌-◌, ◌*◌, Bool, true, false,
 use Rattle.spk_nums.specs.Capability.{Capability}
 use Rattle.spk_nums.specs.declared.kinds.Kind.{Kind}
 use Rattle.spk_nums.specs.declared.kinds.Kind.TheVariants as kind
-use Rattle.spk_nums.specs.declared.setup.Setup.{Setup}
+use Rattle.spk_nums.specs.Setting.{Setting}
 
 -- A place is free, or holds a capability.
 pub data Place : Type 0 where
@@ -20,11 +20,11 @@ abbrev pub plain_cap : Kind → ℕ → Capability
 plain_cap k f = record { kind = k; frame = f; arg = 0 }
 
 -- The range of the frames that are untyped at the start.
-abbrev pub free_range : Setup → Capability
+abbrev pub free_range : Setting → Capability
 free_range setup = record { kind = kind.Range; frame = 4 + 2 * setup.cores; arg = setup.frames - 4 - 2 * setup.cores }
 
 -- The capabilities that each core is given: 4 + c its thread, 12 + c its temporal capability.
-abbrev pub core_cap : Setup → ℕ → Option Capability
+abbrev pub core_cap : Setting → ℕ → Option Capability
 core_cap setup i =
     if nat_lt i 4 then None
     else (if nat_lt i (4 + setup.cores) then Some (plain_cap kind.Thread i)
@@ -33,7 +33,7 @@ core_cap setup i =
     else None)))
 
 -- The capability of that number at the start: 0 the range, 1 the table, 2 the pages, 3 the component, and those of the cores.
-abbrev pub start_cap : Setup → ℕ → Option Capability
+abbrev pub start_cap : Setting → ℕ → Option Capability
 start_cap setup i =
     if i == 0 then Some (free_range setup)
     else (if i == 1 then Some (plain_cap kind.Table 0)
@@ -47,7 +47,7 @@ place_with None = Free
 place_with (Some k) = Holds k
 
 -- The start state: the start's capabilities are in their places, and no core is in a call.
-abbrev pub start : Setup → State
+abbrev pub start : Setting → State
 start setup = record { place = λ i. place_with (start_cap setup i); inside = λ c. false }
 
 -- The function with another value at one number.

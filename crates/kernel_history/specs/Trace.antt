@@ -3,7 +3,7 @@ use Rattle.std.specs.Prelude.{ℕ, ◌+◌, ◌==◌, List, [], ◌∷◌, ◌++
 use Rattle.spk_nums.specs.declared.calls.Call.{Call}
 use Rattle.spk_nums.specs.declared.replies.Reply.{Reply}
 use Rattle.spk_nums.specs.declared.replies.Decision.{Decision}
-use Rattle.spk_nums.specs.declared.setup.Setup.{Setup}
+use Rattle.spk_nums.specs.Setting.{Setting}
 use Rattle.kernel_history.specs.Words.{Word, same_word}
 use Rattle.kernel_history.specs.BootWords.{boot_word}
 use Rattle.kernel_history.specs.State.{State, start, entered, returned}
@@ -25,7 +25,7 @@ abbrev pub Trace : Type 0
 Trace = List Step
 
 -- The value last left in the word, or the boot word if none was left.
-abbrev pub last_left : Setup → Trace → Word → ℕ
+abbrev pub last_left : Setting → Trace → Word → ℕ
 last_left setup [] w = boot_word setup w
 last_left setup (e ∷ t) w = if same_word w e.word then e.left else last_left setup t w
 
@@ -83,7 +83,7 @@ state_returned None s c = s
 state_returned (Some r) s c = returned s c
 
 -- The state after the events of the trace, from the start state on.
-abbrev pub state_after : Setup → Trace → State
+abbrev pub state_after : Setting → Trace → State
 state_after setup [] = start setup
 state_after setup (e ∷ t) =
     state_returned e.returns

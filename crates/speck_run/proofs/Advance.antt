@@ -12,7 +12,7 @@ use Rattle.spk_nums.specs.declared.calls.Call.{Call}
 use Rattle.spk_nums.specs.declared.calls.Call.TheVariants.{Look, Copy}
 use Rattle.spk_nums.specs.declared.replies.Reply.{Reply}
 use Rattle.spk_nums.specs.declared.replies.Decision.{Decision}
-use Rattle.spk_nums.specs.declared.setup.Setup.{Setup}
+use Rattle.spk_nums.specs.Setting.{Setting}
 use Rattle.spk_nums.specs.declared.steps.WordOp.{WordOp}
 use Rattle.spk_nums.specs.declared.steps.WordOp.TheVariants as step
 use Rattle.kernel_history.specs.Words.{EntryAt}
@@ -39,7 +39,7 @@ use Rattle.speck_run.proofs.Entries.{is_free, sees, left_same}
 use Rattle.speck_run.proofs.Good.{IsGood, IsTurn, step_if, good_if}
 
 -- what stands of a core stands after another core's step that keeps the places that are held
-module _ (setup : Setup) (t : Trace) (e : Step) (c : ℕ) (other : c ≢ e.core)
+module _ (setup : Setting) (t : Trace) (e : Step) (c : ℕ) (other : c ≢ e.core)
     (keeps : (i : ℕ) (k : Capability) → (state_after setup t).place i ≡ Holds k → (state_after setup (e ∷ t)).place i ≡ Holds k) where
   found_other : (a w : ℕ) → HasFound setup t c a w → HasFound setup (e ∷ t) c a w
   found_other a w has = record {
@@ -68,7 +68,7 @@ table_kept (Holds k) q keeps is = subst IsTable (sym (keeps k refl)) is
 some_inj : {A : Type 0} (x y : A) → Some x ≡ Some y → x ≡ y
 some_inj x y h = cc
 
-turn_ready : (setup : Setup) (stage : Option Stage) (list : List Call) (next : ℕ) (f : Turn) (t : Trace) (c : ℕ) →
+turn_ready : (setup : Setting) (stage : Option Stage) (list : List Call) (next : ℕ) (f : Turn) (t : Trace) (c : ℕ) →
     turn_if list next stage ≡ Some f → CoreIs setup stage t c → IsTurn setup f t c
 turn_ready setup None list next f t c begins is = of_list (slice_get list next) begins where
   of_list : (o : Option Call) → option_map First o ≡ Some f → IsTurn setup f t c
@@ -121,11 +121,11 @@ of_if (Some s) next left steps list f built fit begins =
     }
 
 word_in_range : (f : Turn) → IsTurnFit f → place_of (op_of f) < 64
-word_in_range (First (Look a)) h = omega arith
-word_in_range (First (Copy a t b)) h = let k = h.0 in omega arith
+word_in_range (First (Look a)) h = h
+word_in_range (First (Copy a t b)) h = h.0
 word_in_range (First _) h = absurd h
-word_in_range (Next (Target a t b w)) h = let k = h.2 in omega arith
-word_in_range (Next (stage.Place a t b w)) h = let k = h.2 in omega arith
+word_in_range (Next (Target a t b w)) h = h.2
+word_in_range (Next (stage.Place a t b w)) h = h.2
 
 -- what each turn leaves: a stage of a built call that has made one step more
 pub record IsLeft (f : Turn) (took : Took) : Type 0 where
@@ -198,7 +198,7 @@ after_took list core f (Returned r) fit is left =
       left = omega arith;
     }
 
-busy : (setup : Setup) (stage : Option Stage) (next : ℕ) (list : List Call) (t : Trace) (c : ℕ) → CoreIs setup stage t c → phase t c ≡ history.Out →
+busy : (setup : Setting) (stage : Option Stage) (next : ℕ) (list : List Call) (t : Trace) (c : ℕ) → CoreIs setup stage t c → phase t c ≡ history.Out →
     calls_of t c ≡ take (entered_if next stage) list → calls_of t c ≡ list → next < length list → ⊥
 busy setup None next list t c is out calls all within =
     let n : length (calls_of t c) ≡ next = ap length calls ∙ length-take-le next list (omega arith) in
@@ -206,7 +206,7 @@ busy setup None next list t c is out calls all within =
     omega arith
 busy setup (Some s) next list t c is out calls all within = let o = is.open_in in cc
 
-finished_if : (setup : Setup) (stage : Option Stage) (next : ℕ) (list : List Call) (t : Trace) (c : ℕ) →
+finished_if : (setup : Setting) (stage : Option Stage) (next : ℕ) (list : List Call) (t : Trace) (c : ℕ) →
     turn_if list next stage ≡ None → CoreIs setup stage t c → calls_of t c ≡ take (entered_if next stage) list →
     (phase t c ≡ history.Out) × (calls_of t c ≡ list)
 finished_if setup None next list t c none is calls = elim (slice_get_cases list next).1 [
@@ -410,7 +410,7 @@ pub record Reads (m : Machine) (n : ℕ) (list : List Call) (core : Core) : Type
   pub core_is : core_at m n ≡ core
   pub fit : IsFitCore list core
 
-pub reads : {V : Type 0} (items : V → List Call) (setup : Setup) (words : List ℕ) (lists : List V) (cores : List Core) (decisions : List Decision) (n : ℕ) (v : V) (k : Core) →
+pub reads : {V : Type 0} (items : V → List Call) (setup : Setting) (words : List ℕ) (lists : List V) (cores : List Core) (decisions : List Decision) (n : ℕ) (v : V) (k : Core) →
     IsFit (record { setup = setup; words = words; lists = map items lists; cores = cores; decisions = decisions }) →
     n < setup.cores → v ≡ get_or lists n v → k ≡ get_or cores n k →
     Reads (record { setup = setup; words = words; lists = map items lists; cores = cores; decisions = decisions }) n (items v) k

@@ -6,7 +6,7 @@ use Rattle.std.proofs.lemmas.List.{length-map, length-append, get_or_push, get_o
 use Rattle.spk_nums.specs.Capability.{Capability}
 use Rattle.spk_nums.specs.declared.calls.Call.{Call}
 use Rattle.spk_nums.specs.declared.replies.Decision.{Decision}
-use Rattle.spk_nums.specs.declared.setup.Setup.{Setup}
+use Rattle.spk_nums.specs.Setting.{Setting}
 use Rattle.kernel_history.specs.Words.{EntryAt}
 use Rattle.kernel_history.specs.State.{start_cap, place_with}
 use Rattle.kernel_history.specs.BootWords.{boot_word}
@@ -25,11 +25,11 @@ words_more f ws ws' i x size more is below k h = elim (cases_eq k i) [
 pub size_more : (ws ws' : List ℕ) (i x : ℕ) → length ws ≡ i → ws' ≡ ws ++ x ∷ [] → length ws' ≡ i + 1
 size_more ws ws' i x size more = let n = ap length more ∙ length-append ws (x ∷ []) in omega arith
 
-boot_represents : (setup : Setup) (i : ℕ) (o : Option Capability) → start_cap setup i ≡ o → Represents setup (if is_some o then i + 1 else 0) (place_with o)
+boot_represents : (setup : Setting) (i : ℕ) (o : Option Capability) → start_cap setup i ≡ o → Represents setup (if is_some o then i + 1 else 0) (place_with o)
 boot_represents setup i None is = refl
 boot_represents setup i (Some k) is = record { number = i; word = omega arith; cap = is }
 
-module _ {V : Type 0} (items : V → List Call) (setup : Setup) (words : List ℕ) (lists : List V) (cores : List Core) (decisions : List Decision)
+module _ {V : Type 0} (items : V → List Call) (setup : Setting) (words : List ℕ) (lists : List V) (cores : List Core) (decisions : List Decision)
     (size : length words ≡ 64) (words_are : (i : ℕ) → i < 64 → get_or words i 0 ≡ boot_word setup (EntryAt 1 i))
     (cores_are : cores ≡ map (λ v. fresh_core (items v)) lists) (none : decisions ≡ []) (built : AreLists (map items lists))
     (one_each : length lists ≡ setup.cores) where

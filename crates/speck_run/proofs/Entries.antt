@@ -2,7 +2,7 @@
 use Rattle.std.proofs.Common.{◌≡◌, ◌≢◌, ℕ, zero, suc, ◌-◌, Option, Some, None, arith, refl, sym, ◌∙◌, ap, subst, Bool, true, false, cond, eqb}
 use Rattle.std.proofs.lemmas.Bool.{ne_eqb}
 use Rattle.spk_nums.specs.Capability.{Capability}
-use Rattle.spk_nums.specs.declared.setup.Setup.{Setup}
+use Rattle.spk_nums.specs.Setting.{Setting}
 use Rattle.spk_nums.specs.declared.calls.Call.TheVariants.{Look, Copy}
 use Rattle.kernel_history.specs.State.{Place, Free, Holds, start_cap, place_with}
 use Rattle.speck_run.specs.declared.flight.Entry.{Entry}
@@ -13,9 +13,10 @@ use Rattle.speck_run.specs.declared.flight.Turn.{Turn}
 use Rattle.speck_run.specs.declared.flight.Turn.TheVariants.{First, Next}
 use Rattle.speck_run.specs.Flight.{held_entry, entry_of, op_of, left_if, left_by}
 use Rattle.speck_run.specs.Stands.{IsCopy, Represents}
+use Rattle.speck_run.specs.Written.{place_shown}
 
 -- what is known of a word that shows an entry
-abbrev pub Sees : Setup → ℕ → Entry → Type 0
+abbrev pub Sees : Setting → ℕ → Entry → Type 0
 Sees setup w entry.Free = w ≡ 0
 Sees setup w (entry.Held k) = IsCopy setup w k
 Sees setup w entry.Foreign = (n : ℕ) × (w ≡ suc n) × (start_cap setup n ≡ None)
@@ -25,8 +26,8 @@ is_free entry.Free = true
 is_free (entry.Held k) = false
 is_free entry.Foreign = false
 
-module _ (setup : Setup) where
-  entry_of-suc : (n : ℕ) → entry_of setup (suc n) ≡ held_entry (start_cap setup n)
+module _ (setup : Setting) where
+  pub entry_of-suc : (n : ℕ) → entry_of setup (suc n) ≡ held_entry (start_cap setup n)
   entry_of-suc n =
       let apart : suc n ≢ 0 = λ h. omega arith in
       let back : suc n - 1 ≡ n = omega arith in
@@ -78,3 +79,8 @@ module _ (setup : Setup) where
       apart k (sym none ∙ ap (λ (m : ℕ). start_cap setup m) (sym same) ∙ r.cap) where
     apart : (j : Capability) → None ≡ Some j → ⊥
     apart j h = cc
+
+  -- the place that a word shows is the one that it represents
+  pub shown_place : (w : ℕ) (p : Place) → Represents setup w p → place_shown (entry_of setup w) ≡ p
+  shown_place w Free r = ap (λ (x : ℕ). place_shown (entry_of setup x)) r
+  shown_place w (Holds k) r = ap (λ (x : ℕ). place_shown (entry_of setup x)) r.word ∙ ap place_shown (entry_of-suc r.number) ∙ ap (λ o. place_shown (held_entry o)) r.cap

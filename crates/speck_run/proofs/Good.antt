@@ -10,7 +10,7 @@ use Rattle.spk_nums.specs.declared.calls.Call.TheVariants.{Look, Copy}
 use Rattle.spk_nums.specs.declared.replies.Value.TheVariants.{Nothing, Cap}
 use Rattle.spk_nums.specs.declared.replies.Reply.{Reply}
 use Rattle.spk_nums.specs.declared.replies.Reply.TheVariants as reply
-use Rattle.spk_nums.specs.declared.setup.Setup.{Setup}
+use Rattle.spk_nums.specs.Setting.{Setting}
 use Rattle.kernel_history.specs.Words.{Word, EntryAt}
 use Rattle.kernel_history.specs.State.{Place, Free, Holds, put}
 use Rattle.kernel_history.specs.Capabilities.{IsHeld, IsTable}
@@ -45,7 +45,7 @@ step_if c f w shown = record {
 }
 
 -- what the step e behind t keeps, where its call was ready or not, and the core is left at stage o
-pub record IsGood (setup : Setup) (t : Trace) (e : Step) (ready : Bool) (o : Option Stage) : Type 0 where
+pub record IsGood (setup : Setting) (t : Trace) (e : Step) (ready : Bool) (o : Option Stage) : Type 0 where
   pub follows : MayFollow setup t e
   pub within : IsWithin t e
   pub core : CoreIs setup o (e ∷ t) e.core
@@ -55,19 +55,19 @@ pub record IsGood (setup : Setup) (t : Trace) (e : Step) (ready : Bool) (o : Opt
   pub early : ready ≡ false → IsEarly t e
 
 -- a turn may be made: its call is between calls, or at its stage
-abbrev pub IsTurn : Setup → Turn → Trace → ℕ → Type 0
+abbrev pub IsTurn : Setting → Turn → Trace → ℕ → Type 0
 IsTurn setup (First call) t c = phase t c ≡ history.Out
 IsTurn setup (Next s) t c = StageIs setup s t c
 
 -- a step that leaves what it found changes no word
-pub load_keeps : (setup : Setup) (t : Trace) (e : Step) → e.left ≡ last_left setup t e.word → (w : Word) → last_left setup (e ∷ t) w ≡ last_left setup t w
+pub load_keeps : (setup : Setting) (t : Trace) (e : Step) → e.left ≡ last_left setup t e.word → (w : Word) → last_left setup (e ∷ t) w ≡ last_left setup t w
 load_keeps setup t e is w = elim (cases_word w e.word) [
   | inl here ↦ last_left-here setup w e t here ∙ is ∙ ap (λ (v : Word). last_left setup t v) (sym here)
   | inr there ↦ last_left-there setup w e t there
 ]
 
 -- it keeps each word's place where its events change no place
-places_kept : (setup : Setup) (t : Trace) (e : Step) → e.left ≡ last_left setup t e.word →
+places_kept : (setup : Setting) (t : Trace) (e : Step) → e.left ≡ last_left setup t e.word →
     ((i : ℕ) → (state_after setup (e ∷ t)).place i ≡ (state_after setup t).place i) → PlacesStand setup t → PlacesStand setup (e ∷ t)
 places_kept setup t e is same stand i =
     subst (λ (w : ℕ). Represents setup w ((state_after setup (e ∷ t)).place i)) (sym (load_keeps setup t e is (EntryAt 1 i)))
@@ -95,7 +95,7 @@ put_other f i x j e = rw (ne_eqb j i e)
 free_held : (k : Capability) → Free ≡ Holds k → ⊥
 free_held k h = cc
 
-module _ (setup : Setup) (t : Trace) (c w : ℕ) (stand : PlacesStand setup t) where
+module _ (setup : Setting) (t : Trace) (c w : ℕ) (stand : PlacesStand setup t) where
   -- the place whose word was found
   represents : (i : ℕ) → w ≡ last_left setup t (EntryAt 1 i) → Represents setup w ((state_after setup t).place i)
   represents i is = subst (λ (v : ℕ). Represents setup v ((state_after setup t).place i)) (sym is) (stand i)

@@ -3,3 +3,4 @@ pub mod Good
 pub mod Advance
 pub mod Boot
 pub mod Runs
+pub mod Finish

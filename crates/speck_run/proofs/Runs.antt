@@ -6,7 +6,7 @@ use Rattle.std.proofs.lemmas.List.Elements.{All-cons, All-nil}
 use Rattle.std.proofs.lemmas.Option.{slice_get_cases}
 use Rattle.spk_nums.specs.declared.calls.Call.{Call}
 use Rattle.spk_nums.specs.declared.replies.Reply.{Reply}
-use Rattle.spk_nums.specs.declared.setup.Setup.{Setup}
+use Rattle.spk_nums.specs.Setting.{Setting}
 use Rattle.spk_nums.specs.declared.steps.Item.{Item}
 use Rattle.spk_nums.specs.declared.steps.How.TheVariants as how
 use Rattle.kernel_history.specs.Trace.{Step, Trace, phase, calls_of}
@@ -32,7 +32,7 @@ stays_on m t stands = record { stands = stands; promised = λ c v p. p }
 pub goes_on : {m m' m'' : Machine} {t u v : Trace} → GoesOn m m' t u → GoesOn m' m'' u v → GoesOn m m'' t v
 goes_on first then = record { stands = then.stands; promised = λ c v p. then.promised c v (first.promised c v p) }
 
-busy_if : (setup : Setup) (stage : Option Stage) (next : ℕ) (list : List Call) (t : Trace) (c : ℕ) → (turn_if list next stage ≡ None → ⊥) → CoreIs setup stage t c →
+busy_if : (setup : Setting) (stage : Option Stage) (next : ℕ) (list : List Call) (t : Trace) (c : ℕ) → (turn_if list next stage ≡ None → ⊥) → CoreIs setup stage t c →
     phase t c ≡ history.Out → calls_of t c ≡ take (entered_if next stage) list → calls_of t c ≡ list → ⊥
 busy_if setup None next list t c begins is out calls all = elim (slice_get_cases list next).1 [
   | inl found ↦
@@ -54,12 +54,12 @@ begins_in_call m c inside none = of_stage (core_at m c).stage inside none where
   of_stage None inside none = inside refl
   of_stage (Some s) inside none = cc
 
-inside_if : (setup : Setup) (o : Option Stage) (t : Trace) (c : ℕ) → o ≢ None → CoreIs setup o t c → phase t c ≢ history.Out
+inside_if : (setup : Setting) (o : Option Stage) (t : Trace) (c : ℕ) → o ≢ None → CoreIs setup o t c → phase t c ≢ history.Out
 inside_if setup None t c inside is = absurd (inside refl)
 inside_if setup (Some s) t c inside is = λ h. let o = is.open_in in cc
 
 -- a core of a machine is never in a decided call
-not_decided_if : (setup : Setup) (o : Option Stage) (t : Trace) (c : ℕ) → CoreIs setup o t c → IsDecided (phase t c) → ⊥
+not_decided_if : (setup : Setting) (o : Option Stage) (t : Trace) (c : ℕ) → CoreIs setup o t c → IsDecided (phase t c) → ⊥
 not_decided_if setup None t c is decided = subst IsDecided is decided
 not_decided_if setup (Some s) t c is decided = subst IsDecided is.open_in decided
 

@@ -7,7 +7,7 @@ use Rattle.spk_nums.specs.declared.calls.Call.TheVariants.{Look, Copy}
 use Rattle.spk_nums.specs.declared.replies.Value.TheVariants.{Nothing, Cap}
 use Rattle.spk_nums.specs.declared.replies.Reply.{Reply}
 use Rattle.spk_nums.specs.declared.replies.Reply.TheVariants as reply
-use Rattle.spk_nums.specs.declared.setup.Setup.{Setup}
+use Rattle.spk_nums.specs.Setting.{Setting}
 use Rattle.spk_nums.specs.declared.steps.WordOp.{WordOp}
 use Rattle.spk_nums.specs.declared.steps.WordOp.TheVariants.{Load, Compare, Store, Add}
 use Rattle.kernel_history.specs.State.{start_cap}
@@ -26,7 +26,7 @@ held_entry None = Foreign
 held_entry (Some k) = Held k
 
 -- What a word shows: 0 is free, any other is one more than the number of a capability of the start.
-abbrev pub entry_of : Setup → ℕ → Entry
+abbrev pub entry_of : Setting → ℕ → Entry
 entry_of setup w = if w == 0 then Free else held_entry (start_cap setup (w - 1))
 
 -- A look answers the capability, or that there is none.
@@ -86,7 +86,7 @@ took_if (First call) w shown = first_took call w shown
 took_if (Next s) w shown = stage_took s shown
 
 -- What a turn takes from the word found.
-abbrev pub took_of : Setup → Turn → ℕ → Took
+abbrev pub took_of : Setting → Turn → ℕ → Took
 took_of setup f w = took_if f w (entry_of setup w)
 
 -- The call is ready at its first step: a look.

@@ -1,3 +1,4 @@
 pub mod Flight
 pub mod Machine
 pub mod Stands
+pub mod Written

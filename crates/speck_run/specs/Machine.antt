@@ -3,7 +3,7 @@ use Rattle.std.specs.Prelude.{◌≡◌, ◌≢◌, Bool, true, false, ℕ, ◌+
 use Rattle.spk_nums.specs.Built.{IsBuilt}
 use Rattle.spk_nums.specs.declared.calls.Call.{Call}
 use Rattle.spk_nums.specs.declared.replies.Decision.{Decision}
-use Rattle.spk_nums.specs.declared.setup.Setup.{Setup}
+use Rattle.spk_nums.specs.Setting.{Setting}
 use Rattle.kernel_history.specs.Words.{EntryAt}
 use Rattle.kernel_history.specs.Trace.{Step, decision_at}
 use Rattle.speck_run.specs.declared.seats.Core.{Core}
@@ -16,7 +16,7 @@ use Rattle.speck_run.specs.Flight.{op_of, took_of, ready_of, reply_of, call_at, 
 
 -- A machine: its setup, its words, each core's list of calls, where each core stands, and the decisions in order.
 pub record Machine : Type 0 where
-  pub setup : Setup
+  pub setup : Setting
   pub words : List ℕ
   pub lists : List (List Call)
   pub cores : List Core

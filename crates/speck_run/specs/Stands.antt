@@ -2,7 +2,7 @@
 use Rattle.std.specs.Prelude.{◌≡◌, ◌≢◌, ◌⊎◌, Bool, true, false, ℕ, suc, ◌+◌, ◌<◌, ◌≤◌, List, [], ◌∷◌, ◌++◌, All, Option, Some, None, IsSome, length, take, slice_index}
 use Rattle.spk_nums.specs.Capability.{Capability}
 use Rattle.spk_nums.specs.declared.calls.Call.{Call}
-use Rattle.spk_nums.specs.declared.setup.Setup.{Setup}
+use Rattle.spk_nums.specs.Setting.{Setting}
 use Rattle.spk_nums.specs.declared.steps.Item.{Item}
 use Rattle.kernel_history.specs.Words.{EntryAt}
 use Rattle.kernel_history.specs.State.{Place, Free, Holds, start_cap}
@@ -20,40 +20,40 @@ use Rattle.speck_run.specs.Flight.{call_at, made}
 use Rattle.speck_run.specs.Machine.{Machine, core_at, list_at, IsReady}
 
 -- The word is that of a copy of the capability k: one more than k's number at the start.
-pub record IsCopy (setup : Setup) (w : ℕ) (k : Capability) : Type 0 where
+pub record IsCopy (setup : Setting) (w : ℕ) (k : Capability) : Type 0 where
   pub number : ℕ
   pub word : w ≡ suc number
   pub cap : start_cap setup number ≡ Some k
 
 -- The word represents the place.
-abbrev pub Represents : Setup → ℕ → Place → Type 0
+abbrev pub Represents : Setting → ℕ → Place → Type 0
 Represents setup w Free = w ≡ 0
 Represents setup w (Holds k) = IsCopy setup w k
 
 -- Each entry's word represents its place.
-abbrev pub PlacesStand : Setup → Trace → Type 0
+abbrev pub PlacesStand : Setting → Trace → Type 0
 PlacesStand setup t = (i : ℕ) → Represents setup (last_left setup t (EntryAt 1 i)) ((state_after setup t).place i)
 
 -- The core's call has stepped on the entry a and found this word there, a copy of a capability that the place still holds.
-pub record HasFound (setup : Setup) (t : Trace) (c a w : ℕ) : Type 0 where
+pub record HasFound (setup : Setting) (t : Trace) (c a w : ℕ) : Type 0 where
   pub own_a : IsSome (own_left t c (EntryAt 1 a))
   pub cap : Capability
   pub copy : IsCopy setup w cap
   pub still : (state_after setup t).place a ≡ Holds cap
 
 -- What a call at a stage has found.
-abbrev pub Has : Setup → Stage → Trace → ℕ → Type 0
+abbrev pub Has : Setting → Stage → Trace → ℕ → Type 0
 Has setup (stage.Target a t' b w) t c = HasFound setup t c a w
 Has setup (stage.Place a t' b w) t c = HasFound setup t c a w × (own_left t c (EntryAt 1 b) ≡ Some 0)
 
 -- Core c is in a call at this stage after t.
-pub record StageIs (setup : Setup) (s : Stage) (t : Trace) (c : ℕ) : Type 0 where
+pub record StageIs (setup : Setting) (s : Stage) (t : Trace) (c : ℕ) : Type 0 where
   pub open_in : phase t c ≡ Open (call_at s)
   pub steps : steps_in_call t c ≡ made s
   pub has : Has setup s t c
 
 -- Core c is between calls, or in a call at this stage.
-abbrev pub CoreIs : Setup → Option Stage → Trace → ℕ → Type 0
+abbrev pub CoreIs : Setting → Option Stage → Trace → ℕ → Type 0
 CoreIs setup None t c = phase t c ≡ Out
 CoreIs setup (Some s) t c = StageIs setup s t c
 

@@ -3,11 +3,10 @@
 
 mod flight;
 mod lone;
-
+mod replay;
 mod seats;
-
+mod text;
 
 pub use flight::{Entry, Stage, Took, Turn};
 pub use lone::{LoneKernel, Moved};
-
 pub use seats::Core;

@@ -148,10 +148,15 @@ fn boot_words(alloc: Global, setup: &Setup) -> Result<Vec<u64>, AllocError>
     Ok(words)
 }
 
-fn boot_cores(alloc: Global, lists: &[Vec<Call>]) -> Result<Vec<Core>, AllocError>
-    ensures { IfOk result (λ cores. cores.items ≡ map (λ v. fresh_core v.items) lists.now) }
+fn boot_cores(
+    alloc: Global,
+    setup: &Setup,
+    lists: &[Vec<Call>],
+) -> Result<Vec<Core>, AllocError>
+    ensures cores { IfOk result (λ cores. cores.items ≡ map (λ v. fresh_core v.items) lists.now) }
+    ensures few { IfOk result (λ cores. setup.now.cores ≤ 8) }
 {
-    let mut cores = Vec::new(alloc);
+    let mut cores = Vec::with_capacity(alloc, usize::from(setup.cores()))?;
     for list in lists {
         cores.push(Core {
             next: 0,
@@ -182,7 +187,7 @@ impl LoneKernel {
         ensures stands { IfOk result (λ kernel. StandsFor kernel []) }
     {
         let words = boot_words(alloc, setup)?;
-        let cores = boot_cores(alloc, &lists)?;
+        let cores = boot_cores(alloc, setup, &lists)?;
         let room = count_left(&cores);
         let decisions = Vec::with_capacity(alloc, room)?;
         Ok(LoneKernel {
@@ -270,9 +275,10 @@ impl LoneKernel {
         &self.decisions
     }
 
-    /// The words. Only want of memory is refused.
+    /// The 64 words. Only want of memory is refused.
     pub fn close(self, _alloc: Global) -> Result<Vec<u64>, Memory>
-        ensures { IfOk result (λ words. words.items ≡ self.words) }
+        ensures words { IfOk result (λ words. words.items ≡ self.words) }
+        ensures size { IfOk result (λ words. length words.items ≡ 64) }
     {
         Ok(self.words)
     }
