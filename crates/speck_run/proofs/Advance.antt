@@ -373,21 +373,21 @@ module _ (m : Machine) (t : Trace) (c : ℕ) (f : Turn) (fit : IsFit m) (here : 
   })
   promise_kept d v (inl still) = elim (cases_eq d c) [
     | inl same ↦ inr (record {
-        later = [];
-        step = e;
-        others = still.steps;
-        begins = ap (λ x. e ∷ x) still.adds;
-        apart = still.apart;
-        own = sym same;
-        decides = is_good.decides (ready_is (subst (λ (i : ℕ). IsReady m i) same still.ready));
-      })
+      later = [];
+      step = e;
+      others = still.steps;
+      begins = ap (λ x. e ∷ x) still.adds;
+      apart = still.apart;
+      own = sym same;
+      decides = is_good.decides (ready_is (subst (λ (i : ℕ). IsReady m i) same still.ready));
+    })
     | inr apart ↦ inl (record {
-        steps = e ∷ still.steps;
-        adds = ap (λ x. e ∷ x) still.adds;
-        apart = All-cons (λ x. x.core ≢ d) e still.steps (λ h. apart (sym h)) still.apart;
-        here = still.here;
-        ready = subst (λ k. ready_if (turn_of (list_at m d) k) ≡ true) (sym (core_there m c f fit here begins d apart)) still.ready;
-      })
+      steps = e ∷ still.steps;
+      adds = ap (λ x. e ∷ x) still.adds;
+      apart = All-cons (λ x. x.core ≢ d) e still.steps (λ h. apart (sym h)) still.apart;
+      here = still.here;
+      ready = subst (λ k. ready_if (turn_of (list_at m d) k) ≡ true) (sym (core_there m c f fit here begins d apart)) still.ready;
+    })
   ]
 
   ready_or_early : (b : Bool) → ready_of f ≡ b → IsReady m c ⊎ IsEarly t e

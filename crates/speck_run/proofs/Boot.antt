@@ -86,8 +86,8 @@ pub few_calls : (m : Machine) → IsFit m → m.setup.cores ≤ 8 → sum_by (λ
 few_calls m fit few =
     let n = fit.cores in
     let s = sum_small (2 ^ 32) 0 m.cores (λ i h.
-        let k = fit.each i (omega arith) in
-        let sum = k.sum in
-        let small = k.small in
-        omega arith) in
+    let k = fit.each i (omega arith) in
+    let sum = k.sum in
+    let small = k.small in
+    omega arith) in
     omega arith

@@ -77,8 +77,8 @@ module _ (setup : Setting) where
       let one = r.word in
       let same : r.number ≡ n = omega arith in
       apart k (sym none ∙ ap (λ (m : ℕ). start_cap setup m) (sym same) ∙ r.cap) where
-    apart : (j : Capability) → None ≡ Some j → ⊥
-    apart j h = cc
+        apart : (j : Capability) → None ≡ Some j → ⊥
+        apart j h = cc
 
   -- the place that a word shows is the one that it represents
   pub shown_place : (w : ℕ) (p : Place) → Represents setup w p → place_shown (entry_of setup w) ≡ p

@@ -36,8 +36,8 @@ text_is : (m : Machine) (t : Trace) → StandsFor m t → HasCalls m.lists t →
 text_is m t stands calls =
     let places : entry_lines (place_in m.setup m.words) 64 ≡ entry_lines (state_after m.setup t).place 64 =
     entry_lines-same (place_in m.setup m.words) (state_after m.setup t).place 64
-        (λ i h. ap (λ (w : ℕ). place_shown (entry_of m.setup w)) (stands.words i h)
-            ∙ shown_place m.setup (last_left m.setup t (EntryAt 1 i)) ((state_after m.setup t).place i) (stands.places i)) in
+    (λ i h. ap (λ (w : ℕ). place_shown (entry_of m.setup w)) (stands.words i h)
+    ∙ shown_place m.setup (last_left m.setup t (EntryAt 1 i)) ((state_after m.setup t).place i) (stands.places i)) in
     let same : list_of m.lists ≡ calls_of t = λ i c. sym (calls c).finished i in
     ap (λ f. flat_map (line_of f) m.decisions ++ entry_lines (place_in m.setup m.words) 64) same
     ∙ ap (λ ds. flat_map (line_of (calls_of t)) ds ++ entry_lines (place_in m.setup m.words) 64) stands.decisions

@@ -183,18 +183,18 @@ module _ (moved : Moved) (m m' : Machine) (item : Item) where
   pub takes_ready : item.how ≡ how.Ready → item.core < m.setup.cores → item.core < m'.setup.cores → MovesBy moved m m' item.core (GoesUntilReady m m' item.core) → GoesByItem m m' item
   takes_ready is here there goes = item_goes moved m m' item (λ t u. StopsReady m' item.core t u ⊎ DecidesEarly item.core t u) goes
       (λ t u w stands on keeps made. subst (λ h. Stretch w h item.core t u) (sym is) (stretch t u w stands keeps made)) where
-    stretch : (t u w : Trace) → StandsFor m t → KeepsPromises m' u w → StopsReady m' item.core t u ⊎ DecidesEarly item.core t u → Stretch w how.Ready item.core t u
-    stretch t u w stands keeps (inl stops) = inr (
-      not_decided m t item.core here stands,
-      inl (record {
-        steps = stops.steps;
-        adds = stops.adds;
-        own = stops.own;
-        before = stops.before;
-        next = keeps item.core u (inl (record { steps = []; adds = refl; apart = All-nil (λ e. e.core ≢ item.core); here = there; ready = stops.ready }));
-      }),
-    )
-    stretch t u w stands keeps (inr early) = inr (not_decided m t item.core here stands, inr early.through)
+        stretch : (t u w : Trace) → StandsFor m t → KeepsPromises m' u w → StopsReady m' item.core t u ⊎ DecidesEarly item.core t u → Stretch w how.Ready item.core t u
+        stretch t u w stands keeps (inl stops) = inr (
+          not_decided m t item.core here stands,
+          inl (record {
+            steps = stops.steps;
+            adds = stops.adds;
+            own = stops.own;
+            before = stops.before;
+            next = keeps item.core u (inl (record { steps = []; adds = refl; apart = All-nil (λ e. e.core ≢ item.core); here = there; ready = stops.ready }));
+          }),
+        )
+        stretch t u w stands keeps (inr early) = inr (not_decided m t item.core here stands, inr early.through)
 
   pub takes_decision : item.how ≡ how.Decide → MovesBy moved m m' item.core (GoesThroughDecision m m' item.core) → GoesByItem m m' item
   takes_decision is goes = item_goes moved m m' item (λ t u. UnlessDecided item.core t u (GoesThrough (λ e. e.decides) item.core t u)) goes

@@ -38,9 +38,19 @@ pub enum Entry {
 #[derive(Clone, Copy, Debug, PartialEq, Eq)]
 pub enum Stage {
     /// A copy that has found this word at its entry A, before it loads its target.
-    Target { a: CapId, t: CapId, b: CapId, word: u64 },
+    Target {
+        a: CapId,
+        t: CapId,
+        b: CapId,
+        word: u64,
+    },
     /// A copy that has then found its target free, before it compares.
-    Place { a: CapId, t: CapId, b: CapId, word: u64 },
+    Place {
+        a: CapId,
+        t: CapId,
+        b: CapId,
+        word: u64,
+    },
 }
 
 /// What a core does next: the first step of a call, or a further one.
@@ -145,7 +155,9 @@ fn look(entry: Entry) -> Took
 {
     match entry {
         Entry::Free => refuse(Reply::Empty),
-        Entry::Held { cap } => Took::Returned { reply: Reply::Ok(Value::Cap(cap)) },
+        Entry::Held { cap } => Took::Returned {
+            reply: Reply::Ok(Value::Cap(cap)),
+        },
         Entry::Foreign => refuse(Reply::Raced),
     }
 }
@@ -156,7 +168,9 @@ fn source(a: CapId, t: CapId, b: CapId, word: u64, entry: Entry) -> Took
 {
     match entry {
         Entry::Free => refuse(Reply::Empty),
-        Entry::Held { .. } => Took::Going { stage: Stage::Target { a, t, b, word } },
+        Entry::Held { .. } => Took::Going {
+            stage: Stage::Target { a, t, b, word },
+        },
         Entry::Foreign => refuse(Reply::Raced),
     }
 }
@@ -166,7 +180,9 @@ fn target(a: CapId, t: CapId, b: CapId, word: u64, entry: Entry) -> Took
     ensures { result ≡ target_took a t b word entry }
 {
     match entry {
-        Entry::Free => Took::Going { stage: Stage::Place { a, t, b, word } },
+        Entry::Free => Took::Going {
+            stage: Stage::Place { a, t, b, word },
+        },
         Entry::Held { .. } => refuse(Reply::Occupied),
         Entry::Foreign => refuse(Reply::Raced),
     }
@@ -177,7 +193,9 @@ fn place(entry: Entry) -> Took
     ensures { result ≡ place_took entry }
 {
     match entry {
-        Entry::Free => Took::Returned { reply: Reply::Ok(Value::Nothing) },
+        Entry::Free => Took::Returned {
+            reply: Reply::Ok(Value::Nothing),
+        },
         Entry::Held { .. } => refuse(Reply::Raced),
         Entry::Foreign => refuse(Reply::Raced),
     }
@@ -192,7 +210,9 @@ impl Turn {
         match *self {
             Turn::First { call } => first_op(call),
             Turn::Next { stage } => match stage {
-                Stage::Target { b, .. } => WordOp::Load { at: u32::from(b.number()) },
+                Stage::Target { b, .. } => WordOp::Load {
+                    at: u32::from(b.number()),
+                },
                 Stage::Place { b, word, .. } => WordOp::Compare {
                     at: u32::from(b.number()),
                     expected: 0,
@@ -236,8 +256,12 @@ fn first_op(call: Call) -> WordOp
     ensures { result ≡ first_op call }
 {
     match call {
-        Call::Look { a } => WordOp::Load { at: u32::from(a.number()) },
-        Call::Copy { a, .. } => WordOp::Load { at: u32::from(a.number()) },
+        Call::Look { a } => WordOp::Load {
+            at: u32::from(a.number()),
+        },
+        Call::Copy { a, .. } => WordOp::Load {
+            at: u32::from(a.number()),
+        },
         _ => unreachable!(),
     }
 }

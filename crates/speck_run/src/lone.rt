@@ -148,11 +148,7 @@ fn boot_words(alloc: Global, setup: &Setup) -> Result<Vec<u64>, AllocError>
     Ok(words)
 }
 
-fn boot_cores(
-    alloc: Global,
-    setup: &Setup,
-    lists: &[Vec<Call>],
-) -> Result<Vec<Core>, AllocError>
+fn boot_cores(alloc: Global, setup: &Setup, lists: &[Vec<Call>]) -> Result<Vec<Core>, AllocError>
     ensures cores { IfOk result (λ cores. cores.items ≡ map (λ v. fresh_core v.items) lists.now) }
     ensures few { IfOk result (λ cores. setup.now.cores ≤ 8) }
 {

@@ -41,7 +41,7 @@ returns-in_default-clause-goes c =
     let m : Machine = record { setup = c.self.inside.setup; words = c.self.inside.words.items; lists = map (λ v. v.items) c.self.inside.lists.items; cores = c.self.inside.cores.items; decisions = c.self.inside.decisions.items } in
     let is : Reads m c.from-at.result c.index-2.result.now.items c.index.result.now =
     reads (λ v. v.items) c.self.inside.setup c.self.inside.words.items c.self.inside.lists.items c.self.inside.cores.items c.self.inside.decisions.items
-        c.from-at.result c.index-2.result.now c.index.result.now c.self.invariant.0 (omega arith) c.index-2.ensures c.index.ensures in
+    c.from-at.result c.index-2.result.now c.index.result.now c.self.invariant.0 (omega arith) c.index-2.ensures c.index.ensures in
     let none : IsFinished m c.from-at.result = ap (λ l. turn_of l (core_at m c.from-at.result)) is.list_is ∙ ap (turn_of c.index-2.result.now.items) is.core_is ∙ sym c.turn.ensures ∙ c.in_default.is in
     let core : c.from-at.result ≡ c.args.core = omega arith in
     let finished : IsFinished c.args.self.now c.args.core = subst (λ (i : ℕ). IsFinished c.args.self.now i) core (subst (λ x. IsFinished x c.from-at.result) c.self.view_is none) in
@@ -103,7 +103,7 @@ invariant_of-self c =
     let sums = ap (λ m. sum_by (λ core. core.left) m.cores) e in
     let count = count_decided c.take-took.result c.args.core (c.index.result.now.next + 1) in
     let answers = ap (λ a. length (decision_at (reply_of a) 0 0)) (took_at (machine i) (now c) c.from-at.result c.index-2.result.now.items c.index.result.now c.after.result i.in-Some.turn c.op-op.result c.perform-found.result c.take-took.result
-        (read i) c.op-op.ensures c.perform-found.ensures.found c.take-took.ensures c.after.ensures refl c.perform-found.ensures.left refl refl (noted c)) in
+    (read i) c.op-op.ensures c.perform-found.ensures.found c.take-took.ensures c.after.ensures refl c.perform-found.ensures.left refl refl (noted c)) in
     let grown = ap length c.note.ensures.items ∙ length-append c.self.inside.decisions.items (decision_at (reply_of c.take-took.result) c.args.core (c.index.result.now.next + 1)) in
     let room = c.note.ensures.room in
     let was = c.self.invariant.1 in
