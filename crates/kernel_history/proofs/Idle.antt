@@ -1,8 +1,8 @@
 -- A core that is idle stays so while others step.
-use Rattle.std.proofs.Common.{◌≡◌, ◌≢◌, ◌⊎◌, inl, inr, ℕ, zero, suc, ◌+◌, ◌<◌, ◌++◌, List, [], ◌∷◌, sym, ◌∙◌, subst, arith}
+use Rattle.std.proofs.Common.{◌≡◌, ◌≢◌, inl, inr, ℕ, zero, suc, ◌<◌, ◌++◌, List, [], ◌∷◌, sym, ◌∙◌, subst, arith}
 use Rattle.std.proofs.lemmas.Bool.{cases_eq}
 use Rattle.spk_nums.specs.declared.calls.Call.{Call}
-use Rattle.kernel_history.specs.Trace.{Step, Trace}
+use Rattle.kernel_history.specs.Trace.{Trace}
 use Rattle.kernel_history.specs.Order.{IsIdle, AreOf, FollowsCores}
 use Rattle.kernel_history.proofs.Steps.{phase-other, calls_of-other}
 

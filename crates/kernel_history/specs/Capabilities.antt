@@ -1,6 +1,5 @@
 -- The calls on capabilities: for each, when a reply may be decided, and the state that the decision leaves.
 use Rattle.std.specs.Prelude.{◌≡◌, ℕ}
-use Rattle.spk_nums.specs.Capability.{Capability}
 use Rattle.spk_nums.specs.declared.kinds.Kind.TheVariants.{Table}
 use Rattle.spk_nums.specs.declared.replies.Value.TheVariants.{Nothing, Cap}
 use Rattle.spk_nums.specs.declared.replies.Reply.{Reply}

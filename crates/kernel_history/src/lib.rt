@@ -6,3 +6,6 @@
 #![tactic(auto)]
 
 pub use spk_nums;
+
+#[cfg(test)]
+mod tests;
