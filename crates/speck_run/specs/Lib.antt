@@ -2,3 +2,7 @@ pub mod Flight
 pub mod Machine
 pub mod Stands
 pub mod Written
+pub mod Ends
+pub mod Form
+pub mod Script
+pub mod Reading

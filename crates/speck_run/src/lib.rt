@@ -1,11 +1,14 @@
 //! The machine of one thread, and the top call.
 #![tactic(auto)]
 
+mod ends;
 mod flight;
+mod form;
 mod lone;
 mod replay;
 mod seats;
 mod text;
+mod words;
 
 pub use flight::{Entry, Stage, Took, Turn};
 pub use lone::{LoneKernel, Moved};
