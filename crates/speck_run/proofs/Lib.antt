@@ -8,3 +8,4 @@ pub mod Cuts
 pub mod Arguments
 pub mod Lines
 pub mod Pieces
+pub mod Command

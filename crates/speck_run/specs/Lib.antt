@@ -6,3 +6,4 @@ pub mod Ends
 pub mod Form
 pub mod Script
 pub mod Reading
+pub mod Top

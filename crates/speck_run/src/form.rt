@@ -10,7 +10,7 @@ ghost use Rattle.std.specs.Option.{option_map};
 ghost use Rattle.spk_nums.specs.Built.{IsBuilt};
 ghost use Rattle.speck_run.specs.Form.{SoFar, item_of, goes_on, line_in, nothing_yet, may_end, two_cores, script_said, form_of};
 ghost use Rattle.speck_run.specs.Reading.{GrowsByOne};
-ghost use Rattle.speck_run.specs.Script.{value_of};
+ghost use Rattle.speck_run.specs.Script.{value_of, IsRunnable};
 ghost use Rattle.speck_run.specs.declared.form.FormError.TheVariants as errors;
 
 use crate::words::{call, item, split_once};
@@ -225,7 +225,9 @@ impl Reader {
 
     // The script that the lines say.
     fn script(self, alloc: Global) -> Result<Script, AllocError>
-        ensures { IfOk result (λ script. value_of script ≡ script_said self) }
+        requires few { (length self.calls0 < 2 ^ 32) × (length self.calls1 < 2 ^ 32) }
+        ensures value { IfOk result (λ script. value_of script ≡ script_said self) }
+        ensures runnable { IfOk result IsRunnable }
     {
         let lists = vec![in alloc; self.calls0, self.calls1]?;
         Ok(Script {
@@ -261,8 +263,7 @@ pub fn read(alloc: Global, bytes: &[u8]) -> Result<Script, FormError>
     requires { length bytes.now ≤ 1048576 }
     ensures script { IfOk result (λ script. form_of bytes.now ≡ Ok (value_of script)) }
     ensures fault { (line : ℕ) → result ≡ Err (errors.NotBuilt line) → form_of bytes.now ≡ Err line }
-    ensures built { IfOk result (λ script. All (λ list. All IsBuilt list × (length list < 2 ^ 32)) (map (λ v. v.items) script.lists.items)) }
-    ensures named { IfOk result (λ script. All (λ item. item.core < 2) script.items.items) }
+    ensures runnable { IfOk result IsRunnable }
 {
     let mut reader = Reader::new(alloc);
     let mut rest = bytes;

@@ -46,4 +46,4 @@ returns-clause-script c =
     let l = c.lines in
     form_is c.args.bytes.now ∙ sym l.invariant.reads
     ∙ ended l.rest.now l.reader l.line c.is_empty.result c.may_end.result c.in_default.ensures.pieces (sym c.is_empty.ensures) (sym c.may_end.ensures) c.if-not-is_empty.false c.if-not-may_end.false
-    ∙ ap Ok (sym c.in_ok-script.ensures)
+    ∙ ap Ok (sym c.in_ok-script.ensures.value)
