@@ -1,5 +1,5 @@
 -- A machine that stands for a trace stands, after a step, for the trace with that step.
-use Rattle.std.proofs.Common.{◌≡◌, ◌≢◌, ◌⊎◌, inl, inr, ℕ, zero, suc, ◌+◌, ◌-◌, ◌*◌, ◌<◌, ◌≤◌, ◌^◌, ◌++◌, List, [], ◌∷◌, length, take, get_or, Option, Some, None, arith, add-zero, refl, sym, ◌∙◌, ap, subst, Bool, true, false, map, get_or-set_same, get_or-set_other}
+use Rattle.std.proofs.Common.{◌≡◌, ◌≢◌, ◌⊎◌, inl, inr, ℕ, ◌+◌, ◌<◌, ◌++◌, List, [], ◌∷◌, length, take, get_or, Option, Some, None, arith, add-zero, refl, sym, ◌∙◌, ap, subst, Bool, true, false, map, get_or-set_same, get_or-set_other}
 use Rattle.std.specs.Prelude.{option_to_list, slice_get, slice_set, sum_by, All, option_map}
 use Rattle.std.proofs.lemmas.Bool.{cases_eq}
 use Rattle.std.proofs.lemmas.List.{append-nil, length-map, get_or-map, get_or_read, length-take-le, take_more, take_all, length-set}
@@ -14,13 +14,12 @@ use Rattle.spk_nums.specs.declared.replies.Reply.{Reply}
 use Rattle.spk_nums.specs.declared.replies.Decision.{Decision}
 use Rattle.spk_nums.specs.Setting.{Setting}
 use Rattle.spk_nums.specs.declared.steps.WordOp.{WordOp}
-use Rattle.spk_nums.specs.declared.steps.WordOp.TheVariants as step
 use Rattle.kernel_history.specs.Words.{EntryAt}
 use Rattle.kernel_history.specs.State.{Place, Free, Holds}
 use Rattle.kernel_history.specs.Capabilities.{IsTable}
 use Rattle.kernel_history.specs.Trace.{Step, Trace, phase, last_left, state_after, calls_of, decision_at, decisions_of}
 use Rattle.kernel_history.specs.Trace as history
-use Rattle.kernel_history.specs.Order.{IsIdle, DecidesNext}
+use Rattle.kernel_history.specs.Order.{IsIdle}
 use Rattle.kernel_history.proofs.Steps.{phase-other, steps_in_call-other, own_left-other, calls_of-own, calls_of-other, last_left-here, last_left-there}
 use Rattle.speck_run.specs.declared.seats.Core.{Core}
 use Rattle.speck_run.specs.declared.flight.Entry.{Entry}
@@ -33,9 +32,9 @@ use Rattle.speck_run.specs.declared.flight.Turn.TheVariants.{First, Next}
 use Rattle.speck_run.specs.declared.flight.Took.{Took}
 use Rattle.speck_run.specs.declared.flight.Took.TheVariants.{Going, Returned}
 use Rattle.speck_run.specs.Flight.{entry_of, op_of, place_of, left_by, took_if, took_of, reply_of, stage_in, ready_of, made, call_at, IsTurnFit}
-use Rattle.speck_run.specs.Machine.{Machine, core_at, list_at, idle_core, IsFitCore, IsFit, IsStageFit, IsFinished, IsReady, ready_if, turn_if, turn_of, turn_at, enters_as, core_after, steps_at, work_of, work_at, found_by, took_by, stepped, step_in}
-use Rattle.speck_run.specs.Stands.{HasFound, Has, StageIs, CoreIs, StandsFor, IsAway, entered_if, entered_of, IsPending, WillDecide, IsEarly, GoesOn, MakesStep, MovesTo, StaysIdle, MakesOneStep}
-use Rattle.speck_run.proofs.Entries.{is_free, sees, left_same}
+use Rattle.speck_run.specs.Machine.{Machine, core_at, list_at, idle_core, IsFitCore, IsFit, IsFinished, IsReady, ready_if, turn_if, turn_of, turn_at, enters_as, core_after, steps_at, work_of, work_at, found_by, took_by, stepped, step_in}
+use Rattle.speck_run.specs.Stands.{HasFound, Has, CoreIs, StandsFor, entered_if, entered_of, WillDecide, IsEarly, GoesOn, MakesStep, MovesTo, StaysIdle, MakesOneStep}
+use Rattle.speck_run.proofs.Entries.{sees, left_same}
 use Rattle.speck_run.proofs.Good.{IsGood, IsTurn, step_if, good_if}
 
 -- what stands of a core stands after another core's step that keeps the places that are held

@@ -1,11 +1,9 @@
 -- Words behind the last argument of a call.
-use Rattle.std.proofs.Common.{◌≡◌, ℕ, ◌+◌, ◌==◌, List, [], ◌∷◌, length, Bool, true, false, cond, Option, Some, None, refl, sym, ◌∙◌, ap, arith}
-use Rattle.std.specs.Prelude.{MatchOption, is_some, codes, count_by}
-use Rattle.std.specs.List.{slice_split}
+use Rattle.std.proofs.Common.{◌≡◌, ℕ, ◌+◌, ◌==◌, List, [], ◌∷◌, length, true, Option, Some, None, refl, sym, ◌∙◌, ap, arith}
+use Rattle.std.specs.Prelude.{MatchOption, is_some, count_by}
 use Rattle.std.proofs.lemmas.Bool.{false≢true}
 use Rattle.std.proofs.lemmas.List.Splits.{length-slice_split}
-use Rattle.spk_nums.specs.declared.calls.Call.{Call}
-use Rattle.speck_run.specs.Form.{words_of, look_of, copy_of, is_text}
+use Rattle.speck_run.specs.Form.{words_of, look_of, copy_of}
 
 -- what holds of the value that an option has
 pub of_some : {R : Type 0} (A : Type 0) (o : Option R) {B : R → Type 0} → is_some o ≡ true → MatchOption o A B → (r : R) × B r

@@ -1,6 +1,6 @@
 -- A machine that has just booted is fit, and stands for the empty trace.
-use Rattle.std.proofs.Common.{◌≡◌, ◌⊎◌, inl, inr, ℕ, ◌+◌, ◌*◌, ◌<◌, ◌≤◌, ◌^◌, ◌++◌, List, [], ◌∷◌, length, get_or, map, zero, suc, take, fold, arith, refl, sym, ◌∙◌, ap, subst, sum_by}
-use Rattle.std.specs.Prelude.{All, is_some, Some, None, Option, if◌then◌else◌}
+use Rattle.std.proofs.Common.{◌≡◌, inl, inr, ℕ, ◌+◌, ◌*◌, ◌<◌, ◌≤◌, ◌^◌, ◌++◌, List, [], ◌∷◌, length, get_or, map, zero, suc, take, fold, arith, refl, sym, ◌∙◌, ap, subst, sum_by}
+use Rattle.std.specs.Prelude.{is_some, Some, None, Option, if◌then◌else◌}
 use Rattle.std.proofs.lemmas.Bool.{cases_eq}
 use Rattle.std.proofs.lemmas.List.{length-map, length-append, get_or_push, get_or_append_left}
 use Rattle.spk_nums.specs.Capability.{Capability}

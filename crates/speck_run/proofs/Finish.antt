@@ -1,6 +1,5 @@
 -- The text of a machine whose cores are all idle is that of the trace for which it stands.
-use Rattle.std.proofs.Common.{◌≡◌, ◌⊎◌, inl, inr, ℕ, ◌<◌, ◌≤◌, ◌++◌, List, [], length, refl, sym, ◌∙◌, ap, subst, arith, true, false}
-use Rattle.std.specs.Prelude.{Option, None}
+use Rattle.std.proofs.Common.{◌≡◌, inl, inr, ℕ, ◌<◌, ◌++◌, List, [], length, sym, ◌∙◌, ap, subst, arith, true, false}
 use Rattle.std.specs.List.{flat_map}
 use Rattle.std.proofs.lemmas.Bool.{cases_lt}
 use Rattle.std.proofs.lemmas.List.{get_or_past}
@@ -10,15 +9,14 @@ use Rattle.spk_nums.specs.declared.steps.Item.{Item}
 use Rattle.kernel_history.specs.Words.{EntryAt}
 use Rattle.kernel_history.specs.Trace.{Trace, state_after, last_left, calls_of, decisions_of}
 use Rattle.kernel_history.specs.Legal.{IsLegal}
-use Rattle.kernel_history.specs.Order.{IsIdle, HasCalls, DecidesNext, FollowsItems, FollowsCores, list_of}
+use Rattle.kernel_history.specs.Order.{IsIdle, HasCalls, FollowsItems, FollowsCores, list_of}
 use Rattle.kernel_history.specs.Text.{line_of, entry_lines, text_of}
 use Rattle.kernel_history.specs.GivenSteps.{GivenSteps}
 use Rattle.kernel_history.proofs.Idle.{all_idle}
 use Rattle.kernel_history.proofs.Text.{entry_lines-same}
-use Rattle.speck_run.specs.declared.flight.Turn.{Turn}
 use Rattle.speck_run.specs.Flight.{entry_of}
 use Rattle.speck_run.specs.Machine.{Machine, IsReady, IsFinished, ready_if}
-use Rattle.speck_run.specs.Stands.{StandsFor, WillDecide, KeepsPromises, GoesByItems, RunsCoresOut}
+use Rattle.speck_run.specs.Stands.{StandsFor, KeepsPromises, GoesByItems, RunsCoresOut}
 use Rattle.speck_run.specs.Written.{place_shown, place_in, run_text}
 use Rattle.speck_run.proofs.Entries.{shown_place}
 use Rattle.speck_run.proofs.Runs.{not_idle}

@@ -1,14 +1,11 @@
 -- The step of a turn follows the trace, keeps its call's bound, and leaves the core where its stage says.
-use Rattle.std.proofs.Common.{◌≡◌, ◌≢◌, ◌⊎◌, inl, inr, ℕ, suc, ◌+◌, ◌<◌, ◌≤◌, List, [], ◌∷◌, Option, Some, None, arith, refl, sym, ◌∙◌, ap, subst, Bool, true, false, cond}
+use Rattle.std.proofs.Common.{◌≡◌, ◌≢◌, inl, inr, ℕ, ◌+◌, [], ◌∷◌, Option, Some, None, arith, refl, sym, ◌∙◌, ap, subst, Bool, true, false}
 use Rattle.std.specs.Prelude.{is_some, IsSome, All}
 use Rattle.std.proofs.lemmas.Bool.{eq-eqb, ne_eqb, cases_eq}
 use Rattle.std.proofs.lemmas.List.Elements.{All-cons, All-nil}
 use Rattle.spk_nums.specs.Capability.{Capability}
-use Rattle.spk_nums.specs.Built.{IsBuilt}
-use Rattle.spk_nums.specs.declared.calls.Call.{Call}
 use Rattle.spk_nums.specs.declared.calls.Call.TheVariants.{Look, Copy}
-use Rattle.spk_nums.specs.declared.replies.Value.TheVariants.{Nothing, Cap}
-use Rattle.spk_nums.specs.declared.replies.Reply.{Reply}
+use Rattle.spk_nums.specs.declared.replies.Value.TheVariants.{Nothing}
 use Rattle.spk_nums.specs.declared.replies.Reply.TheVariants as reply
 use Rattle.spk_nums.specs.Setting.{Setting}
 use Rattle.kernel_history.specs.Words.{Word, EntryAt}
@@ -29,7 +26,7 @@ use Rattle.speck_run.specs.declared.flight.Turn.{Turn}
 use Rattle.speck_run.specs.declared.flight.Turn.TheVariants.{First, Next}
 use Rattle.speck_run.specs.Flight.{op_of, place_of, left_if, took_if, look_took, source_took, target_took, place_took, reply_of, stage_in, ready_of, IsTurnFit}
 use Rattle.speck_run.specs.Machine.{enters_as}
-use Rattle.speck_run.specs.Stands.{Represents, PlacesStand, HasFound, StageIs, CoreIs, IsEarly}
+use Rattle.speck_run.specs.Stands.{Represents, PlacesStand, StageIs, CoreIs, IsEarly}
 use Rattle.speck_run.proofs.Entries.{Sees, is_free, place_free, place_held, foreign_never}
 
 -- the step of core c at this turn, at a word that shows this

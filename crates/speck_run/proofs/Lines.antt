@@ -1,7 +1,6 @@
 -- One line more of an input, and its end.
-use Rattle.std.proofs.Common.{◌≡◌, ℕ, ◌+◌, ◌==◌, List, [], ◌∷◌, length, Bool, true, false, refl, sym, ◌∙◌, ap, arith}
-use Rattle.std.specs.Prelude.{Option, Some, None, Result, Ok, Err, count_by}
-use Rattle.std.specs.List.{slice_split}
+use Rattle.std.proofs.Common.{◌≡◌, ℕ, ◌+◌, ◌==◌, List, [], ◌∷◌, length, Bool, true, false, refl, ◌∙◌, ap, arith}
+use Rattle.std.specs.Prelude.{Result, Ok, Err, count_by}
 use Rattle.std.proofs.lemmas.List.Splits.{length-slice_split}
 use Rattle.speck_run.specs.declared.form.FormError.{FormError}
 use Rattle.speck_run.specs.declared.form.FormError.TheVariants.{NotBuilt}

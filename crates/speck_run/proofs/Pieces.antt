@@ -1,9 +1,9 @@
 -- One read or one write more.
-use Rattle.std.proofs.Common.{◌≡◌, ℕ, ◌+◌, ◌-◌, ◌<◌, ◌≤◌, ◌++◌, List, [], ◌∷◌, length, take, drop, Option, Some, None, refl, sym, ◌∙◌, ap, subst, arith, append_assoc, length-append, length-drop}
+use Rattle.std.proofs.Common.{◌≡◌, ℕ, ◌+◌, ◌-◌, ◌<◌, ◌≤◌, ◌++◌, List, [], length, take, drop, Option, Some, None, refl, sym, ◌∙◌, ap, subst, arith, append_assoc, length-append, length-drop}
 use Rattle.std.proofs.lemmas.List.{take_all, length-take-le, drop-drop}
 use Rattle.std.proofs.Math.Seq.{take-add}
 use Rattle.byte_ends.specs.Ends.{Moves, Takes, Adds}
-use Rattle.speck_run.specs.Ends.{Gives, GivesFirst, GivesAtMost, GivesAll, AddsFirst, AddsFront}
+use Rattle.speck_run.specs.Ends.{Gives, GivesAtMost, GivesAll, AddsFirst}
 
 -- The bytes are the first that the source has given.
 pub record HasRead (bytes left : List ℕ) (left' : Option (List ℕ)) : Type 0 where
@@ -63,9 +63,10 @@ moved_none : (bytes left buf buf' : List ℕ) (left1 left2 : Option (List ℕ)) 
 moved_none bytes left buf buf' left1 left2 k read takes none room =
     let moves : Moves k (drop (length bytes) left) left2 buf buf' = subst (λ o. Takes k o left2 buf buf') read.rest takes in
     let nothing : drop (length bytes) left ≡ [] = moves.at_end none room in
-    let over = ap length nothing in
-    (read.front ∙ take_all (length bytes) left (omega (arith, length-drop (length bytes) left, over)),
-     moves.rest ∙ ap (λ (n : ℕ). Some (drop n (drop (length bytes) left))) none ∙ ap Some nothing)
+    let over = ap length nothing in (
+      read.front ∙ take_all (length bytes) left (omega (arith, length-drop (length bytes) left, over)),
+      moves.rest ∙ ap (λ (n : ℕ). Some (drop n (drop (length bytes) left))) none ∙ ap Some nothing,
+    )
 
 pub reads_end : (bytes buf buf' : List ℕ) (left left1 left2 : Option (List ℕ)) (k : ℕ) →
     Reads bytes left left1 → Takes k left1 left2 buf buf' → k ≡ 0 → 0 < length buf → GivesAll bytes left left2

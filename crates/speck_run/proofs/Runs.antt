@@ -1,7 +1,7 @@
 -- Moves one after another.
-use Rattle.std.proofs.Common.{◌≡◌, ◌≢◌, ◌⊎◌, inl, inr, ℕ, suc, ◌+◌, ◌<◌, ◌++◌, List, [], ◌∷◌, length, take, arith, add-one, refl, sym, ◌∙◌, ap, subst}
-use Rattle.std.specs.Prelude.{All, Option, Some, None, IsSome, ◌↔◌, option_map, slice_get}
-use Rattle.std.proofs.lemmas.List.{length-take-le, append_assoc}
+use Rattle.std.proofs.Common.{◌≡◌, ◌≢◌, ◌⊎◌, inl, inr, ℕ, suc, ◌+◌, ◌<◌, ◌++◌, List, [], ◌∷◌, length, take, arith, refl, sym, ◌∙◌, ap, subst}
+use Rattle.std.specs.Prelude.{Option, Some, None, IsSome, ◌↔◌, option_map}
+use Rattle.std.proofs.lemmas.List.{length-take-le}
 use Rattle.std.proofs.lemmas.List.Elements.{All-cons, All-nil}
 use Rattle.std.proofs.lemmas.Option.{slice_get_cases}
 use Rattle.spk_nums.specs.declared.calls.Call.{Call}
@@ -11,14 +11,14 @@ use Rattle.spk_nums.specs.declared.steps.Item.{Item}
 use Rattle.spk_nums.specs.declared.steps.How.TheVariants as how
 use Rattle.kernel_history.specs.Trace.{Step, Trace, phase, calls_of}
 use Rattle.kernel_history.specs.Trace as history
-use Rattle.kernel_history.specs.Order.{IsIdle, IsDecided, AreOf, HaveNone, GoesThrough, DecidesNext, StopsBefore, UnlessDecided, Stretch, FollowsItem, FollowsItems, RunsOut, FollowsCores}
+use Rattle.kernel_history.specs.Order.{IsIdle, IsDecided, AreOf, GoesThrough, UnlessDecided, Stretch, FollowsItem, FollowsItems, RunsOut, FollowsCores}
 use Rattle.kernel_history.proofs.Open.{returns_if_out, none_if_in}
 use Rattle.speck_run.specs.declared.flight.Stage.{Stage}
 use Rattle.speck_run.specs.declared.flight.Turn.TheVariants.{First}
 use Rattle.speck_run.specs.declared.lone.Moved.{Moved}
 use Rattle.speck_run.specs.declared.lone.Moved.TheVariants.{Idle, Went}
-use Rattle.speck_run.specs.Machine.{Machine, core_at, list_at, turn_if, turn_of, turn_at, IsFinished, IsReady}
-use Rattle.speck_run.specs.Stands.{CoreIs, StandsFor, entered_if, WillDecide, GoesOn, IsEarly, MakesStep, MovesTo, StaysIdle, MovesBy, MakesOneStep, StopsReady, DecidesEarly, GoesUntilReady, GoesThroughDecision, GoesToReturn, GoesThroughCall, StaysInCall, GoesInCall, KeepsPromises, TakesItem, TakesItems, GoesByItem, GoesByItems, GoesAlone, GoesByCore, GoesToEnd, RunsCoreOut, GoesToEnds, RunsCoresOut}
+use Rattle.speck_run.specs.Machine.{Machine, core_at, list_at, turn_if, IsFinished, IsReady}
+use Rattle.speck_run.specs.Stands.{CoreIs, StandsFor, entered_if, GoesOn, IsEarly, MakesStep, MovesTo, MovesBy, MakesOneStep, StopsReady, DecidesEarly, GoesUntilReady, GoesThroughDecision, GoesToReturn, GoesThroughCall, GoesInCall, KeepsPromises, GoesByItem, GoesByItems, GoesByCore, RunsCoreOut, RunsCoresOut}
 use Rattle.speck_run.proofs.Advance.{stays_idle}
 
 -- a step of a core that has a turn is made

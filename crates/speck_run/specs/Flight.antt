@@ -1,5 +1,5 @@
 -- The steps of a call: the next one, and what is taken from the word found.
-use Rattle.std.specs.Prelude.{◌≡◌, Bool, true, false, ℕ, suc, ◌+◌, ◌-◌, ◌%◌, ◌^◌, ◌==◌, ◌<◌, ◌≤◌, Option, Some, None, if◌then◌else◌}
+use Rattle.std.specs.Prelude.{Bool, true, false, ℕ, ◌+◌, ◌-◌, ◌%◌, ◌^◌, ◌==◌, Option, Some, None, if◌then◌else◌}
 use Rattle.spk_nums.specs.Capability.{Capability}
 use Rattle.spk_nums.specs.Built.{IsBuilt}
 use Rattle.spk_nums.specs.declared.calls.Call.{Call}

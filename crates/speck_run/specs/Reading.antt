@@ -1,5 +1,5 @@
 -- How much a line adds to what the lines before it say.
-use Rattle.std.specs.Prelude.{ℕ, ◌+◌, ◌≤◌, length}
+use Rattle.std.specs.Prelude.{◌+◌, ◌≤◌, length}
 use Rattle.speck_run.specs.Form.{SoFar}
 
 -- Each core has one call more at most.

@@ -1,5 +1,5 @@
 -- When a machine stands for a trace, and how its moves extend each trace for which it stood.
-use Rattle.std.specs.Prelude.{◌≡◌, ◌≢◌, ◌⊎◌, Bool, true, false, ℕ, suc, ◌+◌, ◌<◌, ◌≤◌, List, [], ◌∷◌, ◌++◌, All, Option, Some, None, IsSome, length, take, slice_index}
+use Rattle.std.specs.Prelude.{◌≡◌, ◌≢◌, ◌⊎◌, ℕ, suc, ◌+◌, ◌<◌, ◌≤◌, List, [], ◌∷◌, ◌++◌, All, Option, Some, None, IsSome, take, slice_index}
 use Rattle.spk_nums.specs.Capability.{Capability}
 use Rattle.spk_nums.specs.declared.calls.Call.{Call}
 use Rattle.spk_nums.specs.Setting.{Setting}
@@ -10,7 +10,7 @@ use Rattle.kernel_history.specs.Capabilities.{IsTable}
 use Rattle.kernel_history.specs.Trace.{Step, Trace, Out, Open, phase, after_enter, state_after, last_left, own_left, steps_in_call, calls_of, decisions_of}
 use Rattle.kernel_history.specs.Legal.{IsLegal}
 use Rattle.kernel_history.specs.Bounds.{KeepsBounds, bound_of, call_in}
-use Rattle.kernel_history.specs.Order.{IsIdle, IsDecided, AreOf, HaveNone, UnlessDecided, GoesThrough, DecidesNext, FollowsItem, FollowsItems, RunsOut, FollowsCores}
+use Rattle.kernel_history.specs.Order.{IsIdle, AreOf, HaveNone, UnlessDecided, GoesThrough, DecidesNext, FollowsItem, FollowsItems, RunsOut, FollowsCores}
 use Rattle.speck_run.specs.declared.seats.Core.{Core}
 use Rattle.speck_run.specs.declared.flight.Stage.{Stage}
 use Rattle.speck_run.specs.declared.flight.Stage.TheVariants as stage

@@ -1,5 +1,5 @@
 -- The text of a run: its decisions' reply lines, and the entry lines of its words.
-use Rattle.std.specs.Prelude.{ℕ, List, [], ◌++◌, slice_index, slice_index_or}
+use Rattle.std.specs.Prelude.{ℕ, List, ◌++◌, slice_index}
 use Rattle.std.specs.List.{flat_map}
 use Rattle.spk_nums.specs.declared.calls.Call.{Call}
 use Rattle.spk_nums.specs.declared.replies.Decision.{Decision}

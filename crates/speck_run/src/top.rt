@@ -104,17 +104,13 @@ fn judge_input(alloc: Global, bytes: &[u8]) -> Result<Answer, Memory>
 }
 
 // What is due: words are judged first, then reading, then the script.
-fn judge<S: Source>(
-    alloc: Global,
-    words: &Vec<String>,
-    source: &mut S,
-) -> Result<Answer, Memory>
+fn judge<S: Source>(alloc: Global, words: &Vec<String>, source: &mut S) -> Result<Answer, Memory>
     ensures due { IfOk result (λ answer. IsDue record {
-        words = map string_bytes words.now.items;
-        left = S.left source.old;
-        left' = S.left source.new;
-        faults = S.faults source.old;
-        faults' = S.faults source.new;
+      words = map string_bytes words.now.items;
+      left = S.left source.old;
+      left' = S.left source.new;
+      faults = S.faults source.old;
+      faults' = S.faults source.new;
     } answer.status (string_bytes answer.text)) }
     ensures most { GivesAtMost 1048577 (S.left source.old) (S.left source.new) }
     ensures unread { (IsReplay (map string_bytes words.now.items) → ⊥) → source.new ≡ source.old }
@@ -165,11 +161,11 @@ pub fn speck<S: Source, K: Sink>(
 
     // Then writing.
     ensures writes { Writes record {
-        words = map string_bytes words.now.items;
-        left = S.left source.old;
-        left' = S.left source.new;
-        faults = S.faults source.old;
-        faults' = S.faults source.new;
+      words = map string_bytes words.now.items;
+      left = S.left source.old;
+      left' = S.left source.new;
+      faults = S.faults source.old;
+      faults' = S.faults source.new;
     } (K.held sink.old) (K.held sink.new) result }
     ensures write { result ≡ Status.WriteFault → HasRisen (K.faults sink.old) (K.faults sink.new) }
     ensures sure_sink { ((k : K) → K.faults k ≡ 0) → result ≡ Status.WriteFault → ⊥ }

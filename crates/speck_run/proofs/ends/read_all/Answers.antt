@@ -1,4 +1,4 @@
-use Rattle.std.proofs.Common.{◌≡◌, ◌<◌, ◌++◌, ◌≤◌, ◌+◌, take, drop, length, sym, subst, refl, arith, length-append, length-take, length-drop}
+use Rattle.std.proofs.Common.{◌≡◌, ◌<◌, ◌++◌, ◌≤◌, take, drop, length, sym, subst, arith, length-append, length-take, length-drop}
 use Rattle.std.proofs.lemmas.List.{take-append-le}
 use Rattle.speck_run.specs.Ends.{Gives}
 use Rattle.speck_run.proofs.Pieces.{Reads, reads_given, reads_more, reads_lost, reads_end}

@@ -1,4 +1,4 @@
-use Rattle.std.proofs.Common.{◌≡◌, ◌-◌, ◌≤◌, length}
+use Rattle.std.proofs.Common.{◌-◌, ◌≤◌, length}
 use Rattle.speck_run.specs.Ends.{AddsFirst}
 use Rattle.speck_run.proofs.ends.write_all.Given as goal
 

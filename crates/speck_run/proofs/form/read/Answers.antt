@@ -1,4 +1,4 @@
-use Rattle.std.proofs.Common.{◌≡◌, ◌∙◌, ap, sym, arith}
+use Rattle.std.proofs.Common.{◌∙◌, ap, sym, arith}
 use Rattle.std.specs.Prelude.{Ok}
 use Rattle.speck_run.proofs.Lines.{faulty, goes_by, ended, not_ended, cut_short, form_is, fault_is}
 use Rattle.speck_run.proofs.form.read.Goals as goal

@@ -1,4 +1,4 @@
-use Rattle.std.proofs.Common.{◌≡◌, ◌∙◌, ap, length, get_or, sym, arith, eqb, ◌∷◌, []}
+use Rattle.std.proofs.Common.{◌≡◌, ◌∙◌, ap, length, get_or, arith, eqb}
 use Rattle.std.specs.Prelude.{string_bytes, codes}
 use lib.Pointwise.{pointwise}
 use Rattle.speck_run.proofs.Command.{one_word}

@@ -1,4 +1,4 @@
-use Rattle.std.proofs.Common.{◌≡◌, ◌∷◌, ◌==◌, ◌+◌, take, ◌∙◌, ap, sym, arith}
+use Rattle.std.proofs.Common.{◌∷◌, ◌==◌, ◌+◌, take, ◌∙◌, ap, sym}
 use Rattle.std.specs.List.{slice_split}
 use Rattle.std.proofs.lemmas.Bool.{ne_eqb}
 use Rattle.speck_run.proofs.Cuts.{one_more, cut_at, cut_none, rest_is}

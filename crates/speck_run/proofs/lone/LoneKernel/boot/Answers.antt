@@ -1,4 +1,4 @@
-use Rattle.std.proofs.Common.{◌≡◌, ◌<◌, ◌^◌, refl, arith, sym, ◌∙◌, ap, subst, map, sum_by, length, []}
+use Rattle.std.proofs.Common.{◌<◌, ◌^◌, refl, arith, sym, ◌∙◌, ap, subst, map, sum_by, []}
 use Rattle.speck_run.specs.Machine.{fresh_core}
 use Rattle.speck_run.proofs.Boot.{fits, stands, few_calls}
 use Rattle.speck_run.proofs.lone.LoneKernel.boot.Goals as goal

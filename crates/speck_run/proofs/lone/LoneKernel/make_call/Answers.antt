@@ -1,4 +1,4 @@
-use Rattle.std.proofs.Common.{◌≡◌, ◌≢◌, ◌<◌, ◌∙◌, refl, ap, sym, arith}
+use Rattle.std.proofs.Common.{◌≢◌, ◌<◌, ◌∙◌, refl, ap, sym, arith}
 use Rattle.std.specs.Prelude.{None}
 use Rattle.std.proofs.lemmas.Bool.{false≢true}
 use Rattle.speck_run.specs.Machine.{core_at}

@@ -1,4 +1,4 @@
-use Rattle.std.proofs.Common.{◌≡◌, ◌<◌, ◌∙◌, ap, sym, arith}
+use Rattle.std.proofs.Common.{◌<◌, ◌∙◌, ap, sym, arith}
 use Rattle.std.proofs.lemmas.Bool.{false≢true}
 use Rattle.speck_run.specs.Machine.{IsFinished}
 use Rattle.speck_run.proofs.Runs.{went, alone_more, runs_out}

@@ -1,4 +1,4 @@
-use Rattle.std.proofs.Common.{◌≡◌, ℕ, ◌∙◌, subst}
+use Rattle.std.proofs.Common.{ℕ, ◌∙◌, subst}
 use Rattle.speck_run.specs.Stands.{RunsCoreOut}
 use Rattle.speck_run.proofs.Runs.{cores_more}
 use Rattle.speck_run.proofs.lone.LoneKernel.run_rest.Goals as goal

@@ -1,9 +1,9 @@
-use Rattle.std.proofs.Common.{◌≡◌, ℕ, ◌<◌, ◌+◌, refl, length, map, Some, None, sym, ◌∙◌, ap, subst, arith, slice_set, sum_by, ◌++◌}
+use Rattle.std.proofs.Common.{◌≡◌, ℕ, ◌<◌, ◌+◌, refl, length, map, Some, sym, ◌∙◌, ap, subst, arith, slice_set, sum_by, ◌++◌}
 use Rattle.std.proofs.lemmas.List.{length-append}
 use Rattle.kernel_history.specs.Trace.{decision_at}
-use Rattle.speck_run.specs.Flight.{IsTurnFit, op_of, place_of, reply_of}
+use Rattle.speck_run.specs.Flight.{place_of, reply_of}
 use Rattle.speck_run.specs.Machine.{Machine, IsFit, IsFinished, stepped, turn_at, turn_of, core_at, list_at}
-use Rattle.speck_run.specs.Stands.{StaysIdle, MakesOneStep}
+use Rattle.speck_run.specs.Stands.{MakesOneStep}
 use Rattle.speck_run.proofs.Advance.{Reads, reads, IsOf, is_of, in_words, made_is, took_at, left_on, fits_on, one_step, work_on, steps_like, works_like, some_in_all, count_decided, stays_idle, steps_small}
 use Rattle.speck_run.proofs.lone.LoneKernel.step.Goals as goal
 use Rattle.speck_run.proofs.lone.LoneKernel.step.Goals.{In-Some, In_default, After-self-1}

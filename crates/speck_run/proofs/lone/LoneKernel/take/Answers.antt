@@ -1,4 +1,4 @@
-use Rattle.std.proofs.Common.{◌≡◌, ◌<◌, ap, arith}
+use Rattle.std.proofs.Common.{◌<◌, ap, arith}
 use Rattle.speck_run.proofs.Runs.{takes_one, takes_ready, takes_decision, takes_return}
 use Rattle.speck_run.proofs.lone.LoneKernel.take.Goals as goal
 
