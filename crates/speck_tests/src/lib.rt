@@ -4,4 +4,6 @@
 #[cfg(test)]
 mod numbers;
 #[cfg(test)]
+mod replays;
+#[cfg(test)]
 mod texts;

@@ -1,0 +1,12 @@
+pub mod Words
+pub mod State
+pub mod Capabilities
+pub mod Calls
+pub mod BootWords
+pub mod Trace
+pub mod Justified
+pub mod Legal
+pub mod Bounds
+pub mod Order
+pub mod Text
+pub mod GivenSteps

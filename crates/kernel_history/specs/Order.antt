@@ -1,0 +1,107 @@
+-- Traces that have the calls of lists, and that follow an order.
+use Rattle.std.specs.Prelude.{◌≡◌, ◌≢◌, ◌⊎◌, ℕ, zero, suc, List, [], ◌∷◌, ◌++◌, length, All, slice_index_or, Option, None, IsSome}
+use Rattle.spk_nums.specs.declared.calls.Call.{Call}
+use Rattle.spk_nums.specs.declared.replies.Reply.{Reply}
+use Rattle.spk_nums.specs.declared.steps.Item.{Item}
+use Rattle.spk_nums.specs.declared.steps.How.{How}
+use Rattle.spk_nums.specs.declared.steps.How.TheVariants.{One, Ready, Decide, Return}
+use Rattle.kernel_history.specs.Trace.{Step, Trace, Phase, Out, Open, Decided, phase, calls_of}
+
+-- The list of a core's calls.
+abbrev pub list_of : List (List Call) → ℕ → List Call
+list_of lists c = slice_index_or lists c []
+
+-- The core is between calls and its list is finished.
+pub record IsIdle (lists : List (List Call)) (t : Trace) (c : ℕ) : Type 0 where
+  pub out : phase t c ≡ Out
+  pub finished : calls_of t c ≡ list_of lists c
+
+-- Each core has entered the calls of its list, once and in order, and the last has returned.
+abbrev pub HasCalls : List (List Call) → Trace → Type 0
+HasCalls lists t = (c : ℕ) → IsIdle lists t c
+
+-- The core's call is decided.
+abbrev pub IsDecided : Phase → Type 0
+IsDecided Out = ⊥
+IsDecided (Open call) = ⊥
+IsDecided (Decided call r) = Unit {0}
+
+-- All the steps are of core c.
+abbrev pub AreOf : ℕ → Trace → Type 0
+AreOf c s = All (λ e. e.core ≡ c) s
+
+-- None of the steps has this event.
+abbrev pub HaveNone : (Step → Option Reply) → Trace → Type 0
+HaveNone event s = All (λ e. event e ≡ None) s
+
+-- From t to u: one step of core c.
+pub record MakesOne (c : ℕ) (t u : Trace) : Type 0 where
+  pub step : Step
+  pub adds : u ≡ step ∷ t
+  pub own : step.core ≡ c
+
+-- From t to u: steps of core c, up to the first with this event.
+pub record GoesThrough (event : Step → Option Reply) (c : ℕ) (t u : Trace) : Type 0 where
+  pub steps : Trace
+  pub last : Step
+  pub adds : u ≡ last ∷ (steps ++ t)
+  pub own : AreOf c (last ∷ steps)
+  pub before : HaveNone event steps
+  pub ends : IsSome (event last)
+
+-- In the whole trace w, which begins with u, the next step of core c after u decides.
+pub record DecidesNext (c : ℕ) (u w : Trace) : Type 0 where
+  pub later : Trace
+  pub step : Step
+  pub others : Trace
+  pub begins : w ≡ later ++ (step ∷ (others ++ u))
+  pub apart : All (λ e. e.core ≢ c) others
+  pub own : step.core ≡ c
+  pub decides : IsSome step.decides
+
+-- From t to u: steps of core c, none of which decides, up to its step that decides in the whole trace w.
+pub record StopsBefore (w : Trace) (c : ℕ) (t u : Trace) : Type 0 where
+  pub steps : Trace
+  pub adds : u ≡ steps ++ t
+  pub own : AreOf c steps
+  pub before : HaveNone (λ e. e.decides) steps
+  pub next : DecidesNext c u w
+
+-- From t to u: nothing where the call of core c is decided, else what is said.
+abbrev pub UnlessDecided : ℕ → Trace → Trace → Type 0 → Type 0
+UnlessDecided c t u Else = (IsDecided (phase t c) × (u ≡ t)) ⊎ ((IsDecided (phase t c) → ⊥) × Else)
+
+-- From t to u by an item, of a core that is not idle: one step; until its call is ready, which is either before the
+-- deciding step or with it; until its call has decided; until its call has returned.
+abbrev pub Stretch : Trace → How → ℕ → Trace → Trace → Type 0
+Stretch w One c t u = MakesOne c t u
+Stretch w Ready c t u = UnlessDecided c t u (StopsBefore w c t u ⊎ GoesThrough (λ e. e.decides) c t u)
+Stretch w Decide c t u = UnlessDecided c t u (GoesThrough (λ e. e.decides) c t u)
+Stretch w Return c t u = GoesThrough (λ e. e.returns) c t u
+
+-- From t to u by an item: nothing where the core is idle, else the item's stretch.
+abbrev pub FollowsItem : List (List Call) → Trace → Item → Trace → Trace → Type 0
+FollowsItem lists w item t u = (IsIdle lists t item.core × (u ≡ t)) ⊎ ((IsIdle lists t item.core → ⊥) × Stretch w item.how item.core t u)
+
+-- From t to u by the items, one after another.
+abbrev pub FollowsItems : List (List Call) → Trace → List Item → Trace → Trace → Type 0
+FollowsItems lists w [] t u = u ≡ t
+FollowsItems lists w (item ∷ items) t u = (m : Trace) × FollowsItem lists w item t m × FollowsItems lists w items m u
+
+-- From t to u: steps of core c, to the end of its list.
+pub record RunsOut (lists : List (List Call)) (c : ℕ) (t u : Trace) : Type 0 where
+  pub steps : Trace
+  pub adds : u ≡ steps ++ t
+  pub own : AreOf c steps
+  pub idle : IsIdle lists u c
+
+-- From t to u: core 0, then core 1 and so on, n in all, each to the end of its list.
+abbrev pub FollowsCores : List (List Call) → ℕ → Trace → Trace → Type 0
+FollowsCores lists zero t u = u ≡ t
+FollowsCores lists (suc n) t u = (m : Trace) × FollowsCores lists n t m × RunsOut lists n m u
+
+-- The trace goes by the items of the order, and then each core to the end of its list.
+pub record Follows (lists : List (List Call)) (items : List Item) (w : Trace) : Type 0 where
+  pub ordered : Trace
+  pub by_items : FollowsItems lists w items [] ordered
+  pub by_cores : FollowsCores lists (length lists) ordered w

@@ -1,0 +1,119 @@
+-- Traces of atomic steps, and what they leave. A trace lists its steps with the newest first.
+use Rattle.std.specs.Prelude.{ℕ, ◌+◌, ◌==◌, List, [], ◌∷◌, ◌++◌, Option, Some, None, is_some, if◌then◌else◌, option_to_list, length}
+use Rattle.spk_nums.specs.declared.calls.Call.{Call}
+use Rattle.spk_nums.specs.declared.replies.Reply.{Reply}
+use Rattle.spk_nums.specs.declared.replies.Decision.{Decision}
+use Rattle.spk_nums.specs.Setting.{Setting}
+use Rattle.kernel_history.specs.Words.{Word, same_word}
+use Rattle.kernel_history.specs.BootWords.{boot_word}
+use Rattle.kernel_history.specs.State.{State, start, entered, returned}
+use Rattle.kernel_history.specs.Calls.{state_by}
+
+-- An atomic step of a core on a word: the value found, the value left, and the events of the core's call at it:
+-- invocation, decision (the linearization point) and response.
+pub record Step : Type 0 where
+  pub core : ℕ
+  pub word : Word
+  pub found : ℕ
+  pub left : ℕ
+  pub enters : Option Call
+  pub decides : Option Reply
+  pub returns : Option Reply
+
+-- A trace is a list of steps, the newest first.
+abbrev pub Trace : Type 0
+Trace = List Step
+
+-- The value last left in the word, or the boot word if none was left.
+abbrev pub last_left : Setting → Trace → Word → ℕ
+last_left setup [] w = boot_word setup w
+last_left setup (e ∷ t) w = if same_word w e.word then e.left else last_left setup t w
+
+-- A core is between calls, in a call that is not decided, or in one that is.
+pub data Phase : Type 0 where
+  Out : Phase
+  Open : Call → Phase
+  Decided : Call → Reply → Phase
+
+-- The phase after an invocation.
+abbrev pub after_enter : Option Call → Phase → Phase
+after_enter None p = p
+after_enter (Some call) p = Open call
+
+-- The phase after a decision: an open call is decided.
+abbrev pub decided : Phase → Reply → Phase
+decided Out r = Out
+decided (Open call) r = Decided call r
+decided (Decided call q) r = Decided call q
+
+-- The phase after a step that may decide.
+abbrev pub after_decide : Option Reply → Phase → Phase
+after_decide None p = p
+after_decide (Some r) p = decided p r
+
+-- The phase after a step that may return.
+abbrev pub after_return : Option Reply → Phase → Phase
+after_return None p = p
+after_return (Some r) p = Out
+
+-- The core's phase after the trace.
+abbrev pub phase : Trace → ℕ → Phase
+phase [] c = Out
+phase (e ∷ t) c = if c == e.core then after_return e.returns (after_decide e.decides (after_enter e.enters (phase t c))) else phase t c
+
+-- The state after an invocation.
+abbrev pub state_entered : Option Call → State → ℕ → State
+state_entered None s c = s
+state_entered (Some call) s c = entered s c
+
+-- The state after a decision in this phase: that which the call relation leaves for the open call.
+abbrev pub state_decided_in : Phase → Reply → State → ℕ → State
+state_decided_in Out r s c = s
+state_decided_in (Open call) r s c = state_by s c call r
+state_decided_in (Decided call q) r s c = s
+
+-- The state after a step that may decide.
+abbrev pub state_decided : Option Reply → Phase → State → ℕ → State
+state_decided None p s c = s
+state_decided (Some r) p s c = state_decided_in p r s c
+
+-- The state after a step that may return.
+abbrev pub state_returned : Option Reply → State → ℕ → State
+state_returned None s c = s
+state_returned (Some r) s c = returned s c
+
+-- The state after the events of the trace, from the start state on.
+abbrev pub state_after : Setting → Trace → State
+state_after setup [] = start setup
+state_after setup (e ∷ t) =
+    state_returned e.returns
+    (state_decided e.decides (after_enter e.enters (phase t e.core)) (state_entered e.enters (state_after setup t) e.core) e.core)
+    e.core
+
+-- The calls that the core has entered, in order.
+abbrev pub calls_of : Trace → ℕ → List Call
+calls_of [] c = []
+calls_of (e ∷ t) c = if c == e.core then calls_of t c ++ option_to_list e.enters else calls_of t c
+
+-- How many steps the core has made in the call that it entered last.
+abbrev pub steps_in_call : Trace → ℕ → ℕ
+steps_in_call [] c = 0
+steps_in_call (e ∷ t) c = if c == e.core then (if is_some e.enters then 1 else steps_in_call t c + 1) else steps_in_call t c
+
+-- What the core's last step on the word, in the call that it entered last, has left there.
+abbrev pub own_left : Trace → ℕ → Word → Option ℕ
+own_left [] c w = None
+own_left (e ∷ t) c w =
+    if c == e.core
+    then (if same_word w e.word then Some e.left else (if is_some e.enters then None else own_left t c w))
+    else own_left t c w
+
+-- The decision of a step that may decide.
+abbrev pub decision_at : Option Reply → ℕ → ℕ → List Decision
+decision_at None c i = []
+decision_at (Some r) c i = record { core = c; index = i; reply = r } ∷ []
+
+-- The decisions, in order; a call's index counts the core's calls from 1.
+abbrev pub decisions_of : Trace → List Decision
+decisions_of [] = []
+decisions_of (e ∷ t) = decisions_of t ++ decision_at e.decides e.core (length (calls_of (e ∷ t) e.core))

@@ -1,0 +1,29 @@
+-- Words that are one command alone.
+use Rattle.std.proofs.Common.{◌≡◌, ℕ, List, [], ◌∷◌, length, get_or, map, eqb, Bool, true, refl, sym, ◌∙◌, ap, arith}
+use lib.Pointwise.{pointwise}
+use Rattle.std.proofs.lemmas.Bool.{and_parts, and_from, eqb-true, eq-eqb, false≢true}
+
+-- bytes that compare alike are the same
+bytes_same : (xs ys : List ℕ) → pointwise eqb xs ys ≡ true → xs ≡ ys
+bytes_same [] [] h = refl
+bytes_same [] (y ∷ ys) h = absurd (false≢true h)
+bytes_same (x ∷ xs) [] h = absurd (false≢true h)
+bytes_same (x ∷ xs) (y ∷ ys) h =
+    let parts = and_parts (eqb x y) (pointwise eqb xs ys) h in
+    ap (λ (n : ℕ). n ∷ xs) (eqb-true x y parts.0) ∙ ap (λ l. y ∷ l) (bytes_same xs ys parts.1)
+
+bytes_own : (xs : List ℕ) → pointwise eqb xs xs ≡ true
+bytes_own [] = refl
+bytes_own (x ∷ xs) = and_from (eqb x x) (pointwise eqb xs xs) (eq-eqb x x refl) (bytes_own xs)
+
+head_inj : (x y : List ℕ) (xs ys : List (List ℕ)) → x ∷ xs ≡ y ∷ ys → x ≡ y
+head_inj x y xs ys h = cc
+
+pub one_word : {S : Type 0} (bytes : S → List ℕ) (ws : List S) (w : S) (text : List ℕ) (b : Bool) → length ws ≡ 1 → w ≡ get_or ws 0 w → b ≡ pointwise eqb (bytes w) text →
+    (b ≡ true → map bytes ws ≡ text ∷ []) × (map bytes ws ≡ text ∷ [] → b ≡ true)
+one_word bytes [] w text b one is test = absurd (omega arith)
+one_word bytes (x ∷ []) w text b one is test = (
+  λ t. ap (λ l. l ∷ []) (ap bytes (sym is) ∙ bytes_same (bytes w) text (sym test ∙ t)),
+  λ same. test ∙ ap (λ l. pointwise eqb l text) (ap bytes is ∙ head_inj (bytes x) text [] [] same) ∙ bytes_own text,
+)
+one_word bytes (x ∷ y ∷ ws) w text b one is test = absurd (omega arith)

@@ -1,0 +1,11 @@
+pub mod Entries
+pub mod Good
+pub mod Advance
+pub mod Boot
+pub mod Runs
+pub mod Finish
+pub mod Cuts
+pub mod Arguments
+pub mod Lines
+pub mod Pieces
+pub mod Command

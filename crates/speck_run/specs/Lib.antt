@@ -1,0 +1,9 @@
+pub mod Flight
+pub mod Machine
+pub mod Stands
+pub mod Written
+pub mod Ends
+pub mod Form
+pub mod Script
+pub mod Reading
+pub mod Top

@@ -1,0 +1,44 @@
+//! Lists and an order, taken as `replay` does.
+ghost use Rattle.std.specs.Prelude.{◌≡◌, ◌<◌, IfOk, All, map, length, string_bytes};
+ghost use Rattle.kernel_history.specs.GivenSteps.{GivenSteps};
+ghost use Rattle.speck_run.specs.Machine.{AreLists};
+
+use crate::lone::LoneKernel;
+use crate::text::{write_decisions, write_entries};
+use spk_nums::{Call, Item, Memory, Setup};
+use std::alloc::{AllocError, Global};
+
+fn copy_lists(alloc: Global, lists: &[Vec<Call>]) -> Result<Vec<Vec<Call>>, AllocError>
+    ensures { IfOk result (λ copies. map (λ v. v.items) copies.items ≡ map (λ v. v.items) lists.now) }
+{
+    let mut copies = Vec::with_capacity(alloc, lists.len())?;
+    for list in lists {
+        let copy = Vec::from_slice(alloc, list.as_slice())?;
+        copies.push(copy)?;
+    }
+    Ok(copies)
+}
+
+/// Takes the items of the order, then runs each core out, and answers the text of the trace that this makes. There is a
+/// list for each core, each of fewer than 2^32 calls that are built; only want of memory is refused.
+pub fn replay(
+    alloc: Global,
+    setup: &Setup,
+    lists: Vec<Vec<Call>>,
+    items: &[Item],
+) -> Result<String, Memory>
+    requires built { AreLists (map (λ v. v.items) lists.items) }
+    requires one_each { length lists.items ≡ setup.now.cores }
+    requires named { All (λ item. item.core < setup.now.cores) items.now }
+    ensures { IfOk result (λ text. GivenSteps setup.now (map (λ v. v.items) lists.items) items.now (string_bytes text)) }
+{
+    let calls = copy_lists(alloc, &lists)?;
+    let mut kernel = LoneKernel::boot(alloc, setup, lists)?;
+    kernel.follow(items);
+    kernel.run_rest();
+    let mut text = String::new(alloc);
+    write_decisions(alloc, &mut text, &calls, kernel.decisions())?;
+    let words = kernel.close(alloc)?;
+    write_entries(alloc, &mut text, setup, &words)?;
+    Ok(text)
+}

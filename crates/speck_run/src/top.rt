@@ -1,0 +1,181 @@
+//! The top call: words, then reading, then the script, then writing.
+
+ghost use Rattle.std.specs.Prelude.{◌≡◌, ℕ, ◌≤◌, ◌⊎◌, ◌↔◌, IsTrue, IfOk, map, length, string_bytes};
+ghost use Rattle.byte_ends.specs.Ends.{HasRisen, Adds};
+ghost use Rattle.speck_run.specs.Ends.{Gives, GivesAll, GivesAtMost};
+ghost use Rattle.speck_run.specs.Top.{IsReplay, IsDue, IsDueOf, IsReplayed, IsFirstFault, InputFaults, Replays, Writes, Answers, AnswersWords, IsAccepted, Finishes, status_number};
+
+use crate::ends::{ReadError, read_all, write_all};
+use crate::form::{FormError, Script, read};
+use crate::replay::replay;
+use byte_ends::{Sink, Source};
+use spk_nums::Memory;
+use std::alloc::Global;
+
+/// How a call of `speck` ended.
+#[derive(Clone, Copy, Debug, PartialEq, Eq)]
+pub enum Status {
+    /// The input was read to its end, and all output was taken.
+    Done,
+    /// The words are not understood.
+    Words,
+    /// The source failed.
+    ReadFault,
+    /// The sink failed.
+    WriteFault,
+    /// Memory was wanting.
+    Memory,
+    /// The source gave more than 1,048,576 bytes.
+    TooLong,
+    /// The input is no script of the form that is built; this is its first faulty line.
+    NotBuilt { line: u32 },
+}
+
+impl Status {
+    /// The number with which the program ends.
+    pub fn number(&self) -> u8
+        ensures { result ≡ status_number self.now }
+    {
+        match self {
+            Status::Done => 0,
+            Status::Words => 2,
+            Status::ReadFault => 4,
+            Status::WriteFault => 5,
+            Status::Memory => 6,
+            Status::TooLong => 7,
+            Status::NotBuilt { .. } => 8,
+        }
+    }
+}
+
+// Whether the words are the command `replay` alone.
+fn is_replay(words: &Vec<String>) -> bool
+    ensures { IsTrue result ↔ IsReplay (map string_bytes words.now.items) }
+{
+    match words.as_slice() {
+        [word] => word.as_str() == "replay",
+        _ => false,
+    }
+}
+
+// A status, and the text that is due with it.
+#[derive(Drop)]
+struct Answer {
+    status: Status,
+    text: String,
+}
+
+// A status whose line this is.
+fn line(alloc: Global, status: Status, text: &str) -> Result<Answer, Memory>
+    ensures status { IfOk result (λ answer. answer.status ≡ status) }
+    ensures text { IfOk result (λ answer. string_bytes answer.text ≡ text.now) }
+{
+    let text = String::from_str(alloc, text)?;
+    Ok(Answer { status, text })
+}
+
+// What is due for an input that was read to its end.
+fn judge_input(alloc: Global, bytes: &[u8]) -> Result<Answer, Memory>
+    requires { length bytes.now ≤ 1048576 }
+    ensures { IfOk result (λ answer. IsDueOf bytes.now answer.status (string_bytes answer.text)) }
+{
+    match read(alloc, bytes) {
+        Ok(script) => {
+            let Script {
+                setup,
+                lists,
+                items,
+            } = script;
+            let text = replay(alloc, &setup, lists, &items)?;
+            Ok(Answer {
+                status: Status::Done,
+                text,
+            })
+        }
+        Err(FormError::Memory) => Err(Memory),
+        Err(FormError::NotBuilt { line }) => {
+            let text = format!(in alloc; "line {line}: not built yet\n")?;
+            Ok(Answer {
+                status: Status::NotBuilt { line },
+                text,
+            })
+        }
+    }
+}
+
+// What is due: words are judged first, then reading, then the script.
+fn judge<S: Source>(alloc: Global, words: &Vec<String>, source: &mut S) -> Result<Answer, Memory>
+    ensures due { IfOk result (λ answer. IsDue record {
+      words = map string_bytes words.now.items;
+      left = S.left source.old;
+      left' = S.left source.new;
+      faults = S.faults source.old;
+      faults' = S.faults source.new;
+    } answer.status (string_bytes answer.text)) }
+    ensures most { GivesAtMost 1048577 (S.left source.old) (S.left source.new) }
+    ensures unread { (IsReplay (map string_bytes words.now.items) → ⊥) → source.new ≡ source.old }
+{
+    if !is_replay(words) {
+        return line(alloc, Status::Words, "words not understood\n");
+    }
+    match read_all(alloc, source) {
+        Ok(bytes) => judge_input(alloc, &bytes),
+        Err(ReadError::Memory) => Err(Memory),
+        Err(ReadError::Failed) => line(alloc, Status::ReadFault, "read failed\n"),
+        Err(ReadError::TooLong) => line(alloc, Status::TooLong, "too long\n"),
+    }
+}
+
+// Writes the text, and answers the status that is due with it, or that the sink failed.
+fn finish<K: Sink>(sink: &mut K, answer: &Answer) -> Status
+    ensures { Finishes answer.now.status (string_bytes answer.now.text) (K.faults sink.old) (K.faults sink.new) (K.held sink.old) (K.held sink.new) result }
+{
+    match write_all(sink, answer.text.as_bytes()) {
+        Ok(()) => answer.status,
+        Err(_) => Status::WriteFault,
+    }
+}
+
+/// Does all that the program does: takes the words, reads the source and writes the sink.
+pub fn speck<S: Source, K: Sink>(
+    alloc: Global,
+    words: &Vec<String>,
+    source: &mut S,
+    sink: &mut K,
+) -> Status
+    ensures given { result ≡ Status.Done → Replays (S.left source.old) (S.left source.new) (K.held sink.old) (K.held sink.new) }
+    ensures done { result ≡ Status.Done → IsReplay (map string_bytes words.now.items) }
+
+    // Words are judged first: for others nothing is read.
+    ensures words { result ≡ Status.Words → IsReplay (map string_bytes words.now.items) → ⊥ }
+    ensures other_words { (IsReplay (map string_bytes words.now.items) → ⊥) → AnswersWords result }
+    ensures unread { (IsReplay (map string_bytes words.now.items) → ⊥) → source.new ≡ source.old }
+
+    // Then reading, then the script.
+    ensures answers { IsReplay (map string_bytes words.now.items) → Answers (S.left source.old) result }
+    ensures not_built { (line : ℕ) → result ≡ Status.NotBuilt line → IsReplay (map string_bytes words.now.items) × InputFaults (S.left source.old) (S.left source.new) line }
+    ensures long { result ≡ Status.TooLong → IsReplay (map string_bytes words.now.items) × Gives 1048577 (S.left source.old) (S.left source.new) }
+    ensures most { GivesAtMost 1048577 (S.left source.old) (S.left source.new) }
+    ensures read { result ≡ Status.ReadFault → HasRisen (S.faults source.old) (S.faults source.new) }
+    ensures sure_source { ((s : S) → S.faults s ≡ 0) → result ≡ Status.ReadFault → ⊥ }
+
+    // Then writing.
+    ensures writes { Writes record {
+      words = map string_bytes words.now.items;
+      left = S.left source.old;
+      left' = S.left source.new;
+      faults = S.faults source.old;
+      faults' = S.faults source.new;
+    } (K.held sink.old) (K.held sink.new) result }
+    ensures write { result ≡ Status.WriteFault → HasRisen (K.faults sink.old) (K.faults sink.new) }
+    ensures sure_sink { ((k : K) → K.faults k ≡ 0) → result ≡ Status.WriteFault → ⊥ }
+    ensures complete { IsReplay (map string_bytes words.now.items) → IsAccepted (S.left source.old)
+        → (HasRisen (S.faults source.old) (S.faults source.new) → ⊥)
+        → (HasRisen (K.faults sink.old) (K.faults sink.new) → ⊥)
+        → (result ≡ Status.Done) ⊎ (result ≡ Status.Memory) }
+{
+    match judge(alloc, words, source) {
+        Ok(answer) => finish(sink, &answer),
+        Err(Memory) => Status::Memory,
+    }
+}

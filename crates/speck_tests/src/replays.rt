@@ -1,0 +1,238 @@
+//! The top call over sources and sinks in memory.
+
+ghost use Rattle.std.specs.Prelude.{◌≡◌};
+
+use byte_ends::{MemSink, MemSource, SureSink, SureSource};
+use speck_run::{Status, speck};
+use std::alloc::Global;
+use std::test::Fail;
+
+const MACHINE: &str = "speck 1\ncores 2\nframes 32\ngrant 100 0 1\ngrant 100 0 1\n";
+
+const ENTRIES: &str =
+    "  0 range 8 24\n  1 table 0\n  2 pages 2\n  3 comp 3\n  4 thread 4\n  5 thread 5\n  12 tcap 6\n  13 tcap 7\n";
+
+const COPIES: &str = "core 0\ncopy 0 1 20\ncore 1\ncopy 0 1 20\n";
+
+const RACED: &str = "core 0\ncopy 0 1 20\ncore 1\ncopy 0 1 20\norder\n0 0 1 1 0 1\n";
+
+const EMPTY: &str = "core 0\nlook 63\ncore 1\ncopy 62 1 20\n";
+
+const COPIED: &str = "  20 range 8 24\n";
+
+// The first hundred bytes of the raced pair's text.
+const FRONT: &str =
+    "0.1 copy 0 1 20 = ok\n1.1 copy 0 1 20 = raced\n  0 range 8 24\n  1 table 0\n  2 pages 2\n  3 comp 3\n  4 t";
+
+// How bytes are moved: the most a read and a write, and the calls that fail.
+#[derive(Clone, Copy)]
+struct Ends {
+    read_most: usize,
+    write_most: usize,
+    read_fails: u32,
+    write_fails: u32,
+    room: usize,
+}
+
+const AMPLE: Ends = Ends {
+    read_most: 1_000_000,
+    write_most: 1_000_000,
+    read_fails: 0,
+    write_fails: 0,
+    room: 4096,
+};
+
+fn list_of(alloc: Global, words: &[&str]) -> Result<Vec<String>, Fail> {
+    let mut list = Vec::new(alloc);
+    for word in words {
+        let word = String::from_str(alloc, word)?;
+        list.push(word)?;
+    }
+    Ok(list)
+}
+
+// Whether the call ends with this status, and the sink then holds this text.
+fn answers(
+    alloc: Global,
+    words: &[&str],
+    input: &[u8],
+    ends: &Ends,
+    status: Status,
+    text: &str,
+) -> Result<bool, Fail> {
+    let words = list_of(alloc, words)?;
+    let bytes = Vec::from_slice(alloc, input)?;
+    let read_fails = Vec::from_slice(alloc, &[ends.read_fails])?;
+    let write_fails = Vec::from_slice(alloc, &[ends.write_fails])?;
+    let mut source = MemSource::new(bytes, ends.read_most.max(1), read_fails);
+    let mut sink = MemSink::new(alloc, ends.room, ends.write_most.max(1), write_fails)?;
+    let answer = speck(alloc, &words, &mut source, &mut sink);
+    Ok(answer == status && sink.bytes() == text.as_bytes())
+}
+
+// Whether the script of these lines behind the machine's ends with this status and text.
+fn replays(
+    alloc: Global,
+    lines: &str,
+    ends: &Ends,
+    status: Status,
+    text: &str,
+) -> Result<bool, Fail> {
+    let input = format!(in alloc; "{MACHINE}{lines}")?;
+    answers(alloc, &["replay"], input.as_bytes(), ends, status, text)
+}
+
+// Whether the script of these lines ends with these reply lines and entry lines.
+fn is_done(
+    alloc: Global,
+    lines: &str,
+    ends: &Ends,
+    replies: &str,
+    added: &str,
+) -> Result<bool, Fail> {
+    let text = format!(in alloc; "{replies}{ENTRIES}{added}")?;
+    replays(alloc, lines, ends, Status::Done, text.as_str())
+}
+
+// Whether the script of these lines is faulty at this line.
+fn is_faulty(alloc: Global, lines: &str, line: u32) -> Result<bool, Fail> {
+    let text = format!(in alloc; "line {line}: not built yet\n")?;
+    replays(
+        alloc,
+        lines,
+        &AMPLE,
+        Status::NotBuilt { line },
+        text.as_str(),
+    )
+}
+
+#[test]
+fn two_cores_copy_and_look(rt: HostRuntime) -> Result<(), Fail> {
+    let alloc = rt.alloc();
+    let raced = "0.1 copy 0 1 20 = ok\n1.1 copy 0 1 20 = raced\n";
+    let by_one = Ends {
+        read_most: 1,
+        write_most: 1,
+        ..AMPLE
+    };
+    let occupied = "0.1 copy 0 1 20 = ok\n1.1 copy 0 1 20 = occupied\n";
+    let empty = "0.1 look 63 = empty\n1.1 copy 62 1 20 = empty\n";
+    assert!(rt; is_done(alloc, RACED, &AMPLE, raced, COPIED)?);
+    assert!(rt; is_done(alloc, RACED, &by_one, raced, COPIED)?);
+    assert!(rt; is_done(alloc, COPIES, &AMPLE, occupied, COPIED)?);
+    assert!(rt; is_done(alloc, EMPTY, &AMPLE, empty, "")?);
+    Ok(())
+}
+
+#[test]
+fn a_line_that_cannot_stand_is_told(rt: HostRuntime) -> Result<(), Fail> {
+    let rows = [
+        ("core 0\nlook 64\ncore 1\n", 7),
+        ("core 0\nlook 07\ncore 1\n", 7),
+        ("core 0\nlook  7\ncore 1\n", 7),
+        ("core 0\ncopy 0 2 20\ncore 1\n", 7),
+        ("core 0\nlook 7\n", 8),
+        ("core 0\ncore 1\nlook 7", 8),
+        ("core 0\ncore 1\norder\n0 1\n0 2\n", 10),
+        ("core 0\ncore 1\norder\n\n", 9),
+        ("core 1\n", 6),
+    ];
+    for (lines, line) in rows {
+        assert!(rt; is_faulty(rt.alloc(), lines, line)?, "at line {line}");
+    }
+    Ok(())
+}
+
+#[test]
+fn faults_have_their_statuses(rt: HostRuntime) -> Result<(), Fail> {
+    let alloc = rt.alloc();
+    let second_write = Ends {
+        write_most: 100,
+        write_fails: 2,
+        ..AMPLE
+    };
+    let full = Ends { room: 10, ..AMPLE };
+    let first_read = Ends {
+        read_fails: 1,
+        ..AMPLE
+    };
+    assert!(rt; replays(alloc, RACED, &second_write, Status::WriteFault, FRONT)?);
+    assert!(rt; replays(alloc, RACED, &full, Status::WriteFault, "0.1 copy 0")?);
+    assert!(rt;
+        replays(
+            alloc,
+            RACED,
+            &first_read,
+            Status::ReadFault,
+            "read failed\n"
+        )?
+    );
+    Ok(())
+}
+
+#[test]
+fn words_and_length_are_judged_first(rt: HostRuntime) -> Result<(), Fail> {
+    let alloc = rt.alloc();
+    let rows: [&[&str]; 4] = [&[], &["-h"], &["replay", "1"], &["make"]];
+    for words in rows {
+        assert!(rt;
+            answers(
+                alloc,
+                words,
+                b"",
+                &AMPLE,
+                Status::Words,
+                "words not understood\n"
+            )?
+        );
+    }
+    let spaces = vec![in alloc; b' '; 1_048_577]?;
+    let replay = ["replay"];
+    assert!(rt;
+        answers(
+            alloc,
+            &replay,
+            &spaces,
+            &AMPLE,
+            Status::TooLong,
+            "too long\n"
+        )?
+    );
+    let first = Status::NotBuilt { line: 1 };
+    assert!(rt;
+        answers(
+            alloc,
+            &replay,
+            &spaces[1..],
+            &AMPLE,
+            first,
+            "line 1: not built yet\n"
+        )?
+    );
+    Ok(())
+}
+
+// Sure ends never fail, so neither fault is answered.
+fn sure_status(
+    alloc: Global,
+    words: &Vec<String>,
+    source: &mut SureSource,
+    sink: &mut SureSink,
+) -> Status
+    ensures read { result ≡ Status.ReadFault → ⊥ }
+    ensures write { result ≡ Status.WriteFault → ⊥ }
+{
+    speck(alloc, words, source, sink)
+}
+
+#[test]
+fn sure_ends_have_no_faults(rt: HostRuntime) -> Result<(), Fail> {
+    let words = list_of(rt.alloc(), &["replay"])?;
+    let input = format!(in rt.alloc(); "{MACHINE}{COPIES}")?;
+    let bytes = Vec::from_slice(rt.alloc(), input.as_bytes())?;
+    let mut source = SureSource::new(bytes, 7);
+    let mut sink = SureSink::new();
+    let status = sure_status(rt.alloc(), &words, &mut source, &mut sink);
+    assert_eq!(rt; status.number(), 0);
+    Ok(())
+}
