@@ -128,7 +128,8 @@ fn judge<S: Source>(alloc: Global, words: &Vec<String>, source: &mut S) -> Resul
 
 // Writes the text, and answers the status that is due with it, or that the sink failed.
 fn finish<K: Sink>(sink: &mut K, answer: &Answer) -> Status
-    ensures { Finishes answer.now.status (string_bytes answer.now.text) (K.faults sink.old) (K.faults sink.new) (K.held sink.old) (K.held sink.new) result }
+    ensures { Finishes answer.now.status (string_bytes answer.now.text)
+        (K.faults sink.old) (K.faults sink.new) (K.held sink.old) (K.held sink.new) result }
 {
     match write_all(sink, answer.text.as_bytes()) {
         Ok(()) => answer.status,
@@ -136,14 +137,24 @@ fn finish<K: Sink>(sink: &mut K, answer: &Answer) -> Status
     }
 }
 
-/// Does all that the program does: takes the words, reads the source and writes the sink.
+/// Does all that the program does: judges the words, reads the source, takes the script and writes
+/// the sink.
+///
+/// Words other than `replay` alone are `Words`, and nothing is read. A source that fails is
+/// `ReadFault`, and one that gives a byte past 1,048,576 is `TooLong`; no more than that byte is
+/// taken. An input that is no script of the form that is built is `NotBuilt`, at its first faulty
+/// line. Else the script's steps are taken and their text is written, and the status is `Done`.
+/// Each of the other statuses writes its line in place of the text. A sink that fails is
+/// `WriteFault`, and holds a prefix of what was due. `Memory` may come in place of any status, and
+/// has written nothing.
 pub fn speck<S: Source, K: Sink>(
     alloc: Global,
     words: &Vec<String>,
     source: &mut S,
     sink: &mut K,
 ) -> Status
-    ensures given { result ≡ Status.Done → Replays (S.left source.old) (S.left source.new) (K.held sink.old) (K.held sink.new) }
+    ensures given { result ≡ Status.Done
+        → Replays (S.left source.old) (S.left source.new) (K.held sink.old) (K.held sink.new) }
     ensures done { result ≡ Status.Done → IsReplay (map string_bytes words.now.items) }
 
     // Words are judged first: for others nothing is read.
@@ -152,11 +163,18 @@ pub fn speck<S: Source, K: Sink>(
     ensures unread { (IsReplay (map string_bytes words.now.items) → ⊥) → source.new ≡ source.old }
 
     // Then reading, then the script.
-    ensures answers { IsReplay (map string_bytes words.now.items) → Answers (S.left source.old) result }
-    ensures not_built { (line : ℕ) → result ≡ Status.NotBuilt line → IsReplay (map string_bytes words.now.items) × InputFaults (S.left source.old) (S.left source.new) line }
-    ensures long { result ≡ Status.TooLong → IsReplay (map string_bytes words.now.items) × Gives 1048577 (S.left source.old) (S.left source.new) }
+    ensures answers { IsReplay (map string_bytes words.now.items)
+        → Answers (S.left source.old) result }
+    ensures not_built { (line : ℕ) → result ≡ Status.NotBuilt line
+        → IsReplay (map string_bytes words.now.items)
+        × InputFaults (S.left source.old) (S.left source.new) line }
+    ensures long { result ≡ Status.TooLong
+        → IsReplay (map string_bytes words.now.items)
+        × Gives 1048577 (S.left source.old) (S.left source.new) }
     ensures most { GivesAtMost 1048577 (S.left source.old) (S.left source.new) }
-    ensures read { result ≡ Status.ReadFault → HasRisen (S.faults source.old) (S.faults source.new) }
+    ensures read { result ≡ Status.ReadFault
+        → IsReplay (map string_bytes words.now.items)
+        × HasRisen (S.faults source.old) (S.faults source.new) }
     ensures sure_source { ((s : S) → S.faults s ≡ 0) → result ≡ Status.ReadFault → ⊥ }
 
     // Then writing.
@@ -167,9 +185,11 @@ pub fn speck<S: Source, K: Sink>(
       faults = S.faults source.old;
       faults' = S.faults source.new;
     } (K.held sink.old) (K.held sink.new) result }
-    ensures write { result ≡ Status.WriteFault → HasRisen (K.faults sink.old) (K.faults sink.new) }
+    ensures write { result ≡ Status.WriteFault
+        → HasRisen (K.faults sink.old) (K.faults sink.new) }
     ensures sure_sink { ((k : K) → K.faults k ≡ 0) → result ≡ Status.WriteFault → ⊥ }
-    ensures complete { IsReplay (map string_bytes words.now.items) → IsAccepted (S.left source.old)
+    ensures complete { IsReplay (map string_bytes words.now.items)
+        → IsAccepted (S.left source.old)
         → (HasRisen (S.faults source.old) (S.faults source.new) → ⊥)
         → (HasRisen (K.faults sink.old) (K.faults sink.new) → ⊥)
         → (result ≡ Status.Done) ⊎ (result ≡ Status.Memory) }
