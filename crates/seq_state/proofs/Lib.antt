@@ -1,0 +1,17 @@
+mod Changes
+mod Within
+mod Agrees
+mod AloneLaw
+mod Sums
+mod Sound
+mod SoundSteps
+mod SoundRemovals
+mod Facts
+mod SoundCalls
+mod SoundStart
+mod SoundRuns
+mod Ticks
+mod TicksLaw
+mod Refs
+mod RefsLaw
+mod Rows
