@@ -57,7 +57,7 @@ rows_front t ts n e =
       ∙ ap (λ (ws : List Word). record { number = t.line; words = t.text.now ∷ texts (take m ts) } ∷ rows_of ws) (drop_views ts m)
       ∙ ap (λ k. record { number = t.line; words = texts (take k (t ∷ ts)) } ∷ rows_of (views (drop k (t ∷ ts)))) (sym one)
 
-rows_cut : (tokens : List Token) (at n : ℕ) (d : Token) → at < length tokens → n ≡ words_in (get_or tokens at d).line (views (drop at tokens))
+pub rows_cut : (tokens : List Token) (at n : ℕ) (d : Token) → at < length tokens → n ≡ words_in (get_or tokens at d).line (views (drop at tokens))
     → rows_of (views (drop at tokens)) ≡ record { number = (get_or tokens at d).line; words = texts (take n (drop at tokens)) } ∷ rows_of (views (drop (at + n) tokens))
 rows_cut tokens at n d lt e =
     let t = get_or tokens at d in
@@ -76,10 +76,10 @@ line_words tokens at n = texts (take ((at + n) - at) (drop at tokens))
 abbrev pub Stands : List Token → ℕ → ℕ → Token → Type 0
 Stands tokens at n d = n ≡ words_in (get_or tokens at d).line (views (take (length tokens - at) (drop at tokens)))
 
-stands : (tokens : List Token) (at n : ℕ) (d : Token) → Stands tokens at n d → n ≡ words_in (get_or tokens at d).line (views (drop at tokens))
+pub stands : (tokens : List Token) (at n : ℕ) (d : Token) → Stands tokens at n d → n ≡ words_in (get_or tokens at d).line (views (drop at tokens))
 stands tokens at n d e = e ∙ ap (λ (ts : List Token). words_in (get_or tokens at d).line (views ts)) (take_rest tokens at)
 
-line_words_are : (tokens : List Token) (at n : ℕ) → line_words tokens at n ≡ texts (take n (drop at tokens))
+pub line_words_are : (tokens : List Token) (at n : ℕ) → line_words tokens at n ≡ texts (take n (drop at tokens))
 line_words_are tokens at n = let k : (at + n) - at ≡ n = omega arith in ap (λ i. texts (take i (drop at tokens))) k
 
 pub some_words : (tokens : List Token) (at n : ℕ) (d : Token) → at < length tokens → Stands tokens at n d → 0 < n

@@ -6,3 +6,4 @@ pub mod CallLines
 pub mod Heads
 pub mod Orders
 pub mod Readings
+pub mod Unbuilt

@@ -282,7 +282,8 @@ fn line_by(head: &Head, words: &[Token], first: FirstWord) -> Result<Line, Cause
     Ok(Line::Head(head?))
 }
 
-fn first_of(words: &[Token]) -> Option<FirstWord>
+/// The known first word of a line, if it has one.
+pub fn first_of(words: &[Token]) -> Option<FirstWord>
     ensures { result ≡ option_and_then first_word (slice_get (texts words.now) 0) }
 {
     match words.first() {

@@ -10,11 +10,13 @@ mod head;
 mod items;
 mod numerals;
 mod reading;
+mod unbuilt;
 
 pub use cause::{Cause, ReadFault};
 pub use items::MOST_ITEMS;
 pub use reading::{Script, read};
 pub use spk_nums::{How, Item};
+pub use unbuilt::first_unbuilt;
 
 #[cfg(test)]
 mod tests;

@@ -132,7 +132,7 @@ fn setup_of(head: &Head) -> Setup
 }
 
 // How many tokens at the front stand in a line.
-fn line_length(tokens: &[Token], line: u32) -> usize
+pub fn line_length(tokens: &[Token], line: u32) -> usize
     ensures value { result ≡ words_in line (views tokens.now) }
     ensures within { result ≤ length tokens.now }
 {
@@ -225,6 +225,7 @@ pub fn read<'a>(alloc: Global, source: &'a [u8]) -> Result<Script<'a>, ReadFault
     ensures value { Gives script_view result (script_of source.now) }
     // Its tokens are the words of the bytes.
     ensures tokens { IfOk result (λ s. views s.tokens.items ≡ words_of source.now) }
+    ensures few { IfOk result (λ s. length s.tokens.items ≤ length source.now) }
     ensures script { IfOk result IsScript }
 {
     let Scanned { words, ending } = scan(alloc, source)?;

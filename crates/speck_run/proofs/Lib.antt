@@ -4,8 +4,7 @@ pub mod Advance
 pub mod Boot
 pub mod Runs
 pub mod Finish
-pub mod Cuts
-pub mod Arguments
-pub mod Lines
 pub mod Pieces
 pub mod Command
+pub mod Accepted
+pub mod Due

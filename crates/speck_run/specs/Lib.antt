@@ -3,7 +3,5 @@ pub mod Machine
 pub mod Stands
 pub mod Written
 pub mod Ends
-pub mod Form
 pub mod Script
-pub mod Reading
 pub mod Top

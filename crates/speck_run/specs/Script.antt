@@ -1,15 +1,33 @@
--- A script as contracts see it.
-use Rattle.std.specs.Prelude.{◌≡◌, ◌<◌, map, length, All}
-use Rattle.speck_run.specs.declared.form.Script.{Script}
-use Rattle.speck_run.specs.Form.{ScriptValue}
-use Rattle.speck_run.specs.Machine.{AreLists}
+-- What an input is: a script that is carried out, a script that is not carried out today, or no script.
+use Rattle.std.specs.Prelude.{◌≡◌, ◌<◌, ℕ, List, length, All, Option, Some, None, Result, Ok, Err}
+use Rattle.kernel_history.specs.GivenSteps.{GivenSteps}
+use Rattle.script_reader.specs.declared.cause.Cause.{Cause}
+use Rattle.script_reader.specs.Readings.{Meaning, script_of}
+use Rattle.script_reader.specs.Unbuilt.{IsFirstUnbuilt}
 
--- What the script says.
-abbrev pub value_of : Script → ScriptValue
-value_of script = record { setup = script.setup; lists = map (λ v. v.items) script.lists.items; items = script.items.items }
+-- The bytes are this script.
+abbrev pub IsScript : List ℕ → Meaning → Type 0
+IsScript bytes script = script_of bytes ≡ Ok script
 
--- The machine can take it: its calls are built, each core has a list, and each item names a core.
-pub record IsRunnable (script : Script) : Type 0 where
-  pub built : AreLists (map (λ v. v.items) script.lists.items)
-  pub one_each : length script.lists.items ≡ script.setup.cores
-  pub named : All (λ item. item.core < script.setup.cores) script.items.items
+-- The bytes are no script, and this is their first fault: its line and its cause.
+abbrev pub IsFirstFault : List ℕ → ℕ → Cause → Type 0
+IsFirstFault bytes line cause = script_of bytes ≡ Err (record { line = line; cause = cause })
+
+-- The bytes are a script, each of whose lines is carried out today.
+pub record IsBuiltScript (bytes : List ℕ) : Type 0 where
+  pub script : Meaning
+  pub is_script : IsScript bytes script
+  pub built : IsFirstUnbuilt bytes None
+
+-- The bytes are a script, and this is the first of its lines that is not carried out today.
+pub record IsUnbuilt (bytes : List ℕ) (line : ℕ) : Type 0 where
+  pub script : Meaning
+  pub is_script : IsScript bytes script
+  pub first : IsFirstUnbuilt bytes (Some line)
+
+-- The bytes are a script, each of whose lines is carried out today, and the text is that of given steps of it.
+pub record IsReplayed (bytes text : List ℕ) : Type 0 where
+  pub script : Meaning
+  pub is_script : IsScript bytes script
+  pub built : IsFirstUnbuilt bytes None
+  pub steps : GivenSteps script.setup script.lists script.order text

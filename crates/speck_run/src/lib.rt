@@ -3,13 +3,11 @@
 
 mod ends;
 mod flight;
-mod form;
 mod lone;
 mod replay;
 mod seats;
 mod text;
 mod top;
-mod words;
 
 pub use flight::{Entry, Stage, Took, Turn};
 pub use lone::{LoneKernel, Moved};

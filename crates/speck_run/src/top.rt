@@ -3,12 +3,12 @@
 ghost use Rattle.std.specs.Prelude.{◌≡◌, ℕ, ◌≤◌, ◌⊎◌, ◌↔◌, IsTrue, IfOk, map, length, string_bytes};
 ghost use Rattle.byte_ends.specs.Ends.{HasRisen, Adds};
 ghost use Rattle.speck_run.specs.Ends.{Gives, GivesAll, GivesAtMost};
-ghost use Rattle.speck_run.specs.Top.{IsReplay, IsDue, IsDueOf, IsReplayed, IsFirstFault, InputFaults, Replays, Writes, Answers, AnswersWords, IsAccepted, Finishes, status_number};
+ghost use Rattle.speck_run.specs.Top.{IsReplay, IsDue, IsDueOf, InputFaults, InputUnbuilt, Replays, Writes, Answers, AnswersWords, IsAccepted, Finishes, script_line, not_built_line, status_number};
 
 use crate::ends::{ReadError, read_all, write_all};
-use crate::form::{FormError, Script, read};
 use crate::replay::replay;
 use byte_ends::{Sink, Source};
+use script_reader::{Cause, ReadFault, Script, first_unbuilt, read};
 use spk_nums::Memory;
 use std::alloc::Global;
 
@@ -19,6 +19,8 @@ pub enum Status {
     Done,
     /// The words are not understood.
     Words,
+    /// The input is no script; this is its first fault.
+    Script { line: u32, cause: Cause },
     /// The source failed.
     ReadFault,
     /// The sink failed.
@@ -27,7 +29,7 @@ pub enum Status {
     Memory,
     /// The source gave more than 1,048,576 bytes.
     TooLong,
-    /// The input is no script of the form that is built; this is its first faulty line.
+    /// The input is a script with a `calls` line or a call that is not built; this is the first such line.
     NotBuilt { line: u32 },
 }
 
@@ -39,6 +41,7 @@ impl Status {
         match self {
             Status::Done => 0,
             Status::Words => 2,
+            Status::Script { .. } => 3,
             Status::ReadFault => 4,
             Status::WriteFault => 5,
             Status::Memory => 6,
@@ -74,33 +77,54 @@ fn line(alloc: Global, status: Status, text: &str) -> Result<Answer, Memory>
     Ok(Answer { status, text })
 }
 
+// The answer to bytes that are no script.
+fn refuse(alloc: Global, line: u32, cause: Cause) -> Result<Answer, Memory>
+    ensures status { IfOk result (λ answer. answer.status ≡ Status.Script line cause) }
+    ensures text { IfOk result (λ answer. string_bytes answer.text ≡ script_line line cause) }
+{
+    let text = format!(in alloc; "line {line}: {cause}\n")?;
+    Ok(Answer {
+        status: Status::Script { line, cause },
+        text,
+    })
+}
+
+// The answer to a script whose first line that is not built is this.
+fn leave(alloc: Global, line: u32) -> Result<Answer, Memory>
+    ensures status { IfOk result (λ answer. answer.status ≡ Status.NotBuilt line) }
+    ensures text { IfOk result (λ answer. string_bytes answer.text ≡ not_built_line line) }
+{
+    let text = format!(in alloc; "line {line}: not built yet\n")?;
+    Ok(Answer {
+        status: Status::NotBuilt { line },
+        text,
+    })
+}
+
 // What is due for an input that was read to its end.
 fn judge_input(alloc: Global, bytes: &[u8]) -> Result<Answer, Memory>
     requires { length bytes.now ≤ 1048576 }
     ensures { IfOk result (λ answer. IsDueOf bytes.now answer.status (string_bytes answer.text)) }
 {
-    match read(alloc, bytes) {
-        Ok(script) => {
-            let Script {
-                setup,
-                lists,
-                items,
-            } = script;
-            let text = replay(alloc, &setup, lists, &items)?;
-            Ok(Answer {
-                status: Status::Done,
-                text,
-            })
-        }
-        Err(FormError::Memory) => Err(Memory),
-        Err(FormError::NotBuilt { line }) => {
-            let text = format!(in alloc; "line {line}: not built yet\n")?;
-            Ok(Answer {
-                status: Status::NotBuilt { line },
-                text,
-            })
-        }
+    let script = match read(alloc, bytes) {
+        Ok(script) => script,
+        Err(ReadFault::Memory) => return Err(Memory),
+        Err(ReadFault::Script { line, cause }) => return refuse(alloc, line, cause),
+    };
+    if let Some(line) = first_unbuilt(&script.tokens) {
+        return leave(alloc, line);
     }
+    let Script {
+        setup,
+        lists,
+        order,
+        ..
+    } = script;
+    let text = replay(alloc, &setup, lists, &order)?;
+    Ok(Answer {
+        status: Status::Done,
+        text,
+    })
 }
 
 // What is due: words are judged first, then reading, then the script.
@@ -142,8 +166,9 @@ fn finish<K: Sink>(sink: &mut K, answer: &Answer) -> Status
 ///
 /// Words other than `replay` alone are `Words`, and nothing is read. A source that fails is
 /// `ReadFault`, and one that gives a byte past 1,048,576 is `TooLong`; no more than that byte is
-/// taken. An input that is no script of the form that is built is `NotBuilt`, at its first faulty
-/// line. Else the script's steps are taken and their text is written, and the status is `Done`.
+/// taken. An input that is no script is `Script`, with its first fault. A script that has a `calls`
+/// line, or a call that is not built, is `NotBuilt`, at the first such line. Else the script's steps
+/// are taken and their text is written, and the status is `Done`.
 /// Each of the other statuses writes its line in place of the text. A sink that fails is
 /// `WriteFault`, and holds a prefix of what was due. `Memory` may come in place of any status, and
 /// has written nothing.
@@ -165,9 +190,12 @@ pub fn speck<S: Source, K: Sink>(
     // Then reading, then the script.
     ensures answers { IsReplay (map string_bytes words.now.items)
         → Answers (S.left source.old) result }
+    ensures script { (line : ℕ) (cause : Cause) → result ≡ Status.Script line cause
+        → IsReplay (map string_bytes words.now.items)
+        × InputFaults (S.left source.old) (S.left source.new) line cause }
     ensures not_built { (line : ℕ) → result ≡ Status.NotBuilt line
         → IsReplay (map string_bytes words.now.items)
-        × InputFaults (S.left source.old) (S.left source.new) line }
+        × InputUnbuilt (S.left source.old) (S.left source.new) line }
     ensures long { result ≡ Status.TooLong
         → IsReplay (map string_bytes words.now.items)
         × Gives 1048577 (S.left source.old) (S.left source.new) }

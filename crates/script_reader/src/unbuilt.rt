@@ -1,0 +1,44 @@
+//! What a script asks for that is not carried out today.
+
+ghost use Rattle.std.specs.Prelude.{IsTrue, ◌↔◌};
+ghost use Rattle.script_tokens.specs.Words.{views};
+ghost use Rattle.script_reader.specs.Arguments.{texts};
+ghost use Rattle.script_reader.specs.Readings.{rows_of};
+ghost use Rattle.script_reader.specs.Unbuilt.{IsBuiltLine, IsFirstUnbuiltOf};
+
+use crate::call_lines::call_line;
+use crate::first_words::FirstWord;
+use crate::head::first_of;
+use crate::reading::line_length;
+use script_tokens::Token;
+use spk_nums::is_built;
+
+fn is_built_line(words: &[Token]) -> bool
+    ensures { IsTrue result ↔ IsBuiltLine (texts words.now) }
+{
+    match first_of(words) {
+        Some(FirstWord::Calls) => false,
+        Some(FirstWord::Call(verb)) => match call_line(words, verb) {
+            Ok(call) => is_built(&call),
+            Err(_) => false,
+        },
+        _ => true,
+    }
+}
+
+/// The first line of a script's words that is not carried out today, if there is one: a `calls` line,
+/// or the line of a call that is not built.
+pub fn first_unbuilt(tokens: &[Token]) -> Option<u32>
+    ensures { IsFirstUnbuiltOf (rows_of (views tokens.now)) result }
+{
+    let mut at = 0;
+    'lines: while at < tokens.len() {
+        let line = tokens[at].line;
+        let end = at + line_length(&tokens[at..], line);
+        if !is_built_line(&tokens[at..end]) {
+            return Some(line);
+        }
+        at = end;
+    }
+    None
+}
