@@ -76,10 +76,10 @@ line_call head words call e built = first_call head words (option_and_then first
 call_fits : (n : ℕ) (d : Draft_of) (call : Call) → Fits n d → IsBuilt call → All (IsList (n + 1)) (with_call d.lists d.head.core call)
 call_fits n d call fits built =
     let old : IsList n (calls_of d.lists d.head.core) =
-      elim (cases_lt d.head.core (length d.lists)) [
-        | inl lt ↦ All-get_or (IsList n) d.lists d.head.core [] lt fits
-        | inr le ↦ subst (IsList n) (sym (get_or_past d.lists d.head.core [] le)) (All-nil IsBuilt, omega arith)
-      ] in
+    elim (cases_lt d.head.core (length d.lists)) [
+      | inl lt ↦ All-get_or (IsList n) d.lists d.head.core [] lt fits
+      | inr le ↦ subst (IsList n) (sym (get_or_past d.lists d.head.core [] le)) (All-nil IsBuilt, omega arith)
+    ] in
     let size = length-append (calls_of d.lists d.head.core) (call ∷ []) in
     let few = old.1 in
     All-set (IsList (n + 1)) d.lists d.head.core (calls_of d.lists d.head.core ++ call ∷ [])
@@ -172,7 +172,7 @@ from_lines source m (Ok d) is e none few =
     let fits : Fits (0 + length (rows_of (words_of source))) d = lines_fit 0 no_draft d (rows_of (words_of source)) is no_lists_fit none in
     let rows = few_rows (words_of source) in
     let lists : AreLists (meaning_of d).lists =
-      small_lists (0 + length (rows_of (words_of source))) (meaning_of d).lists (omega arith) (All-take (IsList (0 + length (rows_of (words_of source)))) d.head.cores d.lists fits) in
+    small_lists (0 + length (rows_of (words_of source))) (meaning_of d).lists (omega arith) (All-take (IsList (0 + length (rows_of (words_of source)))) d.head.cores d.lists fits) in
     subst (λ (x : Meaning). AreLists x.lists) (end_lists d (ending_of source) m e) lists
 
 -- The lists of a script whose lines are all carried out can be run.

@@ -3,6 +3,7 @@
 ghost use Rattle.std.specs.Prelude.{◌≡◌};
 
 use byte_ends::{MemSink, MemSource, SureSink, SureSource};
+use script_reader::Cause;
 use speck_run::{Status, speck};
 use std::alloc::Global;
 use std::test::Fail;
@@ -15,6 +16,12 @@ const ENTRIES: &str =
 const COPIES: &str = "core 0\ncopy 0 1 20\ncore 1\ncopy 0 1 20\n";
 
 const RACED: &str = "core 0\ncopy 0 1 20\ncore 1\ncopy 0 1 20\norder\n0 0 1 1 0 1\n";
+
+// Both cores go on until their copies are ready, then to their decisions, then to their returns.
+const READY: &str = "core 0\ncopy 0 1 20\ncore 1\ncopy 0 1 20\norder\n0< 1< 0! 1! 0. 1.\n";
+
+// Each core goes on until its copy has returned.
+const RETURNED: &str = "core 0\ncopy 0 1 20\ncore 1\ncopy 0 1 20\norder\n0. 1.\n";
 
 const EMPTY: &str = "core 0\nlook 63\ncore 1\ncopy 62 1 20\n";
 
@@ -94,8 +101,8 @@ fn is_done(
     replays(alloc, lines, ends, Status::Done, text.as_str())
 }
 
-// Whether the script of these lines is faulty at this line.
-fn is_faulty(alloc: Global, lines: &str, line: u32) -> Result<bool, Fail> {
+// Whether the script of these lines is told that this line is the first that is not built.
+fn is_not_built(alloc: Global, lines: &str, line: u32) -> Result<bool, Fail> {
     let text = format!(in alloc; "line {line}: not built yet\n")?;
     replays(
         alloc,
@@ -104,6 +111,19 @@ fn is_faulty(alloc: Global, lines: &str, line: u32) -> Result<bool, Fail> {
         Status::NotBuilt { line },
         text.as_str(),
     )
+}
+
+// Whether these bytes are told that they are no script, with this first fault.
+fn is_refused(
+    alloc: Global,
+    bytes: &[u8],
+    line: u32,
+    cause: Cause,
+    text: &str,
+) -> Result<bool, Fail> {
+    let text = format!(in alloc; "line {line}: {text}\n")?;
+    let status = Status::Script { line, cause };
+    answers(alloc, &["replay"], bytes, &AMPLE, status, text.as_str())
 }
 
 #[test]
@@ -119,27 +139,115 @@ fn two_cores_copy_and_look(rt: HostRuntime) -> Result<(), Fail> {
     let empty = "0.1 look 63 = empty\n1.1 copy 62 1 20 = empty\n";
     assert!(rt; is_done(alloc, RACED, &AMPLE, raced, COPIED)?);
     assert!(rt; is_done(alloc, RACED, &by_one, raced, COPIED)?);
+    assert!(rt; is_done(alloc, READY, &AMPLE, raced, COPIED)?);
+    assert!(rt; is_done(alloc, RETURNED, &AMPLE, occupied, COPIED)?);
     assert!(rt; is_done(alloc, COPIES, &AMPLE, occupied, COPIED)?);
     assert!(rt; is_done(alloc, EMPTY, &AMPLE, empty, "")?);
     Ok(())
 }
 
 #[test]
-fn a_line_that_cannot_stand_is_told(rt: HostRuntime) -> Result<(), Fail> {
+fn one_core_looks_at_its_table(rt: HostRuntime) -> Result<(), Fail> {
+    let script =
+        "speck 1\n\ncores 01 # alone\r\nframes 8\ngrant 100 0 1\nepochs 7\ncore 0\n\tlook 000#0\nlook 63\ncore 0\nlook 12";
+    let text =
+        "0.1 look 0 = ok range 6 2\n0.2 look 63 = empty\n0.3 look 12 = ok tcap 5\n  0 range 6 2\n  1 table 0\n  2 pages 2\n  3 comp 3\n  4 thread 4\n  12 tcap 5\n";
+    assert!(rt;
+        answers(
+            rt.alloc(),
+            &["replay"],
+            script.as_bytes(),
+            &AMPLE,
+            Status::Done,
+            text
+        )?
+    );
+    Ok(())
+}
+
+#[test]
+fn the_first_line_that_is_not_built_is_told(rt: HostRuntime) -> Result<(), Fail> {
     let rows = [
-        ("core 0\nlook 64\ncore 1\n", 7),
-        ("core 0\nlook 07\ncore 1\n", 7),
-        ("core 0\nlook  7\ncore 1\n", 7),
-        ("core 0\ncopy 0 2 20\ncore 1\n", 7),
-        ("core 0\nlook 7\n", 8),
-        ("core 0\ncore 1\nlook 7", 8),
-        ("core 0\ncore 1\norder\n0 1\n0 2\n", 10),
-        ("core 0\ncore 1\norder\n\n", 9),
-        ("core 1\n", 6),
+        ("core 0\nlook 64\n", 7),
+        ("core 0\nlook 63\nlook 65535\nlook 64\n", 8),
+        ("core 0\ncopy 0 2 20\n", 7),
+        ("core 0\ncopy 0 1 64\n", 7),
+        ("core 1\nlook 0\n\ncore 0\nremove 1 20\n", 10),
+        ("core 0\nmake tcap 0 8 1 20 0 5\norder\n0\n", 7),
+        ("calls 4194304\ncore 0\nlook 64\n", 6),
+        ("calls 2\n", 6),
     ];
     for (lines, line) in rows {
-        assert!(rt; is_faulty(rt.alloc(), lines, line)?, "at line {line}");
+        assert!(rt; is_not_built(rt.alloc(), lines, line)?, "at line {line}");
     }
+    Ok(())
+}
+
+#[test]
+fn the_first_fault_of_a_script_is_told(rt: HostRuntime) -> Result<(), Fail> {
+    let alloc = rt.alloc();
+    let rows = [
+        ("speck 1\ncores 2\nfra", 3, Cause::S2, "S2 unknown word"),
+        ("speck 1\ncores 9", 2, Cause::S5, "S5 number out of range"),
+        ("", 1, Cause::S7, "S7 section out of place"),
+        (
+            "speck 1\ncores 2\nframes 32\ngrant 100 0 1\n",
+            5,
+            Cause::S7,
+            "S7 section out of place",
+        ),
+    ];
+    for (script, line, cause, text) in rows {
+        assert!(rt;
+            is_refused(alloc, script.as_bytes(), line, cause, text)?,
+            "{text}"
+        );
+    }
+    Ok(())
+}
+
+#[test]
+fn a_fault_of_a_call_is_told_at_its_line(rt: HostRuntime) -> Result<(), Fail> {
+    let alloc = rt.alloc();
+    // A call that is not built stands before each fault: the fault is told all the same.
+    let rows = [
+        ("look", 7, Cause::S3, "S3 missing word"),
+        ("look x", 7, Cause::S1, "S1 bad number"),
+        ("look 65536", 7, Cause::S5, "S5 number out of range"),
+        ("look 1 2", 7, Cause::S4, "S4 extra word"),
+        ("core 2", 7, Cause::S6, "S6 no such core"),
+        (
+            "look 64\ngrant 1 0 1",
+            8,
+            Cause::S7,
+            "S7 section out of place",
+        ),
+        ("look 64\norder\n0 0? 2", 9, Cause::S2, "S2 unknown word"),
+        ("look 64\norder\n0 1! 2.", 9, Cause::S6, "S6 no such core"),
+        ("look \u{7f}", 7, Cause::S8, "S8 not ASCII"),
+    ];
+    for (lines, line, cause, text) in rows {
+        let script = format!(in alloc; "{MACHINE}core 0\n{lines}")?;
+        assert!(rt;
+            is_refused(alloc, script.as_bytes(), line, cause, text)?,
+            "{text}"
+        );
+    }
+    Ok(())
+}
+
+#[test]
+fn a_foreign_byte_and_one_line_too_many_are_told(rt: HostRuntime) -> Result<(), Fail> {
+    let alloc = rt.alloc();
+    let mut foreign = Vec::from_slice(alloc, MACHINE.as_bytes())?;
+    foreign.extend_from_slice(b"core 0\nlook ")?;
+    foreign.push(200)?;
+    assert!(rt; is_refused(alloc, &foreign, 7, Cause::S8, "S8 not ASCII")?);
+    let mut long = Vec::from_slice(alloc, MACHINE.as_bytes())?;
+    let feeds = vec![in alloc; b'\n'; 19_995]?;
+    long.extend_from_slice(&feeds)?;
+    long.push(b' ')?;
+    assert!(rt; is_refused(alloc, &long, 20_001, Cause::S9, "S9 too many")?);
     Ok(())
 }
 
@@ -173,7 +281,14 @@ fn faults_have_their_statuses(rt: HostRuntime) -> Result<(), Fail> {
 #[test]
 fn words_and_length_are_judged_first(rt: HostRuntime) -> Result<(), Fail> {
     let alloc = rt.alloc();
-    let rows: [&[&str]; 4] = [&[], &["-h"], &["replay", "1"], &["make"]];
+    let rows: [&[&str]; 6] = [
+        &[],
+        &["-h"],
+        &["replay", "1"],
+        &["make"],
+        &["make", "4294967296"],
+        &["Replay"],
+    ];
     for words in rows {
         assert!(rt;
             answers(
@@ -198,17 +313,7 @@ fn words_and_length_are_judged_first(rt: HostRuntime) -> Result<(), Fail> {
             "too long\n"
         )?
     );
-    let first = Status::NotBuilt { line: 1 };
-    assert!(rt;
-        answers(
-            alloc,
-            &replay,
-            &spaces[1..],
-            &AMPLE,
-            first,
-            "line 1: not built yet\n"
-        )?
-    );
+    assert!(rt; is_refused(alloc, &spaces[1..], 2, Cause::S7, "S7 section out of place")?);
     Ok(())
 }
 

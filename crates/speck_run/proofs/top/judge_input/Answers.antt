@@ -12,7 +12,7 @@ replay-requires-clause-built c =
     let tokens = c.in-Ok.ensures.tokens in
     let words : views c.deref.result.now ≡ words_of bytes = ap views c.deref.ensures.value ∙ tokens in
     let first : IsFirstUnbuilt bytes None =
-      subst (λ ws. IsFirstUnbuiltOf (rows_of ws) None) words c.in_default.ensures in
+    subst (λ ws. IsFirstUnbuiltOf (rows_of ws) None) words c.in_default.ensures in
     let count = ap length tokens in
     let few = c.in-Ok.ensures.few in
     let small = c.requires in
