@@ -61,10 +61,10 @@ call_added lists i core call old new lt at is more =
 pub calls_in_range : (d : Draft_of) (core : ℕ) (call : Call) → All (All InLimits) d.lists → InLimits call → All (All InLimits) (with_call d.lists core call)
 calls_in_range d core call limits fits =
     let old : All InLimits (calls_of d.lists core) =
-      elim (cases_lt core (length d.lists)) [
-        | inl lt ↦ All-get_or (All InLimits) d.lists core [] lt limits
-        | inr le ↦ subst (All InLimits) (sym (get_or_past d.lists core [] le)) (All-nil InLimits)
-      ] in
+    elim (cases_lt core (length d.lists)) [
+      | inl lt ↦ All-get_or (All InLimits) d.lists core [] lt limits
+      | inr le ↦ subst (All InLimits) (sym (get_or_past d.lists core [] le)) (All-nil InLimits)
+    ] in
     All-set (All InLimits) d.lists core (calls_of d.lists core ++ call ∷ []) (All-push InLimits (calls_of d.lists core) call old fits) limits
 
 pub call_kept : (d : Draft_of) (lists : List (List Call)) (call : Call) → IsDraft d → InLimits call → lists ≡ with_call d.lists d.head.core call → IsDraft (record d { lists = lists })

@@ -53,9 +53,9 @@ rows_front t ts n e =
     let m = words_in t.line (views ts) in
     let one : n ≡ suc m = e ∙ rw (eq-eqb t.line t.line refl) (add-one m) in
     rows_run (view t) (views ts)
-      ∙ ap (λ (ws : List (List ℕ)). record { number = t.line; words = t.text.now ∷ ws } ∷ rows_of (drop m (views ts))) (texts_views ts m)
-      ∙ ap (λ (ws : List Word). record { number = t.line; words = t.text.now ∷ texts (take m ts) } ∷ rows_of ws) (drop_views ts m)
-      ∙ ap (λ k. record { number = t.line; words = texts (take k (t ∷ ts)) } ∷ rows_of (views (drop k (t ∷ ts)))) (sym one)
+    ∙ ap (λ (ws : List (List ℕ)). record { number = t.line; words = t.text.now ∷ ws } ∷ rows_of (drop m (views ts))) (texts_views ts m)
+    ∙ ap (λ (ws : List Word). record { number = t.line; words = t.text.now ∷ texts (take m ts) } ∷ rows_of ws) (drop_views ts m)
+    ∙ ap (λ k. record { number = t.line; words = texts (take k (t ∷ ts)) } ∷ rows_of (views (drop k (t ∷ ts)))) (sym one)
 
 rows_cut : (tokens : List Token) (at n : ℕ) (d : Token) → at < length tokens → n ≡ words_in (get_or tokens at d).line (views (drop at tokens))
     → rows_of (views (drop at tokens)) ≡ record { number = (get_or tokens at d).line; words = texts (take n (drop at tokens)) } ∷ rows_of (views (drop (at + n) tokens))
@@ -65,8 +65,8 @@ rows_cut tokens at n d lt e =
     let cut : drop at tokens ≡ t ∷ rest = drop_more tokens at d lt in
     let front = rows_front t rest n (e ∙ ap (λ (ts : List Token). words_in t.line (views ts)) cut) in
     ap (λ (ts : List Token). rows_of (views ts)) cut ∙ front
-      ∙ ap (λ (ts : List Token). record { number = t.line; words = texts (take n ts) } ∷ rows_of (views (drop n ts))) (sym cut)
-      ∙ ap (λ (ts : List Token). record { number = t.line; words = texts (take n (drop at tokens)) } ∷ rows_of (views ts)) (drop-drop n at tokens)
+    ∙ ap (λ (ts : List Token). record { number = t.line; words = texts (take n ts) } ∷ rows_of (views (drop n ts))) (sym cut)
+    ∙ ap (λ (ts : List Token). record { number = t.line; words = texts (take n (drop at tokens)) } ∷ rows_of (views ts)) (drop-drop n at tokens)
 
 -- the words of the line at a place, as the code cuts them
 abbrev pub line_words : List Token → ℕ → ℕ → List (List ℕ)
