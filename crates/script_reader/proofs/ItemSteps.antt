@@ -1,14 +1,12 @@
 -- Taking the items of a line, one after another.
-use Rattle.std.proofs.Common.{◌≡◌, ℕ, ◌+◌, ◌<◌, ◌≤◌, Bool, true, false, cond, ltb, List, [], ◌∷◌, ◌++◌, length, get_or, drop, map, All, Result, Ok, refl, sym, ap, subst, ◌∙◌, arith}
+use Rattle.std.proofs.Common.{◌≡◌, ℕ, ◌+◌, ◌<◌, List, [], ◌∷◌, ◌++◌, length, get_or, drop, Ok, refl, sym, ap, subst, ◌∙◌}
 use Rattle.std.proofs.lemmas.Bool.{lt-ltb}
 use Rattle.std.proofs.lemmas.List.{drop_more}
 use Rattle.std.proofs.lemmas.List.Elements.{All-push}
 use Rattle.spk_nums.specs.declared.steps.Item.{Item}
 use Rattle.script_tokens.specs.declared.token.Token.{Token}
-use Rattle.script_reader.specs.declared.cause.Cause.{Cause}
-use Rattle.script_reader.specs.Causes.{◌>>=◌}
 use Rattle.script_reader.specs.Arguments.{texts}
-use Rattle.script_reader.specs.Orders.{item_of, with_item, items_of}
+use Rattle.script_reader.specs.Orders.{item_of, items_of}
 use Rattle.script_reader.specs.Readings.{BelowCores}
 
 -- the items so far, and what the words behind still give

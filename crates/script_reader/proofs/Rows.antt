@@ -1,14 +1,13 @@
 -- Lines, from the words that they have.
-use Rattle.std.proofs.Common.{◌≡◌, ℕ, zero, suc, ◌+◌, ◌-◌, ◌<◌, ◌≤◌, Bool, true, false, cond, eqb, List, [], ◌∷◌, length, get_or, take, drop, map, Result, Ok, Err, refl, sym, ap, subst, ◌∙◌, arith, add-one, inl, inr}
+use Rattle.std.proofs.Common.{◌≡◌, ℕ, zero, suc, ◌+◌, ◌-◌, ◌<◌, ◌≤◌, true, false, eqb, List, [], ◌∷◌, length, get_or, take, drop, map, Ok, Err, refl, sym, ap, ◌∙◌, arith, add-one, inl, inr}
 use Rattle.std.proofs.lemmas.Bool.{cases_Bool, eqb-true, eqb-false, eq-eqb, ne_eqb}
 use Rattle.std.proofs.lemmas.List.{drop_more, drop_all, drop-drop, take_rest, length-drop}
 use Rattle.script_tokens.specs.declared.token.Token.{Token}
 use Rattle.script_tokens.specs.Words.{Word, view, views}
-use Rattle.script_reader.specs.declared.cause.Cause.{Cause}
 use Rattle.script_reader.specs.declared.cause.LineFault.{LineFault}
 use Rattle.script_reader.specs.declared.cause.LineFault.TheVariants as line_fault
 use Rattle.script_reader.specs.Arguments.{texts}
-use Rattle.script_reader.specs.Readings.{Row, with_word, rows_of, words_in, Draft_of, First_fault, draft_behind, draft_from, and_then, at_line, fault_at, Takes, Fails, IsDraft}
+use Rattle.script_reader.specs.Readings.{Row, with_word, rows_of, words_in, Draft_of, draft_behind, draft_from, fault_at, Takes, Fails, IsDraft}
 
 -- the texts of words
 abbrev texts_of : List Word → List (List ℕ)

@@ -1,21 +1,12 @@
 -- Items of an order.
-use Rattle.std.proofs.Common.{◌≡◌, ℕ, ◌+◌, ◌-◌, ◌<◌, ◌≤◌, ◌^◌, Bool, true, false, cond, ltb, List, [], ◌∷◌, ◌++◌, length, get_or, take, drop, map, All, Option, Some, None, Result, Ok, Err, refl, sym, ap, subst, ◌∙◌, arith, inl, inr}
-use Rattle.std.specs.Prelude.{slice_get, IfOk}
-use Rattle.std.proofs.lemmas.Bool.{cases_Bool, lt-ltb, le-ltb}
-use Rattle.std.proofs.lemmas.List.{take_at, length-append, drop_more, drop_all, append-nil, length_push, map-append}
-use Rattle.std.proofs.lemmas.List.Elements.{All-push}
+use Rattle.std.proofs.Common.{◌≡◌, ℕ, ◌-◌, ◌<◌, ◌≤◌, true, List, [], ◌∷◌, ◌++◌, length, take, Some, None, Ok, Err, refl, ap, ◌∙◌, arith}
+use Rattle.std.specs.Prelude.{slice_get}
+use Rattle.std.proofs.lemmas.Bool.{lt-ltb, le-ltb}
+use Rattle.std.proofs.lemmas.List.{take_at, length-append}
 use Rattle.spk_nums.specs.declared.steps.How.{How}
-use Rattle.spk_nums.specs.declared.steps.Item.{Item}
-use Rattle.script_tokens.specs.declared.token.Token.{Token}
-use Rattle.script_reader.specs.declared.cause.Cause.{Cause}
-use Rattle.script_reader.specs.declared.cause.Cause.TheVariants.{S6, S9}
-use Rattle.script_reader.specs.declared.cause.LineFault.{LineFault}
-use Rattle.script_reader.specs.declared.cause.LineFault.TheVariants as line_fault
-use Rattle.script_reader.specs.Causes.{◌>>=◌}
+use Rattle.script_reader.specs.declared.cause.Cause.TheVariants.{S6}
 use Rattle.script_reader.specs.Numerals.{is_digits, value_of, number_of}
-use Rattle.script_reader.specs.Arguments.{texts}
-use Rattle.script_reader.specs.Orders.{Parts, how_of, suffixed, core_below, item_of, with_item, items_of}
-use Rattle.script_reader.specs.Readings.{BelowCores}
+use Rattle.script_reader.specs.Orders.{how_of, suffixed, core_below}
 use Rattle.script_reader.proofs.Digits.{digits_some, digits_none}
 
 slice_get_at : (front : List ℕ) (x : ℕ) → slice_get (front ++ x ∷ []) (length front) ≡ Some x

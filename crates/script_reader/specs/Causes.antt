@@ -1,6 +1,6 @@
 -- The causes: S1 bad number, S2 unknown word, S3 missing word, S4 extra word, S5 number out of range, S6 no such core,
 -- S7 section out of place, S8 not ASCII, S9 too many.
-use Rattle.std.specs.Prelude.{◌≡◌, ℕ, List, codes, Result, Ok, Err}
+use Rattle.std.specs.Prelude.{ℕ, List, codes, Result, Ok, Err}
 use Rattle.script_reader.specs.declared.cause.Cause.{Cause}
 use Rattle.script_reader.specs.declared.cause.Cause.TheVariants.{S1, S2, S3, S4, S5, S6, S7, S8, S9}
 

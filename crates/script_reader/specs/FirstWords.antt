@@ -1,5 +1,5 @@
 -- The words that a line may begin with.
-use Rattle.std.specs.Prelude.{ℕ, List, Bool, true, false, Option, Some, None, codes, if◌then◌else◌}
+use Rattle.std.specs.Prelude.{ℕ, List, Option, Some, None, codes, if◌then◌else◌}
 use Rattle.script_reader.specs.declared.first_words.Verb.{Verb}
 use Rattle.script_reader.specs.declared.first_words.Verb.TheVariants as verb
 use Rattle.script_reader.specs.declared.first_words.FirstWord.{FirstWord}

@@ -1,11 +1,10 @@
 -- A script as a whole: the lines of its bytes, one after another, and the end.
-use Rattle.std.specs.Prelude.{◌≡◌, ◌<◌, ℕ, List, [], ◌∷◌, ◌++◌, Bool, true, false, Result, Ok, Err, map, take, length, slice_get, slice_set, slice_index_or, ◌+◌, ◌-◌, ◌^◌, ◌==◌, All, replicate, if◌then◌else◌}
+use Rattle.std.specs.Prelude.{◌≡◌, ◌<◌, ◌≤◌, ℕ, List, [], ◌∷◌, ◌++◌, Bool, true, false, Result, Ok, Err, map, take, length, slice_set, slice_index_or, ◌+◌, ◌==◌, All, replicate, if◌then◌else◌}
 use Rattle.std.specs.Global.{Vec}
 use Rattle.spk_nums.specs.declared.calls.Call.{Call}
 use Rattle.spk_nums.specs.declared.steps.Item.{Item}
 use Rattle.spk_nums.specs.CallLimits.{InLimits}
 use Rattle.spk_nums.specs.Setting.{Setting}
-use Rattle.script_tokens.specs.declared.scanning.ByteFault.{ByteFault}
 use Rattle.script_tokens.specs.declared.scanning.ByteFault.TheVariants.{NotAscii, TooManyLines}
 use Rattle.script_tokens.specs.declared.scanning.Ending.{Ending}
 use Rattle.script_tokens.specs.declared.scanning.Ending.TheVariants.{Whole, Fault as Faulty}
@@ -200,3 +199,7 @@ pub record IsScript (s : Script) : Type 0 where
   pub lists : length s.lists.items ≡ s.setup.cores
   pub limits : All (All InLimits) (lists_of s.lists.items)
   pub below : BelowCores s.setup.cores s.order.items
+
+-- at most so many calls
+abbrev pub AtMost : ℕ → List Call → Type 0
+AtMost n calls = length calls ≤ n

@@ -115,9 +115,9 @@ pub fn core_at(words: &[Token], place: usize, cores: u8) -> Result<CoreNo, Cause
     ensures { result ≡ core_at (texts words.now) place cores }
 {
     let word = word_at(words, place)?;
-    let number = read_number(word).ok_or(Cause::S1)?;
-    if number < u64::from(cores) {
-        Ok(CoreNo::new(number as u8))
+    let core = read_number(word).ok_or(Cause::S1)?;
+    if core < u64::from(cores) {
+        Ok(CoreNo::new(core as u8))
     } else {
         Err(Cause::S6)
     }

@@ -1,12 +1,12 @@
 //! Reads a script, line by line.
 
-ghost use Rattle.std.specs.Prelude.{◌≡◌, ◌<◌, ◌≤◌, ◌^◌, true, false, [], length, replicate, IfOk, IfErr, OnOk};
+ghost use Rattle.std.specs.Prelude.{◌≡◌, ◌<◌, ◌≤◌, ◌^◌, true, false, [], length, replicate, All, IfOk, IfErr, OnOk};
 ghost use Rattle.script_tokens.specs.Words.{views, words_of, FewLines};
 ghost use Rattle.script_reader.specs.Arguments.{texts};
 ghost use Rattle.script_reader.specs.declared.cause.LineFault.TheVariants as line_fault;
 ghost use Rattle.script_reader.specs.declared.cause.ReadFault.TheVariants as read_fault;
 ghost use Rattle.script_reader.specs.Heads.{is_whole, IsHead};
-ghost use Rattle.script_reader.specs.Readings.{draft_view, script_view, draft_behind, draft_from, rows_of, script_of, no_draft, meaning_at, words_in, lists_of, with_call, behind_line, fault_at, is_order, setting_of, Takes, Leads, Gives, IsDraft, IsScript};
+ghost use Rattle.script_reader.specs.Readings.{draft_view, script_view, draft_behind, draft_from, rows_of, script_of, no_draft, meaning_at, words_in, lists_of, with_call, behind_line, fault_at, is_order, setting_of, Takes, Leads, Gives, IsDraft, IsScript, AtMost};
 
 use crate::cause::{Cause, LineFault, ReadFault};
 use crate::head::{Head, Line, Section, is_whole, line_of, no_head};
@@ -211,6 +211,21 @@ fn script_fault(line: u32, cause: Cause) -> ReadFault
     ReadFault::Script { line, cause }
 }
 
+// Reads the words of a script, and takes them line by line.
+#[tactic(auto, unfolding(crate::specs::Readings::script_of))]
+fn read_words<'a>(alloc: Global, source: &'a [u8]) -> Result<Script<'a>, ReadFault>
+    requires { length source.now < 2 ^ 32 }
+    ensures value { Gives script_view result (script_of source.now) }
+    ensures tokens { IfOk result (λ s. views s.tokens.items ≡ words_of source.now) }
+    ensures script { IfOk result IsScript }
+    ensures words { IfOk result (λ s. length s.tokens.items ≤ length source.now) }
+{
+    let Scanned { words, ending } = scan(alloc, source)?;
+    let mut draft = no_draft(alloc)?;
+    take_lines(&mut draft, &words)?;
+    finish(draft, ending, words)
+}
+
 /// Reads a script of fewer than 2^32 bytes.
 ///
 /// # Errors
@@ -218,18 +233,16 @@ fn script_fault(line: u32, cause: Cause) -> ReadFault
 /// `Script` where the bytes are no script, with their first fault: lines are judged one after another,
 /// and within a line the number of the line, its bytes, its first word and its arguments from left to
 /// right. `Memory` where memory is wanting.
-#[tactic(auto, unfolding(crate::specs::Readings::script_of))]
 pub fn read<'a>(alloc: Global, source: &'a [u8]) -> Result<Script<'a>, ReadFault>
     requires { length source.now < 2 ^ 32 }
     // What is read is what the bytes say, or their first fault.
     ensures value { Gives script_view result (script_of source.now) }
     // Its tokens are the words of the bytes.
     ensures tokens { IfOk result (λ s. views s.tokens.items ≡ words_of source.now) }
-    ensures few { IfOk result (λ s. length s.tokens.items ≤ length source.now) }
     ensures script { IfOk result IsScript }
+    // No list has more calls than there are words, and there are no more words than bytes.
+    ensures calls { IfOk result (λ s. All (AtMost (length s.tokens.items)) (lists_of s.lists.items)) }
+    ensures words { IfOk result (λ s. length s.tokens.items ≤ length source.now) }
 {
-    let Scanned { words, ending } = scan(alloc, source)?;
-    let mut draft = no_draft(alloc)?;
-    take_lines(&mut draft, &words)?;
-    finish(draft, ending, words)
+    read_words(alloc, source)
 }

@@ -1,12 +1,12 @@
 -- What is due is the status that the input has.
-use Rattle.std.proofs.Common.{◌≡◌, ◌⊎◌, ℕ, ◌<◌, ◌≤◌, List, [], ◌∷◌, length, Option, Some, None, Result, Ok, Err, refl, sym, ap, subst, ◌∙◌, arith, inl, inr}
+use Rattle.std.proofs.Common.{◌≡◌, ◌⊎◌, ℕ, List, [], ◌∷◌, Option, Some, None, Result, Err, refl, sym, ap, subst, ◌∙◌, arith, inl, inr}
 use Rattle.byte_ends.specs.Ends.{HasRisen}
 use Rattle.script_tokens.specs.Words.{words_of}
 use Rattle.script_reader.specs.Readings.{Row, Meaning, First_fault, rows_of, script_of}
 use Rattle.script_reader.specs.Unbuilt.{IsFirstUnbuiltOf}
 use Rattle.speck_run.specs.declared.top.Status.{Status}
 use Rattle.speck_run.specs.declared.top.Status.TheVariants.{Done, Words, Script, ReadFault, WriteFault, Memory, TooLong, NotBuilt}
-use Rattle.speck_run.specs.Top.{Asked, IsReplay, IsDue, IsStatusOf, IsUnlessFault, Answers, IsAccepted}
+use Rattle.speck_run.specs.Top.{IsReplay, IsDue, IsStatusOf, Answers, IsAccepted}
 
 -- There is one first line that is not carried out, or none.
 first_same : (rows : List Row) (a b : Option ℕ) → IsFirstUnbuiltOf rows a → IsFirstUnbuiltOf rows b → a ≡ b

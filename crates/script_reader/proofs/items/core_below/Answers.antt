@@ -1,4 +1,4 @@
-use Rattle.std.proofs.Common.{◌<◌, ◌≤◌, sym, ap, ◌∙◌, Ok, arith}
+use Rattle.std.proofs.Common.{◌<◌, ◌≤◌, ap, ◌∙◌, Ok, arith}
 use Rattle.script_reader.proofs.Suffixes.{below_some, not_below, past_cores}
 use Rattle.script_reader.proofs.items.core_below.Goals as goal
 

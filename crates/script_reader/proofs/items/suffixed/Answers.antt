@@ -1,4 +1,4 @@
-use Rattle.std.proofs.Common.{◌≡◌, ◌∙◌, sym, rules}
+use Rattle.std.proofs.Common.{◌∙◌, sym}
 use Rattle.script_reader.proofs.Suffixes.{suffixed_is}
 use Rattle.script_reader.proofs.items.suffixed.Goals as goal
 

@@ -1,7 +1,6 @@
-use Rattle.std.proofs.Common.{◌≡◌, ℕ, ◌+◌, ◌-◌, ◌*◌, ◌<◌, ◌≤◌, ◌^◌, ◌∙◌, refl, sym, false, true, None, length, slice_index_or, arith, rules}
+use Rattle.std.proofs.Common.{◌≡◌, ◌+◌, ◌-◌, ◌*◌, ◌≤◌, ◌^◌, ◌∙◌, refl, sym, length, slice_index_or, arith}
 use Rattle.std.proofs.lemmas.Bool.{eqb-true, eqb-false, le-ltb, and_left}
-use Rattle.script_reader.specs.Numerals.{is_digit, all_digits, is_digits, number_of}
-use Rattle.script_reader.proofs.Digits.{number_none, reads_none, reads_past, reads_more, reads_all}
+use Rattle.script_reader.proofs.Digits.{number_none, reads_none, reads_past, reads_all}
 use Rattle.script_reader.proofs.numerals.read_number.Goals as goal
 
 pub returns-then-is_empty : goal.returns-then-is_empty

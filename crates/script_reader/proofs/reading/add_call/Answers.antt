@@ -1,4 +1,4 @@
-use Rattle.std.proofs.Common.{◌≡◌, ◌<◌, ◌∙◌, length, arith}
+use Rattle.std.proofs.Common.{◌<◌, ◌∙◌, length, arith}
 use Rattle.script_reader.proofs.DraftSteps.{call_added}
 use Rattle.script_reader.proofs.reading.add_call.Goals as goal
 

@@ -1,4 +1,4 @@
-use Rattle.std.proofs.Common.{◌≡◌, ap, ◌∙◌, take, map, sym, refl}
+use Rattle.std.proofs.Common.{◌≡◌, ap, ◌∙◌, take, sym, refl}
 use Rattle.std.proofs.lemmas.List.{take-map}
 use Rattle.script_reader.specs.declared.reading.Script.{Script}
 use Rattle.script_reader.specs.Readings.{draft_view, lists_of}

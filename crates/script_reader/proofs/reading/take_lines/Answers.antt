@@ -1,6 +1,6 @@
-use Rattle.std.proofs.Common.{◌+◌, ◌≤◌, length, subst, sym, arith}
-use Rattle.script_reader.specs.Readings.{draft_view, draft_from, rows_of, Fails}
-use Rattle.script_reader.proofs.Rows.{goes_fault, goes_more, some_words, within_line}
+use Rattle.std.proofs.Common.{◌+◌, ◌≤◌, length}
+use Rattle.script_reader.specs.Readings.{draft_view}
+use Rattle.script_reader.proofs.Rows.{goes_fault, goes_more, within_line}
 use Rattle.script_reader.proofs.reading.take_lines.Goals as goal
 
 pub returns-in-Err-clause-value : goal.returns-in-Err-clause-value

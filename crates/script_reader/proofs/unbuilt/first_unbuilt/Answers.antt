@@ -1,4 +1,4 @@
-use Rattle.std.proofs.Common.{◌+◌, ◌≤◌, ◌≡◌, ◌∙◌, false, true, length, sym}
+use Rattle.std.proofs.Common.{◌+◌, ◌≤◌, ◌∙◌, length, sym}
 use Rattle.std.proofs.lemmas.Bool.{false≢true}
 use Rattle.script_reader.specs.Unbuilt.{IsBuiltLine}
 use Rattle.script_reader.proofs.Rows.{line_words, within_line}

@@ -1,6 +1,5 @@
-use Rattle.std.proofs.Common.{◌≡◌, ◌<◌, ◌^◌, ◌∙◌, None, ap, sym, subst, length, map, arith}
-use Rattle.std.proofs.lemmas.List.{length-map}
-use Rattle.script_tokens.specs.Words.{view, views, words_of}
+use Rattle.std.proofs.Common.{◌≡◌, ◌∙◌, None, ap, subst, length, arith}
+use Rattle.script_tokens.specs.Words.{views, words_of}
 use Rattle.script_reader.specs.Readings.{script_view, rows_of}
 use Rattle.script_reader.specs.Unbuilt.{IsFirstUnbuilt, IsFirstUnbuiltOf}
 use Rattle.speck_run.proofs.Accepted.{accepted}
@@ -13,7 +12,6 @@ replay-requires-clause-built c =
     let words : views c.deref.result.now ≡ words_of bytes = ap views c.deref.ensures.value ∙ tokens in
     let first : IsFirstUnbuilt bytes None =
     subst (λ ws. IsFirstUnbuiltOf (rows_of ws) None) words c.in_default.ensures in
-    let count = ap length tokens in
-    let few = c.in-Ok.ensures.few in
+    let few = c.in-Ok.ensures.words in
     let small = c.requires in
-    accepted bytes (script_view c.in-Ok.script) c.in-Ok.ensures.value first (omega (arith, length-map c.in-Ok.script.tokens.items view))
+    accepted (length c.in-Ok.script.tokens.items) bytes (script_view c.in-Ok.script) c.in-Ok.ensures.value first c.in-Ok.ensures.calls (omega arith)

@@ -1,4 +1,4 @@
-use Rattle.std.proofs.Common.{◌≡◌, ◌∙◌, sym, subst, inl, inr, map}
+use Rattle.std.proofs.Common.{◌∙◌, sym, subst, inl, inr, map}
 use Rattle.std.specs.Prelude.{string_bytes}
 use Rattle.speck_run.specs.Top.{Answers}
 use Rattle.speck_run.proofs.Due.{answers_due, answers_fault, completes}

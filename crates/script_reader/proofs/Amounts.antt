@@ -1,0 +1,120 @@
+-- No list of a script has more calls than the script has words.
+use Rattle.std.proofs.Common.{◌≡◌, ℕ, suc, ◌+◌, ◌≤◌, eqb, List, [], ◌∷◌, ◌++◌, length, All, IfOk, Result, Ok, Err, refl, sym, ap, subst, ◌∙◌, arith, inl, inr}
+use Rattle.std.proofs.lemmas.Bool.{cases_Bool, cases_lt}
+use Rattle.std.proofs.lemmas.List.{get_or_past, length_push, length-map}
+use Rattle.std.proofs.lemmas.List.Elements.{All-set, All-get_or, All-weaker, All-take, All-replicate}
+use Rattle.spk_nums.specs.declared.calls.Call.{Call}
+use Rattle.script_tokens.specs.declared.scanning.Ending.{Ending}
+use Rattle.script_tokens.specs.declared.scanning.Ending.TheVariants.{Whole, Fault}
+use Rattle.script_tokens.specs.declared.scanning.ByteFault.TheVariants.{NotAscii, TooManyLines}
+use Rattle.script_tokens.specs.declared.token.Token.{Token}
+use Rattle.script_tokens.specs.Words.{Word, view, views, words_of, ending_of}
+use Rattle.script_reader.specs.declared.cause.Cause.{Cause}
+use Rattle.script_reader.specs.declared.head.Line.{Line}
+use Rattle.script_reader.specs.declared.head.Line.TheVariants as line
+use Rattle.script_reader.specs.declared.cause.ReadFault.{ReadFault}
+use Rattle.script_reader.specs.declared.reading.Script.{Script}
+use Rattle.script_reader.specs.Causes.{◌>>=◌}
+use Rattle.script_reader.specs.Heads.{line_of, is_whole}
+use Rattle.script_reader.specs.Orders.{items_of}
+use Rattle.script_reader.specs.Readings.{Row, with_word, rows_of, Draft_of, Meaning, First_fault, no_draft, calls_of, with_call, with_line, is_order, behind_line, draft_behind, at_line, and_then, draft_from, meaning_of, meaning_at, script_of, AtMost, Gives, script_view, lists_of}
+
+abbrev judged : {A : Type 0} → A → Result A Cause
+judged x = Ok x
+
+judged_is : {A : Type 0} (x y : A) → judged x ≡ judged y → x ≡ y
+judged_is x y e = cc
+
+abbrev read : {A : Type 0} → A → Result A First_fault
+read x = Ok x
+
+read_is : {A : Type 0} (x y : A) → read x ≡ read y → x ≡ y
+read_is x y e = cc
+
+-- the value of judgements that did not fail
+bind_ok : {A B : Type 0} (r : Result A Cause) (f : A → Result B Cause) (y : B) → (r >>= f) ≡ Ok y → (x : A) × (r ≡ Ok x) × (f x ≡ Ok y)
+bind_ok (Ok x) f y e = (x, refl, e)
+bind_ok (Err c) f y e = absurd cc
+
+then_ok : {A B : Type 0} (r : Result A First_fault) (f : A → Result B First_fault) (y : B) → and_then r f ≡ Ok y → (x : A) × (r ≡ Ok x) × (f x ≡ Ok y)
+then_ok (Ok x) f y e = (x, refl, e)
+then_ok (Err c) f y e = absurd cc
+
+at_line_ok : {A : Type 0} (number : ℕ) (r : Result A Cause) (x : A) → at_line number r ≡ Ok x → r ≡ Ok x
+at_line_ok number (Ok y) x e = cc
+at_line_ok number (Err c) x e = absurd cc
+
+few_weaker : (m n : ℕ) (lists : List (List Call)) → m ≤ n → All (AtMost m) lists → All (AtMost n) lists
+few_weaker m n lists le h = All-weaker (AtMost m) (AtMost n) (λ calls k. omega (arith, k)) lists h
+
+few_call : (n core : ℕ) (call : Call) (lists : List (List Call)) → All (AtMost n) lists → All (AtMost (n + 1)) (with_call lists core call)
+few_call n core call lists h =
+    let old : length (calls_of lists core) ≤ n =
+    elim (cases_lt core (length lists)) [
+      | inl lt ↦ All-get_or (AtMost n) lists core [] lt h
+      | inr le ↦ rw (get_or_past lists core [] le) (omega arith)
+    ] in
+    All-set (AtMost (n + 1)) lists core (calls_of lists core ++ call ∷ []) (omega (arith, length_push (calls_of lists core) call)) (few_weaker n (n + 1) lists (omega arith) h)
+
+few_line : (n : ℕ) (d : Draft_of) (l : Line) → All (AtMost n) d.lists → All (AtMost (n + 1)) (with_line d l).lists
+few_line n d (line.Head head) h = few_weaker n (n + 1) d.lists (omega arith) h
+few_line n d (line.Call call) h = few_call n d.head.core call d.lists h
+
+few_behind : (n : ℕ) (d e : Draft_of) (words : List (List ℕ)) → draft_behind d words ≡ Ok e → All (AtMost n) d.lists → All (AtMost (n + 1)) e.lists
+unfolding draft_behind behind_line
+few_behind n d e words is h =
+    elim (cases_Bool (is_order d.head.section)) [
+      | inl order ↦
+          let b = bind_ok (items_of d.head.cores d.order words) (λ more. Ok (record d { order = more })) e (rw order at is) in
+          let same : record d { order = b.0 } ≡ e = judged_is _ _ b.2 in
+          subst (λ (x : Draft_of). All (AtMost (n + 1)) x.lists) same (few_weaker n (n + 1) d.lists (omega arith) h)
+      | inr order ↦
+          let b = bind_ok (line_of d.head words) (λ l. Ok (with_line d l)) e (rw order at is) in
+          let same : with_line d b.0 ≡ e = judged_is _ _ b.2 in
+          subst (λ (x : Draft_of). All (AtMost (n + 1)) x.lists) same (few_line n d b.0 h)
+    ]
+
+few_from : (n : ℕ) (d e : Draft_of) (rows : List Row) → draft_from d rows ≡ Ok e → All (AtMost n) d.lists → All (AtMost (n + length rows)) e.lists
+few_from n d e [] is h = subst (λ (x : Draft_of). All (AtMost (n + 0)) x.lists) (read_is d e is) (few_weaker n (n + 0) d.lists (omega arith) h)
+few_from n d e (row ∷ rows) is h =
+    let b = then_ok (at_line row.number (draft_behind d row.words)) (λ more. draft_from more rows) e is in
+    let one = few_behind n d b.0 row.words (at_line_ok row.number (draft_behind d row.words) b.0 b.1) h in
+    few_weaker (n + 1 + length rows) (n + suc (length rows)) e.lists (omega arith) (few_from (n + 1) b.0 e rows b.2 one)
+
+few_rows : (ws : List Word) → length (rows_of ws) ≤ length ws
+few_rows [] = omega arith
+few_rows (w ∷ ws) = let h = few_rows ws in omega (arith, one_more w (rows_of ws), h)
+  where
+    one_more : (w : Word) (rows : List Row) → length (with_word w rows) ≤ suc (length rows)
+    one_more w [] = omega arith
+    one_more w (row ∷ rows) = elim (cases_Bool (eqb w.line row.number)) [ inl e ↦ rw e (omega arith) | inr e ↦ rw e (omega arith) ]
+
+few_at : (n : ℕ) (d : Draft_of) (e : Ending) (m : Meaning) → meaning_at d e ≡ Ok m → All (AtMost n) d.lists → All (AtMost n) m.lists
+few_at n d (Fault (NotAscii number)) m is h = absurd cc
+few_at n d (Fault TooManyLines) m is h = absurd cc
+few_at n d (Whole lines) m is h =
+    elim (cases_Bool (is_whole d.head.section)) [
+      | inl whole ↦ subst (λ (x : Meaning). All (AtMost n) x.lists) (read_is (meaning_of d) m (rw whole at is)) (All-take (AtMost n) d.head.cores d.lists h)
+      | inr whole ↦ absurd (none_ok m (rw whole at is))
+    ]
+  where
+    none_ok : {f : First_fault} (x : Meaning) → Err f ≡ Ok x → ⊥
+    none_ok x k = cc
+
+few_calls : (source : List ℕ) (m : Meaning) → script_of source ≡ Ok m → All (AtMost (length (words_of source))) m.lists
+unfolding script_of
+few_calls source m is =
+    let b = then_ok (draft_from no_draft (rows_of (words_of source))) (λ d. meaning_at d (ending_of source)) m is in
+    let none : All (AtMost 0) no_draft.lists = All-replicate (AtMost 0) 8 [] (omega arith) in
+    let few = few_from 0 no_draft b.0 (rows_of (words_of source)) b.1 none in
+    few_at (length (words_of source)) b.0 (ending_of source) m b.2 (few_weaker (0 + length (rows_of (words_of source))) (length (words_of source)) b.0.lists (omega (arith, few_rows (words_of source))) few)
+
+pub few_of_tokens : (source : List ℕ) (m : Meaning) (ts : List Token) → script_of source ≡ Ok m → views ts ≡ words_of source → All (AtMost (length ts)) m.lists
+few_of_tokens source m ts is same =
+    let long : length (words_of source) ≡ length ts = sym (ap length same) ∙ length-map ts view in
+    subst (λ n. All (AtMost n) m.lists) long (few_calls source m is)
+
+-- what is read has no more calls than words
+pub few_read : (source : List ℕ) (r : Result Script ReadFault) → Gives script_view r (script_of source) → IfOk r (λ s. views s.tokens.items ≡ words_of source) → IfOk r (λ s. All (AtMost (length s.tokens.items)) (lists_of s.lists.items))
+few_read source (Ok s) gives words = few_of_tokens source (script_view s) s.tokens.items gives words
+few_read source (Err e) gives words = tt
