@@ -1,0 +1,5 @@
+use Rattle.script_printer.proofs.Spans.{lines_rows, lines_fault, lines_count}
+use Rattle.script_printer.proofs.law.reads_back.Goals as goal
+
+pub returns : goal.returns
+returns c = ?
