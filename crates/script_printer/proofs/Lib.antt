@@ -1,1 +1,4 @@
 pub mod Spans
+pub mod NumberWords
+pub mod CallWords
+pub mod CallReading
