@@ -189,8 +189,8 @@ lines_rows source line here ((w ∷ ws) ∷ lines) h e =
 
 allowed_byte : (b : ℕ) (next : Option ℕ) → is_word_byte b ≡ true → is_allowed b next ≡ true
 allowed_byte b next h =
-    let low : 33 ≤ b = leb-true 33 b (both_left _ _ h) in
-    let high : b ≤ 126 = leb-true b 126 (both_left _ _ (both_right _ _ h)) in
+    let low : 33 ≤ b = leb-true 33 b (both_left (leb 33 b) _ h) in
+    let high : b ≤ 126 = leb-true b 126 (both_left (leb b 126) (not (is_hash b)) (both_right (leb 33 b) _ h)) in
     rw (ne_eqb b 9 (λ e. omega arith), ne_eqb b 10 (λ e. omega arith), ne_eqb b 13 (λ e. omega arith), le-leb 32 b (omega arith), le-leb b 126 high) refl
 
 word_fault : (line : ℕ) (w rest : List ℕ) → line ≤ 20000 → are_word_bytes w ≡ true → first_fault line (w ++ rest) ≡ first_fault line rest
