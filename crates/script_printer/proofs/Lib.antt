@@ -4,3 +4,5 @@ pub mod CallWords
 pub mod CallReading
 pub mod HeadLines
 pub mod ItemWords
+pub mod ReadingLines
+pub mod PrintedLines

@@ -28,8 +28,8 @@ digits_bytes : (w : List ℕ) → all_digits w ≡ true → are_word_bytes w ≡
 digits_bytes [] h = refl
 digits_bytes (b ∷ bs) h =
     let digit : is_digit b ≡ true = both_left _ _ h in
-    let low : 48 ≤ b = leb-true 48 b (both_left _ _ digit) in
-    let high : b ≤ 57 = leb-true b 57 (both_right _ _ digit) in
+    let low : 48 ≤ b = leb-true 48 b (both_left (leb 48 b) (leb b 57) digit) in
+    let high : b ≤ 57 = leb-true b 57 (both_right (leb 48 b) (leb b 57) digit) in
     let word : is_word_byte b ≡ true = rw (le-leb 33 b (omega arith), le-leb b 126 (omega arith), ne_eqb b 35 (λ e. omega arith)) refl in
     and_from _ _ word (digits_bytes bs (both_right _ _ h))
 
