@@ -59,9 +59,9 @@ items_onto at i (j ∷ js) =
     let here = before_item at in
     let more : items_text (at + 1) (j ∷ js) ++ 10 ∷ [] ≡ before_item (at + 1) ++ lines_onto (item_rows (at + 1) j js) [] = items_onto (at + 1) j js in
     append_assoc (here ++ item_text i) (items_text (at + 1) (j ∷ js)) (10 ∷ [])
-      ∙ ap (λ t. (here ++ item_text i) ++ t) more
-      ∙ append_assoc here (item_text i) (before_item (at + 1) ++ lines_onto (item_rows (at + 1) j js) [])
-      ∙ ap (λ t. here ++ t) (split at i (item_rows (at + 1) j js) (rows_start (at + 1) j js))
+    ∙ ap (λ t. (here ++ item_text i) ++ t) more
+    ∙ append_assoc here (item_text i) (before_item (at + 1) ++ lines_onto (item_rows (at + 1) j js) [])
+    ∙ ap (λ t. here ++ t) (split at i (item_rows (at + 1) j js) (rows_start (at + 1) j js))
   where
     split : (at : ℕ) (i : Item) (rows : List (List (List ℕ))) → starts rows ≡ true → item_text i ++ (before_item (at + 1) ++ lines_onto rows []) ≡ lines_onto (cond ((at + 1) % 10 == 0) ((item_text i ∷ []) ∷ rows) (in_front (item_text i) rows)) []
     split at i rows h =

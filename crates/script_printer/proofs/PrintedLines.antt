@@ -31,8 +31,8 @@ one_onto w n rest = simp append_assoc
 two_onto : (w v : List ℕ) (m n : ℕ) (rest : List ℕ) → (line (with_one w m) ++ line (with_one v n)) ++ rest ≡ line_onto (w ∷ decimal m ∷ []) (line_onto (v ∷ decimal n ∷ []) rest)
 two_onto w v m n rest =
     append_assoc (line (with_one w m)) (line (with_one v n)) rest
-      ∙ ap (λ t. line (with_one w m) ++ t) (one_onto v n rest)
-      ∙ one_onto w m (line_onto (v ∷ decimal n ∷ []) rest)
+    ∙ ap (λ t. line (with_one w m) ++ t) (one_onto v n rest)
+    ∙ one_onto w m (line_onto (v ∷ decimal n ∷ []) rest)
 
 grant_onto : (g : Grant) (rest : List ℕ) → grant_line g ++ rest ≡ line_onto (grant_words g) rest
 grant_onto g rest = simp append_assoc
@@ -47,29 +47,29 @@ grants_onto : (gs : List Grant) (lines : List (List (List ℕ))) → flat_map gr
 grants_onto [] lines = refl
 grants_onto (g ∷ gs) lines =
     append_assoc (grant_line g) (flat_map grant_line gs) (lines_onto lines [])
-      ∙ ap (λ t. grant_line g ++ t) (grants_onto gs lines)
-      ∙ grant_onto g (lines_onto (grants_then gs lines) [])
+    ∙ ap (λ t. grant_line g ++ t) (grants_onto gs lines)
+    ∙ grant_onto g (lines_onto (grants_then gs lines) [])
 
 calls_onto : (cs : List Call) (lines : List (List (List ℕ))) → flat_map call_line cs ++ lines_onto lines [] ≡ lines_onto (calls_then cs lines) []
 calls_onto [] lines = refl
 calls_onto (c ∷ cs) lines =
     append_assoc (call_line c) (flat_map call_line cs) (lines_onto lines [])
-      ∙ ap (λ t. call_line c ++ t) (calls_onto cs lines)
-      ∙ call_onto c (lines_onto (calls_then cs lines) [])
+    ∙ ap (λ t. call_line c ++ t) (calls_onto cs lines)
+    ∙ call_onto c (lines_onto (calls_then cs lines) [])
 
 core_onto : (core : ℕ) (cs : List Call) (lines : List (List (List ℕ))) → core_lines core cs ++ lines_onto lines [] ≡ lines_onto (core_then core cs lines) []
 core_onto core [] lines = refl
 core_onto core (c ∷ cs) lines =
     append_assoc (line (with_one (codes "core") core)) (flat_map call_line (c ∷ cs)) (lines_onto lines [])
-      ∙ ap (λ t. line (with_one (codes "core") core) ++ t) (calls_onto (c ∷ cs) lines)
-      ∙ one_onto (codes "core") core (lines_onto (calls_then (c ∷ cs) lines) [])
+    ∙ ap (λ t. line (with_one (codes "core") core) ++ t) (calls_onto (c ∷ cs) lines)
+    ∙ one_onto (codes "core") core (lines_onto (calls_then (c ∷ cs) lines) [])
 
 lists_onto : (core : ℕ) (lists : List (List Call)) (lines : List (List (List ℕ))) → list_lines core lists ++ lines_onto lines [] ≡ lines_onto (lists_then core lists lines) []
 lists_onto core [] lines = refl
 lists_onto core (l ∷ ls) lines =
     append_assoc (core_lines core l) (list_lines (core + 1) ls) (lines_onto lines [])
-      ∙ ap (λ t. core_lines core l ++ t) (lists_onto (core + 1) ls lines)
-      ∙ core_onto core l (lists_then (core + 1) ls lines)
+    ∙ ap (λ t. core_lines core l ++ t) (lists_onto (core + 1) ls lines)
+    ∙ core_onto core l (lists_then (core + 1) ls lines)
 
 setup_onto : (s : Setting) (lines : List (List (List ℕ))) → setup_lines s ++ lines_onto lines [] ≡ lines_onto (speck_words ∷ cores_words s.cores ∷ frames_words s.frames ∷ grants_then s.grants (calls_words s.calls ∷ epochs_words s.epochs ∷ lines)) []
 setup_onto s lines =
@@ -80,11 +80,11 @@ setup_onto s lines =
     let rest = lines_onto lines [] in
     let limited : List (List (List ℕ)) = calls_words s.calls ∷ epochs_words s.epochs ∷ lines in
     append_assoc first (sizes ++ (grants ++ limits)) rest
-      ∙ ap (λ t. first ++ t) (append_assoc sizes (grants ++ limits) rest
-        ∙ ap (λ t. sizes ++ t) (append_assoc grants limits rest
-          ∙ ap (λ t. grants ++ t) (limits_onto s rest)
-          ∙ grants_onto s.grants limited)
-        ∙ sizes_onto s (lines_onto (grants_then s.grants limited) []))
+    ∙ ap (λ t. first ++ t) (append_assoc sizes (grants ++ limits) rest
+    ∙ ap (λ t. sizes ++ t) (append_assoc grants limits rest
+    ∙ ap (λ t. grants ++ t) (limits_onto s rest)
+    ∙ grants_onto s.grants limited)
+    ∙ sizes_onto s (lines_onto (grants_then s.grants limited) []))
 
 printed_onto : (m : Meaning) → printed m ≡ lines_onto (script_lines m) []
 unfolding printed
@@ -148,8 +148,8 @@ lines_read lines m are few says =
     let ending : ending_of source ≡ Whole (line_count source) = ap (λ o. ending_from o (line_count source)) fault in
     let rows : rows_of (words_of source) ≡ rows_from 1 lines = ap (λ e. rows_of (map (word_at source) (before_fault e (spans 1 0 false source)))) ending ∙ lines_rows source 1 0 lines are refl in
     ap (λ rs. and_then (draft_from no_draft rs) (λ d. meaning_at d (ending_of source))) rows
-      ∙ ap (λ e. and_then (draft_from no_draft (rows_from 1 lines)) (λ d. meaning_at d e)) ending
-      ∙ says.says 1 (line_count source)
+    ∙ ap (λ e. and_then (draft_from no_draft (rows_from 1 lines)) (λ d. meaning_at d e)) ending
+    ∙ says.says 1 (line_count source)
 
 pub printed_read : (m : Meaning) → IsWithin m → script_of (printed m) ≡ Ok m
 printed_read m within =

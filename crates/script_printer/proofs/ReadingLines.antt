@@ -115,8 +115,8 @@ lists_then core (calls ∷ lists) lines = core_then core calls (lists_then (core
 one_more : (done after : List (List Call)) (x : List Call) (core : ℕ) (c : Call) → core ≡ length done → with_call (done ++ x ∷ after) core c ≡ done ++ (x ++ c ∷ []) ∷ after
 one_more done after x core c e =
     ap (λ n. with_call (done ++ x ∷ after) n c) e
-      ∙ ap (λ (l : List Call). set (done ++ x ∷ after) (length done) (l ++ c ∷ [])) (get_or-append_seam done x after [])
-      ∙ set-append_seam done x after (x ++ c ∷ [])
+    ∙ ap (λ (l : List Call). set (done ++ x ∷ after) (length done) (l ++ c ∷ [])) (get_or-append_seam done x after [])
+    ∙ set-append_seam done x after (x ++ c ∷ [])
 
 calls_say : (calls : List Call) (h : Head) (done after : List (List Call)) (x : List Call) (lines : List (List (List ℕ))) (m : Meaning)
     → h.section ≡ section.List → h.core ≡ length done → All IsCallWithin calls
@@ -152,13 +152,13 @@ lists_say : (lists : List (List Call)) (h : Head) (done after : List (List Call)
 lists_say [] h done after core lines m e at n few within more = more h refl e
 lists_say (l ∷ ls) h done after core lines m e at n few within more =
     core_says l h done (emptied ls ++ after) core (lists_then (core + 1) ls lines) m e at (omega arith) few (All-head (All IsCallWithin) l ls within) (λ g same listing.
-        let cores : g.cores ≡ h.cores = ap (λ (s : Setting). s.cores) same in
-        let pushed : length (done ++ l ∷ []) ≡ length done + 1 = length_push done l in
-        let joined : (done ++ l ∷ []) ++ (ls ++ after) ≡ done ++ l ∷ (ls ++ after) = append_assoc done (l ∷ []) (ls ++ after) in
-        let emptier : (done ++ l ∷ []) ++ (emptied ls ++ after) ≡ done ++ l ∷ (emptied ls ++ after) = append_assoc done (l ∷ []) (emptied ls ++ after) in
-        subst (λ (lists : List (List Call)). Says (draft g lists []) (lists_then (core + 1) ls lines) m) emptier
-          (lists_say ls g (done ++ l ∷ []) after (core + 1) lines m listing (omega arith) (omega arith) (omega arith) (All-tail (All IsCallWithin) l ls within) (λ f again still.
-              subst (λ (lists : List (List Call)). Says (draft f lists []) lines m) (sym joined) (more f (again ∙ same) still))))
+    let cores : g.cores ≡ h.cores = ap (λ (s : Setting). s.cores) same in
+    let pushed : length (done ++ l ∷ []) ≡ length done + 1 = length_push done l in
+    let joined : (done ++ l ∷ []) ++ (ls ++ after) ≡ done ++ l ∷ (ls ++ after) = append_assoc done (l ∷ []) (ls ++ after) in
+    let emptier : (done ++ l ∷ []) ++ (emptied ls ++ after) ≡ done ++ l ∷ (emptied ls ++ after) = append_assoc done (l ∷ []) (emptied ls ++ after) in
+    subst (λ (lists : List (List Call)). Says (draft g lists []) (lists_then (core + 1) ls lines) m) emptier
+    (lists_say ls g (done ++ l ∷ []) after (core + 1) lines m listing (omega arith) (omega arith) (omega arith) (All-tail (All IsCallWithin) l ls within) (λ f again still.
+    subst (λ (lists : List (List Call)). Says (draft f lists []) lines m) (sym joined) (more f (again ∙ same) still))))
 
 -- ---- the order
 
@@ -267,8 +267,8 @@ script_says m setup n calls below room =
     let lines : List (List (List ℕ)) = order_rows m.order in
     let listed : Says (draft (limited m.setup) (emptied m.lists ++ after) []) (lists_then 0 m.lists lines) m =
     lists_say m.lists (limited m.setup) [] after 0 lines m (inl refl) refl (omega arith) few calls (λ g same listing.
-        let cores : g.cores ≡ m.setup.cores = ap (λ (s : Setting). s.cores) same in
-        let fits : BelowCores g.cores m.order = subst (λ k. BelowCores k m.order) (sym cores) below in
-        order_says m.order g (m.lists ++ after) m listing (omega arith) fits room (meaning_back g m after same n)) in
+    let cores : g.cores ≡ m.setup.cores = ap (λ (s : Setting). s.cores) same in
+    let fits : BelowCores g.cores m.order = subst (λ k. BelowCores k m.order) (sym cores) below in
+    order_says m.order g (m.lists ++ after) m listing (omega arith) fits room (meaning_back g m after same n)) in
     let blank_says : Says (draft (limited m.setup) (replicate 8 []) []) (lists_then 0 m.lists lines) m = subst (λ (lists : List (List Call)). Says (draft (limited m.setup) lists []) (lists_then 0 m.lists lines) m) blank listed in
     setup_says m.setup (replicate 8 []) (lists_then 0 m.lists lines) m setup blank_says

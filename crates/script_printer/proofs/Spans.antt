@@ -166,12 +166,12 @@ one_line : (source : List ℕ) (line here : ℕ) (w : List ℕ) (ws : List (List
     → rows_at source line here (line_onto (w ∷ ws) rest) ≡ record { number = line; words = w ∷ ws } ∷ rows
 one_line source line here w [] rest rows h hs e later behind =
     word_feed source line here w rest h e
-      ∙ ap (with_word (record { text = w; line = line; start = here; end = here + length w })) (behind (here + length w + 1) (behind_there source here 10 w rest e))
-      ∙ with_first (record { text = w; line = line; start = here; end = here + length w }) rows later
+    ∙ ap (with_word (record { text = w; line = line; start = here; end = here + length w })) (behind (here + length w + 1) (behind_there source here 10 w rest e))
+    ∙ with_first (record { text = w; line = line; start = here; end = here + length w }) rows later
 one_line source line here w (v ∷ ws) rest rows h hs e later behind =
     word_space source line here w (line_onto (v ∷ ws) rest) h e
-      ∙ ap (with_word (record { text = w; line = line; start = here; end = here + length w })) (one_line source line (here + length w + 1) v ws rest rows (both_left _ _ hs) (both_right _ _ hs) (behind_there source here 32 w (line_onto (v ∷ ws) rest) e) later behind)
-      ∙ with_more (record { text = w; line = line; start = here; end = here + length w }) (v ∷ ws) rows
+    ∙ ap (with_word (record { text = w; line = line; start = here; end = here + length w })) (one_line source line (here + length w + 1) v ws rest rows (both_left _ _ hs) (both_right _ _ hs) (behind_there source here 32 w (line_onto (v ∷ ws) rest) e) later behind)
+    ∙ with_more (record { text = w; line = line; start = here; end = here + length w }) (v ∷ ws) rows
 
 later_from : (line : ℕ) (lines : List (List (List ℕ))) → Later line (rows_from (line + 1) lines)
 later_from line [] = tt

@@ -7,5 +7,4 @@ ghost use Rattle.script_printer.specs.Law.{ReadsBack};
 /// within the limits and its printed form has at most 20,000 lines.
 pub fn reads_back()
     ensures { (m : Meaning) → ReadsBack m }
-{
-}
+{}

@@ -2,8 +2,9 @@
 
 ghost use Rattle.std.specs.Prelude.{◌≡◌, ◌++◌, IfOk, OnOk, string_bytes};
 ghost use Rattle.std.specs.List.{flat_map};
-ghost use Rattle.script_reader.specs.Readings.{lists_of, script_view};
+ghost use Rattle.script_reader.specs.Readings.{lists_of, script_of, script_view};
 ghost use Rattle.script_printer.specs.Printing.{call_line, core_lines, list_lines, printed};
+ghost use Rattle.script_printer.specs.Law.{IsWithin};
 
 use crate::order::push_order;
 use crate::setup::push_setup;
@@ -41,19 +42,33 @@ fn push_lists(text: &mut String, lists: &[Vec<Call>]) -> Result<(), AllocError>
     Ok(())
 }
 
-/// Prints a script: the lines of its setup with both limits, the calls of each core that has some behind
-/// its `core` line, and the items of its order, ten a line, behind an `order` line.
-///
-/// # Errors
-///
-/// `Memory` where memory is wanting.
+// The printed form of a script.
 #[tactic(auto, unfolding(crate::specs::Printing::printed))]
-pub fn print(alloc: Global, script: &Script) -> Result<String, Memory>
+fn printed(alloc: Global, script: &Script) -> Result<String, AllocError>
     ensures { IfOk result (λ text. string_bytes text ≡ printed (script_view script.now)) }
 {
     let mut text = String::new(alloc);
     push_setup(&mut text, &script.setup)?;
     push_lists(&mut text, &script.lists)?;
     push_order(&mut text, &script.order)?;
+    Ok(text)
+}
+
+/// Prints a script: the lines of its setup with both limits, the calls of each core that has some behind
+/// its `core` line, and the items of its order, ten a line, behind an `order` line.
+///
+/// Where the script is within the limits and its printed form has at most 20,000 lines, `read` of what is
+/// printed gives the same setup, lists and order.
+///
+/// # Errors
+///
+/// `Memory` where memory is wanting.
+pub fn print(alloc: Global, script: &Script) -> Result<String, Memory>
+    // What is answered is the printed form.
+    ensures text { IfOk result (λ text. string_bytes text ≡ printed (script_view script.now)) }
+    // It says the script that was printed, where that is within the limits.
+    ensures read { IfOk result (λ text. IsWithin (script_view script.now) → script_of (string_bytes text) ≡ Ok (script_view script.now)) }
+{
+    let text = printed(alloc, script)?;
     Ok(text)
 }
