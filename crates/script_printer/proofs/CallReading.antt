@@ -1,5 +1,5 @@
 -- Calls as words: the words of the line of a call are read as that call.
-use Rattle.std.proofs.Common.{◌≡◌, ℕ, ◌+◌, ◌<◌, ◌≤◌, ◌^◌, Bool, true, false, List, [], ◌∷◌, Option, Some, None, Ok, refl, sym, ap, ◌∙◌, arith}
+use Rattle.std.proofs.Common.{◌≡◌, ℕ, List, [], ◌∷◌, Some, Ok, refl, arith}
 use Rattle.std.specs.Prelude.{codes, decimal, slice_get}
 use Rattle.std.specs.Option.{option_and_then}
 use Rattle.spk_nums.specs.Names.{frame_kind_word}
@@ -16,7 +16,7 @@ use Rattle.script_reader.specs.declared.head.Section.TheVariants as section
 use Rattle.script_reader.specs.declared.head.Head.{Head}
 use Rattle.script_reader.specs.declared.head.Line.TheVariants as line
 use Rattle.script_reader.specs.FirstWords.{first_word, verb_of, later_verb_of}
-use Rattle.script_reader.specs.Arguments.{is_word, word_at, number_at, end_at, frame_kind_of, frame_kind_at}
+use Rattle.script_reader.specs.Arguments.{is_word, word_at, end_at, frame_kind_of, frame_kind_at}
 use Rattle.script_reader.specs.CallLines.{call_line, look_line, copy_line, remove_line, grow_line, shrink_line, retype_line, map_line, unmap_line, touch_line, flush_line, gate_line, kill_line, enter_line, ret_line, switch_line, tick_line, transfer_line, delegate_line, test_line, object_of, object_at, thread_at, tcap_at, comp_at, plain_at, made_at, make_line}
 use Rattle.script_reader.specs.Heads.{line_of, line_by}
 use Rattle.script_printer.specs.Law.{IsName, IsMakeWithin, IsCallWithin}

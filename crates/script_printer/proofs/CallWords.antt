@@ -1,30 +1,18 @@
 -- Calls as words: the printed line of a call is read as that call.
-use Rattle.std.proofs.Common.{◌≡◌, ℕ, ◌+◌, ◌<◌, ◌≤◌, ◌^◌, Bool, true, false, List, [], ◌∷◌, ◌++◌, length, Option, Some, None, Ok, refl, sym, ap, ◌∙◌, arith, append_assoc}
-use Rattle.std.specs.Prelude.{codes, decimal, slice_get}
-use Rattle.std.specs.Option.{option_and_then}
+use Rattle.std.proofs.Common.{◌≡◌, ℕ, ◌≤◌, true, List, [], ◌∷◌, ◌++◌, refl, ◌∙◌, arith, append_assoc}
+use Rattle.std.specs.Prelude.{codes, decimal}
 use Rattle.spk_nums.specs.Names.{frame_kind_word}
-use Rattle.spk_nums.specs.Texts.{call_text, make_text, site_text, basis_text}
+use Rattle.spk_nums.specs.Texts.{call_text, make_text}
 use Rattle.spk_nums.specs.declared.kinds.FrameKind.{FrameKind}
 use Rattle.spk_nums.specs.declared.kinds.FrameKind.TheVariants.{Untyped, User, Kernel}
 use Rattle.spk_nums.specs.declared.calls.Make.{Make}
 use Rattle.spk_nums.specs.declared.calls.Make.TheVariants as make
 use Rattle.spk_nums.specs.declared.calls.Call.{Call}
 use Rattle.spk_nums.specs.declared.calls.Call.TheVariants.{Look, Copy, Remove, Grow, Shrink, Retype, Make as make_call, Map, Unmap, Touch, Flush, Gate, Kill, Call as call_gate, Ret, Switch, Tick, Transfer, Delegate, Test}
-use Rattle.script_reader.specs.declared.first_words.Verb.{Verb}
-use Rattle.script_reader.specs.declared.first_words.Verb.TheVariants as verb
-use Rattle.script_reader.specs.declared.first_words.FirstWord.{FirstWord}
-use Rattle.script_reader.specs.declared.first_words.FirstWord.TheVariants as first
-use Rattle.script_reader.specs.declared.head.Section.TheVariants as section
-use Rattle.script_reader.specs.declared.head.Head.{Head}
-use Rattle.script_reader.specs.declared.head.Line.TheVariants as line
-use Rattle.script_reader.specs.FirstWords.{first_word, verb_of, later_verb_of}
-use Rattle.script_reader.specs.Arguments.{is_word, word_at, number_at, end_at, frame_kind_of, frame_kind_at}
-use Rattle.script_reader.specs.CallLines as read
-use Rattle.script_reader.specs.Heads.{line_of, line_by}
 use Rattle.script_printer.specs.Printing.{call_line}
 use Rattle.script_printer.specs.Law.{IsName, IsMakeWithin, IsCallWithin}
-use Rattle.script_printer.proofs.Spans.{is_text, are_texts, is_line, line_onto}
-use Rattle.script_printer.proofs.NumberWords.{number_back, name_back, number_text, name_text}
+use Rattle.script_printer.proofs.Spans.{is_text, is_line, line_onto}
+use Rattle.script_printer.proofs.NumberWords.{number_text, name_text}
 
 -- the words of the line of a make
 abbrev pub make_words : Make → ℕ → ℕ → ℕ → ℕ → List (List ℕ)

@@ -1,7 +1,7 @@
 -- The items of an order as words: ten a line, and each is read as it was printed.
-use Rattle.std.proofs.Common.{◌≡◌, ℕ, zero, suc, ◌+◌, ◌-◌, ◌*◌, ◌%◌, ◌<◌, ◌≤◌, Bool, true, false, cond, eqb, ltb, List, [], ◌∷◌, ◌++◌, length, All, Option, Some, None, Result, Ok, Err, refl, sym, ap, subst, ◌∙◌, arith, append_assoc, inl, inr}
-use Rattle.std.specs.Prelude.{codes, decimal, ◌==◌, ◌&&◌}
-use Rattle.std.proofs.lemmas.Bool.{cases_Bool, and_from, lt-ltb}
+use Rattle.std.proofs.Common.{◌≡◌, ℕ, zero, suc, ◌+◌, ◌%◌, ◌<◌, ◌≤◌, Bool, true, false, cond, List, [], ◌∷◌, ◌++◌, All, Some, Ok, refl, sym, ap, ◌∙◌, arith, append_assoc, inl, inr}
+use Rattle.std.specs.Prelude.{codes, decimal, ◌==◌}
+use Rattle.std.proofs.lemmas.Bool.{cases_Bool, lt-ltb}
 use Rattle.std.proofs.lemmas.List.{append-nil}
 use Rattle.std.proofs.lemmas.List.Elements.{All-head, All-tail}
 use Rattle.std.proofs.lemmas.Fmt.{decimal_digit}
@@ -11,7 +11,7 @@ use Rattle.spk_nums.specs.declared.steps.Item.{Item}
 use Rattle.script_reader.specs.Numerals.{value_of}
 use Rattle.script_reader.specs.Orders.{parts_of, item_of}
 use Rattle.script_printer.specs.Printing.{how_text, item_text, before_item, items_text, order_lines}
-use Rattle.script_printer.proofs.Spans.{is_text, are_texts, is_line, are_lines, line_onto, lines_onto, both_left, both_right}
+use Rattle.script_printer.proofs.Spans.{is_text, are_lines, lines_onto}
 
 -- a word in front of the first line
 abbrev pub in_front : List ℕ → List (List (List ℕ)) → List (List (List ℕ))

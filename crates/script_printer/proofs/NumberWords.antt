@@ -1,6 +1,6 @@
 -- Numbers as words: what is printed of a number is read as that number.
-use Rattle.std.proofs.Common.{◌≡◌, ℕ, ◌+◌, ◌-◌, ◌*◌, ◌^◌, ◌<◌, ◌≤◌, Bool, true, false, cond, ltb, leb, List, [], ◌∷◌, ◌++◌, length, Option, Some, None, Ok, refl, sym, ap, subst, ◌∙◌, arith, rules}
-use Rattle.std.specs.Prelude.{◌&&◌, decimal, slice_get}
+use Rattle.std.proofs.Common.{◌≡◌, ℕ, ◌^◌, ◌<◌, ◌≤◌, true, leb, List, [], ◌∷◌, length, Some, Ok, refl, sym, ap, ◌∙◌, arith, rules}
+use Rattle.std.specs.Prelude.{decimal, slice_get}
 use Rattle.std.proofs.lemmas.Bool.{and_from, leb-true, le-leb, lt-ltb, ne_eqb}
 use Rattle.std.proofs.lemmas.Fmt.{digits_decimal, digits_value-decimal, decimal_nonempty}
 use Rattle.std.proofs.lemmas.Str.Parse.{IsNumeralModel, numerals_by_fold}

@@ -1,6 +1,6 @@
 -- The printed lines, read one after another from the first.
-use Rattle.std.proofs.Common.{◌≡◌, ℕ, zero, suc, ◌+◌, ◌-◌, ◌*◌, ◌%◌, ◌<◌, ◌≤◌, ◌^◌, Bool, true, false, cond, eqb, ltb, List, [], ◌∷◌, ◌++◌, length, set, get_or, take, map, replicate, All, Option, Some, None, Result, Ok, Err, refl, sym, ap, subst, ◌∙◌, arith, append_assoc, zero-add, inl, inr}
-use Rattle.std.specs.Prelude.{codes, decimal, ◌==◌}
+use Rattle.std.proofs.Common.{◌≡◌, ℕ, zero, suc, ◌+◌, ◌-◌, ◌%◌, ◌<◌, ◌≤◌, ◌^◌, true, false, List, [], ◌∷◌, ◌++◌, length, set, take, replicate, All, Ok, refl, sym, ap, subst, ◌∙◌, arith, append_assoc, zero-add, inl, inr}
+use Rattle.std.specs.Prelude.{◌==◌}
 use Rattle.std.proofs.lemmas.Bool.{cases_Bool, eq-eqb, ne_eqb, lt-ltb}
 use Rattle.std.proofs.lemmas.List.{append-nil, length_push}
 use Rattle.std.proofs.lemmas.List.Elements.{All-head, All-tail}
@@ -10,15 +10,12 @@ use Rattle.spk_nums.specs.declared.grants.Grant.{Grant}
 use Rattle.spk_nums.specs.declared.steps.Item.{Item}
 use Rattle.spk_nums.specs.Setting.{Setting, GrantFits, IsSetting}
 use Rattle.script_tokens.specs.declared.scanning.Ending.TheVariants.{Whole}
-use Rattle.script_reader.specs.declared.cause.Cause.{Cause}
 use Rattle.script_reader.specs.declared.head.Section.{Section}
 use Rattle.script_reader.specs.declared.head.Section.TheVariants as section
 use Rattle.script_reader.specs.declared.head.Head.{Head}
-use Rattle.script_reader.specs.declared.head.Line.{Line}
 use Rattle.script_reader.specs.declared.head.Line.TheVariants as line
 use Rattle.script_reader.specs.Heads.{no_head, granted, is_whole, line_of}
-use Rattle.script_reader.specs.Orders.{item_of, items_of}
-use Rattle.script_reader.specs.Readings.{Row, Draft_of, Meaning, First_fault, no_draft, calls_of, with_call, with_line, is_order, behind_line, draft_behind, at_line, and_then, draft_from, meaning_of, meaning_at, setting_of, BelowCores}
+use Rattle.script_reader.specs.Readings.{Draft_of, Meaning, no_draft, with_call, is_order, behind_line, draft_behind, and_then, draft_from, meaning_of, meaning_at, setting_of, BelowCores}
 use Rattle.script_printer.specs.Printing.{item_text}
 use Rattle.script_printer.specs.Law.{IsCallWithin}
 use Rattle.script_printer.proofs.Spans.{rows_from}

@@ -1,14 +1,13 @@
 -- The words of lines: each word stands where it was printed.
-use Rattle.std.proofs.Common.{◌≡◌, ℕ, zero, suc, ◌+◌, ◌-◌, ◌<◌, ◌≤◌, Bool, true, false, cond, eqb, ltb, leb, List, [], ◌∷◌, ◌++◌, length, take, drop, map, All, Option, Some, None, refl, sym, ap, subst, ◌∙◌, arith, add-one, inl, inr}
-use Rattle.std.specs.Prelude.{◌&&◌, ◌||◌, not, count_by, slice_get, slice_range}
+use Rattle.std.proofs.Common.{◌≡◌, ℕ, suc, ◌+◌, ◌-◌, ◌≤◌, Bool, true, false, cond, eqb, leb, List, [], ◌∷◌, ◌++◌, length, take, drop, map, Option, None, refl, sym, ap, subst, ◌∙◌, arith, inl, inr}
+use Rattle.std.specs.Prelude.{◌&&◌, not, count_by, slice_get, slice_range}
 use Rattle.std.proofs.lemmas.Bool.{cases_Bool, eqb-true, eq-eqb, ne_eqb, le-ltb, leb-true, le-leb}
 use Rattle.std.proofs.lemmas.List.{drop-drop}
 use Rattle.std.proofs.lemmas.List.Sums.{sum_by-cons}
 use Rattle.std.proofs.Math.Seq.{take-append_seam, drop-append_seam}
-use Rattle.script_tokens.specs.declared.scanning.ByteFault.{ByteFault}
-use Rattle.script_tokens.specs.Bytes.{is_feed, is_hash, is_word_byte, is_allowed, feed_next}
+use Rattle.script_tokens.specs.Bytes.{is_feed, is_hash, is_word_byte, is_allowed}
 use Rattle.script_tokens.specs.Words.{Span, Word, joined, spans, first_fault, word_at}
-use Rattle.script_tokens.proofs.Steps.{RisesFrom, RisesFrom-weaker, spans_rise}
+use Rattle.script_tokens.proofs.Steps.{RisesFrom, spans_rise}
 use Rattle.script_reader.specs.Readings.{Row, with_word, rows_of}
 
 -- each byte is one of a word
