@@ -1,12 +1,17 @@
 -- What is due is the status that the input has.
 use Rattle.std.proofs.Common.{◌≡◌, ◌⊎◌, ℕ, List, [], ◌∷◌, Option, Some, None, Result, Err, refl, sym, ap, subst, ◌∙◌, arith, inl, inr}
-use Rattle.byte_ends.specs.Ends.{HasRisen}
+use Rattle.std.specs.Prelude.{◌≤◌, length, codes}
+use Rattle.byte_ends.specs.Ends.{HasRisen, Adds}
 use Rattle.script_tokens.specs.Words.{words_of}
 use Rattle.script_reader.specs.Readings.{Row, Meaning, First_fault, rows_of, script_of}
 use Rattle.script_reader.specs.Unbuilt.{IsFirstUnbuiltOf}
+use Rattle.speck_run.specs.declared.words.Command.{Command}
+use Rattle.speck_run.specs.declared.words.Command.TheVariants.{Replay, Print}
 use Rattle.speck_run.specs.declared.top.Status.{Status}
 use Rattle.speck_run.specs.declared.top.Status.TheVariants.{Done, Words, Script, ReadFault, WriteFault, Memory, TooLong, NotBuilt}
-use Rattle.speck_run.specs.Top.{IsReplay, IsDue, IsStatusOf, Answers, IsAccepted}
+use Rattle.speck_run.specs.Ends.{GivesAll}
+use Rattle.speck_run.specs.Script.{IsTaken, IsLeft, IsAnswer}
+use Rattle.speck_run.specs.Top.{Asked, Asks, IsDue, IsDueOf, IsDone, InputAnswers, CarriesOut, IsStatusOf, Answers, IsAccepted, Writes}
 
 -- There is one first line that is not carried out, or none.
 first_same : (rows : List Row) (a b : Option ℕ) → IsFirstUnbuiltOf rows a → IsFirstUnbuiltOf rows b → a ≡ b
@@ -22,76 +27,158 @@ Reading = Result Meaning First_fault
 same_fault : (f g : First_fault) (r : Reading) → r ≡ Err f → r ≡ Err g → f ≡ g
 same_fault f g r p q = cc
 
--- An input has one status.
-status_same : (bytes : List ℕ) (s s' : Status) → IsStatusOf bytes s → IsStatusOf bytes s' → s ≡ s'
-status_same bytes Done Done p q = refl
-status_same bytes Done Words p q = absurd q
-status_same bytes Done (Script line' cause') p q = let e = sym q.1 ∙ p.1.is_script in cc
-status_same bytes Done ReadFault p q = absurd q
-status_same bytes Done WriteFault p q = absurd q
-status_same bytes Done Memory p q = absurd q
-status_same bytes Done TooLong p q = absurd (omega (arith, p.0, q))
-status_same bytes Done (NotBuilt line') p q = let e = first_same (rows_of (words_of bytes)) None (Some line') p.1.built q.1.first in cc
-status_same bytes Words s' p q = absurd p
-status_same bytes (Script line cause) Done p q = let e = sym p.1 ∙ q.1.is_script in cc
-status_same bytes (Script line cause) Words p q = absurd q
-status_same bytes (Script line cause) (Script line' cause') p q = ap (λ (f : First_fault). Script f.line f.cause) (same_fault _ _ (script_of bytes) p.1 q.1)
-status_same bytes (Script line cause) ReadFault p q = absurd q
-status_same bytes (Script line cause) WriteFault p q = absurd q
-status_same bytes (Script line cause) Memory p q = absurd q
-status_same bytes (Script line cause) TooLong p q = absurd (omega (arith, p.0, q))
-status_same bytes (Script line cause) (NotBuilt line') p q = let e = sym p.1 ∙ q.1.is_script in cc
-status_same bytes ReadFault s' p q = absurd p
-status_same bytes WriteFault s' p q = absurd p
-status_same bytes Memory s' p q = absurd p
-status_same bytes TooLong Done p q = absurd (omega (arith, p, q.0))
-status_same bytes TooLong Words p q = absurd q
-status_same bytes TooLong (Script line' cause') p q = absurd (omega (arith, p, q.0))
-status_same bytes TooLong ReadFault p q = absurd q
-status_same bytes TooLong WriteFault p q = absurd q
-status_same bytes TooLong Memory p q = absurd q
-status_same bytes TooLong TooLong p q = refl
-status_same bytes TooLong (NotBuilt line') p q = absurd (omega (arith, p, q.0))
-status_same bytes (NotBuilt line) Done p q = let e = first_same (rows_of (words_of bytes)) None (Some line) q.1.built p.1.first in cc
-status_same bytes (NotBuilt line) Words p q = absurd q
-status_same bytes (NotBuilt line) (Script line' cause') p q = let e = sym q.1 ∙ p.1.is_script in cc
-status_same bytes (NotBuilt line) ReadFault p q = absurd q
-status_same bytes (NotBuilt line) WriteFault p q = absurd q
-status_same bytes (NotBuilt line) Memory p q = absurd q
-status_same bytes (NotBuilt line) TooLong p q = absurd (omega (arith, p.0, q))
-status_same bytes (NotBuilt line) (NotBuilt line') p q = let e = first_same (rows_of (words_of bytes)) (Some line) (Some line') p.1.first q.1.first in cc
+-- The words are those of one command.
+other_word : codes "replay" ∷ [] ≡ codes "print" ∷ [] → ⊥
+other_word e = cc
 
--- What is due for an input that the source tells.
-status_due : (words : List (List ℕ)) (left : List ℕ) (left' : Option (List ℕ)) (f f' : ℕ) (s : Status) (text : List ℕ) → IsReplay words →
-    IsDue (record { words = words; left = Some left; left' = left'; faults = f; faults' = f' }) s text → IsStatusOf left s ⊎ (s ≡ ReadFault)
-status_due words left left' f f' Done text r (i, d) = inl (subst (λ (l : List ℕ). IsStatusOf l Done) d.input.all (d.small, record { script = d.replayed.script; is_script = d.replayed.is_script; built = d.replayed.built }))
-status_due words left left' f f' Words text r (i, d) = absurd (i r)
-status_due words left left' f f' (Script line cause) text r (i, d, t) = inl (subst (λ (l : List ℕ). IsStatusOf l (Script line cause)) d.input.all (d.small, d.fault))
-status_due words left left' f f' ReadFault text r d = inr refl
-status_due words left left' f f' WriteFault text r d = absurd d
-status_due words left left' f f' Memory text r d = absurd d
-status_due words left left' f f' TooLong text r (i, d, t) = inl (omega (arith, d.there))
-status_due words left left' f f' (NotBuilt line) text r (i, d, t) = inl (subst (λ (l : List ℕ). IsStatusOf l (NotBuilt line)) d.input.all (d.small, d.unbuilt))
+pub asks_same : (words : List (List ℕ)) (a b : Command) → Asks words a → Asks words b → a ≡ b
+asks_same words Replay Replay p q = refl
+asks_same words Replay Print p q = absurd (other_word (sym p ∙ q))
+asks_same words Print Replay p q = absurd (other_word (sym q ∙ p))
+asks_same words Print Print p q = refl
 
-answers_of : (left : List ℕ) (s : Status) → IsStatusOf left s ⊎ (s ≡ ReadFault) → Answers (Some left) s
-answers_of left s (inl p) = λ due h. inl (status_same left s due p h)
-answers_of left s (inr e) = λ due h. inr (inl e)
+-- An input that a command takes is a script, and no line of it is left.
+taken_fault : (command : Command) (bytes : List ℕ) (f : First_fault) → IsTaken command bytes → script_of bytes ≡ Err f → ⊥
+taken_fault Replay bytes f p q = let e = sym q ∙ p.is_script in cc
+taken_fault Print bytes f p q = let e = sym q ∙ p.is_script in cc
 
--- The answer with what is due, or with a fault.
-pub answers_due : (words : List (List ℕ)) (left left' : Option (List ℕ)) (f f' : ℕ) (s : Status) (text : List ℕ) → IsReplay words →
-    IsDue (record { words = words; left = left; left' = left'; faults = f; faults' = f' }) s text → Answers left s
-answers_due words None left' f f' s text r d = tt
-answers_due words (Some left) left' f f' s text r d = answers_of left s (status_due words left left' f f' s text r d)
+taken_left : (command : Command) (bytes : List ℕ) (line : ℕ) → IsTaken command bytes → IsLeft command bytes line → ⊥
+taken_left Replay bytes line p q = let e = first_same (rows_of (words_of bytes)) None (Some line) p.built q.first in cc
+taken_left Print bytes line p q = q
 
-pub answers_fault : (left : Option (List ℕ)) (s : Status) → (s ≡ WriteFault) ⊎ (s ≡ Memory) → Answers left s
-answers_fault None s e = tt
-answers_fault (Some left) s e = λ due h. inr (inr e)
+left_fault : (command : Command) (bytes : List ℕ) (line : ℕ) (f : First_fault) → IsLeft command bytes line → script_of bytes ≡ Err f → ⊥
+left_fault Replay bytes line f p q = let e = sym q ∙ p.is_script in cc
+left_fault Print bytes line f p q = p
 
--- A script that is carried out is done, where reading has not failed.
-pub completes : (words : List (List ℕ)) (left left' : Option (List ℕ)) (f f' : ℕ) (s : Status) (text : List ℕ) → IsReplay words →
-    IsDue (record { words = words; left = left; left' = left'; faults = f; faults' = f' }) s text → IsAccepted left → (HasRisen f f' → ⊥) → s ≡ Done
-completes words None left' f f' s text r d accepted sure = absurd accepted
-completes words (Some left) left' f f' s text r d accepted sure = elim (status_due words left left' f f' s text r d) [
-  | inl p ↦ status_same left s Done p accepted
-  | inr e ↦ absurd (sure (subst (λ (due : Status). IsDue (record { words = words; left = Some left; left' = left'; faults = f; faults' = f' }) due text) e d).1)
-]
+left_same : (command : Command) (bytes : List ℕ) (line line' : ℕ) → IsLeft command bytes line → IsLeft command bytes line' → NotBuilt line ≡ NotBuilt line'
+left_same Replay bytes line line' p q = let e = first_same (rows_of (words_of bytes)) (Some line) (Some line') p.first q.first in cc
+left_same Print bytes line line' p q = absurd p
+
+-- An input has one status under a command.
+status_same : (command : Command) (bytes : List ℕ) (s s' : Status) → IsStatusOf command bytes s → IsStatusOf command bytes s' → s ≡ s'
+status_same c bytes Done Done p q = refl
+status_same c bytes Done Words p q = absurd q
+status_same c bytes Done (Script line' cause') p q = absurd (taken_fault c bytes _ p.1 q.1)
+status_same c bytes Done ReadFault p q = absurd q
+status_same c bytes Done WriteFault p q = absurd q
+status_same c bytes Done Memory p q = absurd q
+status_same c bytes Done TooLong p q = absurd (omega (arith, p.0, q))
+status_same c bytes Done (NotBuilt line') p q = absurd (taken_left c bytes line' p.1 q.1)
+status_same c bytes Words s' p q = absurd p
+status_same c bytes (Script line cause) Done p q = absurd (taken_fault c bytes _ q.1 p.1)
+status_same c bytes (Script line cause) Words p q = absurd q
+status_same c bytes (Script line cause) (Script line' cause') p q = ap (λ (f : First_fault). Script f.line f.cause) (same_fault _ _ (script_of bytes) p.1 q.1)
+status_same c bytes (Script line cause) ReadFault p q = absurd q
+status_same c bytes (Script line cause) WriteFault p q = absurd q
+status_same c bytes (Script line cause) Memory p q = absurd q
+status_same c bytes (Script line cause) TooLong p q = absurd (omega (arith, p.0, q))
+status_same c bytes (Script line cause) (NotBuilt line') p q = absurd (left_fault c bytes line' _ q.1 p.1)
+status_same c bytes ReadFault s' p q = absurd p
+status_same c bytes WriteFault s' p q = absurd p
+status_same c bytes Memory s' p q = absurd p
+status_same c bytes TooLong Done p q = absurd (omega (arith, p, q.0))
+status_same c bytes TooLong Words p q = absurd q
+status_same c bytes TooLong (Script line' cause') p q = absurd (omega (arith, p, q.0))
+status_same c bytes TooLong ReadFault p q = absurd q
+status_same c bytes TooLong WriteFault p q = absurd q
+status_same c bytes TooLong Memory p q = absurd q
+status_same c bytes TooLong TooLong p q = refl
+status_same c bytes TooLong (NotBuilt line') p q = absurd (omega (arith, p, q.0))
+status_same c bytes (NotBuilt line) Done p q = absurd (taken_left c bytes line q.1 p.1)
+status_same c bytes (NotBuilt line) Words p q = absurd q
+status_same c bytes (NotBuilt line) (Script line' cause') p q = absurd (left_fault c bytes line _ p.1 q.1)
+status_same c bytes (NotBuilt line) ReadFault p q = absurd q
+status_same c bytes (NotBuilt line) WriteFault p q = absurd q
+status_same c bytes (NotBuilt line) Memory p q = absurd q
+status_same c bytes (NotBuilt line) TooLong p q = absurd (omega (arith, p.0, q))
+status_same c bytes (NotBuilt line) (NotBuilt line') p q = left_same c bytes line line' p.1 q.1
+
+-- What is due for an input that was read to its end is due.
+pub due_input : (words : List (List ℕ)) (left left' : Option (List ℕ)) (f f' : ℕ) (command : Command) (bytes : List ℕ) (s : Status) (text : List ℕ) → Asks words command →
+    GivesAll bytes left left' → length bytes ≤ 1048576 → IsDueOf command bytes s text → IsDue (record { words = words; left = left; left' = left'; faults = f; faults' = f' }) s text
+due_input words left left' f f' command bytes Done text asks input small d = record {
+  command = command;
+  asks = asks;
+  answers = record { bytes = bytes; input = input; small = small; answer = d };
+}
+due_input words left left' f f' command bytes Words text asks input small d = absurd d
+due_input words left left' f f' command bytes (Script line cause) text asks input small d = (
+  record { command = command; asks = asks },
+  record { bytes = bytes; input = input; small = small; fault = d.0 },
+  d.1,
+)
+due_input words left left' f f' command bytes ReadFault text asks input small d = absurd d
+due_input words left left' f f' command bytes WriteFault text asks input small d = absurd d
+due_input words left left' f f' command bytes Memory text asks input small d = absurd d
+due_input words left left' f f' command bytes TooLong text asks input small d = absurd d
+due_input words left left' f f' Replay bytes (NotBuilt line) text asks input small d = (asks, record { bytes = bytes; input = input; small = small; unbuilt = d.0 }, d.1)
+due_input words left left' f f' Print bytes (NotBuilt line) text asks input small d = absurd d.0
+
+-- What a command makes of an input, it makes of one that it takes.
+answer_taken : (command : Command) (bytes text : List ℕ) → IsAnswer command bytes text → IsTaken command bytes
+answer_taken Replay bytes text d = record { script = d.script; is_script = d.is_script; built = d.built }
+answer_taken Print bytes text d = record { script = d.script; is_script = d.is_script }
+
+module _ (words : List (List ℕ)) (command : Command) (asks : Asks words command) where
+  -- With the command that the words are.
+  pub answers_as : (left left' : Option (List ℕ)) (f f' : ℕ) (text : List ℕ) → IsDone (record { words = words; left = left; left' = left'; faults = f; faults' = f' }) text → InputAnswers command left left' text
+  answers_as left left' f f' text d = subst (λ (c : Command). InputAnswers c left left' text) (asks_same words d.command command d.asks asks) d.answers
+
+  -- What is due for an input that the source tells.
+  status_due : (left : List ℕ) (left' : Option (List ℕ)) (f f' : ℕ) (s : Status) (text : List ℕ) →
+      IsDue (record { words = words; left = Some left; left' = left'; faults = f; faults' = f' }) s text → IsStatusOf command left s ⊎ (s ≡ ReadFault)
+  status_due left left' f f' Done text d =
+      let a = answers_as (Some left) left' f f' text d in
+      inl (subst (λ (l : List ℕ). IsStatusOf command l Done) a.input.all (a.small, answer_taken command a.bytes text a.answer))
+  status_due left left' f f' Words text d = absurd (d.0 (record { command = command; asks = asks }))
+  status_due left left' f f' (Script line cause) text (i, d, t) = inl (subst (λ (l : List ℕ). IsStatusOf command l (Script line cause)) d.input.all (d.small, d.fault))
+  status_due left left' f f' ReadFault text d = inr refl
+  status_due left left' f f' WriteFault text d = absurd d
+  status_due left left' f f' Memory text d = absurd d
+  status_due left left' f f' TooLong text (i, d, t) = inl (omega (arith, d.there))
+  status_due left left' f f' (NotBuilt line) text (i, d, t) =
+      inl (subst (λ (c : Command). IsStatusOf c left (NotBuilt line)) (asks_same words Replay command i asks)
+      (subst (λ (l : List ℕ). IsStatusOf Replay l (NotBuilt line)) d.input.all (d.small, d.unbuilt)))
+
+  answers_of : (left : List ℕ) (s : Status) → IsStatusOf command left s ⊎ (s ≡ ReadFault) → Answers command (Some left) s
+  answers_of left s (inl p) = λ due h. inl (status_same command left s due p h)
+  answers_of left s (inr e) = λ due h. inr (inl e)
+
+  -- The answer with what is due, or with a fault.
+  pub answers_due : (left left' : Option (List ℕ)) (f f' : ℕ) (s : Status) (text : List ℕ) →
+      IsDue (record { words = words; left = left; left' = left'; faults = f; faults' = f' }) s text → Answers command left s
+  answers_due None left' f f' s text d = tt
+  answers_due (Some left) left' f f' s text d = answers_of left s (status_due left left' f f' s text d)
+
+  -- An input that the command takes is done, where reading has not failed.
+  pub completes : (left left' : Option (List ℕ)) (f f' : ℕ) (s : Status) (text : List ℕ) →
+      IsDue (record { words = words; left = left; left' = left'; faults = f; faults' = f' }) s text → IsAccepted command left → (HasRisen f f' → ⊥) → s ≡ Done
+  completes None left' f f' s text d accepted sure = absurd accepted
+  completes (Some left) left' f f' s text d accepted sure = elim (status_due left left' f f' s text d) [
+    | inl p ↦ status_same command left s Done p accepted
+    | inr e ↦ absurd (sure (subst (λ (due : Status). IsDue (record { words = words; left = Some left; left' = left'; faults = f; faults' = f' }) due text) e d).1)
+  ]
+
+  -- The text of a call that is done, and that the sink has taken.
+  pub carried_out : (left left' : Option (List ℕ)) (f f' : ℕ) (s : Status) (text : List ℕ) (held held' : Option (List ℕ)) →
+      IsDue (record { words = words; left = left; left' = left'; faults = f; faults' = f' }) s text → s ≡ Done → Adds text held held' → CarriesOut command left left' held held'
+  carried_out left left' f f' s text held held' d e written = record {
+    text = text;
+    answers = answers_as left left' f f' text (subst (λ (due : Status). IsDue (record { words = words; left = left; left' = left'; faults = f; faults' = f' }) due text) e d);
+    written = written;
+  }
+
+pub answers_fault : (command : Command) (left : Option (List ℕ)) (s : Status) → (s ≡ WriteFault) ⊎ (s ≡ Memory) → Answers command left s
+answers_fault command None s e = tt
+answers_fault command (Some left) s e = λ due h. inr (inr e)
+
+-- What is written with what is due.
+pub writes_due : (a : Asked) (held held' : Option (List ℕ)) (s : Status) (text : List ℕ) → IsDue a s text → Adds text held held' → Writes a held held' s
+writes_due a held held' Done text d w = (text, d, w)
+writes_due a held held' Words text d w = subst (λ (t : List ℕ). Adds t held held') d.1 w
+writes_due a held held' (Script line cause) text d w = subst (λ (t : List ℕ). Adds t held held') d.2 w
+writes_due a held held' ReadFault text d w = subst (λ (t : List ℕ). Adds t held held') d.2 w
+writes_due a held held' WriteFault text d w = absurd d
+writes_due a held held' Memory text d w = absurd d
+writes_due a held held' TooLong text d w = subst (λ (t : List ℕ). Adds t held held') d.2 w
+writes_due a held held' (NotBuilt line) text d w = subst (λ (t : List ℕ). Adds t held held') d.2 w

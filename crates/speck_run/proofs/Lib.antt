@@ -5,6 +5,6 @@ pub mod Boot
 pub mod Runs
 pub mod Finish
 pub mod Pieces
-pub mod Command
+pub mod OneWord
 pub mod Accepted
 pub mod Due

@@ -4,22 +4,39 @@ use Rattle.std.specs.Fmt.{decimal}
 use Rattle.byte_ends.specs.Ends.{HasRisen, Adds}
 use Rattle.script_reader.specs.declared.cause.Cause.{Cause}
 use Rattle.script_reader.specs.Causes.{cause_text}
+use Rattle.speck_run.specs.declared.words.Command.{Command}
+use Rattle.speck_run.specs.declared.words.Command.TheVariants.{Replay, Print}
 use Rattle.speck_run.specs.declared.top.Status.{Status}
 use Rattle.speck_run.specs.declared.top.Status.TheVariants.{Done, Words, Script, ReadFault, WriteFault, Memory, TooLong, NotBuilt}
 use Rattle.speck_run.specs.Ends.{Gives, GivesAll, AddsFront}
-use Rattle.speck_run.specs.Script.{IsFirstFault, IsBuiltScript, IsUnbuilt, IsReplayed}
+use Rattle.speck_run.specs.Script.{IsFirstFault, IsUnbuilt, IsAnswer, IsTaken, IsLeft}
 
--- The words are the command `replay` alone.
-abbrev pub IsReplay : List (List ℕ) → Type 0
-IsReplay words = words ≡ codes "replay" ∷ []
+-- The word of a command.
+abbrev pub command_word : Command → List ℕ
+command_word Replay = codes "replay"
+command_word Print = codes "print"
 
--- The source has given its input to the end, at most 1,048,576 bytes; it is a script that is carried out, and the text is
--- that of given steps of it.
-pub record InputReplays (left left' : Option (List ℕ)) (text : List ℕ) : Type 0 where
+-- The words are the word of the command alone.
+abbrev pub Asks : List (List ℕ) → Command → Type 0
+Asks words command = words ≡ command_word command ∷ []
+
+-- The words are that of a command alone.
+pub record IsCommand (words : List (List ℕ)) : Type 0 where
+  pub command : Command
+  pub asks : Asks words command
+
+-- The command that the words are, or none where they are that of no command.
+abbrev pub IsCommandOf : List (List ℕ) → Option Command → Type 0
+IsCommandOf words (Some command) = Asks words command
+IsCommandOf words None = IsCommand words → ⊥
+
+-- The source has given its input to the end, at most 1,048,576 bytes; the command takes it, and the text is what it makes
+-- of it.
+pub record InputAnswers (command : Command) (left left' : Option (List ℕ)) (text : List ℕ) : Type 0 where
   pub bytes : List ℕ
   pub input : GivesAll bytes left left'
   pub small : length bytes ≤ 1048576
-  pub replayed : IsReplayed bytes text
+  pub answer : IsAnswer command bytes text
 
 -- The source has given its input to the end, at most 1,048,576 bytes; it is no script, and this is its first fault.
 pub record InputFaults (left left' : Option (List ℕ)) (line : ℕ) (cause : Cause) : Type 0 where
@@ -36,10 +53,10 @@ pub record InputUnbuilt (left left' : Option (List ℕ)) (line : ℕ) : Type 0 w
   pub small : length bytes ≤ 1048576
   pub unbuilt : IsUnbuilt bytes line
 
--- The input is a script, and the sink has taken the whole text of given steps of it.
-pub record Replays (left left' held held' : Option (List ℕ)) : Type 0 where
+-- The command takes the input, and the sink has taken the whole text that it makes of it.
+pub record CarriesOut (command : Command) (left left' held held' : Option (List ℕ)) : Type 0 where
   pub text : List ℕ
-  pub replays : InputReplays left left' text
+  pub answers : InputAnswers command left left' text
   pub written : Adds text held held'
 
 -- The line that is written for a status, or the text for `Done`.
@@ -66,25 +83,31 @@ pub record Asked : Type 0 where
   pub faults : ℕ
   pub faults' : ℕ
 
--- The status is due and the text is due with it: the cause of the status stands, and the text is its line or that of the
--- given steps. Words are judged first, then reading, then the script.
+-- The words are a command, and the text is what it makes of the input.
+pub record IsDone (a : Asked) (text : List ℕ) : Type 0 where
+  pub command : Command
+  pub asks : Asks a.words command
+  pub answers : InputAnswers command a.left a.left' text
+
+-- The status is due and the text is due with it: the cause of the status stands, and the text is its line or what the
+-- command makes of the input. Words are judged first, then reading, then the script.
 abbrev pub IsDue : Asked → Status → List ℕ → Type 0
-IsDue a Done text = IsReplay a.words × InputReplays a.left a.left' text
-IsDue a Words text = (IsReplay a.words → ⊥) × (text ≡ words_line)
-IsDue a ReadFault text = IsReplay a.words × HasRisen a.faults a.faults' × (text ≡ read_line)
-IsDue a TooLong text = IsReplay a.words × Gives 1048577 a.left a.left' × (text ≡ long_line)
-IsDue a (Script line cause) text = IsReplay a.words × InputFaults a.left a.left' line cause × (text ≡ script_line line cause)
-IsDue a (NotBuilt line) text = IsReplay a.words × InputUnbuilt a.left a.left' line × (text ≡ not_built_line line)
+IsDue a Done text = IsDone a text
+IsDue a Words text = (IsCommand a.words → ⊥) × (text ≡ words_line)
+IsDue a ReadFault text = IsCommand a.words × HasRisen a.faults a.faults' × (text ≡ read_line)
+IsDue a TooLong text = IsCommand a.words × Gives 1048577 a.left a.left' × (text ≡ long_line)
+IsDue a (Script line cause) text = IsCommand a.words × InputFaults a.left a.left' line cause × (text ≡ script_line line cause)
+IsDue a (NotBuilt line) text = Asks a.words Replay × InputUnbuilt a.left a.left' line × (text ≡ not_built_line line)
 IsDue a WriteFault text = ⊥
 IsDue a Memory text = ⊥
 
--- What is due for an input that was read to its end: the text of given steps, or the line of its first fault, or that of the
--- first line that is not carried out today.
-abbrev pub IsDueOf : List ℕ → Status → List ℕ → Type 0
-IsDueOf bytes Done text = IsReplayed bytes text
-IsDueOf bytes (Script line cause) text = IsFirstFault bytes line cause × (text ≡ script_line line cause)
-IsDueOf bytes (NotBuilt line) text = IsUnbuilt bytes line × (text ≡ not_built_line line)
-IsDueOf bytes _ text = ⊥
+-- What is due under a command for an input that was read to its end: what the command makes of it, or the line of its first
+-- fault, or that of the first line that is not carried out today.
+abbrev pub IsDueOf : Command → List ℕ → Status → List ℕ → Type 0
+IsDueOf command bytes Done text = IsAnswer command bytes text
+IsDueOf command bytes (Script line cause) text = IsFirstFault bytes line cause × (text ≡ script_line line cause)
+IsDueOf command bytes (NotBuilt line) text = IsLeft command bytes line × (text ≡ not_built_line line)
+IsDueOf command bytes _ text = ⊥
 
 -- A prefix of a text that was due.
 pub record WritesFront (a : Asked) (held held' : Option (List ℕ)) : Type 0 where
@@ -95,7 +118,7 @@ pub record WritesFront (a : Asked) (held held' : Option (List ℕ)) : Type 0 whe
 
 -- What a call has written when it ends with this status.
 abbrev pub Writes : Asked → Option (List ℕ) → Option (List ℕ) → Status → Type 0
-Writes a held held' Done = (text : List ℕ) × InputReplays a.left a.left' text × Adds text held held'
+Writes a held held' Done = (text : List ℕ) × IsDone a text × Adds text held held'
 Writes a held held' Words = Adds words_line held held'
 Writes a held held' ReadFault = Adds read_line held held'
 Writes a held held' TooLong = Adds long_line held held'
@@ -104,32 +127,32 @@ Writes a held held' (NotBuilt line) = Adds (not_built_line line) held held'
 Writes a held held' WriteFault = WritesFront a held held'
 Writes a held held' Memory = held' ≡ held
 
--- The status that an input has where nothing fails: it is too long; or it is no script, and has a first fault; or it is a
--- script with a line that is not carried out today; or it is a script without one.
-abbrev pub IsStatusOf : List ℕ → Status → Type 0
-IsStatusOf bytes TooLong = 1048576 < length bytes
-IsStatusOf bytes (Script line cause) = (length bytes ≤ 1048576) × IsFirstFault bytes line cause
-IsStatusOf bytes (NotBuilt line) = (length bytes ≤ 1048576) × IsUnbuilt bytes line
-IsStatusOf bytes Done = (length bytes ≤ 1048576) × IsBuiltScript bytes
-IsStatusOf bytes _ = ⊥
+-- The status that an input has under a command where nothing fails: it is too long; or it is no script, and has a first
+-- fault; or it is a script with a line that is not carried out today, which `replay` leaves; or the command takes it.
+abbrev pub IsStatusOf : Command → List ℕ → Status → Type 0
+IsStatusOf command bytes TooLong = 1048576 < length bytes
+IsStatusOf command bytes (Script line cause) = (length bytes ≤ 1048576) × IsFirstFault bytes line cause
+IsStatusOf command bytes (NotBuilt line) = (length bytes ≤ 1048576) × IsLeft command bytes line
+IsStatusOf command bytes Done = (length bytes ≤ 1048576) × IsTaken command bytes
+IsStatusOf command bytes _ = ⊥
 
 -- The status is this one, unless a read or a write has failed or memory was wanting.
 abbrev pub IsUnlessFault : Status → Status → Type 0
 IsUnlessFault due status = (status ≡ due) ⊎ ((status ≡ ReadFault) ⊎ ((status ≡ WriteFault) ⊎ (status ≡ Memory)))
 
--- The status is that of the input, where the source tells it, unless something has failed.
-abbrev pub Answers : Option (List ℕ) → Status → Type 0
-Answers None status = Unit {0}
-Answers (Some left) status = (due : Status) → IsStatusOf left due → IsUnlessFault due status
+-- The status is that of the input under the command, where the source tells it, unless something has failed.
+abbrev pub Answers : Command → Option (List ℕ) → Status → Type 0
+Answers command None status = Unit {0}
+Answers command (Some left) status = (due : Status) → IsStatusOf command left due → IsUnlessFault due status
 
 -- The status for other words, unless a write has failed or memory was wanting.
 abbrev pub AnswersWords : Status → Type 0
 AnswersWords status = (status ≡ Words) ⊎ ((status ≡ WriteFault) ⊎ (status ≡ Memory))
 
--- The source tells a script of at most 1,048,576 bytes, each of whose lines is carried out today.
-abbrev pub IsAccepted : Option (List ℕ) → Type 0
-IsAccepted None = ⊥
-IsAccepted (Some left) = (length left ≤ 1048576) × IsBuiltScript left
+-- The source tells at most 1,048,576 bytes that the command takes.
+abbrev pub IsAccepted : Command → Option (List ℕ) → Type 0
+IsAccepted command None = ⊥
+IsAccepted command (Some left) = (length left ≤ 1048576) × IsTaken command left
 
 -- The text is written and the status stands, or the sink has failed and holds the text's front.
 abbrev pub Finishes : Status → List ℕ → ℕ → ℕ → Option (List ℕ) → Option (List ℕ) → Status → Type 0

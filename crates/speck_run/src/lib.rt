@@ -8,8 +8,10 @@ mod replay;
 mod seats;
 mod text;
 mod top;
+mod words;
 
 pub use flight::{Entry, Stage, Took, Turn};
 pub use lone::{LoneKernel, Moved};
 pub use seats::Core;
 pub use top::{Status, speck};
+pub use words::Command;

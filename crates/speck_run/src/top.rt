@@ -2,12 +2,16 @@
 
 ghost use Rattle.std.specs.Prelude.{◌≡◌, ℕ, ◌≤◌, ◌⊎◌, ◌↔◌, IsTrue, IfOk, map, length, string_bytes};
 ghost use Rattle.byte_ends.specs.Ends.{HasRisen, Adds};
+ghost use Rattle.speck_run.specs.declared.words.Command.{Command};
+ghost use Rattle.speck_run.specs.declared.words.Command.TheVariants as commands;
 ghost use Rattle.speck_run.specs.Ends.{Gives, GivesAll, GivesAtMost};
-ghost use Rattle.speck_run.specs.Top.{IsReplay, IsDue, IsDueOf, InputFaults, InputUnbuilt, Replays, Writes, Answers, AnswersWords, IsAccepted, Finishes, script_line, not_built_line, status_number};
+ghost use Rattle.speck_run.specs.Top.{Asks, IsCommand, IsDue, IsDueOf, InputFaults, InputUnbuilt, CarriesOut, Writes, Answers, AnswersWords, IsAccepted, Finishes, script_line, not_built_line, status_number};
 
 use crate::ends::{ReadError, read_all, write_all};
 use crate::replay::replay;
+use crate::words::{Command, command_of};
 use byte_ends::{Sink, Source};
+use script_printer::print;
 use script_reader::{Cause, ReadFault, Script, first_unbuilt, read};
 use spk_nums::Memory;
 use std::alloc::Global;
@@ -29,7 +33,7 @@ pub enum Status {
     Memory,
     /// The source gave more than 1,048,576 bytes.
     TooLong,
-    /// The input is a script with a `calls` line or a call that is not built; this is the first such line.
+    /// The input of `replay` is a script with a `calls` line or a call that is not built; this is the first such line.
     NotBuilt { line: u32 },
 }
 
@@ -48,16 +52,6 @@ impl Status {
             Status::TooLong => 7,
             Status::NotBuilt { .. } => 8,
         }
-    }
-}
-
-// Whether the words are the command `replay` alone.
-fn is_replay(words: &Vec<String>) -> bool
-    ensures { IsTrue result ↔ IsReplay (map string_bytes words.now.items) }
-{
-    match words.as_slice() {
-        [word] => word.as_str() == "replay",
-        _ => false,
     }
 }
 
@@ -101,16 +95,23 @@ fn leave(alloc: Global, line: u32) -> Result<Answer, Memory>
     })
 }
 
-// What is due for an input that was read to its end.
-fn judge_input(alloc: Global, bytes: &[u8]) -> Result<Answer, Memory>
+// What is due for an input that was read to its end. A script is printed whatever its lines say.
+fn judge_input(alloc: Global, command: Command, bytes: &[u8]) -> Result<Answer, Memory>
     requires { length bytes.now ≤ 1048576 }
-    ensures { IfOk result (λ answer. IsDueOf bytes.now answer.status (string_bytes answer.text)) }
+    ensures { IfOk result (λ answer. IsDueOf command bytes.now answer.status (string_bytes answer.text)) }
 {
     let script = match read(alloc, bytes) {
         Ok(script) => script,
         Err(ReadFault::Memory) => return Err(Memory),
         Err(ReadFault::Script { line, cause }) => return refuse(alloc, line, cause),
     };
+    if matches!(command, Command::Print) {
+        let text = print(alloc, &script)?;
+        return Ok(Answer {
+            status: Status::Done,
+            text,
+        });
+    }
     if let Some(line) = first_unbuilt(&script.tokens) {
         return leave(alloc, line);
     }
@@ -137,13 +138,13 @@ fn judge<S: Source>(alloc: Global, words: &Vec<String>, source: &mut S) -> Resul
       faults' = S.faults source.new;
     } answer.status (string_bytes answer.text)) }
     ensures most { GivesAtMost 1048577 (S.left source.old) (S.left source.new) }
-    ensures unread { (IsReplay (map string_bytes words.now.items) → ⊥) → source.new ≡ source.old }
+    ensures unread { (IsCommand (map string_bytes words.now.items) → ⊥) → source.new ≡ source.old }
 {
-    if !is_replay(words) {
+    let Some(command) = command_of(words) else {
         return line(alloc, Status::Words, "words not understood\n");
-    }
+    };
     match read_all(alloc, source) {
-        Ok(bytes) => judge_input(alloc, &bytes),
+        Ok(bytes) => judge_input(alloc, command, &bytes),
         Err(ReadError::Memory) => Err(Memory),
         Err(ReadError::Failed) => line(alloc, Status::ReadFault, "read failed\n"),
         Err(ReadError::TooLong) => line(alloc, Status::TooLong, "too long\n"),
@@ -164,11 +165,12 @@ fn finish<K: Sink>(sink: &mut K, answer: &Answer) -> Status
 /// Does all that the program does: judges the words, reads the source, takes the script and writes
 /// the sink.
 ///
-/// Words other than `replay` alone are `Words`, and nothing is read. A source that fails is
-/// `ReadFault`, and one that gives a byte past 1,048,576 is `TooLong`; no more than that byte is
-/// taken. An input that is no script is `Script`, with its first fault. A script that has a `calls`
-/// line, or a call that is not built, is `NotBuilt`, at the first such line. Else the script's steps
-/// are taken and their text is written, and the status is `Done`.
+/// Words other than `replay` alone or `print` alone are `Words`, and nothing is read. A source that
+/// fails is `ReadFault`, and one that gives a byte past 1,048,576 is `TooLong`; no more than that
+/// byte is taken. An input that is no script is `Script`, with its first fault. Under `replay` a
+/// script that has a `calls` line, or a call that is not built, is `NotBuilt`, at the first such
+/// line; else the script's steps are taken and their text is written, and the status is `Done`.
+/// Under `print` each script is written in its printed form, and the status is `Done`.
 /// Each of the other statuses writes its line in place of the text. A sink that fails is
 /// `WriteFault`, and holds a prefix of what was due. `Memory` may come in place of any status, and
 /// has written nothing.
@@ -178,30 +180,33 @@ pub fn speck<S: Source, K: Sink>(
     source: &mut S,
     sink: &mut K,
 ) -> Status
-    ensures given { result ≡ Status.Done
-        → Replays (S.left source.old) (S.left source.new) (K.held sink.old) (K.held sink.new) }
-    ensures done { result ≡ Status.Done → IsReplay (map string_bytes words.now.items) }
+    // What is written is the text of given steps under `replay`, and the printed form under `print`.
+    ensures given { (command : Command) → Asks (map string_bytes words.now.items) command
+        → result ≡ Status.Done
+        → CarriesOut command (S.left source.old) (S.left source.new) (K.held sink.old) (K.held sink.new) }
+    ensures done { result ≡ Status.Done → IsCommand (map string_bytes words.now.items) }
 
     // Words are judged first: for others nothing is read.
-    ensures words { result ≡ Status.Words → IsReplay (map string_bytes words.now.items) → ⊥ }
-    ensures other_words { (IsReplay (map string_bytes words.now.items) → ⊥) → AnswersWords result }
-    ensures unread { (IsReplay (map string_bytes words.now.items) → ⊥) → source.new ≡ source.old }
+    ensures words { result ≡ Status.Words → IsCommand (map string_bytes words.now.items) → ⊥ }
+    ensures other_words { (IsCommand (map string_bytes words.now.items) → ⊥) → AnswersWords result }
+    ensures unread { (IsCommand (map string_bytes words.now.items) → ⊥) → source.new ≡ source.old }
 
     // Then reading, then the script.
-    ensures answers { IsReplay (map string_bytes words.now.items)
-        → Answers (S.left source.old) result }
+    ensures answers { (command : Command) → Asks (map string_bytes words.now.items) command
+        → Answers command (S.left source.old) result }
     ensures script { (line : ℕ) (cause : Cause) → result ≡ Status.Script line cause
-        → IsReplay (map string_bytes words.now.items)
+        → IsCommand (map string_bytes words.now.items)
         × InputFaults (S.left source.old) (S.left source.new) line cause }
+    // Only `replay` is answered so.
     ensures not_built { (line : ℕ) → result ≡ Status.NotBuilt line
-        → IsReplay (map string_bytes words.now.items)
+        → Asks (map string_bytes words.now.items) commands.Replay
         × InputUnbuilt (S.left source.old) (S.left source.new) line }
     ensures long { result ≡ Status.TooLong
-        → IsReplay (map string_bytes words.now.items)
+        → IsCommand (map string_bytes words.now.items)
         × Gives 1048577 (S.left source.old) (S.left source.new) }
     ensures most { GivesAtMost 1048577 (S.left source.old) (S.left source.new) }
     ensures read { result ≡ Status.ReadFault
-        → IsReplay (map string_bytes words.now.items)
+        → IsCommand (map string_bytes words.now.items)
         × HasRisen (S.faults source.old) (S.faults source.new) }
     ensures sure_source { ((s : S) → S.faults s ≡ 0) → result ≡ Status.ReadFault → ⊥ }
 
@@ -216,8 +221,8 @@ pub fn speck<S: Source, K: Sink>(
     ensures write { result ≡ Status.WriteFault
         → HasRisen (K.faults sink.old) (K.faults sink.new) }
     ensures sure_sink { ((k : K) → K.faults k ≡ 0) → result ≡ Status.WriteFault → ⊥ }
-    ensures complete { IsReplay (map string_bytes words.now.items)
-        → IsAccepted (S.left source.old)
+    ensures complete { (command : Command) → Asks (map string_bytes words.now.items) command
+        → IsAccepted command (S.left source.old)
         → (HasRisen (S.faults source.old) (S.faults source.new) → ⊥)
         → (HasRisen (K.faults sink.old) (K.faults sink.new) → ⊥)
         → (result ≡ Status.Done) ⊎ (result ≡ Status.Memory) }

@@ -11,7 +11,7 @@ replay-requires-clause-built c =
     let tokens = c.in-Ok.ensures.tokens in
     let words : views c.deref.result.now ≡ words_of bytes = ap views c.deref.ensures.value ∙ tokens in
     let first : IsFirstUnbuilt bytes None =
-    subst (λ ws. IsFirstUnbuiltOf (rows_of ws) None) words c.in_default.ensures in
+    subst (λ ws. IsFirstUnbuiltOf (rows_of ws) None) words c.in_default-first_unbuilt.ensures in
     let few = c.in-Ok.ensures.words in
     let small = c.requires in
     accepted (length c.in-Ok.script.tokens.items) bytes (script_view c.in-Ok.script) c.in-Ok.ensures.value first c.in-Ok.ensures.calls (omega arith)

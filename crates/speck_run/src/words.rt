@@ -1,0 +1,36 @@
+//! The commands, and the words by which they are asked.
+
+ghost use Rattle.std.specs.Prelude.{◌≡◌, [], ◌∷◌, ◌↔◌, IsTrue, map, string_bytes};
+ghost use Rattle.speck_run.specs.Top.{IsCommandOf};
+
+/// A command of the program.
+#[derive(Clone, Copy, Debug, PartialEq, Eq)]
+pub enum Command {
+    /// Takes given steps of a script, and writes what they did.
+    Replay,
+    /// Writes a script in its printed form.
+    Print,
+}
+
+// Whether the words are this one alone.
+fn is_alone(words: &Vec<String>, name: &str) -> bool
+    ensures { IsTrue result ↔ (map string_bytes words.now.items ≡ name.now ∷ []) }
+{
+    match words.as_slice() {
+        [word] => word.as_str() == name,
+        _ => false,
+    }
+}
+
+/// The command whose word the words are, alone; none for other words.
+pub fn command_of(words: &Vec<String>) -> Option<Command>
+    ensures { IsCommandOf (map string_bytes words.now.items) result }
+{
+    if is_alone(words, "replay") {
+        return Some(Command::Replay);
+    }
+    if is_alone(words, "print") {
+        return Some(Command::Print);
+    }
+    None
+}
