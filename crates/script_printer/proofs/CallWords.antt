@@ -1,0 +1,134 @@
+-- Calls as words: the printed line of a call is read as that call.
+use Rattle.std.proofs.Common.{◌≡◌, ℕ, ◌≤◌, true, List, [], ◌∷◌, ◌++◌, refl, ◌∙◌, arith, append_assoc}
+use Rattle.std.specs.Prelude.{codes, decimal}
+use Rattle.spk_nums.specs.Names.{frame_kind_word}
+use Rattle.spk_nums.specs.Texts.{call_text, make_text}
+use Rattle.spk_nums.specs.declared.kinds.FrameKind.{FrameKind}
+use Rattle.spk_nums.specs.declared.kinds.FrameKind.TheVariants.{Untyped, User, Kernel}
+use Rattle.spk_nums.specs.declared.calls.Make.{Make}
+use Rattle.spk_nums.specs.declared.calls.Make.TheVariants as make
+use Rattle.spk_nums.specs.declared.calls.Call.{Call}
+use Rattle.spk_nums.specs.declared.calls.Call.TheVariants.{Look, Copy, Remove, Grow, Shrink, Retype, Make as make_call, Map, Unmap, Touch, Flush, Gate, Kill, Call as call_gate, Ret, Switch, Tick, Transfer, Delegate, Test}
+use Rattle.script_printer.specs.Printing.{call_line}
+use Rattle.script_printer.specs.Law.{IsName, IsMakeWithin, IsCallWithin}
+use Rattle.script_printer.proofs.Spans.{is_text, is_line, line_onto}
+use Rattle.script_printer.proofs.NumberWords.{number_text, name_text}
+
+-- the words of the line of a make
+abbrev pub make_words : Make → ℕ → ℕ → ℕ → ℕ → List (List ℕ)
+make_words make.Table r f t b = codes "make" ∷ codes "table" ∷ decimal r ∷ decimal f ∷ decimal t ∷ decimal b ∷ []
+make_words make.Leaf r f t b = codes "make" ∷ codes "leaf" ∷ decimal r ∷ decimal f ∷ decimal t ∷ decimal b ∷ []
+make_words make.Pages r f t b = codes "make" ∷ codes "pages" ∷ decimal r ∷ decimal f ∷ decimal t ∷ decimal b ∷ []
+make_words make.Pleaf r f t b = codes "make" ∷ codes "pleaf" ∷ decimal r ∷ decimal f ∷ decimal t ∷ decimal b ∷ []
+make_words (make.Thread comp) r f t b = codes "make" ∷ codes "thread" ∷ decimal r ∷ decimal f ∷ decimal t ∷ decimal b ∷ decimal comp ∷ []
+make_words (make.Tcap sched quality) r f t b = codes "make" ∷ codes "tcap" ∷ decimal r ∷ decimal f ∷ decimal t ∷ decimal b ∷ decimal sched ∷ decimal quality ∷ []
+make_words (make.Comp table pages live) r f t b = codes "make" ∷ codes "comp" ∷ decimal r ∷ decimal f ∷ decimal t ∷ decimal b ∷ decimal table ∷ decimal pages ∷ decimal live ∷ []
+
+-- the words of the line of a call
+abbrev pub call_words : Call → List (List ℕ)
+call_words (Look a) = codes "look" ∷ decimal a ∷ []
+call_words (Copy a t b) = codes "copy" ∷ decimal a ∷ decimal t ∷ decimal b ∷ []
+call_words (Remove t b) = codes "remove" ∷ decimal t ∷ decimal b ∷ []
+call_words (Grow t i l) = codes "grow" ∷ decimal t ∷ decimal i ∷ decimal l ∷ []
+call_words (Shrink t i) = codes "shrink" ∷ decimal t ∷ decimal i ∷ []
+call_words (Retype r f k) = codes "retype" ∷ decimal r ∷ decimal f ∷ frame_kind_word k ∷ []
+call_words (make_call what range frame table slot) = make_words what range frame table slot
+call_words (Map p v r f w) = codes "map" ∷ decimal p ∷ decimal v ∷ decimal r ∷ decimal f ∷ decimal w.0 ∷ []
+call_words (Unmap p v) = codes "unmap" ∷ decimal p ∷ decimal v ∷ []
+call_words (Touch v) = codes "touch" ∷ decimal v ∷ []
+call_words Flush = codes "flush" ∷ []
+call_words (Gate c t b) = codes "gate" ∷ decimal c ∷ decimal t ∷ decimal b ∷ []
+call_words (Kill c) = codes "kill" ∷ decimal c ∷ []
+call_words (call_gate g) = codes "call" ∷ decimal g ∷ []
+call_words Ret = codes "ret" ∷ []
+call_words (Switch h q) = codes "switch" ∷ decimal h ∷ decimal q ∷ []
+call_words (Tick n) = codes "tick" ∷ decimal n ∷ []
+call_words (Transfer a b m) = codes "transfer" ∷ decimal a ∷ decimal b ∷ decimal m ∷ []
+call_words (Delegate a b m) = codes "delegate" ∷ decimal a ∷ decimal b ∷ decimal m ∷ []
+call_words (Test a b) = codes "test" ∷ decimal a ∷ decimal b ∷ []
+
+-- ---- the line is its words
+
+make_onto : (what : Make) (r f t b : ℕ) (rest : List ℕ) → make_text what r f t b ++ 10 ∷ rest ≡ line_onto (make_words what r f t b) rest
+make_onto make.Table r f t b rest = simp append_assoc
+make_onto make.Leaf r f t b rest = simp append_assoc
+make_onto make.Pages r f t b rest = simp append_assoc
+make_onto make.Pleaf r f t b rest = simp append_assoc
+make_onto (make.Thread comp) r f t b rest = simp append_assoc
+make_onto (make.Tcap sched quality) r f t b rest = simp append_assoc
+make_onto (make.Comp table pages live) r f t b rest = simp append_assoc
+
+text_onto : (c : Call) (rest : List ℕ) → call_text c ++ 10 ∷ rest ≡ line_onto (call_words c) rest
+text_onto (Look a) rest = simp append_assoc
+text_onto (Copy a t b) rest = simp append_assoc
+text_onto (Remove t b) rest = simp append_assoc
+text_onto (Grow t i l) rest = simp append_assoc
+text_onto (Shrink t i) rest = simp append_assoc
+text_onto (Retype r f k) rest = simp append_assoc
+text_onto (make_call what range frame table slot) rest = make_onto what range frame table slot rest
+text_onto (Map p v r f w) rest = simp append_assoc
+text_onto (Unmap p v) rest = simp append_assoc
+text_onto (Touch v) rest = simp append_assoc
+text_onto Flush rest = refl
+text_onto (Gate c t b) rest = simp append_assoc
+text_onto (Kill c) rest = simp append_assoc
+text_onto (call_gate g) rest = simp append_assoc
+text_onto Ret rest = refl
+text_onto (Switch h q) rest = simp append_assoc
+text_onto (Tick n) rest = simp append_assoc
+text_onto (Transfer a b m) rest = simp append_assoc
+text_onto (Delegate a b m) rest = simp append_assoc
+text_onto (Test a b) rest = simp append_assoc
+
+-- the line of a call, before the bytes behind it
+pub call_onto : (c : Call) (rest : List ℕ) → call_line c ++ rest ≡ line_onto (call_words c) rest
+call_onto c rest = append_assoc (call_text c) (10 ∷ []) rest ∙ text_onto c rest
+
+-- ---- its words are words
+
+kind_text : (k : FrameKind) → is_text (frame_kind_word k) ≡ true
+kind_text Untyped = refl
+kind_text User = refl
+kind_text Kernel = refl
+
+make_is_line : (what : Make) (r f t b : ℕ) → IsMakeWithin what → IsName r → IsName f → IsName t → IsName b → is_line (make_words what r f t b) ≡ true
+make_is_line make.Table r f t b h hr hf ht hb = rw (name_text r hr, name_text f hf, name_text t ht, name_text b hb) refl
+make_is_line make.Leaf r f t b h hr hf ht hb = rw (name_text r hr, name_text f hf, name_text t ht, name_text b hb) refl
+make_is_line make.Pages r f t b h hr hf ht hb = rw (name_text r hr, name_text f hf, name_text t ht, name_text b hb) refl
+make_is_line make.Pleaf r f t b h hr hf ht hb = rw (name_text r hr, name_text f hf, name_text t ht, name_text b hb) refl
+make_is_line (make.Thread comp) r f t b h hr hf ht hb = rw (name_text r hr, name_text f hf, name_text t ht, name_text b hb, name_text comp h) refl
+make_is_line (make.Tcap sched quality) r f t b h hr hf ht hb =
+    let least : sched ≤ 63 = h.0 in
+    let most : quality ≤ 16777215 = h.2 in
+    rw (name_text r hr, name_text f hf, name_text t ht, name_text b hb, number_text sched (omega arith), number_text quality (omega arith)) refl
+make_is_line (make.Comp table pages live) r f t b h hr hf ht hb =
+    let most : live ≤ 63 = h.2 in
+    rw (name_text r hr, name_text f hf, name_text t ht, name_text b hb, name_text table h.0, name_text pages h.1, number_text live (omega arith)) refl
+
+pub call_is_line : (c : Call) → IsCallWithin c → is_line (call_words c) ≡ true
+call_is_line (Look a) h = rw (name_text a h) refl
+call_is_line (Copy a t b) h = rw (name_text a h.0, name_text t h.1, name_text b h.2) refl
+call_is_line (Remove t b) h = rw (name_text t h.0, name_text b h.1) refl
+call_is_line (Grow t i l) h = rw (name_text t h.0, name_text i h.1, name_text l h.2) refl
+call_is_line (Shrink t i) h = rw (name_text t h.0, name_text i h.1) refl
+call_is_line (Retype r f k) h = rw (name_text r h.0, name_text f h.1, kind_text k) refl
+call_is_line (make_call what range frame table slot) h = make_is_line what range frame table slot h.0 h.1 h.2 h.3 h.4
+call_is_line (Map p v r f w) h =
+    let flags : w.0 ≤ 3 = h.4 in
+    rw (name_text p h.0, name_text v h.1, name_text r h.2, name_text f h.3, number_text w.0 (omega arith)) refl
+call_is_line (Unmap p v) h = rw (name_text p h.0, name_text v h.1) refl
+call_is_line (Touch v) h = rw (name_text v h) refl
+call_is_line Flush h = refl
+call_is_line (Gate c t b) h = rw (name_text c h.0, name_text t h.1, name_text b h.2) refl
+call_is_line (Kill c) h = rw (name_text c h) refl
+call_is_line (call_gate g) h = rw (name_text g h) refl
+call_is_line Ret h = refl
+call_is_line (Switch h q) k = rw (name_text h k.0, name_text q k.1) refl
+call_is_line (Tick n) h = rw (number_text n (omega arith)) refl
+call_is_line (Transfer a b m) h =
+    let amount : m ≤ 4000000000 = h.2 in
+    rw (name_text a h.0, name_text b h.1, number_text m (omega arith)) refl
+call_is_line (Delegate a b m) h =
+    let amount : m ≤ 4000000000 = h.2 in
+    rw (name_text a h.0, name_text b h.1, number_text m (omega arith)) refl
+call_is_line (Test a b) h = rw (name_text a h.0, name_text b h.1) refl

@@ -1,0 +1,81 @@
+-- The lines of the setup, and the `core` and `order` lines, are read as what was printed.
+use Rattle.std.proofs.Common.{◌≡◌, ℕ, ◌+◌, ◌*◌, ◌<◌, ◌≤◌, ◌^◌, ◌⊎◌, List, [], ◌∷◌, Ok, refl, arith, inl, inr}
+use Rattle.std.specs.Prelude.{codes, decimal}
+use Rattle.spk_nums.specs.declared.grants.Grant.{Grant}
+use Rattle.spk_nums.specs.Setting.{GrantFits}
+use Rattle.script_reader.specs.declared.head.Section.{Section}
+use Rattle.script_reader.specs.declared.head.Section.TheVariants as section
+use Rattle.script_reader.specs.declared.head.Head.{Head}
+use Rattle.script_reader.specs.declared.head.Line.TheVariants as line
+use Rattle.script_reader.specs.Numerals.{number_of}
+use Rattle.script_reader.specs.FirstWords.{first_word}
+use Rattle.script_reader.specs.Arguments.{is_word, word_at, number_at, end_at}
+use Rattle.script_reader.specs.Heads.{no_head, granted, line_of, line_by, speck_line, cores_line, frames_line, grant_line, calls_line, epochs_line, core_line, order_line}
+use Rattle.script_printer.proofs.NumberWords.{number_back, core_back}
+
+-- the words of the lines
+abbrev pub speck_words : List (List ℕ)
+speck_words = codes "speck" ∷ codes "1" ∷ []
+
+abbrev pub cores_words : ℕ → List (List ℕ)
+cores_words n = codes "cores" ∷ decimal n ∷ []
+
+abbrev pub frames_words : ℕ → List (List ℕ)
+frames_words n = codes "frames" ∷ decimal n ∷ []
+
+abbrev pub grant_words : Grant → List (List ℕ)
+grant_words g = codes "grant" ∷ decimal g.budget ∷ decimal g.sched ∷ decimal g.quality ∷ []
+
+abbrev pub calls_words : ℕ → List (List ℕ)
+calls_words n = codes "calls" ∷ decimal n ∷ []
+
+abbrev pub epochs_words : ℕ → List (List ℕ)
+epochs_words n = codes "epochs" ∷ decimal n ∷ []
+
+abbrev pub core_words : ℕ → List (List ℕ)
+core_words n = codes "core" ∷ decimal n ∷ []
+
+abbrev pub order_words : List (List ℕ)
+order_words = codes "order" ∷ []
+
+-- between the limits and the order: behind the limits, or in the list of a core
+abbrev pub IsListing : Section → Type 0
+IsListing s = (s ≡ section.Lists) ⊎ (s ≡ section.List)
+
+pub speck_back : line_of no_head speck_words ≡ Ok (line.Head (record no_head { section = section.Cores }))
+unfolding line_of line_by speck_line number_at word_at number_of end_at first_word is_word
+speck_back = refl
+
+pub cores_back : (h : Head) (n : ℕ) → h.section ≡ section.Cores → 1 ≤ n → n ≤ 8 → line_of h (cores_words n) ≡ Ok (line.Head (record h { section = section.Frames; cores = n }))
+unfolding line_of line_by cores_line end_at first_word is_word
+cores_back h n e low high = rw (e, number_back (cores_words n) 1 1 8 n refl low high (omega arith)) refl
+
+pub frames_back : (h : Head) (n : ℕ) → h.section ≡ section.Frames → 4 + 2 * h.cores ≤ n → n ≤ 512 → line_of h (frames_words n) ≡ Ok (line.Head (record h { section = section.Grants; frames = n }))
+unfolding line_of line_by frames_line end_at first_word is_word
+frames_back h n e low high = rw (e, number_back (frames_words n) 1 (4 + 2 * h.cores) 512 n refl low high (omega arith)) refl
+
+pub grant_back : (h : Head) (g : Grant) → h.section ≡ section.Grants → GrantFits g → line_of h (grant_words g) ≡ Ok (line.Head (granted h g))
+unfolding line_of line_by grant_line end_at first_word is_word
+grant_back h g e fits =
+    let budget : g.budget ≤ 500000000 = fits.0 in
+    let sched : g.sched < 64 = fits.1 in
+    let quality : g.quality < 2 ^ 24 = fits.3 in
+    rw (e, number_back (grant_words g) 1 0 500000000 g.budget refl (omega arith) budget (omega arith), number_back (grant_words g) 2 0 63 g.sched refl (omega arith) (omega arith) (omega arith), number_back (grant_words g) 3 1 16777215 g.quality refl fits.2 (omega arith) (omega arith)) refl
+
+pub calls_back : (h : Head) (n : ℕ) → h.section ≡ section.Calls → n ≤ 4194304 → line_of h (calls_words n) ≡ Ok (line.Head (record h { section = section.Epochs; calls = n }))
+unfolding line_of line_by calls_line end_at first_word is_word
+calls_back h n e high = rw (e, number_back (calls_words n) 1 0 4194304 n refl (omega arith) high (omega arith)) refl
+
+pub epochs_back : (h : Head) (n : ℕ) → h.section ≡ section.Epochs → 1 ≤ n → n ≤ 65535 → line_of h (epochs_words n) ≡ Ok (line.Head (record h { section = section.Lists; epochs = n }))
+unfolding line_of line_by epochs_line end_at first_word is_word
+epochs_back h n e low high = rw (e, number_back (epochs_words n) 1 1 65535 n refl low high (omega arith)) refl
+
+pub core_line_back : (h : Head) (n : ℕ) → IsListing h.section → n < h.cores → h.cores ≤ 8 → line_of h (core_words n) ≡ Ok (line.Head (record h { section = section.List; core = n }))
+unfolding line_of line_by core_line end_at first_word is_word
+core_line_back h n (inl e) below fits = rw (e, core_back (core_words n) 1 h.cores n refl below fits) refl
+core_line_back h n (inr e) below fits = rw (e, core_back (core_words n) 1 h.cores n refl below fits) refl
+
+pub order_back : (h : Head) → IsListing h.section → line_of h order_words ≡ Ok (line.Head (record h { section = section.Order }))
+unfolding line_of line_by order_line end_at first_word is_word
+order_back h (inl e) = rw e refl
+order_back h (inr e) = rw e refl

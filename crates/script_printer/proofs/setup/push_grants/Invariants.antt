@@ -1,0 +1,8 @@
+use Rattle.std.proofs.Common.{◌≡◌, ◌++◌, take}
+use Rattle.std.specs.Prelude.{string_bytes}
+use Rattle.std.specs.List.{flat_map}
+use Rattle.script_printer.specs.Printing.{grant_line}
+use Rattle.script_printer.proofs.setup.push_grants.Given as goal
+
+abbrev pub invariant-loop-grant : goal.invariant-loop-grant
+invariant-loop-grant l = string_bytes l.text ≡ string_bytes l.initial.text ++ flat_map grant_line (take l.grant-index l.grants)

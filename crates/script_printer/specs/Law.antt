@@ -1,0 +1,62 @@
+-- Which scripts are read back from their printed form, and that they are.
+use Rattle.std.specs.Prelude.{◌≡◌, ◌≤◌, ℕ, All, Ok, length}
+use Rattle.spk_nums.specs.declared.calls.Make.{Make}
+use Rattle.spk_nums.specs.declared.calls.Make.TheVariants.{Thread, Tcap, Comp}
+use Rattle.spk_nums.specs.declared.calls.Call.{Call}
+use Rattle.spk_nums.specs.declared.calls.Call.TheVariants.{Look, Copy, Remove, Grow, Shrink, Retype, Make as make_call, Map, Unmap, Touch, Flush, Gate, Kill, Call as call_gate, Ret, Switch, Tick, Transfer, Delegate, Test}
+use Rattle.spk_nums.specs.Setting.{IsSetting}
+use Rattle.script_tokens.specs.Words.{line_count}
+use Rattle.script_reader.specs.Readings.{Meaning, BelowCores, script_of}
+use Rattle.script_printer.specs.Printing.{printed}
+
+-- the number of a capability, a page, a root entry or a frame
+abbrev pub IsName : ℕ → Type 0
+IsName n = n ≤ 65535
+
+-- an amount of ticks that is moved
+abbrev pub IsAmount : ℕ → Type 0
+IsAmount n = n ≤ 4000000000
+
+-- the arguments of an object to make are in their ranges
+abbrev pub IsMakeWithin : Make → Type 0
+IsMakeWithin (Thread comp) = IsName comp
+IsMakeWithin (Tcap sched quality) = (sched ≤ 63) × (1 ≤ quality) × (quality ≤ 16777215)
+IsMakeWithin (Comp table pages live) = IsName table × IsName pages × (live ≤ 63)
+IsMakeWithin _ = Unit {0}
+
+-- the arguments of a call are in the ranges in which they are read
+abbrev pub IsCallWithin : Call → Type 0
+IsCallWithin (Look a) = IsName a
+IsCallWithin (Copy a t b) = IsName a × IsName t × IsName b
+IsCallWithin (Remove t b) = IsName t × IsName b
+IsCallWithin (Grow t i l) = IsName t × IsName i × IsName l
+IsCallWithin (Shrink t i) = IsName t × IsName i
+IsCallWithin (Retype r f k) = IsName r × IsName f
+IsCallWithin (make_call what range frame table slot) = IsMakeWithin what × IsName range × IsName frame × IsName table × IsName slot
+IsCallWithin (Map p v r f w) = IsName p × IsName v × IsName r × IsName f × (w.0 ≤ 3)
+IsCallWithin (Unmap p v) = IsName p × IsName v
+IsCallWithin (Touch v) = IsName v
+IsCallWithin Flush = Unit {0}
+IsCallWithin (Gate c t b) = IsName c × IsName t × IsName b
+IsCallWithin (Kill c) = IsName c
+IsCallWithin (call_gate g) = IsName g
+IsCallWithin Ret = Unit {0}
+IsCallWithin (Switch h q) = IsName h × IsName q
+IsCallWithin (Tick n) = n ≤ 1000000
+IsCallWithin (Transfer a b m) = IsName a × IsName b × IsAmount m
+IsCallWithin (Delegate a b m) = IsName a × IsName b × IsAmount m
+IsCallWithin (Test a b) = IsName a × IsName b
+
+-- a script within the limits: its setup is one, each core has a list, arguments and items are in their ranges,
+-- the items are at most 200,000, and its printed form has at most 20,000 lines
+pub record IsWithin (m : Meaning) : Type 0 where
+  pub setup : IsSetting m.setup
+  pub lists : length m.lists ≡ m.setup.cores
+  pub calls : All (All IsCallWithin) m.lists
+  pub below : BelowCores m.setup.cores m.order
+  pub items : length m.order ≤ 200000
+  pub lines : line_count (printed m) ≤ 20000
+
+-- the printed form of a script within the limits says that script
+abbrev pub ReadsBack : Meaning → Type 0
+ReadsBack m = IsWithin m → script_of (printed m) ≡ Ok m

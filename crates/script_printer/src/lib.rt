@@ -1,0 +1,15 @@
+//! Prints scripts in their printed form, and the reply lines of calls.
+#![tactic(auto)]
+
+mod law;
+mod order;
+mod printing;
+mod reply_lines;
+mod setup;
+
+pub use law::reads_back;
+pub use printing::print;
+pub use reply_lines::reply_line;
+
+#[cfg(test)]
+mod tests;
