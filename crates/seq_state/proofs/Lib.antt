@@ -15,3 +15,4 @@ mod TicksLaw
 mod Refs
 mod RefsLaw
 mod Rows
+mod TwoCores

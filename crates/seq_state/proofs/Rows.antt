@@ -1,6 +1,6 @@
 -- Worked examples of calls made alone, which the checker computes.
 use Rattle.std.proofs.Common.{◌≡◌, refl}
-use Rattle.std.specs.Prelude.{ℕ, zero, suc, ◌+◌, List, [], ◌∷◌}
+use Rattle.std.specs.Prelude.{ℕ, zero, suc, ◌+◌, true, false, take, List, [], ◌∷◌}
 use Rattle.spk_nums.specs.Capability.{Capability}
 use Rattle.spk_nums.specs.Setting.{Setting}
 use Rattle.spk_nums.specs.declared.grants.Grant.{Grant}
@@ -12,7 +12,7 @@ use Rattle.spk_nums.specs.declared.calls.Call.TheVariants as call
 use Rattle.spk_nums.specs.declared.replies.Value.TheVariants.{Nothing, Cap, Page, Amount, Preempts, Stays}
 use Rattle.spk_nums.specs.declared.replies.Reply.{Reply}
 use Rattle.spk_nums.specs.declared.replies.Reply.TheVariants as reply
-use Rattle.seq_state.specs.State.{State}
+use Rattle.seq_state.specs.State.{PlaceOf, State}
 use Rattle.seq_state.specs.Start.{start, plain_cap}
 use Rattle.seq_state.specs.References.{sum_below, node_refs, refs}
 use Rattle.seq_state.specs.MemoryCalls.{holds_nothing}
@@ -297,3 +297,55 @@ touching = refl
 refilling : plain_replies two_cores 0 (call.Copy 0 1 20 ∷ call.Remove 1 20 ∷ call.Look 20 ∷ call.Copy 0 1 20 ∷ call.Copy 0 1 20 ∷ [])
     ≡ done ∷ done ∷ reply.Empty ∷ done ∷ reply.Occupied ∷ []
 refilling = refl
+
+-- A gate has its component's own epoch: where the liveness number lives again for another component, it leads nowhere.
+gate_calls : List Call
+gate_calls =
+    call.Retype 0 8 frame_kind.Kernel
+    ∷ call.Make (make.Comp 1 2 1) 0 8 1 20
+    ∷ call.Gate 20 1 22
+    ∷ call.Kill 20
+    ∷ call.Retype 0 9 frame_kind.Kernel
+    ∷ call.Make (make.Comp 1 2 1) 0 9 1 21
+    ∷ call.Gate 21 1 23
+    ∷ call.Look 22
+    ∷ call.Look 23
+    ∷ call.Call 22
+    ∷ call.Call 23
+    ∷ call.Ret
+    ∷ []
+
+gate_of : ℕ → ℕ → Capability
+gate_of f epoch = record { kind = kind.Gate; frame = f; arg = epoch }
+
+epochs_of_gates : plain_replies two_cores 0 gate_calls
+    ≡ replies_over 7 done (reply.Ok (Cap (gate_of 8 1)) ∷ reply.Ok (Cap (gate_of 9 2)) ∷ reply.Dead ∷ done ∷ done ∷ [])
+unfolding gate_calls gate_of replies_over
+epochs_of_gates = refl
+
+-- A leaf whose entry was removed and that is made anew has no grace period left.
+remade_calls : List Call
+remade_calls =
+    call.Retype 0 9 frame_kind.Kernel
+    ∷ call.Make make.Leaf 0 9 1 20
+    ∷ call.Grow 1 1 20
+    ∷ call.Copy 0 1 64
+    ∷ call.Remove 1 64
+    ∷ call.Shrink 1 1
+    ∷ call.Remove 1 20
+    ∷ call.Retype 0 9 frame_kind.Untyped
+    ∷ call.Retype 0 9 frame_kind.Kernel
+    ∷ call.Make make.Leaf 0 9 1 21
+    ∷ []
+
+remaking : plain_replies two_cores 0 remade_calls ≡ replies_over 10 done []
+unfolding sum_below node_refs refs holds_nothing remade_calls replies_over
+remaking = refl
+
+no_grace_left : ((plain_steps two_cores 0 remade_calls).grace (PlaceOf 9 0)).not_passed 1 ≡ false
+unfolding sum_below node_refs refs holds_nothing remade_calls
+no_grace_left = refl
+
+grace_before : ((plain_steps two_cores 0 (take 9 remade_calls)).grace (PlaceOf 9 0)).not_passed 1 ≡ true
+unfolding sum_below node_refs refs holds_nothing remade_calls
+grace_before = refl

@@ -43,7 +43,7 @@ pub data Frame : Type 0 where
   User : Frame
   Kernel : Object → Frame
 
--- A liveness number was never used, or is live in an epoch for the component of a frame, or is dead since that epoch.
+-- A liveness number was never used, or is live in an epoch for the component of a frame, or is dead after its last epoch.
 pub data Liveness : Type 0 where
   Unused : Liveness
   Live : ℕ → ℕ → Liveness
