@@ -251,6 +251,52 @@ fn a_foreign_byte_and_one_line_too_many_are_told(rt: HostRuntime) -> Result<(), 
     Ok(())
 }
 
+// A script in its printed form, with a `calls` line and calls that are not built.
+const UNBUILT: &str =
+    "calls 2\nepochs 1\ncore 1\nmake tcap 65535 8 1 65535 63 16777215\ntransfer 12 13 4000000000\norder\n0< 1! 0. 1\n";
+
+#[test]
+fn scripts_are_printed(rt: HostRuntime) -> Result<(), Fail> {
+    let alloc = rt.alloc();
+    let print = ["print"];
+    // What stands behind the machine's lines, and what is printed behind them.
+    let rows = [
+        (
+            "core 0\nlook 007\n",
+            "calls 4194304\nepochs 65535\ncore 0\nlook 7\n",
+        ),
+        (UNBUILT, UNBUILT),
+    ];
+    for (lines, printed) in rows {
+        let input = format!(in alloc; "{MACHINE}{lines}")?;
+        let text = format!(in alloc; "{MACHINE}{printed}")?;
+        assert!(rt;
+            answers(
+                alloc,
+                &print,
+                input.as_bytes(),
+                &AMPLE,
+                Status::Done,
+                text.as_str()
+            )?
+        );
+    }
+    assert!(rt;
+        answers(
+            alloc,
+            &print,
+            b"",
+            &AMPLE,
+            Status::Script {
+                line: 1,
+                cause: Cause::S7
+            },
+            "line 1: S7 section out of place\n"
+        )?
+    );
+    Ok(())
+}
+
 #[test]
 fn faults_have_their_statuses(rt: HostRuntime) -> Result<(), Fail> {
     let alloc = rt.alloc();
