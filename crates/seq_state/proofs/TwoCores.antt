@@ -1,6 +1,6 @@
 -- Worked examples of two cores: what the relation permits while both are in a call.
 use Rattle.std.proofs.Common.{◌≡◌, inl, inr, refl, ℕ, arith}
-use Rattle.std.specs.Prelude.{List, [], ◌∷◌}
+use Rattle.std.specs.Prelude.{true, false, List, [], ◌∷◌}
 use Rattle.spk_nums.specs.Setting.{Setting}
 use Rattle.spk_nums.specs.Capability.{Capability}
 use Rattle.spk_nums.specs.declared.kinds.Kind.TheVariants as kind
@@ -11,7 +11,9 @@ use Rattle.spk_nums.specs.declared.calls.Call.TheVariants as call
 use Rattle.spk_nums.specs.declared.replies.Value.TheVariants.{Nothing, Cap}
 use Rattle.spk_nums.specs.declared.replies.Reply.{Reply}
 use Rattle.spk_nums.specs.declared.replies.Reply.TheVariants as reply
-use Rattle.seq_state.specs.State.{Holds}
+use Rattle.seq_state.specs.State.{Holds, PlaceOf, FrameOf}
+use Rattle.seq_state.specs.References.{sum_below, node_refs, refs}
+use Rattle.seq_state.specs.MemoryCalls.{holds_nothing}
 use Rattle.seq_state.specs.CallRelation.{MayReply}
 use Rattle.seq_state.specs.Runs.{Event, Enters, Decides, Returns, after}
 
@@ -110,3 +112,55 @@ number_then = (refl, refl)
 own_cause : MayReply (after two_cores (Enters 0 ∷ whole 0 (call.Copy 0 1 20) done [])) 0 (call.Copy 63 1 20) reply.Occupied
 unfolding two_cores done whole
 own_cause = (refl, inr (inr (inl refl)))
+
+-- Core 1, which waited, returns and enters again: it is out of the removal's way, but no call that it entered since has returned.
+entered_again : List Event
+entered_again = Enters 0 ∷ Enters 1 ∷ Returns 1 ∷ Decides 1 (call.Look 0) (reply.Ok (Cap range)) ∷ removed_meanwhile
+
+again_free : MayReply (after two_cores entered_again) 0 (call.Copy 0 1 20) done
+unfolding two_cores done range whole removed_meanwhile entered_again
+again_free = (refl, refl)
+
+again_refused : MayReply (after two_cores entered_again) 0 (call.Copy 0 1 20) (reply.Quiescing 1)
+unfolding two_cores done range whole removed_meanwhile entered_again
+again_refused = (refl, inr (inr (inl (record { is_core = omega arith; other = λ e. omega (arith, e); is_inside = refl; not_passed = refl }))))
+
+-- Once such a call has returned, the refusal is not permitted any more.
+passed_by : List Event
+passed_by = Enters 0 ∷ Enters 1 ∷ whole 1 (call.Look 0) (reply.Ok (Cap range)) (Returns 1 ∷ Decides 1 (call.Look 0) (reply.Ok (Cap range)) ∷ removed_meanwhile)
+
+not_refused : ((after two_cores passed_by).grace (PlaceOf 1 20)).not_passed 1 ≡ false
+unfolding two_cores done range whole removed_meanwhile passed_by
+not_refused = refl
+
+-- Core 0 maps a page and unmaps it, and flushes; core 1 decides a flush that has not returned.
+flushed_just_now : List Event
+flushed_just_now =
+    Decides 1 call.Flush done
+    ∷ Enters 1
+    ∷ whole 0 call.Flush done
+    (whole 0 (call.Unmap 2 0) done
+    (whole 0 (call.Map 2 0 0 9 (record { 0 = 0 })) done
+    (whole 0 (call.Retype 0 9 frame_kind.User) done
+    (whole 0 (call.Grow 2 0 20) done
+    (whole 0 (call.Make make.Pleaf 0 8 1 20) done
+    (whole 0 (call.Retype 0 8 frame_kind.Kernel) done []))))))
+
+-- The frame may be retyped, for both have flushed; but core 1 may also be found not to have,
+retype_free : MayReply (after two_cores (Enters 0 ∷ flushed_just_now)) 0 (call.Retype 0 9 frame_kind.Untyped) done
+unfolding two_cores done whole flushed_just_now sum_below node_refs refs holds_nothing
+retype_free = (refl, refl)
+
+retype_refused : ((after two_cores (Enters 0 ∷ flushed_just_now)).grace (FrameOf 9)).flush_unknown 1 ≡ true
+unfolding two_cores done whole flushed_just_now
+retype_refused = refl
+
+-- until its flush has returned.
+flush_known : ((after two_cores (Returns 1 ∷ flushed_just_now)).grace (FrameOf 9)).flush_unknown 1 ≡ false
+unfolding two_cores done whole flushed_just_now
+flush_known = refl
+
+-- A table that is not there does not keep the target's number from being too large.
+own_number : MayReply (after two_cores (Enters 0 ∷ [])) 0 (call.Copy 0 63 4096) reply.NoSlot
+unfolding two_cores
+own_number = (refl, inr (inr (inl refl)))

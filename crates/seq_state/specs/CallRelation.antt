@@ -40,7 +40,7 @@ rule_of s c (Test a b) = test_rule s a b
 abbrev pub are_calls_spent : State → ℕ → Bool
 are_calls_spent s c = nat_le s.limits.calls (s.core c).counted
 
--- A call that is carried out answers its value; it may always lose a race or find a mark; any other refusal is its rule's.
+-- A call that is carried out answers its value; `raced` and `busy` are permitted here, and justified elsewhere; any other refusal is its rule's.
 abbrev pub MayAnswer : State → ℕ → Rule → Reply → Type 0
 MayAnswer s c rule (reply.Ok v) = RuleAnswers s c rule v
 MayAnswer s c rule reply.Raced = Unit {0}
@@ -71,7 +71,7 @@ abbrev pub changed : State → Judged Change → State
 changed s (Refused r) = s
 changed s (Found change) = begun s change.begins change.next
 
--- The state after a call that lost a race or found a mark: as it was, but the ticks of a `tick` are owed.
+-- The state after a call answered `raced` or `busy`: as it was, but the ticks of a `tick` are owed.
 abbrev pub owed_by : State → ℕ → Call → State
 owed_by s c (Tick n) = owing s c n
 owed_by s c call = s

@@ -22,7 +22,7 @@ abbrev pub IsRefusal : Reply → Type 0
 IsRefusal (reply.Ok v) = ⊥
 IsRefusal _ = Unit {0}
 
--- The ticks that a refused call adds to those owed: a `tick` that lost a race or found a mark adds its own.
+-- The ticks that a refused call adds to those owed: a `tick` answered `raced` or `busy` adds its own.
 abbrev pub ticks_kept : Call → Reply → ℕ
 ticks_kept (Tick n) reply.Raced = n
 ticks_kept (Tick n) (reply.Busy d) = n
