@@ -6,3 +6,5 @@ pub mod HeadLines
 pub mod ItemWords
 pub mod ReadingLines
 pub mod PrintedLines
+pub mod CallLimits
+pub mod ReadLimits

@@ -1,5 +1,5 @@
 -- Which scripts are read back from their printed form, and that they are.
-use Rattle.std.specs.Prelude.{◌≡◌, ◌≤◌, ℕ, All, Ok, length}
+use Rattle.std.specs.Prelude.{◌≡◌, ◌≤◌, ℕ, List, All, Ok, length}
 use Rattle.spk_nums.specs.declared.calls.Make.{Make}
 use Rattle.spk_nums.specs.declared.calls.Make.TheVariants.{Thread, Tcap, Comp}
 use Rattle.spk_nums.specs.declared.calls.Call.{Call}
@@ -60,3 +60,7 @@ pub record IsWithin (m : Meaning) : Type 0 where
 -- the printed form of a script within the limits says that script
 abbrev pub ReadsBack : Meaning → Type 0
 ReadsBack m = IsWithin m → script_of (printed m) ≡ Ok m
+
+-- what bytes say is a script within the limits, where its printed form has at most 20,000 lines
+abbrev pub IsReadWithin : List ℕ → Meaning → Type 0
+IsReadWithin source m = script_of source ≡ Ok m → line_count (printed m) ≤ 20000 → IsWithin m

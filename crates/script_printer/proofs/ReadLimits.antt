@@ -1,0 +1,356 @@
+-- What bytes say is a script within the limits.
+use Rattle.std.proofs.Common.{◌≡◌, ℕ, ◌+◌, ◌*◌, ◌≤◌, ◌<◌, ◌^◌, Bool, true, false, cond, eqb, leb, ltb, List, [], ◌∷◌, ◌++◌, length, set, get_or, take, replicate, All, Option, Some, None, Result, Ok, Err, refl, sym, ap, subst, ◌∙◌, arith, inl, inr}
+use Rattle.std.specs.Prelude.{slice_get}
+use Rattle.std.specs.Option.{ok_or, option_and_then}
+use Rattle.std.proofs.lemmas.Bool.{cases_Bool, cases_lt, eqb-true, eqb-false, ltb-true}
+use Rattle.std.proofs.lemmas.List.{get_or_past, length_push, length-set, length-take-le}
+use Rattle.std.proofs.lemmas.List.Elements.{All-push, All-set, All-get_or, All-take, All-nil, All-replicate}
+use Rattle.spk_nums.specs.declared.calls.Call.{Call}
+use Rattle.spk_nums.specs.declared.grants.Grant.{Grant}
+use Rattle.spk_nums.specs.declared.steps.Item.{Item}
+use Rattle.spk_nums.specs.Setting.{GrantFits, IsSetting}
+use Rattle.script_tokens.specs.declared.scanning.ByteFault.TheVariants.{NotAscii, TooManyLines}
+use Rattle.script_tokens.specs.declared.scanning.Ending.{Ending}
+use Rattle.script_tokens.specs.declared.scanning.Ending.TheVariants.{Whole, Fault}
+use Rattle.script_tokens.specs.Words.{words_of, ending_of, line_count}
+use Rattle.script_reader.specs.declared.cause.Cause.{Cause}
+use Rattle.script_reader.specs.declared.cause.Cause.TheVariants.{S1, S2, S6, S7, S9}
+use Rattle.script_reader.specs.declared.first_words.FirstWord.{FirstWord}
+use Rattle.script_reader.specs.declared.first_words.FirstWord.TheVariants as first
+use Rattle.script_reader.specs.declared.head.Section.{Section}
+use Rattle.script_reader.specs.declared.head.Section.TheVariants as section
+use Rattle.script_reader.specs.declared.head.Head.{Head}
+use Rattle.script_reader.specs.declared.head.Line.{Line}
+use Rattle.script_reader.specs.declared.head.Line.TheVariants as line
+use Rattle.script_reader.specs.Causes.{◌>>=◌}
+use Rattle.script_reader.specs.Numerals.{value_of}
+use Rattle.script_reader.specs.Arguments.{number_at, core_at, end_at}
+use Rattle.script_reader.specs.FirstWords.{first_word}
+use Rattle.script_reader.specs.CallLines.{call_line}
+use Rattle.script_reader.specs.Heads.{may_stand, no_head, granted, is_whole, AreFrames, HasCome, IsHead, line_of, line_by, speck_line, cores_line, frames_line, grant_line, calls_line, epochs_line, core_line, order_line}
+use Rattle.script_reader.specs.Orders.{Parts, parts_of, no_item, item_of, item_at, judged, with_item, items_of}
+use Rattle.script_reader.specs.Readings.{Row, Draft_of, Meaning, First_fault, no_draft, calls_of, with_call, with_line, is_order, behind_line, draft_behind, at_line, and_then, draft_from, rows_of, setting_of, meaning_of, meaning_at, script_of, BelowCores}
+use Rattle.script_printer.specs.Printing.{printed}
+use Rattle.script_printer.specs.Law.{IsCallWithin, IsWithin}
+use Rattle.script_printer.proofs.CallLimits.{judged_is, bind_ok, args_none, args_one, args_two, args_three, number_in, call_in}
+
+-- ---- lines of the head
+
+-- before the grants there are none
+no_grants : (s : Section) (h : Head) → may_stand s first.Speck ≡ true → HasCome s h → h.grants ≡ []
+no_grants section.Version h t come = come
+no_grants _ h t come = absurd cc
+
+no_grants_cores : (s : Section) (h : Head) → may_stand s first.Cores ≡ true → HasCome s h → h.grants ≡ []
+no_grants_cores section.Cores h t come = come
+no_grants_cores _ h t come = absurd cc
+
+no_grants_frames : (s : Section) (h : Head) → may_stand s first.Frames ≡ true → HasCome s h → h.grants ≡ []
+no_grants_frames section.Frames h t come = come
+no_grants_frames _ h t come = absurd cc
+
+some_grants : (s : Section) (h : Head) → may_stand s first.Grant ≡ true → HasCome s h → AreFrames h × (length h.grants < h.cores)
+some_grants section.Grants h t come = come
+some_grants _ h t come = absurd cc
+
+all_grants_calls : (s : Section) (h : Head) → may_stand s first.Calls ≡ true → HasCome s h → AreFrames h × (length h.grants ≡ h.cores)
+all_grants_calls section.Calls h t come = come
+all_grants_calls _ h t come = absurd cc
+
+all_grants_epochs : (s : Section) (h : Head) → may_stand s first.Epochs ≡ true → HasCome s h → AreFrames h × (length h.grants ≡ h.cores)
+all_grants_epochs section.Calls h t come = come
+all_grants_epochs section.Epochs h t come = come
+all_grants_epochs _ h t come = absurd cc
+
+all_grants_core : (s : Section) (h : Head) → may_stand s first.Core ≡ true → HasCome s h → AreFrames h × (length h.grants ≡ h.cores)
+all_grants_core section.Calls h t come = come
+all_grants_core section.Epochs h t come = come
+all_grants_core section.Lists h t come = come
+all_grants_core section.List h t come = come
+all_grants_core _ h t come = absurd cc
+
+all_grants_order : (s : Section) (h : Head) → may_stand s first.Order ≡ true → HasCome s h → AreFrames h × (length h.grants ≡ h.cores)
+all_grants_order section.Calls h t come = come
+all_grants_order section.Epochs h t come = come
+all_grants_order section.Lists h t come = come
+all_grants_order section.List h t come = come
+all_grants_order _ h t come = absurd cc
+
+all_grants_whole : (s : Section) (h : Head) → is_whole s ≡ true → HasCome s h → AreFrames h × (length h.grants ≡ h.cores)
+all_grants_whole section.Version h t come = absurd cc
+all_grants_whole section.Cores h t come = absurd cc
+all_grants_whole section.Frames h t come = absurd cc
+all_grants_whole section.Grants h t come = absurd cc
+all_grants_whole _ h t come = come
+
+speck_in : (h g : Head) (words : List (List ℕ)) → IsHead h → may_stand h.section first.Speck ≡ true → speck_line h words ≡ Ok g → IsHead g
+unfolding speck_line
+speck_in h g words is t e =
+    let r = args_one (number_at words 1 1 1) (end_at words 2) (λ n. record h { section = section.Cores }) g e in
+    subst IsHead r.2 (record { some_core = is.some_core; most_cores = is.most_cores; fit = is.fit; most_calls = is.most_calls; some_epoch = is.some_epoch; most_epochs = is.most_epochs; come = no_grants h.section h t is.come })
+
+cores_in : (h g : Head) (words : List (List ℕ)) → IsHead h → may_stand h.section first.Cores ≡ true → cores_line h words ≡ Ok g → IsHead g
+unfolding cores_line
+cores_in h g words is t e =
+    let r = args_one (number_at words 1 1 8) (end_at words 2) (λ n. record h { section = section.Frames; cores = n }) g e in
+    let n = number_in words 1 1 8 r.0 r.1 in
+    subst IsHead r.2 (record { some_core = n.0; most_cores = n.1; fit = is.fit; most_calls = is.most_calls; some_epoch = is.some_epoch; most_epochs = is.most_epochs; come = no_grants_cores h.section h t is.come })
+
+frames_in : (h g : Head) (words : List (List ℕ)) → IsHead h → may_stand h.section first.Frames ≡ true → frames_line h words ≡ Ok g → IsHead g
+unfolding frames_line
+frames_in h g words is t e =
+    let r = args_one (number_at words 1 (4 + 2 * h.cores) 512) (end_at words 2) (λ n. record h { section = section.Grants; frames = n }) g e in
+    let none : h.grants ≡ [] = no_grants_frames h.section h t is.come in
+    let some : 1 ≤ h.cores = is.some_core in
+    let few : length h.grants < h.cores = subst (λ (gs : List Grant). length gs < h.cores) (sym none) (omega arith) in
+    subst IsHead r.2 (record { some_core = is.some_core; most_cores = is.most_cores; fit = is.fit; most_calls = is.most_calls; some_epoch = is.some_epoch; most_epochs = is.most_epochs; come = (number_in words 1 (4 + 2 * h.cores) 512 r.0 r.1, few) })
+
+granted_in : (h : Head) (g : Grant) → IsHead h → AreFrames h × (length h.grants < h.cores) → GrantFits g → IsHead (granted h g)
+granted_in h g is come fits =
+    let few : length h.grants < h.cores = come.1 in
+    let long : length (h.grants ++ g ∷ []) ≡ length h.grants + 1 = length_push h.grants g in
+    let all : All GrantFits (h.grants ++ g ∷ []) = All-push GrantFits h.grants g is.fit fits in
+    elim (cases_Bool (eqb (length h.grants + 1) h.cores)) [
+      | inl e ↦
+          let last : length h.grants + 1 ≡ h.cores = eqb-true _ _ e in
+          rw e (record { some_core = is.some_core; most_cores = is.most_cores; fit = all; most_calls = is.most_calls; some_epoch = is.some_epoch; most_epochs = is.most_epochs; come = (come.0, long ∙ last) })
+      | inr e ↦
+          let more : ¬ (length h.grants + 1 ≡ h.cores) = eqb-false _ _ e in
+          rw e (record { some_core = is.some_core; most_cores = is.most_cores; fit = all; most_calls = is.most_calls; some_epoch = is.some_epoch; most_epochs = is.most_epochs; come = (come.0, omega arith) })
+    ]
+
+grant_in : (h g : Head) (words : List (List ℕ)) → IsHead h → may_stand h.section first.Grant ≡ true → grant_line h words ≡ Ok g → IsHead g
+unfolding grant_line
+grant_in h g words is t e =
+    let r = args_three (number_at words 1 0 500000000) (number_at words 2 0 63) (number_at words 3 1 16777215) (end_at words 4) (λ b s w. granted h (record { budget = b; sched = s; quality = w })) g e in
+    let sched : r.b ≤ 63 = (number_in words 2 0 63 r.b r.second).1 in
+    let quality = number_in words 3 1 16777215 r.d r.third in
+    let most : r.d ≤ 16777215 = quality.1 in
+    subst IsHead r.whole (granted_in h (record { budget = r.a; sched = r.b; quality = r.d }) is (some_grants h.section h t is.come) ((number_in words 1 0 500000000 r.a r.first).1, omega arith, quality.0, omega arith))
+
+calls_in : (h g : Head) (words : List (List ℕ)) → IsHead h → may_stand h.section first.Calls ≡ true → calls_line h words ≡ Ok g → IsHead g
+unfolding calls_line
+calls_in h g words is t e =
+    let r = args_one (number_at words 1 0 4194304) (end_at words 2) (λ n. record h { section = section.Epochs; calls = n }) g e in
+    subst IsHead r.2 (record { some_core = is.some_core; most_cores = is.most_cores; fit = is.fit; most_calls = (number_in words 1 0 4194304 r.0 r.1).1; some_epoch = is.some_epoch; most_epochs = is.most_epochs; come = all_grants_calls h.section h t is.come })
+
+epochs_in : (h g : Head) (words : List (List ℕ)) → IsHead h → may_stand h.section first.Epochs ≡ true → epochs_line h words ≡ Ok g → IsHead g
+unfolding epochs_line
+epochs_in h g words is t e =
+    let r = args_one (number_at words 1 1 65535) (end_at words 2) (λ n. record h { section = section.Lists; epochs = n }) g e in
+    let n = number_in words 1 1 65535 r.0 r.1 in
+    let most : r.0 ≤ 65535 = n.1 in
+    subst IsHead r.2 (record { some_core = is.some_core; most_cores = is.most_cores; fit = is.fit; most_calls = is.most_calls; some_epoch = n.0; most_epochs = omega arith; come = all_grants_epochs h.section h t is.come })
+
+core_in : (h g : Head) (words : List (List ℕ)) → IsHead h → may_stand h.section first.Core ≡ true → core_line h words ≡ Ok g → IsHead g
+unfolding core_line
+core_in h g words is t e =
+    let r = args_one (core_at words 1 h.cores) (end_at words 2) (λ n. record h { section = section.List; core = n }) g e in
+    subst IsHead r.2 (record { some_core = is.some_core; most_cores = is.most_cores; fit = is.fit; most_calls = is.most_calls; some_epoch = is.some_epoch; most_epochs = is.most_epochs; come = all_grants_core h.section h t is.come })
+
+order_in : (h g : Head) (words : List (List ℕ)) → IsHead h → may_stand h.section first.Order ≡ true → order_line h words ≡ Ok g → IsHead g
+unfolding order_line
+order_in h g words is t e =
+    subst IsHead (args_none (end_at words 1) (record h { section = section.Order }) g e) (record { some_core = is.some_core; most_cores = is.most_cores; fit = is.fit; most_calls = is.most_calls; some_epoch = is.some_epoch; most_epochs = is.most_epochs; come = all_grants_order h.section h t is.come })
+
+-- what a line says is within the limits
+abbrev IsLineWithin : Line → Type 0
+IsLineWithin (line.Head head) = IsHead head
+IsLineWithin (line.Call call) = IsCallWithin call
+
+head_line : (r : Result Head Cause) (l : Line) → ((g : Head) → r ≡ Ok g → IsHead g) → (r >>= λ head. Ok (line.Head head)) ≡ Ok l → IsLineWithin l
+head_line (Ok g) l within e = subst IsLineWithin (judged_is (line.Head g) l e) (within g refl)
+head_line (Err k) l within e = absurd cc
+
+line_by_in : (h : Head) (words : List (List ℕ)) (w : FirstWord) (l : Line) → IsHead h → may_stand h.section w ≡ true → line_by h words w ≡ Ok l → IsLineWithin l
+unfolding line_by
+line_by_in h words first.Speck l is t e = head_line (speck_line h words) l (λ g. speck_in h g words is t) e
+line_by_in h words first.Cores l is t e = head_line (cores_line h words) l (λ g. cores_in h g words is t) e
+line_by_in h words first.Frames l is t e = head_line (frames_line h words) l (λ g. frames_in h g words is t) e
+line_by_in h words first.Grant l is t e = head_line (grant_line h words) l (λ g. grant_in h g words is t) e
+line_by_in h words first.Calls l is t e = head_line (calls_line h words) l (λ g. calls_in h g words is t) e
+line_by_in h words first.Epochs l is t e = head_line (epochs_line h words) l (λ g. epochs_in h g words is t) e
+line_by_in h words first.Core l is t e = head_line (core_line h words) l (λ g. core_in h g words is t) e
+line_by_in h words first.Order l is t e = head_line (order_line h words) l (λ g. order_in h g words is t) e
+line_by_in h words (first.Call v) l is t e =
+    let r = bind_ok (call_line words v) (λ call. Ok (line.Call call)) l e in
+    subst IsLineWithin (judged_is (line.Call r.0) l r.2) (call_in words v r.0 r.1)
+
+abbrev failed : {A : Type 0} → Cause → Result A Cause
+failed k = Err k
+
+no_value : {A : Type 0} (x : A) (k : Cause) → failed {A = A} k ≡ Ok x → ⊥
+no_value x k e = cc
+
+line_in : (h : Head) (words : List (List ℕ)) (l : Line) → IsHead h → line_of h words ≡ Ok l → IsLineWithin l
+unfolding line_of
+line_in h words l is e =
+    let w = bind_ok (ok_or (option_and_then first_word (slice_get words 0)) S2) (λ word. cond (may_stand h.section word) (line_by h words word) (Err S7)) l e in
+    elim (cases_Bool (may_stand h.section w.0)) [
+      | inl t ↦ line_by_in h words w.0 l is t (rw t at w.2)
+      | inr t ↦ absurd (no_value l S7 (rw t at w.2))
+    ]
+
+-- ---- items
+
+below_in : (b : Bool) (n m : ℕ) → cond b (Ok n) (failed S6) ≡ Ok m → (b ≡ true) × (n ≡ m)
+below_in true n m e = (refl, judged_is n m e)
+below_in false n m e = absurd (no_value m S6 e)
+
+parts_in : (cores : ℕ) (word : List ℕ) (o : Option Parts) (i : Item) → judged cores word o ≡ Ok i → i.core < cores
+parts_in cores word None i e = absurd (no_value i (no_item word) e)
+parts_in cores word (Some p) i e =
+    let r = bind_ok (cond (ltb (value_of p.digits) cores) (Ok (value_of p.digits)) (failed S6)) (λ core. Ok (record { core = core; how = p.how })) i e in
+    let t = below_in (ltb (value_of p.digits) cores) (value_of p.digits) r.0 r.1 in
+    let below : value_of p.digits < cores = ltb-true (value_of p.digits) cores t.0 in
+    let same : value_of p.digits ≡ r.0 = t.1 in
+    let core : r.0 ≡ i.core = ap (λ (x : Item). x.core) (judged_is (record { core = r.0; how = p.how }) i r.2) in
+    omega arith
+
+item_in : (cores : ℕ) (word : List ℕ) (i : Item) → item_of cores word ≡ Ok i → i.core < cores
+unfolding item_of
+item_in cores word i e = parts_in cores word (parts_of word) i e
+
+-- an order of cores below their number, with at most 200,000 items
+record IsOrder (cores : ℕ) (order : List Item) : Type 0 where
+  below : BelowCores cores order
+  room : length order ≤ 200000
+
+with_in : (b : Bool) (o more : List Item) (i : Item) → cond b (Ok (o ++ i ∷ [])) (failed S9) ≡ Ok more → (b ≡ true) × (o ++ i ∷ [] ≡ more)
+with_in true o more i e = (refl, judged_is (o ++ i ∷ []) more e)
+with_in false o more i e = absurd (no_value more S9 e)
+
+items_in : (cores : ℕ) (o : List Item) (words : List (List ℕ)) (r : List Item) → IsOrder cores o → items_of cores o words ≡ Ok r → IsOrder cores r
+items_in cores o [] r is e = subst (IsOrder cores) (judged_is o r e) is
+items_in cores o (word ∷ words) r is e =
+    let i = bind_ok (item_of cores word) (λ item. with_item o item >>= λ more. items_of cores more words) r e in
+    let m = bind_ok (with_item o i.0) (λ more. items_of cores more words) r i.2 in
+    let t = with_in (ltb (length o) 200000) o m.0 i.0 m.1 in
+    let room : length o < 200000 = ltb-true (length o) 200000 t.0 in
+    let long : length (o ++ i.0 ∷ []) ≡ length o + 1 = length_push o i.0 in
+    let pushed : IsOrder cores (o ++ i.0 ∷ []) = record { below = All-push (λ (x : Item). x.core < cores) o i.0 is.below (item_in cores word i.0 i.1); room = omega arith } in
+    items_in cores m.0 words r (subst (IsOrder cores) t.1 pushed) m.2
+
+-- ---- drafts
+
+-- a draft that lines lead to
+record IsRead (d : Draft_of) : Type 0 where
+  head : IsHead d.head
+  eight : length d.lists ≡ 8
+  calls : All (All IsCallWithin) d.lists
+  order : IsOrder d.head.cores d.order
+  before : is_order d.head.section ≡ false → d.order ≡ []
+
+no_order : (cores : ℕ) (order : List Item) → order ≡ [] → IsOrder cores order
+no_order cores order e = subst (IsOrder cores) (sym e) (record { below = All-nil (λ (x : Item). x.core < cores); room = omega arith })
+
+call_more : (lists : List (List Call)) (core : ℕ) (c : Call) → All (All IsCallWithin) lists → IsCallWithin c → All (All IsCallWithin) (with_call lists core c)
+call_more lists core c h k =
+    let old : All IsCallWithin (calls_of lists core) =
+    elim (cases_lt core (length lists)) [
+      | inl lt ↦ All-get_or (All IsCallWithin) lists core [] lt h
+      | inr le ↦ rw (get_or_past lists core [] le) (All-nil IsCallWithin)
+    ] in
+    All-set (All IsCallWithin) lists core (calls_of lists core ++ c ∷ []) (All-push IsCallWithin (calls_of lists core) c old k) h
+
+line_read : (d : Draft_of) (l : Line) → IsRead d → is_order d.head.section ≡ false → IsLineWithin l → IsRead (with_line d l)
+line_read d (line.Head g) is none h = record { head = h; eight = is.eight; calls = is.calls; order = no_order g.cores d.order (is.before none); before = λ t. is.before none }
+line_read d (line.Call c) is none h =
+    record {
+      head = is.head;
+      eight = length-set d.lists d.head.core (calls_of d.lists d.head.core ++ c ∷ []) ∙ is.eight;
+      calls = call_more d.lists d.head.core c is.calls h;
+      order = is.order;
+      before = is.before;
+    }
+
+behind_read : (d e : Draft_of) (words : List (List ℕ)) → IsRead d → draft_behind d words ≡ Ok e → IsRead e
+unfolding draft_behind behind_line
+behind_read d e words is h =
+    elim (cases_Bool (is_order d.head.section)) [
+      | inl t ↦
+          let r = bind_ok (items_of d.head.cores d.order words) (λ order. Ok (record d { order = order })) e (rw t at h) in
+          let order : IsOrder d.head.cores r.0 = items_in d.head.cores d.order words r.0 is.order r.1 in
+          subst IsRead (judged_is (record d { order = r.0 }) e r.2) (record { head = is.head; eight = is.eight; calls = is.calls; order = order; before = λ f. absurd (both t f) })
+      | inr t ↦
+          let r = bind_ok (line_of d.head words) (λ l. Ok (with_line d l)) e (rw t at h) in
+          subst IsRead (judged_is (with_line d r.0) e r.2) (line_read d r.0 is t (line_in d.head words r.0 is.head r.1))
+    ]
+  where
+    both : {b : Bool} → b ≡ true → b ≡ false → ⊥
+    both t f = cc
+
+abbrev read : {A : Type 0} → A → Result A First_fault
+read x = Ok x
+
+read_is : {A : Type 0} (x y : A) → read x ≡ read y → x ≡ y
+read_is x y e = cc
+
+then_ok : {A B : Type 0} (r : Result A First_fault) (f : A → Result B First_fault) (y : B) → and_then r f ≡ Ok y → (x : A) × (r ≡ Ok x) × (f x ≡ Ok y)
+then_ok (Ok x) f y e = (x, refl, e)
+then_ok (Err c) f y e = absurd cc
+
+at_line_ok : {A : Type 0} (number : ℕ) (r : Result A Cause) (x : A) → at_line number r ≡ Ok x → r ≡ Ok x
+at_line_ok number (Ok y) x e = cc
+at_line_ok number (Err c) x e = absurd cc
+
+from_read : (d e : Draft_of) (rows : List Row) → IsRead d → draft_from d rows ≡ Ok e → IsRead e
+from_read d e [] is h = subst IsRead (read_is d e h) is
+from_read d e (row ∷ rows) is h =
+    let r = then_ok (at_line row.number (draft_behind d row.words)) (λ more. draft_from more rows) e h in
+    from_read r.0 e rows (behind_read d r.0 row.words is (at_line_ok row.number (draft_behind d row.words) r.0 r.1)) r.2
+
+none_read : IsRead no_draft
+none_read =
+    record {
+      head = record { some_core = omega arith; most_cores = omega arith; fit = All-nil GrantFits; most_calls = omega arith; some_epoch = omega arith; most_epochs = omega arith; come = refl };
+      eight = refl;
+      calls = All-replicate (All IsCallWithin) 8 [] (All-nil IsCallWithin);
+      order = no_order 1 [] refl;
+      before = λ t. refl;
+    }
+
+-- ---- the whole
+
+-- a script within the limits, but for its lines
+record IsInRange (m : Meaning) : Type 0 where
+  setup : IsSetting m.setup
+  lists : length m.lists ≡ m.setup.cores
+  calls : All (All IsCallWithin) m.lists
+  order : IsOrder m.setup.cores m.order
+
+meaning_in : (d : Draft_of) → IsRead d → is_whole d.head.section ≡ true → IsInRange (meaning_of d)
+meaning_in d is whole =
+    let come = all_grants_whole d.head.section d.head whole is.head.come in
+    let few : d.head.cores ≤ 8 = is.head.most_cores in
+    let eight : length d.lists ≡ 8 = is.eight in
+    record {
+      setup = record { some_core = is.head.some_core; most_cores = is.head.most_cores; least_frames = come.0.0; most_frames = come.0.1; granted = come.1; grants_fit = is.head.fit; most_calls = is.head.most_calls; some_epoch = is.head.some_epoch; most_epochs = is.head.most_epochs };
+      lists = length-take-le d.head.cores d.lists (omega arith);
+      calls = All-take (All IsCallWithin) d.head.cores d.lists is.calls;
+      order = is.order;
+    }
+
+at_in : (d : Draft_of) (e : Ending) (m : Meaning) → IsRead d → meaning_at d e ≡ Ok m → IsInRange m
+at_in d (Fault (NotAscii number)) m is h = absurd cc
+at_in d (Fault TooManyLines) m is h = absurd cc
+at_in d (Whole lines) m is h =
+    elim (cases_Bool (is_whole d.head.section)) [
+      | inl whole ↦ subst IsInRange (read_is (meaning_of d) m (rw whole at h)) (meaning_in d is whole)
+      | inr whole ↦ absurd (no_meaning m (rw whole at h))
+    ]
+  where
+    no_meaning : {f : First_fault} (x : Meaning) → Err f ≡ Ok x → ⊥
+    no_meaning x k = cc
+
+script_in : (source : List ℕ) (m : Meaning) → script_of source ≡ Ok m → IsInRange m
+unfolding script_of
+script_in source m h =
+    let d = then_ok (draft_from no_draft (rows_of (words_of source))) (λ d. meaning_at d (ending_of source)) m h in
+    at_in d.0 (ending_of source) m (from_read no_draft d.0 (rows_of (words_of source)) none_read d.1) d.2
+
+-- what bytes say is within the limits, where its printed form has few lines
+pub read_within : (source : List ℕ) (m : Meaning) → script_of source ≡ Ok m → line_count (printed m) ≤ 20000 → IsWithin m
+read_within source m h few =
+    let r = script_in source m h in
+    record { setup = r.setup; lists = r.lists; calls = r.calls; below = r.order.below; items = r.order.room; lines = few }
