@@ -1,5 +1,5 @@
 -- What bytes say is a script within the limits.
-use Rattle.std.proofs.Common.{◌≡◌, ℕ, ◌+◌, ◌*◌, ◌≤◌, ◌<◌, ◌^◌, Bool, true, false, cond, eqb, leb, ltb, List, [], ◌∷◌, ◌++◌, length, set, get_or, take, replicate, All, Option, Some, None, Result, Ok, Err, refl, sym, ap, subst, ◌∙◌, arith, inl, inr}
+use Rattle.std.proofs.Common.{◌≡◌, ℕ, ◌+◌, ◌*◌, ◌≤◌, ◌<◌, Bool, true, false, cond, eqb, ltb, List, [], ◌∷◌, ◌++◌, length, All, Option, Some, None, Result, Ok, Err, refl, sym, ap, subst, ◌∙◌, arith, inl, inr}
 use Rattle.std.specs.Prelude.{slice_get}
 use Rattle.std.specs.Option.{ok_or, option_and_then}
 use Rattle.std.proofs.lemmas.Bool.{cases_Bool, cases_lt, eqb-true, eqb-false, ltb-true}
@@ -14,7 +14,7 @@ use Rattle.script_tokens.specs.declared.scanning.Ending.{Ending}
 use Rattle.script_tokens.specs.declared.scanning.Ending.TheVariants.{Whole, Fault}
 use Rattle.script_tokens.specs.Words.{words_of, ending_of, line_count}
 use Rattle.script_reader.specs.declared.cause.Cause.{Cause}
-use Rattle.script_reader.specs.declared.cause.Cause.TheVariants.{S1, S2, S6, S7, S9}
+use Rattle.script_reader.specs.declared.cause.Cause.TheVariants.{S2, S6, S7, S9}
 use Rattle.script_reader.specs.declared.first_words.FirstWord.{FirstWord}
 use Rattle.script_reader.specs.declared.first_words.FirstWord.TheVariants as first
 use Rattle.script_reader.specs.declared.head.Section.{Section}
@@ -27,12 +27,12 @@ use Rattle.script_reader.specs.Numerals.{value_of}
 use Rattle.script_reader.specs.Arguments.{number_at, core_at, end_at}
 use Rattle.script_reader.specs.FirstWords.{first_word}
 use Rattle.script_reader.specs.CallLines.{call_line}
-use Rattle.script_reader.specs.Heads.{may_stand, no_head, granted, is_whole, AreFrames, HasCome, IsHead, line_of, line_by, speck_line, cores_line, frames_line, grant_line, calls_line, epochs_line, core_line, order_line}
-use Rattle.script_reader.specs.Orders.{Parts, parts_of, no_item, item_of, item_at, judged, with_item, items_of}
-use Rattle.script_reader.specs.Readings.{Row, Draft_of, Meaning, First_fault, no_draft, calls_of, with_call, with_line, is_order, behind_line, draft_behind, at_line, and_then, draft_from, rows_of, setting_of, meaning_of, meaning_at, script_of, BelowCores}
+use Rattle.script_reader.specs.Heads.{may_stand, granted, is_whole, AreFrames, HasCome, IsHead, line_of, line_by, speck_line, cores_line, frames_line, grant_line, calls_line, epochs_line, core_line, order_line}
+use Rattle.script_reader.specs.Orders.{Parts, parts_of, no_item, item_of, judged, with_item, items_of}
+use Rattle.script_reader.specs.Readings.{Row, Draft_of, Meaning, First_fault, no_draft, calls_of, with_call, with_line, is_order, behind_line, draft_behind, at_line, and_then, draft_from, rows_of, meaning_of, meaning_at, script_of, BelowCores}
 use Rattle.script_printer.specs.Printing.{printed}
 use Rattle.script_printer.specs.Law.{IsCallWithin, IsWithin}
-use Rattle.script_printer.proofs.CallLimits.{judged_is, bind_ok, args_none, args_one, args_two, args_three, number_in, call_in}
+use Rattle.script_printer.proofs.CallLimits.{judged_is, bind_ok, args_none, args_one, args_three, number_in, call_in}
 
 -- ---- lines of the head
 
