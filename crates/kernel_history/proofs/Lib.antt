@@ -1,5 +1,4 @@
-pub mod Words
+pub mod Names
 pub mod Steps
 pub mod Open
 pub mod Idle
-pub mod Text

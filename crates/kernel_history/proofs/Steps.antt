@@ -3,9 +3,9 @@ use Rattle.std.proofs.Common.{◌≡◌, ◌≢◌, ℕ, ◌+◌, ◌++◌, ◌�
 use Rattle.std.specs.Prelude.{option_to_list, is_some}
 use Rattle.std.proofs.lemmas.Bool.{eq-eqb, ne_eqb}
 use Rattle.spk_nums.specs.Setting.{Setting}
-use Rattle.kernel_history.specs.Words.{Word}
+use Rattle.word_map.specs.Word.{Word}
 use Rattle.kernel_history.specs.Trace.{Step, Trace, phase, after_enter, after_decide, after_return, last_left, calls_of, steps_in_call, own_left}
-use Rattle.kernel_history.proofs.Words.{same_word-same, same_word-other}
+use Rattle.kernel_history.proofs.Names.{same_word-same, same_word-other}
 
 module _ (c : ℕ) (e : Step) (t : Trace) (own : c ≡ e.core) where
   pub phase-own : phase (e ∷ t) c ≡ after_return e.returns (after_decide e.decides (after_enter e.enters (phase t c)))

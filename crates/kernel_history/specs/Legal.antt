@@ -1,23 +1,24 @@
 -- When a trace is a legal history.
-use Rattle.std.specs.Prelude.{◌≡◌, ◌≢◌, [], ◌∷◌, Option, Some, None}
+use Rattle.std.specs.Prelude.{◌≡◌, ◌≢◌, ◌<◌, [], ◌∷◌, Option, Some, None}
 use Rattle.spk_nums.specs.declared.calls.Call.{Call}
 use Rattle.spk_nums.specs.declared.replies.Reply.{Reply}
 use Rattle.spk_nums.specs.Setting.{Setting}
-use Rattle.kernel_history.specs.Calls.{MayReply}
+use Rattle.spk_nums.specs.CallLimits.{InLimits}
+use Rattle.seq_state.specs.CallRelation.{MayReply}
 use Rattle.kernel_history.specs.Justified.{IsJustified}
-use Rattle.kernel_history.specs.Trace.{Step, Trace, Phase, Out, Open, Decided, phase, after_enter, after_decide, state_after, state_entered, last_left}
+use Rattle.kernel_history.specs.Trace.{Step, Trace, Phase, Out, Open, Decided, phase, after_enter, after_decide, state_before, last_left}
 
--- A call is entered between calls alone.
+-- A call within its limits is entered between calls alone.
 abbrev pub MayEnter : Option Call → Phase → Type 0
 MayEnter None p = Unit {0}
-MayEnter (Some call) p = p ≡ Out
+MayEnter (Some call) p = (p ≡ Out) × InLimits call
 
 -- An open call is decided with a reply that the call relation permits in the state, and that is justified.
 pub record DecidesBy (setup : Setting) (t : Trace) (e : Step) (r : Reply) (p : Phase) : Type 0 where
   pub call : Call
   pub is_open : p ≡ Open call
-  pub permitted : MayReply (state_entered e.enters (state_after setup t) e.core) e.core call r
-  pub justified : IsJustified t e call r
+  pub permitted : MayReply (state_before setup t e) e.core call r
+  pub justified : IsJustified setup t e call r
 
 -- A step decides nothing, or decides by the rule.
 abbrev pub MayDecide : Setting → Trace → Step → Option Reply → Phase → Type 0
@@ -34,9 +35,10 @@ abbrev pub MayReturn : Option Reply → Phase → Type 0
 MayReturn None p = Unit {0}
 MayReturn (Some r) p = ReturnsBy r p
 
--- The step e may follow the trace t: it finds the value last left in its word, and stands in a call of its core, which it
--- may enter, decide and return from.
+-- The step e may follow the trace t: it is of a core of the machine, finds the value last left in its word, and stands in a
+-- call of its core, which it may enter, decide and return from.
 pub record MayFollow (setup : Setting) (t : Trace) (e : Step) : Type 0 where
+  pub is_core : e.core < setup.cores
   pub found : e.found ≡ last_left setup t e.word
   pub enters : MayEnter e.enters (phase t e.core)
   pub in_call : after_enter e.enters (phase t e.core) ≢ Out

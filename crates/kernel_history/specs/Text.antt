@@ -1,14 +1,16 @@
--- The text of a finished trace: the reply lines of its decisions in order, then the entries of frame 1.
-use Rattle.std.specs.Prelude.{ℕ, zero, suc, ◌-◌, List, [], ◌++◌, Option, Some, None, slice_get}
-use Rattle.std.specs.Fmt.{decimal}
-use Rattle.std.specs.List.{flat_map}
-use lib.Chars.{codes}
-use Rattle.spk_nums.specs.Texts.{cap_text, reply_line_text}
+-- The texts of finished traces, and of the sequential kernel's run.
+use Rattle.std.specs.Prelude.{ℕ, zero, suc, ◌+◌, ◌-◌, ◌==◌, List, [], ◌∷◌, ◌++◌, Option, Some, None, slice_get}
+use Rattle.std.specs.List.{flat_map, filter}
+use Rattle.spk_nums.specs.Texts.{reply_line_text}
 use Rattle.spk_nums.specs.declared.calls.Call.{Call}
+use Rattle.spk_nums.specs.declared.replies.Reply.{Reply}
 use Rattle.spk_nums.specs.declared.replies.Decision.{Decision}
 use Rattle.spk_nums.specs.Setting.{Setting}
-use Rattle.kernel_history.specs.State.{Place, Free, Holds}
+use Rattle.seq_state.specs.State.{State}
+use Rattle.seq_state.specs.Start.{start}
+use Rattle.seq_state.specs.Alone.{plain_reply, plain_step, plain_steps}
 use Rattle.kernel_history.specs.Trace.{Trace, state_after, calls_of, decisions_of}
+use Rattle.kernel_history.specs.Tables.{tables_of, lines_below}
 
 -- The reply line of a decision on this call, if there is one.
 abbrev pub line_if : Decision → Option Call → List ℕ
@@ -19,16 +21,34 @@ line_if d (Some call) = reply_line_text d.core d.index call d.reply
 abbrev pub line_of : (ℕ → List Call) → Decision → List ℕ
 line_of calls d = line_if d (slice_get (calls d.core) (d.index - 1))
 
--- The entry line of a place: a held one's index and capability.
-abbrev pub entry_line : ℕ → Place → List ℕ
-entry_line i Free = []
-entry_line i (Holds k) = codes "  " ++ (decimal i ++ (codes " " ++ (cap_text k ++ codes "\n")))
+-- The reply lines of these decisions, in order.
+abbrev pub reply_lines : (ℕ → List Call) → List Decision → List ℕ
+reply_lines calls decisions = flat_map (line_of calls) decisions
 
--- The entry lines of the places below n, in ascending order.
-unfoldable pub entry_lines : (ℕ → Place) → ℕ → List ℕ
-entry_lines place zero = []
-entry_lines place (suc n) = entry_lines place n ++ entry_line n (place n)
-
--- The text: the reply lines in the order decided, then the entry lines of the state that the trace leaves.
+-- The text of given steps: the reply lines in the order decided, then the tables of the state that the trace leaves.
 abbrev pub text_of : Setting → Trace → List ℕ
-text_of setup t = flat_map (line_of (calls_of t)) (decisions_of t) ++ entry_lines (state_after setup t).place 64
+text_of setup t = reply_lines (calls_of t) (decisions_of t) ++ tables_of (state_after setup t)
+
+-- The decisions of core c.
+abbrev pub decisions_by : Trace → ℕ → List Decision
+decisions_by t c = filter (λ d. d.core == c) (decisions_of t)
+
+-- The text of steps taken by threads: the reply lines of core 0, then of core 1 and so on, then the tables.
+abbrev pub text_by_cores : Setting → Trace → List ℕ
+text_by_cores setup t = lines_below (λ c. reply_lines (calls_of t) (decisions_by t c)) setup.cores ++ tables_of (state_after setup t)
+
+-- The reply lines of core c's calls that are made alone, one after another, from a state on; the first has this index.
+abbrev pub plain_lines : State → ℕ → ℕ → List Call → List ℕ
+plain_lines s c index [] = []
+plain_lines s c index (call ∷ calls) = reply_line_text c index call (plain_reply s c call) ++ plain_lines (plain_step s c call) c (index + 1) calls
+
+-- The state after the calls of the first n lists, core 0's first.
+unfoldable pub plain_state : (ℕ → List Call) → ℕ → State → State
+plain_state calls zero s = s
+plain_state calls (suc n) s = plain_steps (plain_state calls n s) n (calls n)
+
+-- The text of calls made alone: core 0's calls, then core 1's and so on, then the tables of the last state.
+abbrev pub plain_text : Setting → (ℕ → List Call) → List ℕ
+plain_text setup calls =
+    lines_below (λ c. plain_lines (plain_state calls c (start setup)) c 1 (calls c)) setup.cores
+    ++ tables_of (plain_state calls setup.cores (start setup))

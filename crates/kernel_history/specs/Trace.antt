@@ -1,13 +1,15 @@
 -- Traces of atomic steps, and what they leave. A trace lists its steps with the newest first.
-use Rattle.std.specs.Prelude.{ℕ, ◌+◌, ◌==◌, List, [], ◌∷◌, ◌++◌, Option, Some, None, is_some, if◌then◌else◌, option_to_list, length}
+use Rattle.std.specs.Prelude.{ℕ, Bool, true, false, ◌⊎◌, ◌+◌, ◌==◌, ◌&&◌, List, [], ◌∷◌, ◌++◌, Option, Some, None, is_some, if◌then◌else◌, option_to_list, length}
 use Rattle.spk_nums.specs.declared.calls.Call.{Call}
 use Rattle.spk_nums.specs.declared.replies.Reply.{Reply}
 use Rattle.spk_nums.specs.declared.replies.Decision.{Decision}
 use Rattle.spk_nums.specs.Setting.{Setting}
-use Rattle.kernel_history.specs.Words.{Word, same_word}
+use Rattle.word_map.specs.Word.{Word, same_word}
+use Rattle.seq_state.specs.State.{State}
+use Rattle.seq_state.specs.Start.{start}
+use Rattle.seq_state.specs.GracePeriods.{entered, returned}
+use Rattle.seq_state.specs.CallRelation.{state_by}
 use Rattle.kernel_history.specs.BootWords.{boot_word}
-use Rattle.kernel_history.specs.State.{State, start, entered, returned}
-use Rattle.kernel_history.specs.Calls.{state_by}
 
 -- An atomic step of a core on a word: the value found, the value left, and the events of the core's call at it:
 -- invocation, decision (the linearization point) and response.
@@ -117,3 +119,21 @@ decision_at (Some r) c i = record { core = c; index = i; reply = r } ∷ []
 abbrev pub decisions_of : Trace → List Decision
 decisions_of [] = []
 decisions_of (e ∷ t) = decisions_of t ++ decision_at e.decides e.core (length (calls_of (e ∷ t) e.core))
+
+-- The state in which the step e decides, if it does: that which the trace t left, with e's call entered.
+abbrev pub state_before : Setting → Trace → Step → State
+state_before setup t e = state_entered e.enters (state_after setup t) e.core
+
+-- What is said, where this is not the case.
+abbrev pub IfNot : Bool → Type 0 → Type 0
+IfNot true Said = ⊥
+IfNot false Said = Said
+
+-- At a moment of core c's call that is open after t, the state was as said: after one of the steps from its invocation on.
+abbrev pub WasAt : (State → Type 0) → Setting → Trace → ℕ → Type 0
+WasAt P setup [] c = ⊥
+WasAt P setup (e ∷ t) c = P (state_after setup (e ∷ t)) ⊎ IfNot (c == e.core && is_some e.enters) (WasAt P setup t c)
+
+-- At a moment of e's call, up to its step e, the state was as said.
+abbrev pub WasBefore : (State → Type 0) → Setting → Trace → Step → Type 0
+WasBefore P setup t e = P (state_before setup t e) ⊎ IfNot (is_some e.enters) (WasAt P setup t e.core)

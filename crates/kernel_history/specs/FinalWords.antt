@@ -1,0 +1,117 @@
+-- When words and core ends represent a state in which no core is in a call.
+use Rattle.std.specs.Prelude.{◌≡◌, ◌<◌, ◌≤◌, ◌+◌, ◌-◌, ℕ, false, true, List, length, Option, Some, None, slice_index, IsTrue, ℤ, pos, IsSomeAnd}
+use Rattle.spk_nums.specs.declared.translations.CoreEnd.{CoreEnd}
+use Rattle.entry_words.specs.declared.entry.Entry.{Entry}
+use Rattle.entry_words.specs.declared.entry.Entry.TheVariants as entry
+use Rattle.entry_words.specs.EntryWord.{entry_of_word}
+use Rattle.frame_words.specs.Frame.{frame_of_word}
+use Rattle.frame_words.specs.Count.{count_of_word}
+use Rattle.frame_words.specs.Core.{core_of_word}
+use Rattle.frame_words.specs.Live.{live_of_word}
+use Rattle.frame_words.specs.declared.count_word.CountWord.{CountWord}
+use Rattle.frame_words.specs.declared.count_word.Hold.TheVariants.{Unheld}
+use Rattle.frame_words.specs.declared.core_word.CoreWord.{CoreWord}
+use Rattle.frame_words.specs.declared.live_word.LiveWord.{LiveWord}
+use Rattle.frame_words.specs.declared.live_word.LiveWord.TheVariants as live_word
+use Rattle.tcap_words.specs.Head.{head_of_word}
+use Rattle.tcap_words.specs.Thread.{thread_of_word}
+use Rattle.tcap_words.specs.declared.head_word.HeadWord.{HeadWord}
+use Rattle.word_map.specs.Word.{Word, EntryAt, FrameAt, CountAt, CoreAt, LiveAt}
+use Rattle.word_map.specs.Places.{Shape, place_of, counter_of}
+use Rattle.seq_state.specs.State.{Place, Free, Holds, Quiescing, CompFields, ThreadFields, TcapFields, Object, Blank, Table, Leaf, Pages, Pleaf, Comp, Thread, Tcap, Frame, Untyped, User, Kernel, Liveness, Unused, Live, Dead, Core, State, first_of_stack, thread_of}
+use Rattle.seq_state.specs.References.{refs}
+use Rattle.kernel_history.specs.ObjectWords.{frame_value, comp_word, thread_value, stack_word, quality_word}
+
+-- What the word of a place says that no core is closing: it is free, holds the capability, or is quiescing since some stamp.
+pub record SaysQuiescing (shown : Option Entry) : Type 0 where
+  pub stamp : ℕ
+  pub says : shown ≡ Some (entry.Quiescing stamp)
+
+abbrev pub SaysPlace : Place → Option Entry → Type 0
+SaysPlace Free shown = shown ≡ Some entry.Free
+SaysPlace (Holds k) shown = shown ≡ Some (entry.Held k)
+SaysPlace (Quiescing k) shown = SaysQuiescing shown
+
+-- Each entry of a node says its place.
+abbrev pub AreEntries : (ℕ → Place) → (ℕ → ℕ) → Type 0
+AreEntries place word = (i : ℕ) → i < 64 → SaysPlace (place i) (entry_of_word (word i))
+
+-- The three words of a component are its fields.
+abbrev pub AreComp : CompFields → (ℕ → ℕ) → Type 0
+AreComp k word = (i : ℕ) → i < 3 → word i ≡ comp_word k i
+
+-- The words of a thread: where it runs and its depth, unclaimed, and its stack from the bottom on.
+pub record AreThread (t : ThreadFields) (word : ℕ → ℕ) : Type 0 where
+  pub runs : thread_of_word (word 0) ≡ Some (thread_value t.runs_on (length t.stack))
+  pub stack : (h : ℕ) → h < 16 → word (1 + h) ≡ stack_word t.stack h
+
+-- The words of a temporal capability: its budget, unmarked, in some version, and its list.
+pub record AreTcap (q : TcapFields) (word : ℕ → ℕ) : Type 0 where
+  pub version : ℕ
+  pub head : head_of_word (word 0) ≡ Some (record { budget = q.budget; mark = None; version = version })
+  pub list : (j : ℕ) → j < 8 → word (1 + j) ≡ quality_word q.qualities j
+
+-- The words of a frame are those of its object; of a frame without an object nothing is asked.
+abbrev pub AreObject : Object → (ℕ → Place) → (ℕ → ℕ) → Type 0
+AreObject Blank place word = Unit {0}
+AreObject Table place word = AreEntries place word
+AreObject Leaf place word = AreEntries place word
+AreObject Pages place word = AreEntries place word
+AreObject Pleaf place word = AreEntries place word
+AreObject (Comp k) place word = AreComp k word
+AreObject (Thread t) place word = AreThread t word
+AreObject (Tcap q) place word = AreTcap q word
+
+abbrev pub AreFrame : Frame → (ℕ → Place) → (ℕ → ℕ) → Type 0
+AreFrame Untyped place word = Unit {0}
+AreFrame User place word = Unit {0}
+AreFrame (Kernel object) place word = AreObject object place word
+
+-- What the word of a liveness number says that no core is closing.
+pub record SaysDead (epoch : ℕ) (shown : Option LiveWord) : Type 0 where
+  pub stamp : ℕ
+  pub says : shown ≡ Some (live_word.Dead epoch stamp)
+
+abbrev pub SaysNumber : Liveness → Option LiveWord → Type 0
+SaysNumber Unused shown = shown ≡ Some live_word.Free
+SaysNumber (Live epoch f) shown = shown ≡ Some (live_word.Live epoch f)
+SaysNumber (Dead epoch) shown = SaysDead epoch shown
+
+-- The word of a core that is out of a call, with the stamp of its last exit.
+pub record SaysOut (shown : Option CoreWord) : Type 0 where
+  pub stamp : ℕ
+  pub says : shown ≡ Some (record { inside = false; stamp = stamp })
+
+-- The end of a core: its thread, its temporal capability, the component that it works in, its ticks and its translations.
+abbrev pub end_of : State → ℕ → CoreEnd
+end_of s c = record {
+  thread = (s.core c).thread;
+  tcap = (s.core c).tcap;
+  comp = first_of_stack (thread_of s c).stack;
+  spent = (s.core c).spent;
+  owed = (s.core c).owed;
+  cached = (s.core c).cached;
+}
+
+-- The words and the core ends represent the state, the counts of references apart.
+pub record Represent (word : Word → ℕ) (end : ℕ → CoreEnd) (s : State) : Type 0 where
+  pub objects : (f : ℕ) → f < s.limits.frames → AreFrame (s.frame f) (s.place f) (λ i. word (EntryAt f i))
+  pub kinds : (f : ℕ) → f < s.limits.frames → frame_of_word (word (FrameAt f)) ≡ Some (frame_value (s.frame f))
+  pub numbers : (l : ℕ) → l < 64 → SaysNumber (s.number l) (live_of_word (word (LiveAt l)))
+  pub cores : (c : ℕ) → c < s.limits.cores → SaysOut (core_of_word (word (CoreAt c)))
+  pub ends : (c : ℕ) → c < s.limits.cores → end c ≡ end_of s c
+
+-- The count words of a frame are held by no core, and the counts sum to the references to it.
+pub record Counts (word : Word → ℕ) (s : State) (f : ℕ) : Type 0 where
+  pub count : ℤ
+  pub stamp : ℕ
+  pub says : count_of_word (word (CountAt f (counter_of 0))) ≡ Some (record { hold = Unheld; count = count; stamp = stamp })
+  pub sum : count ≡ pos (refs s f)
+
+-- The count words represent the state's references.
+abbrev pub RepresentCounts : (Word → ℕ) → State → Type 0
+RepresentCounts word s = (f : ℕ) → f < s.limits.frames → Counts word s f
+
+-- The word of this name in a list by places.
+abbrev pub word_in : Shape → List ℕ → Word → ℕ
+word_in shape words w = slice_index words (place_of shape w)
