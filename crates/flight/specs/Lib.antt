@@ -1,0 +1,4 @@
+pub mod View
+pub mod Stages
+pub mod Steps
+pub mod Fits

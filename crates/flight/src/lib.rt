@@ -1,0 +1,9 @@
+//! The step machine of a core: the atomic steps of its calls, one at a time, and what each takes from the word it finds.
+#![tactic(auto)]
+
+mod core_state;
+mod stages;
+mod steps;
+
+pub use core_state::CoreState;
+pub use stages::{Absorbed, InFlight, Stage, Want};
