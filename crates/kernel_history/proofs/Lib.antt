@@ -2,3 +2,4 @@ pub mod Names
 pub mod Steps
 pub mod Open
 pub mod Idle
+pub mod Events
