@@ -2,3 +2,8 @@ pub mod View
 pub mod Stages
 pub mod Steps
 pub mod Fits
+pub mod Holding
+pub mod Words
+pub mod Knows
+pub mod Stands
+pub mod Theorems
