@@ -3,3 +3,5 @@ pub mod Steps
 pub mod Open
 pub mod Idle
 pub mod Events
+pub mod Inside
+pub mod Graces
