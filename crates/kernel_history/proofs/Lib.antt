@@ -3,3 +3,6 @@ pub mod Steps
 pub mod Open
 pub mod Idle
 pub mod Replies
+pub mod Events
+pub mod Inside
+pub mod Graces

@@ -1,10 +1,13 @@
 -- What one more step changes: at its own core and word, and elsewhere.
-use Rattle.std.proofs.Common.{◌≡◌, ◌≢◌, ℕ, ◌+◌, ◌++◌, ◌∷◌, Some, None, cond}
+use Rattle.std.proofs.Common.{◌≡◌, ◌≢◌, ℕ, ◌+◌, ◌++◌, ◌&&◌, ◌==◌, Bool, true, false, ◌∷◌, Some, None, cond, refl, ap, ◌∙◌}
 use Rattle.std.specs.Prelude.{option_to_list, is_some}
 use Rattle.std.proofs.lemmas.Bool.{eq-eqb, ne_eqb}
 use Rattle.spk_nums.specs.Setting.{Setting}
-use Rattle.word_map.specs.Word.{Word}
-use Rattle.kernel_history.specs.Trace.{Step, Trace, phase, after_enter, after_decide, after_return, last_left, calls_of, steps_in_call, own_left}
+use Rattle.word_map.specs.Word.{Word, FlushAt, ClockAt, same_word}
+use Rattle.seq_state.specs.State.{Thing}
+use Rattle.seq_state.specs.GracePeriods.{needs_flush}
+use Rattle.kernel_history.specs.Trace.{Step, Trace, phase, after_enter, after_decide, after_return, last_left, calls_of, steps_in_call, own_left, state_before}
+use Rattle.kernel_history.specs.Stamps.{begins_at, ends_at, flushes_at, stamp, awaits_flushes, clock, clock_seen, exit_after, exit_of, flush_of, flush_stored}
 use Rattle.kernel_history.proofs.Names.{same_word-same, same_word-other}
 
 module _ (c : ℕ) (e : Step) (t : Trace) (own : c ≡ e.core) where
@@ -42,3 +45,54 @@ module _ (setup : Setting) (w : Word) (e : Step) (t : Trace) where
 
   pub last_left-there : w ≢ e.word → last_left setup (e ∷ t) w ≡ last_left setup t w
   last_left-there there = rw (same_word-other w e.word there)
+
+-- Stamps: of a thing whose grace period begins, of one whose grace period ends, and of the others.
+module _ (setup : Setting) (e : Step) (t : Trace) (x : Thing) where
+  pub stamp-begins : begins_at setup t e x ≡ true → stamp setup (e ∷ t) x ≡ e.found
+  stamp-begins is = ap (λ b. cond b e.found (cond (ends_at t e x) 0 (stamp setup t x))) is
+
+  pub stamp-ends : begins_at setup t e x ≡ false → ends_at t e x ≡ true → stamp setup (e ∷ t) x ≡ 0
+  stamp-ends not ends = ap (λ b. cond b e.found (cond (ends_at t e x) 0 (stamp setup t x))) not ∙ ap (λ b. cond b 0 (stamp setup t x)) ends
+
+  pub stamp-kept : begins_at setup t e x ≡ false → ends_at t e x ≡ false → stamp setup (e ∷ t) x ≡ stamp setup t x
+  stamp-kept not kept = ap (λ b. cond b e.found (cond (ends_at t e x) 0 (stamp setup t x))) not ∙ ap (λ b. cond b 0 (stamp setup t x)) kept
+
+  pub awaits-begins : begins_at setup t e x ≡ true → awaits_flushes setup (e ∷ t) x ≡ needs_flush (state_before setup t e) x
+  awaits-begins is = ap (λ b. cond b (needs_flush (state_before setup t e) x) (cond (ends_at t e x) false (awaits_flushes setup t x))) is
+
+  pub awaits-ends : begins_at setup t e x ≡ false → ends_at t e x ≡ true → awaits_flushes setup (e ∷ t) x ≡ false
+  awaits-ends not ends =
+      ap (λ b. cond b (needs_flush (state_before setup t e) x) (cond (ends_at t e x) false (awaits_flushes setup t x))) not
+      ∙ ap (λ b. cond b false (awaits_flushes setup t x)) ends
+
+  pub awaits-kept : begins_at setup t e x ≡ false → ends_at t e x ≡ false → awaits_flushes setup (e ∷ t) x ≡ awaits_flushes setup t x
+  awaits-kept not kept =
+      ap (λ b. cond b (needs_flush (state_before setup t e) x) (cond (ends_at t e x) false (awaits_flushes setup t x))) not
+      ∙ ap (λ b. cond b false (awaits_flushes setup t x)) kept
+
+-- What a core has seen of the clock, left with, flushed with and stored.
+module _ (c : ℕ) (e : Step) (t : Trace) (own : c ≡ e.core) where
+  pub clock_seen-own : clock_seen (e ∷ t) c ≡ cond (same_word ClockAt e.word) e.found (clock_seen t c)
+  clock_seen-own = rw (eq-eqb c e.core own)
+
+  pub exit_of-own : exit_of (e ∷ t) c ≡ exit_after e.returns (clock_seen t c) (exit_of t c)
+  exit_of-own = rw (eq-eqb c e.core own)
+
+  pub flush_of-own : flush_of (e ∷ t) c ≡ cond (flushes_at t e) e.found (flush_of t c)
+  flush_of-own = rw (eq-eqb c e.core own)
+
+  pub flush_stored-own : flush_stored (e ∷ t) c ≡ cond (same_word (FlushAt c) e.word) (flush_of t c) (flush_stored t c)
+  flush_stored-own = rw (eq-eqb c e.core own)
+
+module _ (c : ℕ) (e : Step) (t : Trace) (other : c ≢ e.core) where
+  pub clock_seen-other : clock_seen (e ∷ t) c ≡ clock_seen t c
+  clock_seen-other = rw (ne_eqb c e.core other)
+
+  pub exit_of-other : exit_of (e ∷ t) c ≡ exit_of t c
+  exit_of-other = rw (ne_eqb c e.core other)
+
+  pub flush_of-other : flush_of (e ∷ t) c ≡ flush_of t c
+  flush_of-other = rw (ne_eqb c e.core other)
+
+  pub flush_stored-other : flush_stored (e ∷ t) c ≡ flush_stored t c
+  flush_stored-other = rw (ne_eqb c e.core other)

@@ -1,6 +1,8 @@
 pub mod ObjectWords
 pub mod BootWords
 pub mod Trace
+pub mod Stamps
+pub mod Events
 pub mod Marks
 pub mod Ways
 pub mod Justified

@@ -1,18 +1,19 @@
-mod Changes
-mod Within
-mod Agrees
-mod AloneLaw
-mod Sums
-mod Sound
-mod SoundSteps
-mod SoundRemovals
-mod Facts
-mod SoundCalls
-mod SoundStart
-mod SoundRuns
-mod Ticks
-mod TicksLaw
-mod Refs
-mod RefsLaw
-mod Rows
-mod TwoCores
+pub mod Changes
+pub mod Within
+pub mod Agrees
+pub mod AloneLaw
+pub mod Sums
+pub mod Sound
+pub mod SoundSteps
+pub mod SoundRemovals
+pub mod Facts
+pub mod SoundCalls
+pub mod SoundStart
+pub mod SoundRuns
+pub mod Ticks
+pub mod TicksLaw
+pub mod Refs
+pub mod RefsLaw
+pub mod Rows
+pub mod TwoCores
+pub mod GraceChanges

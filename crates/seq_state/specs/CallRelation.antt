@@ -1,14 +1,16 @@
 -- The call relation: the replies that a call may be decided with, and the state that the decision leaves.
-use Rattle.std.specs.Prelude.{ℕ, ◌+◌, Bool, false, nat_le, IsTrue, IsFalse}
+use Rattle.std.specs.Prelude.{ℕ, ◌+◌, Bool, true, false, nat_le, IsTrue, IsFalse}
 use Rattle.std.specs.List.{list_any}
 use Rattle.spk_nums.specs.declared.calls.Call.{Call}
 use Rattle.spk_nums.specs.declared.calls.Call.TheVariants.{Look, Copy, Remove, Grow, Shrink, Retype, Make as make_call, Map, Unmap, Touch, Flush, Gate, Kill, Call as call_gate, Ret, Switch, Tick, Transfer, Delegate, Test}
+use Rattle.spk_nums.specs.declared.calls.Make.TheVariants as make
+use Rattle.spk_nums.specs.declared.kinds.FrameKind.TheVariants as frame_kind
 use Rattle.spk_nums.specs.declared.replies.Reply.{Reply}
 use Rattle.spk_nums.specs.declared.replies.Reply.TheVariants as reply
-use Rattle.seq_state.specs.State.{Thing, State, with_core}
+use Rattle.seq_state.specs.State.{Thing, FrameOf, State, with_core}
 use Rattle.seq_state.specs.GracePeriods.{same_thing, begun}
 use Rattle.seq_state.specs.Rules.{Change, Rule, Judged, Refused, Found, outcome, RuleMay, RuleAnswers}
-use Rattle.seq_state.specs.CapabilityCalls.{look_rule, copy_rule, remove_rule, grow_rule, shrink_rule, make_rule}
+use Rattle.seq_state.specs.CapabilityCalls.{look_rule, copy_rule, remove_rule, grow_rule, shrink_rule, make_rule, is_place_of}
 use Rattle.seq_state.specs.MemoryCalls.{retype_rule, map_rule, unmap_rule, touch_rule, flush_rule}
 use Rattle.seq_state.specs.InvocationCalls.{gate_rule, kill_rule, call_rule, ret_rule, switch_rule}
 use Rattle.seq_state.specs.TimeCalls.{owing, tick_rule, transfer_rule, delegate_rule, test_rule}
@@ -65,6 +67,30 @@ begins_in (Found change) x = list_any (same_thing x) change.begins
 abbrev pub begins : State → ℕ → Call → Reply → Thing → Bool
 begins s c call (reply.Ok v) x = begins_in (change_of s c call) x
 begins s c call _ x = false
+
+-- Whether a call that is carried out ends the grace period of this thing: a retype to untyped that of its frame, and a `make` of
+-- a node those of the node's places.
+abbrev pub ends_by : Call → Thing → Bool
+ends_by (Retype r f frame_kind.Untyped) x = same_thing x (FrameOf f)
+ends_by (make_call make.Table r f t b) x = is_place_of f x
+ends_by (make_call make.Leaf r f t b) x = is_place_of f x
+ends_by (make_call make.Pages r f t b) x = is_place_of f x
+ends_by (make_call make.Pleaf r f t b) x = is_place_of f x
+ends_by call x = false
+
+-- Whether the decision ends the grace period of this thing.
+abbrev pub ends : Call → Reply → Thing → Bool
+ends call (reply.Ok v) x = ends_by call x
+ends call _ x = false
+
+-- Whether the decision empties the translations of its core, so that no grace period is unflushed by it.
+abbrev pub flushes_by : Call → Bool
+flushes_by Flush = true
+flushes_by call = false
+
+abbrev pub flushes : Call → Reply → Bool
+flushes call (reply.Ok v) = flushes_by call
+flushes call _ = false
 
 -- The state after a call that is carried out: its change, with the grace periods that it begins.
 abbrev pub changed : State → Judged Change → State

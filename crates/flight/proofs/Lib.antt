@@ -1,0 +1,4 @@
+pub mod Ready
+pub mod Boot
+pub mod Advance
+pub mod Final

@@ -1,0 +1,9 @@
+pub mod View
+pub mod Stages
+pub mod Steps
+pub mod Fits
+pub mod Holding
+pub mod Words
+pub mod Knows
+pub mod Stands
+pub mod Theorems

@@ -1,0 +1,69 @@
+-- When the cores of a machine stand for a trace: what holds between two steps, whatever the calls.
+use Rattle.std.specs.Prelude.{◌≡◌, ◌≢◌, ◌+◌, ◌<◌, ◌≤◌, ℕ, [], Option, Some, None}
+use Rattle.spk_nums.specs.Capability.{Capability}
+use Rattle.spk_nums.specs.Setting.{Setting}
+use Rattle.spk_nums.specs.declared.calls.Call.{Call}
+use Rattle.word_map.specs.Word.{Word}
+use Rattle.seq_state.specs.State.{Quiescing, Thing, State}
+use Rattle.seq_state.specs.References.{sum_below}
+use Rattle.kernel_history.specs.Trace.{Trace, Out, phase, calls_of, state_after}
+use Rattle.kernel_history.specs.Legal.{IsLegal}
+use Rattle.kernel_history.specs.Bounds.{KeepsBounds}
+use Rattle.kernel_history.specs.Stamps.{stamp, clock, exit_of, flush_stored}
+use Rattle.flight.specs.declared.stages.Stage.{Stage}
+use Rattle.flight.specs.declared.stages.Stage.TheVariants.{Enter, Looking, Fill, Exit, Leave}
+use Rattle.flight.specs.declared.stages.InFlight.{InFlight}
+use Rattle.flight.specs.View.{Core}
+use Rattle.flight.specs.Holding.{Holding, nothing, settled, MarkIs}
+use Rattle.flight.specs.Words.{Times, WordIs}
+use Rattle.flight.specs.Knows.{CoreIs}
+
+-- What a core holds at a stage of its call. No call marks a word yet.
+abbrev pub holds_at : Stage → ℕ → Holding
+holds_at Enter c = nothing
+holds_at (Looking want look) c = nothing
+holds_at (Fill node index word k) c = nothing
+holds_at (Exit r) c = nothing
+holds_at (Leave r x) c = nothing
+
+abbrev pub holds_in : Option InFlight → ℕ → Holding
+holds_in None c = nothing
+holds_in (Some f) c = holds_at f.stage c
+
+-- What a core holds.
+abbrev pub holds : Core → Holding
+holds core = holds_in core.flight core.core
+
+-- What the cores hold.
+abbrev pub held_by : (ℕ → Core) → ℕ → Holding
+held_by cores d = holds (cores d)
+
+-- The stamps after a trace.
+abbrev pub times_of : Setting → Trace → Times
+times_of setup t = record { stamp = stamp setup t; exit = exit_of t; flush = flush_stored t }
+
+-- The core has made no step.
+pub record IsAway (t : Trace) (c : ℕ) : Type 0 where
+  pub out : phase t c ≡ Out
+  pub none : calls_of t c ≡ []
+
+-- The calls that all cores of the machine have counted.
+abbrev pub counted_in : Setting → State → ℕ
+counted_in setup s = sum_below (λ c. (s.core c).counted) setup.cores
+
+-- The cores stand for the trace.
+pub record Stands (setup : Setting) (cores : ℕ → Core) (t : Trace) : Type 0 where
+  -- the trace is a legal history, and its calls keep within their bounds
+  pub legal : IsLegal setup t
+  pub bounds : KeepsBounds setup.cores t
+  -- each word carries the marks of the cores that hold it, and its settled value says what the state is, kind by kind
+  pub marks : (w : Word) (d : ℕ) → MarkIs setup (held_by cores) t w d
+  pub words : (w : Word) → WordIs (state_after setup t) (times_of setup t) w (settled setup (held_by cores) t w)
+  -- a counted call draws at most one stamp; and no core has left later than now
+  pub time : clock setup t ≤ 1 + counted_in setup (state_after setup t)
+  pub exits : (c : ℕ) → exit_of t c ≤ clock setup t
+  -- for now: no call removes yet, so no place is quiescing
+  pub none_removed : (f i : ℕ) (k : Capability) → (state_after setup t).place f i ≢ Quiescing k
+  -- each core of the machine is where its model says, and there is no other
+  pub each : (c : ℕ) → c < setup.cores → CoreIs setup (cores c) t c
+  pub away : (c : ℕ) → setup.cores ≤ c → IsAway t c

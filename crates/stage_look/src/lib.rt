@@ -1,0 +1,6 @@
+//! The look-up of a place in a radix table, one atomic load at a time.
+#![tactic(auto)]
+
+mod look;
+
+pub use look::{Found, Look};
