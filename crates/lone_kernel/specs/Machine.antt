@@ -1,0 +1,186 @@
+-- What a machine for given orders is, and one step of a core.
+use Rattle.std.specs.Prelude.{◌≡◌, ◌≢◌, Bool, true, false, ℕ, ◌+◌, ◌-◌, ◌<◌, ◌≤◌, ◌^◌, List, [], ◌∷◌, ◌++◌, length, slice_get, slice_index, slice_index_or, slice_set, Option, Some, None, option_map, All, ◌&&◌, not}
+use Rattle.spk_nums.specs.Built.{IsBuilt}
+use Rattle.spk_nums.specs.CallLimits.{InLimits}
+use Rattle.spk_nums.specs.declared.calls.Call.{Call}
+use Rattle.spk_nums.specs.declared.replies.Decision.{Decision}
+use Rattle.spk_nums.specs.Setting.{Setting}
+use Rattle.word_map.specs.Places.{Shape, place_of, size_of}
+use Rattle.word_map.specs.Moves.{Move, word_of, left_of, told_of}
+use Rattle.kernel_history.specs.Trace.{Step, decision_at}
+use Rattle.flight.specs.View.{Core}
+use Rattle.flight.specs.Fits.{IsCore}
+use Rattle.flight.specs.Steps.{started, move_of, ready_of, absorbed, told_of_step}
+use Rattle.flight.specs.Knows.{shape_of}
+use Rattle.flight.specs.Theorems.{turned, decided_in, step_at}
+use Rattle.flight.specs.declared.stages.Absorbed.{Absorbed}
+use Rattle.flight.specs.declared.stages.Absorbed.TheVariants.{Going, Decided, Returned}
+use Rattle.flight.specs.declared.stages.InFlight.{InFlight}
+use Rattle.flight.specs.declared.stages.Stage.{Stage}
+use Rattle.flight.specs.declared.stages.Stage.TheVariants.{Enter, Looking, Fill, Exit, Leave}
+use Rattle.lone_kernel.specs.declared.seats.Seat.{Seat}
+use Rattle.lone_kernel.specs.declared.seats.Turn.{Turn}
+use Rattle.lone_kernel.specs.declared.seats.Turn.TheVariants.{Begins, GoesOn}
+
+-- A machine: its setup, its words, each core's list of calls, where each core stands, and the decisions in order.
+pub record Machine : Type 0 where
+  pub setup : Setting
+  pub words : List ℕ
+  pub lists : List (List Call)
+  pub seats : List Seat
+  pub decisions : List Decision
+
+-- The seat of no core.
+abbrev pub no_seat : Seat
+no_seat = record { begun = 0; due = 0; state = started 0 (record { cores = 0; frames = 0; grants = []; calls = 0; epochs = 0 }) }
+
+-- Where core c stands, its state, and its list.
+abbrev pub seat_at : Machine → ℕ → Seat
+seat_at m c = slice_index_or m.seats c no_seat
+
+abbrev pub core_at : Machine → ℕ → Core
+core_at m c = (seat_at m c).state
+
+abbrev pub list_at : Machine → ℕ → List Call
+list_at m c = slice_index_or m.lists c []
+
+-- The turn of a core: the next call of its list begins where there is none in flight.
+abbrev pub turn_if : List Call → ℕ → Option InFlight → Option Turn
+turn_if list begun None = option_map Begins (slice_get list begun)
+turn_if list begun (Some f) = Some GoesOn
+
+abbrev pub turn_of : List Call → Seat → Option Turn
+turn_of list seat = turn_if list seat.begun seat.state.flight
+
+abbrev pub turn_at : Machine → ℕ → Option Turn
+turn_at m c = turn_of (list_at m c) (seat_at m c)
+
+-- The core is between calls and its list is finished.
+abbrev pub IsFinished : Machine → ℕ → Type 0
+IsFinished m c = turn_at m c ≡ None
+
+-- Core c has a call in flight.
+abbrev pub IsInCall : Machine → ℕ → Type 0
+IsInCall m c = (core_at m c).flight ≢ None
+
+-- Whether a stage is behind its call's decision.
+abbrev pub is_decided_at : Stage → Bool
+is_decided_at Enter = false
+is_decided_at (Looking want look) = false
+is_decided_at (Fill node index word k) = false
+is_decided_at (Exit r) = true
+is_decided_at (Leave r x) = true
+
+-- Whether there is a call in flight that is decided.
+abbrev pub is_decided_in : Option InFlight → Bool
+is_decided_in None = false
+is_decided_in (Some f) = is_decided_at f.stage
+
+-- The call of core c is decided.
+abbrev pub HasDecided : Machine → ℕ → Type 0
+HasDecided m c = is_decided_in (core_at m c).flight ≡ true
+
+-- The next step of core c is the one at which its call decides an `ok`: the call is ready, and not decided.
+pub record IsReady (m : Machine) (c : ℕ) : Type 0 where
+  pub ready : ready_of (core_at m c) ≡ true
+  pub undecided : is_decided_in (core_at m c).flight ≡ false
+
+-- The decision of a call in flight that is still to come, as a number.
+abbrev pub due_at : Bool → ℕ
+due_at true = 0
+due_at false = 1
+
+abbrev pub due_in : Option InFlight → ℕ
+due_in None = 0
+due_in (Some f) = due_at (is_decided_at f.stage)
+
+-- A core of the machine: the calls begun and those whose decisions are still to come are those of the list, where an open call
+-- is both; and it is this core of the machine.
+pub record IsFitSeat (setup : Setting) (list : List Call) (c : ℕ) (seat : Seat) : Type 0 where
+  pub sum : seat.begun + seat.due ≡ length list + due_in seat.state.flight
+  pub begun : seat.begun ≤ length list
+  pub small : length list < 2 ^ 32
+  pub core : seat.state.core ≡ c
+  pub shape : seat.state.shape ≡ shape_of setup
+  pub fits : IsCore seat.state
+
+-- A list's call can be run: it is carried out, and within its limits.
+abbrev pub CanRun : Call → Type 0
+CanRun call = IsBuilt call × InLimits call
+
+-- Lists that can be run: their calls can, and there are fewer than 2^32 in each.
+abbrev pub AreLists : List (List Call) → Type 0
+AreLists lists = All (λ list. All CanRun list × (length list < 2 ^ 32)) lists
+
+-- The machine has a word for each place, and a list and a seat for each core of the setup; the calls of the lists can be run.
+pub record IsFit (m : Machine) : Type 0 where
+  pub size : length m.words ≡ size_of (shape_of m.setup)
+  pub lists : length m.lists ≡ m.setup.cores
+  pub seats : length m.seats ≡ m.setup.cores
+  pub calls : (c : ℕ) → c < m.setup.cores → All CanRun (list_at m c)
+  pub each : (c : ℕ) → c < m.setup.cores → IsFitSeat m.setup (list_at m c) c (seat_at m c)
+
+-- The invocation of a call that begins at this turn.
+abbrev pub enters_as : Turn → Option Call
+enters_as (Begins call) = Some call
+enters_as GoesOn = None
+
+-- The core that takes a turn, its call begun.
+abbrev pub core_in : Core → Turn → Core
+core_in core f = turned (enters_as f) core
+
+-- The calls begun at a turn.
+abbrev pub begun_by : Turn → ℕ → ℕ
+begun_by (Begins call) n = n + 1
+begun_by GoesOn n = n
+
+-- The decisions still to come behind a step that told this.
+abbrev pub due_after : Absorbed → ℕ → ℕ
+due_after Going n = n
+due_after (Decided r) n = n - 1
+due_after (Returned r) n = n
+
+-- What a core's step on its word is told, where it finds this.
+abbrev pub said_by : Core → ℕ → Absorbed
+said_by core found = told_of_step core (told_of (move_of core) found)
+
+-- The seat behind the step of a turn that finds this word.
+abbrev pub seat_after : Seat → Turn → ℕ → Seat
+seat_after seat f found = record {
+  begun = begun_by f seat.begun;
+  due = due_after (said_by (core_in seat.state f) found) seat.due;
+  state = absorbed (core_in seat.state f) (told_of (move_of (core_in seat.state f)) found);
+}
+
+-- The place of the word of a core's next step.
+abbrev pub place_next : Setting → Core → ℕ
+place_next setup core = place_of (shape_of setup) (word_of (move_of core))
+
+-- The words behind the step of a core that finds this.
+abbrev pub words_after : Setting → List ℕ → Core → ℕ → List ℕ
+words_after setup words core found = slice_set words (place_next setup core) (left_of (move_of core) found)
+
+-- The word found by a turn of core c.
+abbrev pub found_by : Machine → ℕ → Turn → ℕ
+found_by m c f = slice_index m.words (place_next m.setup (core_in (core_at m c) f))
+
+-- The machine after core c's step at turn f.
+abbrev pub stepped : Machine → ℕ → Turn → Machine
+stepped m c f = record {
+  setup = m.setup;
+  words = words_after m.setup m.words (core_in (core_at m c) f) (found_by m c f);
+  lists = m.lists;
+  seats = slice_set m.seats c (seat_after (seat_at m c) f (found_by m c f));
+  decisions =
+      m.decisions
+      ++ decision_at (decided_in (said_by (core_in (core_at m c) f) (found_by m c f))) c (begun_by f (seat_at m c).begun);
+}
+
+-- That step.
+abbrev pub step_in : Machine → ℕ → Turn → Step
+step_in m c f =
+    step_at c (enters_as f) (move_of (core_in (core_at m c) f)) (found_by m c f) (said_by (core_in (core_at m c) f) (found_by m c f))
+
+-- A core that has made no call of its list.
+abbrev pub fresh_seat : Setting → ℕ → List Call → Seat
+fresh_seat setup c list = record { begun = 0; due = length list; state = started c setup }

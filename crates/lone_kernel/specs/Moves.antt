@@ -1,0 +1,71 @@
+-- How the moves of a machine extend each trace for which it stood.
+use Rattle.std.specs.Prelude.{◌≡◌, ◌≢◌, ◌⊎◌, ℕ, ◌+◌, ◌<◌, ◌≤◌, List, [], ◌∷◌, ◌++◌, Option, Some, None, IsSome, IsSomeAnd}
+use Rattle.spk_nums.specs.declared.replies.Reply.{Reply}
+use Rattle.seq_state.specs.Laws.{IsRefusal}
+use Rattle.kernel_history.specs.Trace.{Step, Trace, phase}
+use Rattle.kernel_history.specs.Order.{IsIdle, IsDecided, AreOf, HaveNone, UnlessDecided, GoesThrough}
+use Rattle.lone_kernel.specs.declared.lone.Moved.{Moved}
+use Rattle.lone_kernel.specs.declared.lone.Moved.TheVariants.{Idle, Went}
+use Rattle.lone_kernel.specs.Machine.{Machine, IsReady}
+use Rattle.lone_kernel.specs.Stands.{StandsFor, GoesOn}
+
+-- Core c was not idle after t, and the machine goes on to a trace that is as said.
+pub record MovesTo (m m' : Machine) (c : ℕ) (t : Trace) (Is : Trace → Type 0) : Type 0 where
+  pub busy : IsIdle m.lists t c → ⊥
+  pub after : Trace
+  pub goes : GoesOn m m' t after
+  pub is : Is after
+
+-- Core c was idle in each trace for which the machine stood, and nothing is done.
+pub record StaysIdle (m m' : Machine) (c : ℕ) : Type 0 where
+  pub same : m' ≡ m
+  pub idle : (t : Trace) → StandsFor m t → IsIdle m.lists t c
+
+-- An idle core stays so; else the move is as said.
+abbrev pub MovesBy : Moved → Machine → Machine → ℕ → Type 0 → Type 0
+MovesBy Idle m m' c Moves = StaysIdle m m' c
+MovesBy Went m m' c Moves = Moves
+
+-- A decision with this reply, if there is one, is a refusal.
+abbrev pub RefusedBy : Option Reply → Type 0
+RefusedBy None = Unit {0}
+RefusedBy (Some r) = IsRefusal r
+
+abbrev pub RefusedAt : Step → Type 0
+RefusedAt e = RefusedBy e.decides
+
+-- From t to u: one step of core c; a call that was not ready is not carried out by it.
+pub record MakesStep (m m' : Machine) (c : ℕ) (t u : Trace) : Type 0 where
+  pub step : Step
+  pub adds : u ≡ step ∷ t
+  pub own : step.core ≡ c
+  pub early : IsReady m c ⊎ RefusedAt step
+
+-- Each trace goes on by one step of core c.
+abbrev pub MakesOneStep : Machine → Machine → ℕ → Type 0
+MakesOneStep m m' c = (t : Trace) → StandsFor m t → MovesTo m m' c t (λ u. MakesStep m m' c t u)
+
+-- From t to u: steps of core c, none of which decides, up to where its call is ready.
+pub record StopsReady (m' : Machine) (c : ℕ) (t u : Trace) : Type 0 where
+  pub steps : Trace
+  pub adds : u ≡ steps ++ t
+  pub own : AreOf c steps
+  pub before : HaveNone (λ e. e.decides) steps
+  pub ready : IsReady m' c
+
+-- From t to u: steps of core c, up to one at which its call is refused.
+pub record IsRefusedEarly (c : ℕ) (t u : Trace) : Type 0 where
+  pub through : GoesThrough (λ e. e.decides) c t u
+  pub refused : RefusedAt through.last
+
+-- Each trace goes on until core c's call is ready, or is refused; a call that is decided makes no step.
+abbrev pub GoesUntilReady : Machine → Machine → ℕ → Type 0
+GoesUntilReady m m' c = (t : Trace) → StandsFor m t → MovesTo m m' c t (λ u. UnlessDecided c t u (StopsReady m' c t u ⊎ IsRefusedEarly c t u))
+
+-- Each trace goes on until core c's call has decided; a call that is decided makes no step.
+abbrev pub GoesThroughDecision : Machine → Machine → ℕ → Type 0
+GoesThroughDecision m m' c = (t : Trace) → StandsFor m t → MovesTo m m' c t (λ u. UnlessDecided c t u (GoesThrough (λ e. e.decides) c t u))
+
+-- Each trace goes on until core c's call has returned.
+abbrev pub GoesToReturn : Machine → Machine → ℕ → Type 0
+GoesToReturn m m' c = (t : Trace) → StandsFor m t → MovesTo m m' c t (λ u. GoesThrough (λ e. e.returns) c t u)

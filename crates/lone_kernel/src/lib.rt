@@ -1,0 +1,8 @@
+//! The machine for given orders: a vector of words, and the moves of the cores over it, one atomic step after another.
+#![tactic(auto)]
+
+mod seats;
+mod lone;
+
+pub use lone::Moved;
+pub use seats::{Seat, Turn};
