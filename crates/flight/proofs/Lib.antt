@@ -1,5 +1,1 @@
-pub mod Ready
-pub mod Boot
-pub mod Advance
-pub mod Final
 pub mod CoreFits

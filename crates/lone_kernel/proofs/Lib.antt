@@ -1,1 +1,6 @@
-
+pub mod Turns
+pub mod OneStep
+pub mod Fits
+pub mod Refusals
+pub mod Theory
+pub mod Advance

@@ -1,3 +1,4 @@
+pub mod Ops
 pub mod Machine
 pub mod Stands
 pub mod Moves

@@ -1,5 +1,5 @@
 -- What a machine for given orders is, and one step of a core.
-use Rattle.std.specs.Prelude.{◌≡◌, ◌≢◌, Bool, true, false, ℕ, ◌+◌, ◌-◌, ◌<◌, ◌≤◌, ◌^◌, List, [], ◌∷◌, ◌++◌, length, slice_get, slice_index, slice_index_or, slice_set, Option, Some, None, option_map, All, ◌&&◌, not}
+use Rattle.std.specs.Prelude.{◌≡◌, ◌≢◌, Bool, true, false, ℕ, ◌+◌, ◌-◌, ◌<◌, ◌≤◌, ◌^◌, List, [], ◌∷◌, ◌++◌, length, slice_get, slice_index, slice_index_or, slice_set, Option, Some, None, option_map, All, IsSome}
 use Rattle.spk_nums.specs.Built.{IsBuilt}
 use Rattle.spk_nums.specs.CallLimits.{InLimits}
 use Rattle.spk_nums.specs.declared.calls.Call.{Call}
@@ -134,11 +134,11 @@ abbrev pub begun_by : Turn → ℕ → ℕ
 begun_by (Begins call) n = n + 1
 begun_by GoesOn n = n
 
--- The decisions still to come behind a step that told this.
-abbrev pub due_after : Absorbed → ℕ → ℕ
-due_after Going n = n
-due_after (Decided r) n = n - 1
-due_after (Returned r) n = n
+-- The decisions of a step that told this, as a number.
+abbrev pub decisions_in : Absorbed → ℕ
+decisions_in Going = 0
+decisions_in (Decided r) = 1
+decisions_in (Returned r) = 0
 
 -- What a core's step on its word is told, where it finds this.
 abbrev pub said_by : Core → ℕ → Absorbed
@@ -148,27 +148,27 @@ said_by core found = told_of_step core (told_of (move_of core) found)
 abbrev pub seat_after : Seat → Turn → ℕ → Seat
 seat_after seat f found = record {
   begun = begun_by f seat.begun;
-  due = due_after (said_by (core_in seat.state f) found) seat.due;
+  due = seat.due - decisions_in (said_by (core_in seat.state f) found);
   state = absorbed (core_in seat.state f) (told_of (move_of (core_in seat.state f)) found);
 }
 
 -- The place of the word of a core's next step.
-abbrev pub place_next : Setting → Core → ℕ
-place_next setup core = place_of (shape_of setup) (word_of (move_of core))
+abbrev pub place_next : Shape → Core → ℕ
+place_next shape core = place_of shape (word_of (move_of core))
 
 -- The words behind the step of a core that finds this.
-abbrev pub words_after : Setting → List ℕ → Core → ℕ → List ℕ
-words_after setup words core found = slice_set words (place_next setup core) (left_of (move_of core) found)
+abbrev pub words_after : Shape → List ℕ → Core → ℕ → List ℕ
+words_after shape words core found = slice_set words (place_next shape core) (left_of (move_of core) found)
 
 -- The word found by a turn of core c.
 abbrev pub found_by : Machine → ℕ → Turn → ℕ
-found_by m c f = slice_index m.words (place_next m.setup (core_in (core_at m c) f))
+found_by m c f = slice_index m.words (place_next (shape_of m.setup) (core_in (core_at m c) f))
 
 -- The machine after core c's step at turn f.
 abbrev pub stepped : Machine → ℕ → Turn → Machine
 stepped m c f = record {
   setup = m.setup;
-  words = words_after m.setup m.words (core_in (core_at m c) f) (found_by m c f);
+  words = words_after (shape_of m.setup) m.words (core_in (core_at m c) f) (found_by m c f);
   lists = m.lists;
   seats = slice_set m.seats c (seat_after (seat_at m c) f (found_by m c f));
   decisions =
@@ -184,3 +184,26 @@ step_in m c f =
 -- A core that has made no call of its list.
 abbrev pub fresh_seat : Setting → ℕ → List Call → Seat
 fresh_seat setup c list = record { begun = 0; due = length list; state = started c setup }
+
+-- A core may take a turn: it has a call in flight, or none and the turn's call can be run.
+pub record CanBegin (call : Call) (core : Core) : Type 0 where
+  pub between : core.flight ≡ None
+  pub can_run : CanRun call
+
+abbrev pub CanTake : Turn → Core → Type 0
+CanTake (Begins call) core = CanBegin call core
+CanTake GoesOn core = IsSome core.flight
+
+-- From one seat and list of words to others: the core's next step, of which this is told.
+pub record MakesTurn (shape : Shape) (seat seat' : Seat) (before after : List ℕ) (said : Absorbed) : Type 0 where
+  pub told : said ≡ said_by seat.state (slice_index before (place_next shape seat.state))
+  pub begun : seat'.begun ≡ seat.begun
+  pub due : seat'.due ≡ seat.due - decisions_in said
+  pub state : seat'.state ≡ absorbed seat.state (told_of (move_of seat.state) (slice_index before (place_next shape seat.state)))
+  pub words : after ≡ words_after shape before seat.state (slice_index before (place_next shape seat.state))
+
+-- From one seat and list of words to others by a turn: its step, of which this is told.
+pub record TakesTurn (shape : Shape) (seat : Seat) (f : Turn) (seat' : Seat) (before after : List ℕ) (said : Absorbed) : Type 0 where
+  pub told : said ≡ said_by (core_in seat.state f) (slice_index before (place_next shape (core_in seat.state f)))
+  pub behind : seat' ≡ seat_after seat f (slice_index before (place_next shape (core_in seat.state f)))
+  pub words : after ≡ words_after shape before (core_in seat.state f) (slice_index before (place_next shape (core_in seat.state f)))

@@ -1,12 +1,14 @@
 -- How the moves of a machine extend each trace for which it stood.
-use Rattle.std.specs.Prelude.{◌≡◌, ◌≢◌, ◌⊎◌, ℕ, ◌+◌, ◌<◌, ◌≤◌, List, [], ◌∷◌, ◌++◌, Option, Some, None, IsSome, IsSomeAnd}
+use Rattle.std.specs.Prelude.{◌≡◌, ◌≢◌, ◌⊎◌, ℕ, ◌+◌, ◌<◌, ◌≤◌, List, [], ◌∷◌, ◌++◌, length, Option, Some, None, IsSome, IsSomeAnd}
 use Rattle.spk_nums.specs.declared.replies.Reply.{Reply}
 use Rattle.seq_state.specs.Laws.{IsRefusal}
 use Rattle.kernel_history.specs.Trace.{Step, Trace, phase}
 use Rattle.kernel_history.specs.Order.{IsIdle, IsDecided, AreOf, HaveNone, UnlessDecided, GoesThrough}
 use Rattle.lone_kernel.specs.declared.lone.Moved.{Moved}
 use Rattle.lone_kernel.specs.declared.lone.Moved.TheVariants.{Idle, Went}
-use Rattle.lone_kernel.specs.Machine.{Machine, IsReady}
+use Rattle.flight.specs.Fits.{steps_left}
+use Rattle.flight.specs.declared.stages.InFlight.{InFlight}
+use Rattle.lone_kernel.specs.Machine.{Machine, core_at, seat_at, list_at, IsReady}
 use Rattle.lone_kernel.specs.Stands.{StandsFor, GoesOn}
 
 -- Core c was not idle after t, and the machine goes on to a trace that is as said.
@@ -41,9 +43,21 @@ pub record MakesStep (m m' : Machine) (c : ℕ) (t u : Trace) : Type 0 where
   pub own : step.core ≡ c
   pub early : IsReady m c ⊎ RefusedAt step
 
+-- The calls begun behind a step: one more where none was in flight.
+abbrev pub calls_begun : Option InFlight → ℕ → ℕ
+calls_begun None n = n + 1
+calls_begun (Some f) n = n
+
 -- Each trace goes on by one step of core c.
 abbrev pub MakesOneStep : Machine → Machine → ℕ → Type 0
 MakesOneStep m m' c = (t : Trace) → StandsFor m t → MovesTo m m' c t (λ u. MakesStep m m' c t u)
+
+-- Core c has less to do: its call has fewer steps to come, or has returned; and a call that began with the step, or is in
+-- flight, is fewer of its list's to come.
+pub record GoesFurther (m m' : Machine) (c : ℕ) : Type 0 where
+  pub steps : (core_at m c).flight ≢ None → steps_left (core_at m' c) < steps_left (core_at m c)
+  pub begun : (seat_at m' c).begun ≡ calls_begun (core_at m c).flight (seat_at m c).begun
+  pub within : (seat_at m' c).begun ≤ length (list_at m' c)
 
 -- From t to u: steps of core c, none of which decides, up to where its call is ready.
 pub record StopsReady (m' : Machine) (c : ℕ) (t u : Trace) : Type 0 where

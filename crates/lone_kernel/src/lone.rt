@@ -1,4 +1,32 @@
-//! What a move does.
+//! The machine for given orders: a vector of words, and the moves of the cores over it.
+//!
+//! A machine stands for a trace: its words, cores and decisions are those after the trace. It is made for the empty one,
+//! and each move extends every trace for which it stood by steps of one core.
+//!
+//! **One step.** A core between calls begins the next call of its list. The core says on which word its next step is and
+//! what the step does; the step is made on the vector; and the core takes what it found. Nothing else reads or writes
+//! a word.
+//!
+//! **Decisions.** A step that decides a call notes the reply at once, so the decisions are in the order of the trace.
+ghost use Rattle.std.specs.Prelude.{◌≡◌, ◌≢◌, ◌↔◌, false, IsSome, None, Some, [], ℕ, ◌+◌, ◌<◌, ◌≤◌, ◌^◌, ◌++◌, IsTrue, All, IfOk, IfSome, map, length, slice_index, slice_set, vec_len, vec_capacity};
+ghost use Rattle.word_map.specs.Moves.{place_in};
+ghost use Rattle.word_map.specs.Places.{size_of, place_of, shared};
+ghost use Rattle.kernel_history.specs.Trace.{decision_at};
+ghost use Rattle.kernel_history.specs.BootWords.{boot_word};
+ghost use Rattle.flight.specs.Fits.{IsCore, steps_left};
+ghost use Rattle.flight.specs.Knows.{shape_of};
+ghost use Rattle.flight.specs.Theorems.{decided_in};
+ghost use Rattle.lone_kernel.specs.Ops.{left_by, told_by};
+ghost use Rattle.lone_kernel.specs.Machine.{IsFitSeat, CanRun, turn_of, begun_by, core_in, said_by, CanTake, MakesTurn, TakesTurn, seat_after, words_after, place_next, decisions_in, is_decided_in, IsFinished, IsInCall, HasDecided, IsReady, list_at, seat_at, core_at, AreLists, fresh_seat};
+ghost use Rattle.lone_kernel.specs.Stands.{StandsFor};
+ghost use Rattle.lone_kernel.specs.Moves.{MovesBy, MakesOneStep, GoesFurther, GoesUntilReady, GoesThroughDecision, GoesToReturn};
+
+use crate::seats::{Seat, Turn};
+use flight::{Absorbed, CoreState};
+use spk_nums::{Call, CoreNo, Decision, Memory, Setup, WordOp};
+use std::alloc::{AllocError, Global};
+use std::marker::Model;
+use word_map::Layout;
 
 /// What a move did.
 #[derive(Clone, Copy, Debug, PartialEq, Eq)]
@@ -7,4 +35,185 @@ pub enum Moved {
     Idle,
     /// It took the core as far as it says.
     Went,
+}
+
+/// The machine: the words, each core's list of calls and where the core stands in it, and the decisions in order.
+#[derive(Drop)]
+pub struct LoneKernel {
+    setup: Setup,
+    layout: Layout,
+    words: Vec<u64>,
+    lists: Vec<Vec<Call>>,
+    seats: Vec<Seat>,
+    decisions: Vec<Decision>,
+}
+
+impl Model for LoneKernel {
+    ghost use Rattle.std.specs.Prelude.{◌≡◌, ◌+◌, ◌≤◌, map, sum_by, vec_len, vec_capacity};
+    ghost use Rattle.spk_nums.specs.Setting.{IsSetting};
+    ghost use Rattle.flight.specs.Knows.{shape_of};
+    ghost use Rattle.lone_kernel.specs.Machine.{Machine, IsFit};
+
+    ghost Value = { Machine };
+
+    ghost view = { λ k. record {
+      setup = k.setup;
+      words = k.words.items;
+      lists = map (λ v. v.items) k.lists.items;
+      seats = k.seats.items;
+      decisions = k.decisions.items;
+    } };
+
+    ghost invariant = { λ k. IsFit (record {
+      setup = k.setup;
+      words = k.words.items;
+      lists = map (λ v. v.items) k.lists.items;
+      seats = k.seats.items;
+      decisions = k.decisions.items;
+    }) × (k.layout ≡ shape_of k.setup) × IsSetting k.setup × (vec_len k.decisions + sum_by (λ seat. seat.due) k.seats.items ≤ vec_capacity k.decisions) };
+}
+
+// A core's next turn: the next call of its list begins where there is none in flight.
+fn turn(list: &Vec<Call>, seat: &Seat) -> Option<Turn>
+    ensures { result ≡ turn_of list.now.items seat.now }
+{
+    if seat.state.in_call() {
+        return Some(Turn::GoesOn);
+    }
+    match list.get(seat.begun) {
+        None => None,
+        Some(call) => Some(Turn::Begins { call: *call }),
+    }
+}
+
+// One atomic step over the words: what it finds.
+fn perform(words: &mut Vec<u64>, op: &WordOp) -> u64
+    requires { place_in op.now < length words.old.items }
+    ensures found { result ≡ slice_index words.old.items (place_in op.now) }
+    ensures left { words.new.items ≡ slice_set words.old.items (place_in op.now) (left_by op.now result) }
+{
+    match *op {
+        WordOp::Load { at } => words[at as usize],
+        WordOp::Compare { at, expected, word } => {
+            let found = words[at as usize];
+            if found == expected {
+                words[at as usize] = word;
+            }
+            found
+        }
+        WordOp::Store { at, word } => {
+            let found = words[at as usize];
+            words[at as usize] = word;
+            found
+        }
+        WordOp::Add { at, by } => {
+            let found = words[at as usize];
+            words[at as usize] = found.wrapping_add(by);
+            found
+        }
+    }
+}
+
+// What a core is told of the word found: a store tells it what it has stored.
+fn told(op: &WordOp, found: u64) -> u64
+    ensures { result ≡ told_by op.now found }
+{
+    match *op {
+        WordOp::Store { word, .. } => word,
+        _ => found,
+    }
+}
+
+// The turn's call begins, where it is one that does.
+fn begin(seat: &mut Seat, turn: &Turn)
+    requires between { CanTake turn.now seat.old.state }
+    requires few { seat.old.begun < 2 ^ 60 }
+    ensures state { seat.new.state ≡ core_in seat.old.state turn.now }
+    ensures begun { seat.new.begun ≡ begun_by turn.now seat.old.begun }
+    ensures due { seat.new.due ≡ seat.old.due }
+    ensures in_call { IsSome seat.new.state.flight }
+{
+    if let Turn::Begins { call } = *turn {
+        seat.state.begin(call);
+        seat.begun += 1;
+    }
+}
+
+// How many calls a step decides.
+fn decisions_in(absorbed: &Absorbed) -> usize
+    ensures { result ≡ decisions_in absorbed.now }
+{
+    match absorbed {
+        Absorbed::Decided(_) => 1,
+        _ => 0,
+    }
+}
+
+// The core makes its next step over the words.
+fn go(seat: &mut Seat, layout: &Layout, words: &mut Vec<u64>) -> Absorbed
+    requires in_call { IsSome seat.old.state.flight }
+    requires machine { layout.now ≡ seat.old.state.shape }
+    requires size { length words.old.items ≡ size_of layout.now }
+    requires due { is_decided_in seat.old.state.flight ≡ false → 0 < seat.old.due }
+    ensures goes { MakesTurn layout.now seat.old seat.new words.old.items words.new.items result }
+    ensures fits { IsCore seat.new.state }
+    ensures fewer { steps_left seat.new.state < steps_left seat.old.state }
+{
+    let op = seat.state.next_op(layout);
+    let found = perform(words, &op);
+    let absorbed = seat.state.absorb(told(&op, found));
+    seat.due -= decisions_in(&absorbed);
+    absorbed
+}
+
+// The core takes its turn: the turn's call begins, where it is one that does, and the core makes its next step.
+fn take(seat: &mut Seat, turn: &Turn, layout: &Layout, words: &mut Vec<u64>) -> Absorbed
+    requires can { CanTake turn.now seat.old.state }
+    requires few { seat.old.begun < 2 ^ 60 }
+    requires machine { layout.now ≡ seat.old.state.shape }
+    requires size { length words.old.items ≡ size_of layout.now }
+    requires due { is_decided_in (core_in seat.old.state turn.now).flight ≡ false → 0 < seat.old.due }
+    ensures takes { TakesTurn layout.now seat.old turn.now seat.new words.old.items words.new.items result }
+    ensures fits { IsCore seat.new.state }
+    ensures fewer { steps_left seat.new.state < steps_left (core_in seat.old.state turn.now) }
+{
+    begin(seat, turn);
+    go(seat, layout, words)
+}
+
+// Room for it was made at the start, so this takes no memory.
+fn note(decisions: &mut Vec<Decision>, absorbed: &Absorbed, core: CoreNo, index: u32)
+    requires { decided_in absorbed.now ≢ None → vec_len decisions.old < vec_capacity decisions.old }
+    ensures items { decisions.new.items ≡ decisions.old.items ++ decision_at (decided_in absorbed.now) core index }
+    ensures room { vec_capacity decisions.old ≤ vec_capacity decisions.new }
+{
+    if let Absorbed::Decided(reply) = *absorbed {
+        let decision = Decision { core, index, reply };
+        match decisions.push(decision) {
+            Ok(()) => {}
+            Err(_) => unreachable!(),
+        }
+    }
+}
+
+impl LoneKernel {
+    /// Makes one step of the core. A core between calls begins its next one; idle comes exactly where it is between
+    /// calls and its list is finished.
+    pub fn step(&mut self, core: CoreNo) -> Moved
+        requires { core < self.old.setup.cores }
+        ensures setup { self.new.setup ≡ self.old.setup }
+        ensures lists { self.new.lists ≡ self.old.lists }
+        ensures idle { (result ≡ Moved.Idle) ↔ IsFinished self.old core }
+        ensures goes { MovesBy result self.old self.new core (MakesOneStep self.old self.new core) }
+        ensures work { (IsFinished self.old core → ⊥) → GoesFurther self.old self.new core }
+    {
+        let at = usize::from(core.number());
+        let Some(turn) = turn(&self.lists[at], &self.seats[at]) else {
+            return Moved::Idle;
+        };
+        let absorbed = take(&mut self.seats[at], &turn, &self.layout, &mut self.words);
+        let index = self.seats[at].begun as u32;
+        note(&mut self.decisions, &absorbed, core, index);
+        Moved::Went
+    }
 }

@@ -1,0 +1,215 @@
+-- A machine that fits still does behind a step, and has less to do.
+use Rattle.std.proofs.Common.{◌≡◌, ◌≢◌, inl, inr, ℕ, ◌+◌, ◌-◌, ◌<◌, ◌≤◌, ◌^◌, List, [], length, get_or, Option, Some, None, arith, refl, sym, ◌∙◌, ap, subst, Bool, true, false, get_or-set_same, get_or-set_other}
+use Rattle.std.specs.Prelude.{slice_get, slice_set, sum_by, All, option_map, IsSome}
+use Rattle.std.proofs.lemmas.Bool.{cases_eq}
+use Rattle.std.proofs.lemmas.List.{length-set}
+use Rattle.std.proofs.lemmas.List.Sums.{sum_by-set}
+use Rattle.std.proofs.lemmas.Option.{slice_get_cases}
+use Rattle.spk_nums.specs.declared.calls.Call.{Call}
+use Rattle.spk_nums.specs.Setting.{Setting}
+use Rattle.kernel_history.specs.Trace.{decision_at}
+use Rattle.flight.specs.View.{Core}
+use Rattle.flight.specs.Fits.{IsCore, steps_left}
+use Rattle.flight.specs.Steps.{begun, fresh, went, landed, told, took_by, move_of, absorbed, told_of_step, absorbed_in, told_in}
+use Rattle.flight.specs.Stages.{stage_took}
+use Rattle.flight.specs.Theorems.{turned, decided_in}
+use Rattle.flight.specs.Knows.{shape_of}
+use Rattle.flight.specs.declared.stages.Absorbed.{Absorbed}
+use Rattle.flight.specs.declared.stages.Absorbed.TheVariants.{Going, Decided, Returned}
+use Rattle.flight.specs.declared.stages.InFlight.{InFlight}
+use Rattle.flight.specs.declared.stages.Took.{Took}
+use Rattle.flight.specs.declared.stages.Took.TheVariants.{Goes, Decides, Returns}
+use Rattle.lone_kernel.specs.declared.seats.Seat.{Seat}
+use Rattle.lone_kernel.specs.declared.seats.Turn.{Turn}
+use Rattle.lone_kernel.specs.declared.seats.Turn.TheVariants.{Begins, GoesOn}
+use Rattle.lone_kernel.specs.Machine.{Machine, seat_at, core_at, list_at, no_seat, turn_if, turn_of, turn_at, is_decided_at, is_decided_in, due_at, due_in, IsFitSeat, IsFit, CanRun, CanBegin, CanTake, enters_as, core_in, begun_by, decisions_in, said_by, seat_after, found_by, stepped}
+use Rattle.lone_kernel.specs.Moves.{calls_begun, GoesFurther}
+use Rattle.lone_kernel.proofs.Turns.{Turns, stage_turns}
+
+some_inj : {A : Type 0} (x y : A) → Some x ≡ Some y → x ≡ y
+some_inj x y h = cc
+
+-- what a turn of a fit seat is: the core may take it, and the calls begun behind it are of the list
+pub record IsOf (list : List Call) (seat : Seat) (f : Turn) : Type 0 where
+  pub can : CanTake f seat.state
+  pub within : begun_by f seat.begun ≤ length list
+  pub counts : begun_by f seat.begun ≡ calls_begun seat.state.flight seat.begun
+  pub due : begun_by f seat.begun + seat.due ≡ length list + due_in (core_in seat.state f).flight
+  pub in_call : IsSome (core_in seat.state f).flight
+  pub goes_on : seat.state.flight ≢ None → core_in seat.state f ≡ seat.state
+
+of_flight : (list : List Call) (begun due : ℕ) (state : Core) (o : Option InFlight) (f : Turn) → state.flight ≡ o → All CanRun list →
+    begun + due ≡ length list + due_in o → begun ≤ length list → turn_if list begun o ≡ Some f →
+    IsOf list (record { begun = begun; due = due; state = state }) f
+of_flight list begun due state None f is calls sum low begins = elim (slice_get_cases list begun).1 [
+  | inl found ↦
+      let call = found.0 in
+      let same : Begins call ≡ f = some_inj (Begins call) f (ap (option_map Begins) (sym found.2) ∙ begins) in
+      let within : begun < length list = found.1 in
+      subst (λ g. IsOf list (record { begun = begun; due = due; state = state }) g) same record {
+        can = record { between = is; can_run = subst CanRun found.3 (calls begun call within) };
+        within = omega arith;
+        counts = ap (λ o. calls_begun o begun) (sym is);
+        due = omega arith;
+        in_call = refl;
+        goes_on = λ some. absurd (some is);
+      }
+  | inr past ↦ absurd (none_is (ap (option_map Begins) (sym past.1) ∙ begins))
+] where
+  none_is : None ≡ Some f → ⊥
+  none_is h = cc
+of_flight list begun due state (Some g) f is calls sum low begins =
+    subst (λ h. IsOf list (record { begun = begun; due = due; state = state }) h) (some_inj GoesOn f begins) record {
+      can = subst IsSome (sym is) refl;
+      within = low;
+      counts = ap (λ o. calls_begun o begun) (sym is);
+      due = sum ∙ ap (λ o. length list + due_in o) (sym is);
+      in_call = subst IsSome (sym is) refl;
+      goes_on = λ some. refl;
+    }
+
+pub turn_is : (setup : Setting) (list : List Call) (c : ℕ) (seat : Seat) (f : Turn) → IsFitSeat setup list c seat → All CanRun list → turn_of list seat ≡ Some f → IsOf list seat f
+turn_is setup list c seat f fit calls begins = of_flight list seat.begun seat.due seat.state seat.state.flight f refl calls fit.sum fit.begun begins
+
+-- what one decides is due before it and not behind it
+pub record Counts (before after : Option InFlight) (said : Absorbed) : Type 0 where
+  pub due : due_in before ≡ due_in after + decisions_in said
+
+counts_took : (f : InFlight) (core : Core) (took : Took) → Turns (is_decided_at f.stage) took → Counts (Some f) (landed core f took).flight (told took)
+counts_took f core (Goes s) turns = record { due = ap due_at (sym turns) ∙ omega arith }
+counts_took f core (Decides r s) turns = record { due = ap due_at turns.0 ∙ ap (λ b. due_at b + 1) (sym turns.1) }
+counts_took f core (Returns r x) turns = record { due = ap due_at turns }
+
+counts_in : (core : Core) (o : Option InFlight) (found : ℕ) → IsSome o → Counts o (absorbed_in core o found).flight (told_in core o found)
+counts_in core None found some = absurd (cc)
+counts_in core (Some f) found some = counts_took f core (took_by core f found) (stage_turns _ _ _ f.call f.stage found)
+
+pub counts_absorbed : (core : Core) (found : ℕ) → IsSome core.flight → Counts core.flight (absorbed core found).flight (told_of_step core found)
+counts_absorbed core found some = counts_in core core.flight found some
+
+-- a step leaves the core the one it is
+landed_core : (core : Core) (f : InFlight) (took : Took) → (landed core f took).core ≡ core.core
+landed_core core f (Goes s) = refl
+landed_core core f (Decides r s) = refl
+landed_core core f (Returns r x) = refl
+
+landed_shape : (core : Core) (f : InFlight) (took : Took) → (landed core f took).shape ≡ core.shape
+landed_shape core f (Goes s) = refl
+landed_shape core f (Decides r s) = refl
+landed_shape core f (Returns r x) = refl
+
+absorbed_core : (core : Core) (o : Option InFlight) (found : ℕ) → (absorbed_in core o found).core ≡ core.core
+absorbed_core core None found = refl
+absorbed_core core (Some f) found = landed_core core f (took_by core f found)
+
+absorbed_shape : (core : Core) (o : Option InFlight) (found : ℕ) → (absorbed_in core o found).shape ≡ core.shape
+absorbed_shape core None found = refl
+absorbed_shape core (Some f) found = landed_shape core f (took_by core f found)
+
+turned_core : (core : Core) (f : Turn) → (core_in core f).core ≡ core.core
+turned_core core (Begins call) = refl
+turned_core core GoesOn = refl
+
+pub turned_shape : (core : Core) (f : Turn) → (core_in core f).shape ≡ core.shape
+turned_shape core (Begins call) = refl
+turned_shape core GoesOn = refl
+
+module _ (m : Machine) (c : ℕ) (f : Turn) (fit : IsFit m) (here : c < m.setup.cores) (begins : turn_at m c ≡ Some f) where
+  abbrev core1 : Core
+  core1 = core_in (core_at m c) f
+
+  abbrev said : Absorbed
+  said = said_by core1 (found_by m c f)
+
+  abbrev seat' : Seat
+  seat' = seat_after (seat_at m c) f (found_by m c f)
+
+  pub is_of : IsOf (list_at m c) (seat_at m c) f
+  is_of = turn_is m.setup (list_at m c) c (seat_at m c) f (fit.each c here) (fit.calls c here) begins
+
+  counts : Counts core1.flight seat'.state.flight said
+  counts = counts_absorbed core1 _ is_of.in_call
+
+  -- one that decides was due
+  pub was_due : decisions_in said ≤ (seat_at m c).due
+  was_due =
+      let all = is_of.due in
+      let low = is_of.within in
+      let once = counts.due in
+      omega arith
+
+  fits_seat : IsCore seat'.state → IsFitSeat m.setup (list_at m c) c seat'
+  fits_seat fits = record {
+    sum = (let all = is_of.due in let low = is_of.within in let once = counts.due in let was = was_due in omega arith);
+    begun = is_of.within;
+    small = (fit.each c here).small;
+    core = absorbed_core core1 core1.flight _ ∙ turned_core (core_at m c) f ∙ (fit.each c here).core;
+    shape = absorbed_shape core1 core1.flight _ ∙ turned_shape (core_at m c) f ∙ (fit.each c here).shape;
+    fits = fits;
+  }
+
+  in_seats : c < length m.seats
+  in_seats = let n = fit.seats in omega arith
+
+  pub seat_same : (d : ℕ) → d ≡ c → seat_at (stepped m c f) d ≡ seat'
+  seat_same d is = ap (λ (i : ℕ). get_or (slice_set m.seats c seat') i no_seat) is ∙ get_or-set_same m.seats c seat' no_seat in_seats
+
+  pub seat_there : (d : ℕ) → d ≢ c → seat_at (stepped m c f) d ≡ seat_at m d
+  seat_there d is = get_or-set_other m.seats c d seat' no_seat is
+
+  pub fits_on : IsCore seat'.state → IsFit (stepped m c f)
+  fits_on fits = record {
+    size = length-set m.words _ _ ∙ fit.size;
+    lists = fit.lists;
+    seats = length-set m.seats c seat' ∙ fit.seats;
+    calls = fit.calls;
+    each = λ d h. elim (cases_eq d c) [
+      | inl same ↦
+          subst (λ k. IsFitSeat m.setup (list_at m d) d k) (sym (seat_same d same)) (subst (λ (i : ℕ). IsFitSeat m.setup (list_at m i) i seat') (sym same) (fits_seat fits))
+      | inr apart ↦
+          subst (λ k. IsFitSeat m.setup (list_at m d) d k) (sym (seat_there d apart)) (fit.each d h)
+    ];
+  }
+
+  -- the decisions made and those due add up to what they were
+  pub due_on : sum_by (λ seat. seat.due) (stepped m c f).seats + decisions_in said ≡ sum_by (λ seat. seat.due) m.seats
+  due_on =
+      let s = sum_by-set (λ seat. seat.due) m.seats c seat' no_seat in_seats in
+      let was = was_due in
+      omega arith
+
+  pub further : steps_left seat'.state < steps_left core1 → GoesFurther m (stepped m c f) c
+  further fewer = record {
+    steps = λ some.
+        subst (λ k. steps_left k.state < steps_left (core_at m c)) (sym (seat_same c refl))
+        (subst (λ k. steps_left seat'.state < steps_left k) (is_of.goes_on some) fewer);
+    begun = ap (λ k. k.begun) (seat_same c refl) ∙ is_of.counts;
+    within = subst (λ k. k.begun ≤ length (list_at m c)) (sym (seat_same c refl)) is_of.within;
+  }
+
+-- where a decision is due, some are due in all
+pub some_due : (seats : List Seat) (n : ℕ) → n < length seats → 0 < (get_or seats n no_seat).due → 0 < sum_by (λ seat. seat.due) seats
+some_due seats n h some = let s = sum_by-set (λ seat. seat.due) seats n no_seat no_seat h in omega arith
+
+-- a decision that is told is one
+pub one_decision : (said : Absorbed) → decided_in said ≢ None → decisions_in said ≡ 1
+one_decision Going some = absurd (some refl)
+one_decision (Decided r) some = refl
+one_decision (Returned r) some = absurd (some refl)
+
+pub count_decided : (said : Absorbed) (c i : ℕ) → length (decision_at (decided_in said) c i) ≡ decisions_in said
+count_decided Going c i = refl
+count_decided (Decided r) c i = refl
+count_decided (Returned r) c i = refl
+
+undecided_in : (o : Option InFlight) → IsSome o → is_decided_in o ≡ false → due_in o ≡ 1
+undecided_in None some h = absurd (cc)
+undecided_in (Some f) some h = ap due_at h
+
+-- an undecided call's decision is due
+pub undecided_due : (list : List Call) (seat : Seat) (f : Turn) → IsOf list seat f → is_decided_in (core_in seat.state f).flight ≡ false → 0 < seat.due
+undecided_due list seat f of h =
+    let all = of.due in
+    let low = of.within in
+    let one = undecided_in (core_in seat.state f).flight of.in_call h in
+    omega arith
