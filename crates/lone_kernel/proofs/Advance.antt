@@ -28,8 +28,9 @@ use Rattle.flight.specs.Steps.{begun, move_of, move_in, ready_of, ready_in, abso
 use Rattle.flight.specs.Stages.{stage_move}
 use Rattle.flight.specs.Knows.{shape_of, FlightIs, InFlightIs, CoreIs, phase_at}
 use Rattle.flight.specs.Stands.{Stands}
-use Rattle.flight.specs.Theorems.{turned, decided_in, step_at, step_of, core_after, MayStep, StepsOn, SaysWords, ReadyDecides, IsUndecided, IsUndecidedAt}
+use Rattle.flight.specs.Theorems.{turned, decided_in, returned_in, step_at, step_of, core_after, MayStep, StepsOn, SaysWords, ReadyDecides, IsUndecided, IsUndecidedAt}
 use Rattle.flight.specs.declared.stages.Absorbed.{Absorbed}
+use Rattle.flight.specs.declared.stages.Absorbed.TheVariants.{Going, Decided, Returned}
 use Rattle.flight.specs.declared.stages.InFlight.{InFlight}
 use Rattle.flight.specs.declared.stages.Stage.{Stage}
 use Rattle.flight.specs.declared.stages.Stage.TheVariants.{Enter, Looking, Fill, Exit, Leave}
@@ -38,7 +39,7 @@ use Rattle.lone_kernel.specs.declared.seats.Turn.{Turn}
 use Rattle.lone_kernel.specs.declared.seats.Turn.TheVariants.{Begins, GoesOn}
 use Rattle.lone_kernel.specs.Machine.{Machine, seat_at, core_at, list_at, turn_if, turn_of, turn_at, is_decided_at, is_decided_in, IsFinished, IsReady, HasDecided, IsFit, IsFitSeat, CanRun, CanTake, enters_as, core_in, begun_by, said_by, seat_after, place_next, found_by, stepped, step_in}
 use Rattle.lone_kernel.specs.Stands.{StandsFor, IsPending, WillDecide, GoesOn as goes_on_by}
-use Rattle.lone_kernel.specs.Moves.{calls_begun, GoesFurther, MovesTo, StaysIdle, MakesStep, MakesOneStep, RefusedAt}
+use Rattle.lone_kernel.specs.Moves.{calls_begun, GoesFurther, MovesTo, StaysIdle, MakesStep, MakesOneStep, RefusedAt, IsNotBoth}
 use Rattle.lone_kernel.proofs.Fits.{IsOf, is_of, seat_same, seat_there, turned_shape}
 use Rattle.lone_kernel.proofs.Refusals.{unready_refuses, decided_refuses}
 
@@ -130,6 +131,12 @@ ready_goes_on list n core (Some g) (Begins call) is ready begins = absurd (cc)
 ready_alike : (core : Core) (f : Turn) → ready_of (core_in core f) ≡ true → core_in core f ≡ core
 ready_alike core (Begins call) ready = absurd (cc)
 ready_alike core GoesOn ready = refl
+
+-- a step that is told one thing does not both decide and return
+not_both : (said : Absorbed) → IsNotBoth (decided_in said) (returned_in said)
+not_both Going = tt
+not_both (Decided r) = refl
+not_both (Returned r) = tt
 
 finished_if : (list : List Call) (n : ℕ) (o : Option InFlight) → turn_if list n o ≡ None → (o ≡ None) × (length list ≤ n)
 finished_if list n None none = elim (slice_get_cases list n).1 [
@@ -318,7 +325,7 @@ module _ (steps_on : StepsOn) (says_words : SaysWords) (ready_decides : ReadyDec
     busy = not_idle;
     after = e ∷ t;
     goes = record { stands = stands_on; promised = promise_kept };
-    is = record { step = e; adds = refl; own = refl; early = ready_or_refused (ready_of core1) (is_decided_in core1.flight) refl refl };
+    is = record { step = e; adds = refl; own = refl; apart = not_both (said_by core1 (found_by m c f)); early = ready_or_refused (ready_of core1) (is_decided_in core1.flight) refl refl };
   }
 
 pub steps_like : {m m0 m' m1 : Machine} {n c : ℕ} → m0 ≡ m → m' ≡ m1 → n ≡ c → MakesOneStep m0 m1 n → MakesOneStep m m' c

@@ -25,6 +25,7 @@ use Rattle.lone_kernel.specs.declared.seats.Turn.TheVariants.{Begins, GoesOn}
 use Rattle.lone_kernel.specs.Machine.{Machine, seat_at, core_at, list_at, no_seat, turn_if, turn_of, turn_at, is_decided_at, is_decided_in, due_at, due_in, IsFitSeat, IsFit, CanRun, CanBegin, CanTake, enters_as, core_in, begun_by, decisions_in, said_by, seat_after, found_by, stepped}
 use Rattle.lone_kernel.specs.Moves.{calls_begun, GoesFurther}
 use Rattle.lone_kernel.proofs.Turns.{Turns, stage_turns}
+use Rattle.lone_kernel.proofs.Small.{steps_small}
 
 some_inj : {A : Type 0} (x y : A) → Some x ≡ Some y → x ≡ y
 some_inj x y h = cc
@@ -114,6 +115,19 @@ pub turned_shape : (core : Core) (f : Turn) → (core_in core f).shape ≡ core.
 turned_shape core (Begins call) = refl
 turned_shape core GoesOn = refl
 
+stays_took : (core : Core) (f : InFlight) (took : Took) → Turns false took → (landed core f took).flight ≢ None
+stays_took core f (Goes s) turns none = cc
+stays_took core f (Decides r s) turns none = cc
+stays_took core f (Returns r x) turns none = cc
+
+stays_absorbed : (core : Core) (o : Option InFlight) (found : ℕ) → IsSome o → is_decided_in o ≡ false → (absorbed_in core o found).flight ≢ None
+stays_absorbed core None found some h = absurd (cc)
+stays_absorbed core (Some f) found some h = stays_took core f (took_by core f found) (subst (λ b. Turns b (took_by core f found)) h (stage_turns _ _ _ f.call f.stage found))
+
+undecided_turn : (core : Core) (f : Turn) → is_decided_in core.flight ≡ false → is_decided_in (core_in core f).flight ≡ false
+undecided_turn core (Begins call) h = refl
+undecided_turn core GoesOn h = h
+
 module _ (m : Machine) (c : ℕ) (f : Turn) (fit : IsFit m) (here : c < m.setup.cores) (begins : turn_at m c ≡ Some f) where
   abbrev core1 : Core
   core1 = core_in (core_at m c) f
@@ -148,6 +162,10 @@ module _ (m : Machine) (c : ℕ) (f : Turn) (fit : IsFit m) (here : c < m.setup.
     fits = fits;
   }
 
+  -- a call that was not decided is still in flight
+  stays_behind : is_decided_in (core_at m c).flight ≡ false → seat'.state.flight ≢ None
+  stays_behind undecided = stays_absorbed core1 core1.flight _ is_of.in_call (undecided_turn (core_at m c) f undecided)
+
   in_seats : c < length m.seats
   in_seats = let n = fit.seats in omega arith
 
@@ -178,13 +196,15 @@ module _ (m : Machine) (c : ℕ) (f : Turn) (fit : IsFit m) (here : c < m.setup.
       let was = was_due in
       omega arith
 
-  pub further : steps_left seat'.state < steps_left core1 → GoesFurther m (stepped m c f) c
-  further fewer = record {
+  pub further : IsCore seat'.state → steps_left seat'.state < steps_left core1 → GoesFurther m (stepped m c f) c
+  further fits fewer = record {
+    few = subst (λ k. steps_left k.state < 1000) (sym (seat_same c refl)) (steps_small seat'.state fits);
     steps = λ some.
         subst (λ k. steps_left k.state < steps_left (core_at m c)) (sym (seat_same c refl))
         (subst (λ k. steps_left seat'.state < steps_left k) (is_of.goes_on some) fewer);
     begun = ap (λ k. k.begun) (seat_same c refl) ∙ is_of.counts;
     within = subst (λ k. k.begun ≤ length (list_at m c)) (sym (seat_same c refl)) is_of.within;
+    in_call = λ undecided. subst (λ k. k.state.flight ≢ None) (sym (seat_same c refl)) (stays_behind undecided);
   }
 
 -- where a decision is due, some are due in all

@@ -4,3 +4,5 @@ pub mod Fits
 pub mod Refusals
 pub mod Theory
 pub mod Advance
+pub mod Runs
+pub mod Small

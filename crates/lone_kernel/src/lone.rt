@@ -19,7 +19,7 @@ ghost use Rattle.flight.specs.Theorems.{decided_in};
 ghost use Rattle.lone_kernel.specs.Ops.{left_by, told_by};
 ghost use Rattle.lone_kernel.specs.Machine.{IsFitSeat, CanRun, turn_of, begun_by, core_in, said_by, CanTake, MakesTurn, TakesTurn, seat_after, words_after, place_next, decisions_in, is_decided_in, IsFinished, IsInCall, HasDecided, IsReady, list_at, seat_at, core_at, AreLists, fresh_seat};
 ghost use Rattle.lone_kernel.specs.Stands.{StandsFor};
-ghost use Rattle.lone_kernel.specs.Moves.{MovesBy, MakesOneStep, GoesFurther, GoesUntilReady, GoesThroughDecision, GoesToReturn};
+ghost use Rattle.lone_kernel.specs.Moves.{MovesBy, MakesOneStep, GoesFurther, GoesUntilReady, GoesThroughDecision, GoesToReturn, calls_left};
 
 use crate::seats::{Seat, Turn};
 use flight::{Absorbed, CoreState};
@@ -215,5 +215,148 @@ impl LoneKernel {
         let index = self.seats[at].begun as u32;
         note(&mut self.decisions, &absorbed, core, index);
         Moved::Went
+    }
+
+    /// Goes on until the core's call is ready: its next step is the one at which it decides an `ok`. A call that is
+    /// refused before ends the move too. A call that is ready, or has decided, makes no step.
+    pub fn until_ready(&mut self, core: CoreNo) -> Moved
+        requires { core < self.old.setup.cores }
+        ensures setup { self.new.setup ≡ self.old.setup }
+        ensures lists { self.new.lists ≡ self.old.lists }
+        ensures idle { (result ≡ Moved.Idle) ↔ IsFinished self.old core }
+        ensures goes { MovesBy result self.old self.new core (GoesUntilReady self.old self.new core) }
+    {
+        if self.is_finished(core) {
+            return Moved::Idle;
+        }
+        if !self.has_decided(core) {
+            self.make_ready(core);
+        }
+        Moved::Went
+    }
+
+    /// Goes on until the core's call has decided. A call that has decided makes no step.
+    pub fn through_decision(&mut self, core: CoreNo) -> Moved
+        requires { core < self.old.setup.cores }
+        ensures setup { self.new.setup ≡ self.old.setup }
+        ensures lists { self.new.lists ≡ self.old.lists }
+        ensures idle { (result ≡ Moved.Idle) ↔ IsFinished self.old core }
+        ensures goes { MovesBy result self.old self.new core (GoesThroughDecision self.old self.new core) }
+    {
+        if self.is_finished(core) {
+            return Moved::Idle;
+        }
+        if !self.has_decided(core) {
+            self.decide(core);
+        }
+        Moved::Went
+    }
+
+    /// Goes on until the core's call has returned.
+    pub fn to_return(&mut self, core: CoreNo) -> Moved
+        requires { core < self.old.setup.cores }
+        ensures setup { self.new.setup ≡ self.old.setup }
+        ensures lists { self.new.lists ≡ self.old.lists }
+        ensures idle { (result ≡ Moved.Idle) ↔ IsFinished self.old core }
+        ensures goes { MovesBy result self.old self.new core (GoesToReturn self.old self.new core) }
+        ensures fewer { (IsFinished self.old core → ⊥) → calls_left self.new core < calls_left self.old core }
+    {
+        if self.is_finished(core) {
+            return Moved::Idle;
+        }
+        self.finish(core);
+        Moved::Went
+    }
+
+    fn make_ready(&mut self, core: CoreNo)
+        requires here { core < self.old.setup.cores }
+        requires begins { IsFinished self.old core → ⊥ }
+        requires undecided { HasDecided self.old core → ⊥ }
+        ensures setup { self.new.setup ≡ self.old.setup }
+        ensures lists { self.new.lists ≡ self.old.lists }
+        ensures goes { GoesUntilReady self.old self.new core }
+    {
+        'going: while !self.is_ready(core) {
+            self.step(core);
+            if self.has_decided(core) {
+                return;
+            }
+        }
+    }
+
+    fn decide(&mut self, core: CoreNo)
+        requires here { core < self.old.setup.cores }
+        requires begins { IsFinished self.old core → ⊥ }
+        requires undecided { HasDecided self.old core → ⊥ }
+        ensures setup { self.new.setup ≡ self.old.setup }
+        ensures lists { self.new.lists ≡ self.old.lists }
+        ensures goes { GoesThroughDecision self.old self.new core }
+    {
+        'going: loop {
+            self.step(core);
+            if self.has_decided(core) {
+                return;
+            }
+        }
+    }
+
+    fn finish(&mut self, core: CoreNo)
+        requires here { core < self.old.setup.cores }
+        requires begins { IsFinished self.old core → ⊥ }
+        ensures setup { self.new.setup ≡ self.old.setup }
+        ensures lists { self.new.lists ≡ self.old.lists }
+        ensures goes { GoesToReturn self.old self.new core }
+        ensures fewer { calls_left self.new core < calls_left self.old core }
+    {
+        'going: loop {
+            self.step(core);
+            if !self.is_in_call(core) {
+                return;
+            }
+        }
+    }
+
+    // Whether the core has a call in flight.
+    fn is_in_call(&self, core: CoreNo) -> bool
+        requires { core < self.now.setup.cores }
+        ensures { IsTrue result ↔ IsInCall self.now core }
+    {
+        self.seats[usize::from(core.number())].state.in_call()
+    }
+
+    // Whether the core's call in flight is decided: then it is not among those that are due.
+    fn has_decided(&self, core: CoreNo) -> bool
+        requires { core < self.now.setup.cores }
+        ensures { IsTrue result ↔ HasDecided self.now core }
+    {
+        let at = usize::from(core.number());
+        let seat = &self.seats[at];
+        seat.state.in_call() && seat.begun + seat.due == self.lists[at].len()
+    }
+
+    // Whether the core is between calls and its list is finished.
+    fn is_finished(&self, core: CoreNo) -> bool
+        requires { core < self.now.setup.cores }
+        ensures { IsTrue result ↔ IsFinished self.now core }
+    {
+        let at = usize::from(core.number());
+        turn(&self.lists[at], &self.seats[at]).is_none()
+    }
+
+    // Whether the next step of the core is the one at which its call decides an `ok`.
+    fn is_ready(&self, core: CoreNo) -> bool
+        requires { core < self.now.setup.cores }
+        ensures { IsTrue result ↔ IsReady self.now core }
+    {
+        let at = usize::from(core.number());
+        let state = &self.seats[at].state;
+        state.in_call() && state.is_ready() && !self.has_decided(core)
+    }
+
+    /// The decisions, in the order decided.
+    pub fn decisions(&self) -> &[Decision]
+        ensures { result.now ≡ self.now.decisions }
+    {
+        &self.decisions
     }
 }

@@ -154,6 +154,9 @@ pub returns-clause-work : goal.returns-clause-work
 returns-clause-work c h =
     let i = before c in
     further_like i.self.view_is (made_now c) (core_is c) (further (machine i) c.from-at.result c.in-Some.turn i.self.invariant.0 (at i) (turn_at_core c)
+    (fits_behind (λ v. v.items) c.self.inside.setup c.self.inside.words.items c.self.inside.lists.items c.self.inside.seats.items c.self.inside.decisions.items
+    c.from-at.result c.index.result.now c.index_mut.result.now i.self.invariant.0 (at i) c.index.ensures c.index_mut.ensures.value c.self.inside.layout c.in-Some.turn c.take-absorbed.new.seat
+    c.take-absorbed.new.words.items c.take-absorbed.result c.take-absorbed.ensures.takes i.self.invariant.1 c.take-absorbed.ensures.fits)
     (fewer_behind (λ v. v.items) c.self.inside.setup c.self.inside.words.items c.self.inside.lists.items c.self.inside.seats.items c.self.inside.decisions.items
     c.from-at.result c.index.result.now c.index_mut.result.now i.self.invariant.0 (at i) c.index.ensures c.index_mut.ensures.value c.self.inside.layout c.in-Some.turn c.take-absorbed.new.seat
     c.take-absorbed.new.words.items c.take-absorbed.result c.take-absorbed.ensures.takes i.self.invariant.1 c.take-absorbed.ensures.fewer))
