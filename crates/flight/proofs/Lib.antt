@@ -1,4 +1,9 @@
 pub mod Ready
+pub mod Sounds
+pub mod WordFrames
+pub mod Carries
+pub mod Good
+pub mod Calm
 pub mod Boot
 pub mod Advance
 pub mod Final

@@ -1,0 +1,144 @@
+-- What a call knows it still knows after a step of another core, and after an own step that decides nothing: each kind of
+-- knowledge once, over the few things that such a step keeps.
+use Rattle.std.proofs.Common.{◌≡◌, ◌≢◌, ℕ, ◌<◌, ◌∷◌, List, [], Bool, true, Option, Some, None, refl, sym, ◌∙◌, ap, subst, IsTrue}
+use Rattle.std.specs.Prelude.{IsSome}
+use Rattle.spk_nums.specs.Capability.{Capability}
+use Rattle.spk_nums.specs.Setting.{Setting, IsSetting}
+use Rattle.spk_nums.specs.declared.kinds.Kind.{Kind}
+use Rattle.spk_nums.specs.declared.calls.Call.{Call}
+use Rattle.spk_nums.specs.declared.calls.Call.TheVariants.{Look as look_call, Copy}
+use Rattle.word_map.specs.Word.{Word, EntryAt}
+use Rattle.stage_look.specs.declared.look.Look.{Look}
+use Rattle.stage_look.specs.declared.look.Look.TheVariants.{AtRoot, AtLeaf, AtEntry}
+use Rattle.seq_state.specs.Access.{Slot, Named, Target, Under, InRoot, usable, linked, root_slot, reached}
+use Rattle.seq_state.proofs.Sound.{is_node, IsSound}
+use Rattle.seq_state.proofs.SoundRuns.{opened}
+use Rattle.seq_state.proofs.Facts.{RootIsNode, reached_node}
+use Rattle.seq_state.proofs.Relies.{Relies}
+use Rattle.kernel_history.specs.Trace.{Step, Trace, Open, phase, state_after, own_left}
+use Rattle.kernel_history.specs.Events.{events_of}
+use Rattle.kernel_history.specs.Justified.{HasReached}
+use Rattle.kernel_history.specs.Legal.{IsLegal}
+use Rattle.kernel_history.proofs.Steps.{own_left-other}
+use Rattle.kernel_history.proofs.Statements.{Stays}
+use Rattle.flight.specs.declared.stages.Want.{Want}
+use Rattle.flight.specs.declared.stages.Want.TheVariants.{First, Second, Target as target_want}
+use Rattle.flight.specs.Knows.{IsReached, HasFound, IsAtLeaf, LookIs, LooksUp, KnowsFirst, KnowsSecond, HasNames, KnowsTarget, KnowsLook, KnowsFill}
+use Rattle.flight.proofs.Sounds.{sound_of, opened_of}
+
+-- What core c keeps with the step e.
+pub record Carries (setup : Setting) (t : Trace) (e : Step) (c : ℕ) : Type 0 where
+  pub own : (w : Word) → IsSome (own_left t c w) → IsSome (own_left (e ∷ t) c w)
+  pub relies : (f : ℕ) → Relies (state_after setup t) c f → Relies (state_after setup (e ∷ t)) c f
+  pub usable : (at : Slot) (k : Capability) → IsTrue (is_node ((state_after setup t).frame at.node))
+      → usable (state_after setup t) c at ≡ Some k → usable (state_after setup (e ∷ t)) c at ≡ Some k
+  pub reached : (table : Named) (n : ℕ) (at : Slot) → Relies (state_after setup t) c table.frame
+      → reached (state_after setup t) c (Under table n) ≡ Some at → reached (state_after setup (e ∷ t)) c (Under table n) ≡ Some at
+
+pub carries_other : (setup : Setting) (t : Trace) (e : Step) (c : ℕ) → c ≢ e.core → Stays setup t e c → Carries setup t e c
+carries_other setup t e c other stays = record {
+  own = λ w had. subst IsSome (sym (own_left-other c e t other w)) had;
+  relies = stays.relies;
+  usable = stays.usable;
+  reached = stays.reached;
+}
+
+pub carries_same : (setup : Setting) (t : Trace) (e : Step) (c : ℕ) → state_after setup (e ∷ t) ≡ state_after setup t
+    → ((w : Word) → IsSome (own_left t c w) → IsSome (own_left (e ∷ t) c w)) → Carries setup t e c
+carries_same setup t e c state own = record {
+  own = own;
+  relies = λ f h. subst (λ s. Relies s c f) (sym state) h;
+  usable = λ at k node h. ap (λ s. usable s c at) state ∙ h;
+  reached = λ table n at on h. ap (λ s. reached s c (Under table n)) state ∙ h;
+}
+
+-- The slot that a target reaches is in a node.
+pub slot_node : (setup : Setting) → IsSetting setup → (t : Trace) → IsLegal setup t → (c : ℕ) (call : Call) → phase t c ≡ Open call
+    → (target : Target) (at : Slot) → IsReached setup t c target at → IsTrue (is_node ((state_after setup t).frame at.node))
+slot_node setup setting t legal c call is (Under table n) at way =
+    (reached_node (state_after setup t) (opened (events_of t)) c (Under table n) at (sound_of setup setting t legal) (opened_of setup setting t legal c call is) tt way.reached).0
+slot_node setup setting t legal c call is (InRoot table i) at way =
+    (reached_node (state_after setup t) (opened (events_of t)) c (InRoot table i) at (sound_of setup setting t legal) (opened_of setup setting t legal c call is) way.relies.node way.reached).0
+
+module _ (setup : Setting) (setting : IsSetting setup) (t : Trace) (e : Step) (legal : IsLegal setup t) (c : ℕ) (call : Call)
+    (is_open : phase t c ≡ Open call) (carries : Carries setup t e c) where
+  pub slots_on : (slots : List Slot) → HasReached t c slots → HasReached (e ∷ t) c slots
+  slots_on slots had = λ k at h. carries.own _ (had k at h)
+
+  reached_by : (target : Target) (at : Slot) → IsReached setup t c target at → reached (state_after setup (e ∷ t)) c target ≡ Some at
+  reached_by (Under table n) at way = carries.reached table n at way.relies way.reached
+  reached_by (InRoot table i) at way = way.reached
+
+  pub reached_on : (target : Target) (at : Slot) → IsReached setup t c target at → IsReached setup (e ∷ t) c target at
+  reached_on target at way = record {
+    relies = carries.relies _ way.relies;
+    reached = reached_by target at way;
+    stepped = slots_on _ way.stepped;
+  }
+
+  pub found_on : (target : Target) (wanted : Kind → Bool) (k : Capability) → HasFound setup t c target wanted k → HasFound setup (e ∷ t) c target wanted k
+  found_on target wanted k has = record {
+    at = has.at;
+    way = reached_on target has.at has.way;
+    usable = carries.usable has.at k (slot_node setup setting t legal c call is_open target has.at has.way) has.usable;
+    kind = has.kind;
+    fits = has.fits;
+  }
+
+  link_on : (at : Slot) (leaf : ℕ) → IsTrue (is_node ((state_after setup t).frame at.node)) → linked (usable (state_after setup t) c at) ≡ Some leaf
+      → linked (usable (state_after setup (e ∷ t)) c at) ≡ Some leaf
+  link_on at leaf node h = by_cases (usable (state_after setup t) c at) refl h
+    where
+      by_cases : (o : Option Capability) → usable (state_after setup t) c at ≡ o → linked o ≡ Some leaf → linked (usable (state_after setup (e ∷ t)) c at) ≡ Some leaf
+      by_cases None is h = absurd (cc)
+      by_cases (Some k) is h = ap linked (carries.usable at k node is) ∙ h
+
+  look_on : (target : Target) (look : Look) → LooksUp setup t c target look → LookIs setup (e ∷ t) c target look
+  look_on (Under table n) (AtRoot root number) looks = looks.at
+  look_on (Under table n) (AtLeaf leaf number) looks = record {
+    found = looks.at.found;
+    same = looks.at.same;
+    within = looks.at.within;
+    link = link_on (root_slot table.frame n) leaf looks.relies.node looks.at.link;
+    stepped = carries.own _ looks.at.stepped;
+  }
+  look_on (Under table n) (AtEntry root index) looks = looks.at
+  look_on (InRoot table i) (AtRoot root number) looks = looks.at
+  look_on (InRoot table i) (AtLeaf leaf number) looks = looks.at
+  look_on (InRoot table i) (AtEntry root index) looks = looks.at
+
+  pub looks_on : (target : Target) (look : Look) → LooksUp setup t c target look → LooksUp setup (e ∷ t) c target look
+  looks_on target look looks = record { relies = carries.relies _ looks.relies; at = look_on target look looks }
+
+  pub names_on : (table a u : ℕ) (k j : Capability) → HasNames setup t c table a u k j → HasNames setup (e ∷ t) c table a u k j
+  names_on table a u k j has = record { first = found_on _ _ k has.first; second = found_on _ _ j has.second }
+
+  -- what a call knows at each look-up, and before its filling compare
+  first_on : (table : ℕ) (asked : Call) (look : Look) → KnowsFirst setup t c table asked look → KnowsFirst setup (e ∷ t) c table asked look
+  first_on table (look_call a) look has = looks_on _ look has
+  first_on table (Copy a u b) look has = looks_on _ look has
+  first_on table _ look has = has
+
+  second_on : (table : ℕ) (asked : Call) (k : Capability) (look : Look) → KnowsSecond setup t c table asked k look → KnowsSecond setup (e ∷ t) c table asked k look
+  second_on table (Copy a u b) k look has = record { name = found_on _ _ k has.name; looks = looks_on _ look has.looks }
+  second_on table _ k look has = has
+
+  target_on : (table : ℕ) (asked : Call) (k : Capability) (look : Look) → KnowsTarget setup t c table asked k look → KnowsTarget setup (e ∷ t) c table asked k look
+  target_on table (Copy a u b) k look has = record { root = has.root; names = names_on table a u k has.root has.names; looks = looks_on _ look has.looks }
+  target_on table _ k look has = has
+
+  pub look_knows_on : (table : ℕ) (asked : Call) (want : Want) (look : Look) → KnowsLook setup t c table asked want look → KnowsLook setup (e ∷ t) c table asked want look
+  look_knows_on table asked First look has = first_on table asked look has
+  look_knows_on table asked (Second k) look has = second_on table asked k look has
+  look_knows_on table asked (target_want k) look has = target_on table asked k look has
+
+  pub fill_on : (table : ℕ) (asked : Call) (node index word : ℕ) (k : Capability) → own_left (e ∷ t) c (EntryAt node index) ≡ own_left t c (EntryAt node index)
+      → KnowsFill setup t c table asked node index word k → KnowsFill setup (e ∷ t) c table asked node index word k
+  fill_on table (Copy a u b) node index word k same has = record {
+    root = has.root;
+    names = names_on table a u k has.root has.names;
+    way = reached_on _ _ has.way;
+    own = same ∙ has.own;
+    free = has.free;
+  }
+  fill_on table _ node index word k same has = has
