@@ -17,3 +17,4 @@ pub mod RefsLaw
 pub mod Rows
 pub mod TwoCores
 pub mod GraceChanges
+pub mod Relies
