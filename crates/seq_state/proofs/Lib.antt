@@ -18,3 +18,5 @@ pub mod Rows
 pub mod TwoCores
 pub mod GraceChanges
 pub mod Relies
+pub mod Apart
+pub mod Spares
