@@ -5,3 +5,4 @@ pub mod Idle
 pub mod Events
 pub mod Inside
 pub mod Graces
+pub mod Statements
