@@ -1,3 +1,4 @@
+pub mod CoreFits
 pub mod Ready
 pub mod Sounds
 pub mod WordFrames

@@ -1,8 +1,7 @@
 -- The steps of a core: the next one, and the core behind it. Which calls there are is said by their stages alone.
-use Rattle.std.specs.Prelude.{ℕ, ◌+◌, ◌-◌, ◌*◌, Bool, false, nat_le, [], Option, Some, None}
+use Rattle.std.specs.Prelude.{ℕ, ◌+◌, Bool, false, nat_le, [], Option, Some, None}
 use Rattle.spk_nums.specs.Setting.{Setting}
 use Rattle.spk_nums.specs.declared.calls.Call.{Call}
-use Rattle.spk_nums.specs.declared.replies.Reply.{Reply}
 use Rattle.spk_nums.specs.declared.translations.CoreEnd.{CoreEnd}
 use Rattle.word_map.specs.Word.{ClockAt}
 use Rattle.word_map.specs.Moves.{Move, LoadOf}

@@ -355,3 +355,34 @@ fn stamp_of(clock: u64) -> Stamp
         Stamp::new((1 << 28) - 1)
     }
 }
+
+#[cfg(test)]
+mod tests {
+    use super::*;
+
+    #[test]
+    fn refuses_numbers_without_a_step(rt: HostRuntime) {
+        let table = FrameNo::new(0);
+        let plain = Cap::new(Kind::Table, table, 0);
+        let past = Call::Copy {
+            a: CapId::new(4096),
+            t: CapId::new(4096),
+            b: CapId::new(4096),
+        };
+        let no_slot = decide(&Reply::NoSlot);
+        assert_eq!(rt; took_enter(table, &past, false), no_slot);
+        assert_eq!(rt; first_held(table, plain, &past), no_slot);
+        assert_eq!(rt; second_held(plain, plain, &past), no_slot);
+        let spent = decide(&Reply::CallsSpent);
+        assert_eq!(rt; took_enter(table, &past, true), spent);
+        let wrong = Cap::new(Kind::Pages, table, 0);
+        let wrong_cap = decide(&Reply::WrongCap);
+        assert_eq!(rt; second_held(plain, wrong, &past), wrong_cap);
+    }
+
+    #[test]
+    fn keeps_a_stamp_in_its_range(rt: HostRuntime) {
+        assert_eq!(rt; stamp_of(7), Stamp::new(7));
+        assert_eq!(rt; stamp_of(1 << 40), Stamp::new(0xfff_ffff));
+    }
+}
