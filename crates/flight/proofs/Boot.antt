@@ -1,3 +1,4 @@
 -- scratch
 use Rattle.flight.proofs.Good.{stands_on}
-use Rattle.flight.proofs.Calm.{calm_words}
+use Rattle.flight.proofs.Loads.{loads_on}
+use Rattle.flight.proofs.Writes.{enters_on}

@@ -13,7 +13,7 @@ use Rattle.seq_state.specs.CallRelation.{counted}
 use Rattle.seq_state.proofs.Within.{put_same, put_other}
 use Rattle.kernel_history.specs.Trace.{Step, Trace, state_after}
 use Rattle.kernel_history.specs.Stamps.{begins_at, ends_at, flushes_at, stamp, clock, clock_seen, exit_of, exit_after, flush_of, flush_stored}
-use Rattle.kernel_history.proofs.Steps.{stamp-kept, exit_of-own, exit_of-other, flush_stored-own, flush_stored-other}
+use Rattle.kernel_history.proofs.Steps.{stamp-kept, exit_of-own, exit_of-other, flush_of-own, flush_of-other, flush_stored-own, flush_stored-other}
 use Rattle.kernel_history.proofs.Graces.{KeepsTime}
 use Rattle.flight.specs.View.{Core}
 use Rattle.flight.specs.Words.{Times}
@@ -149,6 +149,13 @@ pub plain_flush : (setup : Setting) (t : Trace) (e : Step) → IsPlain setup t e
 plain_flush setup t e plain d = elim (cases_eq d e.core) [
   | inl own ↦ flush_stored-own d e t own ∙ ap (λ b. cond b (flush_of t d) (flush_stored t d)) (plain.apart d)
   | inr other ↦ flush_stored-other d e t other
+]
+
+-- a core's last flush stays stored
+pub plain_flushed : (setup : Setting) (t : Trace) (e : Step) → IsPlain setup t e → (d : ℕ) → flush_stored t d ≡ flush_of t d → flush_stored (e ∷ t) d ≡ flush_of (e ∷ t) d
+plain_flushed setup t e plain d is = elim (cases_eq d e.core) [
+  | inl own ↦ plain_flush setup t e plain d ∙ is ∙ sym (flush_of-own d e t own ∙ ap (λ b. cond b e.found (flush_of t d)) plain.flushes)
+  | inr other ↦ plain_flush setup t e plain d ∙ is ∙ sym (flush_of-other d e t other)
 ]
 
 pub plain_exit : (t : Trace) (e : Step) → e.returns ≡ None → (d : ℕ) → exit_of (e ∷ t) d ≡ exit_of t d

@@ -11,7 +11,7 @@ use Rattle.kernel_history.specs.Trace.{Step, Trace, Out, Open, phase, state_afte
 use Rattle.kernel_history.specs.Bounds.{IsWithin}
 use Rattle.kernel_history.specs.Legal.{MayFollow, IsLegal}
 use Rattle.kernel_history.specs.Stamps.{clock}
-use Rattle.kernel_history.proofs.Steps.{phase-other, calls_of-other, steps_in_call-other, own_left-other, clock_seen-other, exit_of-other}
+use Rattle.kernel_history.proofs.Steps.{phase-other, calls_of-other, steps_in_call-other, own_left-other, exit_of-other, flush_of-other, flush_stored-other}
 use Rattle.kernel_history.proofs.Graces.{TimesAre, KeepsTime, LeavesBy, IsLeave}
 use Rattle.kernel_history.proofs.Statements.{StaysWithOthers, GraceGoesOn, TimesGoOn}
 use Rattle.flight.specs.declared.stages.Stage.{Stage}
@@ -94,6 +94,7 @@ module _ (stays_on : StaysWithOthers) (grace_on : GraceGoesOn) (times_on : Times
     limit = is.limit;
     works = works_on setup t e core c works is.works;
     exit = is.exit ∙ sym (exit_of-other c e t other);
+    flushed = flush_stored-other c e t other ∙ is.flushed ∙ sym (flush_of-other c e t other);
     flight = flight_other follows time c core.table other core.flight is.flight;
   }
 

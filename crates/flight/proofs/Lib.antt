@@ -5,6 +5,8 @@ pub mod WordFrames
 pub mod Carries
 pub mod Good
 pub mod Calm
+pub mod Loads
+pub mod Writes
 pub mod Boot
 pub mod Advance
 pub mod Final

@@ -17,7 +17,7 @@ use Rattle.kernel_history.proofs.Graces.{IsLeave}
 use Rattle.kernel_history.specs.Trace.{Trace, Phase, Out, Open, Decided, phase, state_after, own_left, steps_in_call}
 use Rattle.kernel_history.specs.Ways.{root_passed}
 use Rattle.kernel_history.specs.Justified.{HasReached}
-use Rattle.kernel_history.specs.Stamps.{exit_of}
+use Rattle.kernel_history.specs.Stamps.{exit_of, flush_of, flush_stored}
 use Rattle.stage_look.specs.declared.look.Look.{Look}
 use Rattle.stage_look.specs.declared.look.Look.TheVariants.{AtRoot, AtLeaf, AtEntry}
 use Rattle.flight.specs.declared.stages.Want.{Want}
@@ -193,4 +193,6 @@ pub record CoreIs (setup : Setting) (core : Core) (t : Trace) (c : ℕ) : Type 0
   pub limit : core.limit ≡ setup.calls
   pub works : WorksIn core (state_after setup t) c
   pub exit : core.exit ≡ exit_of t c
+  -- its last flush is stored; once there are flushes, but for one between the load of the clock and the store
+  pub flushed : flush_stored t c ≡ flush_of t c
   pub flight : FlightIs setup t c core.table core.flight
