@@ -20,3 +20,4 @@ pub mod GraceChanges
 pub mod Relies
 pub mod Apart
 pub mod Spares
+pub mod SparesRuns
