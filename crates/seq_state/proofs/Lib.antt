@@ -21,3 +21,4 @@ pub mod Relies
 pub mod Apart
 pub mod Spares
 pub mod SparesRuns
+pub mod Stays
