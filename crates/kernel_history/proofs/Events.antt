@@ -74,17 +74,17 @@ return_phase : (o : Option Reply) (c : ℕ) (events : List Event) (p : Phase) �
 return_phase None c events p is = is
 return_phase (Some r) c events p is = same_phase (Returns c) events c refl
 
-entry_apart : (o : Option Call) (d : ℕ) (events : List Event) (c : ℕ) → c ≢ d → phase_of (with_entry o d events) c ≡ phase_of events c
+pub entry_apart : (o : Option Call) (d : ℕ) (events : List Event) (c : ℕ) → c ≢ d → phase_of (with_entry o d events) c ≡ phase_of events c
 entry_apart None d events c other = refl
 entry_apart (Some call) d events c other = apart_phase (Enters d) events c other
 
-decision_apart : (o : Option Reply) (p : Phase) (d : ℕ) (events : List Event) (c : ℕ) → c ≢ d → phase_of (with_decision o p d events) c ≡ phase_of events c
+pub decision_apart : (o : Option Reply) (p : Phase) (d : ℕ) (events : List Event) (c : ℕ) → c ≢ d → phase_of (with_decision o p d events) c ≡ phase_of events c
 decision_apart None p d events c other = refl
 decision_apart (Some r) Out d events c other = refl
 decision_apart (Some r) (Open call) d events c other = apart_phase (Decides d call r) events c other
 decision_apart (Some r) (Decided call q) d events c other = refl
 
-return_apart : (o : Option Reply) (d : ℕ) (events : List Event) (c : ℕ) → c ≢ d → phase_of (with_return o d events) c ≡ phase_of events c
+pub return_apart : (o : Option Reply) (d : ℕ) (events : List Event) (c : ℕ) → c ≢ d → phase_of (with_return o d events) c ≡ phase_of events c
 return_apart None d events c other = refl
 return_apart (Some r) d events c other = apart_phase (Returns d) events c other
 

@@ -6,3 +6,4 @@ pub mod Events
 pub mod Inside
 pub mod Graces
 pub mod Statements
+pub mod Stays

@@ -20,3 +20,5 @@ pub mod GraceChanges
 pub mod Relies
 pub mod Apart
 pub mod Spares
+pub mod SparesRuns
+pub mod Stays
