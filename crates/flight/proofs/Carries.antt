@@ -1,7 +1,7 @@
 -- What a call knows it still knows after a step of another core, and after an own step that decides nothing: each kind of
 -- knowledge once, over the few things that such a step keeps.
-use Rattle.std.proofs.Common.{◌≡◌, ◌≢◌, ℕ, ◌<◌, ◌∷◌, List, [], Bool, true, Option, Some, None, refl, sym, ◌∙◌, ap, subst, IsTrue}
-use Rattle.std.specs.Prelude.{IsSome}
+use Rattle.std.proofs.Common.{◌≡◌, ◌≢◌, inl, inr, ℕ, ◌&&◌, nat_le, if◌then◌else◌, cond, ◌∷◌, List, Bool, true, false, Option, Some, None, refl, sym, ◌∙◌, ap, subst}
+use Rattle.std.specs.Prelude.{IsSome, is_some}
 use Rattle.spk_nums.specs.Capability.{Capability}
 use Rattle.spk_nums.specs.Setting.{Setting, IsSetting}
 use Rattle.spk_nums.specs.declared.kinds.Kind.{Kind}
@@ -11,54 +11,49 @@ use Rattle.word_map.specs.Word.{Word, EntryAt}
 use Rattle.stage_look.specs.declared.look.Look.{Look}
 use Rattle.stage_look.specs.declared.look.Look.TheVariants.{AtRoot, AtLeaf, AtEntry}
 use Rattle.seq_state.specs.Access.{Slot, Named, Target, Under, InRoot, usable, linked, root_slot, reached}
-use Rattle.seq_state.proofs.Sound.{is_node, IsSound}
-use Rattle.seq_state.proofs.SoundRuns.{opened}
-use Rattle.seq_state.proofs.Facts.{RootIsNode, reached_node}
+use Rattle.seq_state.proofs.Facts.{some_inj, none_some}
 use Rattle.seq_state.proofs.Relies.{Relies}
 use Rattle.kernel_history.specs.Trace.{Step, Trace, Open, phase, state_after, own_left}
-use Rattle.kernel_history.specs.Events.{events_of}
 use Rattle.kernel_history.specs.Justified.{HasReached}
-use Rattle.kernel_history.specs.Legal.{IsLegal}
-use Rattle.kernel_history.proofs.Steps.{own_left-other}
-use Rattle.kernel_history.proofs.Statements.{Stays}
+use Rattle.kernel_history.specs.Legal.{MayFollow, IsLegal}
+use Rattle.kernel_history.proofs.Names.{cases_word}
+use Rattle.kernel_history.proofs.Steps.{own_left-other, own_left-here, own_left-there}
+use Rattle.kernel_history.proofs.Stays.{Stays, stays_other, stays_plain, relies_reached}
 use Rattle.flight.specs.declared.stages.Want.{Want}
 use Rattle.flight.specs.declared.stages.Want.TheVariants.{First, Second, Target as target_want}
 use Rattle.flight.specs.Knows.{IsReached, HasFound, IsAtLeaf, LookIs, LooksUp, KnowsFirst, KnowsSecond, HasNames, KnowsTarget, KnowsLook, KnowsFill}
-use Rattle.flight.proofs.Sounds.{sound_of, opened_of}
 
--- What core c keeps with the step e.
+-- What core c keeps with the step e: what it has and relies on, and that it has stepped on words.
 pub record Carries (setup : Setting) (t : Trace) (e : Step) (c : ℕ) : Type 0 where
   pub own : (w : Word) → IsSome (own_left t c w) → IsSome (own_left (e ∷ t) c w)
-  pub relies : (f : ℕ) → Relies (state_after setup t) c f → Relies (state_after setup (e ∷ t)) c f
-  pub usable : (at : Slot) (k : Capability) → IsTrue (is_node ((state_after setup t).frame at.node))
-      → usable (state_after setup t) c at ≡ Some k → usable (state_after setup (e ∷ t)) c at ≡ Some k
-  pub reached : (table : Named) (n : ℕ) (at : Slot) → Relies (state_after setup t) c table.frame
-      → reached (state_after setup t) c (Under table n) ≡ Some at → reached (state_after setup (e ∷ t)) c (Under table n) ≡ Some at
+  pub stay : Stays setup t e c
 
-pub carries_other : (setup : Setting) (t : Trace) (e : Step) (c : ℕ) → c ≢ e.core → Stays setup t e c → Carries setup t e c
-carries_other setup t e c other stays = record {
+-- through a step of another core, and through an own one without event
+pub carries_other : (setup : Setting) → IsSetting setup → (t : Trace) → IsLegal setup t → (e : Step) → MayFollow setup t e
+    → (c : ℕ) → c ≢ e.core → (call : Call) → phase t c ≡ Open call → Carries setup t e c
+carries_other setup setting t legal e follows c other call is = record {
   own = λ w had. subst IsSome (sym (own_left-other c e t other w)) had;
-  relies = stays.relies;
-  usable = stays.usable;
-  reached = stays.reached;
+  stay = stays_other setup setting t legal e follows c other call is;
 }
 
-pub carries_same : (setup : Setting) (t : Trace) (e : Step) (c : ℕ) → state_after setup (e ∷ t) ≡ state_after setup t
-    → ((w : Word) → IsSome (own_left t c w) → IsSome (own_left (e ∷ t) c w)) → Carries setup t e c
-carries_same setup t e c state own = record {
-  own = own;
-  relies = λ f h. subst (λ s. Relies s c f) (sym state) h;
-  usable = λ at k node h. ap (λ s. usable s c at) state ∙ h;
-  reached = λ table n at on h. ap (λ s. reached s c (Under table n)) state ∙ h;
-}
+pub carries_plain : (setup : Setting) (t : Trace) (e : Step) (c : ℕ) → c ≡ e.core → e.enters ≡ None → e.decides ≡ None → e.returns ≡ None → Carries setup t e c
+carries_plain setup t e c own no_entry no_decision no_return = record { own = own_stays; stay = stays_plain setup t e c no_entry no_decision no_return }
+  where
+    own_stays : (w : Word) → IsSome (own_left t c w) → IsSome (own_left (e ∷ t) c w)
+    own_stays w had = elim (cases_word w e.word) [
+      | inl at ↦ ap is_some (own_left-here c e t own w at)
+      | inr there ↦ ap is_some (own_left-there c e t own w there ∙ ap (λ o. cond (is_some o) None (own_left t c w)) no_entry) ∙ had
+    ]
 
--- The slot that a target reaches is in a node.
-pub slot_node : (setup : Setting) → IsSetting setup → (t : Trace) → IsLegal setup t → (c : ℕ) (call : Call) → phase t c ≡ Open call
-    → (target : Target) (at : Slot) → IsReached setup t c target at → IsTrue (is_node ((state_after setup t).frame at.node))
-slot_node setup setting t legal c call is (Under table n) at way =
-    (reached_node (state_after setup t) (opened (events_of t)) c (Under table n) at (sound_of setup setting t legal) (opened_of setup setting t legal c call is) tt way.reached).0
-slot_node setup setting t legal c call is (InRoot table i) at way =
-    (reached_node (state_after setup t) (opened (events_of t)) c (InRoot table i) at (sound_of setup setting t legal) (opened_of setup setting t legal c call is) way.relies.node way.reached).0
+-- The node of the slot that a target reaches.
+pub slot_relies : (setup : Setting) → IsSetting setup → (t : Trace) → IsLegal setup t → (c : ℕ) (call : Call) → phase t c ≡ Open call
+    → (target : Target) (at : Slot) → IsReached setup t c target at → Relies (state_after setup t) c at.node
+slot_relies setup setting t legal c call is (Under table n) at way = relies_reached setup setting t legal c call is table n at way.reached
+slot_relies setup setting t legal c call is (InRoot table i) at way = subst (Relies (state_after setup t) c) (entry_node (table.found && nat_le i 63) way.reached) way.relies
+  where
+    entry_node : (b : Bool) → (if b then Some (record { node = table.frame; index = i }) else None) ≡ Some at → table.frame ≡ at.node
+    entry_node true h = ap (λ (x : Slot). x.node) (some_inj record { node = table.frame; index = i } at h)
+    entry_node false h = absurd (none_some at h)
 
 module _ (setup : Setting) (setting : IsSetting setup) (t : Trace) (e : Step) (legal : IsLegal setup t) (c : ℕ) (call : Call)
     (is_open : phase t c ≡ Open call) (carries : Carries setup t e c) where
@@ -66,12 +61,12 @@ module _ (setup : Setting) (setting : IsSetting setup) (t : Trace) (e : Step) (l
   slots_on slots had = λ k at h. carries.own _ (had k at h)
 
   reached_by : (target : Target) (at : Slot) → IsReached setup t c target at → reached (state_after setup (e ∷ t)) c target ≡ Some at
-  reached_by (Under table n) at way = carries.reached table n at way.relies way.reached
+  reached_by (Under table n) at way = carries.stay.reached table n at way.relies way.reached
   reached_by (InRoot table i) at way = way.reached
 
   pub reached_on : (target : Target) (at : Slot) → IsReached setup t c target at → IsReached setup (e ∷ t) c target at
   reached_on target at way = record {
-    relies = carries.relies _ way.relies;
+    relies = carries.stay.relies _ way.relies;
     reached = reached_by target at way;
     stepped = slots_on _ way.stepped;
   }
@@ -80,18 +75,18 @@ module _ (setup : Setting) (setting : IsSetting setup) (t : Trace) (e : Step) (l
   found_on target wanted k has = record {
     at = has.at;
     way = reached_on target has.at has.way;
-    usable = carries.usable has.at k (slot_node setup setting t legal c call is_open target has.at has.way) has.usable;
+    usable = carries.stay.usable has.at k (slot_relies setup setting t legal c call is_open target has.at has.way) has.usable;
     kind = has.kind;
     fits = has.fits;
   }
 
-  link_on : (at : Slot) (leaf : ℕ) → IsTrue (is_node ((state_after setup t).frame at.node)) → linked (usable (state_after setup t) c at) ≡ Some leaf
+  link_on : (at : Slot) (leaf : ℕ) → Relies (state_after setup t) c at.node → linked (usable (state_after setup t) c at) ≡ Some leaf
       → linked (usable (state_after setup (e ∷ t)) c at) ≡ Some leaf
   link_on at leaf node h = by_cases (usable (state_after setup t) c at) refl h
     where
       by_cases : (o : Option Capability) → usable (state_after setup t) c at ≡ o → linked o ≡ Some leaf → linked (usable (state_after setup (e ∷ t)) c at) ≡ Some leaf
       by_cases None is h = absurd (cc)
-      by_cases (Some k) is h = ap linked (carries.usable at k node is) ∙ h
+      by_cases (Some k) is h = ap linked (carries.stay.usable at k node is) ∙ h
 
   look_on : (target : Target) (look : Look) → LooksUp setup t c target look → LookIs setup (e ∷ t) c target look
   look_on (Under table n) (AtRoot root number) looks = looks.at
@@ -99,7 +94,7 @@ module _ (setup : Setting) (setting : IsSetting setup) (t : Trace) (e : Step) (l
     found = looks.at.found;
     same = looks.at.same;
     within = looks.at.within;
-    link = link_on (root_slot table.frame n) leaf looks.relies.node looks.at.link;
+    link = link_on (root_slot table.frame n) leaf looks.relies looks.at.link;
     stepped = carries.own _ looks.at.stepped;
   }
   look_on (Under table n) (AtEntry root index) looks = looks.at
@@ -108,7 +103,7 @@ module _ (setup : Setting) (setting : IsSetting setup) (t : Trace) (e : Step) (l
   look_on (InRoot table i) (AtEntry root index) looks = looks.at
 
   pub looks_on : (target : Target) (look : Look) → LooksUp setup t c target look → LooksUp setup (e ∷ t) c target look
-  looks_on target look looks = record { relies = carries.relies _ looks.relies; at = look_on target look looks }
+  looks_on target look looks = record { relies = carries.stay.relies _ looks.relies; at = look_on target look looks }
 
   pub names_on : (table a u : ℕ) (k j : Capability) → HasNames setup t c table a u k j → HasNames setup (e ∷ t) c table a u k j
   names_on table a u k j has = record { first = found_on _ _ k has.first; second = found_on _ _ j has.second }

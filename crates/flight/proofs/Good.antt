@@ -13,7 +13,7 @@ use Rattle.kernel_history.specs.Legal.{MayFollow, IsLegal}
 use Rattle.kernel_history.specs.Stamps.{clock}
 use Rattle.kernel_history.proofs.Steps.{phase-other, calls_of-other, steps_in_call-other, own_left-other, exit_of-other, flush_of-other, flush_stored-other}
 use Rattle.kernel_history.proofs.Graces.{TimesAre, KeepsTime, LeavesBy, IsLeave}
-use Rattle.kernel_history.proofs.Statements.{StaysWithOthers, GraceGoesOn, TimesGoOn}
+use Rattle.kernel_history.proofs.Statements.{GraceGoesOn, TimesGoOn}
 use Rattle.flight.specs.declared.stages.Stage.{Stage}
 use Rattle.flight.specs.declared.stages.Stage.TheVariants.{Enter, Looking, Fill, Exit, Leave}
 use Rattle.flight.specs.declared.stages.InFlight.{InFlight}
@@ -62,10 +62,10 @@ works_on setup t e core c on is = record {
   made = is.made ∙ ap (λ k. k.counted) (sym on.core);
 }
 
-module _ (stays_on : StaysWithOthers) (grace_on : GraceGoesOn) (times_on : TimesGoOn) (leave_on : LeaveGoesOn)
+module _ (grace_on : GraceGoesOn) (times_on : TimesGoOn) (leave_on : LeaveGoesOn)
     (setup : Setting) (setting : IsSetting setup) (cores : ℕ → Core) (t : Trace) (stands : Stands setup cores t) (e : Step) where
   open_carries : MayFollow setup t e → (c : ℕ) (call : Call) → c ≢ e.core → phase t c ≡ Open call → Carries setup t e c
-  open_carries follows c call other is = carries_other setup t e c other (stays_on setup setting t stands.legal e follows c other call is)
+  open_carries follows c call other is = carries_other setup setting t stands.legal e follows c other call is
 
   knows_other : MayFollow setup t e → KeepsTime setup t e → (c table : ℕ) (f : InFlight) → c ≢ e.core → (stage : Stage) → f.stage ≡ stage
       → phase t c ≡ Rattle.flight.specs.Knows.phase_at f.call stage → Knows setup t c table f.call stage → Knows setup (e ∷ t) c table f.call stage
@@ -118,5 +118,9 @@ module _ (stays_on : StaysWithOthers) (grace_on : GraceGoesOn) (times_on : Times
     away = λ c past.
         let core : e.core < setup.cores = good.follows.is_core in
         let apart : c ≢ e.core = omega arith in
-        record { out = phase-other c e t apart ∙ (stands.away c past).out; none = calls_of-other c e t apart ∙ (stands.away c past).none };
+        record {
+          out = phase-other c e t apart ∙ (stands.away c past).out;
+          none = calls_of-other c e t apart ∙ (stands.away c past).none;
+          idle = ap (λ k. k.flight) (put_other cores e.core after c apart) ∙ (stands.away c past).idle;
+        };
   }

@@ -7,6 +7,7 @@ pub mod Good
 pub mod Calm
 pub mod Loads
 pub mod Writes
+pub mod Places
 pub mod Boot
 pub mod Advance
 pub mod Final

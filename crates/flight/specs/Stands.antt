@@ -43,10 +43,11 @@ held_by cores d = holds (cores d)
 abbrev pub times_of : Setting → Trace → Times
 times_of setup t = record { stamp = stamp setup t; exit = exit_of t; flush = flush_stored t }
 
--- The core has made no step.
-pub record IsAway (t : Trace) (c : ℕ) : Type 0 where
+-- The core has made no step, and has no call in flight.
+pub record IsAway (core : Core) (t : Trace) (c : ℕ) : Type 0 where
   pub out : phase t c ≡ Out
   pub none : calls_of t c ≡ []
+  pub idle : core.flight ≡ None
 
 -- The calls that all cores of the machine have counted.
 abbrev pub counted_in : Setting → State → ℕ
@@ -69,4 +70,4 @@ pub record Stands (setup : Setting) (cores : ℕ → Core) (t : Trace) : Type 0 
   pub none_removed : (f i : ℕ) (k : Capability) → (state_after setup t).place f i ≢ Quiescing k
   -- each core of the machine is where its model says, and there is no other
   pub each : (c : ℕ) → c < setup.cores → CoreIs setup (cores c) t c
-  pub away : (c : ℕ) → setup.cores ≤ c → IsAway t c
+  pub away : (c : ℕ) → setup.cores ≤ c → IsAway (cores c) t c
