@@ -8,6 +8,8 @@ pub mod Calm
 pub mod Loads
 pub mod Writes
 pub mod Places
+pub mod Refusals
+pub mod Lookups
 pub mod Boot
 pub mod Advance
 pub mod Final
