@@ -1,4 +1,5 @@
 -- scratch
 use Rattle.flight.proofs.Good.{stands_on}
 use Rattle.flight.proofs.Writes.{enters_on}
-use Rattle.flight.proofs.Lookups.{slot_one}
+use Rattle.flight.proofs.Lookups.{under_step}
+use Rattle.flight.proofs.Findings.{found_now}

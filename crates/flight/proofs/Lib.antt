@@ -10,6 +10,7 @@ pub mod Writes
 pub mod Places
 pub mod Refusals
 pub mod Lookups
+pub mod Findings
 pub mod Boot
 pub mod Advance
 pub mod Final
