@@ -2,4 +2,4 @@
 use Rattle.flight.proofs.Good.{stands_on}
 use Rattle.flight.proofs.Writes.{enters_on}
 use Rattle.flight.proofs.Lookups.{under_step}
-use Rattle.flight.proofs.Findings.{found_now}
+use Rattle.flight.proofs.LookLeaves.{look_first}

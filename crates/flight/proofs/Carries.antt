@@ -36,14 +36,14 @@ carries_other setup setting t legal e follows c other call is = record {
   stay = stays_other setup setting t legal e follows c other call is;
 }
 
+pub own_kept : (t : Trace) (e : Step) (c : ℕ) → c ≡ e.core → e.enters ≡ None → (w : Word) → IsSome (own_left t c w) → IsSome (own_left (e ∷ t) c w)
+own_kept t e c own no_entry w had = elim (cases_word w e.word) [
+  | inl at ↦ ap is_some (own_left-here c e t own w at)
+  | inr there ↦ ap is_some (own_left-there c e t own w there ∙ ap (λ o. cond (is_some o) None (own_left t c w)) no_entry) ∙ had
+]
+
 pub carries_plain : (setup : Setting) (t : Trace) (e : Step) (c : ℕ) → c ≡ e.core → e.enters ≡ None → e.decides ≡ None → e.returns ≡ None → Carries setup t e c
-carries_plain setup t e c own no_entry no_decision no_return = record { own = own_stays; stay = stays_plain setup t e c no_entry no_decision no_return }
-  where
-    own_stays : (w : Word) → IsSome (own_left t c w) → IsSome (own_left (e ∷ t) c w)
-    own_stays w had = elim (cases_word w e.word) [
-      | inl at ↦ ap is_some (own_left-here c e t own w at)
-      | inr there ↦ ap is_some (own_left-there c e t own w there ∙ ap (λ o. cond (is_some o) None (own_left t c w)) no_entry) ∙ had
-    ]
+carries_plain setup t e c own no_entry no_decision no_return = record { own = own_kept t e c own no_entry; stay = stays_plain setup t e c no_entry no_decision no_return }
 
 -- The node of the slot that a target reaches.
 pub slot_relies : (setup : Setting) → IsSetting setup → (t : Trace) → IsLegal setup t → (c : ℕ) (call : Call) → phase t c ≡ Open call

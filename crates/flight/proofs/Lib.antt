@@ -11,6 +11,7 @@ pub mod Places
 pub mod Refusals
 pub mod Lookups
 pub mod Findings
+pub mod LookLeaves
 pub mod Boot
 pub mod Advance
 pub mod Final
