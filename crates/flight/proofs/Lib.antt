@@ -12,6 +12,7 @@ pub mod Refusals
 pub mod Lookups
 pub mod Findings
 pub mod LookLeaves
+pub mod CopyLeaves
 pub mod Boot
 pub mod Advance
 pub mod Final
