@@ -13,6 +13,7 @@ pub mod Lookups
 pub mod Findings
 pub mod LookLeaves
 pub mod CopyLeaves
+pub mod FillLeaves
 pub mod Boot
 pub mod Advance
 pub mod Final
