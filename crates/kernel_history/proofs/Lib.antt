@@ -7,3 +7,4 @@ pub mod Inside
 pub mod Graces
 pub mod Statements
 pub mod Stays
+pub mod Laws
