@@ -7,4 +7,6 @@ pub mod Inside
 pub mod Graces
 pub mod Statements
 pub mod Stays
+pub mod GraceSets
+pub mod GraceSteps
 pub mod Laws
