@@ -9,4 +9,5 @@ pub mod Statements
 pub mod Stays
 pub mod GraceSets
 pub mod GraceSteps
+pub mod Waiting
 pub mod Laws
