@@ -10,4 +10,5 @@ pub mod Stays
 pub mod GraceSets
 pub mod GraceSteps
 pub mod Waiting
+pub mod Carries
 pub mod Laws
