@@ -18,10 +18,10 @@ use Rattle.kernel_history.proofs.Steps.{stamp-begins, stamp-ends, stamp-kept, aw
 use Rattle.kernel_history.proofs.Inside.{decided-inside, entered-inside, inside-other}
 use Rattle.kernel_history.proofs.Graces.{GraceIs, TimesAre, KeepsTime, IsLeave, Leaving, LeavesBy}
 use Rattle.kernel_history.proofs.GraceSets.{Sets, sets_of, sets_new, sets_none, sets_flushed, sets_passed, FitsAll, fits_new, fits_none, fits_kept, fits_flushed, fits_passed, left_of, left_other, passed_own}
-use Rattle.kernel_history.proofs.Statements.{GraceStarts, GraceGoesOn, TimesGoOn}
 
-pub grace_starts : GraceStarts
-grace_starts setup x = record {
+-- Grace periods go with stamps at the start.
+pub grace_start : (setup : Setting) (x : Thing) → GraceIs setup [] x
+grace_start setup x = record {
   past = omega arith;
   fits = λ c. record { is_in = λ h. absurd (false≢true h); early = λ h. absurd (false≢true h); is_left = λ some low. absurd (omega (arith, some)) };
   flushes = λ c. record {
@@ -297,15 +297,20 @@ module _ (setup : Setting) (t : Trace) (e : Step) (follows : MayFollow setup t e
       ]
 
 -- Grace periods go with stamps after each step.
-pub grace_on : GraceGoesOn
+pub grace_on : (setup : Setting) (t : Trace) (e : Step) → MayFollow setup t e → KeepsTime setup t e → LeavesBy setup t e e.returns
+    → ((c : ℕ) → TimesAre setup t c) → ((x : Thing) → GraceIs setup t x) → (x : Thing) → GraceIs setup (e ∷ t) x
 grace_on setup t e follows time leaves times graces x = record {
   past = past_step setup t e follows time times graces x;
   fits = λ c. (fits_step setup t e follows time times graces x c e.returns refl leaves).fits;
   flushes = λ c. (fits_step setup t e follows time times graces x c e.returns refl leaves).flushes;
 }
 
--- And a core's times are no later than now.
-pub times_on : TimesGoOn
+-- A core's times are no later than now, at the start and after each such step.
+pub times_start : (setup : Setting) (c : ℕ) → TimesAre setup [] c
+times_start setup c = record { exit = omega arith; flush = omega arith; stored = omega arith }
+
+pub times_on : (setup : Setting) (t : Trace) (e : Step) → KeepsTime setup t e → LeavesBy setup t e e.returns
+    → (c : ℕ) → TimesAre setup t c → TimesAre setup (e ∷ t) c
 times_on setup t e time leaves c times = record {
   exit = elim (cases_eq c e.core) [
     | inl own ↦ by_return own e.returns refl leaves

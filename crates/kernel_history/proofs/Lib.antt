@@ -5,10 +5,10 @@ pub mod Idle
 pub mod Events
 pub mod Inside
 pub mod Graces
-pub mod Statements
 pub mod Stays
 pub mod GraceSets
 pub mod GraceSteps
+pub mod Times
 pub mod Waiting
 pub mod Carries
 pub mod Laws
