@@ -1,21 +1,20 @@
 -- What a call knows of the history it still knows after a step of another core, and after an own step without event.
-use Rattle.std.proofs.Common.{◌≡◌, ◌≢◌, ◌⊎◌, inl, inr, ℕ, ◌<◌, ◌≤◌, ◌==◌, ◌&&◌, arith, Bool, true, false, cond, refl, sym, ◌∙◌, ap, subst, ◌∷◌, Option, Some, None, IsTrue}
+use Rattle.std.proofs.Common.{◌≡◌, ◌≢◌, inl, inr, ℕ, ◌<◌, ◌≤◌, ◌==◌, ◌&&◌, Bool, true, false, cond, sym, ◌∙◌, ap, subst, ◌∷◌, None}
 use Rattle.std.specs.Prelude.{IsSome, is_some}
-use Rattle.std.proofs.lemmas.Bool.{false≢true, true≢false, cases_eq, eq-eqb, ne_eqb}
+use Rattle.std.proofs.lemmas.Bool.{true≢false, cases_eq, eq-eqb, ne_eqb}
 use Rattle.spk_nums.specs.Setting.{Setting, IsSetting}
 use Rattle.spk_nums.specs.declared.calls.Call.{Call}
 use Rattle.word_map.specs.Word.{Word}
 use Rattle.seq_state.specs.State.{Thing, PlaceOf, NumberOf, State}
-use Rattle.seq_state.proofs.Relies.{Relies}
-use Rattle.kernel_history.specs.Trace.{Step, Trace, Open, phase, state_after, state_before, state_entered, own_left, IfNot, WasAt, WasBefore}
-use Rattle.kernel_history.specs.Stamps.{is_in, begins_at, ends_at, stamp, clock}
+use Rattle.kernel_history.specs.Trace.{Step, Trace, Open, phase, state_after, state_entered, own_left, IfNot, WasAt, WasBefore}
+use Rattle.kernel_history.specs.Stamps.{is_in, stamp, clock}
 use Rattle.kernel_history.specs.Justified.{IsRemoved}
 use Rattle.kernel_history.specs.Legal.{MayFollow, IsLegal}
 use Rattle.kernel_history.proofs.Names.{cases_word}
-use Rattle.kernel_history.proofs.Steps.{own_left-here, own_left-there, own_left-other, stamp-kept}
+use Rattle.kernel_history.proofs.Steps.{own_left-here, own_left-there, own_left-other}
 use Rattle.kernel_history.proofs.Inside.{inside_is}
 use Rattle.kernel_history.proofs.Graces.{GraceIs, KeepsTime}
-use Rattle.kernel_history.proofs.Stays.{Stays, ReliesOn, stays_other, stays_plain, state_plain}
+use Rattle.kernel_history.proofs.Stays.{Stays, ReliesOn, stays_other, stays_plain}
 use Rattle.kernel_history.proofs.Waiting.{Passed, Flushed, still_past, stamp_rises, passed_on, flushed_on, node_goes_on, number_goes_on}
 
 -- own words

@@ -1,5 +1,5 @@
 -- What a step makes of the four sets of one grace period, at one core.
-use Rattle.std.proofs.Common.{◌≡◌, ◌≢◌, ℕ, ◌<◌, ◌≤◌, arith, Bool, true, false, cond, refl, sym, ◌∙◌, ap, subst, Option, Some, None}
+use Rattle.std.proofs.Common.{◌≡◌, ◌≢◌, ℕ, ◌<◌, ◌≤◌, arith, Bool, true, false, cond, refl, ◌∙◌, ap, Option, Some, None}
 use Rattle.std.proofs.lemmas.Bool.{false≢true}
 use Rattle.spk_nums.specs.declared.replies.Reply.{Reply}
 use Rattle.seq_state.specs.State.{Grace, put}

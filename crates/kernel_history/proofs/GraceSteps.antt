@@ -5,7 +5,7 @@ use Rattle.spk_nums.specs.declared.calls.Call.{Call}
 use Rattle.spk_nums.specs.declared.replies.Reply.{Reply}
 use Rattle.spk_nums.specs.Setting.{Setting}
 use Rattle.word_map.specs.Word.{FlushAt, same_word}
-use Rattle.seq_state.specs.State.{Grace, Thing, State, put}
+use Rattle.seq_state.specs.State.{Grace, Thing, State}
 use Rattle.seq_state.specs.Start.{no_grace}
 use Rattle.seq_state.specs.GracePeriods.{new_grace, needs_flush, passed}
 use Rattle.seq_state.specs.CallRelation.{MayReply}

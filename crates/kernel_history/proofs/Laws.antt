@@ -1,5 +1,5 @@
 -- The laws of legal traces.
-use Rattle.std.proofs.Common.{◌≡◌, ◌≢◌, inl, inr, ℕ, ◌+◌, ◌==◌, ◌&&◌, ◌++◌, Bool, true, false, cond, arith, List, [], ◌∷◌, length, Option, Some, None, refl, sym, ◌∙◌, ap, subst, IsTrue}
+use Rattle.std.proofs.Common.{◌≡◌, ◌≢◌, inl, inr, ℕ, ◌+◌, ◌&&◌, ◌++◌, cond, arith, List, [], ◌∷◌, length, Option, Some, None, refl, sym, ◌∙◌, ap, subst, IsTrue}
 use Rattle.std.specs.Prelude.{is_some, option_to_list}
 use Rattle.std.proofs.lemmas.Bool.{cases_eq, eq-eqb, ne_eqb, false≢true}
 use Rattle.std.proofs.lemmas.List.{length-append}
@@ -8,16 +8,14 @@ use Rattle.spk_nums.specs.declared.replies.Reply.{Reply}
 use Rattle.spk_nums.specs.declared.replies.Reply.TheVariants as reply
 use Rattle.spk_nums.specs.Setting.{Setting}
 use Rattle.word_map.specs.Word.{Word}
-use Rattle.seq_state.specs.State.{State}
 use Rattle.seq_state.specs.Runs.{after, phase_of}
 use Rattle.seq_state.specs.CallRelation.{rule_of}
-use Rattle.kernel_history.specs.Trace.{Step, Trace, Phase, Out, Open, Decided, phase, after_enter, after_decide, after_return, state_after, state_entered, state_before, calls_of, last_left, own_left}
+use Rattle.kernel_history.specs.Trace.{Step, Trace, Phase, Out, Open, Decided, phase, after_enter, after_decide, after_return, state_after, state_before, calls_of, last_left, own_left}
 use Rattle.kernel_history.specs.Stamps.{is_in}
-use Rattle.kernel_history.specs.Events.{events_of, plain_phase}
 use Rattle.kernel_history.specs.Justified.{IsJustifiedIn, own_left_before}
-use Rattle.kernel_history.specs.Legal.{MayEnter, MayDecide, MayReturn, MayFollow, IsLegal}
+use Rattle.kernel_history.specs.Legal.{MayEnter, MayDecide, MayReturn, MayFollow}
 use Rattle.kernel_history.specs.Laws.{LegalRuns, EventsDetermine, LegalUpTo, returned_calls, OneCallAtATime, UnlessEnters, IsUndisturbed, IsAlone, IsNotHeldUp, AloneGoesOn}
-use Rattle.kernel_history.proofs.Names.{cases_word, same_word-same, same_word-other}
+use Rattle.kernel_history.proofs.Names.{cases_word}
 use Rattle.kernel_history.proofs.Steps.{phase-own, phase-other, calls_of-own, calls_of-other, own_left-here, own_left-there, last_left-here, last_left-there}
 use Rattle.kernel_history.proofs.Events.{state_is, phase_is, run_of}
 use Rattle.kernel_history.proofs.Inside.{inside_is, entered-inside}

@@ -1,25 +1,23 @@
 -- What a core in an open call has found and relies on stays through the steps of other cores, and through its own that decide
 -- nothing.
-use Rattle.std.proofs.Common.{◌≡◌, ◌≢◌, ℕ, ◌<◌, Bool, true, IsTrue, List, [], ◌∷◌, Option, Some, None, refl, sym, ◌∙◌, ap, subst}
+use Rattle.std.proofs.Common.{◌≡◌, ◌≢◌, ℕ, true, IsTrue, List, [], ◌∷◌, Option, Some, None, refl, sym, ◌∙◌, ap, subst}
 use Rattle.spk_nums.specs.Setting.{Setting, IsSetting}
 use Rattle.spk_nums.specs.Capability.{Capability}
-use Rattle.spk_nums.specs.declared.kinds.Kind.{Kind}
 use Rattle.spk_nums.specs.declared.calls.Call.{Call}
 use Rattle.spk_nums.specs.declared.replies.Reply.{Reply}
-use Rattle.seq_state.specs.State.{Core, State, comp_of, comp_in, thread_in, thread_of, first_of_stack}
+use Rattle.seq_state.specs.State.{Core, State, comp_of, comp_in, thread_in, first_of_stack}
 use Rattle.seq_state.specs.GracePeriods.{entered}
 use Rattle.seq_state.specs.References.{named_by}
-use Rattle.seq_state.specs.Access.{Slot, Named, Target, Under, usable, reached}
-use Rattle.seq_state.specs.Rules.{Found, named}
+use Rattle.seq_state.specs.Access.{Slot, Named, Under, usable, reached}
 use Rattle.seq_state.specs.Fitting.{IsGood}
 use Rattle.seq_state.specs.Runs.{Event, Enters, Decides, Returns, after, phase_of, IsRun, Open as is_open}
 use Rattle.seq_state.proofs.Within.{put_same}
 use Rattle.seq_state.proofs.Sound.{IsSound}
 use Rattle.seq_state.proofs.SoundRuns.{opened, runs_sound, is_open as opens}
 use Rattle.seq_state.proofs.Facts.{usable_good}
-use Rattle.seq_state.proofs.Relies.{is_fixed, IsGuarded, Relies}
-use Rattle.seq_state.proofs.Stays.{Stay, stay_same, stay_then, event_stay, names_node, usable_guarded, usable_relies, table_relies, pages_relies, reached_relies, own_comp, comp_fixed, comp_guarded}
-use Rattle.kernel_history.specs.Trace.{Step, Trace, Phase, Out, Open, Decided, phase, after_enter, after_decide, state_after, state_entered, state_decided, state_returned, state_before}
+use Rattle.seq_state.proofs.Relies.{IsGuarded, Relies}
+use Rattle.seq_state.proofs.Stays.{Stay, stay_same, stay_then, event_stay, names_node, usable_guarded, usable_relies, table_relies, pages_relies, reached_relies}
+use Rattle.kernel_history.specs.Trace.{Step, Trace, Phase, Out, Open, Decided, phase, after_enter, state_after, state_entered, state_decided, state_returned}
 use Rattle.kernel_history.specs.Legal.{MayFollow, IsLegal}
 use Rattle.kernel_history.specs.Events.{with_entry, with_decision, with_return, events_of, plain_phase}
 use Rattle.kernel_history.proofs.Events.{entered_events, decided_events, entry_apart, decision_apart, state_is, phase_is, run_of, entered_run, decided_run, step_run}

@@ -1,8 +1,8 @@
 -- Steps that keep time: those apart from the clock, loads of the clock, and draws from it.
-use Rattle.std.proofs.Common.{◌≡◌, ◌≢◌, ℕ, ◌+◌, arith, Bool, true, false, sym, ◌∙◌, ◌∷◌}
+use Rattle.std.proofs.Common.{◌≡◌, ◌≢◌, ◌+◌, arith, false, sym, ◌∙◌}
 use Rattle.std.proofs.lemmas.Bool.{false≢true}
 use Rattle.spk_nums.specs.Setting.{Setting}
-use Rattle.word_map.specs.Word.{Word, ClockAt}
+use Rattle.word_map.specs.Word.{ClockAt}
 use Rattle.seq_state.specs.State.{Thing}
 use Rattle.kernel_history.specs.Trace.{Step, Trace}
 use Rattle.kernel_history.specs.Stamps.{begins_at, flushes_at, clock}

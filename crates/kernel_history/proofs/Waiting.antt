@@ -1,25 +1,23 @@
 -- What one step makes of those who wait and of stamps, and what a scan may conclude.
 use Rattle.std.proofs.Common.{◌≡◌, ◌≢◌, inl, inr, ℕ, ◌<◌, ◌≤◌, arith, Bool, true, false, cond, refl, sym, ◌∙◌, ap, subst, ◌∷◌, Option, Some, None, IsTrue}
-use Rattle.std.proofs.lemmas.Bool.{false≢true, cases_eq, cases_lt}
-use Rattle.spk_nums.specs.Setting.{Setting, IsSetting}
+use Rattle.std.proofs.lemmas.Bool.{false≢true, cases_eq}
+use Rattle.spk_nums.specs.Setting.{Setting}
 use Rattle.spk_nums.specs.declared.calls.Call.{Call}
 use Rattle.spk_nums.specs.declared.replies.Reply.{Reply}
 use Rattle.word_map.specs.Word.{ClockAt, same_word}
-use Rattle.word_map.proofs.WordLemmas.{same_same}
-use Rattle.seq_state.specs.State.{Grace, Thing, PlaceOf, FrameOf, NumberOf, Blank, Frame, Kernel, State, put}
+use Rattle.seq_state.specs.State.{Grace, Thing, PlaceOf, NumberOf, State, put}
 use Rattle.seq_state.specs.Start.{no_grace}
 use Rattle.seq_state.specs.CallRelation.{MayReply}
 use Rattle.seq_state.proofs.Within.{put_same, put_other}
 use Rattle.seq_state.proofs.Sound.{is_node}
-use Rattle.seq_state.proofs.Relies.{IsGuarded, Relies}
 use Rattle.seq_state.proofs.Ends.{MayEnd, ends_by_rule}
 use Rattle.kernel_history.specs.Trace.{Step, Trace, Phase, Out, Open, Decided, phase, after_enter, state_after, state_entered, state_before}
 use Rattle.kernel_history.specs.Stamps.{ends_in, begins_at, ends_at, flushes_at, stamp, awaits_flushes, clock, clock_seen, exit_of, flush_of, flush_stored}
-use Rattle.kernel_history.specs.Legal.{MayDecide, MayFollow, IsLegal}
+use Rattle.kernel_history.specs.Legal.{MayDecide, MayFollow}
 use Rattle.kernel_history.proofs.Steps.{stamp-begins, stamp-ends, stamp-kept, clock_seen-own, clock_seen-other}
 use Rattle.kernel_history.proofs.Inside.{entered-inside}
-use Rattle.kernel_history.proofs.Graces.{GraceIs, TimesAre, KeepsTime, IsLeave}
-use Rattle.kernel_history.proofs.GraceSets.{sets_of, left_of, left_other}
+use Rattle.kernel_history.proofs.Graces.{GraceIs, KeepsTime, IsLeave}
+use Rattle.kernel_history.proofs.GraceSets.{left_of, left_other}
 use Rattle.kernel_history.proofs.GraceSteps.{cases_bool, grace_then, grace_now, then_begins, then_ends, then_flushes, then_kept}
 
 abbrev pub waits_for : Setting → Trace → Thing → ℕ → Bool

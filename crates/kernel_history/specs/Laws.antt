@@ -1,11 +1,11 @@
 -- Laws of legal traces, each the contract of a function of this crate.
-use Rattle.std.specs.Prelude.{◌≡◌, ◌≢◌, ◌+◌, ◌==◌, ◌&&◌, ◌++◌, ℕ, Bool, if◌then◌else◌, List, [], ◌∷◌, length, Option, Some, None, is_some}
+use Rattle.std.specs.Prelude.{◌≡◌, ◌≢◌, ◌+◌, ◌==◌, ◌&&◌, ◌++◌, ℕ, if◌then◌else◌, [], ◌∷◌, length, Option, Some, None, is_some}
 use Rattle.spk_nums.specs.declared.calls.Call.{Call}
 use Rattle.spk_nums.specs.declared.replies.Reply.{Reply}
 use Rattle.spk_nums.specs.declared.replies.Reply.TheVariants as reply
 use Rattle.spk_nums.specs.Setting.{Setting}
 use Rattle.seq_state.specs.Runs.{after, IsRun}
-use Rattle.kernel_history.specs.Trace.{Step, Trace, Phase, Out, Open, Decided, phase, state_after, calls_of}
+use Rattle.kernel_history.specs.Trace.{Step, Trace, Out, phase, state_after, calls_of}
 use Rattle.kernel_history.specs.Stamps.{is_in}
 use Rattle.kernel_history.specs.Events.{events_of, plain_phase}
 use Rattle.kernel_history.specs.Legal.{IsLegal}

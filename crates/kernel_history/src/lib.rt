@@ -3,9 +3,9 @@
 //! The definitions stand in this crate's specs. The laws below say of them what a reader would ask of them.
 #![tactic(auto)]
 
-pub use spk_nums;
-
 ghost use Rattle.kernel_history.specs.Laws.{LegalRuns, EventsDetermine, LegalUpTo, OneCallAtATime, AloneGoesOn};
+
+pub use spk_nums;
 
 /// The events of a legal trace are a run of the sequential kernel, and the trace leaves the state that they leave. So each law of
 /// the sequential kernel holds after each legal trace.

@@ -1,22 +1,19 @@
 -- A grace period ends only of a frame that nothing names and for which no other core waits, and of the places of a blank frame.
-use Rattle.std.proofs.Common.{◌≡◌, ◌≢◌, inl, inr, ℕ, ◌<◌, Bool, true, false, not, nat_lt, ◌==◌, refl, sym, ◌∙◌, ap, subst, arith, IsTrue, List, [], ◌∷◌, Option, Some, None}
-use Rattle.std.proofs.lemmas.Bool.{false≢true, true≢false, eqb-true}
-use Rattle.spk_nums.specs.Capability.{Capability}
+use Rattle.std.proofs.Common.{◌≡◌, ◌≢◌, ℕ, ◌<◌, true, false, not, nat_lt, sym, ◌∙◌, ap, subst, [], ◌∷◌, None}
+use Rattle.std.proofs.lemmas.Bool.{false≢true, eqb-true}
 use Rattle.spk_nums.specs.declared.kinds.Kind.{Kind}
 use Rattle.spk_nums.specs.declared.kinds.Kind.TheVariants as kind
-use Rattle.spk_nums.specs.declared.kinds.FrameKind.{FrameKind}
 use Rattle.spk_nums.specs.declared.kinds.FrameKind.TheVariants as frame_kind
-use Rattle.spk_nums.specs.declared.calls.Make.{Make}
 use Rattle.spk_nums.specs.declared.calls.Make.TheVariants as make
 use Rattle.spk_nums.specs.declared.calls.Call.{Call}
 use Rattle.spk_nums.specs.declared.calls.Call.TheVariants.{Retype, Make as make_call}
 use Rattle.spk_nums.specs.declared.replies.Value.{Value}
 use Rattle.spk_nums.specs.declared.replies.Reply.{Reply}
 use Rattle.spk_nums.specs.declared.replies.Reply.TheVariants as reply
-use Rattle.seq_state.specs.State.{Object, Blank, Table, Leaf, Pages, Pleaf, Frame, Kernel, Thing, PlaceOf, FrameOf, NumberOf, State}
+use Rattle.seq_state.specs.State.{Object, Blank, Table, Leaf, Pages, Pleaf, Kernel, Thing, PlaceOf, FrameOf, NumberOf, State}
 use Rattle.seq_state.specs.References.{refs}
-use Rattle.seq_state.specs.Access.{Slot, found, Under, only}
-use Rattle.seq_state.specs.Rules.{Change, Cause, When, WaitedFor, Unflushed, Judged, Refused, Found, IsFoundAnd, refusal_of, first_cause, waits_of}
+use Rattle.seq_state.specs.Access.{found}
+use Rattle.seq_state.specs.Rules.{Cause, When, WaitedFor, Unflushed, Judged, Refused, Found, IsFoundAnd, refusal_of, first_cause, waits_of}
 use Rattle.seq_state.specs.CapabilityCalls.{outside, not_blank, is_place_of, make_node}
 use Rattle.seq_state.specs.GracePeriods.{same_thing}
 use Rattle.seq_state.specs.MemoryCalls.{is_untyped, is_empty, not_retyped}

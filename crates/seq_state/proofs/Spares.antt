@@ -1,6 +1,6 @@
 -- Each call that is carried out spares what the other cores in open calls rely on.
-use Rattle.std.proofs.Common.{◌≡◌, ◌≢◌, inl, inr, ℕ, ◌<◌, Bool, true, false, not, refl, sym, ◌∙◌, ap, subst, ◌==◌, cond, nat_lt, nat_le, if◌then◌else◌, ◌+◌, ◌-◌, ◌≤◌, arith, IsTrue, List, [], ◌∷◌, length, take, drop, Option, Some, None}
-use Rattle.std.proofs.lemmas.Bool.{cases_eq, false≢true, true≢false, ne_eqb}
+use Rattle.std.proofs.Common.{◌≡◌, ◌≢◌, inl, inr, ℕ, ◌<◌, Bool, true, false, not, refl, sym, ◌∙◌, ap, subst, ◌==◌, cond, nat_lt, if◌then◌else◌, ◌+◌, ◌-◌, ◌≤◌, arith, IsTrue, List, [], ◌∷◌, take, Option, Some, None}
+use Rattle.std.proofs.lemmas.Bool.{cases_eq, false≢true, ne_eqb}
 use Rattle.std.specs.List.{list_any}
 use Rattle.spk_nums.specs.Capability.{Capability}
 use Rattle.spk_nums.specs.declared.kinds.Kind.{Kind}
@@ -17,7 +17,7 @@ use Rattle.spk_nums.specs.declared.replies.Reply.TheVariants as reply
 use Rattle.seq_state.specs.State.{Place, Free, Holds, Quiescing, CompFields, ThreadFields, TcapFields, Object, Blank, Table, Leaf, Pages, Pleaf, Comp, Thread, Tcap, Frame, Untyped, User, Kernel, Core, Thing, PlaceOf, FrameOf, State, put, with_frame, with_core, with_number, Live, Dead, comp_of, comp_in, thread_in, thread_of}
 use Rattle.seq_state.specs.Start.{plain_cap, no_grace}
 use Rattle.seq_state.specs.References.{refs, times, frame_names, number_names, core_names}
-use Rattle.seq_state.specs.Access.{Slot, found, Target, Under, InRoot, place_at, usable_in, reached, only, root}
+use Rattle.seq_state.specs.Access.{Slot, found, Target, Under, InRoot, place_at, usable_in, reached}
 use Rattle.seq_state.specs.GracePeriods.{same_thing, new_grace, begun, flushed}
 use Rattle.seq_state.specs.Rules.{Change, Cause, When, WaitedFor, Unflushed, Found, named, vacant, held, unless, not_vacant, first_cause, refusal_of, waits_of, flushes_of, frames_of, fills, removes}
 use Rattle.seq_state.specs.CapabilityCalls.{outside, epoch_of, not_blank, makes, cleared, make_node, makes_comp, make_rule, not_taken}
@@ -25,13 +25,13 @@ use Rattle.seq_state.specs.MemoryCalls.{is_untyped, is_empty, not_retyped, retyp
 use Rattle.seq_state.specs.InvocationCalls.{kills, with_thread, pushes, call_rule, pops, ret_rule, running, switches, switch_to}
 use Rattle.seq_state.specs.TimeCalls.{with_tcap, with_budget, with_qualities, tcap_at, moved, merged_list}
 use Rattle.seq_state.specs.CallRelation.{rule_of}
-use Rattle.seq_state.specs.Fitting.{fits, IsGood}
+use Rattle.seq_state.specs.Fitting.{fits}
 use Rattle.seq_state.proofs.Within.{put_same, put_other}
-use Rattle.seq_state.proofs.Sound.{is_node, IsSound, put_all}
-use Rattle.seq_state.proofs.SoundRemovals.{frames_no_place, unnamed, IsUnnamed, none_waits, none_waiting, below_by}
-use Rattle.seq_state.proofs.SoundCalls.{IsOpen, blank_at, from_untyped_at, untyped_is, zero_refs, own_thread, node_of}
-use Rattle.seq_state.proofs.Sums.{times_first, times_cons}
-use Rattle.seq_state.proofs.Facts.{ChangesFrom, named_fit, held_facts, then_parts, or_found, found_inj, some_inj, none_some, some_none, refused_found, none_parts, when_not, not_not}
+use Rattle.seq_state.proofs.Sound.{is_node, put_all}
+use Rattle.seq_state.proofs.SoundRemovals.{frames_no_place, unnamed, none_waits, none_waiting}
+use Rattle.seq_state.proofs.SoundCalls.{IsOpen, blank_at, untyped_is, zero_refs}
+use Rattle.seq_state.proofs.Sums.{times_first}
+use Rattle.seq_state.proofs.Facts.{ChangesFrom, named_fit, held_facts, then_parts, found_inj, some_inj, some_none, refused_found, none_parts, when_not, not_not}
 use Rattle.seq_state.proofs.Relies.{is_fixed, IsGuarded}
 use Rattle.seq_state.proofs.Apart.{IsApart, apart_same, apart_then, fill_apart, remove_apart, begin_apart, frame_apart, core_apart, number_apart, clear_apart, flush_apart, frame_waits}
 

@@ -1,22 +1,22 @@
 -- What a core in an open call has found, and relies on, stays through the events of other cores.
-use Rattle.std.proofs.Common.{◌≡◌, ◌≢◌, inl, inr, ℕ, zero, suc, ◌<◌, ◌≤◌, ◌/◌, ◌%◌, ◌&&◌, arith, Bool, true, false, refl, sym, ◌∙◌, ap, subst, ◌==◌, cond, nat_le, if◌then◌else◌, IsTrue, List, [], ◌∷◌, Option, Some, None}
+use Rattle.std.proofs.Common.{◌≡◌, ◌≢◌, inl, inr, ℕ, zero, suc, ◌<◌, ◌≤◌, ◌%◌, ◌&&◌, arith, Bool, true, false, refl, sym, ◌∙◌, ap, subst, nat_le, if◌then◌else◌, IsTrue, List, [], ◌∷◌, Option, Some, None}
 use Rattle.std.proofs.lemmas.Bool.{false≢true, cases_lt}
 use Rattle.spk_nums.specs.Setting.{Setting, IsSetting}
 use Rattle.spk_nums.specs.Capability.{Capability}
 use Rattle.spk_nums.specs.declared.kinds.Kind.{Kind}
 use Rattle.spk_nums.specs.declared.kinds.Kind.TheVariants as kind
 use Rattle.spk_nums.specs.declared.replies.Reply.TheVariants as reply
-use Rattle.seq_state.specs.State.{Place, Free, Holds, Quiescing, CompFields, Table, Leaf, Pages, Pleaf, Comp, Thread, Frame, Kernel, Core, PlaceOf, FrameOf, State, comp_in, thread_in, first_of_stack, thread_of, comp_of}
+use Rattle.seq_state.specs.State.{Place, Free, Holds, Quiescing, CompFields, Table, Leaf, Pages, Pleaf, Comp, Thread, Frame, Kernel, Core, PlaceOf, State, comp_in, thread_in, first_of_stack, thread_of, comp_of}
 use Rattle.seq_state.specs.References.{named_by, place_names, frame_names, times, refs}
-use Rattle.seq_state.specs.Access.{Slot, Named, found, Target, Under, InRoot, place_at, usable_in, usable, linked, slot_in, reached, root_slot, root_at, only, own}
-use Rattle.seq_state.specs.Rules.{Judged, Found, and_then, or_refuse, of_kind, named}
+use Rattle.seq_state.specs.Access.{Slot, Named, Under, place_at, usable_in, usable, linked, slot_in, reached, root_slot, root_at, only, own}
+use Rattle.seq_state.specs.Rules.{Found, and_then, or_refuse, of_kind, named}
 use Rattle.seq_state.specs.Fitting.{fits, IsGood}
 use Rattle.seq_state.specs.Runs.{Event, after, core_of, Open, phase_of, IsRun}
 use Rattle.seq_state.proofs.Sound.{is_node, IsStack, IsObjectGood, WaitsForAll, IsSound, only_is}
 use Rattle.seq_state.proofs.SoundRemovals.{unnamed, below_by}
 use Rattle.seq_state.proofs.SoundRuns.{is_open, opened, runs_sound}
 use Rattle.seq_state.proofs.Sums.{times_first, times_cons}
-use Rattle.seq_state.proofs.Facts.{some_inj, none_some, then_parts, or_found, usable_good, reached_node}
+use Rattle.seq_state.proofs.Facts.{some_inj, none_some, then_parts, or_found, usable_good}
 use Rattle.seq_state.proofs.Relies.{is_fixed, IsGuarded, Relies}
 use Rattle.seq_state.proofs.Apart.{node_fixed}
 use Rattle.seq_state.proofs.SparesRuns.{SparesAll, event_spares}
