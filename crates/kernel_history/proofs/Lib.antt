@@ -12,3 +12,4 @@ pub mod Times
 pub mod Waiting
 pub mod Carries
 pub mod Laws
+pub mod Replies
