@@ -5,6 +5,7 @@ pub mod Idle
 pub mod Events
 pub mod Inside
 pub mod Graces
+pub mod Statements
 pub mod Stays
 pub mod GraceSets
 pub mod GraceSteps

@@ -44,11 +44,13 @@ pub record HasTurn (s : State) (o : ℕ → Bool) (d : ℕ) : Type 0 where
   pub opens : IsOpen s o d
   pub runs : (c : ℕ) → c < s.limits.cores → RunsOn s c
 
--- From s to t, by core d: as `IsApart`, but that a node or component stays where another core in an open call guards it; and
+-- From s to t, by core d: as `IsApart`, but that a node or component stays where another core in an open call guards it, or where
+-- it is referenced; and
 -- core d's thread runs on it.
 pub record Spares (s t : State) (o : ℕ → Bool) (d : ℕ) : Type 0 where
   pub core : (c : ℕ) → c ≢ d → t.core c ≡ s.core c
   pub frame : (c f : ℕ) → c ≢ d → o c ≡ true → IsTrue (is_fixed (s.frame f)) → IsGuarded s c f → t.frame f ≡ s.frame f
+  pub named : (f : ℕ) → IsTrue (is_fixed (s.frame f)) → 0 < refs s f → t.frame f ≡ s.frame f
   pub thread : (c : ℕ) → c ≢ d → c < s.limits.cores → t.frame (s.core c).thread ≡ s.frame (s.core c).thread
   pub place : (c f i : ℕ) (k : Capability) → c ≢ d → o c ≡ true → IsTrue (is_node (s.frame f))
       → usable_in (s.place f i) ((s.grace (PlaceOf f i)).waits c) ≡ Some k → usable_in (t.place f i) ((t.grace (PlaceOf f i)).waits c) ≡ Some k
@@ -63,6 +65,7 @@ pub spares_by : (s t : State) (o : ℕ → Bool) (d : ℕ) → IsApart s t o d �
 spares_by s t o d a runs = record {
   core = a.core;
   frame = λ c f other opened fixed guarded. a.frame f fixed;
+  named = λ f fixed some. a.frame f fixed;
   thread = a.thread;
   place = a.place;
   waits = a.waits;
@@ -243,6 +246,7 @@ module _ (s : State) (o : ℕ → Bool) (d : ℕ) (h : HasTurn s o d) where
   untype_spares f zero none = record {
     core = λ c other. refl;
     frame = λ c g other q fixed guarded. put_other s.frame f Untyped g (guarded_away c g other q guarded);
+    named = λ g fixed some. put_other s.frame f Untyped g (λ same. (let r : refs s g ≡ refs s f = ap (refs s) same in omega (arith, some, r, zero)));
     thread = λ c other below. put_other s.frame f Untyped (s.core c).thread (thread_named c below);
     place = λ c g i k other q node had.
         ap (λ b. usable_in (s.place g i) ((cond b (new_grace s (PlaceOf g i)) (s.grace (PlaceOf g i))).waits c)) (frames_no_place g i (frame_names (s.frame f))) ∙ had;

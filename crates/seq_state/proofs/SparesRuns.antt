@@ -36,6 +36,7 @@ spares_core : (s t : State) (o : ℕ → Bool) (d : ℕ) (k : Core) → k.thread
 spares_core s t o d k same a = record {
   core = λ c other. put_other t.core d k c other ∙ a.core c other;
   frame = a.frame;
+  named = a.named;
   thread = a.thread;
   place = a.place;
   waits = a.waits;
@@ -144,6 +145,7 @@ returned_spares s o d runs = record { spares = spares; guarded = same_guarded s 
     spares = record {
       core = λ c other. put_other s.core d _ c other;
       frame = λ c f other q fixed guarded. refl;
+      named = λ f fixed some. refl;
       thread = λ c other below. refl;
       place = λ c f i k other q node had. ap (usable_in (s.place f i)) (put_other (s.grace (PlaceOf f i)).waits d false c other) ∙ had;
       waits = λ c f other q w. put_other (s.grace (FrameOf f)).waits d false c other ∙ w;
