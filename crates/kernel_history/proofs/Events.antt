@@ -1,12 +1,12 @@
 -- A legal trace is a run of its events, and leaves what they leave.
-use Rattle.std.proofs.Common.{◌≡◌, ◌≢◌, inl, inr, ℕ, ◌<◌, ◌==◌, Bool, true, false, cond, List, [], ◌∷◌, Option, Some, None, refl, sym, ◌∙◌, ap, subst}
+use Rattle.std.proofs.Common.{◌≡◌, ◌≢◌, inl, inr, ℕ, ◌<◌, cond, List, [], ◌∷◌, Option, Some, None, refl, sym, ◌∙◌, ap, subst}
 use Rattle.std.proofs.lemmas.Bool.{cases_eq, eq-eqb, ne_eqb}
 use Rattle.spk_nums.specs.declared.calls.Call.{Call}
 use Rattle.spk_nums.specs.declared.replies.Reply.{Reply}
 use Rattle.spk_nums.specs.Setting.{Setting}
 use Rattle.spk_nums.specs.CallLimits.{InLimits}
 use Rattle.seq_state.specs.State.{State}
-use Rattle.seq_state.specs.Runs.{Event, Enters, Decides, Returns, after, core_of, phase_by, phase_of, IsRun, Phase as event_phase, Out as is_out, Open as is_open, Decided as is_decided}
+use Rattle.seq_state.specs.Runs.{Event, Enters, Decides, Returns, after, core_of, phase_by, phase_of, IsRun}
 use Rattle.kernel_history.specs.Trace.{Step, Trace, Phase, Out, Open, Decided, phase, after_enter, after_decide, after_return, state_after, state_entered, state_decided, state_returned, state_before}
 use Rattle.kernel_history.specs.Events.{with_entry, with_decision, with_return, events_of, plain_phase}
 use Rattle.kernel_history.specs.Legal.{MayEnter, MayDecide, MayReturn, MayFollow, IsLegal}

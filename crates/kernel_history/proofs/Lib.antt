@@ -7,3 +7,10 @@ pub mod Inside
 pub mod Graces
 pub mod Statements
 pub mod Stays
+pub mod GraceSets
+pub mod GraceSteps
+pub mod Times
+pub mod Waiting
+pub mod Carries
+pub mod Laws
+pub mod Replies

@@ -1,4 +1,4 @@
--- The statements of the lemmas on grace periods and stamps; the proofs are in files of their own.
+-- The statements on grace periods and stamps, as types: GraceSteps proves them (`grace_start`, `grace_on`, `times_on`).
 use Rattle.std.proofs.Common.{ℕ, [], ◌∷◌}
 use Rattle.spk_nums.specs.Setting.{Setting}
 use Rattle.seq_state.specs.State.{Thing}

@@ -1,25 +1,23 @@
 -- What a core in an open call has found and relies on stays through the steps of other cores, and through its own that decide
 -- nothing.
-use Rattle.std.proofs.Common.{◌≡◌, ◌≢◌, ℕ, ◌<◌, Bool, true, IsTrue, List, [], ◌∷◌, Option, Some, None, refl, sym, ◌∙◌, ap, subst}
+use Rattle.std.proofs.Common.{◌≡◌, ◌≢◌, ℕ, ◌<◌, true, IsTrue, List, [], ◌∷◌, Option, Some, None, refl, sym, ◌∙◌, ap, subst}
 use Rattle.spk_nums.specs.Setting.{Setting, IsSetting}
 use Rattle.spk_nums.specs.Capability.{Capability}
-use Rattle.spk_nums.specs.declared.kinds.Kind.{Kind}
 use Rattle.spk_nums.specs.declared.calls.Call.{Call}
 use Rattle.spk_nums.specs.declared.replies.Reply.{Reply}
-use Rattle.seq_state.specs.State.{Core, State, comp_of, comp_in, thread_in, thread_of, first_of_stack}
+use Rattle.seq_state.specs.State.{Core, State, comp_of, comp_in, thread_in, first_of_stack}
 use Rattle.seq_state.specs.GracePeriods.{entered}
 use Rattle.seq_state.specs.References.{named_by}
-use Rattle.seq_state.specs.Access.{Slot, Named, Target, Under, usable, reached}
-use Rattle.seq_state.specs.Rules.{Found, named}
+use Rattle.seq_state.specs.Access.{Slot, Named, Under, usable, reached}
 use Rattle.seq_state.specs.Fitting.{IsGood}
 use Rattle.seq_state.specs.Runs.{Event, Enters, Decides, Returns, after, phase_of, IsRun, Open as is_open}
 use Rattle.seq_state.proofs.Within.{put_same}
 use Rattle.seq_state.proofs.Sound.{IsSound}
 use Rattle.seq_state.proofs.SoundRuns.{opened, runs_sound, is_open as opens}
 use Rattle.seq_state.proofs.Facts.{usable_good}
-use Rattle.seq_state.proofs.Relies.{is_fixed, IsGuarded, Relies}
-use Rattle.seq_state.proofs.Stays.{Stay, stay_same, stay_then, event_stay, names_node, usable_guarded, usable_relies, table_relies, pages_relies, reached_relies, own_comp, comp_fixed, comp_guarded}
-use Rattle.kernel_history.specs.Trace.{Step, Trace, Phase, Out, Open, Decided, phase, after_enter, after_decide, state_after, state_entered, state_decided, state_returned, state_before}
+use Rattle.seq_state.proofs.Relies.{IsGuarded, Relies}
+use Rattle.seq_state.proofs.Stays.{Stay, OwnStay, event_own, stay_same, stay_then, event_stay, names_node, usable_guarded, usable_relies, table_relies, pages_relies, reached_relies}
+use Rattle.kernel_history.specs.Trace.{Step, Trace, Phase, Out, Open, Decided, phase, after_enter, state_after, state_entered, state_decided, state_returned}
 use Rattle.kernel_history.specs.Legal.{MayFollow, IsLegal}
 use Rattle.kernel_history.specs.Events.{with_entry, with_decision, with_return, events_of, plain_phase}
 use Rattle.kernel_history.proofs.Events.{entered_events, decided_events, entry_apart, decision_apart, state_is, phase_is, run_of, entered_run, decided_run, step_run}
@@ -109,6 +107,45 @@ stays_other setup lim t legal e follows c other call is =
 
     opened_at : phase_of (events_of t) c ≡ is_open
     opened_at = phase_is t c ∙ ap plain_phase is
+
+-- What is a core's own stays through a step of another core, whether it is in a call or not.
+module _ (setup : Setting) (lim : IsSetting setup) (d c : ℕ) (core : c < setup.cores) (other : c ≢ d) where
+  own_same : (s : State) → OwnStay s s c
+  own_same s = record { core = refl; thread = refl; comp = refl }
+
+  entry_own : (o : Option Call) (events : List Event) → IsRun setup (with_entry o d events) → OwnStay (after setup events) (after setup (with_entry o d events)) c
+  entry_own None events run = own_same (after setup events)
+  entry_own (Some call) events run = event_own setup lim (Enters d) events run c core other
+
+  decision_own : (o : Option Reply) (p : Phase) (events : List Event) → IsRun setup (with_decision o p d events)
+      → OwnStay (after setup events) (after setup (with_decision o p d events)) c
+  decision_own None p events run = own_same (after setup events)
+  decision_own (Some r) Out events run = own_same (after setup events)
+  decision_own (Some r) (Open call) events run = event_own setup lim (Decides d call r) events run c core other
+  decision_own (Some r) (Decided call q) events run = own_same (after setup events)
+
+  return_own : (o : Option Reply) (events : List Event) → IsRun setup (with_return o d events) → OwnStay (after setup events) (after setup (with_return o d events)) c
+  return_own None events run = own_same (after setup events)
+  return_own (Some r) events run = event_own setup lim (Returns d) events run c core other
+
+pub own_stays_other : (setup : Setting) → IsSetting setup → (t : Trace) → IsLegal setup t → (e : Step) → MayFollow setup t e
+    → (c : ℕ) → c < setup.cores → c ≢ e.core → OwnStay (state_after setup t) (state_after setup (e ∷ t)) c
+own_stays_other setup lim t legal e follows c core other =
+    subst (λ s. OwnStay s (state_after setup (e ∷ t)) c) (sym (state_is setup t))
+    (subst (λ s. OwnStay (after setup (events_of t)) s c) (sym (state_is setup (e ∷ t)))
+    (record { core = c2.core ∙ b.core ∙ a.core; thread = c2.thread ∙ b.thread ∙ a.thread; comp = c2.comp ∙ b.comp ∙ a.comp }))
+  where
+    run : IsRun setup (events_of t)
+    run = run_of setup t legal
+
+    a : OwnStay (after setup (events_of t)) (after setup (entered_events t e)) c
+    a = entry_own setup lim e.core c core other e.enters (events_of t) (entered_run setup t e legal follows run)
+
+    b : OwnStay (after setup (entered_events t e)) (after setup (decided_events t e)) c
+    b = decision_own setup lim e.core c core other e.decides (after_enter e.enters (phase t e.core)) (entered_events t e) (decided_run setup t e legal follows run)
+
+    c2 : OwnStay (after setup (decided_events t e)) (after setup (events_of (e ∷ t))) c
+    c2 = return_own setup lim e.core c core other e.returns (decided_events t e) (step_run setup t e legal follows run)
 
 -- An own step without event leaves the state.
 pub state_plain : (setup : Setting) (t : Trace) (e : Step) → e.enters ≡ None → e.decides ≡ None → e.returns ≡ None → state_after setup (e ∷ t) ≡ state_after setup t

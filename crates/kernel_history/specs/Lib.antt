@@ -14,3 +14,4 @@ pub mod Moments
 pub mod Tables
 pub mod Text
 pub mod GivenSteps
+pub mod Laws

@@ -1,4 +1,4 @@
--- What a script asks for that is not carried out today: a `calls` line, and the lines of calls that are not built.
+-- What a script asks for that is not carried out today: the lines of calls that are not built.
 use Rattle.std.specs.Prelude.{◌≡◌, ◌⊎◌, ℕ, List, [], ◌∷◌, Option, Some, None, Result, Ok, Err, slice_get}
 use Rattle.std.specs.Option.{option_and_then}
 use Rattle.spk_nums.specs.declared.calls.Call.{Call as A_call}
@@ -6,7 +6,7 @@ use Rattle.spk_nums.specs.Built.{IsBuilt}
 use Rattle.script_tokens.specs.Words.{words_of}
 use Rattle.script_reader.specs.declared.cause.Cause.{Cause}
 use Rattle.script_reader.specs.declared.first_words.FirstWord.{FirstWord}
-use Rattle.script_reader.specs.declared.first_words.FirstWord.TheVariants.{Calls, Call}
+use Rattle.script_reader.specs.declared.first_words.FirstWord.TheVariants.{Call}
 use Rattle.script_reader.specs.FirstWords.{first_word}
 use Rattle.script_reader.specs.CallLines.{call_line}
 use Rattle.script_reader.specs.Readings.{Row, rows_of}
@@ -16,9 +16,8 @@ abbrev pub IsBuiltRead : Result A_call Cause → Type 0
 IsBuiltRead (Ok call) = IsBuilt call
 IsBuiltRead (Err cause) = ⊥
 
--- a line with that first word is carried out today: a `calls` line is not, and a call is where it is built
+-- a line with that first word is carried out today: a call is where it is built, and any other line is
 abbrev pub IsBuiltBy : List (List ℕ) → Option FirstWord → Type 0
-IsBuiltBy words (Some Calls) = ⊥
 IsBuiltBy words (Some (Call verb)) = IsBuiltRead (call_line words verb)
 IsBuiltBy words _ = Unit {0}
 

@@ -17,7 +17,6 @@ fn is_built_line(words: &[Token]) -> bool
     ensures { IsTrue result ↔ IsBuiltLine (texts words.now) }
 {
     match first_of(words) {
-        Some(FirstWord::Calls) => false,
         Some(FirstWord::Call(verb)) => match call_line(words, verb) {
             Ok(call) => is_built(&call),
             Err(_) => false,
@@ -26,8 +25,8 @@ fn is_built_line(words: &[Token]) -> bool
     }
 }
 
-/// The first line of a script's words that is not carried out today, if there is one: a `calls` line,
-/// or the line of a call that is not built.
+/// The first line of a script's words that is not carried out today, if there is one: the line of a
+/// call that is not built.
 pub fn first_unbuilt(tokens: &[Token]) -> Option<u32>
     ensures { IsFirstUnbuiltOf (rows_of (views tokens.now)) result }
 {

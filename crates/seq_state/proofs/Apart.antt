@@ -1,9 +1,9 @@
 -- What a change by core d leaves to the other cores in opened calls: each part of a change.
-use Rattle.std.proofs.Common.{◌≡◌, ◌≢◌, inl, inr, ℕ, ◌<◌, Bool, true, false, ◌&&◌, cond, refl, sym, ◌∙◌, ap, subst, ◌==◌, IsTrue, List, [], ◌∷◌, Option, Some, None}
+use Rattle.std.proofs.Common.{◌≡◌, ◌≢◌, inl, inr, ℕ, ◌<◌, Bool, true, false, ◌&&◌, cond, refl, sym, ◌∙◌, ap, subst, ◌==◌, IsTrue, List, ◌∷◌, Some, None}
 use Rattle.std.proofs.lemmas.Bool.{cases_eq, false≢true, true≢false, eq-eqb, ne_eqb, eqb-true, or_from, or_left}
 use Rattle.std.specs.List.{list_any}
 use Rattle.spk_nums.specs.Capability.{Capability}
-use Rattle.seq_state.specs.State.{Place, Free, Holds, Quiescing, Table, Leaf, Pages, Pleaf, Frame, Kernel, Liveness, Core, Grace, Thing, PlaceOf, FrameOf, State, put, with_place, with_frame, with_number, with_core, with_grace, thread_of}
+use Rattle.seq_state.specs.State.{Place, Free, Holds, Quiescing, Table, Leaf, Pages, Pleaf, Frame, Kernel, Liveness, Core, Grace, Thing, PlaceOf, FrameOf, State, put, with_place, with_frame, with_number, with_core}
 use Rattle.seq_state.specs.Start.{no_grace}
 use Rattle.seq_state.specs.References.{place_names}
 use Rattle.seq_state.specs.GracePeriods.{same_thing, new_grace, begun, flushed}

@@ -22,3 +22,4 @@ pub mod Apart
 pub mod Spares
 pub mod SparesRuns
 pub mod Stays
+pub mod Ends

@@ -1,6 +1,6 @@
 -- Each call that is carried out spares what the other cores in open calls rely on.
-use Rattle.std.proofs.Common.{◌≡◌, ◌≢◌, inl, inr, ℕ, ◌<◌, Bool, true, false, not, refl, sym, ◌∙◌, ap, subst, ◌==◌, cond, nat_lt, nat_le, if◌then◌else◌, ◌+◌, ◌-◌, ◌≤◌, arith, IsTrue, List, [], ◌∷◌, length, take, drop, Option, Some, None}
-use Rattle.std.proofs.lemmas.Bool.{cases_eq, false≢true, true≢false, ne_eqb}
+use Rattle.std.proofs.Common.{◌≡◌, ◌≢◌, inl, inr, ℕ, ◌<◌, Bool, true, false, not, refl, sym, ◌∙◌, ap, subst, ◌==◌, cond, nat_lt, if◌then◌else◌, ◌+◌, ◌-◌, ◌≤◌, arith, IsTrue, List, [], ◌∷◌, take, Option, Some, None}
+use Rattle.std.proofs.lemmas.Bool.{cases_eq, false≢true, ne_eqb}
 use Rattle.std.specs.List.{list_any}
 use Rattle.spk_nums.specs.Capability.{Capability}
 use Rattle.spk_nums.specs.declared.kinds.Kind.{Kind}
@@ -17,7 +17,7 @@ use Rattle.spk_nums.specs.declared.replies.Reply.TheVariants as reply
 use Rattle.seq_state.specs.State.{Place, Free, Holds, Quiescing, CompFields, ThreadFields, TcapFields, Object, Blank, Table, Leaf, Pages, Pleaf, Comp, Thread, Tcap, Frame, Untyped, User, Kernel, Core, Thing, PlaceOf, FrameOf, State, put, with_frame, with_core, with_number, Live, Dead, comp_of, comp_in, thread_in, thread_of}
 use Rattle.seq_state.specs.Start.{plain_cap, no_grace}
 use Rattle.seq_state.specs.References.{refs, times, frame_names, number_names, core_names}
-use Rattle.seq_state.specs.Access.{Slot, found, Target, Under, InRoot, place_at, usable_in, reached, only, root}
+use Rattle.seq_state.specs.Access.{Slot, found, Target, Under, InRoot, place_at, usable_in, reached}
 use Rattle.seq_state.specs.GracePeriods.{same_thing, new_grace, begun, flushed}
 use Rattle.seq_state.specs.Rules.{Change, Cause, When, WaitedFor, Unflushed, Found, named, vacant, held, unless, not_vacant, first_cause, refusal_of, waits_of, flushes_of, frames_of, fills, removes}
 use Rattle.seq_state.specs.CapabilityCalls.{outside, epoch_of, not_blank, makes, cleared, make_node, makes_comp, make_rule, not_taken}
@@ -25,13 +25,13 @@ use Rattle.seq_state.specs.MemoryCalls.{is_untyped, is_empty, not_retyped, retyp
 use Rattle.seq_state.specs.InvocationCalls.{kills, with_thread, pushes, call_rule, pops, ret_rule, running, switches, switch_to}
 use Rattle.seq_state.specs.TimeCalls.{with_tcap, with_budget, with_qualities, tcap_at, moved, merged_list}
 use Rattle.seq_state.specs.CallRelation.{rule_of}
-use Rattle.seq_state.specs.Fitting.{fits, IsGood}
+use Rattle.seq_state.specs.Fitting.{fits}
 use Rattle.seq_state.proofs.Within.{put_same, put_other}
-use Rattle.seq_state.proofs.Sound.{is_node, IsSound, put_all}
-use Rattle.seq_state.proofs.SoundRemovals.{frames_no_place, unnamed, IsUnnamed, none_waits, none_waiting, below_by}
-use Rattle.seq_state.proofs.SoundCalls.{IsOpen, blank_at, from_untyped_at, untyped_is, zero_refs, own_thread, node_of}
-use Rattle.seq_state.proofs.Sums.{times_first, times_cons}
-use Rattle.seq_state.proofs.Facts.{ChangesFrom, named_fit, held_facts, then_parts, or_found, found_inj, some_inj, none_some, some_none, refused_found, none_parts, when_not, not_not}
+use Rattle.seq_state.proofs.Sound.{is_node, put_all}
+use Rattle.seq_state.proofs.SoundRemovals.{frames_no_place, unnamed, none_waits, none_waiting}
+use Rattle.seq_state.proofs.SoundCalls.{IsOpen, blank_at, untyped_is, zero_refs}
+use Rattle.seq_state.proofs.Sums.{times_first}
+use Rattle.seq_state.proofs.Facts.{ChangesFrom, named_fit, held_facts, then_parts, found_inj, some_inj, some_none, refused_found, none_parts, when_not, not_not}
 use Rattle.seq_state.proofs.Relies.{is_fixed, IsGuarded}
 use Rattle.seq_state.proofs.Apart.{IsApart, apart_same, apart_then, fill_apart, remove_apart, begin_apart, frame_apart, core_apart, number_apart, clear_apart, flush_apart, frame_waits}
 
@@ -44,11 +44,13 @@ pub record HasTurn (s : State) (o : ℕ → Bool) (d : ℕ) : Type 0 where
   pub opens : IsOpen s o d
   pub runs : (c : ℕ) → c < s.limits.cores → RunsOn s c
 
--- From s to t, by core d: as `IsApart`, but that a node or component stays where another core in an open call guards it; and
+-- From s to t, by core d: as `IsApart`, but that a node or component stays where another core in an open call guards it, or where
+-- it is referenced; and
 -- core d's thread runs on it.
 pub record Spares (s t : State) (o : ℕ → Bool) (d : ℕ) : Type 0 where
   pub core : (c : ℕ) → c ≢ d → t.core c ≡ s.core c
   pub frame : (c f : ℕ) → c ≢ d → o c ≡ true → IsTrue (is_fixed (s.frame f)) → IsGuarded s c f → t.frame f ≡ s.frame f
+  pub named : (f : ℕ) → IsTrue (is_fixed (s.frame f)) → 0 < refs s f → t.frame f ≡ s.frame f
   pub thread : (c : ℕ) → c ≢ d → c < s.limits.cores → t.frame (s.core c).thread ≡ s.frame (s.core c).thread
   pub place : (c f i : ℕ) (k : Capability) → c ≢ d → o c ≡ true → IsTrue (is_node (s.frame f))
       → usable_in (s.place f i) ((s.grace (PlaceOf f i)).waits c) ≡ Some k → usable_in (t.place f i) ((t.grace (PlaceOf f i)).waits c) ≡ Some k
@@ -63,6 +65,7 @@ pub spares_by : (s t : State) (o : ℕ → Bool) (d : ℕ) → IsApart s t o d �
 spares_by s t o d a runs = record {
   core = a.core;
   frame = λ c f other opened fixed guarded. a.frame f fixed;
+  named = λ f fixed some. a.frame f fixed;
   thread = a.thread;
   place = a.place;
   waits = a.waits;
@@ -243,6 +246,7 @@ module _ (s : State) (o : ℕ → Bool) (d : ℕ) (h : HasTurn s o d) where
   untype_spares f zero none = record {
     core = λ c other. refl;
     frame = λ c g other q fixed guarded. put_other s.frame f Untyped g (guarded_away c g other q guarded);
+    named = λ g fixed some. put_other s.frame f Untyped g (λ same. (let r : refs s g ≡ refs s f = ap (refs s) same in omega (arith, some, r, zero)));
     thread = λ c other below. put_other s.frame f Untyped (s.core c).thread (thread_named c below);
     place = λ c g i k other q node had.
         ap (λ b. usable_in (s.place g i) ((cond b (new_grace s (PlaceOf g i)) (s.grace (PlaceOf g i))).waits c)) (frames_no_place g i (frame_names (s.frame f))) ∙ had;

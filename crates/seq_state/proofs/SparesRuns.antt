@@ -1,6 +1,6 @@
 -- In every state that a run reaches each core's thread runs on it; and each event spares what the other cores in open calls rely on.
-use Rattle.std.proofs.Common.{◌≡◌, ◌≢◌, ◌⊎◌, inl, inr, ℕ, zero, suc, ◌+◌, ◌-◌, ◌*◌, ◌<◌, ◌≤◌, arith, Bool, true, false, refl, sym, ◌∙◌, ap, subst, ◌==◌, cond, nat_lt, IsTrue, List, [], ◌∷◌}
-use Rattle.std.proofs.lemmas.Bool.{cases_eq, false≢true, eq-eqb, ne_eqb, ltb-false, or_left, or_right}
+use Rattle.std.proofs.Common.{◌≡◌, ◌≢◌, inl, inr, ℕ, zero, suc, ◌+◌, ◌-◌, ◌<◌, arith, Bool, true, false, refl, sym, ◌∙◌, ap, subst, ◌==◌, cond, nat_lt, IsTrue, List, [], ◌∷◌}
+use Rattle.std.proofs.lemmas.Bool.{cases_eq, eq-eqb, ne_eqb, ltb-false, or_left, or_right}
 use Rattle.std.specs.List.{list_any}
 use Rattle.spk_nums.specs.Setting.{Setting, IsSetting}
 use Rattle.spk_nums.specs.CallLimits.{InLimits}
@@ -9,10 +9,10 @@ use Rattle.spk_nums.specs.declared.calls.Call.TheVariants.{Tick}
 use Rattle.spk_nums.specs.declared.replies.Reply.{Reply}
 use Rattle.spk_nums.specs.declared.replies.Reply.TheVariants as reply
 use Rattle.spk_nums.specs.declared.replies.Value.{Value}
-use Rattle.seq_state.specs.State.{Core, Thing, PlaceOf, FrameOf, NumberOf, State, put, with_core, thread_in, thread_of}
+use Rattle.seq_state.specs.State.{Core, Thing, PlaceOf, FrameOf, NumberOf, State, with_core, thread_in}
 use Rattle.std.specs.Prelude.{Some}
 use Rattle.seq_state.specs.Access.{usable_in}
-use Rattle.seq_state.specs.Start.{start, start_frame}
+use Rattle.seq_state.specs.Start.{start}
 use Rattle.seq_state.specs.References.{times, core_names, node_refs, refs}
 use Rattle.seq_state.specs.GracePeriods.{same_thing, new_grace, begun, entered, returned}
 use Rattle.seq_state.specs.Rules.{Change, Judged, Refused, Found, IsFoundAnd}
@@ -22,14 +22,13 @@ use Rattle.seq_state.specs.Runs.{Event, Enters, Decides, Returns, after, core_of
 use Rattle.seq_state.proofs.Changes.{IfFound}
 use Rattle.seq_state.proofs.Within.{put_same, put_other}
 use Rattle.seq_state.proofs.Sums.{sum_same, times_cons}
-use Rattle.seq_state.proofs.Sound.{IsSound, put_all}
+use Rattle.seq_state.proofs.Sound.{put_all}
 use Rattle.seq_state.proofs.SoundStart.{past_three, choose}
-use Rattle.seq_state.proofs.SoundCalls.{IsOpen}
 use Rattle.seq_state.proofs.SoundRuns.{opened, open_is, limits_stay}
 use Rattle.seq_state.proofs.Facts.{outcome_from}
 use Rattle.seq_state.proofs.Refs.{RefsBy, rule_refs, grace_refs}
-use Rattle.seq_state.proofs.Relies.{is_fixed, IsGuarded}
-use Rattle.seq_state.proofs.Apart.{IsApart, core_apart, apart_same, node_fixed}
+use Rattle.seq_state.proofs.Relies.{IsGuarded}
+use Rattle.seq_state.proofs.Apart.{apart_same}
 use Rattle.seq_state.proofs.Spares.{RunsOn, HasTurn, Spares, SparesBy, spares_by, rule_spares}
 
 -- From s to t by core d, whose own fields change then, but for its thread.
@@ -37,6 +36,7 @@ spares_core : (s t : State) (o : ℕ → Bool) (d : ℕ) (k : Core) → k.thread
 spares_core s t o d k same a = record {
   core = λ c other. put_other t.core d k c other ∙ a.core c other;
   frame = a.frame;
+  named = a.named;
   thread = a.thread;
   place = a.place;
   waits = a.waits;
@@ -145,6 +145,7 @@ returned_spares s o d runs = record { spares = spares; guarded = same_guarded s 
     spares = record {
       core = λ c other. put_other s.core d _ c other;
       frame = λ c f other q fixed guarded. refl;
+      named = λ f fixed some. refl;
       thread = λ c other below. refl;
       place = λ c f i k other q node had. ap (usable_in (s.place f i)) (put_other (s.grace (PlaceOf f i)).waits d false c other) ∙ had;
       waits = λ c f other q w. put_other (s.grace (FrameOf f)).waits d false c other ∙ w;

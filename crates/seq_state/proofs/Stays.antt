@@ -1,22 +1,22 @@
 -- What a core in an open call has found, and relies on, stays through the events of other cores.
-use Rattle.std.proofs.Common.{◌≡◌, ◌≢◌, inl, inr, ℕ, zero, suc, ◌<◌, ◌≤◌, ◌/◌, ◌%◌, ◌&&◌, arith, Bool, true, false, refl, sym, ◌∙◌, ap, subst, ◌==◌, cond, nat_le, if◌then◌else◌, IsTrue, List, [], ◌∷◌, Option, Some, None}
+use Rattle.std.proofs.Common.{◌≡◌, ◌≢◌, inl, inr, ℕ, zero, suc, ◌<◌, ◌≤◌, ◌%◌, ◌&&◌, arith, Bool, true, false, refl, sym, ◌∙◌, ap, subst, nat_le, if◌then◌else◌, IsTrue, List, [], ◌∷◌, Option, Some, None}
 use Rattle.std.proofs.lemmas.Bool.{false≢true, cases_lt}
 use Rattle.spk_nums.specs.Setting.{Setting, IsSetting}
 use Rattle.spk_nums.specs.Capability.{Capability}
 use Rattle.spk_nums.specs.declared.kinds.Kind.{Kind}
 use Rattle.spk_nums.specs.declared.kinds.Kind.TheVariants as kind
 use Rattle.spk_nums.specs.declared.replies.Reply.TheVariants as reply
-use Rattle.seq_state.specs.State.{Place, Free, Holds, Quiescing, CompFields, Table, Leaf, Pages, Pleaf, Comp, Thread, Frame, Kernel, Core, PlaceOf, FrameOf, State, comp_in, thread_in, first_of_stack, thread_of, comp_of}
+use Rattle.seq_state.specs.State.{Place, Free, Holds, Quiescing, CompFields, Table, Leaf, Pages, Pleaf, Comp, Thread, Frame, Kernel, Core, PlaceOf, State, comp_in, thread_in, first_of_stack, thread_of, comp_of}
 use Rattle.seq_state.specs.References.{named_by, place_names, frame_names, times, refs}
-use Rattle.seq_state.specs.Access.{Slot, Named, found, Target, Under, InRoot, place_at, usable_in, usable, linked, slot_in, reached, root_slot, root_at, only, own}
-use Rattle.seq_state.specs.Rules.{Judged, Found, and_then, or_refuse, of_kind, named}
+use Rattle.seq_state.specs.Access.{Slot, Named, Under, place_at, usable_in, usable, linked, slot_in, reached, root_slot, root_at, only, own}
+use Rattle.seq_state.specs.Rules.{Found, and_then, or_refuse, of_kind, named}
 use Rattle.seq_state.specs.Fitting.{fits, IsGood}
 use Rattle.seq_state.specs.Runs.{Event, after, core_of, Open, phase_of, IsRun}
 use Rattle.seq_state.proofs.Sound.{is_node, IsStack, IsObjectGood, WaitsForAll, IsSound, only_is}
 use Rattle.seq_state.proofs.SoundRemovals.{unnamed, below_by}
-use Rattle.seq_state.proofs.SoundRuns.{is_open, opened, runs_sound}
+use Rattle.seq_state.proofs.SoundRuns.{is_open, opened, limits_stay, runs_sound}
 use Rattle.seq_state.proofs.Sums.{times_first, times_cons}
-use Rattle.seq_state.proofs.Facts.{some_inj, none_some, then_parts, or_found, usable_good, reached_node}
+use Rattle.seq_state.proofs.Facts.{some_inj, none_some, then_parts, or_found, usable_good}
 use Rattle.seq_state.proofs.Relies.{is_fixed, IsGuarded, Relies}
 use Rattle.seq_state.proofs.Apart.{node_fixed}
 use Rattle.seq_state.proofs.SparesRuns.{SparesAll, event_spares}
@@ -127,6 +127,45 @@ link_of (Some j) true i at e = by_kind (only kind.Link j.kind) refl e
 link_names : (k : Kind) → IsTrue (only kind.Link k) → IsTrue (names_node k)
 link_names k is = subst (λ j. IsTrue (names_node j)) (sym (only_is kind.Link k is)) refl
 
+-- The frame of the component in which a core works.
+abbrev pub own_comp : State → ℕ → ℕ
+own_comp s c = first_of_stack (thread_of s c).stack
+
+-- The component in which a core of the machine works is one, and is referenced.
+module _ (s : State) (o : ℕ → Bool) (c : ℕ) (h : IsSound s o) (below : c < s.limits.cores) where
+  own_thread : IsTrue (fits kind.Thread (s.frame (s.core c).thread))
+  own_thread = (h.cores c below).0
+
+  stack_of : (x : Frame) → IsTrue (fits kind.Thread x) → IsObjectGood s x → IsStack s (thread_in x).stack
+  stack_of (Kernel (Thread t)) fit good = good
+  stack_of _ fit good = absurd (false≢true fit)
+
+  names_of : (x : Frame) → IsTrue (fits kind.Thread x) → frame_names x ≡ (thread_in x).stack
+  names_of (Kernel (Thread t)) fit = refl
+  names_of _ fit = absurd (false≢true fit)
+
+  top_fit : (fs : List ℕ) → IsStack s fs → IsTrue (fits kind.Comp (s.frame (first_of_stack fs)))
+  top_fit [] is = absurd is
+  top_fit (f ∷ fs) is = is.0
+
+  top_named : (fs : List ℕ) → IsStack s fs → 1 ≤ times (first_of_stack fs) fs
+  top_named [] is = absurd is
+  top_named (f ∷ fs) is = times_first f fs
+
+  own_stack : IsStack s (thread_of s c).stack
+  own_stack = stack_of (s.frame (s.core c).thread) own_thread (h.objects (s.core c).thread)
+
+  pub comp_fit : IsTrue (fits kind.Comp (s.frame (own_comp s c)))
+  comp_fit = top_fit (thread_of s c).stack own_stack
+
+  pub comp_named : 0 < refs s (own_comp s c)
+  comp_named = object_named s o (s.core c).thread (own_comp s c) h
+      (subst (λ l. 1 ≤ times (own_comp s c) l) (sym (names_of (s.frame (s.core c).thread) own_thread)) (top_named (thread_of s c).stack own_stack))
+
+comp_is : (x : Frame) → IsTrue (fits kind.Comp x) → (x ≡ Kernel (Comp (comp_in x))) × IsTrue (is_fixed x)
+comp_is (Kernel (Comp k)) fit = (refl, refl)
+comp_is _ fit = absurd (false≢true fit)
+
 module _ (s : State) (o : ℕ → Bool) (c : ℕ) (h : IsSound s o) (q : o c ≡ true) where
   -- The frame that a capability names which core c may use, but a range, is guarded for it.
   pub usable_guarded : (at : Slot) (k : Capability) → named_by k.kind k.frame ≡ k.frame ∷ [] → usable s c at ≡ Some k → IsGuarded s c k.frame
@@ -153,60 +192,33 @@ module _ (s : State) (o : ℕ → Bool) (c : ℕ) (h : IsSound s o) (q : o c ≡
     guarded = usable_guarded at k (node_names k.kind k.frame n) e;
   }
 
-  -- The component in which core c works is guarded for it, and its table and pages.
-  own_thread : IsTrue (fits kind.Thread (s.frame (s.core c).thread))
-  own_thread = (h.cores c (h.inside c q).1).0
+  -- The component in which core c works, and its table and pages.
+  below : c < s.limits.cores
+  below = (h.inside c q).1
 
-  stack_of : (x : Frame) → IsTrue (fits kind.Thread x) → IsObjectGood s x → IsStack s (thread_in x).stack
-  stack_of (Kernel (Thread t)) fit good = good
-  stack_of _ fit good = absurd (false≢true fit)
+  pub comp_guarded : IsGuarded s c (own_comp s c)
+  comp_guarded = inl (comp_named s o c h below)
 
-  names_of : (x : Frame) → IsTrue (fits kind.Thread x) → frame_names x ≡ (thread_in x).stack
-  names_of (Kernel (Thread t)) fit = refl
-  names_of _ fit = absurd (false≢true fit)
-
-  top_fit : (fs : List ℕ) → IsStack s fs → IsTrue (fits kind.Comp (s.frame (first_of_stack fs)))
-  top_fit [] is = absurd is
-  top_fit (f ∷ fs) is = is.0
-
-  top_named : (fs : List ℕ) → IsStack s fs → 1 ≤ times (first_of_stack fs) fs
-  top_named [] is = absurd is
-  top_named (f ∷ fs) is = times_first f fs
-
-  own_stack : IsStack s (thread_of s c).stack
-  own_stack = stack_of (s.frame (s.core c).thread) own_thread (h.objects (s.core c).thread)
-
-  abbrev pub own_comp : ℕ
-  own_comp = first_of_stack (thread_of s c).stack
-
-  pub comp_guarded : IsGuarded s c own_comp
-  comp_guarded = inl (object_named s o (s.core c).thread own_comp h
-      (subst (λ l. 1 ≤ times own_comp l) (sym (names_of (s.frame (s.core c).thread) own_thread)) (top_named (thread_of s c).stack own_stack)))
-
-  comp_is : (x : Frame) → IsTrue (fits kind.Comp x) → (x ≡ Kernel (Comp (comp_in x))) × IsTrue (is_fixed x)
-  comp_is (Kernel (Comp k)) fit = (refl, refl)
-  comp_is _ fit = absurd (false≢true fit)
-
-  pub comp_fixed : IsTrue (is_fixed (s.frame own_comp))
-  comp_fixed = (comp_is (s.frame own_comp) (top_fit (thread_of s c).stack own_stack)).1
+  pub comp_fixed : IsTrue (is_fixed (s.frame (own_comp s c)))
+  comp_fixed = (comp_is (s.frame (own_comp s c)) (comp_fit s o c h below)).1
 
   fields : IsTrue (fits kind.Table (s.frame (comp_of s c).table)) × IsTrue (fits kind.Pages (s.frame (comp_of s c).pages))
-  fields = subst (IsObjectGood s) (comp_is (s.frame own_comp) (top_fit (thread_of s c).stack own_stack)).0 (h.objects own_comp)
+  fields = subst (IsObjectGood s) (comp_is (s.frame (own_comp s c)) (comp_fit s o c h below)).0 (h.objects (own_comp s c))
 
-  field_names : frame_names (s.frame own_comp) ≡ (comp_of s c).table ∷ (comp_of s c).pages ∷ []
-  field_names = ap frame_names (comp_is (s.frame own_comp) (top_fit (thread_of s c).stack own_stack)).0
+  field_names : frame_names (s.frame (own_comp s c)) ≡ (comp_of s c).table ∷ (comp_of s c).pages ∷ []
+  field_names = ap frame_names (comp_is (s.frame (own_comp s c)) (comp_fit s o c h below)).0
 
   pub table_relies : Relies s c (comp_of s c).table
   table_relies = record {
     node = node_fit kind.Table (s.frame (comp_of s c).table) refl fields.0;
-    guarded = inl (object_named s o own_comp (comp_of s c).table h
+    guarded = inl (object_named s o (own_comp s c) (comp_of s c).table h
         (subst (λ l. 1 ≤ times (comp_of s c).table l) (sym field_names) (times_first (comp_of s c).table ((comp_of s c).pages ∷ []))));
   }
 
   pub pages_relies : Relies s c (comp_of s c).pages
   pages_relies = record {
     node = node_fit kind.Pages (s.frame (comp_of s c).pages) refl fields.1;
-    guarded = inl (object_named s o own_comp (comp_of s c).pages h
+    guarded = inl (object_named s o (own_comp s c) (comp_of s c).pages h
         (subst (λ l. 1 ≤ times (comp_of s c).pages l) (sym field_names)
         (let p = times_cons (comp_of s c).pages (comp_of s c).table ((comp_of s c).pages ∷ []) in let q = times_first (comp_of s c).pages [] in omega (arith, p, q))));
   }
@@ -231,6 +243,25 @@ name_from s c n wanted at j k r u f =
     ap (λ x. and_then (or_refuse x reply.NoSlot) λ at. and_then (or_refuse (usable s c at) reply.Empty) λ k. of_kind wanted k) r
     ∙ ap (λ x. and_then (or_refuse x reply.Empty) λ k. of_kind wanted k) u ∙ f
 
+-- What is a core's own stays through another core's change, whether it is in a call or not.
+pub record OwnStay (s t : State) (c : ℕ) : Type 0 where
+  pub core : t.core c ≡ s.core c
+  pub thread : thread_of t c ≡ thread_of s c
+  pub comp : comp_of t c ≡ comp_of s c
+
+pub own_by : (s t : State) (o : ℕ → Bool) (d c : ℕ) → IsSound s o → c < s.limits.cores → c ≢ d → SparesAll s t o d → OwnStay s t c
+own_by s t o d c h below other a = record { core = core; thread = thread; comp = comp }
+  where
+    core : t.core c ≡ s.core c
+    core = a.spares.core c other
+
+    thread : thread_of t c ≡ thread_of s c
+    thread = ap (λ (x : Core). thread_in (t.frame x.thread)) core ∙ ap thread_in (a.spares.thread c other below)
+
+    comp : comp_of t c ≡ comp_of s c
+    comp = ap (λ x. comp_in (t.frame (first_of_stack x.stack))) thread
+        ∙ ap comp_in (a.spares.named (own_comp s c) (comp_is (s.frame (own_comp s c)) (comp_fit s o c h below)).1 (comp_named s o c h below))
+
 -- What another core's change spares stays.
 pub stay_by : (s t : State) (o : ℕ → Bool) (d c : ℕ) → IsSound s o → o c ≡ true → c ≢ d → SparesAll s t o d → Stay s t c
 stay_by s t o d c h q other a = record {
@@ -250,15 +281,17 @@ stay_by s t o d c h q other a = record {
       (stays p.0 p.2 (reached_relies s o c h q (root_at (comp_of s c).table) n p.0 p.1) p.3) p.4;
 }
   where
+    own_stay : OwnStay s t c
+    own_stay = own_by s t o d c h (h.inside c q).1 other a
+
     core : t.core c ≡ s.core c
-    core = a.spares.core c other
+    core = own_stay.core
 
     thread : thread_of t c ≡ thread_of s c
-    thread = ap (λ (x : Core). thread_in (t.frame x.thread)) core ∙ ap thread_in (a.spares.thread c other (h.inside c q).1)
+    thread = own_stay.thread
 
     comp : comp_of t c ≡ comp_of s c
-    comp = ap (λ x. comp_in (t.frame (first_of_stack x.stack))) thread
-        ∙ ap comp_in (a.spares.frame c (own_comp s o c h q) other q (comp_fixed s o c h q) (comp_guarded s o c h q))
+    comp = own_stay.comp
 
     stays : (at : Slot) (k : Capability) → Relies s c at.node → usable s c at ≡ Some k → usable t c at ≡ Some k
     stays at k r e = a.spares.place c at.node at.index k other q r.node e
@@ -274,3 +307,9 @@ pub event_stay : (setting : Setting) → IsSetting setting → (e : Event) (even
 event_stay setting lim e events run c other is =
     stay_by (after setting events) (after setting (e ∷ events)) (opened events) (core_of e) c (runs_sound setting lim events run.0) (ap is_open is) other
     (event_spares setting lim e events run)
+
+pub event_own : (setting : Setting) → IsSetting setting → (e : Event) (events : List Event) → IsRun setting (e ∷ events)
+    → (c : ℕ) → c < setting.cores → c ≢ core_of e → OwnStay (after setting events) (after setting (e ∷ events)) c
+event_own setting lim e events run c below other =
+    own_by (after setting events) (after setting (e ∷ events)) (opened events) (core_of e) c (runs_sound setting lim events run.0)
+    (subst (λ l. c < l.cores) (sym (limits_stay setting events)) below) other (event_spares setting lim e events run)

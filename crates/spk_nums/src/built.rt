@@ -9,9 +9,5 @@ use crate::calls::Call;
 pub fn is_built(call: &Call) -> bool
     ensures { IsTrue result ↔ IsBuilt call.now }
 {
-    match call {
-        Call::Look { a } => a.number() < 64,
-        Call::Copy { a, t, b } => a.number() < 64 && t.number() == 1 && b.number() < 64,
-        _ => false,
-    }
+    matches!(call, Call::Look { .. } | Call::Copy { .. })
 }
