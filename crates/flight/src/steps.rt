@@ -278,10 +278,9 @@ fn took_second(first: Cap, call: &Call, value: &Entry) -> Took
     ensures { result ≡ took_second first call.now value.now }
 {
     match value {
-        Entry::Free => decide(&Reply::Empty),
         Entry::Held(second) => second_held(first, *second, call),
         Entry::Closing { by } => decide(&Reply::Busy(*by)),
-        Entry::Quiescing { stamp: _ } => decide(&Reply::Empty),
+        _ => decide(&Reply::Empty),
     }
 }
 
