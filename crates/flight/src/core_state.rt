@@ -145,6 +145,14 @@ impl CoreState {
         });
     }
 
+    /// The layout of the core's machine.
+    #[inline]
+    pub fn layout(&self) -> &Layout
+        ensures { result.now ≡ self.now.shape }
+    {
+        &self.layout
+    }
+
     /// Whether a call is in flight.
     #[inline]
     pub fn in_call(&self) -> bool
