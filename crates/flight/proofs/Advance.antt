@@ -104,7 +104,7 @@ module _ (setup : Setting) (setting : IsSetting setup) (cores : ℕ → Core) (t
   leave_good call steps r x flight fits = leaves_on setup setting cores t stands c here (at_stage call steps (Leave r x)) flight (last_left setup t (CoreAt c)) r x refl refl fits
 
   -- a further step of a call, by its stage
-  stage_good : (call : Call) (steps : ℕ) (stage : Stage) → (cores c).flight ≡ Some (at_stage call steps stage) → Knows setup t c (cores c).table call stage → StageGood call steps stage
+  pub stage_good : (call : Call) (steps : ℕ) (stage : Stage) → (cores c).flight ≡ Some (at_stage call steps stage) → Knows setup t c (cores c).table call stage → StageGood call steps stage
   stage_good call steps Enter flight knows = absurd knows
   stage_good call steps (Looking want (AtRoot root number)) flight knows = looks_good call steps want (AtRoot root number) flight knows
   stage_good call steps (Looking want (AtLeaf leaf number)) flight knows = looks_good call steps want (AtLeaf leaf number) flight knows

@@ -14,6 +14,7 @@ pub mod Findings
 pub mod LookLeaves
 pub mod CopyLeaves
 pub mod FillLeaves
+pub mod Entries
 pub mod Boot
 pub mod Advance
 pub mod Final
