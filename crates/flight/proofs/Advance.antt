@@ -32,11 +32,14 @@ use Rattle.stage_look.specs.declared.look.Look.{Look}
 use Rattle.stage_look.specs.declared.look.Look.TheVariants.{AtRoot, AtLeaf, AtEntry}
 use Rattle.flight.specs.View.{Core}
 use Rattle.flight.specs.Stages.{core_word, stage_move, stage_took, stamp_if, stamp_of, decide, looks, first_name, took_enter}
-use Rattle.flight.specs.Steps.{fresh, landed, told, is_spent, took_by, begun, absorbed, move_of}
+use Rattle.flight.specs.Steps.{fresh, landed, told, told_in, is_spent, took_by, begun, absorbed_in, move_in}
 use Rattle.flight.specs.Fits.{IsCore}
 use Rattle.flight.specs.Knows.{Knows, KnowsFirst, KnowsSecond, KnowsTarget, KnowsFill, KnowsLook, phase_at, FlightIs}
 use Rattle.flight.specs.Stands.{Stands}
-use Rattle.flight.proofs.Good.{IsGood}
+use Rattle.flight.specs.Theorems.{MayBegin, decided_in, returned_in, step_at, step_of, core_after, StepsOn}
+use Rattle.flight.proofs.CoreFits.{took_fits, landed_fits, begun_fits}
+use Rattle.flight.proofs.Entries.{enter_good}
+use Rattle.flight.proofs.Good.{stands_on}
 use Rattle.flight.proofs.Loads.{step_to, core_is, flight_is, is_flight, loads_on}
 use Rattle.flight.proofs.Writes.{clock_small, leaves_on}
 use Rattle.flight.proofs.Refusals.{step_with, GoodTook}
@@ -93,11 +96,11 @@ module _ (setup : Setting) (setting : IsSetting setup) (cores : ℕ → Core) (t
       loads fits =
           let e : Step = step_to c None ClockAt (clock setup t) (clock setup t) None None in
           loads_on setup setting cores t stands c here (at_stage call steps (Exit r)) flight ClockAt (clock setup t) (Leave r (clock setup t)) refl (λ d. refl) fits refl refl
-          (record {
+          (λ carries. record {
             seen = clock_seen-own c e t refl;
             some = stands.some_time;
             low = omega arith;
-            stays = λ x old. absurd (let p = (stands.graces x).past in omega arith);
+            stays = λ x old. (let p = (stands.graces x).past in absurd (omega arith));
           })
 
   leave_good : (call : Call) (steps : ℕ) (r : Reply) (x : ℕ) → (cores c).flight ≡ Some (at_stage call steps (Leave r x)) → StageGood call steps (Leave r x)
@@ -112,3 +115,70 @@ module _ (setup : Setting) (setting : IsSetting setup) (cores : ℕ → Core) (t
   stage_good call steps (Fill node index word k) flight knows = fill_good call steps node index word k flight knows
   stage_good call steps (Exit r) flight knows = exit_good call steps r flight
   stage_good call steps (Leave r x) flight knows = leave_good call steps r x flight
+
+  -- the step of a call in flight
+  next_on : (f : InFlight) → (cores c).flight ≡ Some f → Knows setup t c (cores c).table f.call f.stage
+      → Stands setup (put cores c (absorbed_in (cores c) (Some f) (told_of (move_in (cores c) (Some f)) (last_left setup t (word_of (move_in (cores c) (Some f)))))))
+          (step_at c None (move_in (cores c) (Some f)) (last_left setup t (word_of (move_in (cores c) (Some f))))
+          (told_in (cores c) (Some f) (told_of (move_in (cores c) (Some f)) (last_left setup t (word_of (move_in (cores c) (Some f)))))) ∷ t)
+  next_on f flight knows = at_core (cores c).core (cores c).shape.frames (stands.each c here).number (ap (λ s. s.frames) (stands.each c here).shape)
+      (landed_fits (cores c) f (took_by (cores c) f (told_of (move_in (cores c) (Some f)) (last_left setup t (word_of (move_in (cores c) (Some f))))))
+      (stands.each c here).fits (is_flight setup setting cores t stands c here f flight)
+      (took_fits (cores c) f (told_of (move_in (cores c) (Some f)) (last_left setup t (word_of (move_in (cores c) (Some f))))) (stands.each c here).fits (is_flight setup setting cores t stands c here f flight)))
+    where
+      Taken : ℕ → ℕ → Took
+      Taken m n = stage_took (cores c).table n (is_spent (cores c)) f.call f.stage
+          (told_of (stage_move m (cores c).exit f.stage) (last_left setup t (word_of (stage_move m (cores c).exit f.stage))))
+
+      Goal : ℕ → ℕ → Type 0
+      Goal m n = IsCore (landed (cores c) f (Taken m n))
+          → Stands setup (put cores c (landed (cores c) f (Taken m n)))
+              (step_at c None (stage_move m (cores c).exit f.stage) (last_left setup t (word_of (stage_move m (cores c).exit f.stage))) (told (Taken m n)) ∷ t)
+
+      base : Goal c setup.frames
+      base fits = stands_on setup setting cores t stands
+          (step_with c (word_of (stage_move c (cores c).exit f.stage)) (last_left setup t (word_of (stage_move c (cores c).exit f.stage)))
+          (left_of (stage_move c (cores c).exit f.stage) (last_left setup t (word_of (stage_move c (cores c).exit f.stage)))) (Taken c setup.frames))
+          (landed (cores c) f (Taken c setup.frames)) (stage_good f.call f.steps f.stage flight knows fits)
+
+      at_core : (m n : ℕ) → m ≡ c → n ≡ setup.frames → Goal m n
+      at_core m n ms ns = subst (λ (m : ℕ). Goal m n) (sym ms) (subst (λ (n : ℕ). Goal c n) (sym ns) base)
+
+  -- a step that begins a call
+  first_on : (call : Call) (may : MayBegin call (cores c))
+      → Stands setup (put cores c (core_after setup t (begun (cores c) call))) (step_of setup t c (Some call) (begun (cores c) call) ∷ t)
+  first_on call may = at_core (cores c).core (stands.each c here).number
+    where
+      took : Took
+      took = took_enter (cores c).table call (is_spent (cores c))
+
+      fits : IsCore (landed (begun (cores c) call) (fresh call) took)
+      fits =
+          let was : IsCore (begun (cores c) call) = begun_fits (cores c) call (stands.each c here).fits may.limits may.built in
+          landed_fits (begun (cores c) call) (fresh call) took was was.flight (took_fits (begun (cores c) call) (fresh call) 0 was was.flight)
+
+      Goal : ℕ → Type 0
+      Goal m = Stands setup (put cores c (landed (begun (cores c) call) (fresh call) took))
+          (step_at c (Some call) (stage_move m (cores c).exit Enter) (last_left setup t (word_of (stage_move m (cores c).exit Enter))) (told took) ∷ t)
+
+      base : Goal c
+      base = stands_on setup setting cores t stands
+          (step_to c (Some call) (CoreAt c) (last_left setup t (CoreAt c)) (core_word true (cores c).exit) (decided_in (told took)) (returned_in (told took)))
+          (landed (begun (cores c) call) (fresh call) took) (enter_good setup setting cores t stands c here call may fits)
+
+      at_core : (m : ℕ) → m ≡ c → Goal m
+      at_core m ms = subst Goal (sym ms) base
+
+-- the turn of a core
+in_flight : (setup : Setting) (t : Trace) (c table : ℕ) (o : Option InFlight) → FlightIs setup t c table o → IsSome o
+    → (f : InFlight) × (o ≡ Some f) × Knows setup t c table f.call f.stage
+in_flight setup t c table None is some = absurd (false≢true some)
+in_flight setup t c table (Some f) is some = (f, refl, is.knows)
+
+pub steps_on : StepsOn
+steps_on setup setting cores t stands c here None may =
+    let f = in_flight setup t c (cores c).table (cores c).flight (stands.each c here).flight may in
+    subst (λ o. Stands setup (put cores c (absorbed_in (cores c) o (told_of (move_in (cores c) o) (last_left setup t (word_of (move_in (cores c) o))))))
+        (step_at c None (move_in (cores c) o) (last_left setup t (word_of (move_in (cores c) o))) (told_in (cores c) o (told_of (move_in (cores c) o) (last_left setup t (word_of (move_in (cores c) o))))) ∷ t))
+    (sym f.1) (next_on setup setting cores t stands c here f.0 f.1 f.2)
+steps_on setup setting cores t stands c here (Some call) may = first_on setup setting cores t stands c here call may

@@ -15,35 +15,21 @@ use Rattle.seq_state.proofs.Facts.{some_inj, none_some}
 use Rattle.seq_state.proofs.Relies.{Relies}
 use Rattle.kernel_history.specs.Trace.{Step, Trace, Open, phase, state_after, own_left}
 use Rattle.kernel_history.specs.Justified.{HasReached}
-use Rattle.kernel_history.specs.Legal.{MayFollow, IsLegal}
+use Rattle.kernel_history.specs.Legal.{IsLegal}
 use Rattle.kernel_history.proofs.Names.{cases_word}
-use Rattle.kernel_history.proofs.Steps.{own_left-other, own_left-here, own_left-there}
-use Rattle.kernel_history.proofs.Stays.{Stays, stays_other, stays_plain, relies_reached}
+use Rattle.kernel_history.proofs.Steps.{own_left-here, own_left-there}
+use Rattle.kernel_history.proofs.Stays.{relies_reached}
+use Rattle.kernel_history.proofs.Carries.{Carries}
 use Rattle.flight.specs.declared.stages.Want.{Want}
 use Rattle.flight.specs.declared.stages.Want.TheVariants.{First, Second, Target as target_want}
 use Rattle.flight.specs.Knows.{IsReached, HasFound, IsAtLeaf, LookIs, LooksUp, KnowsFirst, KnowsSecond, HasNames, KnowsTarget, KnowsLook, KnowsFill}
 
--- What core c keeps with the step e: what it has and relies on, and that it has stepped on words.
-pub record Carries (setup : Setting) (t : Trace) (e : Step) (c : ℕ) : Type 0 where
-  pub own : (w : Word) → IsSome (own_left t c w) → IsSome (own_left (e ∷ t) c w)
-  pub stay : Stays setup t e c
-
--- through a step of another core, and through an own one without event
-pub carries_other : (setup : Setting) → IsSetting setup → (t : Trace) → IsLegal setup t → (e : Step) → MayFollow setup t e
-    → (c : ℕ) → c ≢ e.core → (call : Call) → phase t c ≡ Open call → Carries setup t e c
-carries_other setup setting t legal e follows c other call is = record {
-  own = λ w had. subst IsSome (sym (own_left-other c e t other w)) had;
-  stay = stays_other setup setting t legal e follows c other call is;
-}
-
+-- The words on which a call has stepped, after a step of it.
 pub own_kept : (t : Trace) (e : Step) (c : ℕ) → c ≡ e.core → e.enters ≡ None → (w : Word) → IsSome (own_left t c w) → IsSome (own_left (e ∷ t) c w)
 own_kept t e c own no_entry w had = elim (cases_word w e.word) [
   | inl at ↦ ap is_some (own_left-here c e t own w at)
   | inr there ↦ ap is_some (own_left-there c e t own w there ∙ ap (λ o. cond (is_some o) None (own_left t c w)) no_entry) ∙ had
 ]
-
-pub carries_plain : (setup : Setting) (t : Trace) (e : Step) (c : ℕ) → c ≡ e.core → e.enters ≡ None → e.decides ≡ None → e.returns ≡ None → Carries setup t e c
-carries_plain setup t e c own no_entry no_decision no_return = record { own = own_kept t e c own no_entry; stay = stays_plain setup t e c no_entry no_decision no_return }
 
 -- The node of the slot that a target reaches.
 pub slot_relies : (setup : Setting) → IsSetting setup → (t : Trace) → IsLegal setup t → (c : ℕ) (call : Call) → phase t c ≡ Open call
@@ -61,12 +47,12 @@ module _ (setup : Setting) (setting : IsSetting setup) (t : Trace) (e : Step) (l
   slots_on slots had = λ k at h. carries.own _ (had k at h)
 
   reached_by : (target : Target) (at : Slot) → IsReached setup t c target at → reached (state_after setup (e ∷ t)) c target ≡ Some at
-  reached_by (Under table n) at way = carries.stay.reached table n at way.relies way.reached
+  reached_by (Under table n) at way = carries.stays.reached table n at way.relies way.reached
   reached_by (InRoot table i) at way = way.reached
 
   pub reached_on : (target : Target) (at : Slot) → IsReached setup t c target at → IsReached setup (e ∷ t) c target at
   reached_on target at way = record {
-    relies = carries.stay.relies _ way.relies;
+    relies = carries.stays.relies _ way.relies;
     reached = reached_by target at way;
     stepped = slots_on _ way.stepped;
   }
@@ -75,7 +61,7 @@ module _ (setup : Setting) (setting : IsSetting setup) (t : Trace) (e : Step) (l
   found_on target wanted k has = record {
     at = has.at;
     way = reached_on target has.at has.way;
-    usable = carries.stay.usable has.at k (slot_relies setup setting t legal c call is_open target has.at has.way) has.usable;
+    usable = carries.stays.usable has.at k (slot_relies setup setting t legal c call is_open target has.at has.way) has.usable;
     kind = has.kind;
     fits = has.fits;
   }
@@ -86,7 +72,7 @@ module _ (setup : Setting) (setting : IsSetting setup) (t : Trace) (e : Step) (l
     where
       by_cases : (o : Option Capability) → usable (state_after setup t) c at ≡ o → linked o ≡ Some leaf → linked (usable (state_after setup (e ∷ t)) c at) ≡ Some leaf
       by_cases None is h = absurd (cc)
-      by_cases (Some k) is h = ap linked (carries.stay.usable at k node is) ∙ h
+      by_cases (Some k) is h = ap linked (carries.stays.usable at k node is) ∙ h
 
   look_on : (target : Target) (look : Look) → LooksUp setup t c target look → LookIs setup (e ∷ t) c target look
   look_on (Under table n) (AtRoot root number) looks = looks.at
@@ -103,7 +89,7 @@ module _ (setup : Setting) (setting : IsSetting setup) (t : Trace) (e : Step) (l
   look_on (InRoot table i) (AtEntry root index) looks = looks.at
 
   pub looks_on : (target : Target) (look : Look) → LooksUp setup t c target look → LooksUp setup (e ∷ t) c target look
-  looks_on target look looks = record { relies = carries.stay.relies _ looks.relies; at = look_on target look looks }
+  looks_on target look looks = record { relies = carries.stays.relies _ looks.relies; at = look_on target look looks }
 
   pub names_on : (table a u : ℕ) (k j : Capability) → HasNames setup t c table a u k j → HasNames setup (e ∷ t) c table a u k j
   names_on table a u k j has = record { first = found_on _ _ k has.first; second = found_on _ _ j has.second }

@@ -40,11 +40,12 @@ use Rattle.flight.specs.Holding.{nothing}
 use Rattle.flight.specs.Stages.{decide, looks, is_table, looks_in, took_look, took_found}
 use Rattle.flight.specs.Knows.{IsReached, HasFound, LooksUp, own_in, Knows, phase_at}
 use Rattle.flight.specs.Stands.{holds_at, Stands}
-use Rattle.flight.proofs.Carries.{Carries, own_kept, found_on, names_on}
+use Rattle.kernel_history.proofs.Carries.{Carries}
+use Rattle.flight.proofs.Carries.{found_on, names_on}
 use Rattle.flight.proofs.Loads.{step_to, core_is, flight_is, is_flight, loads_on, decides_on}
 use Rattle.flight.proofs.Refusals.{GoodTook, not_spent, refuses_no_slot, refuses_empty, refuses_wrong, refuses_occupied}
 use Rattle.flight.proofs.Lookups.{Shows, ShowsHeld, Arrives, slot_left, slot_right, under_step}
-use Rattle.flight.proofs.Findings.{own_is, past_slot, reaches_none, reaches_held, reaches_other, use_held, named_of, found_named, way_gone, gone_with, arriving, carries_arriving, reached_now, found_now}
+use Rattle.flight.proofs.Findings.{own_is, past_slot, reaches_none, reaches_held, reaches_other, use_held, named_of, found_named, way_gone, gone_with, arriving, reached_now, found_now}
 use Rattle.spk_nums.specs.declared.kinds.Kind.TheVariants.{Table}
 use Rattle.seq_state.specs.Rules.{slot_of}
 use Rattle.seq_state.proofs.Relies.{Relies}
@@ -80,7 +81,7 @@ module _ (setup : Setting) (setting : IsSetting setup) (cores : ℕ → Core) (t
         → (within : Bool) → nat_le u 4095 ≡ within → TakesFirst at (looks within (Second k) (cores c).table u)
     first_next at k arrives shows true is =
         goes_at setup setting cores t stands c here (Copy a u b) steps First look flight at (own_in (cores c).table a) (Looking (Second k) (AtRoot (cores c).table u)) arrives refl refl
-        (record {
+        (λ carries. record {
           name = found_now setup t c (own_in (cores c).table a) at (last_left setup t (EntryAt at.node at.index)) arrives any k shows.holds refl shows.fits;
           looks = record { relies = arrives.relies; at = record { found = refl; frame = refl; same = refl; within = leb-true u 4095 is } };
         })
@@ -121,10 +122,10 @@ module _ (setup : Setting) (setting : IsSetting setup) (cores : ℕ → Core) (t
     second_looks at j arrives shows wanted true is =
         let e : Step = arriving setup t c (own_in (cores c).table u) at (last_left setup t (EntryAt at.node at.index)) arrives in
         goes_at setup setting cores t stands c here (Copy a u b) steps (Second k) look flight at (own_in (cores c).table u) (Looking (target_want k) (AtRoot j.frame b)) arrives refl refl
-        (record {
+        (λ carries. record {
           root = j;
           names = record {
-            first = found_on setup setting t e stands.legal c (Copy a u b) second_open (carries_arriving setup t c (own_in (cores c).table u) at (last_left setup t (EntryAt at.node at.index)) arrives) _ any k first;
+            first = found_on setup setting t e stands.legal c (Copy a u b) second_open carries _ any k first;
             second = found_now setup t c (own_in (cores c).table u) at (last_left setup t (EntryAt at.node at.index)) arrives (only kind.Table) j shows.holds (sym (table_kind j.kind) ∙ wanted) shows.fits;
           };
           looks = record {
@@ -180,9 +181,8 @@ module _ (setup : Setting) (setting : IsSetting setup) (cores : ℕ → Core) (t
         → TakesTarget at (took_found (cores c).table (Copy a u b) (target_want k) (found_at at.node at.index (last_left setup t (EntryAt at.node at.index)) v))
     target_done at Free arrives reads shows =
         let e : Step = arriving setup t c (Under (found j) b) at (last_left setup t (EntryAt at.node at.index)) arrives in
-        let carries = carries_arriving setup t c (Under (found j) b) at (last_left setup t (EntryAt at.node at.index)) arrives in
         goes_at setup setting cores t stands c here (Copy a u b) steps (target_want k) look flight at (Under (found j) b) (Fill at.node at.index (last_left setup t (EntryAt at.node at.index)) k) arrives refl refl
-        (record {
+        (λ carries. record {
           root = j;
           names = names_on setup setting t e stands.legal c (Copy a u b) target_open carries (cores c).table a u k j names;
           way = reached_now setup t c (Under (found j) b) at (last_left setup t (EntryAt at.node at.index)) arrives;

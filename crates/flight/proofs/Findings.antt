@@ -18,7 +18,7 @@ use Rattle.kernel_history.specs.Ways.{root_passed, way_to}
 use Rattle.kernel_history.specs.Justified.{HasReached}
 use Rattle.kernel_history.proofs.Steps.{own_left-here}
 use Rattle.flight.specs.Knows.{IsReached, HasFound, own_in}
-use Rattle.flight.proofs.Carries.{Carries, carries_plain}
+use Rattle.flight.proofs.Carries.{own_kept}
 use Rattle.flight.proofs.Loads.{step_to}
 use Rattle.flight.proofs.Lookups.{ShowsHeld, Arrives}
 
@@ -83,14 +83,11 @@ module _ (setup : Setting) (t : Trace) (c : ℕ) (target : Target) (at : Slot) (
   abbrev pub arriving : Step
   arriving = step_to c None (EntryAt at.node at.index) found found None None
 
-  pub carries_arriving : Carries setup t arriving c
-  carries_arriving = carries_plain setup t arriving c refl refl refl refl
-
   pub reached_now : IsReached setup (arriving ∷ t) c target at
   reached_now = record {
     relies = arrives.relies;
     reached = arrives.reached;
-    stepped = gone_with setup t c target at arriving refl refl carries_arriving.own arrives;
+    stepped = gone_with setup t c target at arriving refl refl (own_kept t arriving c refl refl) arrives;
   }
 
   pub found_now : (wanted : Kind → Bool) (k : Capability) → place_at (state_after setup t) at ≡ Holds k → wanted k.kind ≡ true → EntryFits (Held k)

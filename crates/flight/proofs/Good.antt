@@ -10,30 +10,28 @@ use Rattle.seq_state.proofs.Within.{put_same, put_other}
 use Rattle.kernel_history.specs.Trace.{Step, Trace, Out, Open, phase, state_after, own_left}
 use Rattle.kernel_history.specs.Bounds.{IsWithin}
 use Rattle.kernel_history.specs.Legal.{MayFollow, IsLegal}
-use Rattle.kernel_history.specs.Stamps.{clock}
+use Rattle.kernel_history.specs.Stamps.{is_in, clock}
 use Rattle.kernel_history.proofs.Steps.{phase-other, calls_of-other, steps_in_call-other, own_left-other, exit_of-other, flush_of-other, flush_stored-other}
-use Rattle.kernel_history.proofs.Graces.{TimesAre, KeepsTime, LeavesBy, IsLeave}
-use Rattle.kernel_history.proofs.Statements.{GraceGoesOn, TimesGoOn}
+use Rattle.kernel_history.proofs.Graces.{KeepsTime, LeavesBy}
+use Rattle.kernel_history.proofs.Inside.{inside_is}
+use Rattle.kernel_history.proofs.GraceSteps.{grace_on, times_on}
+use Rattle.kernel_history.proofs.Waiting.{leave_on}
+use Rattle.kernel_history.proofs.Carries.{Carries, carries_other}
 use Rattle.flight.specs.declared.stages.Stage.{Stage}
 use Rattle.flight.specs.declared.stages.Stage.TheVariants.{Enter, Looking, Fill, Exit, Leave}
 use Rattle.flight.specs.declared.stages.InFlight.{InFlight}
 use Rattle.flight.specs.View.{Core}
 use Rattle.flight.specs.Holding.{settled, MarkIs}
 use Rattle.flight.specs.Words.{WordIs}
-use Rattle.flight.specs.Knows.{FlightIs, InFlightIs, Knows, WorksIn, CoreIs}
+use Rattle.flight.specs.Knows.{phase_at, FlightIs, InFlightIs, Knows, WorksIn, CoreIs}
 use Rattle.flight.specs.Stands.{held_by, times_of, counted_in, Stands}
-use Rattle.flight.proofs.Carries.{Carries, carries_other, look_knows_on, fill_on}
+use Rattle.flight.proofs.Carries.{look_knows_on, fill_on}
 
 -- Where another core works stays.
 pub record WorksOn (setup : Setting) (t : Trace) (e : Step) (d : ℕ) : Type 0 where
   pub core : (state_after setup (e ∷ t)).core d ≡ (state_after setup t).core d
   pub thread : thread_of (state_after setup (e ∷ t)) d ≡ thread_of (state_after setup t) d
   pub comp : comp_of (state_after setup (e ∷ t)) d ≡ comp_of (state_after setup t) d
-
--- A core that is leaving goes on leaving through a step of another core.
-abbrev pub LeaveGoesOn : Type 0
-LeaveGoesOn = (setup : Setting) (t : Trace) (e : Step) → KeepsTime setup t e → (c v : ℕ) → c ≢ e.core → ((state_after setup t).core c).inside ≡ Rattle.std.proofs.Common.true
-    → ((x : Thing) → Rattle.kernel_history.proofs.Graces.GraceIs setup t x) → IsLeave setup t c v → IsLeave setup (e ∷ t) c v
 
 -- A good step: it may follow, keeps its call's bound, and leaves marks, words, time and its own core as they are to be.
 pub record IsGood (setup : Setting) (cores : ℕ → Core) (t : Trace) (e : Step) (after : Core) : Type 0 where
@@ -62,21 +60,20 @@ works_on setup t e core c on is = record {
   made = is.made ∙ ap (λ k. k.counted) (sym on.core);
 }
 
-module _ (grace_on : GraceGoesOn) (times_on : TimesGoOn) (leave_on : LeaveGoesOn)
-    (setup : Setting) (setting : IsSetting setup) (cores : ℕ → Core) (t : Trace) (stands : Stands setup cores t) (e : Step) where
-  open_carries : MayFollow setup t e → (c : ℕ) (call : Call) → c ≢ e.core → phase t c ≡ Open call → Carries setup t e c
-  open_carries follows c call other is = carries_other setup setting t stands.legal e follows c other call is
+module _ (setup : Setting) (setting : IsSetting setup) (cores : ℕ → Core) (t : Trace) (stands : Stands setup cores t) (e : Step) where
+  open_carries : MayFollow setup t e → KeepsTime setup t e → (c : ℕ) (call : Call) → c ≢ e.core → phase t c ≡ Open call → Carries setup t e c
+  open_carries follows time c call other is = carries_other setup setting t stands.legal e follows time stands.graces c other call is
 
   knows_other : MayFollow setup t e → KeepsTime setup t e → (c table : ℕ) (f : InFlight) → c ≢ e.core → (stage : Stage) → f.stage ≡ stage
-      → phase t c ≡ Rattle.flight.specs.Knows.phase_at f.call stage → Knows setup t c table f.call stage → Knows setup (e ∷ t) c table f.call stage
+      → phase t c ≡ phase_at f.call stage → Knows setup t c table f.call stage → Knows setup (e ∷ t) c table f.call stage
   knows_other follows time c table f other Enter is at has = has
   knows_other follows time c table f other (Looking want look) is at has =
-      look_knows_on setup setting t e stands.legal c f.call at (open_carries follows c f.call other at) table f.call want look has
+      look_knows_on setup setting t e stands.legal c f.call at (open_carries follows time c f.call other at) table f.call want look has
   knows_other follows time c table f other (Fill node index word k) is at has =
-      fill_on setup setting t e stands.legal c f.call at (open_carries follows c f.call other at) table f.call node index word k (own_left-other c e t other (EntryAt node index)) has
+      fill_on setup setting t e stands.legal c f.call at (open_carries follows time c f.call other at) table f.call node index word k (own_left-other c e t other (EntryAt node index)) has
   knows_other follows time c table f other (Exit r) is at has = has
   knows_other follows time c table f other (Leave r x) is at has =
-      leave_on setup t e time c x other (Rattle.kernel_history.proofs.Inside.inside_is setup t c ∙ ap Rattle.kernel_history.specs.Stamps.is_in at) stands.graces has
+      leave_on setup t e follows time stands.graces c x other (inside_is setup t c ∙ ap is_in at) has
 
   flight_other : MayFollow setup t e → KeepsTime setup t e → (c table : ℕ) → c ≢ e.core → (o : Option InFlight) → FlightIs setup t c table o → FlightIs setup (e ∷ t) c table o
   flight_other follows time c table other None is = phase-other c e t other ∙ is

@@ -14,6 +14,8 @@ use Rattle.kernel_history.proofs.Inside.{decided-inside}
 use Rattle.kernel_history.specs.Trace.{Step, Trace, Phase, Out, Open, Decided, phase, after_enter, after_decide, after_return, state_after, state_decided_in, last_left, steps_in_call}
 use Rattle.kernel_history.specs.Bounds.{call_in, IsWithin}
 use Rattle.kernel_history.specs.Justified.{IsJustified}
+use Rattle.kernel_history.specs.Legal.{MayFollow}
+use Rattle.kernel_history.proofs.Carries.{Carries, carries_own}
 use Rattle.kernel_history.specs.Stamps.{begins_in, ends_in, flushes_in, clock}
 use Rattle.kernel_history.proofs.Steps.{phase-own, steps_in_call-own}
 use Rattle.flight.specs.declared.stages.Stage.{Stage}
@@ -122,10 +124,10 @@ module _ (setup : Setting) (setting : IsSetting setup) (cores : ℕ → Core) (t
     pub still_holds : (made : ℕ) (stage : Stage) → holds_at stage (cores c).core ≡ holds_at f.stage (cores c).core → holds (core_at (cores c) f made stage) ≡ holds (cores c)
     still_holds made stage same = same ∙ ap (λ o. holds_in o (cores c).core) (sym flight)
 
-  -- An undecided load, after which the call is at this stage.
+  -- An undecided load, after which the call is at this stage; what it knew it still knows.
   pub loads_on : (w : Word) (found : ℕ) (stage : Stage) → found ≡ last_left setup t w → ((d : ℕ) → same_word (FlushAt d) w ≡ false)
       → IsCore (core_at (cores c) f (cores c).made stage) → holds_at stage (cores c).core ≡ holds_at f.stage (cores c).core → phase_at f.call f.stage ≡ phase_at f.call stage
-      → Knows setup (inner w found found None None ∷ t) c (cores c).table f.call stage
+      → (Carries setup t (inner w found found None None) c → Knows setup (inner w found found None None ∷ t) c (cores c).table f.call stage)
       → IsGood setup cores t (inner w found found None None) (core_at (cores c) f (cores c).made stage)
   loads_on w found stage is apart fits same at knows =
       let e : Step = inner w found found None None in
@@ -136,8 +138,9 @@ module _ (setup : Setting) (setting : IsSetting setup) (cores : ℕ → Core) (t
         flushes = refl;
         apart = apart;
         same = load_keeps setup cores t e (core_at (cores c) f (cores c).made stage) still (λ g. refl) is ClockAt;
-      } in record {
-        follows = record { is_core = here; found = is; enters = tt; in_call = in_call; decides = tt; returns = tt };
+      } in
+      let follows : MayFollow setup t e = record { is_core = here; found = is; enters = tt; in_call = in_call; decides = tt; returns = tt } in record {
+        follows = follows;
         within = inner_within w found found None None;
         marks = load_marks setup cores t e (core_at (cores c) f (cores c).made stage) still (λ g. refl) is stands.marks;
         words = load_words setup cores t e (core_at (cores c) f (cores c).made stage) still (λ g. refl) is
@@ -147,7 +150,7 @@ module _ (setup : Setting) (setting : IsSetting setup) (cores : ℕ → Core) (t
         time = plain_time setup t e plain;
         leaves = tt;
         works = calm_works setup t e (calm_same (state_after setup t) c);
-        own = inner_own w found found None None refl plain (cores c).made stage fits (calm_same (state_after setup t) c) core_is.works.made at knows;
+        own = inner_own w found found None None refl plain (cores c).made stage fits (calm_same (state_after setup t) c) core_is.works.made at (knows (carries_own setup t e follows (plain_time setup t e plain) stands.graces refl refl refl));
       }
 
   -- A decision at a load or at a lost compare, which leaves all as it was but counts the call.

@@ -40,11 +40,12 @@ use Rattle.flight.specs.Holding.{nothing}
 use Rattle.flight.specs.Stages.{decide, looks, is_table, looks_in, took_look, took_found}
 use Rattle.flight.specs.Knows.{IsReached, HasFound, LooksUp, own_in, Knows, phase_at}
 use Rattle.flight.specs.Stands.{holds_at, Stands}
-use Rattle.flight.proofs.Carries.{Carries, own_kept, found_on, names_on}
+use Rattle.kernel_history.proofs.Carries.{Carries}
+use Rattle.flight.proofs.Carries.{own_kept}
 use Rattle.flight.proofs.Loads.{step_to, core_is, flight_is, is_flight, loads_on, decides_on}
 use Rattle.flight.proofs.Refusals.{GoodTook, not_spent, refuses_no_slot, refuses_empty, refuses_wrong, refuses_occupied}
 use Rattle.flight.proofs.Lookups.{Shows, ShowsHeld, Arrives, slot_left, slot_right, under_step}
-use Rattle.flight.proofs.Findings.{own_is, past_slot, reaches_none, reaches_held, reaches_other, use_held, named_of, found_named, way_gone, gone_with, arriving, carries_arriving, reached_now, found_now}
+use Rattle.flight.proofs.Findings.{own_is, past_slot, reaches_none, reaches_held, reaches_other, use_held, named_of, found_named, way_gone, gone_with, arriving, reached_now, found_now}
 
 -- A call in flight at a stage.
 abbrev pub at_stage : Call → ℕ → Stage → InFlight
@@ -109,7 +110,9 @@ module _ (setup : Setting) (setting : IsSetting setup) (cores : ℕ → Core) (t
     occupied_at at = refuses_occupied setup setting cores t stands c here (at_stage call steps (Looking want look)) flight refl refl room_is (EntryAt at.node at.index) (last_left setup t (EntryAt at.node at.index)) refl (λ d. refl)
 
     pub goes_at : (at : Slot) (target : Target) (next : Stage) → (arrives : Arrives setup t c target at) → holds_at next (cores c).core ≡ nothing → Open call ≡ phase_at call next
-        → Knows setup (arriving setup t c target at (last_left setup t (EntryAt at.node at.index)) arrives ∷ t) c (cores c).table call next → TakesAt at (Goes next)
+        → (Carries setup t (arriving setup t c target at (last_left setup t (EntryAt at.node at.index)) arrives) c
+            → Knows setup (arriving setup t c target at (last_left setup t (EntryAt at.node at.index)) arrives ∷ t) c (cores c).table call next)
+        → TakesAt at (Goes next)
     goes_at at target next arrives holds_none opens knows fits =
         loads_on setup setting cores t stands c here (at_stage call steps (Looking want look)) flight (EntryAt at.node at.index) (last_left setup t (EntryAt at.node at.index)) next refl (λ d. refl)
         fits holds_none opens knows

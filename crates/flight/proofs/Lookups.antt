@@ -44,7 +44,7 @@ use Rattle.flight.specs.Stages.{decide, took_end, took_look, took_found}
 use Rattle.flight.specs.Words.{PlaceIs}
 use Rattle.flight.specs.Knows.{ReliesOn, IsAtRoot, IsAtLeaf, IsAtEntry, LooksUp, KnowsLook, phase_at}
 use Rattle.flight.specs.Stands.{holds_at, Stands}
-use Rattle.flight.proofs.Carries.{Carries, carries_plain}
+use Rattle.kernel_history.proofs.Carries.{Carries}
 use Rattle.flight.proofs.Loads.{step_to, is_flight, flight_is, loads_on}
 use Rattle.flight.proofs.Places.{IsMarked, IsPlain, place_reads}
 use Rattle.flight.proofs.Refusals.{GoodTook, refuses_no_slot, refuses_busy}
@@ -183,9 +183,8 @@ module _ (setup : Setting) (setting : IsSetting setup) (cores : ℕ → Core) (t
         → GoodTook setup cores t c f (EntryAt g i) (last_left setup t (EntryAt g i)) (last_left setup t (EntryAt g i)) (Goes (Looking want next))
     further g i next looks fits =
         let e : Step = step_to c None (EntryAt g i) (last_left setup t (EntryAt g i)) (last_left setup t (EntryAt g i)) None None in
-        let carries : Carries setup t e c = carries_plain setup t e c refl refl refl refl in
         loads_on setup setting cores t stands c here f flight (EntryAt g i) (last_left setup t (EntryAt g i)) (Looking want next) refl (λ b. refl) fits (sym holds_none)
-        opens (goes e next carries (looks e carries (own_left-here c e t refl (EntryAt g i) refl)))
+        opens (λ carries. goes e next carries (looks e carries (own_left-here c e t refl (EntryAt g i) refl)))
 
 -- Under a number of a table.
 module _ (setup : Setting) (setting : IsSetting setup) (cores : ℕ → Core) (t : Trace) (stands : Stands setup cores t) (c : ℕ) (here : c < setup.cores)
@@ -211,12 +210,12 @@ module _ (setup : Setting) (setting : IsSetting setup) (cores : ℕ → Core) (t
               (took_end (cores c).table f.call want (Rattle.stage_look.specs.Lookup.after_link b table.frame n k.frame) (Rattle.stage_look.specs.Lookup.end_by_link b))
       by_link k shows true is = further setup setting cores t stands c here f flight want (Under table n) is_open no_slot on_way goes done (AtRoot table.frame n) at room table.frame (n / 64) (AtLeaf k.frame n)
           (λ e carries own. record {
-            relies = carries.stay.relies _ looks.relies;
+            relies = carries.stays.relies _ looks.relies;
             at = record {
               found = looks.at.found;
               same = refl;
               within = looks.at.within;
-              link = ap linked (carries.stay.usable (root_slot table.frame n) k looks.relies
+              link = ap linked (carries.stays.usable (root_slot table.frame n) k looks.relies
                   (ap (λ p. usable_in p (((state_after setup t).grace (PlaceOf table.frame (n / 64))).waits c)) shows.holds))
                   ∙ ap (λ b. if b then Some k.frame else None) (sym (link_kind k.kind) ∙ is);
               stepped = ap Rattle.std.specs.Prelude.is_some own;
