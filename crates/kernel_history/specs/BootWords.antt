@@ -14,6 +14,7 @@ use Rattle.frame_words.specs.declared.live_word.LiveWord.{LiveWord}
 use Rattle.frame_words.specs.declared.live_word.LiveWord.TheVariants as live_word
 use Rattle.tcap_words.specs.Head.{word_of_head}
 use Rattle.tcap_words.specs.Thread.{word_of_thread}
+use Rattle.word_map.specs.Places.{Shape}
 use Rattle.word_map.specs.Word.{Word, EntryAt, FrameAt, CountAt, CoreAt, FlushAt, LiveAt, ClockAt}
 use Rattle.seq_state.specs.State.{Place, Free, Holds, Quiescing, ThreadFields, TcapFields, Object, Blank, Table, Leaf, Pages, Pleaf, Comp, Thread, Tcap, Frame, Untyped, User, Kernel, Liveness, Unused, Live, Dead, State}
 use Rattle.seq_state.specs.Start.{start}
@@ -66,3 +67,7 @@ boot_word setup (CoreAt c) = word_of_core (record { inside = false; stamp = 0 })
 boot_word setup (FlushAt c) = word_of_flush (record { stamp = 0 })
 boot_word setup (LiveAt l) = word_of_live (boot_live ((start setup).number l))
 boot_word setup ClockAt = 1
+
+-- The layout of a machine of this setting.
+abbrev pub shape_of : Setting → Shape
+shape_of setup = record { cores = setup.cores; frames = setup.frames }
