@@ -5,3 +5,4 @@ pub mod Idle
 pub mod Sums
 pub mod StartRefs
 pub mod Fillings
+pub mod BootRepresents

@@ -1,10 +1,8 @@
 -- The references to each frame at the start.
-use Rattle.std.proofs.Common.{◌≡◌, ◌≢◌, inl, inr, ℕ, ◌+◌, ◌-◌, ◌*◌, ◌<◌, ◌≤◌, Bool, true, false, refl, sym, ap, ◌∙◌, arith, ◌==◌, nat_lt, List, [], ◌∷◌, Some, None}
+use Rattle.std.proofs.Common.{◌≡◌, ◌≢◌, inl, inr, ℕ, ◌+◌, ◌-◌, ◌*◌, ◌<◌, ◌≤◌, Bool, true, false, refl, sym, ap, ◌∙◌, arith, ◌==◌, nat_lt, [], ◌∷◌}
 use Rattle.std.proofs.lemmas.Bool.{ne_eqb, ltb-true, lt-ltb, cases_eq, cases_lt}
 use Rattle.spk_nums.specs.Setting.{Setting, IsSetting}
-use Rattle.spk_nums.specs.declared.kinds.Kind.TheVariants as kind
-use Rattle.seq_state.specs.State.{Free, Holds, Kernel, Thread, Tcap, Untyped, State}
-use Rattle.seq_state.specs.Start.{start, start_place, start_cap, core_cap, start_frame, start_number, plain_cap, place_with, granted}
+use Rattle.seq_state.specs.Start.{start, start_place, start_cap, core_cap, start_frame, start_number, place_with}
 use Rattle.seq_state.specs.References.{place_names, frame_names, number_names, core_names, sum_below, times, node_refs, refs}
 use Rattle.kernel_history.proofs.Sums.{sum_same, sum_zero, sum_const, sum_both, sum_split, times_append, one_same, one_other, hits, hits_in, hits_out}
 

@@ -1,5 +1,4 @@
 -- What is promised of the words of the machine at the start.
-use Rattle.std.specs.Prelude.{ℕ}
 use Rattle.spk_nums.specs.Setting.{Setting, IsSetting}
 use Rattle.seq_state.specs.Start.{start}
 use Rattle.kernel_history.specs.BootWords.{boot_word}

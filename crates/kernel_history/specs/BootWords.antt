@@ -1,5 +1,5 @@
 -- The words of the machine at the start: those of the start state, where the clock is 1 and every stamp and version is 0.
-use Rattle.std.specs.Prelude.{ℕ, ◌-◌, ◌==◌, false, if◌then◌else◌, length, ℤ, pos, None}
+use Rattle.std.specs.Prelude.{ℕ, ◌-◌, ◌==◌, false, if◌then◌else◌, length, pos, None}
 use Rattle.spk_nums.specs.Setting.{Setting}
 use Rattle.entry_words.specs.declared.entry.Entry.{Entry}
 use Rattle.entry_words.specs.declared.entry.Entry.TheVariants as entry
@@ -16,7 +16,7 @@ use Rattle.tcap_words.specs.Head.{word_of_head}
 use Rattle.tcap_words.specs.Thread.{word_of_thread}
 use Rattle.word_map.specs.Places.{Shape}
 use Rattle.word_map.specs.Word.{Word, EntryAt, FrameAt, CountAt, CoreAt, FlushAt, LiveAt, ClockAt}
-use Rattle.seq_state.specs.State.{Place, Free, Holds, Quiescing, ThreadFields, TcapFields, Object, Blank, Table, Leaf, Pages, Pleaf, Comp, Thread, Tcap, Frame, Untyped, User, Kernel, Liveness, Unused, Live, Dead, State}
+use Rattle.seq_state.specs.State.{Place, Free, Holds, Quiescing, ThreadFields, TcapFields, Object, Blank, Table, Leaf, Pages, Pleaf, Comp, Thread, Tcap, Frame, Untyped, User, Kernel, Liveness, Unused, Live, Dead}
 use Rattle.seq_state.specs.Start.{start}
 use Rattle.seq_state.specs.References.{refs}
 use Rattle.kernel_history.specs.ObjectWords.{frame_value, comp_word, thread_value, stack_word, quality_word}

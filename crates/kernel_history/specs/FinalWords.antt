@@ -9,7 +9,6 @@ use Rattle.frame_words.specs.Frame.{frame_of_word}
 use Rattle.frame_words.specs.Count.{count_of_word}
 use Rattle.frame_words.specs.Core.{core_of_word}
 use Rattle.frame_words.specs.Live.{live_of_word}
-use Rattle.frame_words.specs.declared.count_word.CountWord.{CountWord}
 use Rattle.frame_words.specs.declared.count_word.Hold.TheVariants.{Unheld}
 use Rattle.frame_words.specs.declared.core_word.CoreWord.{CoreWord}
 use Rattle.frame_words.specs.declared.live_word.LiveWord.{LiveWord}
@@ -18,10 +17,9 @@ use Rattle.tcap_words.specs.Head.{head_of_word}
 use Rattle.tcap_words.specs.Quality.{quality_of_word}
 use Rattle.tcap_words.specs.Stack.{stack_of_word}
 use Rattle.tcap_words.specs.Thread.{thread_of_word}
-use Rattle.tcap_words.specs.declared.head_word.HeadWord.{HeadWord}
 use Rattle.word_map.specs.Word.{Word, EntryAt, FrameAt, CountAt, CoreAt, LiveAt}
 use Rattle.word_map.specs.Places.{Shape, place_of, counter_of}
-use Rattle.seq_state.specs.State.{Place, Free, Holds, Quiescing, CompFields, ThreadFields, TcapFields, Object, Blank, Table, Leaf, Pages, Pleaf, Comp, Thread, Tcap, Frame, Untyped, User, Kernel, Liveness, Unused, Live, Dead, Core, State, first_of_stack, thread_of}
+use Rattle.seq_state.specs.State.{Place, Free, Holds, Quiescing, CompFields, ThreadFields, TcapFields, Object, Blank, Table, Leaf, Pages, Pleaf, Comp, Thread, Tcap, Frame, Untyped, User, Kernel, Liveness, Unused, Live, Dead, State, first_of_stack, thread_of}
 use Rattle.seq_state.specs.References.{refs}
 use Rattle.seq_state.specs.Access.{held_in}
 use Rattle.kernel_history.specs.ObjectWords.{is_node, frame_value, thread_value, at_height}

@@ -1,5 +1,5 @@
 use Rattle.std.proofs.Common.{ap, ◌∙◌}
-use Rattle.word_map.specs.Word.{EntryAt, FrameAt, CountAt, CoreAt, FlushAt, LiveAt, ClockAt}
+use Rattle.word_map.specs.Word.{CoreAt}
 use Rattle.word_map.specs.Places.{place_of}
 use Rattle.kernel_history.proofs.Fillings.{puts}
 use Rattle.kernel_history.proofs.boot.put_core.Goals as goal

@@ -1,4 +1,4 @@
-use Rattle.std.proofs.Common.{ℕ, ◌<◌, inl, inr, arith, sym, subst}
+use Rattle.std.proofs.Common.{inl, inr, arith, sym, subst}
 use Rattle.std.proofs.lemmas.Bool.{cases_eq}
 use Rattle.kernel_history.specs.Filling.{IsFrameRight}
 use Rattle.kernel_history.proofs.Fillings.{fills_both, frame_kept}

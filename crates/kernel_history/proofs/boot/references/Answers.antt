@@ -1,4 +1,4 @@
-use Rattle.std.proofs.Common.{arith, sym, ◌∙◌, ap, ◌+◌}
+use Rattle.std.proofs.Common.{arith, sym}
 use Rattle.kernel_history.proofs.StartRefs.{refs_table, refs_leaf, refs_pages, refs_comp, refs_object, refs_untyped}
 use Rattle.kernel_history.proofs.boot.references.Goals as goal
 
