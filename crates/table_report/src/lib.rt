@@ -17,3 +17,6 @@ mod words;
 pub use whole::report;
 pub use spk_nums;
 pub use word_map;
+
+#[cfg(test)]
+mod tests;

@@ -1,6 +1,6 @@
 //! The frames to which there are references, each as often as it is referenced.
 
-ghost use Rattle.std.specs.Prelude.{◌≡◌, ◌<◌, ◌++◌, length, OnOk};
+ghost use Rattle.std.specs.Prelude.{◌≡◌, ◌<◌, ◌++◌, length, OnOk, Some};
 ghost use Rattle.entry_words.specs.EntryWord.{entry_of_word};
 ghost use Rattle.frame_words.specs.Live.{live_of_word};
 ghost use Rattle.tcap_words.specs.Stack.{stack_of_word};
@@ -11,8 +11,7 @@ ghost use Rattle.kernel_history.specs.ObjectWords.{is_node, is_node_object};
 ghost use Rattle.table_report.specs.Shown.{place_shown, stacked, stack_shown, object_shown, number_shown, core_shown, words_of, frame_at, place_at, number_at, core_at};
 ghost use Rattle.table_report.specs.Counting.{Adds};
 
-use crate::words::{entry_word, frame_word, live_word};
-use entry_words::Entry;
+use crate::words::{entry_word, frame_word, held, live_word};
 use frame_words::{FrameWord, LiveWord};
 use spk_nums::{Cap, CoreEnd, FrameKind, FrameNo, Kind, Obj};
 use std::alloc::AllocError;
@@ -33,11 +32,8 @@ fn push_cap(names: &mut Vec<u64>, cap: &Cap) -> Result<(), AllocError>
 fn push_entry(names: &mut Vec<u64>, word: u64) -> Result<(), AllocError>
     ensures { OnOk result (names.new.items ≡ names.old.items ++ place_names (place_shown (entry_of_word word))) }
 {
-    match Entry::unpack(word) {
-        Some(Entry::Held(cap)) => push_cap(names, &cap),
-        Some(Entry::Free) => Ok(()),
-        Some(Entry::Closing { .. }) => Ok(()),
-        Some(Entry::Quiescing { .. }) => Ok(()),
+    match held(word) {
+        Some(cap) => push_cap(names, &cap),
         None => Ok(()),
     }
 }
@@ -234,17 +230,25 @@ fn push_cores(names: &mut Vec<u64>, ends: &[CoreEnd]) -> Result<(), AllocError>
     Ok(())
 }
 
+fn push_live(names: &mut Vec<u64>, live: &LiveWord) -> Result<(), AllocError>
+    ensures { OnOk result (names.new.items ≡ names.old.items ++ number_names (number_shown (Some live.now))) }
+{
+    match live {
+        LiveWord::Live { epoch: _, frame } => {
+            names.push(u64::from(frame.number()))?;
+            Ok(())
+        }
+        LiveWord::Dead { epoch: _, stamp: _ } => Ok(()),
+        LiveWord::Free => Ok(()),
+        LiveWord::Closing { epoch: _, by: _ } => Ok(()),
+    }
+}
+
 fn push_number(names: &mut Vec<u64>, word: u64) -> Result<(), AllocError>
     ensures { OnOk result (names.new.items ≡ names.old.items ++ number_names (number_shown (live_of_word word))) }
 {
     match LiveWord::unpack(word) {
-        Some(LiveWord::Live { frame, .. }) => {
-            names.push(u64::from(frame.number()))?;
-            Ok(())
-        }
-        Some(LiveWord::Dead { .. }) => Ok(()),
-        Some(LiveWord::Free) => Ok(()),
-        Some(LiveWord::Closing { .. }) => Ok(()),
+        Some(live) => push_live(names, &live),
         None => Ok(()),
     }
 }

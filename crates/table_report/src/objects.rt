@@ -11,8 +11,7 @@ ghost use Rattle.word_map.specs.Places.{size_of};
 ghost use Rattle.kernel_history.specs.Tables.{number, entry_line, node_lines, comp_line, thread_line, quality_line, tcap_lines};
 ghost use Rattle.table_report.specs.Shown.{place_shown, comp_shown, stacked, listed, stack_shown, qualities_shown, budget_shown, words_of};
 
-use crate::words::entry_word;
-use entry_words::Entry;
+use crate::words::{entry_word, held};
 use frame_words::CompWord;
 use spk_nums::FrameNo;
 use std::alloc::AllocError;
@@ -23,11 +22,8 @@ use word_map::Layout;
 fn push_entry(text: &mut String, index: u16, word: u64) -> Result<(), AllocError>
     ensures { OnOk result (string_bytes text.new ≡ string_bytes text.old ++ entry_line index (place_shown (entry_of_word word))) }
 {
-    match Entry::unpack(word) {
-        Some(Entry::Held(cap)) => write!(text, "  {index} {cap}\n"),
-        Some(Entry::Free) => Ok(()),
-        Some(Entry::Closing { .. }) => Ok(()),
-        Some(Entry::Quiescing { .. }) => Ok(()),
+    match held(word) {
+        Some(cap) => write!(text, "  {index} {cap}\n"),
         None => Ok(()),
     }
 }

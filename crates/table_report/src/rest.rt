@@ -1,6 +1,6 @@
 //! The lines of liveness numbers, cores and ticks.
 
-ghost use Rattle.std.specs.Prelude.{◌≡◌, ◌<◌, ◌≤◌, ◌*◌, ◌^◌, ◌++◌, length, OnOk, string_bytes, codes};
+ghost use Rattle.std.specs.Prelude.{◌≡◌, ◌<◌, ◌≤◌, ◌*◌, ◌^◌, ◌++◌, length, OnOk, Some, string_bytes, codes};
 ghost use Rattle.std.specs.List.{flat_map};
 ghost use Rattle.frame_words.specs.Live.{live_of_word};
 ghost use Rattle.seq_state.specs.References.{sum_below};
@@ -15,17 +15,25 @@ use spk_nums::{CoreEnd, Translation};
 use std::alloc::{AllocError, Global};
 use word_map::Layout;
 
+fn push_live(text: &mut String, number: u8, live: &LiveWord) -> Result<(), AllocError>
+    ensures { OnOk result (string_bytes text.new ≡ string_bytes text.old ++ number_line number (number_shown (Some live.now))) }
+{
+    match live {
+        LiveWord::Live { epoch, frame } => {
+            write!(text, "live {number} epoch {epoch} frame {frame}\n")
+        }
+        LiveWord::Dead { epoch, stamp: _ } => write!(text, "dead {number} epoch {epoch}\n"),
+        LiveWord::Free => Ok(()),
+        LiveWord::Closing { epoch: _, by: _ } => Ok(()),
+    }
+}
+
 // Appends the line of a liveness number that is live or dead.
 fn push_number(text: &mut String, number: u8, word: u64) -> Result<(), AllocError>
     ensures { OnOk result (string_bytes text.new ≡ string_bytes text.old ++ number_line number (number_shown (live_of_word word))) }
 {
     match LiveWord::unpack(word) {
-        Some(LiveWord::Live { epoch, frame }) => {
-            write!(text, "live {number} epoch {epoch} frame {frame}\n")
-        }
-        Some(LiveWord::Dead { epoch, .. }) => write!(text, "dead {number} epoch {epoch}\n"),
-        Some(LiveWord::Free) => Ok(()),
-        Some(LiveWord::Closing { .. }) => Ok(()),
+        Some(live) => push_live(text, number, &live),
         None => Ok(()),
     }
 }
