@@ -1,6 +1,9 @@
 -- Lines, stacks and lists, one more at a time.
-use Rattle.std.proofs.Common.{◌≡◌, ℕ, zero, suc, ◌+◌, ◌*◌, ◌<◌, ◌≤◌, ◌++◌, List, [], ◌∷◌, Option, Some, None, refl, sym, ap, ◌∙◌, arith, append_assoc, reverse}
-use Rattle.std.specs.Prelude.{option_to_list}
+use Rattle.std.proofs.Common.{◌≡◌, ℕ, zero, suc, ◌+◌, ◌*◌, ◌<◌, ◌≤◌, ◌++◌, List, [], ◌∷◌, Option, Some, None, refl, sym, ap, ◌∙◌, arith, append_assoc, append-nil, reverse, length, get_or}
+use Rattle.std.specs.Prelude.{option_to_list, unwrap_or}
+use Rattle.std.proofs.lemmas.Option.{slice_get-get_or}
+use Rattle.spk_nums.specs.declared.translations.CoreEnd.{CoreEnd}
+use Rattle.kernel_history.specs.FinalWords.{end_in, no_end}
 use Rattle.std.specs.List.{flat_map}
 use Rattle.std.proofs.lemmas.List.{reverse-append}
 use Rattle.std.proofs.lemmas.Grind.{flat_map-append}
@@ -67,3 +70,17 @@ pub qualities_text : (word : ℕ → ℕ) (n : ℕ) → flat_map quality_line (q
 qualities_text word n =
     ap (flat_map quality_line) (qualities_more word n)
     ∙ flat_map-append quality_line (qualities_shown word n) (listed (quality_of_word (word (1 + n))))
+
+-- A text begins with no piece.
+pub begins : (text seen : List ℕ) → seen ≡ [] → text ≡ text ++ seen
+begins text seen none = sym (ap (λ s. text ++ s) none ∙ append-nil text)
+
+pub stack_begins : (word : ℕ → ℕ) → flat_map number (reverse (stack_shown word 0)) ≡ []
+stack_begins word = ap (λ fs. flat_map number (reverse fs)) (stack_none word)
+
+pub qualities_begins : (word : ℕ → ℕ) → flat_map quality_line (qualities_shown word 0) ≡ []
+qualities_begins word = ap (flat_map quality_line) (qualities_none word)
+
+-- The end of a core as it is read off the list.
+pub ends_read : (ends : List CoreEnd) (c : ℕ) (e : CoreEnd) → c < length ends → e ≡ get_or ends c e → end_in ends c ≡ e
+ends_read ends c e below is = ap (λ o. unwrap_or o no_end) (slice_get-get_or ends c e below) ∙ sym is

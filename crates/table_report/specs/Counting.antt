@@ -5,8 +5,8 @@ use Rattle.word_map.specs.Places.{Shape, size_of}
 use Rattle.seq_state.specs.References.{times}
 
 -- The new list names each frame so much more often than the old one.
-abbrev pub Adds : List ℕ → List ℕ → (ℕ → ℕ) → Type 0
-Adds old new by = (f : ℕ) → times f new ≡ times f old + by f
+pub record Adds (old new : List ℕ) (by : ℕ → ℕ) : Type 0 where
+  pub counts : (f : ℕ) → times f new ≡ times f old + by f
 
 -- Each frame has its number.
 abbrev pub AreCounts : List ℕ → (ℕ → ℕ) → ℕ → Type 0
