@@ -9,11 +9,11 @@ use Rattle.spk_nums.specs.declared.calls.Call.TheVariants.{Look as look_call, Co
 use Rattle.entry_words.specs.EntryWord.{EntryFits, entry_of_word}
 use Rattle.entry_words.specs.declared.entry.Entry.TheVariants as entry
 use Rattle.word_map.specs.Word.{EntryAt}
-use Rattle.word_map.specs.Places.{Shape}
 use Rattle.seq_state.specs.State.{State, first_of_stack, thread_of, comp_of}
 use Rattle.seq_state.specs.Access.{Slot, Named, found, root_at, Target, Under, InRoot, any, only, usable, linked, root_slot, reached}
 use Rattle.seq_state.proofs.Relies.{Relies}
 use Rattle.kernel_history.proofs.Graces.{IsLeave}
+use Rattle.kernel_history.specs.BootWords.{shape_of}
 use Rattle.kernel_history.specs.Trace.{Trace, Phase, Out, Open, Decided, phase, state_after, own_left, steps_in_call}
 use Rattle.kernel_history.specs.Ways.{root_passed}
 use Rattle.kernel_history.specs.Justified.{HasReached}
@@ -166,10 +166,6 @@ pub record InFlightIs (setup : Setting) (t : Trace) (c table : ℕ) (f : InFligh
 abbrev pub FlightIs : Setting → Trace → ℕ → ℕ → Option InFlight → Type 0
 FlightIs setup t c table None = phase t c ≡ Out
 FlightIs setup t c table (Some f) = InFlightIs setup t c table f
-
--- The machine of a setup.
-abbrev pub shape_of : Setting → Shape
-shape_of setup = record { cores = setup.cores; frames = setup.frames }
 
 -- The core c works where the state says: on its thread, in the component on top of it, with its temporal capability; and has
 -- cached, spent, owes and has counted what the state says.

@@ -14,3 +14,7 @@ pub mod Waiting
 pub mod Carries
 pub mod Laws
 pub mod Replies
+pub mod Sums
+pub mod StartRefs
+pub mod Fillings
+pub mod BootRepresents
