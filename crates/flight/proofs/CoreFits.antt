@@ -1,8 +1,11 @@
 -- A core stays in its ranges, and each step leaves fewer to come, whatever words are found.
-use Rattle.std.proofs.Common.{◌≡◌, ℕ, ◌+◌, ◌%◌, ◌<◌, ◌≤◌, Bool, true, false, nat_le, Option, Some, None, IfSome, IsSomeAnd, refl, sym, subst, arith}
+use Rattle.std.proofs.Common.{◌≡◌, ℕ, ◌+◌, ◌*◌, ◌%◌, ◌<◌, ◌≤◌, Bool, true, false, nat_le, Option, Some, None, IfSome, IsSomeAnd, refl, sym, subst, arith}
 use Rattle.std.proofs.lemmas.Bool.{leb-true, leb-false}
 use Rattle.spk_nums.specs.Bounds.{bound_of_retype, bound_of_make, bound_of}
 use Rattle.spk_nums.specs.Capability.{Capability}
+use Rattle.spk_nums.specs.Setting.{Setting, IsSetting}
+use Rattle.spk_nums.specs.Built.{IsBuilt}
+use Rattle.spk_nums.specs.CallLimits.{InLimits}
 use Rattle.spk_nums.specs.declared.kinds.Kind.{Kind}
 use Rattle.spk_nums.specs.declared.kinds.Kind.TheVariants.{Table}
 use Rattle.spk_nums.specs.declared.calls.Call.{Call}
@@ -32,7 +35,7 @@ use Rattle.flight.specs.declared.stages.Took.{Took}
 use Rattle.flight.specs.declared.stages.Took.TheVariants.{Goes, Decides, Returns}
 use Rattle.flight.specs.View.{Core}
 use Rattle.flight.specs.Stages.{stage_move, decide, looks, first_name, took_enter, first_held, took_first, is_table, looks_in, second_held, took_second, took_target, took_found, took_end, took_look, took_fill, stage_took}
-use Rattle.flight.specs.Steps.{move_in, move_of, is_spent, took_by, went, landed, absorbed_in, absorbed}
+use Rattle.flight.specs.Steps.{started, begun, move_in, move_of, is_spent, took_by, went, landed, absorbed_in, absorbed}
 use Rattle.flight.specs.Fits.{WantFits, StageFits, HasRoom, behind_first, behind, left_in, IsFlight, FlightFits, IsCore, left_for, steps_left}
 
 -- where a step leads to fits, can be counted, and leaves fewer steps than there were
@@ -306,3 +309,41 @@ decides_on c f r stage after counted found h is took count next =
 -- a call in flight makes few steps
 pub flight_few : (c : Core) (f : InFlight) → IsCore c → c.flight ≡ Some f → IsSomeAnd c.flight (λ f. f.steps < 1000)
 flight_few c f h is = rw is (few_steps c f h (subst (FlightFits c) is h.flight))
+
+-- a core of the start is one
+pub started_fits : (c : ℕ) (setting : Setting) → IsSetting setting → c < setting.cores → IsCore (started c setting)
+started_fits c setting h below =
+    let least : 4 + 2 * setting.cores ≤ setting.frames = h.least_frames in
+    record {
+      shape = record { some_core = h.some_core; most_cores = h.most_cores; least_frames = least; most_frames = h.most_frames };
+      core = below;
+      thread = omega arith;
+      comp = omega arith;
+      table = omega arith;
+      pages = omega arith;
+      tcap = omega arith;
+      most_calls = h.most_calls;
+      made = omega arith;
+      flight = tt;
+    }
+
+-- a call that has made no step is within its bound
+fresh_within : (call : Call) (n : ℕ) → IsBuilt call → 0 + left_in call Enter ≤ bound_of call n
+fresh_within (look_call a) n built = omega arith
+fresh_within (Copy a t b) n built = omega arith
+fresh_within call n built = absurd built
+
+-- a core that begins a call stays one
+pub begun_fits : (c : Core) (call : Call) → IsCore c → InLimits call → IsBuilt call → IsCore (begun c call)
+begun_fits c call h limits built = record {
+  shape = h.shape;
+  core = h.core;
+  thread = h.thread;
+  comp = h.comp;
+  table = h.table;
+  pages = h.pages;
+  tcap = h.tcap;
+  most_calls = h.most_calls;
+  made = h.made;
+  flight = record { limits = limits; built = built; stage = tt; room = tt; steps = fresh_within call c.shape.cores built };
+}

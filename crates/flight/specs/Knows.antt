@@ -1,5 +1,5 @@
 -- What a call knows at its stage, said of the state; and what a core is after a trace.
-use Rattle.std.specs.Prelude.{◌≡◌, ◌≤◌, ◌<◌, ◌++◌, ◌/◌, ℕ, Bool, true, false, List, [], ◌∷◌, length, Option, Some, None, IsSome, IsTrue}
+use Rattle.std.specs.Prelude.{◌≡◌, ◌≤◌, ◌<◌, ◌++◌, ◌/◌, ℕ, Bool, true, false, List, [], ◌∷◌, length, Option, Some, None, IsSome}
 use Rattle.spk_nums.specs.Capability.{Capability}
 use Rattle.spk_nums.specs.Setting.{Setting}
 use Rattle.spk_nums.specs.declared.kinds.Kind.{Kind}
@@ -9,13 +9,15 @@ use Rattle.spk_nums.specs.declared.calls.Call.TheVariants.{Look as look_call, Co
 use Rattle.entry_words.specs.EntryWord.{EntryFits, entry_of_word}
 use Rattle.entry_words.specs.declared.entry.Entry.TheVariants as entry
 use Rattle.word_map.specs.Word.{EntryAt}
-use Rattle.word_map.specs.Places.{Shape}
-use Rattle.seq_state.specs.State.{State, Core as CoreFields, Thing, first_of_stack, thread_of, comp_of}
+use Rattle.seq_state.specs.State.{State, first_of_stack, thread_of, comp_of}
 use Rattle.seq_state.specs.Access.{Slot, Named, found, root_at, Target, Under, InRoot, any, only, usable, linked, root_slot, reached}
+use Rattle.seq_state.proofs.Relies.{Relies}
+use Rattle.kernel_history.proofs.Graces.{IsLeave}
+use Rattle.kernel_history.specs.BootWords.{shape_of}
 use Rattle.kernel_history.specs.Trace.{Trace, Phase, Out, Open, Decided, phase, state_after, own_left, steps_in_call}
 use Rattle.kernel_history.specs.Ways.{root_passed}
 use Rattle.kernel_history.specs.Justified.{HasReached}
-use Rattle.kernel_history.specs.Stamps.{stamp, clock, clock_seen, exit_of}
+use Rattle.kernel_history.specs.Stamps.{exit_of, flush_of, flush_stored}
 use Rattle.stage_look.specs.declared.look.Look.{Look}
 use Rattle.stage_look.specs.declared.look.Look.TheVariants.{AtRoot, AtLeaf, AtEntry}
 use Rattle.flight.specs.declared.stages.Want.{Want}
@@ -26,8 +28,18 @@ use Rattle.flight.specs.declared.stages.InFlight.{InFlight}
 use Rattle.flight.specs.View.{Core}
 use Rattle.flight.specs.Fits.{IsCore}
 
+-- The frame of the root of a target.
+abbrev pub root_frame : Target → ℕ
+root_frame (Under table n) = table.frame
+root_frame (InRoot table i) = table.frame
+
+-- Core c relies on the root of a target: it is a node, which no other core may retype.
+abbrev pub ReliesOn : Setting → Trace → ℕ → Target → Type 0
+ReliesOn setup t c target = Relies (state_after setup t) c (root_frame target)
+
 -- Core c reaches this slot by the target, and its call has stepped on the entries of the way.
 pub record IsReached (setup : Setting) (t : Trace) (c : ℕ) (target : Target) (at : Slot) : Type 0 where
+  pub relies : ReliesOn setup t c target
   pub reached : reached (state_after setup t) c target ≡ Some at
   pub stepped : HasReached t c (root_passed target ++ at ∷ [])
 
@@ -61,7 +73,7 @@ pub record IsAtEntry (table : Named) (i root index : ℕ) : Type 0 where
   pub same : i ≡ index
   pub within : i ≤ 63
 
--- Core c looks up the target.
+-- A look-up of a target stands here.
 abbrev pub LookIs : Setting → Trace → ℕ → Target → Look → Type 0
 LookIs setup t c (Under table n) (AtRoot root number) = IsAtRoot table n root number
 LookIs setup t c (Under table n) (AtLeaf leaf number) = IsAtLeaf setup t c table n leaf number
@@ -70,20 +82,25 @@ LookIs setup t c (InRoot table i) (AtRoot root number) = ⊥
 LookIs setup t c (InRoot table i) (AtLeaf leaf number) = ⊥
 LookIs setup t c (InRoot table i) (AtEntry root index) = IsAtEntry table i root index
 
+-- Core c looks up the target.
+pub record LooksUp (setup : Setting) (t : Trace) (c : ℕ) (target : Target) (look : Look) : Type 0 where
+  pub relies : ReliesOn setup t c target
+  pub at : LookIs setup t c target look
+
 -- The target of an own name of a core whose component has this table.
 abbrev pub own_in : ℕ → ℕ → Target
 own_in table n = Under (root_at table) n
 
 -- The first own name of a call is looked up.
 abbrev pub KnowsFirst : Setting → Trace → ℕ → ℕ → Call → Look → Type 0
-KnowsFirst setup t c table (look_call a) look = LookIs setup t c (own_in table a) look
-KnowsFirst setup t c table (Copy a u b) look = LookIs setup t c (own_in table a) look
+KnowsFirst setup t c table (look_call a) look = LooksUp setup t c (own_in table a) look
+KnowsFirst setup t c table (Copy a u b) look = LooksUp setup t c (own_in table a) look
 KnowsFirst setup t c table _ look = ⊥
 
 -- The second own name is looked up, and the first has led to k.
 pub record IsSecond (setup : Setting) (t : Trace) (c : ℕ) (first : Target) (k : Capability) (second : Target) (look : Look) : Type 0 where
   pub name : HasFound setup t c first any k
-  pub looks : LookIs setup t c second look
+  pub looks : LooksUp setup t c second look
 
 abbrev pub KnowsSecond : Setting → Trace → ℕ → ℕ → Call → Capability → Look → Type 0
 KnowsSecond setup t c table (Copy a u b) k look = IsSecond setup t c (own_in table a) k (own_in table u) look
@@ -98,7 +115,7 @@ pub record HasNames (setup : Setting) (t : Trace) (c table a u : ℕ) (k j : Cap
 pub record IsTarget (setup : Setting) (t : Trace) (c table a u b : ℕ) (k : Capability) (look : Look) : Type 0 where
   pub root : Capability
   pub names : HasNames setup t c table a u k root
-  pub looks : LookIs setup t c (Under (found root) b) look
+  pub looks : LooksUp setup t c (Under (found root) b) look
 
 abbrev pub KnowsTarget : Setting → Trace → ℕ → ℕ → Call → Capability → Look → Type 0
 KnowsTarget setup t c table (Copy a u b) k look = IsTarget setup t c table a u b k look
@@ -117,12 +134,6 @@ abbrev pub KnowsFill : Setting → Trace → ℕ → ℕ → Call → ℕ → �
 KnowsFill setup t c table (Copy a u b) node index word k = IsFill setup t c table a u b k node index word
 KnowsFill setup t c table _ node index word k = ⊥
 
--- A core that has loaded the clock for its exit: each grace period that began since has it among those that wait.
-pub record IsLeaving (setup : Setting) (t : Trace) (c x : ℕ) : Type 0 where
-  pub seen : clock_seen t c ≡ x
-  pub low : x ≤ clock setup t
-  pub stays : (thing : Thing) → x ≤ stamp setup t thing → IsTrue (((state_after setup t).grace thing).waits c)
-
 -- What a call that looks for this knows.
 abbrev pub KnowsLook : Setting → Trace → ℕ → ℕ → Call → Want → Look → Type 0
 KnowsLook setup t c table call First look = KnowsFirst setup t c table call look
@@ -135,7 +146,7 @@ Knows setup t c table call Enter = ⊥
 Knows setup t c table call (Looking want look) = KnowsLook setup t c table call want look
 Knows setup t c table call (Fill node index word k) = KnowsFill setup t c table call node index word k
 Knows setup t c table call (Exit r) = Unit {0}
-Knows setup t c table call (Leave r x) = IsLeaving setup t c x
+Knows setup t c table call (Leave r x) = IsLeave setup t c x
 
 -- The phase of a call at its stage.
 abbrev pub phase_at : Call → Stage → Phase
@@ -155,10 +166,6 @@ pub record InFlightIs (setup : Setting) (t : Trace) (c table : ℕ) (f : InFligh
 abbrev pub FlightIs : Setting → Trace → ℕ → ℕ → Option InFlight → Type 0
 FlightIs setup t c table None = phase t c ≡ Out
 FlightIs setup t c table (Some f) = InFlightIs setup t c table f
-
--- The machine of a setup.
-abbrev pub shape_of : Setting → Shape
-shape_of setup = record { cores = setup.cores; frames = setup.frames }
 
 -- The core c works where the state says: on its thread, in the component on top of it, with its temporal capability; and has
 -- cached, spent, owes and has counted what the state says.
@@ -182,4 +189,6 @@ pub record CoreIs (setup : Setting) (core : Core) (t : Trace) (c : ℕ) : Type 0
   pub limit : core.limit ≡ setup.calls
   pub works : WorksIn core (state_after setup t) c
   pub exit : core.exit ≡ exit_of t c
+  -- its last flush is stored; once there are flushes, but for one between the load of the clock and the store
+  pub flushed : flush_stored t c ≡ flush_of t c
   pub flight : FlightIs setup t c core.table core.flight

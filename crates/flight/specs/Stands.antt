@@ -10,6 +10,7 @@ use Rattle.kernel_history.specs.Trace.{Trace, Out, phase, calls_of, state_after}
 use Rattle.kernel_history.specs.Legal.{IsLegal}
 use Rattle.kernel_history.specs.Bounds.{KeepsBounds}
 use Rattle.kernel_history.specs.Stamps.{stamp, clock, exit_of, flush_stored}
+use Rattle.kernel_history.proofs.Graces.{GraceIs, TimesAre}
 use Rattle.flight.specs.declared.stages.Stage.{Stage}
 use Rattle.flight.specs.declared.stages.Stage.TheVariants.{Enter, Looking, Fill, Exit, Leave}
 use Rattle.flight.specs.declared.stages.InFlight.{InFlight}
@@ -42,10 +43,11 @@ held_by cores d = holds (cores d)
 abbrev pub times_of : Setting → Trace → Times
 times_of setup t = record { stamp = stamp setup t; exit = exit_of t; flush = flush_stored t }
 
--- The core has made no step.
-pub record IsAway (t : Trace) (c : ℕ) : Type 0 where
+-- The core has made no step, and has no call in flight.
+pub record IsAway (core : Core) (t : Trace) (c : ℕ) : Type 0 where
   pub out : phase t c ≡ Out
   pub none : calls_of t c ≡ []
+  pub idle : core.flight ≡ None
 
 -- The calls that all cores of the machine have counted.
 abbrev pub counted_in : Setting → State → ℕ
@@ -59,11 +61,13 @@ pub record Stands (setup : Setting) (cores : ℕ → Core) (t : Trace) : Type 0 
   -- each word carries the marks of the cores that hold it, and its settled value says what the state is, kind by kind
   pub marks : (w : Word) (d : ℕ) → MarkIs setup (held_by cores) t w d
   pub words : (w : Word) → WordIs (state_after setup t) (times_of setup t) w (settled setup (held_by cores) t w)
-  -- a counted call draws at most one stamp; and no core has left later than now
-  pub time : clock setup t ≤ 1 + counted_in setup (state_after setup t)
-  pub exits : (c : ℕ) → exit_of t c ≤ clock setup t
+  -- a counted call draws at most one stamp; no core has left or flushed later than now; and grace periods go with stamps
+  pub draws : clock setup t ≤ 1 + counted_in setup (state_after setup t)
+  pub some_time : 1 ≤ clock setup t
+  pub times : (c : ℕ) → TimesAre setup t c
+  pub graces : (x : Thing) → GraceIs setup t x
   -- for now: no call removes yet, so no place is quiescing
   pub none_removed : (f i : ℕ) (k : Capability) → (state_after setup t).place f i ≢ Quiescing k
   -- each core of the machine is where its model says, and there is no other
   pub each : (c : ℕ) → c < setup.cores → CoreIs setup (cores c) t c
-  pub away : (c : ℕ) → setup.cores ≤ c → IsAway t c
+  pub away : (c : ℕ) → setup.cores ≤ c → IsAway (cores c) t c

@@ -1,8 +1,9 @@
 -- What the settled words say of the state, kind by kind.
-use Rattle.std.specs.Prelude.{◌≡◌, ◌<◌, ◌≤◌, ℕ, zero, suc, ℤ, length, Option, Some, None}
+use Rattle.std.specs.Prelude.{◌≡◌, ◌<◌, ◌≤◌, ℕ, zero, suc, ℤ, length, slice_get, Option, Some, None}
 use Rattle.entry_words.specs.declared.entry.Entry.{Entry}
 use Rattle.entry_words.specs.declared.entry.Entry.TheVariants as entry
 use Rattle.entry_words.specs.EntryWord.{entry_of_word}
+use Rattle.frame_words.specs.Comp.{comp_of_word}
 use Rattle.frame_words.specs.Frame.{frame_of_word}
 use Rattle.frame_words.specs.Count.{count_of_word}
 use Rattle.frame_words.specs.Core.{core_of_word}
@@ -15,11 +16,13 @@ use Rattle.frame_words.specs.declared.flush_word.FlushWord.{FlushWord}
 use Rattle.frame_words.specs.declared.live_word.LiveWord.{LiveWord}
 use Rattle.frame_words.specs.declared.live_word.LiveWord.TheVariants as live_word
 use Rattle.tcap_words.specs.Head.{head_of_word}
+use Rattle.tcap_words.specs.Quality.{quality_of_word}
+use Rattle.tcap_words.specs.Stack.{stack_of_word}
 use Rattle.tcap_words.specs.Thread.{thread_of_word}
 use Rattle.tcap_words.specs.declared.head_word.HeadWord.{HeadWord}
 use Rattle.word_map.specs.Word.{Word, EntryAt, FrameAt, CountAt, CoreAt, FlushAt, LiveAt, ClockAt}
 use Rattle.seq_state.specs.State.{Place, Free, Holds, Quiescing, CompFields, ThreadFields, TcapFields, Object, Blank, Table, Leaf, Pages, Pleaf, Comp, Thread, Tcap, Frame, Untyped, User, Kernel, Liveness, Unused, Live, Dead, Thing, PlaceOf, NumberOf, State}
-use Rattle.kernel_history.specs.ObjectWords.{frame_value, comp_word, thread_value, stack_word, quality_word}
+use Rattle.kernel_history.specs.ObjectWords.{frame_value, thread_value, at_height}
 use Rattle.stage_look.specs.Shown.{CapNames}
 
 -- The stamps that words carry: that of the grace period of a thing, and those of a core's last exit and last flush.
@@ -39,20 +42,28 @@ PlaceIs frames Free stamp shown = shown ≡ Some entry.Free
 PlaceIs frames (Holds k) stamp shown = (shown ≡ Some (entry.Held k)) × CapNames frames k
 PlaceIs frames (Quiescing k) stamp shown = QuiescingSince stamp shown
 
+-- The word i of a component: the frame of its table, that of its pages, and its liveness number with its epoch.
+abbrev pub IsCompWord : CompFields → ℕ → ℕ → Type 0
+IsCompWord k zero x = x ≡ k.table
+IsCompWord k (suc zero) x = x ≡ k.pages
+IsCompWord k (suc (suc zero)) x = comp_of_word x ≡ Some (record { number = k.number; epoch = k.epoch })
+IsCompWord k (suc (suc (suc i))) x = Unit {0}
+
 -- The word i of a thread: where it runs with its depth, then its stack from the bottom on.
 abbrev pub IsThreadWord : ThreadFields → ℕ → ℕ → Type 0
 IsThreadWord t zero x = thread_of_word x ≡ Some (thread_value t.runs_on (length t.stack))
-IsThreadWord t (suc h) x = h < 16 → x ≡ stack_word t.stack h
+IsThreadWord t (suc h) x = h < 16 → stack_of_word x ≡ Some (record { 0 = at_height t.stack h })
 
--- The head of a temporal capability: its budget, in some version.
-pub record SaysBudget (budget : ℕ) (shown : Option HeadWord) : Type 0 where
+-- The head of a temporal capability: its budget, in some version. Its list has at most 8 pairs.
+pub record HeadIs (q : TcapFields) (shown : Option HeadWord) : Type 0 where
   pub version : ℕ
-  pub says : shown ≡ Some (record { budget = budget; mark = None; version = version })
+  pub says : shown ≡ Some (record { budget = q.budget; mark = None; version = version })
+  pub most : length q.qualities ≤ 8
 
 -- The word i of a temporal capability: its head, then its list.
 abbrev pub IsTcapWord : TcapFields → ℕ → ℕ → Type 0
-IsTcapWord q zero x = SaysBudget q.budget (head_of_word x)
-IsTcapWord q (suc j) x = j < 8 → x ≡ quality_word q.qualities j
+IsTcapWord q zero x = HeadIs q (head_of_word x)
+IsTcapWord q (suc j) x = j < 8 → quality_of_word x ≡ Some (record { 0 = slice_get q.qualities j })
 
 -- The word i of an object, where its place i is this, with the stamp of that place.
 abbrev pub IsObjectWord : ℕ → Object → Place → ℕ → ℕ → ℕ → Type 0
@@ -61,7 +72,7 @@ IsObjectWord frames Table place stamp i x = i < 64 → PlaceIs frames place stam
 IsObjectWord frames Leaf place stamp i x = i < 64 → PlaceIs frames place stamp (entry_of_word x)
 IsObjectWord frames Pages place stamp i x = i < 64 → PlaceIs frames place stamp (entry_of_word x)
 IsObjectWord frames Pleaf place stamp i x = i < 64 → PlaceIs frames place stamp (entry_of_word x)
-IsObjectWord frames (Comp k) place stamp i x = i < 3 → x ≡ comp_word k i
+IsObjectWord frames (Comp k) place stamp i x = IsCompWord k i x
 IsObjectWord frames (Thread t) place stamp i x = IsThreadWord t i x
 IsObjectWord frames (Tcap q) place stamp i x = IsTcapWord q i x
 

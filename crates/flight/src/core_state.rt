@@ -1,6 +1,6 @@
 //! The state of a core: where it works, what it has counted, and the call in flight.
 
-ghost use Rattle.std.specs.Prelude.{◌≡◌, ◌<◌, ◌≤◌, ◌+◌, None, IsSome, IsSomeAnd, IsTrue, ◌↔◌, option_map};
+ghost use Rattle.std.specs.Prelude.{◌≡◌, ◌<◌, ◌≤◌, None, IsSome, IsSomeAnd, IsTrue, ◌↔◌, option_map};
 ghost use Rattle.spk_nums.specs.Built.{IsBuilt};
 ghost use Rattle.spk_nums.specs.CallLimits.{InLimits};
 ghost use Rattle.word_map.specs.Places.{size_of};
@@ -143,6 +143,14 @@ impl CoreState {
             steps: 0,
             stage: Stage::Enter,
         });
+    }
+
+    /// The layout of the core's machine.
+    #[inline]
+    pub fn layout(&self) -> &Layout
+        ensures { result.now ≡ self.now.shape }
+    {
+        &self.layout
     }
 
     /// Whether a call is in flight.

@@ -2,8 +2,10 @@
 #![tactic(auto)]
 
 mod core_state;
+mod laws;
 mod stages;
 mod steps;
 
 pub use core_state::CoreState;
+pub use laws::{boots, early_unless_ready, ready_decides, represents, says_words, steps_on};
 pub use stages::{Absorbed, InFlight, Stage, Want};

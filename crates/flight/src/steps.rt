@@ -2,7 +2,7 @@
 //!
 //! **Entry and exit.** The first step of every call stores the core word with inside set and the stamp of the last exit.
 //! The last two load the clock and store the core word with inside cleared and the clock that was loaded. So a core that
-//! is inside a call has entered it after all that was removed up to that stamp.
+//! is inside a call has entered it after everything that was removed at an earlier stamp.
 //!
 //! **Look.** The name is looked up; the load of its leaf entry decides.
 //!
@@ -20,13 +20,12 @@
 //! **Words that never come.** Every word is taken: what is no entry of this machine is refused with `raced`, and a clock
 //! past the range of a stamp stays at the range's end.
 
-ghost use Rattle.std.specs.Prelude.{◌≡◌, ◌<◌, ◌≤◌, nat_le};
-ghost use Rattle.spk_nums.specs.Built.{IsBuilt};
+ghost use Rattle.std.specs.Prelude.{◌≡◌, ◌<◌, nat_le};
 ghost use Rattle.entry_words.specs.EntryWord.{word_of_entry};
 ghost use Rattle.entry_words.specs.declared.entry.Entry.TheVariants.{Held};
-ghost use Rattle.word_map.specs.Places.{size_of, IsShape};
+ghost use Rattle.word_map.specs.Places.{size_of};
 ghost use Rattle.word_map.specs.Moves.{op_of, place_in};
-ghost use Rattle.flight.specs.Stages.{core_word, stage_move, decide, looks, first_name, took_enter, first_held, took_first, is_table, looks_in, second_held, took_second, took_target, took_found, took_end, took_fill, stamp_of, stage_took, decides_at, is_last, stage_ready};
+ghost use Rattle.flight.specs.Stages.{core_word, stage_move, decide, looks, took_enter, first_held, took_first, is_table, second_held, took_second, took_target, took_found, took_end, took_fill, stamp_of, stage_took, decides_at, is_last, stage_ready};
 ghost use Rattle.flight.specs.Fits.{StageFits};
 
 use crate::stages::{Stage, Took, Want};
@@ -278,10 +277,9 @@ fn took_second(first: Cap, call: &Call, value: &Entry) -> Took
     ensures { result ≡ took_second first call.now value.now }
 {
     match value {
-        Entry::Free => decide(&Reply::Empty),
         Entry::Held(second) => second_held(first, *second, call),
         Entry::Closing { by } => decide(&Reply::Busy(*by)),
-        Entry::Quiescing { stamp: _ } => decide(&Reply::Empty),
+        _ => decide(&Reply::Empty),
     }
 }
 

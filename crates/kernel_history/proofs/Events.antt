@@ -1,12 +1,12 @@
 -- A legal trace is a run of its events, and leaves what they leave.
-use Rattle.std.proofs.Common.{◌≡◌, ◌≢◌, inl, inr, ℕ, ◌<◌, ◌==◌, Bool, true, false, cond, List, [], ◌∷◌, Option, Some, None, refl, sym, ◌∙◌, ap, subst}
+use Rattle.std.proofs.Common.{◌≡◌, ◌≢◌, inl, inr, ℕ, ◌<◌, cond, List, [], ◌∷◌, Option, Some, None, refl, sym, ◌∙◌, ap, subst}
 use Rattle.std.proofs.lemmas.Bool.{cases_eq, eq-eqb, ne_eqb}
 use Rattle.spk_nums.specs.declared.calls.Call.{Call}
 use Rattle.spk_nums.specs.declared.replies.Reply.{Reply}
 use Rattle.spk_nums.specs.Setting.{Setting}
 use Rattle.spk_nums.specs.CallLimits.{InLimits}
 use Rattle.seq_state.specs.State.{State}
-use Rattle.seq_state.specs.Runs.{Event, Enters, Decides, Returns, after, core_of, phase_by, phase_of, IsRun, Phase as event_phase, Out as is_out, Open as is_open, Decided as is_decided}
+use Rattle.seq_state.specs.Runs.{Event, Enters, Decides, Returns, after, core_of, phase_by, phase_of, IsRun}
 use Rattle.kernel_history.specs.Trace.{Step, Trace, Phase, Out, Open, Decided, phase, after_enter, after_decide, after_return, state_after, state_entered, state_decided, state_returned, state_before}
 use Rattle.kernel_history.specs.Events.{with_entry, with_decision, with_return, events_of, plain_phase}
 use Rattle.kernel_history.specs.Legal.{MayEnter, MayDecide, MayReturn, MayFollow, IsLegal}
@@ -74,17 +74,17 @@ return_phase : (o : Option Reply) (c : ℕ) (events : List Event) (p : Phase) �
 return_phase None c events p is = is
 return_phase (Some r) c events p is = same_phase (Returns c) events c refl
 
-entry_apart : (o : Option Call) (d : ℕ) (events : List Event) (c : ℕ) → c ≢ d → phase_of (with_entry o d events) c ≡ phase_of events c
+pub entry_apart : (o : Option Call) (d : ℕ) (events : List Event) (c : ℕ) → c ≢ d → phase_of (with_entry o d events) c ≡ phase_of events c
 entry_apart None d events c other = refl
 entry_apart (Some call) d events c other = apart_phase (Enters d) events c other
 
-decision_apart : (o : Option Reply) (p : Phase) (d : ℕ) (events : List Event) (c : ℕ) → c ≢ d → phase_of (with_decision o p d events) c ≡ phase_of events c
+pub decision_apart : (o : Option Reply) (p : Phase) (d : ℕ) (events : List Event) (c : ℕ) → c ≢ d → phase_of (with_decision o p d events) c ≡ phase_of events c
 decision_apart None p d events c other = refl
 decision_apart (Some r) Out d events c other = refl
 decision_apart (Some r) (Open call) d events c other = apart_phase (Decides d call r) events c other
 decision_apart (Some r) (Decided call q) d events c other = refl
 
-return_apart : (o : Option Reply) (d : ℕ) (events : List Event) (c : ℕ) → c ≢ d → phase_of (with_return o d events) c ≡ phase_of events c
+pub return_apart : (o : Option Reply) (d : ℕ) (events : List Event) (c : ℕ) → c ≢ d → phase_of (with_return o d events) c ≡ phase_of events c
 return_apart None d events c other = refl
 return_apart (Some r) d events c other = apart_phase (Returns d) events c other
 

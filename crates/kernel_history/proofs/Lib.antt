@@ -6,3 +6,15 @@ pub mod Replies
 pub mod Events
 pub mod Inside
 pub mod Graces
+pub mod Statements
+pub mod Stays
+pub mod GraceSets
+pub mod GraceSteps
+pub mod Times
+pub mod Waiting
+pub mod Carries
+pub mod Laws
+pub mod Sums
+pub mod StartRefs
+pub mod Fillings
+pub mod BootRepresents

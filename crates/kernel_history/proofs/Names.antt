@@ -18,4 +18,3 @@ cases_word w v = by_cases (same_word w v) refl where
   by_cases : (b : Bool) → same_word w v ≡ b → (w ≡ v) ⊎ (w ≢ v)
   by_cases true is = inl (same_word-true w v is)
   by_cases false is = inr (λ h. let same = same_word-same w v h in absurd (cc))
-

@@ -1,5 +1,5 @@
 -- What one more step changes: at its own core and word, and elsewhere.
-use Rattle.std.proofs.Common.{◌≡◌, ◌≢◌, ℕ, ◌+◌, ◌++◌, ◌&&◌, ◌==◌, Bool, true, false, ◌∷◌, Some, None, cond, refl, ap, ◌∙◌}
+use Rattle.std.proofs.Common.{◌≡◌, ◌≢◌, ℕ, ◌+◌, ◌++◌, true, false, ◌∷◌, Some, None, cond, ap, ◌∙◌}
 use Rattle.std.specs.Prelude.{option_to_list, is_some}
 use Rattle.std.proofs.lemmas.Bool.{eq-eqb, ne_eqb}
 use Rattle.spk_nums.specs.Setting.{Setting}
@@ -7,7 +7,7 @@ use Rattle.word_map.specs.Word.{Word, FlushAt, ClockAt, same_word}
 use Rattle.seq_state.specs.State.{Thing}
 use Rattle.seq_state.specs.GracePeriods.{needs_flush}
 use Rattle.kernel_history.specs.Trace.{Step, Trace, phase, after_enter, after_decide, after_return, last_left, calls_of, steps_in_call, own_left, state_before}
-use Rattle.kernel_history.specs.Stamps.{begins_at, ends_at, flushes_at, stamp, awaits_flushes, clock, clock_seen, exit_after, exit_of, flush_of, flush_stored}
+use Rattle.kernel_history.specs.Stamps.{begins_at, ends_at, flushes_at, stamp, awaits_flushes, clock_seen, exit_after, exit_of, flush_of, flush_stored}
 use Rattle.kernel_history.proofs.Names.{same_word-same, same_word-other}
 
 module _ (c : ℕ) (e : Step) (t : Trace) (own : c ≡ e.core) where

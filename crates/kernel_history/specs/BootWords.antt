@@ -1,5 +1,5 @@
 -- The words of the machine at the start: those of the start state, where the clock is 1 and every stamp and version is 0.
-use Rattle.std.specs.Prelude.{ℕ, ◌-◌, ◌==◌, false, if◌then◌else◌, length, ℤ, pos, None}
+use Rattle.std.specs.Prelude.{ℕ, ◌-◌, ◌==◌, false, if◌then◌else◌, length, pos, None}
 use Rattle.spk_nums.specs.Setting.{Setting}
 use Rattle.entry_words.specs.declared.entry.Entry.{Entry}
 use Rattle.entry_words.specs.declared.entry.Entry.TheVariants as entry
@@ -14,8 +14,9 @@ use Rattle.frame_words.specs.declared.live_word.LiveWord.{LiveWord}
 use Rattle.frame_words.specs.declared.live_word.LiveWord.TheVariants as live_word
 use Rattle.tcap_words.specs.Head.{word_of_head}
 use Rattle.tcap_words.specs.Thread.{word_of_thread}
+use Rattle.word_map.specs.Places.{Shape}
 use Rattle.word_map.specs.Word.{Word, EntryAt, FrameAt, CountAt, CoreAt, FlushAt, LiveAt, ClockAt}
-use Rattle.seq_state.specs.State.{Place, Free, Holds, Quiescing, ThreadFields, TcapFields, Object, Blank, Table, Leaf, Pages, Pleaf, Comp, Thread, Tcap, Frame, Untyped, User, Kernel, Liveness, Unused, Live, Dead, State}
+use Rattle.seq_state.specs.State.{Place, Free, Holds, Quiescing, ThreadFields, TcapFields, Object, Blank, Table, Leaf, Pages, Pleaf, Comp, Thread, Tcap, Frame, Untyped, User, Kernel, Liveness, Unused, Live, Dead}
 use Rattle.seq_state.specs.Start.{start}
 use Rattle.seq_state.specs.References.{refs}
 use Rattle.kernel_history.specs.ObjectWords.{frame_value, comp_word, thread_value, stack_word, quality_word}
@@ -66,3 +67,7 @@ boot_word setup (CoreAt c) = word_of_core (record { inside = false; stamp = 0 })
 boot_word setup (FlushAt c) = word_of_flush (record { stamp = 0 })
 boot_word setup (LiveAt l) = word_of_live (boot_live ((start setup).number l))
 boot_word setup ClockAt = 1
+
+-- The layout of a machine of this setting.
+abbrev pub shape_of : Setting → Shape
+shape_of setup = record { cores = setup.cores; frames = setup.frames }

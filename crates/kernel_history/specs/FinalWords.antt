@@ -1,26 +1,28 @@
 -- When words and core ends represent a state in which no core is in a call.
-use Rattle.std.specs.Prelude.{◌≡◌, ◌<◌, ◌≤◌, ◌+◌, ◌-◌, ℕ, false, true, List, length, Option, Some, None, slice_index, IsTrue, ℤ, pos, IsSomeAnd}
+use Rattle.std.specs.Prelude.{◌≡◌, ◌<◌, ◌≤◌, ◌+◌, ℕ, false, [], List, length, Option, Some, None, unwrap_or, slice_index, slice_get, ℤ, pos}
 use Rattle.spk_nums.specs.declared.translations.CoreEnd.{CoreEnd}
 use Rattle.entry_words.specs.declared.entry.Entry.{Entry}
 use Rattle.entry_words.specs.declared.entry.Entry.TheVariants as entry
 use Rattle.entry_words.specs.EntryWord.{entry_of_word}
+use Rattle.frame_words.specs.Comp.{comp_of_word}
 use Rattle.frame_words.specs.Frame.{frame_of_word}
 use Rattle.frame_words.specs.Count.{count_of_word}
 use Rattle.frame_words.specs.Core.{core_of_word}
 use Rattle.frame_words.specs.Live.{live_of_word}
-use Rattle.frame_words.specs.declared.count_word.CountWord.{CountWord}
 use Rattle.frame_words.specs.declared.count_word.Hold.TheVariants.{Unheld}
 use Rattle.frame_words.specs.declared.core_word.CoreWord.{CoreWord}
 use Rattle.frame_words.specs.declared.live_word.LiveWord.{LiveWord}
 use Rattle.frame_words.specs.declared.live_word.LiveWord.TheVariants as live_word
 use Rattle.tcap_words.specs.Head.{head_of_word}
+use Rattle.tcap_words.specs.Quality.{quality_of_word}
+use Rattle.tcap_words.specs.Stack.{stack_of_word}
 use Rattle.tcap_words.specs.Thread.{thread_of_word}
-use Rattle.tcap_words.specs.declared.head_word.HeadWord.{HeadWord}
 use Rattle.word_map.specs.Word.{Word, EntryAt, FrameAt, CountAt, CoreAt, LiveAt}
 use Rattle.word_map.specs.Places.{Shape, place_of, counter_of}
-use Rattle.seq_state.specs.State.{Place, Free, Holds, Quiescing, CompFields, ThreadFields, TcapFields, Object, Blank, Table, Leaf, Pages, Pleaf, Comp, Thread, Tcap, Frame, Untyped, User, Kernel, Liveness, Unused, Live, Dead, Core, State, first_of_stack, thread_of}
+use Rattle.seq_state.specs.State.{Place, Free, Holds, Quiescing, CompFields, ThreadFields, TcapFields, Object, Blank, Table, Leaf, Pages, Pleaf, Comp, Thread, Tcap, Frame, Untyped, User, Kernel, Liveness, Unused, Live, Dead, State, first_of_stack, thread_of}
 use Rattle.seq_state.specs.References.{refs}
-use Rattle.kernel_history.specs.ObjectWords.{frame_value, comp_word, thread_value, stack_word, quality_word}
+use Rattle.seq_state.specs.Access.{held_in}
+use Rattle.kernel_history.specs.ObjectWords.{is_node, frame_value, thread_value, at_height}
 
 -- What the word of a place says that no core is closing: it is free, holds the capability, or is quiescing since some stamp.
 pub record SaysQuiescing (shown : Option Entry) : Type 0 where
@@ -36,20 +38,23 @@ SaysPlace (Quiescing k) shown = SaysQuiescing shown
 abbrev pub AreEntries : (ℕ → Place) → (ℕ → ℕ) → Type 0
 AreEntries place word = (i : ℕ) → i < 64 → SaysPlace (place i) (entry_of_word (word i))
 
--- The three words of a component are its fields.
-abbrev pub AreComp : CompFields → (ℕ → ℕ) → Type 0
-AreComp k word = (i : ℕ) → i < 3 → word i ≡ comp_word k i
+-- The three words of a component say its fields.
+pub record AreComp (k : CompFields) (word : ℕ → ℕ) : Type 0 where
+  pub table : word 0 ≡ k.table
+  pub pages : word 1 ≡ k.pages
+  pub live : comp_of_word (word 2) ≡ Some (record { number = k.number; epoch = k.epoch })
 
 -- The words of a thread: where it runs and its depth, unclaimed, and its stack from the bottom on.
 pub record AreThread (t : ThreadFields) (word : ℕ → ℕ) : Type 0 where
   pub runs : thread_of_word (word 0) ≡ Some (thread_value t.runs_on (length t.stack))
-  pub stack : (h : ℕ) → h < 16 → word (1 + h) ≡ stack_word t.stack h
+  pub stack : (h : ℕ) → h < 16 → stack_of_word (word (1 + h)) ≡ Some (record { 0 = at_height t.stack h })
 
--- The words of a temporal capability: its budget, unmarked, in some version, and its list.
+-- The words of a temporal capability: its budget, unmarked, in some version, and its list, which has at most 8 pairs.
 pub record AreTcap (q : TcapFields) (word : ℕ → ℕ) : Type 0 where
   pub version : ℕ
   pub head : head_of_word (word 0) ≡ Some (record { budget = q.budget; mark = None; version = version })
-  pub list : (j : ℕ) → j < 8 → word (1 + j) ≡ quality_word q.qualities j
+  pub list : (j : ℕ) → j < 8 → quality_of_word (word (1 + j)) ≡ Some (record { 0 = slice_get q.qualities j })
+  pub most : length q.qualities ≤ 8
 
 -- The words of a frame are those of its object; of a frame without an object nothing is asked.
 abbrev pub AreObject : Object → (ℕ → Place) → (ℕ → ℕ) → Type 0
@@ -93,9 +98,15 @@ end_of s c = record {
   cached = (s.core c).cached;
 }
 
--- The words and the core ends represent the state, the counts of references apart.
+-- Places that hold nothing.
+abbrev pub HoldNothing : (ℕ → Place) → Type 0
+HoldNothing place = (i : ℕ) → i < 64 → held_in (place i) ≡ None
+
+-- The words and the core ends represent the state, the counts of references apart. Only nodes hold something, since the words
+-- of other frames are no entries.
 pub record Represent (word : Word → ℕ) (end : ℕ → CoreEnd) (s : State) : Type 0 where
   pub objects : (f : ℕ) → f < s.limits.frames → AreFrame (s.frame f) (s.place f) (λ i. word (EntryAt f i))
+  pub bare : (f : ℕ) → f < s.limits.frames → is_node (s.frame f) ≡ false → HoldNothing (s.place f)
   pub kinds : (f : ℕ) → f < s.limits.frames → frame_of_word (word (FrameAt f)) ≡ Some (frame_value (s.frame f))
   pub numbers : (l : ℕ) → l < 64 → SaysNumber (s.number l) (live_of_word (word (LiveAt l)))
   pub cores : (c : ℕ) → c < s.limits.cores → SaysOut (core_of_word (word (CoreAt c)))
@@ -115,3 +126,11 @@ RepresentCounts word s = (f : ℕ) → f < s.limits.frames → Counts word s f
 -- The word of this name in a list by places.
 abbrev pub word_in : Shape → List ℕ → Word → ℕ
 word_in shape words w = slice_index words (place_of shape w)
+
+-- The end of a core that a list does not tell.
+abbrev pub no_end : CoreEnd
+no_end = record { thread = 0; tcap = 0; comp = 0; spent = 0; owed = 0; cached = [] }
+
+-- The end of core c in a list of ends, core 0's first.
+abbrev pub end_in : List CoreEnd → ℕ → CoreEnd
+end_in ends c = unwrap_or (slice_get ends c) no_end

@@ -1,12 +1,12 @@
 -- When a decision is justified by the steps of its own call.
-use Rattle.std.specs.Prelude.{◌≡◌, ◌≢◌, ◌⊎◌, ℕ, ◌==◌, ◌&&◌, Bool, true, false, Option, Some, None, List, ◌∷◌, IsSome, is_some, IsTrue, All, if◌then◌else◌}
+use Rattle.std.specs.Prelude.{◌≡◌, ◌≢◌, ◌⊎◌, ℕ, ◌==◌, ◌&&◌, Bool, Option, Some, None, List, ◌∷◌, IsSome, is_some, IsTrue, All, if◌then◌else◌}
 use Rattle.std.specs.List.{list_any}
 use Rattle.spk_nums.specs.declared.calls.Call.{Call}
 use Rattle.spk_nums.specs.declared.replies.Reply.{Reply}
 use Rattle.spk_nums.specs.declared.replies.Reply.TheVariants as reply
 use Rattle.spk_nums.specs.Setting.{Setting}
 use Rattle.word_map.specs.Word.{Word, EntryAt, FrameAt, CountAt, CoreAt, FlushAt, LiveAt, ClockAt}
-use Rattle.seq_state.specs.State.{Place, Free, Holds, Quiescing, Object, Blank, Table, Leaf, Pages, Pleaf, Comp, Thread, Tcap, Frame, Untyped, User, Kernel, Liveness, Unused, Live, Dead, Thing, PlaceOf, FrameOf, NumberOf, State}
+use Rattle.seq_state.specs.State.{Place, Free, Holds, Quiescing, Thread, Tcap, Frame, Kernel, Liveness, Unused, Live, Dead, Thing, PlaceOf, FrameOf, NumberOf, State}
 use Rattle.seq_state.specs.Access.{Slot}
 use Rattle.seq_state.specs.GracePeriods.{same_thing, MayWait, MayBeUnflushed}
 use Rattle.seq_state.specs.CallRelation.{rule_of}

@@ -10,7 +10,10 @@ pub mod Legal
 pub mod Bounds
 pub mod Order
 pub mod FinalWords
+pub mod BootLaws
+pub mod Filling
 pub mod Moments
 pub mod Tables
 pub mod Text
 pub mod GivenSteps
+pub mod Laws

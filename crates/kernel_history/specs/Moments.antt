@@ -1,13 +1,11 @@
 -- What the words say at each moment of a trace.
-use Rattle.std.specs.Prelude.{◌≡◌, ◌≢◌, ◌<◌, ◌⊎◌, ◌↔◌, ℕ, true, [], ◌∷◌, Some, IsTrue, IsSome}
+use Rattle.std.specs.Prelude.{◌≡◌, ◌≢◌, ◌<◌, ◌⊎◌, ◌↔◌, ℕ, [], ◌∷◌, Some, IsTrue}
 use Rattle.spk_nums.specs.Setting.{Setting}
-use Rattle.entry_words.specs.declared.entry.Entry.{Entry}
 use Rattle.entry_words.specs.declared.entry.Entry.TheVariants as entry
 use Rattle.entry_words.specs.EntryWord.{entry_of_word}
 use Rattle.frame_words.specs.Core.{core_of_word}
 use Rattle.frame_words.specs.declared.core_word.CoreWord.{CoreWord}
 use Rattle.word_map.specs.Word.{EntryAt, CoreAt}
-use Rattle.seq_state.specs.State.{State}
 use Rattle.kernel_history.specs.ObjectWords.{is_node}
 use Rattle.kernel_history.specs.FinalWords.{SaysPlace}
 use Rattle.kernel_history.specs.Trace.{Trace, Out, phase, state_after, last_left}

@@ -1,6 +1,5 @@
 -- The words of the objects of frames: what each field of the state is in words.
-use Rattle.std.specs.Prelude.{ℕ, ◌==◌, Bool, true, false, if◌then◌else◌, List, length, slice_get, reverse, Option, Some, None}
-use Rattle.spk_nums.specs.declared.kinds.FrameKind.{FrameKind}
+use Rattle.std.specs.Prelude.{ℕ, ◌==◌, Bool, true, false, if◌then◌else◌, List, slice_get, reverse, Option, Some, None}
 use Rattle.spk_nums.specs.declared.kinds.FrameKind.TheVariants as frame_kind
 use Rattle.spk_nums.specs.declared.kinds.Obj.{Obj}
 use Rattle.spk_nums.specs.declared.kinds.Obj.TheVariants as obj
@@ -10,7 +9,7 @@ use Rattle.tcap_words.specs.Quality.{word_of_quality}
 use Rattle.tcap_words.specs.Stack.{word_of_stack}
 use Rattle.tcap_words.specs.declared.thread_word.ThreadWord.{ThreadWord}
 use Rattle.tcap_words.specs.declared.thread_word.ThreadWord.TheVariants.{Idle, Running}
-use Rattle.seq_state.specs.State.{CompFields, ThreadFields, Object, Blank, Table, Leaf, Pages, Pleaf, Comp, Thread, Tcap, Frame, Untyped, User, Kernel}
+use Rattle.seq_state.specs.State.{CompFields, Object, Blank, Table, Leaf, Pages, Pleaf, Comp, Thread, Tcap, Frame, Untyped, User, Kernel}
 
 -- Whether an object is a node, whose 64 words are entries.
 abbrev pub is_node_object : Object → Bool

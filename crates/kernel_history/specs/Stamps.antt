@@ -1,9 +1,8 @@
 -- Stamps: the value of the clock at which a grace period began, at which a core left its last call, and at which it flushed last.
-use Rattle.std.specs.Prelude.{◌≡◌, ◌<◌, ◌≤◌, ℕ, Bool, true, false, ◌==◌, ◌&&◌, if◌then◌else◌, [], ◌∷◌, Option, Some, None, IsTrue}
-use Rattle.spk_nums.specs.declared.calls.Call.{Call}
+use Rattle.std.specs.Prelude.{ℕ, Bool, true, false, ◌==◌, ◌&&◌, if◌then◌else◌, [], ◌∷◌, Option, Some, None}
 use Rattle.spk_nums.specs.declared.replies.Reply.{Reply}
 use Rattle.spk_nums.specs.Setting.{Setting}
-use Rattle.word_map.specs.Word.{Word, FlushAt, ClockAt, same_word}
+use Rattle.word_map.specs.Word.{FlushAt, ClockAt, same_word}
 use Rattle.seq_state.specs.State.{Thing, State}
 use Rattle.seq_state.specs.GracePeriods.{needs_flush}
 use Rattle.seq_state.specs.CallRelation.{begins, ends, flushes}

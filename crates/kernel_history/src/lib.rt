@@ -1,4 +1,54 @@
 //! What the kernel promises: traces of atomic steps, and when a trace is a legal history of the sequential kernel.
+//!
+//! The definitions stand in this crate's specs. The laws below say of them what a reader would ask of them.
 #![tactic(auto)]
 
+mod boot;
+
+ghost use Rattle.kernel_history.specs.BootLaws.{BootRepresentsStart};
+ghost use Rattle.kernel_history.specs.Laws.{LegalRuns, EventsDetermine, LegalUpTo, OneCallAtATime, AloneGoesOn};
+
+pub use boot::boot_words;
 pub use spk_nums;
+
+/// The boot words of every setup, with the ends that the cores have at the start, represent its start state; so do the
+/// counts of references.
+#[tactic(auto, using(crate::proofs::BootRepresents::boot_represents))]
+pub fn boot_words_represent_the_start()
+    ensures { BootRepresentsStart }
+{}
+
+
+/// The events of a legal trace are a run of the sequential kernel, and the trace leaves the state that they leave. So each law of
+/// the sequential kernel holds after each legal trace.
+#[tactic(auto, using(crate::proofs::Laws::legal_runs))]
+pub fn legal_runs()
+    ensures { LegalRuns }
+{}
+
+/// What a trace leaves is determined by its events: the state, and of each core whether it is between calls, in an open call or
+/// in a decided one.
+#[tactic(auto, using(crate::proofs::Laws::events_determine))]
+pub fn events_determine()
+    ensures { EventsDetermine }
+{}
+
+/// A legal trace is legal up to each of its steps.
+#[tactic(auto, using(crate::proofs::Laws::legal_up_to))]
+pub fn legal_up_to()
+    ensures { LegalUpTo }
+{}
+
+/// In a legal trace a core is in at most one call: it has entered the calls that have returned, and one more exactly where it is
+/// in a call.
+#[tactic(auto, using(crate::proofs::Laws::one_call_at_a_time))]
+pub fn one_call_at_a_time()
+    ensures { OneCallAtATime }
+{}
+
+/// In a legal trace a call decides none of `raced`, `busy` and `quiescing` while no other core is in a call, and none has stepped
+/// since it was entered.
+#[tactic(auto, using(crate::proofs::Laws::alone_goes_on))]
+pub fn alone_goes_on()
+    ensures { AloneGoesOn }
+{}

@@ -36,27 +36,27 @@ outcome_from P s c (Held target rest) h = then_found (held s c target) (λ p. ou
 outcome_from P s c (Mapped table v rest) h = then_found (mapped s c table v) (λ k. outcome s c (rest k)) P λ k e. outcome_from P s c (rest k) (h k e)
 outcome_from P s c (Does causes change) h = unless_found (first_cause s c causes) change P h
 
-some_inj : {A : Type 0} (x y : A) → Some x ≡ Some y → x ≡ y
+pub some_inj : {A : Type 0} (x y : A) → Some x ≡ Some y → x ≡ y
 some_inj x y e = cc
 
-none_some : {A : Type 0} (x : A) → None ≡ Some x → ⊥
+pub none_some : {A : Type 0} (x : A) → None ≡ Some x → ⊥
 none_some x e = cc
 
-some_none : {A : Type 0} (x : A) → Some x ≡ None → ⊥
+pub some_none : {A : Type 0} (x : A) → Some x ≡ None → ⊥
 some_none x e = cc
 
-refused_found : {A : Type 0} (r : Reply) (x : A) → Refused r ≡ Found x → ⊥
+pub refused_found : {A : Type 0} (r : Reply) (x : A) → Refused r ≡ Found x → ⊥
 refused_found r x e = cc
 
-found_inj : {A : Type 0} (x y : A) → Found x ≡ Found y → x ≡ y
+pub found_inj : {A : Type 0} (x y : A) → Found x ≡ Found y → x ≡ y
 found_inj x y e = cc
 
 -- What is found behind another finding.
-then_parts : {A B : Type 0} (x : Judged A) (f : A → Judged B) (b : B) → and_then x f ≡ Found b → (a : A) × (x ≡ Found a) × (f a ≡ Found b)
+pub then_parts : {A B : Type 0} (x : Judged A) (f : A → Judged B) (b : B) → and_then x f ≡ Found b → (a : A) × (x ≡ Found a) × (f a ≡ Found b)
 then_parts (Refused r) f b e = absurd (refused_found r b e)
 then_parts (Found a) f b e = (a, refl, e)
 
-or_found : {A : Type 0} (o : Option A) (r : Reply) (x : A) → or_refuse o r ≡ Found x → o ≡ Some x
+pub or_found : {A : Type 0} (o : Option A) (r : Reply) (x : A) → or_refuse o r ≡ Found x → o ≡ Some x
 or_found None r x e = absurd (refused_found r x e)
 or_found (Some y) r x e = ap Some (found_inj y x e)
 
@@ -101,7 +101,7 @@ abbrev pub RootIsNode : State → Target → Type 0
 RootIsNode s (Under table n) = Unit {0}
 RootIsNode s (InRoot table i) = IsTrue (is_node (s.frame table.frame))
 
-link_node : (x : Frame) → IsTrue (fits kind.Link x) → IsTrue (is_node x)
+pub link_node : (x : Frame) → IsTrue (fits kind.Link x) → IsTrue (is_node x)
 link_node (Kernel Leaf) h = refl
 link_node (Kernel Pleaf) h = refl
 link_node _ h = absurd (false≢true h)

@@ -1,5 +1,5 @@
 -- What a decision makes of the grace period of each thing: it begins, it ends, a flush leaves it, or it stays.
-use Rattle.std.proofs.Common.{◌≡◌, ℕ, Bool, true, false, cond, refl, ◌∙◌, ap}
+use Rattle.std.proofs.Common.{◌≡◌, ℕ, true, false, cond, refl, ap}
 use Rattle.spk_nums.specs.declared.kinds.FrameKind.{FrameKind}
 use Rattle.spk_nums.specs.declared.kinds.FrameKind.TheVariants as frame_kind
 use Rattle.spk_nums.specs.declared.calls.Make.{Make}

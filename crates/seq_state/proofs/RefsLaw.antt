@@ -16,7 +16,7 @@ use Rattle.seq_state.proofs.SoundRuns.{opened, open_is}
 use Rattle.seq_state.proofs.Refs.{RefsBy, grace_refs, rule_refs}
 
 -- A call that is counted changes no reference.
-counted_refs : (s : State) (c f : ℕ) → refs (counted s c) f ≡ refs s f
+pub counted_refs : (s : State) (c f : ℕ) → refs (counted s c) f ≡ refs s f
 unfolding refs node_refs
 counted_refs s c f =
     let a = sum_same (λ d. times f (core_names (s.core d))) (λ d. times f (core_names ((counted s c).core d))) s.limits.cores (λ d below.

@@ -252,10 +252,10 @@ find_not p a (suc n) e h low high = tested (find_not p (a + 1) n e) (p a) refl h
       | inr other ↦ more q (omega (arith, low, other)) (omega (arith, high))
     ]
 
--- Where no other core is found waiting, none waits.
-pub none_waits : (s : State) (c f : ℕ) → waits_of s c (FrameOf f) ≡ None → NoneWaits s c f
-none_waits s c f h d below other = waits_not ((s.grace (FrameOf f)).waits d)
-    (ap (λ b. (s.grace (FrameOf f)).waits d && not b) (sym (ne_eqb d c other)) ∙ find_not (λ e. (s.grace (FrameOf f)).waits e && not (e == c)) 0 s.limits.cores d (not_found (other_waiting s c (FrameOf f)) h) (omega arith) (omega (arith, below)))
+-- Where no other core is found waiting for a thing, none waits.
+pub none_waiting : (s : State) (c : ℕ) (x : Thing) → waits_of s c x ≡ None → (d : ℕ) → d < s.limits.cores → d ≢ c → (s.grace x).waits d ≡ false
+none_waiting s c x h d below other = waits_not ((s.grace x).waits d)
+    (ap (λ b. (s.grace x).waits d && not b) (sym (ne_eqb d c other)) ∙ find_not (λ e. (s.grace x).waits e && not (e == c)) 0 s.limits.cores d (not_found (other_waiting s c x) h) (omega arith) (omega (arith, below)))
   where
     not_found : (w : Option ℕ) → quiescing_by w ≡ None → w ≡ None
     not_found None e = refl
@@ -267,3 +267,6 @@ none_waits s c f h d below other = waits_not ((s.grace (FrameOf f)).waits d)
     waits_not : (b : Bool) → (b && true) ≡ false → b ≡ false
     waits_not true e = absurd (true≢false e)
     waits_not false e = refl
+
+pub none_waits : (s : State) (c f : ℕ) → waits_of s c (FrameOf f) ≡ None → NoneWaits s c f
+none_waits s c f h = none_waiting s c (FrameOf f) h

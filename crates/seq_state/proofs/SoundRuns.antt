@@ -31,7 +31,7 @@ is_in Out = false
 is_in Open = true
 is_in Decided = true
 
-abbrev is_open : Phase → Bool
+abbrev pub is_open : Phase → Bool
 is_open Out = false
 is_open Open = true
 is_open Decided = false

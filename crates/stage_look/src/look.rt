@@ -13,7 +13,7 @@ ghost use Rattle.std.specs.Prelude.{◌≡◌, ◌<◌, ◌≤◌, nat_le};
 ghost use Rattle.word_map.specs.Places.{size_of};
 ghost use Rattle.word_map.specs.Moves.{op_of, place_in};
 ghost use Rattle.stage_look.specs.Shown.{end_of_frames, shown_in, entry_within, held_if, is_link};
-ghost use Rattle.stage_look.specs.Lookup.{LookFits, look_move, end_by_link, root_end, found_at, place_end, look_end, after_link, root_after, look_after, EndFits};
+ghost use Rattle.stage_look.specs.Lookup.{LookFits, look_move, root_end, place_end, look_end, root_after, look_after, EndFits};
 
 use entry_words::Entry;
 use spk_nums::{Cap, CapId, EntryNo, FrameNo, Kind, Reply, StageEnd, WordOp};
@@ -278,5 +278,103 @@ fn place_leads(node: FrameNo, entry: EntryNo, word: u64, value: &Entry) -> Stage
             word,
             value: *value,
         }),
+    }
+}
+
+#[cfg(test)]
+mod tests {
+    use super::*;
+    use spk_nums::{CoreNo, Stamp};
+
+    // Words of entries: links to the frames 1 and 8, a table, ranges of 2 and of 3 frames from 6 on, the marks of core 1
+    // and of the stamp 5, and a word of no entry.
+    const LINK_TO_1: u64 = 101;
+
+    const LINK_TO_8: u64 = 549;
+
+    const TABLE_0: u64 = 5;
+
+    const RANGE_6_2: u64 = 0x2_0181;
+
+    const RANGE_6_3: u64 = 0x3_0181;
+
+    const CLOSING: u64 = 6;
+
+    const QUIESCING: u64 = 0x5_0000_0003;
+
+    const FOREIGN: u64 = 4;
+
+    #[test]
+    fn looks_up_a_number_and_a_root_entry(rt: HostRuntime) {
+        if let Some(layout) = Layout::new(1, 8) {
+            let mut look = Look::own(FrameNo::new(0), CapId::new(70));
+            assert_eq!(rt; look.next(&layout), WordOp::Load { at: 1 });
+            assert_eq!(rt; look.take(&layout, LINK_TO_1), StageEnd::Going);
+            assert_eq!(rt; look.next(&layout), WordOp::Load { at: 70 });
+            let range = Found {
+                node: FrameNo::new(1),
+                entry: EntryNo::new(6),
+                word: RANGE_6_2,
+                value: Entry::Held(Cap::new(Kind::Range, FrameNo::new(6), 2)),
+            };
+            assert_eq!(rt; look.take(&layout, RANGE_6_2), StageEnd::Done(range));
+            let mut entry = Look::root(FrameNo::new(2), EntryNo::new(63));
+            assert_eq!(rt; entry.next(&layout), WordOp::Load { at: 191 });
+            let link = Found {
+                node: FrameNo::new(2),
+                entry: EntryNo::new(63),
+                word: LINK_TO_1,
+                value: Entry::Held(Cap::new(Kind::Link, FrameNo::new(1), 0)),
+            };
+            assert_eq!(rt; entry.take(&layout, LINK_TO_1), StageEnd::Done(link));
+        }
+    }
+
+    #[test]
+    fn refuses_at_the_root(rt: HostRuntime) {
+        let busy = Reply::Busy(CoreNo::new(1));
+        let rows = [
+            (0, Reply::NoSlot),
+            (TABLE_0, Reply::NoSlot),
+            (CLOSING, busy),
+            (QUIESCING, Reply::NoSlot),
+            (LINK_TO_8, Reply::Raced),
+            (FOREIGN, Reply::Raced),
+        ];
+        if let Some(layout) = Layout::new(1, 8) {
+            for (word, reply) in rows {
+                let mut look = Look::place(FrameNo::new(0), CapId::new(4095));
+                assert_eq!(rt;
+                    look.take(&layout, word),
+                    StageEnd::Refuse(reply),
+                    "at {word:#x}"
+                );
+            }
+        }
+    }
+
+    #[test]
+    fn hands_on_what_stands_at_the_place(rt: HostRuntime) {
+        let quiescing = Entry::Quiescing {
+            stamp: Stamp::new(5),
+        };
+        let rows = [
+            (0, Ok(Entry::Free)),
+            (QUIESCING, Ok(quiescing)),
+            (CLOSING, Err(Reply::Busy(CoreNo::new(1)))),
+            (RANGE_6_3, Err(Reply::Raced)),
+            (FOREIGN, Err(Reply::Raced)),
+        ];
+        if let Some(layout) = Layout::new(1, 8) {
+            for (word, wanted) in rows {
+                let mut look = Look::root(FrameNo::new(0), EntryNo::new(0));
+                let taken = match look.take(&layout, word) {
+                    StageEnd::Done(found) => Ok(found.value),
+                    StageEnd::Refuse(reply) => Err(reply),
+                    _ => Err(Reply::Fault),
+                };
+                assert_eq!(rt; taken, wanted, "at {word:#x}");
+            }
+        }
     }
 }

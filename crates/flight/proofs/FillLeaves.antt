@@ -1,0 +1,255 @@
+-- The filling compare of a copy is good: it is lost to another core, or the place is free and takes the capability.
+use Rattle.std.proofs.Common.{◌≡◌, ◌≢◌, ◌⊎◌, inl, inr, ℕ, ◌+◌, ◌<◌, ◌≤◌, ◌==◌, ◌&&◌, ◌++◌, ◌∷◌, List, [], Bool, true, false, Option, Some, None, arith, refl, sym, ◌∙◌, ap, subst, IsTrue}
+use Rattle.std.specs.Prelude.{IsSome}
+use Rattle.std.proofs.lemmas.Bool.{eqb-true, eqb-false, false≢true}
+use Rattle.std.proofs.lemmas.List.Elements.{All-append}
+use Rattle.spk_nums.specs.Capability.{Capability}
+use Rattle.spk_nums.specs.Setting.{Setting, IsSetting}
+use Rattle.spk_nums.specs.declared.kinds.Kind.TheVariants as kind
+use Rattle.spk_nums.specs.declared.calls.Call.TheVariants.{Copy}
+use Rattle.spk_nums.specs.declared.replies.Value.TheVariants.{Nothing}
+use Rattle.spk_nums.specs.declared.replies.Reply.TheVariants as reply
+use Rattle.entry_words.specs.declared.entry.Entry.{Entry}
+use Rattle.entry_words.specs.declared.entry.Entry.TheVariants.{Free, Held, Closing, Quiescing}
+use Rattle.entry_words.specs.EntryWord.{EntryFits, word_of_entry, entry_of_word}
+use Rattle.entry_words.proofs.Spelling.{spelling}
+use Rattle.word_map.specs.Word.{Word, EntryAt}
+use Rattle.word_map.specs.Moves.{left_if}
+use Rattle.seq_state.specs.State.{Place, Free as Vacant, Holds, Quiescing as Removed, Frame, Kernel, Table, Leaf, Pages, Pleaf, Thing, PlaceOf, State, put, with_place}
+use Rattle.seq_state.specs.Access.{Slot, found, Target, Under, any, only, place_at, own}
+use Rattle.seq_state.specs.Rules.{Change, Judged, Refused, Found, IsFoundAnd, Vacant as to_be_free, Does, Name, and_then, or_refuse, unless, not_vacant, named, name_of, vacant, outcome, fills}
+use Rattle.seq_state.specs.CapabilityCalls.{copy_rule}
+use Rattle.seq_state.specs.CallRelation.{changed, change_of, counted, begins_in, state_by}
+use Rattle.seq_state.specs.Laws.{calls_counted}
+use Rattle.seq_state.proofs.Sound.{is_node}
+use Rattle.seq_state.proofs.Within.{put_same}
+use Rattle.seq_state.proofs.Apart.{slot_is, place_here, place_there}
+use Rattle.kernel_history.specs.Trace.{Step, Trace, Open, phase, state_after, state_decided_in, last_left, own_left}
+use Rattle.kernel_history.specs.Ways.{way_to, ways, target_of}
+use Rattle.kernel_history.specs.Justified.{HasReached, IsSlot}
+use Rattle.kernel_history.specs.Marks.{entry_mark, mark_of}
+use Rattle.kernel_history.specs.Stamps.{begins_in as begins_then, stamp}
+use Rattle.stage_look.specs.Shown.{CapNames}
+use Rattle.flight.specs.declared.stages.Stage.TheVariants.{Fill, Exit}
+use Rattle.flight.specs.declared.stages.InFlight.{InFlight}
+use Rattle.flight.specs.View.{Core}
+use Rattle.flight.specs.Stages.{took_fill}
+use Rattle.flight.specs.Steps.{landed}
+use Rattle.flight.specs.Words.{PlaceIs, IsFrameWord, WordIs}
+use Rattle.flight.specs.Holding.{marked_by}
+use Rattle.flight.specs.Knows.{HasFound, IsFill, own_in}
+use Rattle.flight.specs.Stands.{times_of, Stands}
+use Rattle.flight.proofs.Carries.{own_kept, slot_relies}
+use Rattle.flight.proofs.Loads.{inner, flight_is, is_flight}
+use Rattle.flight.proofs.Writes.{writes_entry}
+use Rattle.flight.proofs.Calm.{IsCalm, calm_core, IsPlain}
+use Rattle.flight.proofs.Places.{IsMarked, IsPlain as IsUnmarked, node_mark, place_reads}
+use Rattle.flight.proofs.Refusals.{GoodTook, not_spent, refuses_raced}
+use Rattle.flight.proofs.Findings.{own_is, found_named, way_gone}
+use Rattle.flight.proofs.LookLeaves.{at_stage, table_is}
+
+-- The change of a copy whose names are found and whose target is free.
+module _ (s : State) (c a u b : ℕ) (k j : Capability) (at : Slot) (first : named s c a any ≡ Found k) (second : named s c u (only kind.Table) ≡ Found j)
+    (reached_at : Rattle.seq_state.specs.Access.reached s c (Under (found j) b) ≡ Some at) (free : place_at s at ≡ Vacant) where
+  vacant_is : vacant s c (Under (found j) b) ≡ Found at
+  vacant_is =
+      ap (λ o. and_then (or_refuse o reply.NoSlot) λ at. unless (not_vacant s c (PlaceOf at.node at.index) (place_at s at)) at) reached_at
+      ∙ ap (λ p. unless (not_vacant s c (PlaceOf at.node at.index) p) at) free
+
+  pub copy_change : change_of s c (Copy a u b) ≡ Found (fills s at k)
+  copy_change =
+      ap (λ x. and_then x λ k. outcome s c (Name u (only kind.Table) λ table. to_be_free (Under table b) λ at. Does [] (fills s at (Rattle.seq_state.specs.Access.capability (found k))))) first
+      ∙ ap (λ x. and_then x λ j. outcome s c (to_be_free (Under (found j) b) λ at. Does [] (fills s at k))) second
+      ∙ ap (λ x. and_then x λ at. outcome s c (Does [] (fills s at k))) vacant_is
+
+  pub copy_state : state_by s c (Copy a u b) (reply.Ok Nothing) ≡ counted (with_place s at.node at.index (Holds k)) c
+  copy_state = ap (λ x. counted (changed s x) c) copy_change
+
+  pub copy_begins : (x : Thing) → begins_in (change_of s c (Copy a u b)) x ≡ false
+  copy_begins x = ap (λ y. begins_in y x) copy_change
+
+  pub copy_answers : IsFoundAnd (outcome s c (copy_rule s a u b)) (λ change. change.value ≡ Nothing)
+  copy_answers = subst (λ x. IsFoundAnd x (λ change. change.value ≡ Nothing)) (sym copy_change) refl
+
+-- A word that says that it is free is that of a free place.
+free_place : (n : ℕ) (p : Place) (r : ℕ) (o : Option Entry) → PlaceIs n p r o → o ≡ Some Free → p ≡ Vacant
+free_place n Vacant r o is free = refl
+free_place n (Holds k) r o is free = absurd (not_free k (sym is.0 ∙ free))
+  where
+    not_free : (k : Capability) → Some (Held k) ≡ Some Free → ⊥
+    not_free k h = cc
+free_place n (Removed k) r o is free = absurd (not_free r (sym is.says ∙ free))
+  where
+    not_free : (r : ℕ) → Some (Quiescing r) ≡ Some Free → ⊥
+    not_free r h = cc
+
+-- The word of a place of a node.
+node_word : (n : ℕ) (x : Frame) (p : Place) (r i v : ℕ) → IsTrue (is_node x) → PlaceIs n p r (entry_of_word v) → IsFrameWord n x p r i v
+node_word n (Kernel Table) p r i v node h = λ below. h
+node_word n (Kernel Leaf) p r i v node h = λ below. h
+node_word n (Kernel Pages) p r i v node h = λ below. h
+node_word n (Kernel Pleaf) p r i v node h = λ below. h
+node_word n _ p r i v node h = absurd (false≢true node)
+
+module _ (setup : Setting) (setting : IsSetting setup) (cores : ℕ → Core) (t : Trace) (stands : Stands setup cores t) (c : ℕ) (here : c < setup.cores)
+    (a u b steps node index word : ℕ) (k : Capability) (flight : (cores c).flight ≡ Some (at_stage (Copy a u b) steps (Fill node index word k)))
+    (knows : IsFill setup t c (cores c).table a u b k node index word) where
+  abbrev f : InFlight
+  f = at_stage (Copy a u b) steps (Fill node index word k)
+
+  abbrev s : State
+  s = state_after setup t
+
+  abbrev slot : Slot
+  slot = record { node = node; index = index }
+
+  abbrev was : ℕ
+  was = last_left setup t (EntryAt node index)
+
+  is_open : phase t c ≡ Open (Copy a u b)
+  is_open = (flight_is setup setting cores t stands c here f flight).phase
+
+  first_is : named s c a any ≡ Found k
+  first_is = found_named setup t c (cores c).table a any k (table_is setup setting cores t stands c here) knows.names.first
+
+  second_is : named s c u (only kind.Table) ≡ Found knows.root
+  second_is = found_named setup t c (cores c).table u (only kind.Table) knows.root (table_is setup setting cores t stands c here) knows.names.second
+
+  fits_in : (node < (cores c).shape.frames) × (index < 64) × CapNames (cores c).shape.frames k
+  fits_in = (is_flight setup setting cores t stands c here f flight).stage
+
+  in_node : IsTrue (is_node (s.frame node))
+  in_node = (slot_relies setup setting t stands.legal c (Copy a u b) is_open (Under (found knows.root) b) slot knows.way).node
+
+  target_slot : target_of s c (copy_rule s a u b) ≡ Some slot
+  target_slot = ap (λ x. Rattle.seq_state.specs.Access.reached s c (Under (name_of x) b)) second_is ∙ knows.way.reached
+
+  -- lost
+  lost : was ≢ word → GoodTook setup cores t c f (EntryAt node index) was was (took_fill false)
+  lost changed_since =
+      refuses_raced setup setting cores t stands c here f flight refl refl (is_flight setup setting cores t stands c here f flight).room (EntryAt node index) was refl (λ d. refl)
+      (record {
+        at = inl (subst (λ o. IsSlot o node index) (sym target_slot) (refl, refl));
+        reads = refl;
+        own = word;
+        was_own = knows.own;
+        changed = changed_since;
+      })
+
+  -- won
+  module _ (same : was ≡ word) where
+    abbrev new : ℕ
+    new = word_of_entry (Held k)
+
+    abbrev e : Step
+    e = inner setup setting cores t stands c here f flight (EntryAt node index) was new (Some (reply.Ok Nothing)) None
+
+    says_free : entry_of_word was ≡ Some Free
+    says_free = ap entry_of_word same ∙ knows.free
+
+    unmarked : IsUnmarked setup t node index
+    unmarked = by_read (place_reads setup cores t stands node index in_node fits_in.1)
+      where
+        not_free : (d : ℕ) → Some (Closing d) ≡ Some Free → ⊥
+        not_free d h = cc
+
+        by_read : IsMarked setup t node index ⊎ IsUnmarked setup t node index → IsUnmarked setup t node index
+        by_read (inl m) = absurd (not_free m.by (sym m.says ∙ says_free))
+        by_read (inr p) = p
+
+    free : place_at s slot ≡ Vacant
+    free = free_place setup.frames (s.place node index) (stamp setup t (PlaceOf node index)) (entry_of_word was) unmarked.says says_free
+
+    now : state_after setup (e ∷ t) ≡ counted (with_place s node index (Holds k)) c
+    now = ap (λ p. state_decided_in p (reply.Ok Nothing) s c) is_open ∙ copy_state s c a u b k knows.root slot first_is second_is knows.way.reached free
+
+    calm : IsCalm s (state_after setup (e ∷ t)) c
+    calm = subst (λ x. IsCalm s x c) (sym now) (calm_core s (counted (with_place s node index (Holds k)) c) c _ refl (λ g. refl) (λ l. refl) refl refl (omega arith))
+
+    plain : IsPlain setup t e
+    plain = record {
+      begins = λ x. ap (λ p. begins_then (Some (reply.Ok Nothing)) p s c x) is_open ∙ copy_begins s c a u b k knows.root slot first_is second_is knows.way.reached free x;
+      ends = λ x. ap (λ p. Rattle.kernel_history.specs.Stamps.ends_in (Some (reply.Ok Nothing)) p x) is_open;
+      flushes = ap (Rattle.kernel_history.specs.Stamps.flushes_in (Some (reply.Ok Nothing))) is_open;
+      apart = λ d. refl;
+      same = refl;
+    }
+
+    counts : (cores c).made + calls_counted (reply.Ok Nothing) ≡ ((state_after setup (e ∷ t)).core c).counted
+    counts =
+        let made = (stands.each c here).works.made in
+        let x : ((state_after setup (e ∷ t)).core c).counted ≡ ((counted (with_place s node index (Holds k)) c).core c).counted = ap (λ y. (y.core c).counted) now in
+        let y : ((counted (with_place s node index (Holds k)) c).core c).counted ≡ (s.core c).counted + 1 =
+            ap (λ z. z.counted) (put_same s.core c (record (s.core c) { counted = (s.core c).counted + 1 }) c refl) in
+        omega arith
+
+    -- a slot is the target's, or its place is as it was
+    by_slot : (g i : ℕ) (same_slot : Bool) → (g == node && i == index) ≡ same_slot → ((g ≡ node) × (i ≡ index)) ⊎ ((g == node && i == index) ≡ false)
+    by_slot g i true is = inl (slot_is g node i index is)
+    by_slot g i false is = inr is
+
+    there : (g i : ℕ) → (g == node && i == index) ≡ false → (state_after setup (e ∷ t)).place g i ≡ s.place g i
+    there g i apart = ap (λ x. x.place g i) now ∙ place_there s node index (Holds k) g i apart
+
+    here_now : (g i : ℕ) → g ≡ node → i ≡ index → (state_after setup (e ∷ t)).place g i ≡ Holds k
+    here_now g i gs is = ap (λ x. x.place g i) now ∙ place_here s node index (Holds k) g i gs is
+
+    elsewhere : (g i : ℕ) → EntryAt g i ≢ EntryAt node index → (state_after setup (e ∷ t)).place g i ≡ s.place g i
+    elsewhere g i apart = elim (by_slot g i (g == node && i == index) refl) [
+      | inl is ↦ absurd (apart (ap (λ (x : ℕ). EntryAt x i) is.0 ∙ ap (λ (x : ℕ). EntryAt node x) is.1))
+      | inr other ↦ there g i other
+    ]
+
+    removed : (g i : ℕ) (q : Capability) → (state_after setup (e ∷ t)).place g i ≢ Removed q
+    removed g i q h = elim (by_slot g i (g == node && i == index) refl) [
+      | inl is ↦ absurd (not_removed (sym (here_now g i is.0 is.1) ∙ h))
+      | inr other ↦ absurd (stands.none_removed g i q (sym (there g i other) ∙ h))
+    ]
+      where
+        not_removed : Holds k ≡ Removed q → ⊥
+        not_removed h = cc
+
+    new_says : entry_of_word new ≡ Some (Held k)
+    new_says = spelling.reads (Held k) knows.names.first.fits
+
+    word_now : WordIs (state_after setup (e ∷ t)) (times_of setup (e ∷ t)) (EntryAt node index) new
+    word_now = node_word (state_after setup (e ∷ t)).limits.frames ((state_after setup (e ∷ t)).frame node) ((state_after setup (e ∷ t)).place node index)
+        (stamp setup (e ∷ t) (PlaceOf node index)) index new
+        (subst (λ x. IsTrue (is_node x)) (sym (calm.frame node)) in_node)
+        (subst (λ p. PlaceIs (state_after setup (e ∷ t)).limits.frames p (stamp setup (e ∷ t) (PlaceOf node index)) (entry_of_word new)) (sym (here_now node index refl refl))
+        (new_says, subst (λ n. CapNames n k) (ap (λ x. x.frames) (stands.each c here).shape ∙ sym (ap (λ l. l.frames) (calm.limits ∙ Rattle.flight.proofs.Sounds.limits_of setup t))) fits_in.2))
+
+    gone : HasReached (e ∷ t) c (ways s c (copy_rule s a u b))
+    gone = All-append (λ (x : Slot). IsSome (own_left (e ∷ t) c (EntryAt x.node x.index))) (way_to s c (own s c a)) (way_to s c (own s c u) ++ way_to s c (Under (name_of (named s c u (only kind.Table))) b))
+        (own_gone a any k knows.names.first)
+        (All-append (λ (x : Slot). IsSome (own_left (e ∷ t) c (EntryAt x.node x.index))) (way_to s c (own s c u)) (way_to s c (Under (name_of (named s c u (only kind.Table))) b))
+        (own_gone u (only kind.Table) knows.root knows.names.second)
+        (subst (λ x. HasReached (e ∷ t) c (way_to s c (Under (name_of x) b))) (sym second_is)
+        (way_gone setup t (e ∷ t) c (Under (found knows.root) b) slot knows.way.reached (λ n d h. own_kept t e c refl refl _ (knows.way.stepped n d h)))))
+      where
+        own_gone : (n : ℕ) (wanted : Rattle.spk_nums.specs.declared.kinds.Kind.Kind → Bool) (q : Capability) → HasFound setup t c (own_in (cores c).table n) wanted q
+            → HasReached (e ∷ t) c (way_to s c (own s c n))
+        own_gone n wanted q has = subst (λ x. HasReached (e ∷ t) c (way_to s c x)) (own_is s c (cores c).table n (table_is setup setting cores t stands c here))
+            (way_gone setup t (e ∷ t) c (own_in (cores c).table n) has.at has.way.reached (λ m d h. own_kept t e c refl refl _ (has.way.stepped m d h)))
+
+    won : GoodTook setup cores t c f (EntryAt node index) was new (took_fill true)
+    won fits = writes_entry setup setting cores t stands c here f flight node index was new ((cores c).made + calls_counted (reply.Ok Nothing)) (reply.Ok Nothing) (Exit (reply.Ok Nothing))
+        refl unmarked.mark (node_mark (s.frame node) index new in_node ∙ ap entry_mark new_says) fits refl refl refl calm plain counts elsewhere removed word_now
+        (record {
+          call = Copy a u b;
+          is_open = is_open;
+          permitted = (
+            not_spent setup (cores c) t c (stands.each c here) (is_flight setup setting cores t stands c here f flight).room,
+            copy_answers s c a u b k knows.root slot first_is second_is knows.way.reached free,
+          );
+          justified = gone;
+        })
+        tt
+
+  -- the compare
+  pub copy_fill : GoodTook setup cores t c f (EntryAt node index) was (left_if (was == word) was (word_of_entry (Held k))) (took_fill (was == word))
+  copy_fill = by_test (was == word) refl
+    where
+      by_test : (equal : Bool) → (was == word) ≡ equal → GoodTook setup cores t c f (EntryAt node index) was (left_if equal was (word_of_entry (Held k))) (took_fill equal)
+      by_test true is = won (eqb-true was word is)
+      by_test false is = lost (eqb-false was word is)

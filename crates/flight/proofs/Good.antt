@@ -1,0 +1,123 @@
+-- What a step must show, and why the cores then stand for the trace with it. Calls are not looked at here.
+use Rattle.std.proofs.Common.{◌≡◌, ◌≢◌, inl, inr, ℕ, ◌+◌, ◌<◌, ◌≤◌, ◌∷◌, length, Option, Some, None, arith, refl, sym, ◌∙◌, ap, subst}
+use Rattle.std.proofs.lemmas.Bool.{cases_eq}
+use Rattle.spk_nums.specs.Capability.{Capability}
+use Rattle.spk_nums.specs.Setting.{Setting, IsSetting}
+use Rattle.spk_nums.specs.declared.calls.Call.{Call}
+use Rattle.word_map.specs.Word.{Word, EntryAt}
+use Rattle.seq_state.specs.State.{Quiescing, Thing, State, put, thread_of, comp_of, first_of_stack}
+use Rattle.seq_state.proofs.Within.{put_same, put_other}
+use Rattle.kernel_history.specs.Trace.{Step, Trace, Out, Open, phase, state_after, own_left}
+use Rattle.kernel_history.specs.Bounds.{IsWithin}
+use Rattle.kernel_history.specs.Legal.{MayFollow, IsLegal}
+use Rattle.kernel_history.specs.Stamps.{is_in, clock}
+use Rattle.kernel_history.proofs.Steps.{phase-other, calls_of-other, steps_in_call-other, own_left-other, exit_of-other, flush_of-other, flush_stored-other}
+use Rattle.kernel_history.proofs.Graces.{KeepsTime, LeavesBy}
+use Rattle.kernel_history.proofs.Inside.{inside_is}
+use Rattle.kernel_history.proofs.GraceSteps.{grace_on, times_on}
+use Rattle.kernel_history.proofs.Waiting.{leave_on}
+use Rattle.kernel_history.proofs.Carries.{Carries, carries_other}
+use Rattle.flight.specs.declared.stages.Stage.{Stage}
+use Rattle.flight.specs.declared.stages.Stage.TheVariants.{Enter, Looking, Fill, Exit, Leave}
+use Rattle.flight.specs.declared.stages.InFlight.{InFlight}
+use Rattle.flight.specs.View.{Core}
+use Rattle.flight.specs.Holding.{settled, MarkIs}
+use Rattle.flight.specs.Words.{WordIs}
+use Rattle.flight.specs.Knows.{phase_at, FlightIs, InFlightIs, Knows, WorksIn, CoreIs}
+use Rattle.flight.specs.Stands.{held_by, times_of, counted_in, Stands}
+use Rattle.flight.proofs.Carries.{look_knows_on, fill_on}
+
+-- Where another core works stays.
+pub record WorksOn (setup : Setting) (t : Trace) (e : Step) (d : ℕ) : Type 0 where
+  pub core : (state_after setup (e ∷ t)).core d ≡ (state_after setup t).core d
+  pub thread : thread_of (state_after setup (e ∷ t)) d ≡ thread_of (state_after setup t) d
+  pub comp : comp_of (state_after setup (e ∷ t)) d ≡ comp_of (state_after setup t) d
+
+-- A good step: it may follow, keeps its call's bound, and leaves marks, words, time and its own core as they are to be.
+pub record IsGood (setup : Setting) (cores : ℕ → Core) (t : Trace) (e : Step) (after : Core) : Type 0 where
+  pub follows : MayFollow setup t e
+  pub within : IsWithin setup.cores t e
+  pub marks : (w : Word) (d : ℕ) → MarkIs setup (held_by (put cores e.core after)) (e ∷ t) w d
+  pub words : (w : Word) → WordIs (state_after setup (e ∷ t)) (times_of setup (e ∷ t)) w (settled setup (held_by (put cores e.core after)) (e ∷ t) w)
+  pub draws : clock setup (e ∷ t) ≤ 1 + counted_in setup (state_after setup (e ∷ t))
+  pub none_removed : (f i : ℕ) (k : Capability) → (state_after setup (e ∷ t)).place f i ≢ Quiescing k
+  pub time : KeepsTime setup t e
+  pub leaves : LeavesBy setup t e e.returns
+  pub works : (d : ℕ) → d ≢ e.core → WorksOn setup t e d
+  pub own : CoreIs setup after (e ∷ t) e.core
+
+works_on : (setup : Setting) (t : Trace) (e : Step) (core : Core) (c : ℕ) → WorksOn setup t e c → WorksIn core (state_after setup t) c → WorksIn core (state_after setup (e ∷ t)) c
+works_on setup t e core c on is = record {
+  thread = is.thread ∙ ap (λ k. k.thread) (sym on.core);
+  depth = is.depth ∙ ap (λ k. length k.stack) (sym on.thread);
+  comp = is.comp ∙ ap (λ k. first_of_stack k.stack) (sym on.thread);
+  table = is.table ∙ ap (λ k. k.table) (sym on.comp);
+  pages = is.pages ∙ ap (λ k. k.pages) (sym on.comp);
+  tcap = is.tcap ∙ ap (λ k. k.tcap) (sym on.core);
+  cached = is.cached ∙ ap (λ k. k.cached) (sym on.core);
+  owed = is.owed ∙ ap (λ k. k.owed) (sym on.core);
+  spent = is.spent ∙ ap (λ k. k.spent) (sym on.core);
+  made = is.made ∙ ap (λ k. k.counted) (sym on.core);
+}
+
+module _ (setup : Setting) (setting : IsSetting setup) (cores : ℕ → Core) (t : Trace) (stands : Stands setup cores t) (e : Step) where
+  open_carries : MayFollow setup t e → KeepsTime setup t e → (c : ℕ) (call : Call) → c ≢ e.core → phase t c ≡ Open call → Carries setup t e c
+  open_carries follows time c call other is = carries_other setup setting t stands.legal e follows time stands.graces c other call is
+
+  knows_other : MayFollow setup t e → KeepsTime setup t e → (c table : ℕ) (f : InFlight) → c ≢ e.core → (stage : Stage) → f.stage ≡ stage
+      → phase t c ≡ phase_at f.call stage → Knows setup t c table f.call stage → Knows setup (e ∷ t) c table f.call stage
+  knows_other follows time c table f other Enter is at has = has
+  knows_other follows time c table f other (Looking want look) is at has =
+      look_knows_on setup setting t e stands.legal c f.call at (open_carries follows time c f.call other at) table f.call want look has
+  knows_other follows time c table f other (Fill node index word k) is at has =
+      fill_on setup setting t e stands.legal c f.call at (open_carries follows time c f.call other at) table f.call node index word k (own_left-other c e t other (EntryAt node index)) has
+  knows_other follows time c table f other (Exit r) is at has = has
+  knows_other follows time c table f other (Leave r x) is at has =
+      leave_on setup t e follows time stands.graces c x other (inside_is setup t c ∙ ap is_in at) has
+
+  flight_other : MayFollow setup t e → KeepsTime setup t e → (c table : ℕ) → c ≢ e.core → (o : Option InFlight) → FlightIs setup t c table o → FlightIs setup (e ∷ t) c table o
+  flight_other follows time c table other None is = phase-other c e t other ∙ is
+  flight_other follows time c table other (Some f) is = record {
+    phase = phase-other c e t other ∙ is.phase;
+    steps = steps_in_call-other c e t other ∙ is.steps;
+    knows = knows_other follows time c table f other f.stage refl is.phase is.knows;
+  }
+
+  core_other : MayFollow setup t e → KeepsTime setup t e → (core : Core) (c : ℕ) → c ≢ e.core → WorksOn setup t e c → CoreIs setup core t c → CoreIs setup core (e ∷ t) c
+  core_other follows time core c other works is = record {
+    fits = is.fits;
+    number = is.number;
+    shape = is.shape;
+    limit = is.limit;
+    works = works_on setup t e core c works is.works;
+    exit = is.exit ∙ sym (exit_of-other c e t other);
+    flushed = flush_stored-other c e t other ∙ is.flushed ∙ sym (flush_of-other c e t other);
+    flight = flight_other follows time c core.table other core.flight is.flight;
+  }
+
+  -- a good step leaves cores that stand for the trace with it
+  pub stands_on : (after : Core) → IsGood setup cores t e after → Stands setup (put cores e.core after) (e ∷ t)
+  stands_on after good = record {
+    legal = (stands.legal, good.follows);
+    bounds = (stands.bounds, good.within);
+    marks = good.marks;
+    words = good.words;
+    draws = good.draws;
+    some_time = (let a = stands.some_time in let b = good.time.rises in omega arith);
+    times = λ c. times_on setup t e good.time good.leaves c (stands.times c);
+    graces = grace_on setup t e good.follows good.time good.leaves stands.times stands.graces;
+    none_removed = good.none_removed;
+    each = λ c here. elim (cases_eq c e.core) [
+      | inl own ↦ subst (λ k. CoreIs setup k (e ∷ t) c) (sym (put_same cores e.core after c own)) (subst (λ (d : ℕ). CoreIs setup after (e ∷ t) d) (sym own) good.own)
+      | inr other ↦ subst (λ k. CoreIs setup k (e ∷ t) c) (sym (put_other cores e.core after c other))
+          (core_other good.follows good.time (cores c) c other (good.works c other) (stands.each c here))
+    ];
+    away = λ c past.
+        let core : e.core < setup.cores = good.follows.is_core in
+        let apart : c ≢ e.core = omega arith in
+        record {
+          out = phase-other c e t apart ∙ (stands.away c past).out;
+          none = calls_of-other c e t apart ∙ (stands.away c past).none;
+          idle = ap (λ k. k.flight) (put_other cores e.core after c apart) ∙ (stands.away c past).idle;
+        };
+  }

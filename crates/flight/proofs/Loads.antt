@@ -1,0 +1,206 @@
+-- The ways in which a call in flight makes a step that leaves its word as found: it goes on undecided, or it is decided with a
+-- reply that leaves all as it was but the count of calls.
+use Rattle.std.proofs.Common.{◌≡◌, ◌≢◌, ℕ, ◌+◌, ◌<◌, ◌≤◌, Bool, true, false, ◌∷◌, Option, Some, None, arith, refl, sym, ◌∙◌, ap, subst}
+use Rattle.spk_nums.specs.Bounds.{bound_of}
+use Rattle.spk_nums.specs.Setting.{Setting, IsSetting}
+use Rattle.spk_nums.specs.declared.calls.Call.{Call}
+use Rattle.spk_nums.specs.declared.replies.Reply.{Reply}
+use Rattle.word_map.specs.Word.{Word, EntryAt, CoreAt, FlushAt, ClockAt, same_word}
+use Rattle.seq_state.specs.State.{Thing, State, put}
+use Rattle.seq_state.specs.CallRelation.{MayReply, state_by, counted, begins, ends, flushes}
+use Rattle.seq_state.specs.Laws.{calls_counted}
+use Rattle.seq_state.proofs.Within.{put_same}
+use Rattle.kernel_history.proofs.Inside.{decided-inside}
+use Rattle.kernel_history.specs.Trace.{Step, Trace, Phase, Out, Open, Decided, phase, after_enter, after_decide, after_return, state_after, state_decided_in, last_left, steps_in_call}
+use Rattle.kernel_history.specs.Bounds.{call_in, IsWithin}
+use Rattle.kernel_history.specs.Justified.{IsJustified}
+use Rattle.kernel_history.specs.Legal.{MayFollow}
+use Rattle.kernel_history.proofs.Carries.{Carries, carries_own}
+use Rattle.kernel_history.specs.Stamps.{begins_in, ends_in, flushes_in, clock}
+use Rattle.kernel_history.proofs.Steps.{phase-own, steps_in_call-own}
+use Rattle.flight.specs.declared.stages.Stage.{Stage}
+use Rattle.flight.specs.declared.stages.Stage.TheVariants.{Enter, Looking, Fill, Exit, Leave}
+use Rattle.flight.specs.declared.stages.InFlight.{InFlight}
+use Rattle.flight.specs.declared.stages.Took.TheVariants.{Goes, Decides}
+use Rattle.flight.specs.View.{Core}
+use Rattle.flight.specs.Steps.{went, landed}
+use Rattle.flight.specs.Fits.{IsCore, IsFlight, FlightFits, left_for, left_in, steps_left}
+use Rattle.flight.specs.Knows.{phase_at, Knows, InFlightIs, FlightIs, CoreIs}
+use Rattle.flight.specs.Stands.{holds_at, holds_in, holds, counted_in, Stands}
+use Rattle.flight.proofs.CoreFits.{absorbed_fewer}
+use Rattle.flight.proofs.WordFrames.{load_keeps, load_marks, load_words}
+use Rattle.flight.proofs.Good.{IsGood}
+use Rattle.flight.proofs.Calm.{IsCalm, calm_same, calm_counted, calm_own, calm_works, calm_words, counted_rises, IsPlain, plain_time, plain_exit, plain_flushed}
+
+-- A step of core c.
+abbrev pub step_to : ℕ → Option Call → Word → ℕ → ℕ → Option Reply → Option Reply → Step
+step_to c enters w found left decides returns = record {
+  core = c;
+  word = w;
+  found = found;
+  left = left;
+  enters = enters;
+  decides = decides;
+  returns = returns;
+}
+
+-- The core with so many calls made, whose call is at this stage.
+abbrev pub core_at : Core → InFlight → ℕ → Stage → Core
+core_at core f made stage = record core { made = made; flight = Some (went f stage) }
+
+-- A call that has entered is in its phase.
+pub phase_in : (setup : Setting) (t : Trace) (c table : ℕ) (call : Call) (stage : Stage) → Knows setup t c table call stage → phase_at call stage ≢ Out
+phase_in setup t c table call Enter knows = absurd knows
+phase_in setup t c table call (Looking want look) knows = λ h. cc
+phase_in setup t c table call (Fill node index word k) knows = λ h. cc
+phase_in setup t c table call (Exit r) knows = λ h. cc
+phase_in setup t c table call (Leave r x) knows = λ h. cc
+
+pub phase_call : (setup : Setting) (t : Trace) (c table : ℕ) (call : Call) (stage : Stage) → Knows setup t c table call stage → call_in (phase_at call stage) ≡ Some call
+phase_call setup t c table call Enter knows = absurd knows
+phase_call setup t c table call (Looking want look) knows = refl
+phase_call setup t c table call (Fill node index word k) knows = refl
+phase_call setup t c table call (Exit r) knows = refl
+phase_call setup t c table call (Leave r x) knows = refl
+
+-- The call f of core c is in flight.
+module _ (setup : Setting) (setting : IsSetting setup) (cores : ℕ → Core) (t : Trace) (stands : Stands setup cores t) (c : ℕ) (here : c < setup.cores)
+    (f : InFlight) (flight : (cores c).flight ≡ Some f) where
+  pub core_is : CoreIs setup (cores c) t c
+  core_is = stands.each c here
+
+  pub flight_is : InFlightIs setup t c (cores c).table f
+  flight_is = subst (FlightIs setup t c (cores c).table) flight core_is.flight
+
+  pub is_flight : IsFlight (cores c) f
+  is_flight = subst (FlightFits (cores c)) flight core_is.fits.flight
+
+  -- it has a step to come within its bound
+  pub has_room : f.steps + 1 ≤ bound_of f.call setup.cores
+  has_room =
+      let fewer = absorbed_fewer (cores c) f 0 flight core_is.fits in
+      let left : steps_left (cores c) ≡ left_in f.call f.stage = ap left_for flight in
+      let most = is_flight.steps in
+      let same : bound_of f.call (cores c).shape.cores ≡ bound_of f.call setup.cores = ap (λ s. bound_of f.call s.cores) core_is.shape in
+      omega arith
+
+  pub in_call : phase t c ≢ Out
+  in_call out = phase_in setup t c (cores c).table f.call f.stage flight_is.knows (sym flight_is.phase ∙ out)
+
+  -- a step within the call keeps the bound, and leaves its core at the next stage unless it returns
+  module _ (w : Word) (found left : ℕ) (decides returns : Option Reply) where
+    abbrev pub inner : Step
+    inner = step_to c None w found left decides returns
+
+    pub inner_within : IsWithin setup.cores t inner
+    inner_within = record {
+      call = f.call;
+      is_of = ap call_in flight_is.phase ∙ phase_call setup t c (cores c).table f.call f.stage flight_is.knows;
+      steps = (let a = has_room in
+          let b : steps_in_call (inner ∷ t) c ≡ f.steps + 1 = steps_in_call-own c inner t refl ∙ ap (λ (n : ℕ). n + 1) flight_is.steps in
+          omega arith);
+    }
+
+    pub inner_own : returns ≡ None → IsPlain setup t inner → (made : ℕ) (stage : Stage) → IsCore (core_at (cores c) f made stage) → IsCalm (state_after setup t) (state_after setup (inner ∷ t)) c
+        → made ≡ ((state_after setup (inner ∷ t)).core c).counted → after_decide decides (phase_at f.call f.stage) ≡ phase_at f.call stage
+        → Knows setup (inner ∷ t) c (cores c).table f.call stage → CoreIs setup (core_at (cores c) f made stage) (inner ∷ t) c
+    inner_own none plain made stage fits calm counts at knows = record {
+      fits = fits;
+      number = core_is.number;
+      shape = core_is.shape;
+      limit = core_is.limit;
+      works = calm_own (state_after setup t) (state_after setup (inner ∷ t)) c (cores c) (core_at (cores c) f made stage) calm
+          (ap (λ (m : ℕ). core_at (cores c) f m stage) counts) core_is.works;
+      exit = core_is.exit ∙ sym (plain_exit t inner none c);
+      flushed = plain_flushed setup t inner plain c core_is.flushed;
+      flight = record {
+        phase = phase-own c inner t refl ∙ ap (λ o. after_return o (after_decide decides (phase t c))) none ∙ ap (after_decide decides) flight_is.phase ∙ at;
+        steps = steps_in_call-own c inner t refl ∙ ap (λ (n : ℕ). n + 1) flight_is.steps;
+        knows = knows;
+      };
+    }
+
+    -- the core holds at the next stage what it held
+    pub still_holds : (made : ℕ) (stage : Stage) → holds_at stage (cores c).core ≡ holds_at f.stage (cores c).core → holds (core_at (cores c) f made stage) ≡ holds (cores c)
+    still_holds made stage same = same ∙ ap (λ o. holds_in o (cores c).core) (sym flight)
+
+  -- An undecided load, after which the call is at this stage; what it knew it still knows.
+  pub loads_on : (w : Word) (found : ℕ) (stage : Stage) → found ≡ last_left setup t w → ((d : ℕ) → same_word (FlushAt d) w ≡ false)
+      → IsCore (core_at (cores c) f (cores c).made stage) → holds_at stage (cores c).core ≡ holds_at f.stage (cores c).core → phase_at f.call f.stage ≡ phase_at f.call stage
+      → (Carries setup t (inner w found found None None) c → Knows setup (inner w found found None None ∷ t) c (cores c).table f.call stage)
+      → IsGood setup cores t (inner w found found None None) (core_at (cores c) f (cores c).made stage)
+  loads_on w found stage is apart fits same at knows =
+      let e : Step = inner w found found None None in
+      let still = still_holds w found found None None (cores c).made stage same in
+      let plain : IsPlain setup t e = record {
+        begins = λ x. refl;
+        ends = λ x. refl;
+        flushes = refl;
+        apart = apart;
+        same = load_keeps setup cores t e (core_at (cores c) f (cores c).made stage) still (λ g. refl) is ClockAt;
+      } in
+      let follows : MayFollow setup t e = record { is_core = here; found = is; enters = tt; in_call = in_call; decides = tt; returns = tt } in record {
+        follows = follows;
+        within = inner_within w found found None None;
+        marks = load_marks setup cores t e (core_at (cores c) f (cores c).made stage) still (λ g. refl) is stands.marks;
+        words = load_words setup cores t e (core_at (cores c) f (cores c).made stage) still (λ g. refl) is
+            (λ v. calm_words setup t e (calm_same (state_after setup t) c) plain v (λ g i h. refl) (λ d h. (refl, plain_exit t e refl d))) stands.words;
+        draws = (let a = stands.draws in let b = plain.same in omega arith);
+        none_removed = stands.none_removed;
+        time = plain_time setup t e plain;
+        leaves = tt;
+        works = calm_works setup t e (calm_same (state_after setup t) c);
+        own = inner_own w found found None None refl plain (cores c).made stage fits (calm_same (state_after setup t) c) core_is.works.made at (knows (carries_own setup t e follows (plain_time setup t e plain) stands.graces refl refl refl));
+      }
+
+  -- A decision at a load or at a lost compare, which leaves all as it was but counts the call.
+  pub decides_on : (w : Word) (found : ℕ) (r : Reply) → found ≡ last_left setup t w → ((d : ℕ) → same_word (FlushAt d) w ≡ false)
+      → IsCore (core_at (cores c) f ((cores c).made + calls_counted r) (Exit r)) → holds_at (Exit r) (cores c).core ≡ holds_at f.stage (cores c).core
+      → phase_at f.call f.stage ≡ Open f.call → state_by (state_after setup t) c f.call r ≡ counted (state_after setup t) c → calls_counted r ≡ 1
+      → ((x : Thing) → begins (state_after setup t) c f.call r x ≡ false) → ((x : Thing) → ends f.call r x ≡ false) → flushes f.call r ≡ false
+      → MayReply (state_after setup t) c f.call r → IsJustified setup t (inner w found found (Some r) None) f.call r
+      → IsGood setup cores t (inner w found found (Some r) None) (core_at (cores c) f ((cores c).made + calls_counted r) (Exit r))
+  decides_on w found r is apart fits same opens state one none_begins none_ends no_flush permitted justified =
+      let e : Step = inner w found found (Some r) None in
+      let after : Core = core_at (cores c) f ((cores c).made + calls_counted r) (Exit r) in
+      let still = still_holds w found found (Some r) None ((cores c).made + calls_counted r) (Exit r) same in
+      let is_open : phase t c ≡ Open f.call = flight_is.phase ∙ opens in
+      let now : state_after setup (e ∷ t) ≡ counted (state_after setup t) c = ap (λ p. state_decided_in p r (state_after setup t) c) is_open ∙ state in
+      let calm : IsCalm (state_after setup t) (state_after setup (e ∷ t)) c = subst (λ s. IsCalm (state_after setup t) s c) (sym now) (calm_counted (state_after setup t) c) in
+      let plain : IsPlain setup t e = record {
+        begins = λ x. ap (λ p. begins_in (Some r) p (state_after setup t) c x) is_open ∙ none_begins x;
+        ends = λ x. ap (λ p. ends_in (Some r) p x) is_open ∙ none_ends x;
+        flushes = ap (flushes_in (Some r)) is_open ∙ no_flush;
+        apart = apart;
+        same = load_keeps setup cores t e after still calm.frame is ClockAt;
+      } in record {
+        follows = record {
+          is_core = here;
+          found = is;
+          enters = tt;
+          in_call = in_call;
+          decides = record { call = f.call; is_open = is_open; permitted = permitted; justified = justified };
+          returns = tt;
+        };
+        within = inner_within w found found (Some r) None;
+        marks = load_marks setup cores t e after still calm.frame is stands.marks;
+        words = load_words setup cores t e after still calm.frame is
+            (λ v. calm_words setup t e calm plain v (λ g i h. ap (λ s. s.place g i) now)
+            (λ d h. (decided-inside (Some r) (phase t c) (state_after setup t) c d, plain_exit t e refl d))) stands.words;
+        draws = (let a = stands.draws in let b = plain.same in let g = counted_rises setup (state_after setup t) (state_after setup (e ∷ t)) c calm in omega arith);
+        none_removed = λ g i k h. stands.none_removed g i k (sym (ap (λ s. s.place g i) now) ∙ h);
+        time = plain_time setup t e plain;
+        leaves = tt;
+        works = calm_works setup t e calm;
+        own = inner_own w found found (Some r) None refl plain ((cores c).made + calls_counted r) (Exit r) fits calm (counts now)
+            (ap (after_decide (Some r)) opens) tt;
+      }
+    where
+      counts : state_after setup (inner w found found (Some r) None ∷ t) ≡ counted (state_after setup t) c
+          → (cores c).made + calls_counted r ≡ ((state_after setup (inner w found found (Some r) None ∷ t)).core c).counted
+      counts now =
+          let made = core_is.works.made in
+          let g : ((state_after setup (inner w found found (Some r) None ∷ t)).core c).counted ≡ ((counted (state_after setup t) c).core c).counted = ap (λ s. (s.core c).counted) now in
+          let k : ((counted (state_after setup t) c).core c).counted ≡ ((state_after setup t).core c).counted + 1 =
+              ap (λ j. j.counted) (put_same (state_after setup t).core c (record ((state_after setup t).core c) { counted = ((state_after setup t).core c).counted + 1 }) c refl) in
+          omega arith

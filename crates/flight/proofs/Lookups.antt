@@ -1,0 +1,311 @@
+-- A step of a look-up is good, whatever the call looks for: it goes on to the leaf, is refused, or arrives at the place.
+use Rattle.std.proofs.Common.{◌≡◌, ◌≢◌, ◌⊎◌, inl, inr, ℕ, ◌+◌, ◌<◌, ◌≤◌, ◌/◌, ◌%◌, ◌&&◌, ◌||◌, ◌==◌, ◌++◌, ◌∷◌, List, [], Bool, true, false, not, nat_le, nat_lt, cond, if◌then◌else◌, Option, Some, None, arith, refl, sym, ◌∙◌, ap, subst, IsTrue}
+use Rattle.std.specs.Prelude.{IsSome, option_to_list}
+use Rattle.std.specs.List.{list_any}
+use Rattle.std.proofs.lemmas.Bool.{false≢true, le-leb, leb-true, eq-eqb}
+use Rattle.std.proofs.lemmas.List.Folds.{list_any-append}
+use Rattle.std.proofs.lemmas.List.Elements.{All-nil, All-cons}
+use Rattle.spk_nums.specs.Capability.{Capability}
+use Rattle.spk_nums.specs.Setting.{Setting, IsSetting}
+use Rattle.spk_nums.specs.declared.kinds.Kind.{Kind}
+use Rattle.spk_nums.specs.declared.kinds.Kind.TheVariants as kind
+use Rattle.spk_nums.specs.declared.calls.Call.{Call}
+use Rattle.spk_nums.specs.declared.replies.Reply.TheVariants as reply
+use Rattle.entry_words.specs.declared.entry.Entry.{Entry}
+use Rattle.entry_words.specs.declared.entry.Entry.TheVariants.{Free, Held, Closing, Quiescing}
+use Rattle.entry_words.specs.EntryWord.{EntryFits, entry_of_word}
+use Rattle.entry_words.proofs.Spelling.{spelling}
+use Rattle.word_map.specs.Word.{Word, EntryAt}
+use Rattle.word_map.specs.Moves.{word_of}
+use Rattle.seq_state.specs.State.{Place, Free as Vacant, Holds, Quiescing as Removed, PlaceOf, State}
+use Rattle.seq_state.specs.Access.{Slot, Named, Target, Under, InRoot, place_at, only, held_in, usable_in, usable, linked, slot_in, root_slot, reached, holds_link, has_no_slot}
+use Rattle.seq_state.specs.Rules.{RuleMay}
+use Rattle.seq_state.specs.CallRelation.{rule_of}
+use Rattle.seq_state.proofs.Relies.{Relies}
+use Rattle.kernel_history.specs.Trace.{Step, Trace, Open, phase, state_after, last_left, own_left}
+use Rattle.kernel_history.specs.Ways.{capability_in, led_to, root_passed, wide_way_to, wide_ways}
+use Rattle.kernel_history.specs.Justified.{is_slot_in, HasReached}
+use Rattle.kernel_history.specs.Stamps.{stamp}
+use Rattle.kernel_history.proofs.Stays.{relies_reached}
+use Rattle.kernel_history.proofs.Steps.{own_left-here}
+use Rattle.stage_look.specs.Shown.{CapNames, end_of_frames, held_if, entry_within, shown_in, is_link}
+use Rattle.stage_look.specs.Lookup.{look_move, found_at}
+use Rattle.stage_look.specs.declared.look.Look.{Look}
+use Rattle.stage_look.specs.declared.look.Look.TheVariants.{AtRoot, AtLeaf, AtEntry}
+use Rattle.flight.specs.declared.stages.Want.{Want}
+use Rattle.flight.specs.declared.stages.Stage.{Stage}
+use Rattle.flight.specs.declared.stages.Stage.TheVariants.{Looking}
+use Rattle.flight.specs.declared.stages.InFlight.{InFlight}
+use Rattle.flight.specs.declared.stages.Took.{Took}
+use Rattle.flight.specs.View.{Core}
+use Rattle.flight.specs.Holding.{nothing}
+use Rattle.flight.specs.declared.stages.Took.TheVariants.{Goes}
+use Rattle.flight.specs.Stages.{decide, took_end, took_look, took_found}
+use Rattle.flight.specs.Words.{PlaceIs}
+use Rattle.flight.specs.Knows.{ReliesOn, IsAtRoot, IsAtLeaf, IsAtEntry, LooksUp, KnowsLook, phase_at}
+use Rattle.flight.specs.Stands.{holds_at, Stands}
+use Rattle.kernel_history.proofs.Carries.{Carries}
+use Rattle.flight.proofs.Loads.{step_to, is_flight, flight_is, loads_on}
+use Rattle.flight.proofs.Places.{IsMarked, IsPlain, place_reads}
+use Rattle.flight.proofs.Refusals.{GoodTook, refuses_no_slot, refuses_busy}
+
+-- What an entry shows of a place.
+pub record ShowsHeld (frames : ℕ) (p : Place) (k : Capability) : Type 0 where
+  pub holds : p ≡ Holds k
+  pub names : CapNames frames k
+  pub fits : EntryFits (Held k)
+
+pub record ShowsRemoved (p : Place) : Type 0 where
+  pub held : Capability
+  pub removed : p ≡ Removed held
+
+abbrev pub Shows : ℕ → Place → Entry → Type 0
+Shows frames p Free = p ≡ Vacant
+Shows frames p (Held k) = ShowsHeld frames p k
+Shows frames p (Closing d) = ⊥
+Shows frames p (Quiescing s) = ShowsRemoved p
+
+-- An unmarked word shows its place, also on a machine of so many frames.
+pub record IsShown (frames : ℕ) (p : Place) (word : ℕ) : Type 0 where
+  pub value : Entry
+  pub reads : entry_of_word word ≡ Some value
+  pub shown : shown_in frames word ≡ Some value
+  pub shows : Shows frames p value
+
+within_shown : (frames : ℕ) (k : Capability) → CapNames frames k → entry_within frames (Some (Held k)) ≡ Some (Held k)
+within_shown frames k names = ap (λ b. held_if b k) (le-leb (end_of_frames k.kind k.frame k.arg) frames names)
+
+pub shown_of : (frames : ℕ) (p : Place) (stamp word : ℕ) → PlaceIs frames p stamp (entry_of_word word) → IsShown frames p word
+shown_of frames Vacant stamp word is = record { value = Free; reads = is; shown = ap (entry_within frames) is; shows = refl }
+shown_of frames (Holds k) stamp word is = record {
+  value = Held k;
+  reads = is.0;
+  shown = ap (entry_within frames) is.0 ∙ within_shown frames k is.1;
+  shows = record { holds = refl; names = is.1; fits = (spelling.spells word (Held k) is.0).0 };
+}
+shown_of frames (Removed k) stamp word is = record {
+  value = Quiescing stamp;
+  reads = is.says;
+  shown = ap (entry_within frames) is.says;
+  shows = record { held = k; removed = refl };
+}
+
+link_kind : (k : Kind) → is_link k ≡ only kind.Link k
+link_kind kind.Range = refl
+link_kind kind.Table = refl
+link_kind kind.Leaf = refl
+link_kind kind.Pages = refl
+link_kind kind.Pleaf = refl
+link_kind kind.Comp = refl
+link_kind kind.Gate = refl
+link_kind kind.Thread = refl
+link_kind kind.Tcap = refl
+link_kind kind.Link = refl
+link_kind kind.Page = refl
+
+-- The call has arrived at the place of a target.
+pub record Arrives (setup : Setting) (t : Trace) (c : ℕ) (target : Target) (at : Slot) : Type 0 where
+  pub relies : ReliesOn setup t c target
+  pub reached : reached (state_after setup t) c target ≡ Some at
+  pub leaf : Relies (state_after setup t) c at.node
+  pub below : at.index < 64
+  pub passed : HasReached t c (root_passed target)
+  pub plain : IsPlain setup t at.node at.index
+
+-- A slot is in lists that have it.
+or_right : (a : Bool) → (a || true) ≡ true
+or_right true = refl
+or_right false = refl
+
+pub slot_left : (xs ys : List Slot) (g i : ℕ) → is_slot_in xs g i ≡ true → is_slot_in (xs ++ ys) g i ≡ true
+slot_left xs ys g i h = list_any-append (λ at. at.node == g && at.index == i) xs ys ∙ ap (λ b. b || is_slot_in ys g i) h
+
+pub slot_right : (xs ys : List Slot) (g i : ℕ) → is_slot_in ys g i ≡ true → is_slot_in (xs ++ ys) g i ≡ true
+slot_right xs ys g i h = list_any-append (λ at. at.node == g && at.index == i) xs ys ∙ ap (λ b. is_slot_in xs g i || b) h ∙ or_right (is_slot_in xs g i)
+
+pub slot_one : (g i : ℕ) → is_slot_in (record { node = g; index = i } ∷ []) g i ≡ true
+slot_one g i = rw (eq-eqb g g refl, eq-eqb i i refl)
+
+-- Under a number within range of a root that is found, its root entry is passed.
+passes : (table : Named) (n : ℕ) → table.found ≡ true → n ≤ 4095 → (table.found && nat_le n 4095) ≡ true
+passes table n found within = ap (λ b. b && nat_le n 4095) found ∙ le-leb n 4095 within
+
+root_slots : (table : Named) (n : ℕ) → table.found ≡ true → n ≤ 4095 → root_passed (Under table n) ≡ root_slot table.frame n ∷ []
+root_slots table n found within = ap (λ b. if b then root_slot table.frame n ∷ [] else []) (passes table n found within)
+
+-- What may be used links to the leaf to which what stands there links.
+link_shown : (p : Place) (waits : Bool) (leaf : ℕ) → linked (usable_in p waits) ≡ Some leaf → linked (capability_in p) ≡ Some leaf
+link_shown Vacant waits leaf h = h
+link_shown (Holds k) waits leaf h = h
+link_shown (Removed k) true leaf h = h
+link_shown (Removed k) false leaf h = absurd (cc)
+
+-- No number is reached by what is no link.
+unlinked : (s : State) (table : Named) (n : ℕ) → table.found ≡ true → holds_link (place_at s (root_slot table.frame n)) ≡ false → has_no_slot s (Under table n) ≡ true
+unlinked s table n found none = ap (λ b. nat_lt 4095 n || b) (ap (λ b. b && not (holds_link (place_at s (root_slot table.frame n)))) found ∙ ap not none) ∙ or_right (nat_lt 4095 n)
+
+module _ (setup : Setting) (setting : IsSetting setup) (cores : ℕ → Core) (t : Trace) (stands : Stands setup cores t) (c : ℕ) (here : c < setup.cores)
+    (f : InFlight) (flight : (cores c).flight ≡ Some f) (want : Want) (target : Target) (is_open : phase t c ≡ Open f.call)
+    (no_slot : IsTrue (has_no_slot (state_after setup t) target) → RuleMay (state_after setup t) c (rule_of (state_after setup t) c f.call) reply.NoSlot)
+    (on_way : (g i : ℕ) → is_slot_in (wide_way_to (state_after setup t) target) g i ≡ true → is_slot_in (wide_ways (state_after setup t) c (rule_of (state_after setup t) c f.call)) g i ≡ true)
+    (goes : (e : Step) (look : Look) → Carries setup t e c → LooksUp setup (e ∷ t) c target look → KnowsLook setup (e ∷ t) c (cores c).table f.call want look)
+    (done : (at : Slot) (v : Entry) → Arrives setup t c target at → entry_of_word (last_left setup t (EntryAt at.node at.index)) ≡ Some v
+        → Shows setup.frames (place_at (state_after setup t) at) v
+        → GoodTook setup cores t c f (EntryAt at.node at.index) (last_left setup t (EntryAt at.node at.index)) (last_left setup t (EntryAt at.node at.index))
+            (took_found (cores c).table f.call want (found_at at.node at.index (last_left setup t (EntryAt at.node at.index)) v))) where
+  -- what is taken from the word of a look-up at this place
+  abbrev Takes : Look → ℕ → ℕ → Type 0
+  Takes look g i = GoodTook setup cores t c f (EntryAt g i) (last_left setup t (EntryAt g i)) (last_left setup t (EntryAt g i))
+      (took_look (cores c).table f.call want look (last_left setup t (EntryAt g i)) (shown_in setup.frames (last_left setup t (EntryAt g i))))
+
+  abbrev TakesShown : Look → ℕ → ℕ → Option Entry → Type 0
+  TakesShown look g i shown = GoodTook setup cores t c f (EntryAt g i) (last_left setup t (EntryAt g i)) (last_left setup t (EntryAt g i))
+      (took_look (cores c).table f.call want look (last_left setup t (EntryAt g i)) shown)
+
+  module _ (look : Look) (at : f.stage ≡ Looking want look) (room : (cores c).made < (cores c).limit) where
+    opens : phase_at f.call f.stage ≡ Open f.call
+    opens = ap (phase_at f.call) at
+
+    holds_none : holds_at f.stage (cores c).core ≡ nothing
+    holds_none = ap (λ s. holds_at s (cores c).core) at
+
+    busy : (g i d : ℕ) → is_slot_in (wide_way_to (state_after setup t) target) g i ≡ true → (m : IsMarked setup t g i) → m.by ≡ d
+        → GoodTook setup cores t c f (EntryAt g i) (last_left setup t (EntryAt g i)) (last_left setup t (EntryAt g i)) (decide (reply.Busy d))
+    busy g i d way m same = refuses_busy setup setting cores t stands c here f flight opens holds_none room (EntryAt g i) (last_left setup t (EntryAt g i)) refl (λ b. refl) d
+        (m.mark ∙ ap Some same) (λ node. on_way g i way)
+
+    nowhere : (g i : ℕ) → IsTrue (has_no_slot (state_after setup t) target)
+        → GoodTook setup cores t c f (EntryAt g i) (last_left setup t (EntryAt g i)) (last_left setup t (EntryAt g i)) (decide reply.NoSlot)
+    nowhere g i none = refuses_no_slot setup setting cores t stands c here f flight opens holds_none room (EntryAt g i) (last_left setup t (EntryAt g i)) refl (λ b. refl) (no_slot none)
+
+    -- it goes on to the leaf
+    further : (g i : ℕ) (next : Look) → ((e : Step) → Carries setup t e c → own_left (e ∷ t) c (EntryAt g i) ≡ Some (last_left setup t (EntryAt g i)) → LooksUp setup (e ∷ t) c target next)
+        → GoodTook setup cores t c f (EntryAt g i) (last_left setup t (EntryAt g i)) (last_left setup t (EntryAt g i)) (Goes (Looking want next))
+    further g i next looks fits =
+        let e : Step = step_to c None (EntryAt g i) (last_left setup t (EntryAt g i)) (last_left setup t (EntryAt g i)) None None in
+        loads_on setup setting cores t stands c here f flight (EntryAt g i) (last_left setup t (EntryAt g i)) (Looking want next) refl (λ b. refl) fits (sym holds_none)
+        opens (λ carries. goes e next carries (looks e carries (own_left-here c e t refl (EntryAt g i) refl)))
+
+-- Under a number of a table.
+module _ (setup : Setting) (setting : IsSetting setup) (cores : ℕ → Core) (t : Trace) (stands : Stands setup cores t) (c : ℕ) (here : c < setup.cores)
+    (f : InFlight) (flight : (cores c).flight ≡ Some f) (want : Want) (table : Named) (n : ℕ) (is_open : phase t c ≡ Open f.call)
+    (no_slot : IsTrue (has_no_slot (state_after setup t) (Under table n)) → RuleMay (state_after setup t) c (rule_of (state_after setup t) c f.call) reply.NoSlot)
+    (on_way : (g i : ℕ) → is_slot_in (wide_way_to (state_after setup t) (Under table n)) g i ≡ true
+        → is_slot_in (wide_ways (state_after setup t) c (rule_of (state_after setup t) c f.call)) g i ≡ true)
+    (goes : (e : Step) (look : Look) → Carries setup t e c → LooksUp setup (e ∷ t) c (Under table n) look → KnowsLook setup (e ∷ t) c (cores c).table f.call want look)
+    (done : (at : Slot) (v : Entry) → Arrives setup t c (Under table n) at → entry_of_word (last_left setup t (EntryAt at.node at.index)) ≡ Some v
+        → Shows setup.frames (place_at (state_after setup t) at) v
+        → GoodTook setup cores t c f (EntryAt at.node at.index) (last_left setup t (EntryAt at.node at.index)) (last_left setup t (EntryAt at.node at.index))
+            (took_found (cores c).table f.call want (found_at at.node at.index (last_left setup t (EntryAt at.node at.index)) v)))
+    (room : (cores c).made < (cores c).limit) where
+  abbrev Shown : Look → ℕ → ℕ → Option Entry → Type 0
+  Shown = TakesShown setup setting cores t stands c here f flight want (Under table n) is_open no_slot on_way goes done
+
+  root_step : f.stage ≡ Looking want (AtRoot table.frame n) → LooksUp setup t c (Under table n) (AtRoot table.frame n)
+      → Takes setup setting cores t stands c here f flight want (Under table n) is_open no_slot on_way goes done (AtRoot table.frame n) table.frame (n / 64)
+  root_step at looks = by_read (place_reads setup cores t stands table.frame (n / 64) looks.relies.node (let w = looks.at.within in omega arith))
+    where
+      by_link : (k : Capability) → ShowsHeld setup.frames ((state_after setup t).place table.frame (n / 64)) k → (b : Bool) → is_link k.kind ≡ b
+          → GoodTook setup cores t c f (EntryAt table.frame (n / 64)) (last_left setup t (EntryAt table.frame (n / 64))) (last_left setup t (EntryAt table.frame (n / 64)))
+              (took_end (cores c).table f.call want (Rattle.stage_look.specs.Lookup.after_link b table.frame n k.frame) (Rattle.stage_look.specs.Lookup.end_by_link b))
+      by_link k shows true is = further setup setting cores t stands c here f flight want (Under table n) is_open no_slot on_way goes done (AtRoot table.frame n) at room table.frame (n / 64) (AtLeaf k.frame n)
+          (λ e carries own. record {
+            relies = carries.stays.relies _ looks.relies;
+            at = record {
+              found = looks.at.found;
+              same = refl;
+              within = looks.at.within;
+              link = ap linked (carries.stays.usable (root_slot table.frame n) k looks.relies
+                  (ap (λ p. usable_in p (((state_after setup t).grace (PlaceOf table.frame (n / 64))).waits c)) shows.holds))
+                  ∙ ap (λ b. if b then Some k.frame else None) (sym (link_kind k.kind) ∙ is);
+              stepped = ap Rattle.std.specs.Prelude.is_some own;
+            };
+          })
+      by_link k shows false is = nowhere setup setting cores t stands c here f flight want (Under table n) is_open no_slot on_way goes done (AtRoot table.frame n) at room table.frame (n / 64)
+          (unlinked (state_after setup t) table n looks.at.found (ap holds_link shows.holds ∙ sym (link_kind k.kind) ∙ is))
+
+      by_value : (v : Entry) → Shows setup.frames ((state_after setup t).place table.frame (n / 64)) v → Shown (AtRoot table.frame n) table.frame (n / 64) (Some v)
+      by_value Free shows = nowhere setup setting cores t stands c here f flight want (Under table n) is_open no_slot on_way goes done (AtRoot table.frame n) at room table.frame (n / 64)
+          (unlinked (state_after setup t) table n looks.at.found (ap holds_link shows))
+      by_value (Held k) shows = by_link k shows (is_link k.kind) refl
+      by_value (Closing d) shows = absurd shows
+      by_value (Quiescing s) shows = nowhere setup setting cores t stands c here f flight want (Under table n) is_open no_slot on_way goes done (AtRoot table.frame n) at room table.frame (n / 64)
+          (unlinked (state_after setup t) table n looks.at.found (ap holds_link shows.removed))
+
+      by_read : IsMarked setup t table.frame (n / 64) ⊎ IsPlain setup t table.frame (n / 64)
+          → Takes setup setting cores t stands c here f flight want (Under table n) is_open no_slot on_way goes done (AtRoot table.frame n) table.frame (n / 64)
+      by_read (inl m) = subst (Shown (AtRoot table.frame n) table.frame (n / 64)) (sym (ap (entry_within setup.frames) m.says))
+          (busy setup setting cores t stands c here f flight want (Under table n) is_open no_slot on_way goes done (AtRoot table.frame n) at room table.frame (n / 64) m.by
+          (slot_left (root_passed (Under table n)) (option_to_list (led_to (state_after setup t) (Under table n))) table.frame (n / 64)
+          (ap (λ l. is_slot_in l table.frame (n / 64)) (root_slots table n looks.at.found looks.at.within) ∙ slot_one table.frame (n / 64))) m refl)
+      by_read (inr p) =
+          let shown = shown_of setup.frames ((state_after setup t).place table.frame (n / 64)) (stamp setup t (PlaceOf table.frame (n / 64))) (last_left setup t (EntryAt table.frame (n / 64))) p.says in
+          subst (Shown (AtRoot table.frame n) table.frame (n / 64)) (sym shown.shown) (by_value shown.value shown.shows)
+
+  leaf_step : (leaf : ℕ) → f.stage ≡ Looking want (AtLeaf leaf n) → LooksUp setup t c (Under table n) (AtLeaf leaf n)
+      → Takes setup setting cores t stands c here f flight want (Under table n) is_open no_slot on_way goes done (AtLeaf leaf n) leaf (n % 64)
+  leaf_step leaf at looks = by_read (place_reads setup cores t stands leaf (n % 64) relies.node (omega arith))
+    where
+      slot : Slot
+      slot = record { node = leaf; index = n % 64 }
+
+      reaches : reached (state_after setup t) c (Under table n) ≡ Some slot
+      reaches = ap (λ b. if b then slot_in (linked (usable (state_after setup t) c (root_slot table.frame n))) (n % 64) else None) (passes table n looks.at.found looks.at.within)
+          ∙ ap (λ l. slot_in l (n % 64)) looks.at.link
+
+      leads : led_to (state_after setup t) (Under table n) ≡ Some slot
+      leads = ap (λ b. if b then slot_in (linked (capability_in (place_at (state_after setup t) (root_slot table.frame n)))) (n % 64) else None) (passes table n looks.at.found looks.at.within)
+          ∙ ap (λ l. slot_in l (n % 64))
+          (link_shown (place_at (state_after setup t) (root_slot table.frame n)) (((state_after setup t).grace (PlaceOf table.frame (n / 64))).waits c) leaf looks.at.link)
+
+      relies : Relies (state_after setup t) c leaf
+      relies = relies_reached setup setting t stands.legal c f.call is_open table n slot reaches
+
+      arrives : IsPlain setup t leaf (n % 64) → Arrives setup t c (Under table n) slot
+      arrives p = record {
+        relies = looks.relies;
+        reached = reaches;
+        leaf = relies;
+        below = omega arith;
+        passed = subst (HasReached t c) (sym (root_slots table n looks.at.found looks.at.within))
+            (All-cons (λ (x : Slot). IsSome (own_left t c (EntryAt x.node x.index))) (root_slot table.frame n) [] looks.at.stepped
+            (All-nil (λ (x : Slot). IsSome (own_left t c (EntryAt x.node x.index)))));
+        plain = p;
+      }
+
+      by_value : IsPlain setup t leaf (n % 64) → (v : Entry) → entry_of_word (last_left setup t (EntryAt leaf (n % 64))) ≡ Some v
+          → Shows setup.frames ((state_after setup t).place leaf (n % 64)) v → Shown (AtLeaf leaf n) leaf (n % 64) (Some v)
+      by_value p Free reads shows = done slot Free (arrives p) reads shows
+      by_value p (Held k) reads shows = done slot (Held k) (arrives p) reads shows
+      by_value p (Closing d) reads shows = absurd shows
+      by_value p (Quiescing s) reads shows = done slot (Quiescing s) (arrives p) reads shows
+
+      by_read : IsMarked setup t leaf (n % 64) ⊎ IsPlain setup t leaf (n % 64)
+          → Takes setup setting cores t stands c here f flight want (Under table n) is_open no_slot on_way goes done (AtLeaf leaf n) leaf (n % 64)
+      by_read (inl m) = subst (Shown (AtLeaf leaf n) leaf (n % 64)) (sym (ap (entry_within setup.frames) m.says))
+          (busy setup setting cores t stands c here f flight want (Under table n) is_open no_slot on_way goes done (AtLeaf leaf n) at room leaf (n % 64) m.by
+          (slot_right (root_passed (Under table n)) (option_to_list (led_to (state_after setup t) (Under table n))) leaf (n % 64)
+          (ap (λ o. is_slot_in (option_to_list o) leaf (n % 64)) leads ∙ slot_one leaf (n % 64))) m refl)
+      by_read (inr p) =
+          let shown = shown_of setup.frames ((state_after setup t).place leaf (n % 64)) (stamp setup t (PlaceOf leaf (n % 64))) (last_left setup t (EntryAt leaf (n % 64))) p.says in
+          subst (Shown (AtLeaf leaf n) leaf (n % 64)) (sym shown.shown) (by_value p shown.value shown.reads shown.shows)
+
+  -- the step of any look-up under a number
+  pub under_step : (look : Look) → f.stage ≡ Looking want look → LooksUp setup t c (Under table n) look
+      → GoodTook setup cores t c f (word_of (look_move look)) (last_left setup t (word_of (look_move look))) (last_left setup t (word_of (look_move look)))
+          (took_look (cores c).table f.call want look (last_left setup t (word_of (look_move look))) (shown_in setup.frames (last_left setup t (word_of (look_move look)))))
+  under_step (AtRoot root number) at looks = subst Goal looks.at.frame (subst Of looks.at.same (λ at looks. root_step at looks)) at looks
+    where
+      Of : ℕ → Type 0
+      Of m = f.stage ≡ Looking want (AtRoot table.frame m) → LooksUp setup t c (Under table n) (AtRoot table.frame m)
+          → Takes setup setting cores t stands c here f flight want (Under table n) is_open no_slot on_way goes done (AtRoot table.frame m) table.frame (m / 64)
+
+      Goal : ℕ → Type 0
+      Goal r = f.stage ≡ Looking want (AtRoot r number) → LooksUp setup t c (Under table n) (AtRoot r number)
+          → Takes setup setting cores t stands c here f flight want (Under table n) is_open no_slot on_way goes done (AtRoot r number) r (number / 64)
+  under_step (AtLeaf leaf number) at looks = subst Of looks.at.same (λ at looks. leaf_step leaf at looks) at looks
+    where
+      Of : ℕ → Type 0
+      Of m = f.stage ≡ Looking want (AtLeaf leaf m) → LooksUp setup t c (Under table n) (AtLeaf leaf m)
+          → Takes setup setting cores t stands c here f flight want (Under table n) is_open no_slot on_way goes done (AtLeaf leaf m) leaf (m % 64)
+  under_step (AtEntry root index) at looks = absurd looks.at

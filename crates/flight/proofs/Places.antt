@@ -1,0 +1,105 @@
+-- What the word of a place of a node is: it carries the mark of a core that is in a call, or says what the place is.
+use Rattle.std.proofs.Common.{◌≡◌, ◌≢◌, ◌⊎◌, inl, inr, ℕ, ◌<◌, ◌≤◌, Bool, true, false, Option, Some, None, arith, refl, sym, ◌∙◌, ap, subst, IsTrue}
+use Rattle.std.specs.Prelude.{IsSome}
+use Rattle.std.proofs.lemmas.Bool.{cases_lt, false≢true, true≢false}
+use Rattle.spk_nums.specs.Setting.{Setting, IsSetting}
+use Rattle.entry_words.specs.declared.entry.Entry.{Entry}
+use Rattle.entry_words.specs.declared.entry.Entry.TheVariants.{Free, Held, Closing, Quiescing}
+use Rattle.entry_words.specs.EntryWord.{entry_of_word}
+use Rattle.word_map.specs.Word.{Word, EntryAt}
+use Rattle.seq_state.specs.State.{Place, Frame, Kernel, Table, Leaf, Pages, Pleaf, PlaceOf, State}
+use Rattle.seq_state.specs.Start.{start}
+use Rattle.seq_state.proofs.Sound.{is_node}
+use Rattle.kernel_history.specs.Marks.{entry_mark, mark_in_frame}
+use Rattle.kernel_history.specs.Trace.{Trace, Phase, Out, phase, state_after, last_left}
+use Rattle.kernel_history.specs.Stamps.{is_in, stamp}
+use Rattle.kernel_history.proofs.Inside.{inside_is}
+use Rattle.flight.specs.declared.stages.InFlight.{InFlight}
+use Rattle.flight.specs.View.{Core}
+use Rattle.flight.specs.Holding.{marked_by, settled_by, settled}
+use Rattle.flight.specs.Words.{PlaceIs, IsFrameWord}
+use Rattle.flight.specs.Knows.{FlightIs}
+use Rattle.flight.specs.Stands.{holds, holds_in, held_by, times_of, Stands}
+use Rattle.flight.proofs.Sounds.{limits_of}
+use Rattle.flight.proofs.Loads.{phase_in}
+
+-- The word of a place carries the mark of a core.
+pub record IsMarked (setup : Setting) (t : Trace) (f i : ℕ) : Type 0 where
+  pub by : ℕ
+  pub says : entry_of_word (last_left setup t (EntryAt f i)) ≡ Some (Closing by)
+  pub mark : marked_by setup t (EntryAt f i) ≡ Some by
+
+-- It carries no mark, and says what the place is.
+pub record IsPlain (setup : Setting) (t : Trace) (f i : ℕ) : Type 0 where
+  pub mark : marked_by setup t (EntryAt f i) ≡ None
+  pub says : PlaceIs setup.frames ((state_after setup t).place f i) (stamp setup t (PlaceOf f i)) (entry_of_word (last_left setup t (EntryAt f i)))
+
+node_says : (n : ℕ) (x : Frame) (p : Place) (r i v : ℕ) → IsTrue (is_node x) → i < 64 → IsFrameWord n x p r i v → PlaceIs n p r (entry_of_word v)
+node_says n (Kernel Table) p r i v node below h = h below
+node_says n (Kernel Leaf) p r i v node below h = h below
+node_says n (Kernel Pages) p r i v node below h = h below
+node_says n (Kernel Pleaf) p r i v node below h = h below
+node_says n _ p r i v node below h = absurd (false≢true node)
+
+pub node_mark : (x : Frame) (i v : ℕ) → IsTrue (is_node x) → mark_in_frame x i v ≡ entry_mark (entry_of_word v)
+node_mark (Kernel Table) i v node = refl
+node_mark (Kernel Leaf) i v node = refl
+node_mark (Kernel Pages) i v node = refl
+node_mark (Kernel Pleaf) i v node = refl
+node_mark _ i v node = absurd (false≢true node)
+
+closing_by : (o : Option Entry) (d : ℕ) → entry_mark o ≡ Some d → o ≡ Some (Closing d)
+closing_by None d h = absurd (cc)
+closing_by (Some Free) d h = absurd (cc)
+closing_by (Some (Held k)) d h = absurd (cc)
+closing_by (Some (Closing e)) d h = ap (λ o. Rattle.std.specs.Prelude.option_map Closing o) h
+closing_by (Some (Quiescing s)) d h = absurd (cc)
+
+-- What is read at a place of a node.
+pub place_reads : (setup : Setting) (cores : ℕ → Core) (t : Trace) → Stands setup cores t → (f i : ℕ) → IsTrue (is_node ((state_after setup t).frame f)) → i < 64
+    → IsMarked setup t f i ⊎ IsPlain setup t f i
+place_reads setup cores t stands f i node below = by_mark (marked_by setup t (EntryAt f i)) refl
+  where
+    by_mark : (o : Option ℕ) → marked_by setup t (EntryAt f i) ≡ o → IsMarked setup t f i ⊎ IsPlain setup t f i
+    by_mark None is = inr (record {
+      mark = is;
+      says = subst (λ n. PlaceIs n ((state_after setup t).place f i) (stamp setup t (PlaceOf f i)) (entry_of_word (last_left setup t (EntryAt f i))))
+          (ap (λ l. l.frames) (limits_of setup t))
+          (node_says (state_after setup t).limits.frames ((state_after setup t).frame f) ((state_after setup t).place f i) (stamp setup t (PlaceOf f i)) i (last_left setup t (EntryAt f i)) node below
+          (subst (λ o. IsFrameWord (state_after setup t).limits.frames ((state_after setup t).frame f) ((state_after setup t).place f i) (stamp setup t (PlaceOf f i)) i
+          (settled_by o (held_by cores) (EntryAt f i) (last_left setup t (EntryAt f i)))) is (stands.words (EntryAt f i))));
+    })
+    by_mark (Some d) is = inl (record {
+      by = d;
+      says = closing_by (entry_of_word (last_left setup t (EntryAt f i))) d (sym (node_mark ((state_after setup t).frame f) i (last_left setup t (EntryAt f i)) node) ∙ is);
+      mark = is;
+    })
+
+-- Who marks a word has a call in flight.
+flight_some : (o : Option InFlight) (c : ℕ) (w : Word) → (holds_in o c).marks w ≡ true → IsSome o
+flight_some None c w h = absurd (false≢true h)
+flight_some (Some f) c w h = refl
+
+in_phase : (p : Phase) → p ≢ Out → is_in p ≡ true
+in_phase Out h = absurd (h refl)
+in_phase (Rattle.kernel_history.specs.Trace.Open call) h = refl
+in_phase (Rattle.kernel_history.specs.Trace.Decided call r) h = refl
+
+-- A core whose mark a word carries is in a call.
+pub marker_inside : (setup : Setting) (cores : ℕ → Core) (t : Trace) → Stands setup cores t → (w : Word) (d : ℕ) → marked_by setup t w ≡ Some d
+    → ((state_after setup t).core d).inside ≡ true
+marker_inside setup cores t stands w d is = elim (cases_lt d setup.cores) [
+  | inl here ↦ inside_is setup t d ∙ in_phase (phase t d) (by_flight (cores d).flight (stands.each d here).flight some)
+  | inr past ↦ absurd (none_some (cores d).flight (stands.away d past).idle some)
+]
+  where
+    some : IsSome (cores d).flight
+    some = flight_some (cores d).flight (cores d).core w ((stands.marks w d).owned is)
+
+    none_some : (o : Option InFlight) → o ≡ None → IsSome o → ⊥
+    none_some None is some = absurd (false≢true some)
+    none_some (Some f) is some = absurd (cc)
+
+    by_flight : (o : Option InFlight) → FlightIs setup t d (cores d).table o → IsSome o → phase t d ≢ Out
+    by_flight None is some = absurd (false≢true some)
+    by_flight (Some f) is some = λ out. phase_in setup t d (cores d).table f.call f.stage is.knows (sym is.phase ∙ out)

@@ -1,0 +1,148 @@
+-- What is said of a word stays where the step leaves the word, and what is said of it, as they were; of every kind of word at once.
+use Rattle.std.proofs.Common.{◌≡◌, ◌≢◌, inl, inr, ℕ, Bool, true, false, ◌∷◌, Option, Some, None, refl, sym, ◌∙◌, ap, subst}
+use Rattle.std.proofs.lemmas.Bool.{cases_eq}
+use Rattle.spk_nums.specs.Setting.{Setting}
+use Rattle.word_map.specs.Word.{Word, EntryAt, FrameAt, CountAt, CoreAt, FlushAt, LiveAt, ClockAt}
+use Rattle.seq_state.specs.State.{Place, Frame, Liveness, PlaceOf, NumberOf, State, put}
+use Rattle.seq_state.proofs.Within.{put_same, put_other}
+use Rattle.frame_words.specs.Core.{core_of_word}
+use Rattle.frame_words.specs.Flush.{flush_of_word}
+use Rattle.frame_words.specs.Frame.{frame_of_word}
+use Rattle.frame_words.specs.Live.{live_of_word}
+use Rattle.kernel_history.specs.ObjectWords.{frame_value}
+use Rattle.kernel_history.specs.Marks.{mark_of, mark_in_frame}
+use Rattle.kernel_history.specs.Trace.{Step, Trace, state_after, last_left}
+use Rattle.kernel_history.proofs.Steps.{last_left-here, last_left-there}
+use Rattle.kernel_history.proofs.Names.{cases_word}
+use Rattle.flight.specs.View.{Core}
+use Rattle.flight.specs.Holding.{Holding, marked_by, settled_by, settled, MarkIs}
+use Rattle.flight.specs.Words.{Times, IsFrameWord, NumberIs, WordIs}
+use Rattle.flight.specs.Stands.{holds, held_by, times_of}
+
+-- What is said of a word is as before, kind by kind.
+pub record SameEntry (s s' : State) (m m' : Times) (f i : ℕ) : Type 0 where
+  pub frames : s'.limits.frames ≡ s.limits.frames
+  pub frame : s'.frame f ≡ s.frame f
+  pub place : s'.place f i ≡ s.place f i
+  pub stamp : m'.stamp (PlaceOf f i) ≡ m.stamp (PlaceOf f i)
+
+pub record SameCore (s s' : State) (m m' : Times) (c : ℕ) : Type 0 where
+  pub inside : (s'.core c).inside ≡ (s.core c).inside
+  pub exit : m'.exit c ≡ m.exit c
+
+pub record SameNumber (s s' : State) (m m' : Times) (l : ℕ) : Type 0 where
+  pub number : s'.number l ≡ s.number l
+  pub stamp : m'.stamp (NumberOf l) ≡ m.stamp (NumberOf l)
+
+abbrev pub SameFor : State → State → Times → Times → Word → Type 0
+SameFor s s' m m' (EntryAt f i) = SameEntry s s' m m' f i
+SameFor s s' m m' (FrameAt f) = s'.frame f ≡ s.frame f
+SameFor s s' m m' (CountAt f c) = Unit {0}
+SameFor s s' m m' (CoreAt c) = SameCore s s' m m' c
+SameFor s s' m m' (FlushAt c) = m'.flush c ≡ m.flush c
+SameFor s s' m m' (LiveAt l) = SameNumber s s' m m' l
+SameFor s s' m m' ClockAt = Unit {0}
+
+entry_same : {n n' : ℕ} {a a' : Frame} {p p' : Place} {r r' : ℕ} (i x : ℕ) → n' ≡ n → a' ≡ a → p' ≡ p → r' ≡ r → IsFrameWord n a p r i x → IsFrameWord n' a' p' r' i x
+entry_same {n} {n'} {a} {a'} {p} {p'} {r} {r'} i x ns fs ps rs h =
+    subst (λ y. IsFrameWord n' a' p' y i x) (sym rs)
+    (subst (λ y. IsFrameWord n' a' y r i x) (sym ps)
+    (subst (λ y. IsFrameWord n' y p r i x) (sym fs)
+    (subst (λ y. IsFrameWord y a p r i x) (sym ns) h)))
+
+number_same : {a a' : Liveness} {r r' : ℕ} (x : ℕ) → a' ≡ a → r' ≡ r → NumberIs a r (live_of_word x) → NumberIs a' r' (live_of_word x)
+number_same {a} {a'} {r} {r'} x ns rs h = subst (λ y. NumberIs a' y (live_of_word x)) (sym rs) (subst (λ y. NumberIs y r (live_of_word x)) (sym ns) h)
+
+pub word_stays : (s s' : State) (m m' : Times) (w : Word) (x : ℕ) → SameFor s s' m m' w → WordIs s m w x → WordIs s' m' w x
+word_stays s s' m m' (EntryAt f i) x same h = entry_same i x same.frames same.frame same.place same.stamp h
+word_stays s s' m m' (FrameAt f) x same h = h ∙ ap (λ y. Some (frame_value y)) (sym same)
+word_stays s s' m m' (CountAt f c) x same h = h
+word_stays s s' m m' (CoreAt c) x same h =
+    h ∙ ap (λ y. Some (record { inside = y; stamp = m.exit c })) (sym same.inside) ∙ ap (λ (y : ℕ). Some (record { inside = (s'.core c).inside; stamp = y })) (sym same.exit)
+word_stays s s' m m' (FlushAt c) x same h = h ∙ ap (λ (y : ℕ). Some (record { stamp = y })) (sym same)
+word_stays s s' m m' (LiveAt l) x same h = number_same x same.number same.stamp h
+word_stays s s' m m' ClockAt x same h = tt
+
+-- A mark is read by what the frame holds.
+pub mark_same : (s s' : State) (w : Word) (x : ℕ) → ((f : ℕ) → s'.frame f ≡ s.frame f) → mark_of s' w x ≡ mark_of s w x
+mark_same s s' (EntryAt f i) x frames = ap (λ y. mark_in_frame y i x) (frames f)
+mark_same s s' (FrameAt f) x frames = refl
+mark_same s s' (CountAt f c) x frames = refl
+mark_same s s' (CoreAt c) x frames = refl
+mark_same s s' (FlushAt c) x frames = refl
+mark_same s s' (LiveAt l) x frames = refl
+mark_same s s' ClockAt x frames = refl
+
+-- A step after which its core holds what it held, and that leaves the frames.
+module _ (setup : Setting) (cores : ℕ → Core) (t : Trace) (e : Step) (after : Core) (still : holds after ≡ holds (cores e.core))
+    (frames : (f : ℕ) → (state_after setup (e ∷ t)).frame f ≡ (state_after setup t).frame f) where
+  abbrev pub held : ℕ → Holding
+  held = held_by (put cores e.core after)
+
+  held_on : (d : ℕ) → held d ≡ held_by cores d
+  held_on d = elim (cases_eq d e.core) [
+    | inl own ↦ ap holds (put_same cores e.core after d own) ∙ still ∙ ap (held_by cores) (sym own)
+    | inr other ↦ ap holds (put_other cores e.core after d other)
+  ]
+
+  marked_on : (w : Word) → last_left setup (e ∷ t) w ≡ last_left setup t w → marked_by setup (e ∷ t) w ≡ marked_by setup t w
+  marked_on w same = mark_same (state_after setup t) (state_after setup (e ∷ t)) w (last_left setup (e ∷ t) w) frames ∙ ap (mark_of (state_after setup t) w) same
+
+  settled_held : (o : Option ℕ) (w : Word) (x : ℕ) → settled_by o held w x ≡ settled_by o (held_by cores) w x
+  settled_held None w x = refl
+  settled_held (Some d) w x = ap (λ h. h.stands w) (held_on d)
+
+  settled_on : (w : Word) → last_left setup (e ∷ t) w ≡ last_left setup t w → settled setup held (e ∷ t) w ≡ settled setup (held_by cores) t w
+  settled_on w same =
+      ap (λ o. settled_by o held w (last_left setup (e ∷ t) w)) (marked_on w same)
+      ∙ ap (settled_by (marked_by setup t w) held w) same
+      ∙ settled_held (marked_by setup t w) w (last_left setup t w)
+
+  mark_by : (w : Word) (d : ℕ) → marked_by setup (e ∷ t) w ≡ marked_by setup t w → MarkIs setup (held_by cores) t w d → MarkIs setup held (e ∷ t) w d
+  mark_by w d same is = record {
+    owned = λ h. ap (λ k. k.marks w) (held_on d) ∙ is.owned (sym same ∙ h);
+    kept = λ h. same ∙ is.kept (sym (ap (λ k. k.marks w) (held_on d)) ∙ h);
+  }
+
+  -- it leaves its word
+  module _ (load : e.left ≡ last_left setup t e.word) where
+    pub load_keeps : (w : Word) → last_left setup (e ∷ t) w ≡ last_left setup t w
+    load_keeps w = elim (cases_word w e.word) [
+      | inl here ↦ last_left-here setup w e t here ∙ load ∙ ap (last_left setup t) (sym here)
+      | inr there ↦ last_left-there setup w e t there
+    ]
+
+    pub load_marks : ((w : Word) (d : ℕ) → MarkIs setup (held_by cores) t w d) → (w : Word) (d : ℕ) → MarkIs setup held (e ∷ t) w d
+    load_marks marks w d = mark_by w d (marked_on w (load_keeps w)) (marks w d)
+
+    pub load_words : ((w : Word) → SameFor (state_after setup t) (state_after setup (e ∷ t)) (times_of setup t) (times_of setup (e ∷ t)) w)
+        → ((w : Word) → WordIs (state_after setup t) (times_of setup t) w (settled setup (held_by cores) t w))
+        → (w : Word) → WordIs (state_after setup (e ∷ t)) (times_of setup (e ∷ t)) w (settled setup held (e ∷ t) w)
+    load_words same words w =
+        subst (WordIs (state_after setup (e ∷ t)) (times_of setup (e ∷ t)) w) (sym (settled_on w (load_keeps w)))
+        (word_stays (state_after setup t) (state_after setup (e ∷ t)) (times_of setup t) (times_of setup (e ∷ t)) w (settled setup (held_by cores) t w) (same w) (words w))
+
+  -- it writes its word, which carried no mark and carries none
+  module _ (was : marked_by setup t e.word ≡ None) (now : mark_of (state_after setup t) e.word e.left ≡ None) where
+    here_mark : (w : Word) → w ≡ e.word → marked_by setup (e ∷ t) w ≡ None
+    here_mark w here =
+        mark_same (state_after setup t) (state_after setup (e ∷ t)) w (last_left setup (e ∷ t) w) frames
+        ∙ ap (mark_of (state_after setup t) w) (last_left-here setup w e t here) ∙ ap (λ v. mark_of (state_after setup t) v e.left) here ∙ now
+
+    pub write_marks : ((w : Word) (d : ℕ) → MarkIs setup (held_by cores) t w d) → (w : Word) (d : ℕ) → MarkIs setup held (e ∷ t) w d
+    write_marks marks w d = elim (cases_word w e.word) [
+      | inl here ↦ mark_by w d (here_mark w here ∙ sym (ap (marked_by setup t) here ∙ was)) (marks w d)
+      | inr there ↦ mark_by w d (marked_on w (last_left-there setup w e t there)) (marks w d)
+    ]
+
+    pub write_words : ((w : Word) → w ≢ e.word → SameFor (state_after setup t) (state_after setup (e ∷ t)) (times_of setup t) (times_of setup (e ∷ t)) w)
+        → WordIs (state_after setup (e ∷ t)) (times_of setup (e ∷ t)) e.word e.left
+        → ((w : Word) → WordIs (state_after setup t) (times_of setup t) w (settled setup (held_by cores) t w))
+        → (w : Word) → WordIs (state_after setup (e ∷ t)) (times_of setup (e ∷ t)) w (settled setup held (e ∷ t) w)
+    write_words same new words w = elim (cases_word w e.word) [
+      | inl here ↦ subst (WordIs (state_after setup (e ∷ t)) (times_of setup (e ∷ t)) w)
+          (sym (ap (λ o. settled_by o held w (last_left setup (e ∷ t) w)) (here_mark w here) ∙ last_left-here setup w e t here))
+          (subst (λ v. WordIs (state_after setup (e ∷ t)) (times_of setup (e ∷ t)) v e.left) (sym here) new)
+      | inr there ↦ subst (WordIs (state_after setup (e ∷ t)) (times_of setup (e ∷ t)) w) (sym (settled_on w (last_left-there setup w e t there)))
+          (word_stays (state_after setup t) (state_after setup (e ∷ t)) (times_of setup t) (times_of setup (e ∷ t)) w (settled setup (held_by cores) t w) (same w there) (words w))
+    ]

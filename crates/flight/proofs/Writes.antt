@@ -1,0 +1,231 @@
+-- The ways in which a core makes a step that writes its word: a decided call writes an entry; a call enters or leaves, and the
+-- core's own word is stored.
+use Rattle.std.proofs.Common.{◌≡◌, ◌≢◌, ℕ, zero, suc, ◌+◌, ◌*◌, ◌^◌, ◌<◌, ◌≤◌, Bool, true, false, ◌∷◌, Option, Some, None, arith, refl, sym, ◌∙◌, ap, subst, inl, inr}
+use Rattle.std.proofs.lemmas.Bool.{cases_eq}
+use Rattle.spk_nums.specs.Bounds.{bound_of}
+use Rattle.spk_nums.specs.Capability.{Capability}
+use Rattle.spk_nums.specs.CallLimits.{InLimits}
+use Rattle.spk_nums.specs.Setting.{Setting, IsSetting}
+use Rattle.spk_nums.specs.declared.calls.Call.{Call}
+use Rattle.spk_nums.specs.declared.replies.Reply.{Reply}
+use Rattle.frame_words.specs.Core.{core_of_word}
+use Rattle.frame_words.specs.declared.core_word.CoreWord.{CoreWord}
+use Rattle.frame_words.proofs.CoreLemmas.{spelling}
+use Rattle.word_map.specs.Word.{Word, EntryAt, CoreAt, FlushAt, ClockAt, same_word}
+use Rattle.seq_state.specs.State.{Quiescing, Thing, State, put}
+use Rattle.seq_state.specs.References.{sum_below}
+use Rattle.seq_state.specs.GracePeriods.{returned}
+use Rattle.seq_state.specs.CallRelation.{MayReply}
+use Rattle.seq_state.proofs.Within.{put_same}
+use Rattle.kernel_history.specs.Trace.{Step, Trace, Phase, Out, Open, Decided, phase, after_enter, after_decide, after_return, state_after, last_left, steps_in_call}
+use Rattle.kernel_history.specs.Legal.{MayDecide}
+use Rattle.kernel_history.specs.Marks.{mark_of}
+use Rattle.kernel_history.specs.Stamps.{begins_in, ends_in, flushes_in, clock, clock_seen, exit_of}
+use Rattle.kernel_history.proofs.Graces.{IsLeave}
+use Rattle.kernel_history.proofs.Inside.{decided-inside, inside-own, inside-other}
+use Rattle.kernel_history.proofs.Steps.{phase-own, steps_in_call-own, exit_of-own, exit_of-other}
+use Rattle.flight.specs.declared.stages.Stage.{Stage}
+use Rattle.flight.specs.declared.stages.Stage.TheVariants.{Enter, Looking, Fill, Exit, Leave}
+use Rattle.flight.specs.declared.stages.InFlight.{InFlight}
+use Rattle.flight.specs.View.{Core}
+use Rattle.flight.specs.Stages.{core_word}
+use Rattle.flight.specs.Steps.{went, fresh}
+use Rattle.flight.specs.Fits.{IsCore}
+use Rattle.flight.specs.Holding.{marked_by}
+use Rattle.flight.specs.Words.{WordIs}
+use Rattle.flight.specs.Knows.{phase_at, Knows, FlightIs, CoreIs}
+use Rattle.flight.specs.Stands.{holds_at, holds_in, holds, times_of, counted_in, Stands}
+use Rattle.flight.proofs.WordFrames.{write_marks, write_words}
+use Rattle.flight.proofs.Good.{IsGood}
+use Rattle.flight.proofs.Calm.{IsCalm, calm_returned, calm_own, calm_works, calm_words, counted_rises, IsPlain, plain_time, plain_exit, plain_flushed}
+use Rattle.flight.proofs.Loads.{step_to, core_at, core_is, flight_is, in_call, inner, inner_within, inner_own, still_holds}
+
+-- The clock fits a stamp: each stamp was drawn by a call that was counted.
+
+sum_most : (f : ℕ → ℕ) (n : ℕ) → ((i : ℕ) → i < n → f i ≤ 4194304) → sum_below f n ≤ n * 4194304
+unfolding sum_below
+sum_most f zero most = omega arith
+sum_most f (suc n) most = let a = sum_most f n (λ i h. most i (omega arith)) in let b = most n (omega arith) in omega arith
+
+pub clock_small : (setup : Setting) → IsSetting setup → (cores : ℕ → Core) (t : Trace) → Stands setup cores t → clock setup t < 2 ^ 28
+clock_small setup setting cores t stands =
+    let most = sum_most (λ c. ((state_after setup t).core c).counted) setup.cores each in
+    let draws = stands.draws in
+    let few = setting.most_cores in
+    omega arith
+  where
+    each : (c : ℕ) → c < setup.cores → ((state_after setup t).core c).counted ≤ 4194304
+    each c here =
+        let is = stands.each c here in
+        let made = is.works.made in
+        let most = is.fits.made in
+        let limit = is.fits.most_calls in
+        omega arith
+
+-- The word of a core reads as what was stored.
+pub core_reads : (inside : Bool) (stamp : ℕ) → stamp < 2 ^ 28 → core_of_word (core_word inside stamp) ≡ Some (record { inside = inside; stamp = stamp })
+core_reads inside stamp small = spelling.reads (record { inside = inside; stamp = stamp }) small
+
+module _ (setup : Setting) (setting : IsSetting setup) (cores : ℕ → Core) (t : Trace) (stands : Stands setup cores t) (c : ℕ) (here : c < setup.cores) where
+  -- A decision that writes an entry, which carried no mark and carries none.
+  module _ (f : InFlight) (flight : (cores c).flight ≡ Some f) where
+    pub writes_entry : (node index found left made : ℕ) (r : Reply) (stage : Stage) → found ≡ last_left setup t (EntryAt node index)
+        → marked_by setup t (EntryAt node index) ≡ None → mark_of (state_after setup t) (EntryAt node index) left ≡ None
+        → IsCore (core_at (cores c) f made stage) → holds_at stage (cores c).core ≡ holds_at f.stage (cores c).core
+        → phase_at f.call f.stage ≡ Open f.call → phase_at f.call stage ≡ Decided f.call r
+        → (let e : Step = inner setup setting cores t stands c here f flight (EntryAt node index) found left (Some r) None in
+            IsCalm (state_after setup t) (state_after setup (e ∷ t)) c → IsPlain setup t e
+            → made ≡ ((state_after setup (e ∷ t)).core c).counted
+            → ((g i : ℕ) → EntryAt g i ≢ EntryAt node index → (state_after setup (e ∷ t)).place g i ≡ (state_after setup t).place g i)
+            → ((g i : ℕ) (k : Capability) → (state_after setup (e ∷ t)).place g i ≢ Quiescing k)
+            → WordIs (state_after setup (e ∷ t)) (times_of setup (e ∷ t)) (EntryAt node index) left
+            → MayDecide setup t e (Some r) (phase t c)
+            → Knows setup (e ∷ t) c (cores c).table f.call stage
+            → IsGood setup cores t e (core_at (cores c) f made stage))
+    writes_entry node index found left made r stage is was now fits same opens closes calm plain counts places removed new may knows =
+        let e : Step = inner setup setting cores t stands c here f flight (EntryAt node index) found left (Some r) None in
+        let after : Core = core_at (cores c) f made stage in
+        let still = still_holds setup setting cores t stands c here f flight (EntryAt node index) found left (Some r) None made stage same in
+        record {
+          follows = record {
+            is_core = here;
+            found = is;
+            enters = tt;
+            in_call = in_call setup setting cores t stands c here f flight;
+            decides = may;
+            returns = tt;
+          };
+          within = inner_within setup setting cores t stands c here f flight (EntryAt node index) found left (Some r) None;
+          marks = write_marks setup cores t e after still calm.frame was now stands.marks;
+          words = write_words setup cores t e after still calm.frame was now
+              (λ v there. calm_words setup t e calm plain v (λ g i h. places g i (λ q. there (h ∙ q)))
+              (λ d h. (decided-inside (Some r) (phase t c) (state_after setup t) c d, plain_exit t e refl d)))
+              new stands.words;
+          draws = (let a = stands.draws in let b = plain.same in let g = counted_rises setup (state_after setup t) (state_after setup (e ∷ t)) c calm in omega arith);
+          none_removed = removed;
+          time = plain_time setup t e plain;
+          leaves = tt;
+          works = calm_works setup t e calm;
+          own = inner_own setup setting cores t stands c here f flight (EntryAt node index) found left (Some r) None refl plain made stage fits calm counts
+              (ap (after_decide (Some r)) opens ∙ sym closes) knows;
+        }
+
+    -- The call returns: the core's word says that it is outside, with the clock that it has loaded.
+    pub leaves_on : (found : ℕ) (r : Reply) (x : ℕ) → found ≡ last_left setup t (CoreAt c) → f.stage ≡ Leave r x
+        → IsCore (record (cores c) { exit = x; flight = None })
+        → IsGood setup cores t (step_to c None (CoreAt c) found (core_word false x) None (Some r)) (record (cores c) { exit = x; flight = None })
+    leaves_on found r x is at fits =
+        let e : Step = step_to c None (CoreAt c) found (core_word false x) None (Some r) in
+        let after : Core = record (cores c) { exit = x; flight = None } in
+        let now : CoreIs setup (cores c) t c = core_is setup setting cores t stands c here f flight in
+        let in_flight = flight_is setup setting cores t stands c here f flight in
+        let leave : IsLeave setup t c x = subst (Knows setup t c (cores c).table f.call) at in_flight.knows in
+        let was_decided : phase t c ≡ Decided f.call r = in_flight.phase ∙ ap (phase_at f.call) at in
+        let still : holds after ≡ holds (cores c) = sym (ap (λ o. holds_in o (cores c).core) flight ∙ ap (λ s. holds_at s (cores c).core) at) in
+        let calm : IsCalm (state_after setup t) (state_after setup (e ∷ t)) c = calm_returned (state_after setup t) c in
+        let plain : IsPlain setup t e = record { begins = λ y. refl; ends = λ y. refl; flushes = refl; apart = λ d. refl; same = refl } in
+        let out : exit_of (e ∷ t) c ≡ x = exit_of-own c e t refl ∙ leave.seen in
+        let small = clock_small setup setting cores t stands in
+        let low = leave.low in
+        let inside : ((state_after setup (e ∷ t)).core c).inside ≡ false = inside-own setup e t c refl in
+        record {
+          follows = record {
+            is_core = here;
+            found = is;
+            enters = tt;
+            in_call = in_call setup setting cores t stands c here f flight;
+            decides = tt;
+            returns = record { call = f.call; was_decided = was_decided };
+          };
+          within = inner_within setup setting cores t stands c here f flight (CoreAt c) found (core_word false x) None (Some r);
+          marks = write_marks setup cores t e after still calm.frame refl refl stands.marks;
+          words = write_words setup cores t e after still calm.frame refl refl
+              (λ v there. calm_words setup t e calm plain v (λ g i h. refl)
+              (λ d h. elim (cases_eq d c) [
+                | inl own ↦ absurd (there (h ∙ ap CoreAt own))
+                | inr other ↦ (inside-other setup e t d other, exit_of-other d e t other)
+              ]))
+              (core_reads false x (omega arith) ∙ ap (λ b. Some (record { inside = b; stamp = x })) (sym inside)
+              ∙ ap (λ (y : ℕ). Some (record { inside = ((state_after setup (e ∷ t)).core c).inside; stamp = y })) (sym out))
+              stands.words;
+          draws = (let a = stands.draws in let g = counted_rises setup (state_after setup t) (state_after setup (e ∷ t)) c calm in omega arith);
+          none_removed = stands.none_removed;
+          time = plain_time setup t e plain;
+          leaves = record { at = x; knows = leave; stored = now.flushed; no_entry = refl; no_decision = refl };
+          works = calm_works setup t e calm;
+          own = record {
+            fits = fits;
+            number = now.number;
+            shape = now.shape;
+            limit = now.limit;
+            works = calm_own (state_after setup t) (state_after setup (e ∷ t)) c (cores c) after calm (ap (λ (m : ℕ). record after { made = m }) (counts now)) now.works;
+            exit = sym out;
+            flushed = plain_flushed setup t e plain c now.flushed;
+            flight = phase-own c e t refl;
+          };
+        }
+      where
+        counts : CoreIs setup (cores c) t c → (cores c).made ≡ ((returned (state_after setup t) c).core c).counted
+        counts now = now.works.made ∙ sym (ap (λ k. k.counted) (put_same (state_after setup t).core c _ c refl))
+
+  -- A call enters, and may be decided at once: the core's word says that it is inside, with the stamp of its last exit.
+  pub enters_on : (found made : ℕ) (call : Call) (d : Option Reply) (stage : Stage) → found ≡ last_left setup t (CoreAt c) → (cores c).flight ≡ None
+      → InLimits call → IsCore (core_at (cores c) (fresh call) made stage) → holds_at stage (cores c).core ≡ holds_in None (cores c).core
+      → after_decide d (Open call) ≡ phase_at call stage
+      → (let e : Step = step_to c (Some call) (CoreAt c) found (core_word true (cores c).exit) d None in
+          IsCalm (state_after setup t) (state_after setup (e ∷ t)) c → IsPlain setup t e
+          → made ≡ ((state_after setup (e ∷ t)).core c).counted
+          → ((g i : ℕ) → (state_after setup (e ∷ t)).place g i ≡ (state_after setup t).place g i)
+          → MayDecide setup t e d (Open call)
+          → Knows setup (e ∷ t) c (cores c).table call stage
+          → IsGood setup cores t e (core_at (cores c) (fresh call) made stage))
+  enters_on found made call d stage is between limits fits same at calm plain counts places may knows =
+      let e : Step = step_to c (Some call) (CoreAt c) found (core_word true (cores c).exit) d None in
+      let after : Core = core_at (cores c) (fresh call) made stage in
+      let now : CoreIs setup (cores c) t c = stands.each c here in
+      let out : phase t c ≡ Out = subst (FlightIs setup t c (cores c).table) between now.flight in
+      let still : holds after ≡ holds (cores c) = same ∙ sym (ap (λ o. holds_in o (cores c).core) between) in
+      let last : exit_of (e ∷ t) c ≡ (cores c).exit = plain_exit t e refl c ∙ sym now.exit in
+      let inside : ((state_after setup (e ∷ t)).core c).inside ≡ true = inside-own setup e t c refl in
+      let small = clock_small setup setting cores t stands in
+      let low = (stands.times c).exit in
+      let exit = now.exit in
+      record {
+        follows = record { is_core = here; found = is; enters = (out, limits); in_call = not_out; decides = may; returns = tt };
+        within = record {
+          call = call;
+          is_of = refl;
+          steps = (let a = fits.flight.steps in
+              let b : steps_in_call (e ∷ t) c ≡ 1 = steps_in_call-own c e t refl in
+              let g : bound_of call (cores c).shape.cores ≡ bound_of call setup.cores = ap (λ s. bound_of call s.cores) now.shape in
+              omega arith);
+        };
+        marks = write_marks setup cores t e after still calm.frame refl refl stands.marks;
+        words = write_words setup cores t e after still calm.frame refl refl
+            (λ v there. calm_words setup t e calm plain v (λ g i h. places g i)
+            (λ b h. elim (cases_eq b c) [
+              | inl own ↦ absurd (there (h ∙ ap CoreAt own))
+              | inr other ↦ (inside-other setup e t b other, exit_of-other b e t other)
+            ]))
+            (core_reads true (cores c).exit (omega arith) ∙ ap (λ b. Some (record { inside = b; stamp = (cores c).exit })) (sym inside)
+            ∙ ap (λ (y : ℕ). Some (record { inside = ((state_after setup (e ∷ t)).core c).inside; stamp = y })) (sym last))
+            stands.words;
+        draws = (let a = stands.draws in let b = plain.same in let g = counted_rises setup (state_after setup t) (state_after setup (e ∷ t)) c calm in omega arith);
+        none_removed = λ g i k h. stands.none_removed g i k (sym (places g i) ∙ h);
+        time = plain_time setup t e plain;
+        leaves = tt;
+        works = calm_works setup t e calm;
+        own = record {
+          fits = fits;
+          number = now.number;
+          shape = now.shape;
+          limit = now.limit;
+          works = calm_own (state_after setup t) (state_after setup (e ∷ t)) c (cores c) after calm (ap (λ (m : ℕ). core_at (cores c) (fresh call) m stage) counts) now.works;
+          exit = sym last;
+          flushed = plain_flushed setup t e plain c now.flushed;
+          flight = record { phase = phase-own c e t refl ∙ at; steps = steps_in_call-own c e t refl; knows = knows };
+        };
+      }
+    where
+      not_out : Open call ≡ Out → ⊥
+      not_out h = cc

@@ -1,0 +1,136 @@
+-- The laws of legal traces.
+use Rattle.std.proofs.Common.{◌≡◌, ◌≢◌, inl, inr, ℕ, ◌+◌, ◌&&◌, ◌++◌, cond, arith, List, [], ◌∷◌, length, Option, Some, None, refl, sym, ◌∙◌, ap, subst, IsTrue}
+use Rattle.std.specs.Prelude.{is_some, option_to_list}
+use Rattle.std.proofs.lemmas.Bool.{cases_eq, eq-eqb, ne_eqb, false≢true}
+use Rattle.std.proofs.lemmas.List.{length-append}
+use Rattle.spk_nums.specs.declared.calls.Call.{Call}
+use Rattle.spk_nums.specs.declared.replies.Reply.{Reply}
+use Rattle.spk_nums.specs.declared.replies.Reply.TheVariants as reply
+use Rattle.spk_nums.specs.Setting.{Setting}
+use Rattle.word_map.specs.Word.{Word}
+use Rattle.seq_state.specs.Runs.{after, phase_of}
+use Rattle.seq_state.specs.CallRelation.{rule_of}
+use Rattle.kernel_history.specs.Trace.{Step, Trace, Phase, Out, Open, Decided, phase, after_enter, after_decide, after_return, state_after, state_before, calls_of, last_left, own_left}
+use Rattle.kernel_history.specs.Stamps.{is_in}
+use Rattle.kernel_history.specs.Justified.{IsJustifiedIn, own_left_before}
+use Rattle.kernel_history.specs.Legal.{MayEnter, MayDecide, MayReturn, MayFollow}
+use Rattle.kernel_history.specs.Laws.{LegalRuns, EventsDetermine, LegalUpTo, returned_calls, OneCallAtATime, UnlessEnters, IsUndisturbed, IsAlone, IsNotHeldUp, AloneGoesOn}
+use Rattle.kernel_history.proofs.Names.{cases_word}
+use Rattle.kernel_history.proofs.Steps.{phase-own, phase-other, calls_of-own, calls_of-other, own_left-here, own_left-there, last_left-here, last_left-there}
+use Rattle.kernel_history.proofs.Events.{state_is, phase_is, run_of}
+use Rattle.kernel_history.proofs.Inside.{inside_is, entered-inside}
+
+pub legal_runs : LegalRuns
+legal_runs setup t legal = record { run = run_of setup t legal; state = state_is setup t }
+
+pub events_determine : EventsDetermine
+events_determine setup t u same = record {
+  state = state_is setup t ∙ ap (after setup) same ∙ sym (state_is setup u);
+  phases = λ c. sym (phase_is t c) ∙ ap (λ events. phase_of events c) same ∙ phase_is u c;
+}
+
+pub legal_up_to : LegalUpTo
+legal_up_to setup [] t legal = legal
+legal_up_to setup (e ∷ u) t legal = legal_up_to setup u t legal.0
+
+-- calls and returns
+
+abbrev one_in : Phase → ℕ
+one_in p = cond (is_in p) 1 0
+
+entry_count : (o : Option Call) (p : Phase) (calls : List Call) (n : ℕ) → MayEnter o p → length calls ≡ n + one_in p
+    → length (calls ++ option_to_list o) ≡ n + one_in (after_enter o p)
+entry_count None p calls n may is = let a = length-append calls [] in omega (arith, a, is)
+entry_count (Some call) p calls n may is =
+    let a = length-append calls (call ∷ []) in
+    let z : ℕ = 0 in
+    let out : one_in p ≡ z = ap one_in may.0 in
+    omega (arith, a, is, out)
+
+decision_count : (o : Option Reply) (p : Phase) → one_in (after_decide o p) ≡ one_in p
+decision_count None p = refl
+decision_count (Some r) Out = refl
+decision_count (Some r) (Open call) = refl
+decision_count (Some r) (Decided call q) = refl
+
+return_count : (o : Option Reply) (p : Phase) (m n : ℕ) → MayReturn o p → m ≡ n + one_in p
+    → m ≡ cond (is_some o) (n + 1) n + one_in (after_return o p)
+return_count None p m n may is = is
+return_count (Some r) p m n may is =
+    let z : ℕ = 1 in
+    let inside : one_in p ≡ z = ap one_in may.was_decided in
+    omega (arith, is, inside)
+
+abbrev Counts : Trace → ℕ → Type 0
+Counts t c = length (calls_of t c) ≡ returned_calls t c + one_in (phase t c)
+
+own_count : (setup : Setting) (t : Trace) (e : Step) → MayFollow setup t e → Counts t e.core → Counts (e ∷ t) e.core
+own_count setup t e follows before =
+    let p : Phase = after_enter e.enters (phase t e.core) in
+    let entry : length (calls_of t e.core ++ option_to_list e.enters) ≡ returned_calls t e.core + one_in p =
+    entry_count e.enters (phase t e.core) (calls_of t e.core) (returned_calls t e.core) follows.enters before in
+    ap length (calls_of-own e.core e t refl)
+    ∙ return_count e.returns (after_decide e.decides p) (length (calls_of t e.core ++ option_to_list e.enters)) (returned_calls t e.core) follows.returns
+    (entry ∙ ap (λ k. returned_calls t e.core + k) (sym (decision_count e.decides p)))
+    ∙ ap (λ n. n + one_in (after_return e.returns (after_decide e.decides p)))
+    (sym (ap (λ b. cond (b && is_some e.returns) (returned_calls t e.core + 1) (returned_calls t e.core)) (eq-eqb e.core e.core refl)))
+    ∙ ap (λ q. returned_calls (e ∷ t) e.core + one_in q) (sym (phase-own e.core e t refl))
+
+pub one_call_at_a_time : OneCallAtATime
+one_call_at_a_time setup [] legal c = refl
+one_call_at_a_time setup (e ∷ t) legal c = elim (cases_eq c e.core) [
+  | inl own ↦ subst (λ (d : ℕ). Counts (e ∷ t) d) (sym own) (own_count setup t e legal.1 (one_call_at_a_time setup t legal.0 e.core))
+  | inr other ↦
+      ap length (calls_of-other c e t other) ∙ one_call_at_a_time setup t legal.0 c
+      ∙ ap (λ n. n + one_in (phase t c)) (sym (ap (λ b. cond (b && is_some e.returns) (returned_calls t c + 1) (returned_calls t c)) (ne_eqb c e.core other)))
+      ∙ ap (λ p. returned_calls (e ∷ t) c + one_in p) (sym (phase-other c e t other))
+]
+
+-- a call that is alone
+
+-- What a core's call left in a word is what the word has, while the core alone has stepped since.
+own_is_last : (setup : Setting) (t : Trace) (c : ℕ) (w : Word) (v : ℕ) → IsUndisturbed t c → own_left t c w ≡ Some v → last_left setup t w ≡ v
+own_is_last setup [] c w v alone own = absurd (cc)
+own_is_last setup (e ∷ t) c w v alone own = elim (cases_word w e.word) [
+  | inl here ↦ last_left-here setup w e t here ∙ some_inj e.left v (sym (own_left-here c e t (sym alone.0) w here) ∙ own)
+  | inr there ↦ last_left-there setup w e t there ∙ by_entry e.enters alone.1 (sym (own_left-there c e t (sym alone.0) w there) ∙ own) (own_is_last setup t c w v)
+]
+  where
+    some_inj : (a b : ℕ) → Some a ≡ Some b → a ≡ b
+    some_inj a b same = cc
+
+    none_some : None ≡ Some v → ⊥
+    none_some q = cc
+
+    by_entry : (o : Option Call) → UnlessEnters o (IsUndisturbed t c) → cond (is_some o) None (own_left t c w) ≡ Some v
+        → (IsUndisturbed t c → own_left t c w ≡ Some v → last_left setup t w ≡ v) → last_left setup t w ≡ v
+    by_entry None alone own before = before alone own
+    by_entry (Some call) alone own before = absurd (none_some own)
+
+module _ (setup : Setting) (t : Trace) (e : Step) (follows : MayFollow setup t e) (alone : IsAlone t e) where
+  not_inside : (d : ℕ) → d ≢ e.core → IsTrue ((state_before setup t e).core d).inside → ⊥
+  not_inside d other inside =
+      false≢true (sym (entered-inside e.enters (state_after setup t) e.core d other ∙ inside_is setup t d ∙ ap is_in (alone.others_out d other)) ∙ inside)
+
+  not_changed : (own : ℕ) → own_left_before t e ≡ Some own → e.found ≢ own → ⊥
+  not_changed own was changed = by_entry e.enters refl alone.undisturbed was
+    where
+      none_some : None ≡ Some own → ⊥
+      none_some q = cc
+
+      by_entry : (o : Option Call) → e.enters ≡ o → UnlessEnters o (IsUndisturbed t e.core) → cond (is_some o) None (own_left t e.core e.word) ≡ Some own → ⊥
+      by_entry None is undisturbed was = changed (follows.found ∙ own_is_last setup t e.core e.word own undisturbed was)
+      by_entry (Some call) is undisturbed was = none_some was
+
+  calm : (r : Reply) (call : Call) → IsJustifiedIn setup t e (state_before setup t e) (rule_of (state_before setup t e) e.core call) r → IsNotHeldUp (Some r)
+  calm reply.Raced call lost = not_changed lost.own lost.was_own lost.changed
+  calm (reply.Busy d) call held = not_inside d held.other held.is_inside
+  calm (reply.Quiescing d) call waits = not_inside d waits.may_wait.other waits.may_wait.is_inside
+  calm _ call justified = tt
+
+  decides_calm : (o : Option Reply) (p : Phase) → MayDecide setup t e o p → IsNotHeldUp o
+  decides_calm None p may = tt
+  decides_calm (Some r) p may = calm r may.call may.justified
+
+pub alone_goes_on : AloneGoesOn
+alone_goes_on setup t e legal alone = decides_calm setup t e legal.1 alone e.decides (after_enter e.enters (phase t e.core)) legal.1.decides

@@ -1,0 +1,32 @@
+-- The table as it is filled with the words of the start.
+use Rattle.std.specs.Prelude.{◌≡◌, ◌<◌, ℕ, List, length}
+use Rattle.spk_nums.specs.Setting.{Setting}
+use Rattle.word_map.specs.Word.{Word, EntryAt, FrameAt, CountAt, CoreAt, FlushAt}
+use Rattle.word_map.specs.Places.{IsIn, shared}
+use Rattle.kernel_history.specs.BootWords.{boot_word, shape_of}
+use Rattle.kernel_history.specs.FinalWords.{word_in}
+
+-- The word of this name is that of the start.
+abbrev pub IsRight : Setting → List ℕ → Word → Type 0
+IsRight setup words w = word_in (shape_of setup) words w ≡ boot_word setup (shared w)
+
+-- A write keeps the table's length, and the words that were right.
+pub record Fills (setup : Setting) (old new : List ℕ) : Type 0 where
+  pub size : length new ≡ length old
+  pub kept : (w : Word) → IsIn (shape_of setup) w → IsRight setup old w → IsRight setup new w
+
+-- A write that makes the word of this name right.
+pub record Puts (setup : Setting) (old new : List ℕ) (w : Word) : Type 0 where
+  pub fills : Fills setup old new
+  pub right : IsRight setup new w
+
+-- All words of a frame are right.
+pub record IsFrameRight (setup : Setting) (words : List ℕ) (f : ℕ) : Type 0 where
+  pub entries : (i : ℕ) → i < 64 → IsRight setup words (EntryAt f i)
+  pub kind : IsRight setup words (FrameAt f)
+  pub counts : (c : ℕ) → c < setup.cores → IsRight setup words (CountAt f c)
+
+-- Both words of a core are right.
+pub record IsCoreRight (setup : Setting) (words : List ℕ) (c : ℕ) : Type 0 where
+  pub core : IsRight setup words (CoreAt c)
+  pub flush : IsRight setup words (FlushAt c)

@@ -1,0 +1,86 @@
+-- Lines, stacks and lists, one more at a time.
+use Rattle.std.proofs.Common.{◌≡◌, ℕ, zero, suc, ◌+◌, ◌*◌, ◌<◌, ◌≤◌, ◌++◌, List, [], ◌∷◌, Option, Some, None, refl, sym, ap, ◌∙◌, arith, append_assoc, append-nil, reverse, length, get_or}
+use Rattle.std.specs.Prelude.{option_to_list, unwrap_or}
+use Rattle.std.proofs.lemmas.Option.{slice_get-get_or}
+use Rattle.spk_nums.specs.declared.translations.CoreEnd.{CoreEnd}
+use Rattle.kernel_history.specs.FinalWords.{end_in, no_end}
+use Rattle.std.specs.List.{flat_map}
+use Rattle.std.proofs.lemmas.List.{reverse-append}
+use Rattle.std.proofs.lemmas.Grind.{flat_map-append}
+use Rattle.seq_state.specs.References.{sum_below}
+use Rattle.tcap_words.specs.Stack.{stack_of_word}
+use Rattle.tcap_words.specs.Quality.{quality_of_word}
+use Rattle.tcap_words.specs.declared.stack_word.StackWord.{StackWord}
+use Rattle.kernel_history.specs.Tables.{lines_below, number, quality_line}
+use Rattle.table_report.specs.Shown.{stacked, listed, stack_shown, qualities_shown}
+
+pub lines_none : (line : ℕ → List ℕ) → lines_below line 0 ≡ []
+unfolding lines_below
+lines_none line = refl
+
+pub lines_more : (line : ℕ → List ℕ) (n : ℕ) → lines_below line (n + 1) ≡ lines_below line n ++ line n
+unfolding lines_below
+lines_more line n = let e : n + 1 ≡ suc n = omega arith in rw e
+
+-- Lines that are the same below n.
+pub lines_same : (a b : ℕ → List ℕ) (n : ℕ) → ((i : ℕ) → i < n → a i ≡ b i) → lines_below a n ≡ lines_below b n
+unfolding lines_below
+lines_same a b zero same = refl
+lines_same a b (suc n) same = ap (λ x. x ++ a n) (lines_same a b n (λ i h. same i (omega arith))) ∙ ap (λ x. lines_below b n ++ x) (same n (omega arith))
+
+-- A text goes on by one more piece.
+pub goes_on : (new mid begun seen one next : List ℕ) → new ≡ mid ++ one → mid ≡ begun ++ seen → next ≡ seen ++ one → new ≡ begun ++ next
+goes_on new mid begun seen one next p q r = p ∙ ap (λ t. t ++ one) q ∙ append_assoc begun seen one ∙ ap (λ t. begun ++ t) (sym r)
+
+pub stack_none : (word : ℕ → ℕ) → stack_shown word 0 ≡ []
+unfolding stack_shown
+stack_none word = refl
+
+pub stack_more : (word : ℕ → ℕ) (n : ℕ) → stack_shown word (n + 1) ≡ stacked (stack_of_word (word (1 + n))) ++ stack_shown word n
+unfolding stack_shown
+stack_more word n = let e : n + 1 ≡ suc n = omega arith in rw e
+
+pub qualities_none : (word : ℕ → ℕ) → qualities_shown word 0 ≡ []
+unfolding qualities_shown
+qualities_none word = refl
+
+pub qualities_more : (word : ℕ → ℕ) (n : ℕ) → qualities_shown word (n + 1) ≡ qualities_shown word n ++ listed (quality_of_word (word (1 + n)))
+unfolding qualities_shown
+qualities_more word n = let e : n + 1 ≡ suc n = omega arith in rw e
+
+-- At most one frame stands in one word, so it reads the same from both ends.
+one_back : (o : Option StackWord) → reverse (stacked o) ≡ stacked o
+one_back None = refl
+one_back (Some v) = by_cases v.0 where
+  by_cases : (p : Option ℕ) → reverse (option_to_list p) ≡ option_to_list p
+  by_cases None = refl
+  by_cases (Some f) = refl
+
+-- The text of a stack from the bottom to one higher.
+pub stack_text : (word : ℕ → ℕ) (n : ℕ) → flat_map number (reverse (stack_shown word (n + 1)))
+    ≡ flat_map number (reverse (stack_shown word n)) ++ flat_map number (stacked (stack_of_word (word (1 + n))))
+stack_text word n =
+    let o = stack_of_word (word (1 + n)) in
+    ap (λ fs. flat_map number (reverse fs)) (stack_more word n)
+    ∙ ap (flat_map number) (reverse-append (stacked o) (stack_shown word n) ∙ ap (λ x. reverse (stack_shown word n) ++ x) (one_back o))
+    ∙ flat_map-append number (reverse (stack_shown word n)) (stacked o)
+
+pub qualities_text : (word : ℕ → ℕ) (n : ℕ) → flat_map quality_line (qualities_shown word (n + 1))
+    ≡ flat_map quality_line (qualities_shown word n) ++ flat_map quality_line (listed (quality_of_word (word (1 + n))))
+qualities_text word n =
+    ap (flat_map quality_line) (qualities_more word n)
+    ∙ flat_map-append quality_line (qualities_shown word n) (listed (quality_of_word (word (1 + n))))
+
+-- A text begins with no piece.
+pub begins : (text seen : List ℕ) → seen ≡ [] → text ≡ text ++ seen
+begins text seen none = sym (ap (λ s. text ++ s) none ∙ append-nil text)
+
+pub stack_begins : (word : ℕ → ℕ) → flat_map number (reverse (stack_shown word 0)) ≡ []
+stack_begins word = ap (λ fs. flat_map number (reverse fs)) (stack_none word)
+
+pub qualities_begins : (word : ℕ → ℕ) → flat_map quality_line (qualities_shown word 0) ≡ []
+qualities_begins word = ap (flat_map quality_line) (qualities_none word)
+
+-- The end of a core as it is read off the list.
+pub ends_read : (ends : List CoreEnd) (c : ℕ) (e : CoreEnd) → c < length ends → e ≡ get_or ends c e → end_in ends c ≡ e
+ends_read ends c e below is = ap (λ o. unwrap_or o no_end) (slice_get-get_or ends c e below) ∙ sym is

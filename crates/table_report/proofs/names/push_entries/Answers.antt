@@ -1,0 +1,12 @@
+use Rattle.std.proofs.Common.{refl, sym, ap, ◌∙◌, subst, arith, ◌+◌, ◌++◌, ◌≡◌, ℕ}
+use Rattle.table_report.proofs.Adding.{adds_none, adds_piece, adds_more, adds_whole, adds_stacked, adds_stack_none, adds_stack_whole, node_adds, none_adds, node_same, kernel_at}
+use Rattle.table_report.proofs.names.push_entries.Goals as goal
+
+pub entries-init : goal.entries-init
+entries-init c = adds_none _ _
+
+pub entries-preserved : goal.entries-preserved
+entries-preserved c = adds_more _ _ _ _ _ c.entries.invariant (adds_piece _ _ _ (rw c.entry_word.ensures at c.in_ok-push_entry.ensures))
+
+pub returns : goal.returns
+returns c = let end : c.entries.index ≡ 64 = omega arith in adds_whole _ _ _ _ _ end c.entries.invariant

@@ -1,0 +1,12 @@
+use Rattle.std.proofs.Common.{refl, sym, ap, ◌∙◌, subst, arith, ◌+◌, ◌++◌, ◌≡◌, ℕ}
+use Rattle.table_report.proofs.Adding.{adds_none, adds_piece, adds_more, adds_whole, adds_stacked, adds_stack_none, adds_stack_whole, node_adds, none_adds, node_same, kernel_at}
+use Rattle.table_report.proofs.names.push_nodes.Goals as goal
+
+pub frames-init : goal.frames-init
+frames-init c = adds_none _ _
+
+pub frames-preserved : goal.frames-preserved
+frames-preserved c = adds_more _ _ _ _ _ c.frames.invariant (rw c.new.ensures at c.in_ok-push_node.ensures)
+
+pub returns : goal.returns
+returns c = let end : c.frames.frame ≡ c.args.layout.now.frames = omega arith in adds_whole _ _ _ _ _ end c.frames.invariant

@@ -1,0 +1,5 @@
+
+use Rattle.table_report.proofs.names.push_object.Goals as goal
+
+pub returns-in-Thread : goal.returns-in-Thread
+returns-in-Thread c = c.push_stack.ensures

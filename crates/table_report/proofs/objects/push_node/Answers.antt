@@ -1,0 +1,9 @@
+use Rattle.std.proofs.Common.{refl, sym, ap, ◌∙◌, subst, arith, ◌+◌, ◌++◌, ◌≡◌, ℕ}
+use Rattle.table_report.proofs.Lines.{begins, goes_on, lines_none, lines_more, stack_none, stack_text, qualities_none, qualities_text, stack_begins, qualities_begins}
+use Rattle.table_report.proofs.objects.push_node.Goals as goal
+
+pub entries-init : goal.entries-init
+entries-init c = begins _ _ (lines_none _)
+
+pub entries-preserved : goal.entries-preserved
+entries-preserved c = goes_on _ _ _ _ _ _ (rw c.entry_word.ensures at c.in_ok-push_entry.ensures) c.entries.invariant (lines_more _ _)

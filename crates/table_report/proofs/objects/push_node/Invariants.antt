@@ -1,0 +1,9 @@
+use Rattle.std.proofs.Common.{◌≡◌, ◌++◌}
+use Rattle.std.specs.Prelude.{string_bytes}
+use Rattle.entry_words.specs.EntryWord.{entry_of_word}
+use Rattle.kernel_history.specs.Tables.{lines_below, entry_line}
+use Rattle.table_report.specs.Shown.{place_shown, words_of}
+use Rattle.table_report.proofs.objects.push_node.Given as goal
+
+abbrev pub invariant-entries : goal.invariant-entries
+invariant-entries l = string_bytes l.text ≡ string_bytes l.initial.text ++ lines_below (λ i. entry_line i (place_shown (entry_of_word (words_of l.layout l.words l.frame i)))) l.index

@@ -1,0 +1,14 @@
+use Rattle.std.proofs.Common.{refl, sym, ap, ◌∙◌, subst, arith, ◌+◌, ◌++◌, ◌≡◌, ℕ}
+use Rattle.std.specs.Prelude.{string_bytes}
+use Rattle.kernel_history.specs.Tables.{core_lines}
+use Rattle.table_report.specs.Shown.{core_shown}
+use Rattle.table_report.proofs.Lines.{begins, goes_on, lines_none, lines_more, ends_read}
+use Rattle.table_report.proofs.rest.push_cores.Goals as goal
+
+pub cores-init : goal.cores-init
+cores-init c = begins _ _ (lines_none _)
+
+pub cores-preserved : goal.cores-preserved
+cores-preserved c = goes_on _ _ _ _ _ _
+    (subst (λ e. string_bytes c.push_core.new.text ≡ string_bytes c.cores.text ++ core_lines c.cores.core (core_shown e) e.comp) (sym (ends_read c.args.ends.now c.cores.core c.index-ends-core.result (omega arith) c.index-ends-core.is)) c.in_ok-push_core.ensures)
+    c.cores.invariant (lines_more _ _)

@@ -1,0 +1,9 @@
+use Rattle.std.proofs.Common.{refl, sym, ap, ◌∙◌, subst, arith, ◌+◌, ◌++◌, ◌≡◌, ℕ}
+use Rattle.table_report.proofs.Lines.{begins, goes_on, lines_none, lines_more, stack_none, stack_text, qualities_none, qualities_text, stack_begins, qualities_begins}
+use Rattle.table_report.proofs.rest.push_numbers.Goals as goal
+
+pub numbers-init : goal.numbers-init
+numbers-init c = begins _ _ (lines_none _)
+
+pub numbers-preserved : goal.numbers-preserved
+numbers-preserved c = goes_on _ _ _ _ _ _ (rw c.live_word.ensures at c.in_ok-push_number.ensures) c.numbers.invariant (lines_more _ _)

@@ -1,0 +1,7 @@
+use Rattle.std.proofs.Common.{◌≡◌, ◌++◌}
+use Rattle.std.specs.Prelude.{string_bytes}
+use Rattle.table_report.specs.Shown.{numbers_text}
+use Rattle.table_report.proofs.rest.push_numbers.Given as goal
+
+abbrev pub invariant-numbers : goal.invariant-numbers
+invariant-numbers l = string_bytes l.text ≡ string_bytes l.initial.text ++ numbers_text l.layout l.words l.number

@@ -1,0 +1,14 @@
+use Rattle.std.proofs.Common.{refl, sym, ap, ◌∙◌, subst, arith, ◌+◌, ◌++◌, ◌≡◌, ℕ}
+use Rattle.kernel_history.proofs.Sums.{sum_none, sum_more}
+use Rattle.table_report.specs.Shown.{core_shown, core_at}
+use Rattle.table_report.proofs.Lines.{ends_read}
+use Rattle.table_report.proofs.rest.spent.Goals as goal
+
+pub cores-init : goal.cores-init
+cores-init c = record { sum = sym (sum_none _); most = omega arith }
+
+pub cores-preserved : goal.cores-preserved
+cores-preserved c =
+    let e : (core_at c.args.ends.now c.cores.core).spent ≡ c.index-ends-core.result.spent = ap (λ e. (core_shown e).spent) (ends_read c.args.ends.now c.cores.core c.index-ends-core.result (omega arith) c.index-ends-core.is) in
+    let m = sum_more (λ k. (core_at c.args.ends.now k).spent) c.cores.core in
+    record { sum = omega (arith, m, e); most = omega arith }

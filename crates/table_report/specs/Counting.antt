@@ -1,0 +1,13 @@
+-- Counting references by a list of the frames that are named.
+use Rattle.std.specs.Prelude.{◌≡◌, ◌<◌, ◌≤◌, ◌+◌, ℕ, List, length, slice_index}
+use Rattle.spk_nums.specs.declared.translations.CoreEnd.{CoreEnd}
+use Rattle.word_map.specs.Places.{Shape, size_of}
+use Rattle.seq_state.specs.References.{times}
+
+-- The new list names each frame so much more often than the old one.
+pub record Adds (old new : List ℕ) (by : ℕ → ℕ) : Type 0 where
+  pub counts : (f : ℕ) → times f new ≡ times f old + by f
+
+-- Each frame has its number.
+abbrev pub AreCounts : List ℕ → (ℕ → ℕ) → ℕ → Type 0
+AreCounts counts number n = (f : ℕ) → f < n → slice_index counts f ≡ number f

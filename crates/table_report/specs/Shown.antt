@@ -1,0 +1,160 @@
+-- The state that words and ends show, whatever they are: a word that unpacks to nothing, or to a core's mark, shows nothing.
+use Rattle.std.specs.Prelude.{ℕ, zero, suc, ◌+◌, Bool, true, false, List, [], ◌∷◌, ◌++◌, Option, Some, None, option_to_list}
+use Rattle.spk_nums.specs.declared.kinds.FrameKind.{FrameKind}
+use Rattle.spk_nums.specs.declared.kinds.FrameKind.TheVariants as frame_kind
+use Rattle.spk_nums.specs.declared.kinds.Obj.{Obj}
+use Rattle.spk_nums.specs.declared.kinds.Obj.TheVariants as obj
+use Rattle.spk_nums.specs.declared.translations.CoreEnd.{CoreEnd}
+use Rattle.entry_words.specs.declared.entry.Entry.{Entry}
+use Rattle.entry_words.specs.declared.entry.Entry.TheVariants as entry
+use Rattle.entry_words.specs.EntryWord.{entry_of_word}
+use Rattle.frame_words.specs.Comp.{comp_of_word}
+use Rattle.frame_words.specs.Frame.{frame_of_word}
+use Rattle.frame_words.specs.Live.{live_of_word}
+use Rattle.frame_words.specs.declared.comp_word.CompWord.{CompWord}
+use Rattle.frame_words.specs.declared.frame_word.FrameWord.{FrameWord}
+use Rattle.frame_words.specs.declared.live_word.LiveWord.{LiveWord}
+use Rattle.frame_words.specs.declared.live_word.LiveWord.TheVariants as live_word
+use Rattle.tcap_words.specs.Head.{head_of_word}
+use Rattle.tcap_words.specs.Quality.{quality_of_word}
+use Rattle.tcap_words.specs.Stack.{stack_of_word}
+use Rattle.tcap_words.specs.declared.head_word.HeadWord.{HeadWord}
+use Rattle.tcap_words.specs.declared.quality_word.QualityWord.{QualityWord}
+use Rattle.tcap_words.specs.declared.stack_word.StackWord.{StackWord}
+use Rattle.word_map.specs.Word.{Word, EntryAt, FrameAt, LiveAt}
+use Rattle.word_map.specs.Places.{Shape}
+use Rattle.seq_state.specs.State.{Place, Free, Holds, CompFields, Object, Blank, Table, Leaf, Pages, Pleaf, Comp, Thread, Tcap, Frame, Untyped, User, Kernel, Liveness, Unused, Live, Dead, Core, State}
+use Rattle.seq_state.specs.Start.{no_grace}
+use Rattle.seq_state.specs.References.{refs}
+use Rattle.seq_state.specs.Laws.{ticks}
+use Rattle.kernel_history.specs.ObjectWords.{is_node}
+use Rattle.kernel_history.specs.FinalWords.{word_in, end_in}
+use Rattle.kernel_history.specs.Tables.{lines_below, frame_lines, number_line, core_lines, total_line}
+
+-- The place that an entry shows: what was removed is not shown.
+abbrev pub place_shown : Option Entry → Place
+place_shown None = Free
+place_shown (Some entry.Free) = Free
+place_shown (Some (entry.Held k)) = Holds k
+place_shown (Some (entry.Closing by)) = Free
+place_shown (Some (entry.Quiescing stamp)) = Free
+
+-- The place that a word of a frame shows; words of a frame that is no node show none.
+abbrev pub place_in : Bool → ℕ → Place
+place_in false word = Free
+place_in true word = place_shown (entry_of_word word)
+
+-- The component that two words and a third show.
+abbrev pub comp_shown : Option CompWord → ℕ → ℕ → CompFields
+comp_shown None table pages = record { table = table; pages = pages; number = 0; epoch = 0 }
+comp_shown (Some v) table pages = record { table = table; pages = pages; number = v.number; epoch = v.epoch }
+
+-- The frame that a word of a stack shows, if it shows one.
+abbrev pub stacked : Option StackWord → List ℕ
+stacked None = []
+stacked (Some v) = option_to_list v.0
+
+-- The stack that its first n words show, the newest first.
+unfoldable pub stack_shown : (ℕ → ℕ) → ℕ → List ℕ
+stack_shown word zero = []
+stack_shown word (suc n) = stacked (stack_of_word (word (1 + n))) ++ stack_shown word n
+
+-- The budget that a head shows.
+abbrev pub budget_shown : Option HeadWord → ℕ
+budget_shown None = 0
+budget_shown (Some v) = v.budget
+
+-- The pair that a word of a list shows, if it shows one.
+abbrev pub listed : Option QualityWord → List (ℕ × ℕ)
+listed None = []
+listed (Some v) = option_to_list v.0
+
+-- The list that its first n words show.
+unfoldable pub qualities_shown : (ℕ → ℕ) → ℕ → List (ℕ × ℕ)
+qualities_shown word zero = []
+qualities_shown word (suc n) = qualities_shown word n ++ listed (quality_of_word (word (1 + n)))
+
+-- The object of this name that the words of a frame show.
+abbrev pub object_shown : Obj → (ℕ → ℕ) → Object
+object_shown obj.Blank word = Blank
+object_shown obj.Table word = Table
+object_shown obj.Leaf word = Leaf
+object_shown obj.Pages word = Pages
+object_shown obj.Pleaf word = Pleaf
+object_shown obj.Comp word = Comp (comp_shown (comp_of_word (word 2)) (word 0) (word 1))
+object_shown obj.Thread word = Thread (record { stack = stack_shown word 16; runs_on = None })
+object_shown obj.Tcap word = Tcap (record { budget = budget_shown (head_of_word (word 0)); qualities = qualities_shown word 8 })
+
+-- The frame of this kind that its words show.
+abbrev pub kind_shown : FrameKind → Obj → (ℕ → ℕ) → Frame
+kind_shown frame_kind.Untyped object word = Untyped
+kind_shown frame_kind.User object word = User
+kind_shown frame_kind.Kernel object word = Kernel (object_shown object word)
+
+-- The frame that its word and the words of its object show.
+abbrev pub frame_shown : Option FrameWord → (ℕ → ℕ) → Frame
+frame_shown None word = Untyped
+frame_shown (Some v) word = kind_shown v.kind v.object word
+
+-- What a liveness word shows.
+abbrev pub number_shown : Option LiveWord → Liveness
+number_shown None = Unused
+number_shown (Some live_word.Free) = Unused
+number_shown (Some (live_word.Live epoch frame)) = Live epoch frame
+number_shown (Some (live_word.Closing epoch by)) = Unused
+number_shown (Some (live_word.Dead epoch stamp)) = Dead epoch
+
+-- What the end of a core shows.
+abbrev pub core_shown : CoreEnd → Core
+core_shown e = record { inside = false; thread = e.thread; tcap = e.tcap; cached = e.cached; spent = e.spent; owed = e.owed; counted = 0 }
+
+-- The words of a frame's object.
+abbrev pub words_of : Shape → List ℕ → ℕ → ℕ → ℕ
+words_of shape words f i = word_in shape words (EntryAt f i)
+
+-- The frame f that the words show.
+abbrev pub frame_at : Shape → List ℕ → ℕ → Frame
+frame_at shape words f = frame_shown (frame_of_word (word_in shape words (FrameAt f))) (words_of shape words f)
+
+-- The place i of frame f that the words show.
+abbrev pub place_at : Shape → List ℕ → ℕ → ℕ → Place
+place_at shape words f i = place_in (is_node (frame_at shape words f)) (words_of shape words f i)
+
+-- The liveness number l that the words show.
+abbrev pub number_at : Shape → List ℕ → ℕ → Liveness
+number_at shape words l = number_shown (live_of_word (word_in shape words (LiveAt l)))
+
+-- The core c that the ends show.
+abbrev pub core_at : List CoreEnd → ℕ → Core
+core_at ends c = core_shown (end_in ends c)
+
+-- The state that the words and the ends show.
+abbrev pub shown : Shape → List ℕ → List CoreEnd → State
+shown shape words ends = record {
+  place = place_at shape words;
+  frame = frame_at shape words;
+  number = number_at shape words;
+  core = core_at ends;
+  grace = λ x. no_grace;
+  limits = record { cores = shape.cores; frames = shape.frames; calls = 0; epochs = 0 };
+}
+
+-- The lines of the frames, with the references to each.
+abbrev pub frames_text : Shape → List ℕ → (ℕ → ℕ) → ℕ → List ℕ
+frames_text shape words counts n = lines_below (λ f. frame_lines f (frame_at shape words f) (place_at shape words f) (counts f)) n
+
+-- The lines of the liveness numbers.
+abbrev pub numbers_text : Shape → List ℕ → ℕ → List ℕ
+numbers_text shape words n = lines_below (λ l. number_line l (number_at shape words l)) n
+
+-- The lines of the cores.
+abbrev pub cores_text : List CoreEnd → ℕ → List ℕ
+cores_text ends n = lines_below (λ c. core_lines c (core_at ends c) (end_in ends c).comp) n
+
+-- The tables of what the words and the ends show.
+abbrev pub tables_shown : Shape → List ℕ → List CoreEnd → List ℕ
+tables_shown shape words ends =
+    frames_text shape words (refs (shown shape words ends)) shape.frames
+    ++ (numbers_text shape words 64
+    ++ (cores_text ends shape.cores
+    ++ total_line (ticks (shown shape words ends))))

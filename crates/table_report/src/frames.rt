@@ -1,0 +1,173 @@
+//! The lines of frames, and the sum of their budgets.
+
+ghost use Rattle.std.specs.Prelude.{◌≡◌, ◌<◌, ◌≤◌, ◌*◌, ◌^◌, ◌++◌, length, OnOk, string_bytes, slice_index};
+ghost use Rattle.seq_state.specs.State.{tcap_in};
+ghost use Rattle.seq_state.specs.References.{sum_below};
+ghost use Rattle.word_map.specs.Places.{size_of};
+ghost use Rattle.kernel_history.specs.Tables.{frame_line, frame_lines, object_lines, object_word};
+ghost use Rattle.table_report.specs.Shown.{object_shown, place_in, words_of, frame_at, place_at, frames_text};
+ghost use Rattle.kernel_history.specs.ObjectWords.{is_node_object};
+
+use crate::objects::{budget, push_comp, push_node, push_tcap, push_thread};
+use crate::words::{entry_word, frame_word};
+use frame_words::FrameWord;
+use spk_nums::{FrameKind, FrameNo, Obj};
+use std::alloc::AllocError;
+use word_map::Layout;
+
+fn object_name(object: Obj) -> &'static str
+    ensures { result.now ≡ object_word (object_shown object (λ i. 0)) }
+{
+    match object {
+        Obj::Blank => "kernel",
+        Obj::Table => "table",
+        Obj::Leaf => "leaf",
+        Obj::Pages => "pages",
+        Obj::Pleaf => "pleaf",
+        Obj::Comp => "comp",
+        Obj::Thread => "thread",
+        Obj::Tcap => "tcap",
+    }
+}
+
+fn push_line(
+    text: &mut String,
+    frame: FrameNo,
+    name: &'static str,
+    refs: u64,
+) -> Result<(), AllocError>
+    ensures { OnOk result (string_bytes text.new ≡ string_bytes text.old ++ frame_line frame name.now refs) }
+{
+    write!(text, "frame {frame} {name} refs {refs}\n")
+}
+
+fn push_object(
+    text: &mut String,
+    layout: &Layout,
+    words: &[u64],
+    frame: FrameNo,
+    object: Obj,
+) -> Result<(), AllocError>
+    requires size { length words.now ≡ size_of layout.now }
+    requires frame_in { frame < layout.now.frames }
+    ensures { OnOk result (string_bytes text.new ≡ string_bytes text.old ++ object_lines (object_shown object (words_of layout.now words.now frame)) (λ i. place_in (is_node_object (object_shown object (words_of layout.now words.now frame))) (words_of layout.now words.now frame i))) }
+{
+    match object {
+        Obj::Blank => Ok(()),
+        Obj::Table => push_node(text, layout, words, frame),
+        Obj::Leaf => push_node(text, layout, words, frame),
+        Obj::Pages => push_node(text, layout, words, frame),
+        Obj::Pleaf => push_node(text, layout, words, frame),
+        Obj::Comp => push_comp(text, layout, words, frame),
+        Obj::Thread => push_thread(text, layout, words, frame),
+        Obj::Tcap => push_tcap(text, layout, words, frame),
+    }
+}
+
+fn push_kernel(
+    text: &mut String,
+    layout: &Layout,
+    words: &[u64],
+    frame: FrameNo,
+    object: Obj,
+    refs: u64,
+) -> Result<(), AllocError>
+    requires size { length words.now ≡ size_of layout.now }
+    requires frame_in { frame < layout.now.frames }
+    ensures { OnOk result (string_bytes text.new ≡ string_bytes text.old ++ (frame_line frame (object_word (object_shown object (words_of layout.now words.now frame))) refs ++ object_lines (object_shown object (words_of layout.now words.now frame)) (λ i. place_in (is_node_object (object_shown object (words_of layout.now words.now frame))) (words_of layout.now words.now frame i)))) }
+{
+    push_line(text, frame, object_name(object), refs)?;
+    push_object(text, layout, words, frame, object)
+}
+
+// Appends the lines of a frame, to which there are so many references.
+fn push_frame(
+    text: &mut String,
+    layout: &Layout,
+    words: &[u64],
+    frame: FrameNo,
+    refs: u64,
+) -> Result<(), AllocError>
+    requires size { length words.now ≡ size_of layout.now }
+    requires frame_in { frame < layout.now.frames }
+    ensures { OnOk result (string_bytes text.new ≡ string_bytes text.old ++ frame_lines frame (frame_at layout.now words.now frame) (place_at layout.now words.now frame) refs) }
+{
+    match FrameWord::unpack(frame_word(layout, words, frame)) {
+        None => Ok(()),
+        Some(word) => match word.kind {
+            FrameKind::Untyped => Ok(()),
+            FrameKind::User => push_line(text, frame, "user", refs),
+            FrameKind::Kernel => push_kernel(text, layout, words, frame, word.object, refs),
+        },
+    }
+}
+
+/// Appends the lines of all frames, to each of which there are as many references as `counts` says.
+pub fn push_frames(
+    text: &mut String,
+    layout: &Layout,
+    words: &[u64],
+    counts: &[u64],
+) -> Result<(), AllocError>
+    requires size { length words.now ≡ size_of layout.now }
+    requires counts { length counts.now ≡ layout.now.frames }
+    ensures { OnOk result (string_bytes text.new ≡ string_bytes text.old ++ frames_text layout.now words.now (slice_index counts.now) layout.now.frames) }
+{
+    'frames: for frame in 0..layout.frames() {
+        push_frame(
+            text,
+            layout,
+            words,
+            FrameNo::new(frame),
+            counts[usize::from(frame)],
+        )?;
+    }
+    Ok(())
+}
+
+fn object_budget(layout: &Layout, words: &[u64], frame: FrameNo, object: Obj) -> u32
+    requires size { length words.now ≡ size_of layout.now }
+    requires frame_in { frame < layout.now.frames }
+    ensures { result ≡ (tcap_in (Kernel (object_shown object (words_of layout.now words.now frame)))).budget }
+{
+    match object {
+        Obj::Tcap => budget(entry_word(layout, words, frame, 0)),
+        Obj::Blank => 0,
+        Obj::Table => 0,
+        Obj::Leaf => 0,
+        Obj::Pages => 0,
+        Obj::Pleaf => 0,
+        Obj::Comp => 0,
+        Obj::Thread => 0,
+    }
+}
+
+ghost use Rattle.seq_state.specs.State.{Kernel};
+
+fn frame_budget(layout: &Layout, words: &[u64], frame: FrameNo) -> u32
+    requires size { length words.now ≡ size_of layout.now }
+    requires frame_in { frame < layout.now.frames }
+    ensures { result ≡ (tcap_in (frame_at layout.now words.now frame)).budget }
+{
+    match FrameWord::unpack(frame_word(layout, words, frame)) {
+        None => 0,
+        Some(word) => match word.kind {
+            FrameKind::Untyped => 0,
+            FrameKind::User => 0,
+            FrameKind::Kernel => object_budget(layout, words, frame, word.object),
+        },
+    }
+}
+
+/// The sum of the budgets of all temporal capabilities.
+pub fn budgets(layout: &Layout, words: &[u64]) -> u64
+    requires size { length words.now ≡ size_of layout.now }
+    ensures sum { result ≡ sum_below (λ f. (tcap_in (frame_at layout.now words.now f)).budget) layout.now.frames }
+    ensures most { result ≤ 2 ^ 41 }
+{
+    let mut sum: u64 = 0;
+    'frames: for frame in 0..layout.frames() {
+        sum += u64::from(frame_budget(layout, words, FrameNo::new(frame)));
+    }
+    sum
+}

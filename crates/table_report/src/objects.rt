@@ -1,0 +1,177 @@
+//! The lines of objects.
+
+ghost use Rattle.std.specs.Prelude.{◌≡◌, ◌<◌, ◌++◌, length, OnOk, string_bytes};
+ghost use Rattle.std.specs.List.{flat_map};
+ghost use Rattle.entry_words.specs.EntryWord.{entry_of_word};
+ghost use Rattle.frame_words.specs.Comp.{comp_of_word};
+ghost use Rattle.tcap_words.specs.Head.{head_of_word};
+ghost use Rattle.tcap_words.specs.Quality.{quality_of_word};
+ghost use Rattle.tcap_words.specs.Stack.{stack_of_word};
+ghost use Rattle.word_map.specs.Places.{size_of};
+ghost use Rattle.kernel_history.specs.Tables.{number, entry_line, node_lines, comp_line, thread_line, quality_line, tcap_lines};
+ghost use Rattle.table_report.specs.Shown.{place_shown, comp_shown, stacked, listed, stack_shown, qualities_shown, budget_shown, words_of};
+
+use crate::words::{entry_word, held};
+use frame_words::CompWord;
+use spk_nums::FrameNo;
+use std::alloc::AllocError;
+use tcap_words::{HeadWord, QualityWord, StackWord};
+use word_map::Layout;
+
+// Appends the line of an entry, if it is held.
+fn push_entry(text: &mut String, index: u16, word: u64) -> Result<(), AllocError>
+    ensures { OnOk result (string_bytes text.new ≡ string_bytes text.old ++ entry_line index (place_shown (entry_of_word word))) }
+{
+    match held(word) {
+        Some(cap) => write!(text, "  {index} {cap}\n"),
+        None => Ok(()),
+    }
+}
+
+/// Appends the lines of a node's entries.
+pub fn push_node(
+    text: &mut String,
+    layout: &Layout,
+    words: &[u64],
+    frame: FrameNo,
+) -> Result<(), AllocError>
+    requires size { length words.now ≡ size_of layout.now }
+    requires frame_in { frame < layout.now.frames }
+    ensures { OnOk result (string_bytes text.new ≡ string_bytes text.old ++ node_lines (λ i. place_shown (entry_of_word (words_of layout.now words.now frame i)))) }
+{
+    'entries: for index in 0..64 {
+        push_entry(text, index, entry_word(layout, words, frame, index))?;
+    }
+    Ok(())
+}
+
+fn push_fields(
+    text: &mut String,
+    table: u64,
+    pages: u64,
+    number: u8,
+    epoch: u16,
+) -> Result<(), AllocError>
+    ensures { OnOk result (string_bytes text.new ≡ string_bytes text.old ++ comp_line (record { table = table; pages = pages; number = number; epoch = epoch })) }
+{
+    write!(text, "  fields {table} {pages} {number} {epoch}\n")
+}
+
+/// Appends the line of a component.
+pub fn push_comp(
+    text: &mut String,
+    layout: &Layout,
+    words: &[u64],
+    frame: FrameNo,
+) -> Result<(), AllocError>
+    requires size { length words.now ≡ size_of layout.now }
+    requires frame_in { frame < layout.now.frames }
+    ensures { OnOk result (string_bytes text.new ≡ string_bytes text.old ++ comp_line (comp_shown (comp_of_word (words_of layout.now words.now frame 2)) (words_of layout.now words.now frame 0) (words_of layout.now words.now frame 1))) }
+{
+    let table = entry_word(layout, words, frame, 0);
+    let pages = entry_word(layout, words, frame, 1);
+    match CompWord::unpack(entry_word(layout, words, frame, 2)) {
+        Some(comp) => push_fields(text, table, pages, comp.number, comp.epoch),
+        None => push_fields(text, table, pages, 0, 0),
+    }
+}
+
+fn push_stacked(text: &mut String, word: u64) -> Result<(), AllocError>
+    ensures { OnOk result (string_bytes text.new ≡ string_bytes text.old ++ flat_map number (stacked (stack_of_word word))) }
+{
+    match StackWord::unpack(word) {
+        Some(StackWord(Some(frame))) => write!(text, " {frame}"),
+        Some(StackWord(None)) => Ok(()),
+        None => Ok(()),
+    }
+}
+
+fn push_stack(
+    text: &mut String,
+    layout: &Layout,
+    words: &[u64],
+    frame: FrameNo,
+) -> Result<(), AllocError>
+    requires size { length words.now ≡ size_of layout.now }
+    requires frame_in { frame < layout.now.frames }
+    ensures { OnOk result (string_bytes text.new ≡ string_bytes text.old ++ flat_map number (reverse (stack_shown (words_of layout.now words.now frame) 16))) }
+{
+    'heights: for height in 0..16 {
+        push_stacked(text, entry_word(layout, words, frame, 1 + height))?;
+    }
+    Ok(())
+}
+
+ghost use Rattle.std.specs.Prelude.{reverse};
+
+/// Appends the line of a thread.
+pub fn push_thread(
+    text: &mut String,
+    layout: &Layout,
+    words: &[u64],
+    frame: FrameNo,
+) -> Result<(), AllocError>
+    requires size { length words.now ≡ size_of layout.now }
+    requires frame_in { frame < layout.now.frames }
+    ensures { OnOk result (string_bytes text.new ≡ string_bytes text.old ++ thread_line (record { stack = stack_shown (words_of layout.now words.now frame) 16; runs_on = None })) }
+{
+    text.push_str("  stack")?;
+    push_stack(text, layout, words, frame)?;
+    text.push_str("\n")
+}
+
+ghost use Rattle.std.specs.Prelude.{None};
+
+fn push_quality(text: &mut String, word: u64) -> Result<(), AllocError>
+    ensures { OnOk result (string_bytes text.new ≡ string_bytes text.old ++ flat_map quality_line (listed (quality_of_word word))) }
+{
+    match QualityWord::unpack(word) {
+        Some(QualityWord(Some((scheduler, quality)))) => {
+            write!(text, "  quality {scheduler} {quality}\n")
+        }
+        Some(QualityWord(None)) => Ok(()),
+        None => Ok(()),
+    }
+}
+
+fn push_qualities(
+    text: &mut String,
+    layout: &Layout,
+    words: &[u64],
+    frame: FrameNo,
+) -> Result<(), AllocError>
+    requires size { length words.now ≡ size_of layout.now }
+    requires frame_in { frame < layout.now.frames }
+    ensures { OnOk result (string_bytes text.new ≡ string_bytes text.old ++ flat_map quality_line (qualities_shown (words_of layout.now words.now frame) 8)) }
+{
+    'pairs: for place in 0..8 {
+        push_quality(text, entry_word(layout, words, frame, 1 + place))?;
+    }
+    Ok(())
+}
+
+/// The budget of a temporal capability whose head is this word.
+pub fn budget(word: u64) -> u32
+    ensures { result ≡ budget_shown (head_of_word word) }
+{
+    match HeadWord::unpack(word) {
+        Some(head) => head.budget,
+        None => 0,
+    }
+}
+
+/// Appends the lines of a temporal capability.
+pub fn push_tcap(
+    text: &mut String,
+    layout: &Layout,
+    words: &[u64],
+    frame: FrameNo,
+) -> Result<(), AllocError>
+    requires size { length words.now ≡ size_of layout.now }
+    requires frame_in { frame < layout.now.frames }
+    ensures { OnOk result (string_bytes text.new ≡ string_bytes text.old ++ tcap_lines (record { budget = budget_shown (head_of_word (words_of layout.now words.now frame 0)); qualities = qualities_shown (words_of layout.now words.now frame) 8 })) }
+{
+    let budget = budget(entry_word(layout, words, frame, 0));
+    write!(text, "  budget {budget}\n")?;
+    push_qualities(text, layout, words, frame)
+}

@@ -1,0 +1,63 @@
+//! Words of the table by name.
+
+ghost use Rattle.std.specs.Prelude.{◌≡◌, ◌<◌, length, Some};
+ghost use Rattle.entry_words.specs.EntryWord.{entry_of_word};
+ghost use Rattle.seq_state.specs.Start.{place_with};
+ghost use Rattle.word_map.specs.Word.{EntryAt, FrameAt, LiveAt};
+ghost use Rattle.word_map.specs.Places.{size_of};
+ghost use Rattle.kernel_history.specs.FinalWords.{word_in};
+ghost use Rattle.table_report.specs.Shown.{place_shown, words_of};
+
+use entry_words::Entry;
+use spk_nums::{Cap, EntryNo, FrameNo};
+use word_map::Layout;
+
+/// A word of a frame's object. The frame is below the machine's frames, and the index below 64.
+pub fn entry_word(layout: &Layout, words: &[u64], frame: FrameNo, index: u16) -> u64
+    requires size { length words.now ≡ size_of layout.now }
+    requires frame_in { frame < layout.now.frames }
+    requires index_in { index < 64 }
+    ensures { result ≡ words_of layout.now words.now frame index }
+{
+    words[layout.entry_at(frame, EntryNo::new(index)) as usize]
+}
+
+/// The word that says what a frame is. The frame is below the machine's frames.
+pub fn frame_word(layout: &Layout, words: &[u64], frame: FrameNo) -> u64
+    requires size { length words.now ≡ size_of layout.now }
+    requires frame_in { frame < layout.now.frames }
+    ensures { result ≡ word_in layout.now words.now (FrameAt frame) }
+{
+    words[layout.frame_at(frame) as usize]
+}
+
+/// The word of a liveness number, which is below 64.
+pub fn live_word(layout: &Layout, words: &[u64], number: u8) -> u64
+    requires size { length words.now ≡ size_of layout.now }
+    requires number_in { number < 64 }
+    ensures { result ≡ word_in layout.now words.now (LiveAt number) }
+{
+    words[layout.live_at(number) as usize]
+}
+
+// The capability that this entry holds.
+fn cap_in(entry: &Entry) -> Option<Cap>
+    ensures { place_with result ≡ place_shown (Some entry.now) }
+{
+    match entry {
+        Entry::Held(cap) => Some(*cap),
+        Entry::Free => None,
+        Entry::Closing { by: _ } => None,
+        Entry::Quiescing { stamp: _ } => None,
+    }
+}
+
+/// The capability that an entry holds; none where the word is no entry.
+pub fn held(word: u64) -> Option<Cap>
+    ensures { place_with result ≡ place_shown (entry_of_word word) }
+{
+    match Entry::unpack(word) {
+        Some(entry) => cap_in(&entry),
+        None => None,
+    }
+}
