@@ -26,7 +26,8 @@ use Rattle.flight.specs.View.{Core}
 use Rattle.flight.specs.Fits.{IsCore, StageFits, FlightFits, steps_left}
 use Rattle.flight.specs.Steps.{begun, move_of, move_in, ready_of, ready_in, absorbed, told_of_step}
 use Rattle.flight.specs.Stages.{stage_move}
-use Rattle.flight.specs.Knows.{shape_of, FlightIs, InFlightIs, CoreIs, phase_at}
+use Rattle.kernel_history.specs.BootWords.{shape_of}
+use Rattle.flight.specs.Knows.{FlightIs, InFlightIs, CoreIs, phase_at}
 use Rattle.flight.specs.Stands.{Stands}
 use Rattle.flight.specs.Theorems.{turned, decided_in, returned_in, step_at, step_of, core_after, MayStep, StepsOn, SaysWords, ReadyDecides, IsUndecided, IsUndecidedAt}
 use Rattle.flight.specs.declared.stages.Absorbed.{Absorbed}

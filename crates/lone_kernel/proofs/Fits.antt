@@ -13,7 +13,7 @@ use Rattle.flight.specs.Fits.{IsCore, steps_left}
 use Rattle.flight.specs.Steps.{begun, fresh, went, landed, told, took_by, move_of, absorbed, told_of_step, absorbed_in, told_in}
 use Rattle.flight.specs.Stages.{stage_took}
 use Rattle.flight.specs.Theorems.{turned, decided_in}
-use Rattle.flight.specs.Knows.{shape_of}
+use Rattle.kernel_history.specs.BootWords.{shape_of}
 use Rattle.flight.specs.declared.stages.Absorbed.{Absorbed}
 use Rattle.flight.specs.declared.stages.Absorbed.TheVariants.{Going, Decided, Returned}
 use Rattle.flight.specs.declared.stages.InFlight.{InFlight}
@@ -22,7 +22,7 @@ use Rattle.flight.specs.declared.stages.Took.TheVariants.{Goes, Decides, Returns
 use Rattle.lone_kernel.specs.declared.seats.Seat.{Seat}
 use Rattle.lone_kernel.specs.declared.seats.Turn.{Turn}
 use Rattle.lone_kernel.specs.declared.seats.Turn.TheVariants.{Begins, GoesOn}
-use Rattle.lone_kernel.specs.Machine.{Machine, seat_at, core_at, list_at, no_seat, turn_if, turn_of, turn_at, is_decided_at, is_decided_in, due_at, due_in, IsFitSeat, IsFit, CanRun, CanBegin, CanTake, enters_as, core_in, begun_by, decisions_in, said_by, seat_after, found_by, stepped}
+use Rattle.lone_kernel.specs.Machine.{Machine, seat_at, core_at, list_at, fresh_seat, turn_if, turn_of, turn_at, is_decided_at, is_decided_in, due_at, due_in, IsFitSeat, IsFit, CanRun, CanBegin, CanTake, enters_as, core_in, begun_by, decisions_in, said_by, seat_after, found_by, stepped}
 use Rattle.lone_kernel.specs.Moves.{calls_begun, GoesFurther}
 use Rattle.lone_kernel.proofs.Turns.{Turns, stage_turns}
 use Rattle.lone_kernel.proofs.Small.{steps_small}
@@ -170,10 +170,10 @@ module _ (m : Machine) (c : ℕ) (f : Turn) (fit : IsFit m) (here : c < m.setup.
   in_seats = let n = fit.seats in omega arith
 
   pub seat_same : (d : ℕ) → d ≡ c → seat_at (stepped m c f) d ≡ seat'
-  seat_same d is = ap (λ (i : ℕ). get_or (slice_set m.seats c seat') i no_seat) is ∙ get_or-set_same m.seats c seat' no_seat in_seats
+  seat_same d is = ap (λ (i : ℕ). get_or (slice_set m.seats c seat') i (fresh_seat m.setup i [])) is ∙ get_or-set_same m.seats c seat' (fresh_seat m.setup c []) in_seats
 
   pub seat_there : (d : ℕ) → d ≢ c → seat_at (stepped m c f) d ≡ seat_at m d
-  seat_there d is = get_or-set_other m.seats c d seat' no_seat is
+  seat_there d is = get_or-set_other m.seats c d seat' (fresh_seat m.setup d []) is
 
   pub fits_on : IsCore seat'.state → IsFit (stepped m c f)
   fits_on fits = record {
@@ -192,7 +192,7 @@ module _ (m : Machine) (c : ℕ) (f : Turn) (fit : IsFit m) (here : c < m.setup.
   -- the decisions made and those due add up to what they were
   pub due_on : sum_by (λ seat. seat.due) (stepped m c f).seats + decisions_in said ≡ sum_by (λ seat. seat.due) m.seats
   due_on =
-      let s = sum_by-set (λ seat. seat.due) m.seats c seat' no_seat in_seats in
+      let s = sum_by-set (λ seat. seat.due) m.seats c seat' (fresh_seat m.setup c []) in_seats in
       let was = was_due in
       omega arith
 
@@ -206,10 +206,6 @@ module _ (m : Machine) (c : ℕ) (f : Turn) (fit : IsFit m) (here : c < m.setup.
     within = subst (λ k. k.begun ≤ length (list_at m c)) (sym (seat_same c refl)) is_of.within;
     in_call = λ undecided. subst (λ k. k.state.flight ≢ None) (sym (seat_same c refl)) (stays_behind undecided);
   }
-
--- where a decision is due, some are due in all
-pub some_due : (seats : List Seat) (n : ℕ) → n < length seats → 0 < (get_or seats n no_seat).due → 0 < sum_by (λ seat. seat.due) seats
-some_due seats n h some = let s = sum_by-set (λ seat. seat.due) seats n no_seat no_seat h in omega arith
 
 -- a decision that is told is one
 pub one_decision : (said : Absorbed) → decided_in said ≢ None → decisions_in said ≡ 1

@@ -12,13 +12,13 @@ use Rattle.kernel_history.specs.Trace.{decision_at}
 use Rattle.flight.specs.View.{Core}
 use Rattle.flight.specs.Fits.{IsCore, steps_left}
 use Rattle.flight.specs.Steps.{move_of, absorbed, told_of_step}
-use Rattle.flight.specs.Knows.{shape_of}
+use Rattle.kernel_history.specs.BootWords.{shape_of}
 use Rattle.flight.specs.Theorems.{decided_in}
 use Rattle.flight.specs.declared.stages.Absorbed.{Absorbed}
 use Rattle.lone_kernel.specs.declared.seats.Seat.{Seat}
 use Rattle.lone_kernel.specs.declared.seats.Turn.{Turn}
 use Rattle.lone_kernel.specs.Ops.{left_by, told_by}
-use Rattle.lone_kernel.specs.Machine.{Machine, no_seat, seat_at, core_at, list_at, turn_of, turn_at, IsFit, IsFitSeat, CanRun, core_in, begun_by, decisions_in, place_next, words_after, said_by, seat_after, found_by, stepped, MakesTurn, TakesTurn}
+use Rattle.lone_kernel.specs.Machine.{Machine, fresh_seat, seat_at, core_at, list_at, turn_of, turn_at, IsFit, IsFitSeat, CanRun, core_in, begun_by, decisions_in, place_next, words_after, said_by, seat_after, found_by, stepped, MakesTurn, TakesTurn}
 
 -- a step by its place is the step by its word's name
 place_is : (shape : Shape) (m : Move) → place_in (op_of shape m) ≡ place_of shape (word_of m)
@@ -95,7 +95,7 @@ module _ {V : Type 0} (items : V → List Call) (setup : Setting) (words : List 
   list_is = get_or-map items lists n v [] within ∙ ap items (sym v_is)
 
   pub seat_is : seat_at m n ≡ k
-  seat_is = sym (get_or_read seats n k in_seats k_is no_seat)
+  seat_is = sym (get_or_read seats n k in_seats k_is (fresh_seat setup n []))
 
   pub fit_here : IsFitSeat setup (items v) n k
   fit_here = subst (λ l. IsFitSeat setup l n k) list_is (subst (λ s. IsFitSeat setup (list_at m n) n s) seat_is (fit.each n here))

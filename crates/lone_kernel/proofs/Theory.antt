@@ -1,10 +1,13 @@
-use Rattle.flight.specs.Theorems.{StepsOn, SaysWords, ReadyDecides}
+use Rattle.flight.specs.Theorems.{Boots, SaysWords, ReadyDecides, Represents}
 
-pub steps_on : StepsOn
-steps_on = ?
+pub boots : Boots
+boots = ?
 
 pub says_words : SaysWords
 says_words = ?
 
 pub ready_decides : ReadyDecides
 ready_decides = ?
+
+pub represents : Represents
+represents = ?

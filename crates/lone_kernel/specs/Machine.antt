@@ -11,7 +11,7 @@ use Rattle.kernel_history.specs.Trace.{Step, decision_at}
 use Rattle.flight.specs.View.{Core}
 use Rattle.flight.specs.Fits.{IsCore}
 use Rattle.flight.specs.Steps.{started, move_of, ready_of, absorbed, told_of_step}
-use Rattle.flight.specs.Knows.{shape_of}
+use Rattle.kernel_history.specs.BootWords.{shape_of}
 use Rattle.flight.specs.Theorems.{turned, decided_in, step_at}
 use Rattle.flight.specs.declared.stages.Absorbed.{Absorbed}
 use Rattle.flight.specs.declared.stages.Absorbed.TheVariants.{Going, Decided, Returned}
@@ -30,13 +30,13 @@ pub record Machine : Type 0 where
   pub seats : List Seat
   pub decisions : List Decision
 
--- The seat of no core.
-abbrev pub no_seat : Seat
-no_seat = record { begun = 0; due = 0; state = started 0 (record { cores = 0; frames = 0; grants = []; calls = 0; epochs = 0 }) }
+-- A core that has made no call of its list.
+abbrev pub fresh_seat : Setting → ℕ → List Call → Seat
+fresh_seat setup c list = record { begun = 0; due = length list; state = started c setup }
 
 -- Where core c stands, its state, and its list.
 abbrev pub seat_at : Machine → ℕ → Seat
-seat_at m c = slice_index_or m.seats c no_seat
+seat_at m c = slice_index_or m.seats c (fresh_seat m.setup c [])
 
 abbrev pub core_at : Machine → ℕ → Core
 core_at m c = (seat_at m c).state
@@ -181,10 +181,6 @@ abbrev pub step_in : Machine → ℕ → Turn → Step
 step_in m c f =
     step_at c (enters_as f) (move_of (core_in (core_at m c) f)) (found_by m c f) (said_by (core_in (core_at m c) f) (found_by m c f))
 
--- A core that has made no call of its list.
-abbrev pub fresh_seat : Setting → ℕ → List Call → Seat
-fresh_seat setup c list = record { begun = 0; due = length list; state = started c setup }
-
 -- A core may take a turn: it has a call in flight, or none and the turn's call can be run.
 pub record CanBegin (call : Call) (core : Core) : Type 0 where
   pub between : core.flight ≡ None
@@ -207,3 +203,8 @@ pub record TakesTurn (shape : Shape) (seat : Seat) (f : Turn) (seat' : Seat) (be
   pub told : said ≡ said_by (core_in seat.state f) (slice_index before (place_next shape (core_in seat.state f)))
   pub behind : seat' ≡ seat_after seat f (slice_index before (place_next shape (core_in seat.state f)))
   pub words : after ≡ words_after shape before (core_in seat.state f) (slice_index before (place_next shape (core_in seat.state f)))
+
+-- Each core stands before the first call of its list.
+pub record AreFresh (setup : Setting) (lists : List (List Call)) (seats : List Seat) : Type 0 where
+  pub count : length seats ≡ length lists
+  pub each : (c : ℕ) → c < length lists → slice_index_or seats c (fresh_seat setup c []) ≡ fresh_seat setup c (slice_index_or lists c [])

@@ -5,7 +5,7 @@ use Rattle.word_map.specs.Places.{IsIn, place_of, shared}
 use Rattle.kernel_history.specs.Trace.{Step, Trace, last_left, calls_of, decisions_of}
 use Rattle.kernel_history.specs.Moments.{WordsSayAlong}
 use Rattle.kernel_history.specs.Order.{DecidesNext}
-use Rattle.flight.specs.Knows.{shape_of}
+use Rattle.kernel_history.specs.BootWords.{shape_of}
 use Rattle.flight.specs.Stands.{Stands}
 use Rattle.lone_kernel.specs.Machine.{Machine, core_at, seat_at, list_at, IsReady}
 

@@ -8,25 +8,28 @@
 //! a word.
 //!
 //! **Decisions.** A step that decides a call notes the reply at once, so the decisions are in the order of the trace.
-ghost use Rattle.std.specs.Prelude.{◌≡◌, ◌≢◌, ◌↔◌, false, IsSome, None, Some, [], ℕ, ◌+◌, ◌<◌, ◌≤◌, ◌^◌, ◌++◌, IsTrue, All, IfOk, IfSome, map, length, slice_index, slice_set, vec_len, vec_capacity};
+ghost use Rattle.std.specs.Prelude.{◌≡◌, ◌≢◌, ◌↔◌, false, IsSome, None, Some, [], ℕ, ◌+◌, ◌<◌, ◌≤◌, ◌^◌, ◌++◌, IsTrue, All, IfOk, map, sum_by, length, slice_index, slice_set, vec_len, vec_capacity};
 ghost use Rattle.word_map.specs.Moves.{place_in};
 ghost use Rattle.word_map.specs.Places.{size_of, place_of, shared};
-ghost use Rattle.kernel_history.specs.Trace.{decision_at};
-ghost use Rattle.kernel_history.specs.BootWords.{boot_word};
+ghost use Rattle.kernel_history.specs.Trace.{Trace, state_after, decision_at};
+ghost use Rattle.kernel_history.specs.FinalWords.{Represent, word_in, end_in};
+
 ghost use Rattle.flight.specs.Fits.{IsCore, steps_left};
-ghost use Rattle.flight.specs.Knows.{shape_of};
+ghost use Rattle.kernel_history.specs.BootWords.{shape_of};
+ghost use Rattle.flight.specs.Steps.{end_of};
 ghost use Rattle.flight.specs.Theorems.{decided_in};
 ghost use Rattle.lone_kernel.specs.Ops.{left_by, told_by};
-ghost use Rattle.lone_kernel.specs.Machine.{IsFitSeat, CanRun, turn_of, begun_by, core_in, said_by, CanTake, MakesTurn, TakesTurn, seat_after, words_after, place_next, decisions_in, is_decided_in, IsFinished, IsInCall, HasDecided, IsReady, list_at, seat_at, core_at, AreLists, fresh_seat};
+ghost use Rattle.lone_kernel.specs.Machine.{IsFitSeat, CanRun, turn_of, begun_by, core_in, said_by, CanTake, MakesTurn, TakesTurn, seat_after, words_after, place_next, decisions_in, is_decided_in, IsFinished, IsInCall, HasDecided, IsReady, list_at, seat_at, core_at, AreLists, AreFresh};
 ghost use Rattle.lone_kernel.specs.Stands.{StandsFor};
 ghost use Rattle.lone_kernel.specs.Moves.{MovesBy, MakesOneStep, GoesFurther, GoesUntilReady, GoesThroughDecision, GoesToReturn, calls_left};
 
 use crate::seats::{Seat, Turn};
 use flight::{Absorbed, CoreState};
-use spk_nums::{Call, CoreNo, Decision, Memory, Setup, WordOp};
+use kernel_history::boot_words;
+use spk_nums::{Call, CoreEnd, CoreNo, Decision, Memory, Setup, WordOp};
 use std::alloc::{AllocError, Global};
 use std::marker::Model;
-use word_map::Layout;
+use word_map::{Closed, Layout};
 
 /// What a move did.
 #[derive(Clone, Copy, Debug, PartialEq, Eq)]
@@ -51,7 +54,7 @@ pub struct LoneKernel {
 impl Model for LoneKernel {
     ghost use Rattle.std.specs.Prelude.{◌≡◌, ◌+◌, ◌≤◌, map, sum_by, vec_len, vec_capacity};
     ghost use Rattle.spk_nums.specs.Setting.{IsSetting};
-    ghost use Rattle.flight.specs.Knows.{shape_of};
+    ghost use Rattle.kernel_history.specs.BootWords.{shape_of};
     ghost use Rattle.lone_kernel.specs.Machine.{Machine, IsFit};
 
     ghost Value = { Machine };
@@ -196,7 +199,86 @@ fn note(decisions: &mut Vec<Decision>, absorbed: &Absorbed, core: CoreNo, index:
     }
 }
 
+// Each core at the start, with its list.
+fn boot_seats(alloc: Global, setup: &Setup, lists: &[Vec<Call>]) -> Result<Vec<Seat>, AllocError>
+    requires { length lists.now ≡ setup.now.cores }
+    ensures { IfOk result (λ seats. AreFresh setup.now (map (λ v. v.items) lists.now) seats.items) }
+{
+    let cores = setup.cores();
+    let mut seats = Vec::with_capacity(alloc, usize::from(cores))?;
+    for core in 0..cores {
+        seats.push(Seat {
+            begun: 0,
+            due: lists[usize::from(core)].len(),
+            state: CoreState::start(CoreNo::new(core), setup),
+        })?;
+    }
+    Ok(seats)
+}
+
+fn count_due(seats: &[Seat]) -> usize
+    requires { sum_by (λ seat. seat.due) seats.now < 2 ^ 60 }
+    ensures { result ≡ sum_by (λ seat. seat.due) seats.now }
+{
+    seats.iter().map(|seat| seat.due).sum()
+}
+
+// Where each core ends.
+fn ends_of(alloc: Global, seats: &[Seat]) -> Result<Vec<CoreEnd>, AllocError>
+    requires { All (λ seat. seat.state.flight ≡ None) seats.now }
+    ensures { IfOk result (λ ends. ends.items ≡ map (λ seat. end_of seat.state) seats.now) }
+{
+    let mut ends = Vec::with_capacity(alloc, seats.len())?;
+    for seat in seats {
+        ends.push(seat.state.end())?;
+    }
+    Ok(ends)
+}
+
 impl LoneKernel {
+    /// The machine of this setup at the start, with a list of calls for each core, each of which is carried out and within
+    /// its limits; a list has fewer than 2^32. All of the machine's memory is taken here, so that no move takes any; only
+    /// want of it is refused.
+    pub fn boot(alloc: Global, setup: &Setup, lists: Vec<Vec<Call>>) -> Result<LoneKernel, Memory>
+        requires can_run { AreLists (map (λ v. v.items) lists.items) }
+        requires one_each { length lists.items ≡ setup.now.cores }
+        ensures setup { IfOk result (λ kernel. kernel.setup ≡ setup.now) }
+        ensures lists { IfOk result (λ kernel. kernel.lists ≡ map (λ v. v.items) lists.items) }
+        ensures stands { IfOk result (λ kernel. StandsFor kernel []) }
+    {
+        let Some(layout) = Layout::new(setup.cores(), setup.frames()) else {
+            unreachable!()
+        };
+        let words = boot_words(alloc, setup)?;
+        let seats = boot_seats(alloc, setup, &lists)?;
+        let room = count_due(&seats);
+        let decisions = Vec::with_capacity(alloc, room)?;
+        Ok(LoneKernel {
+            setup: *setup,
+            layout,
+            words,
+            lists,
+            seats,
+            decisions,
+        })
+    }
+
+    /// The words and where each core ended. No core is in a call; only want of memory is refused. They represent the state
+    /// that each trace left for which the machine stood.
+    pub fn close(self, alloc: Global) -> Result<Closed, Memory>
+        requires { (c : ℕ) → c < self.setup.cores → (core_at self c).flight ≡ None }
+        ensures layout { IfOk result (λ closed. closed.layout ≡ shape_of self.setup) }
+        ensures size { IfOk result (λ closed. (length closed.words.items ≡ size_of (shape_of self.setup)) × (length closed.ends.items ≡ self.setup.cores)) }
+        ensures represent { IfOk result (λ closed. (t : Trace) → StandsFor self t → Represent (word_in (shape_of self.setup) closed.words.items) (end_in closed.ends.items) (state_after self.setup t)) }
+    {
+        let ends = ends_of(alloc, &self.seats)?;
+        Ok(Closed {
+            layout: self.layout,
+            words: self.words,
+            ends,
+        })
+    }
+
     /// Makes one step of the core. A core between calls begins its next one; idle comes exactly where it is between
     /// calls and its list is finished.
     pub fn step(&mut self, core: CoreNo) -> Moved

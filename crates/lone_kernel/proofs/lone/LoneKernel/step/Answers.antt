@@ -3,12 +3,13 @@ use Rattle.std.proofs.lemmas.List.{length-append, get_or_read}
 use Rattle.kernel_history.specs.Trace.{decision_at}
 use Rattle.flight.specs.Theorems.{decided_in}
 use Rattle.lone_kernel.specs.declared.seats.Seat.{Seat}
-use Rattle.lone_kernel.specs.Machine.{Machine, no_seat, seat_at, core_at, list_at, IsFit, IsFitSeat, IsFinished, stepped, turn_at, turn_of, seat_after, found_by, decisions_in}
+use Rattle.lone_kernel.specs.Machine.{Machine, seat_at, core_at, list_at, IsFit, IsFitSeat, IsFinished, stepped, turn_at, turn_of, seat_after, found_by, decisions_in}
 use Rattle.lone_kernel.specs.Moves.{MakesOneStep}
-use Rattle.lone_kernel.proofs.OneStep.{seat_is, turn_here, fit_here, calls_here, takes_here, stepped_is, fits_behind, fewer_behind}
-use Rattle.lone_kernel.proofs.Fits.{IsOf, turn_is, fits_on, due_on, further, some_due, one_decision, count_decided, undecided_due}
-use Rattle.lone_kernel.proofs.Theory.{steps_on, says_words, ready_decides}
-use Rattle.lone_kernel.proofs.Advance.{one_step, steps_like, further_like}
+use Rattle.lone_kernel.proofs.OneStep.{list_is, seat_is, turn_here, fit_here, calls_here, takes_here, stepped_is, fits_behind, fewer_behind}
+use Rattle.lone_kernel.proofs.Fits.{IsOf, turn_is, fits_on, due_on, further, one_decision, count_decided, undecided_due}
+use Rattle.flight.proofs.Advance.{steps_on}
+use Rattle.lone_kernel.proofs.Theory.{says_words, ready_decides}
+use Rattle.lone_kernel.proofs.Advance.{one_step, stays_idle, steps_like, further_like}
 use Rattle.lone_kernel.proofs.lone.LoneKernel.step.Goals as goal
 use Rattle.lone_kernel.proofs.lone.LoneKernel.step.Goals.{In-Some, After-take-arg-2-1, After-note}
 
@@ -160,3 +161,34 @@ returns-clause-work c h =
     (fewer_behind (λ v. v.items) c.self.inside.setup c.self.inside.words.items c.self.inside.lists.items c.self.inside.seats.items c.self.inside.decisions.items
     c.from-at.result c.index.result.now c.index_mut.result.now i.self.invariant.0 (at i) c.index.ensures c.index_mut.ensures.value c.self.inside.layout c.in-Some.turn c.take-absorbed.new.seat
     c.take-absorbed.new.words.items c.take-absorbed.result c.take-absorbed.ensures.takes i.self.invariant.1 c.take-absorbed.ensures.fewer))
+
+pub take-absorbed-requires-clause-few : goal.take-absorbed-requires-clause-few
+take-absorbed-requires-clause-few c =
+    let i = (goal.at.take-absorbed-requires-clause-few c).In-Some in
+    let small = (fit_lent i c.index_mut.result.now c.index_mut.ensures.value).small in
+    let begun = (fit_lent i c.index_mut.result.now c.index_mut.ensures.value).begun in
+    omega arith
+
+pub take-absorbed-requires-clause-machine : goal.take-absorbed-requires-clause-machine
+take-absorbed-requires-clause-machine c =
+    let i = (goal.at.take-absorbed-requires-clause-machine c).In-Some in
+    i.self.invariant.1 ∙ sym (fit_lent i c.index_mut.result.now c.index_mut.ensures.value).shape
+
+pub returns-in_default-clause-goes : goal.returns-in_default-clause-goes
+returns-in_default-clause-goes c =
+    let n = c.number.ensures.value in
+    let f = c.from-at.ensures in
+    let r : c.args.core < c.args.self.now.setup.cores = c.requires in
+    let v = ap (λ m. m.setup.cores) c.self.view_is in
+    let m : Machine = record { setup = c.self.inside.setup; words = c.self.inside.words.items; lists = map (λ v. v.items) c.self.inside.lists.items; seats = c.self.inside.seats.items; decisions = c.self.inside.decisions.items } in
+    let here : c.from-at.result < c.self.inside.setup.cores = omega arith in
+    let lists : list_at m c.from-at.result ≡ c.index.result.now.items =
+    list_is (λ v. v.items) c.self.inside.setup c.self.inside.words.items c.self.inside.lists.items c.self.inside.seats.items c.self.inside.decisions.items
+    c.from-at.result c.index.result.now c.index-2.result.now c.self.invariant.0 here c.index.ensures c.index-2.ensures in
+    let seats : seat_at m c.from-at.result ≡ c.index-2.result.now =
+    seat_is (λ v. v.items) c.self.inside.setup c.self.inside.words.items c.self.inside.lists.items c.self.inside.seats.items c.self.inside.decisions.items
+    c.from-at.result c.index.result.now c.index-2.result.now c.self.invariant.0 here c.index.ensures c.index-2.ensures in
+    let none : IsFinished m c.from-at.result = ap (λ l. turn_of l (seat_at m c.from-at.result)) lists ∙ ap (turn_of c.index.result.now.items) seats ∙ sym c.turn.ensures ∙ c.in_default.is in
+    let core : c.from-at.result ≡ c.args.core = omega arith in
+    let finished : IsFinished c.args.self.now c.args.core = subst (λ (i : ℕ). IsFinished c.args.self.now i) core (subst (λ x. IsFinished x c.from-at.result) c.self.view_is none) in
+    stays_idle c.args.self.now c.args.core r finished
