@@ -1,4 +1,283 @@
--- scratch
-use Rattle.flight.proofs.Good.{stands_on}
-use Rattle.flight.proofs.Advance.{steps_on}
-use Rattle.flight.proofs.Entries.{enter_good}
+-- The start stands for no step.
+use Rattle.std.proofs.Common.{◌≡◌, ◌≢◌, inl, inr, ℕ, zero, suc, ◌+◌, ◌<◌, ◌≤◌, ◌==◌, ◌*◌, ◌-◌, ◌∷◌, nat_lt, length, slice_get, Bool, true, false, List, [], Option, Some, None, arith, refl, sym, ◌∙◌, ap, subst, IsTrue, if◌then◌else◌, pos}
+use Rattle.std.proofs.lemmas.Bool.{cases_lt, false≢true, lt-ltb, eqb-true}
+use Rattle.spk_nums.specs.Capability.{Capability}
+use Rattle.spk_nums.specs.Setting.{Setting, IsSetting}
+use Rattle.spk_nums.specs.declared.kinds.Kind.{Kind}
+use Rattle.spk_nums.specs.declared.kinds.Kind.TheVariants as kind
+use Rattle.entry_words.specs.declared.entry.Entry.{Entry}
+use Rattle.entry_words.specs.declared.entry.Entry.TheVariants as entry
+use Rattle.entry_words.specs.EntryWord.{word_of_entry, entry_of_word}
+use Rattle.entry_words.proofs.Spelling as entries
+use Rattle.frame_words.specs.Frame.{frame_of_word}
+use Rattle.frame_words.specs.Count.{count_of_word}
+use Rattle.frame_words.specs.Live.{live_of_word}
+use Rattle.frame_words.specs.declared.count_word.CountWord.{CountWord}
+use Rattle.frame_words.specs.declared.count_word.Hold.TheVariants.{Unheld}
+use Rattle.frame_words.specs.declared.live_word.LiveWord.{LiveWord}
+use Rattle.frame_words.specs.declared.live_word.LiveWord.TheVariants as live_word
+use Rattle.frame_words.proofs.CoreLemmas as core_words
+use Rattle.frame_words.proofs.CountLemmas as counts
+use Rattle.frame_words.proofs.FlushLemmas as flushes
+use Rattle.frame_words.proofs.FrameLemmas as frames
+use Rattle.frame_words.proofs.LiveLemmas as lives
+use Rattle.tcap_words.specs.declared.thread_word.ThreadWord.{ThreadWord}
+use Rattle.word_map.specs.Word.{Word, EntryAt, FrameAt, CountAt, CoreAt, FlushAt, LiveAt, ClockAt}
+use Rattle.seq_state.specs.State.{Place, Free, Holds, Quiescing, Object, Blank, Table, Leaf, Pages, Pleaf, Comp, Thread, Tcap, Frame, Untyped, User, Kernel, Liveness, Unused, Live, Dead, PlaceOf, State, comp_in, thread_in, thread_of, first_of_stack}
+use Rattle.seq_state.specs.Start.{start, start_place, start_cap, place_with, start_frame, start_number, granted}
+use Rattle.seq_state.specs.References.{refs, sum_below}
+use Rattle.seq_state.specs.Fitting.{fits, IsGood, EndsWithin}
+use Rattle.seq_state.proofs.Sound.{IsSound}
+use Rattle.seq_state.proofs.SoundStart.{past_three, start_sound}
+use Rattle.kernel_history.specs.BootWords.{boot_word, boot_entry, boot_object, boot_frame, boot_live}
+use Rattle.kernel_history.specs.ObjectWords.{frame_value}
+use Rattle.kernel_history.specs.FinalWords.{SaysPlace, AreObject, AreFrame, SaysNumber, Represent}
+use Rattle.kernel_history.specs.Marks.{entry_mark, frame_mark, count_mark, live_mark, thread_mark, head_mark, mark_in_frame, object_mark, mark_of}
+use Rattle.kernel_history.specs.Trace.{Trace, state_after}
+use Rattle.kernel_history.proofs.BootRepresents.{boot_represents}
+use Rattle.kernel_history.proofs.StartRefs.{refs_most}
+use Rattle.kernel_history.proofs.GraceSteps.{grace_start, times_start}
+use Rattle.stage_look.specs.Shown.{CapNames}
+use Rattle.flight.specs.Holding.{marked_by, settled_by}
+use Rattle.flight.specs.Words.{Times, PlaceIs, IsObjectWord, IsFrameWord, NumberIs, WordIs}
+use Rattle.flight.specs.Stands.{held_by, times_of}
+use Rattle.flight.specs.Theorems.{boot_cores, Boots}
+use Rattle.flight.proofs.CoreFits.{started_fits}
+
+-- A good capability names frames of the machine.
+good_names : (s : State) (k : Capability) → ((f : ℕ) → s.limits.frames ≤ f → s.frame f ≡ Untyped) → IsGood s k → CapNames s.limits.frames k
+good_names s k beyond good = by_kind k.kind good.fit good.within
+  where
+    below : (j : Kind) → IsTrue (fits j (s.frame k.frame)) → (fits j Untyped ≡ false) → k.frame + 1 ≤ s.limits.frames
+    below j fit none = elim (cases_lt k.frame s.limits.frames) [
+      | inl here ↦ omega (arith, here)
+      | inr past ↦ absurd (false≢true (sym none ∙ sym (ap (fits j) (beyond k.frame past)) ∙ fit))
+    ]
+
+    by_kind : (j : Kind) → IsTrue (fits j (s.frame k.frame)) → EndsWithin j k.frame k.arg s.limits.frames → Rattle.stage_look.specs.Shown.end_of_frames j k.frame k.arg ≤ s.limits.frames
+    by_kind kind.Range fit within = within
+    by_kind kind.Table fit within = below kind.Table fit refl
+    by_kind kind.Leaf fit within = below kind.Leaf fit refl
+    by_kind kind.Pages fit within = below kind.Pages fit refl
+    by_kind kind.Pleaf fit within = below kind.Pleaf fit refl
+    by_kind kind.Comp fit within = below kind.Comp fit refl
+    by_kind kind.Gate fit within = below kind.Gate fit refl
+    by_kind kind.Thread fit within = below kind.Thread fit refl
+    by_kind kind.Tcap fit within = below kind.Tcap fit refl
+    by_kind kind.Link fit within = below kind.Link fit refl
+    by_kind kind.Page fit within = below kind.Page fit refl
+
+-- No place of the start is quiescing.
+choose : {A : Type 0} (P : A → Type 0) (b : Bool) (x y : A) → P x → P y → P (if b then x else y)
+choose P true x y hx hy = hx
+choose P false x y hx hy = hy
+
+abbrev Stands : Place → Type 0
+Stands p = (k : Capability) → p ≡ Quiescing k → ⊥
+
+free_stands : Stands Free
+free_stands k h = cc
+
+holds_stands : (j : Capability) → Stands (Holds j)
+holds_stands j k h = cc
+
+with_stands : (o : Option Capability) → Stands (place_with o)
+with_stands None = free_stands
+with_stands (Some j) = holds_stands j
+
+pub start_stands : (setup : Setting) (f i : ℕ) → Stands (start_place setup f i)
+start_stands setup f i =
+    choose Stands (f == 0) _ _ (choose Stands (i == 0) _ _ (holds_stands _) free_stands)
+    (choose Stands (f == 1) _ _ (with_stands (start_cap setup i)) free_stands)
+
+-- What a place of the start is in words.
+place_says : (n : ℕ) (p : Place) (o : Option Entry) → Stands p → ((k : Capability) → p ≡ Holds k → CapNames n k) → SaysPlace p o → PlaceIs n p 0 o
+place_says n Free o stands names h = h
+place_says n (Holds k) o stands names h = (h, names k refl)
+place_says n (Quiescing k) o stands names h = absurd (stands k refl)
+
+place_unmarked : (p : Place) (o : Option Entry) → Stands p → SaysPlace p o → entry_mark o ≡ None
+place_unmarked Free o stands h = ap entry_mark h
+place_unmarked (Holds k) o stands h = ap entry_mark h
+place_unmarked (Quiescing k) o stands h = absurd (stands k refl)
+
+-- A place past a node's entries is free.
+past_free : (setup : Setting) → IsSetting setup → (f i : ℕ) → 64 ≤ i → start_place setup f i ≡ Free
+past_free setup setting f i past = by_place (start_place setup f i) refl
+  where
+    by_place : (p : Place) → start_place setup f i ≡ p → p ≡ Free
+    by_place Free is = refl
+    by_place (Holds k) is = (let h = ((start_sound setup setting).bare f i k is).1 in absurd (omega (arith, h, past)))
+    by_place (Quiescing k) is = absurd (start_stands setup f i k is)
+
+next : (i : ℕ) → 1 + i ≡ suc i
+next i = omega arith
+
+module _ (setup : Setting) (setting : IsSetting setup) where
+  parts : Represent (boot_word setup) (λ c. Rattle.kernel_history.specs.FinalWords.end_of (start setup) c) (start setup)
+  parts = (boot_represents setup setting).parts
+
+  names : (f i : ℕ) (k : Capability) → start_place setup f i ≡ Holds k → CapNames setup.frames k
+  names f i k is = good_names (start setup) k (start_sound setup setting).beyond ((start_sound setup setting).held f i k is)
+
+  -- the words of nodes
+  module _ (f : ℕ) (says : (i : ℕ) → i < 64 → SaysPlace (start_place setup f i) (entry_of_word (word_of_entry (boot_entry (start_place setup f i))))) where
+    node_marks : (i : ℕ) → entry_mark (entry_of_word (word_of_entry (boot_entry (start_place setup f i)))) ≡ None
+    node_marks i = elim (cases_lt i 64) [
+      | inl below ↦ place_unmarked (start_place setup f i) _ (start_stands setup f i) (says i below)
+      | inr past ↦ ap (λ p. entry_mark (entry_of_word (word_of_entry (boot_entry p)))) (past_free setup setting f i past) ∙ ap entry_mark (entries.spelling.reads entry.Free tt)
+    ]
+
+    node_says : (i : ℕ) → i < 64 → PlaceIs setup.frames (start_place setup f i) 0 (entry_of_word (word_of_entry (boot_entry (start_place setup f i))))
+    node_says i below = place_says setup.frames (start_place setup f i) _ (start_stands setup f i) (names f i) (says i below)
+
+  thread_value_mark : (o : Option ℕ) (depth : ℕ) → thread_mark (Some (Rattle.kernel_history.specs.ObjectWords.thread_value o depth)) ≡ None
+  thread_value_mark None depth = refl
+  thread_value_mark (Some c) depth = refl
+
+  first_mark : (i : ℕ) (o : ℕ → Option ℕ) → o 0 ≡ None → (if i == 0 then o i else None) ≡ None
+  first_mark i o none = by_first (i == 0) refl
+    where
+      by_first : (b : Bool) → (i == 0) ≡ b → (if b then o i else None) ≡ None
+      by_first true is = ap o (eqb-true i 0 is) ∙ none
+      by_first false is = refl
+
+  object_marks : (f : ℕ) (x : Object) → AreObject x (start_place setup f) (λ i. boot_object x (start_place setup f) i)
+      → (i : ℕ) → object_mark x i (boot_object x (start_place setup f) i) ≡ None
+  object_marks f Blank h i = refl
+  object_marks f Table h i = node_marks f h i
+  object_marks f Leaf h i = node_marks f h i
+  object_marks f Pages h i = node_marks f h i
+  object_marks f Pleaf h i = node_marks f h i
+  object_marks f (Comp k) h i = refl
+  object_marks f (Thread t) h i = first_mark i (λ i. thread_mark (Rattle.tcap_words.specs.Thread.thread_of_word (boot_object (Thread t) (start_place setup f) i)))
+      (ap thread_mark h.runs ∙ thread_value_mark t.runs_on (length t.stack))
+  object_marks f (Tcap q) h i = first_mark i (λ i. head_mark (Rattle.tcap_words.specs.Head.head_of_word (boot_object (Tcap q) (start_place setup f) i))) (ap head_mark h.head)
+
+  object_says : (f : ℕ) (x : Object) → AreObject x (start_place setup f) (λ i. boot_object x (start_place setup f) i)
+      → (i : ℕ) → IsObjectWord setup.frames x (start_place setup f i) 0 i (boot_object x (start_place setup f) i)
+  object_says f Blank h i = tt
+  object_says f Table h i = node_says f h i
+  object_says f Leaf h i = node_says f h i
+  object_says f Pages h i = node_says f h i
+  object_says f Pleaf h i = node_says f h i
+  object_says f (Comp k) h zero = h.table
+  object_says f (Comp k) h (suc zero) = h.pages
+  object_says f (Comp k) h (suc (suc zero)) = h.live
+  object_says f (Comp k) h (suc (suc (suc i))) = tt
+  object_says f (Thread t) h zero = h.runs
+  object_says f (Thread t) h (suc i) = λ below. subst (λ (j : ℕ). Rattle.tcap_words.specs.Stack.stack_of_word (boot_object (Thread t) (start_place setup f) j) ≡ Some (record { 0 = Rattle.kernel_history.specs.ObjectWords.at_height t.stack i }))
+      (next i) (h.stack i below)
+  object_says f (Tcap q) h zero = record { version = h.version; says = h.head; most = h.most }
+  object_says f (Tcap q) h (suc i) = λ below. subst (λ (j : ℕ). Rattle.tcap_words.specs.Quality.quality_of_word (boot_object (Tcap q) (start_place setup f) j) ≡ Some (record { 0 = slice_get q.qualities i }))
+      (next i) (h.list i below)
+
+  frame_marks : (f : ℕ) (x : Frame) → AreFrame x (start_place setup f) (λ i. boot_frame x (start_place setup f) i) → (i : ℕ) → mark_in_frame x i (boot_frame x (start_place setup f) i) ≡ None
+  frame_marks f Untyped h i = refl
+  frame_marks f User h i = refl
+  frame_marks f (Kernel x) h i = object_marks f x h i
+
+  frame_says : (f : ℕ) (x : Frame) → AreFrame x (start_place setup f) (λ i. boot_frame x (start_place setup f) i)
+      → (i : ℕ) → IsFrameWord setup.frames x (start_place setup f i) 0 i (boot_frame x (start_place setup f) i)
+  frame_says f Untyped h i = tt
+  frame_says f User h i = tt
+  frame_says f (Kernel x) h i = object_says f x h i
+
+  -- the words of every frame, also past those of the machine
+  are_frame : (f : ℕ) → AreFrame (start_frame setup f) (start_place setup f) (λ i. boot_frame (start_frame setup f) (start_place setup f) i)
+  are_frame f = elim (cases_lt f setup.frames) [
+    | inl here ↦ parts.objects f here
+    | inr past ↦ subst (λ x. AreFrame x (start_place setup f) (λ i. boot_frame x (start_place setup f) i)) (sym ((start_sound setup setting).beyond f past)) tt
+  ]
+
+  kind_reads : (f : ℕ) → frame_of_word (boot_word setup (FrameAt f)) ≡ Some (frame_value (start_frame setup f))
+  kind_reads f = elim (cases_lt f setup.frames) [
+    | inl here ↦ parts.kinds f here
+    | inr past ↦ subst (λ x. frame_of_word (Rattle.frame_words.specs.Frame.word_of_frame (frame_value x)) ≡ Some (frame_value x)) (sym ((start_sound setup setting).beyond f past))
+        (frames.spelling.reads (frame_value Untyped) (tt, omega arith))
+  ]
+
+  frame_value_mark : (x : Frame) → (frame_value x).mark ≡ None
+  frame_value_mark Untyped = refl
+  frame_value_mark User = refl
+  frame_value_mark (Kernel x) = refl
+
+  count_reads : (f n : ℕ) → n ≤ refs (start setup) f → count_of_word (Rattle.frame_words.specs.Count.word_of_count (record { hold = Unheld; count = pos n; stamp = 0 })) ≡ Some (record { hold = Unheld; count = pos n; stamp = 0 })
+  count_reads f n most = counts.spelling.reads (record { hold = Unheld; count = pos n; stamp = 0 }) (tt, (let m = refs_most setup setting f in omega (arith, m, most)), omega arith)
+
+  number_reads : (l : ℕ) → live_of_word (boot_word setup (LiveAt l)) ≡ Some (boot_live (start_number l))
+  number_reads l = choose (λ x. live_of_word (Rattle.frame_words.specs.Live.word_of_live (boot_live x)) ≡ Some (boot_live x)) (l == 0) _ _
+      (lives.spelling.reads (live_word.Live 1 3) (omega arith, omega arith, omega arith)) (lives.spelling.reads live_word.Free tt)
+
+  number_mark : (l : ℕ) → live_mark (Some (boot_live (start_number l))) ≡ None
+  number_mark l = choose (λ x. live_mark (Some (boot_live x)) ≡ None) (l == 0) _ _ refl refl
+
+  number_says : (l : ℕ) → live_of_word (boot_word setup (LiveAt l)) ≡ Some (boot_live (start_number l)) → NumberIs (start_number l) 0 (live_of_word (boot_word setup (LiveAt l)))
+  number_says l is = subst (λ o. NumberIs (start_number l) 0 o) (sym is) (choose (λ x. NumberIs x 0 (Some (boot_live x))) (l == 0) _ _ refl refl)
+
+  least : (c n : ℕ) → (if c == 0 then n else 0) ≤ n
+  least c n = choose (λ (x : ℕ). x ≤ n) (c == 0) n 0 (omega arith) (omega arith)
+
+  boot_mark : (w : Word) → marked_by setup [] w ≡ None
+  boot_mark (EntryAt f i) = frame_marks f (start_frame setup f) (are_frame f) i
+  boot_mark (FrameAt f) = ap frame_mark (kind_reads f) ∙ frame_value_mark (start_frame setup f)
+  boot_mark (CountAt f c) = ap count_mark (count_reads f (if c == 0 then refs (start setup) f else 0) (least c (refs (start setup) f)))
+  boot_mark (CoreAt c) = refl
+  boot_mark (FlushAt c) = refl
+  boot_mark (LiveAt l) = ap live_mark (number_reads l) ∙ number_mark l
+  boot_mark ClockAt = refl
+
+  boot_says : (w : Word) → WordIs (start setup) (times_of setup []) w (boot_word setup w)
+  boot_says (EntryAt f i) = frame_says f (start_frame setup f) (are_frame f) i
+  boot_says (FrameAt f) = kind_reads f
+  boot_says (CountAt f c) = record { count = pos (if c == 0 then refs (start setup) f else 0); stamp = 0; says = count_reads f (if c == 0 then refs (start setup) f else 0) (least c (refs (start setup) f)) }
+  boot_says (CoreAt c) = core_words.spelling.reads (record { inside = false; stamp = 0 }) (omega arith)
+  boot_says (FlushAt c) = flushes.spelling.reads (record { stamp = 0 }) (omega arith)
+  boot_says (LiveAt l) = number_says l (number_reads l)
+  boot_says ClockAt = tt
+
+  -- a core of the start
+  thread_is : (c : ℕ) → c < setup.cores → thread_of (start setup) c ≡ record { stack = 3 ∷ []; runs_on = Some (4 + c - 4) }
+  thread_is c here =
+      ap thread_in (past_three setup (4 + c) (omega arith)
+      ∙ ap (λ b. if b then Kernel (Thread (record { stack = 3 ∷ []; runs_on = Some (4 + c - 4) }))
+          else (if nat_lt (4 + c) (4 + 2 * setup.cores) then Kernel (Tcap (granted (slice_get setup.grants (4 + c - 4 - setup.cores)))) else Untyped))
+          (lt-ltb (4 + c) (4 + setup.cores) (omega (arith, here))))
+
+pub boots : Boots
+boots setup setting = record {
+  legal = tt;
+  bounds = tt;
+  marks = λ w d. record { owned = λ h. absurd (none_some d (sym (boot_mark setup setting w) ∙ h)); kept = λ h. absurd (false≢true h) };
+  words = λ w. subst (λ o. WordIs (start setup) (times_of setup []) w (settled_by o (held_by (boot_cores setup)) w (boot_word setup w))) (sym (boot_mark setup setting w)) (boot_says setup setting w);
+  draws = omega arith;
+  some_time = omega arith;
+  times = times_start setup;
+  graces = grace_start setup;
+  none_removed = start_stands setup;
+  each = λ c here. let whose = thread_is setup setting c here in record {
+    fits = started_fits c setup setting here;
+    number = refl;
+    shape = refl;
+    limit = refl;
+    works = record {
+      thread = refl;
+      depth = ap (λ k. length k.stack) (sym whose);
+      comp = ap (λ k. first_of_stack k.stack) (sym whose);
+      table = ap (λ k. (comp_in (start_frame setup (first_of_stack k.stack))).table) (sym whose);
+      pages = ap (λ k. (comp_in (start_frame setup (first_of_stack k.stack))).pages) (sym whose);
+      tcap = refl;
+      cached = refl;
+      owed = refl;
+      spent = refl;
+      made = refl;
+    };
+    exit = refl;
+    flushed = refl;
+    flight = refl;
+  };
+  away = λ c past. record { out = refl; none = refl; idle = refl };
+}
+  where
+    none_some : (d : ℕ) → None ≡ Some d → ⊥
+    none_some d h = cc

@@ -1,1 +1,180 @@
--- stub
+-- At each moment the words say what the state is; and where all cores are between calls, they represent it with the cores' ends.
+use Rattle.std.proofs.Common.{◌≡◌, ◌≢◌, ◌⊎◌, inl, inr, ℕ, zero, suc, ◌+◌, ◌<◌, ◌≤◌, Bool, true, false, List, slice_get, Option, Some, None, arith, refl, sym, ◌∙◌, ap, subst, IsTrue}
+use Rattle.std.specs.Prelude.{IsSome}
+use Rattle.std.proofs.lemmas.Bool.{cases_lt, false≢true, true≢false}
+use Rattle.spk_nums.specs.Capability.{Capability}
+use Rattle.spk_nums.specs.Setting.{Setting, IsSetting}
+use Rattle.spk_nums.specs.declared.translations.Translation.{Translation}
+use Rattle.spk_nums.specs.declared.translations.CoreEnd.{CoreEnd}
+use Rattle.entry_words.specs.declared.entry.Entry.{Entry}
+use Rattle.entry_words.specs.EntryWord.{entry_of_word}
+use Rattle.tcap_words.specs.Quality.{quality_of_word}
+use Rattle.tcap_words.specs.Stack.{stack_of_word}
+use Rattle.frame_words.specs.declared.live_word.LiveWord.{LiveWord}
+use Rattle.frame_words.specs.declared.core_word.CoreWord.{CoreWord}
+use Rattle.word_map.specs.Word.{Word, EntryAt, FrameAt, CoreAt, LiveAt}
+use Rattle.seq_state.specs.State.{Place, Free, Holds, Quiescing, Object, Blank, Table, Leaf, Pages, Pleaf, Comp, Thread, Tcap, Frame, Untyped, User, Kernel, Liveness, Unused, Live, Dead, PlaceOf, NumberOf, State}
+use Rattle.seq_state.specs.Access.{held_in}
+use Rattle.seq_state.proofs.Sound.{is_node as is_sound_node, IsSound}
+use Rattle.kernel_history.specs.ObjectWords.{is_node, at_height}
+use Rattle.kernel_history.specs.FinalWords.{SaysPlace, AreFrame, SaysNumber, SaysOut, HoldNothing, Represent, end_of as end_in}
+use Rattle.kernel_history.specs.Moments.{EntrySays, CoreSays, WordsSay}
+use Rattle.kernel_history.specs.Trace.{Trace, Phase, Out, Open, Decided, phase, state_after, last_left}
+use Rattle.kernel_history.specs.Stamps.{is_in, stamp, exit_of}
+use Rattle.kernel_history.proofs.Inside.{inside_is}
+use Rattle.kernel_history.proofs.Stays.{sound_of}
+use Rattle.flight.specs.declared.stages.InFlight.{InFlight}
+use Rattle.flight.specs.View.{Core}
+use Rattle.flight.specs.Steps.{end_of}
+use Rattle.flight.specs.Holding.{marked_by, settled_by, settled}
+use Rattle.flight.specs.Words.{PlaceIs, IsFrameWord, NumberIs, WordIs}
+use Rattle.flight.specs.Knows.{FlightIs, WorksIn}
+use Rattle.flight.specs.Stands.{held_by, times_of, Stands}
+use Rattle.flight.specs.Theorems.{SaysWords, AreBetween, Represents}
+use Rattle.flight.proofs.Places.{IsMarked, IsPlain, place_reads, marker_inside}
+
+sound_node : (x : Frame) → IsTrue (is_node x) → IsTrue (is_sound_node x)
+sound_node Untyped h = absurd (false≢true h)
+sound_node User h = absurd (false≢true h)
+sound_node (Kernel Blank) h = absurd (false≢true h)
+sound_node (Kernel Table) h = refl
+sound_node (Kernel Leaf) h = refl
+sound_node (Kernel Pages) h = refl
+sound_node (Kernel Pleaf) h = refl
+sound_node (Kernel (Comp k)) h = absurd (false≢true h)
+sound_node (Kernel (Thread t)) h = absurd (false≢true h)
+sound_node (Kernel (Tcap q)) h = absurd (false≢true h)
+
+node_sound : (x : Frame) → IsTrue (is_sound_node x) → is_node x ≡ false → ⊥
+node_sound (Kernel Table) h none = true≢false none
+node_sound (Kernel Leaf) h none = true≢false none
+node_sound (Kernel Pages) h none = true≢false none
+node_sound (Kernel Pleaf) h none = true≢false none
+node_sound _ h none = false≢true h
+
+says_place : (n : ℕ) (p : Place) (r : ℕ) (o : Option Entry) → PlaceIs n p r o → SaysPlace p o
+says_place n Free r o h = h
+says_place n (Holds k) r o h = h.0
+says_place n (Quiescing k) r o h = record { stamp = r; says = h.says }
+
+says_number : (l : Liveness) (r : ℕ) (o : Option LiveWord) → NumberIs l r o → SaysNumber l o
+says_number Unused r o h = h
+says_number (Live epoch f) r o h = h
+says_number (Dead epoch) r o h = record { stamp = r; says = h.says }
+
+inside_phase : (p : Phase) → is_in p ≡ true → p ≢ Out
+inside_phase Out h = absurd (false≢true h)
+inside_phase (Open call) h = λ q. cc
+inside_phase (Decided call r) h = λ q. cc
+
+phase_inside : (p : Phase) → p ≢ Out → is_in p ≡ true
+phase_inside Out h = absurd (h refl)
+phase_inside (Open call) h = refl
+phase_inside (Decided call r) h = refl
+
+pub says_words : SaysWords
+says_words setup setting cores t stands = record { entries = entries; cores = core_says }
+  where
+    entries : (f i : ℕ) → f < setup.frames → i < 64 → IsTrue (is_node ((state_after setup t).frame f)) → EntrySays setup t f i
+    entries f i here below node = by_read (place_reads setup cores t stands f i (sound_node ((state_after setup t).frame f) node) below)
+      where
+        by_read : IsMarked setup t f i ⊎ IsPlain setup t f i → EntrySays setup t f i
+        by_read (inl m) = inr (record {
+          by = m.by;
+          says = m.says;
+          in_call = inside_phase (phase t m.by) (sym (inside_is setup t m.by) ∙ marker_inside setup cores t stands (EntryAt f i) m.by m.mark);
+        })
+        by_read (inr p) = inl (says_place setup.frames ((state_after setup t).place f i) (stamp setup t (PlaceOf f i)) (entry_of_word (last_left setup t (EntryAt f i))) p.says)
+
+    core_says : (c : ℕ) → c < setup.cores → CoreSays setup t c
+    core_says c here = record {
+      value = record { inside = ((state_after setup t).core c).inside; stamp = exit_of t c };
+      says = stands.words (CoreAt c);
+      inside = (
+        (λ h. inside_phase (phase t c) (sym (inside_is setup t c) ∙ h)),
+        (λ h. inside_is setup t c ∙ phase_inside (phase t c) h),
+      );
+    }
+
+next : (i : ℕ) → suc i ≡ 1 + i
+next i = omega arith
+
+-- The words of a frame, as those of its object.
+frame_parts : (n : ℕ) (x : Frame) (p : ℕ → Place) (r word : ℕ → ℕ) → ((i : ℕ) → IsFrameWord n x (p i) (r i) i (word i)) → AreFrame x p word
+frame_parts n Untyped p r word h = tt
+frame_parts n User p r word h = tt
+frame_parts n (Kernel Blank) p r word h = tt
+frame_parts n (Kernel Table) p r word h = λ i below. says_place n (p i) (r i) (entry_of_word (word i)) (h i below)
+frame_parts n (Kernel Leaf) p r word h = λ i below. says_place n (p i) (r i) (entry_of_word (word i)) (h i below)
+frame_parts n (Kernel Pages) p r word h = λ i below. says_place n (p i) (r i) (entry_of_word (word i)) (h i below)
+frame_parts n (Kernel Pleaf) p r word h = λ i below. says_place n (p i) (r i) (entry_of_word (word i)) (h i below)
+frame_parts n (Kernel (Comp k)) p r word h = record { table = h 0; pages = h 1; live = h 2 }
+frame_parts n (Kernel (Thread t)) p r word h = record {
+  runs = h 0;
+  stack = λ i below. subst (λ (j : ℕ). stack_of_word (word j) ≡ Some (record { 0 = at_height t.stack i })) (next i) (h (suc i) below);
+}
+frame_parts n (Kernel (Tcap q)) p r word h = let head = h 0 in record {
+  version = head.version;
+  head = head.says;
+  list = λ i below. subst (λ (j : ℕ). quality_of_word (word j) ≡ Some (record { 0 = slice_get q.qualities i })) (next i) (h (suc i) below);
+  most = head.most;
+}
+
+-- Places of frames that are no nodes hold nothing.
+none_held : (p : Place) → ((k : Capability) → p ≡ Holds k → ⊥) → held_in p ≡ None
+none_held Free h = refl
+none_held (Holds k) h = absurd (h k refl)
+none_held (Quiescing k) h = refl
+
+end_with : ℕ → ℕ → ℕ → ℕ → ℕ → List Translation → CoreEnd
+end_with thread tcap comp spent owed cached = record { thread = thread; tcap = tcap; comp = comp; spent = spent; owed = owed; cached = cached }
+
+pub ends_are : (core : Core) (s : State) (c : ℕ) → WorksIn core s c → end_of core ≡ end_in s c
+unfolding end_with
+ends_are core s c is =
+    ap (λ (x : ℕ). end_with x core.tcap core.comp core.spent core.owed core.cached) is.thread
+    ∙ ap (λ (x : ℕ). end_with (s.core c).thread x core.comp core.spent core.owed core.cached) is.tcap
+    ∙ ap (λ (x : ℕ). end_with (s.core c).thread (s.core c).tcap x core.spent core.owed core.cached) is.comp
+    ∙ ap (λ (x : ℕ). end_with (s.core c).thread (s.core c).tcap (end_in s c).comp x core.owed core.cached) is.spent
+    ∙ ap (λ (x : ℕ). end_with (s.core c).thread (s.core c).tcap (end_in s c).comp (s.core c).spent x core.cached) is.owed
+    ∙ ap (λ x. end_with (s.core c).thread (s.core c).tcap (end_in s c).comp (s.core c).spent (s.core c).owed x) is.cached
+
+pub represents : Represents
+represents setup setting cores t stands between = record {
+  objects = λ f here. frame_parts (state_after setup t).limits.frames ((state_after setup t).frame f) ((state_after setup t).place f) (λ i. stamp setup t (PlaceOf f i)) (λ i. last_left setup t (EntryAt f i))
+      (λ i. word_is (EntryAt f i));
+  bare = λ f here none i below. none_held ((state_after setup t).place f i) (λ k h. node_sound ((state_after setup t).frame f) ((sound_of setup setting t stands.legal).bare f i k h).0 none);
+  kinds = λ f here. word_is (FrameAt f);
+  numbers = λ l here. says_number ((state_after setup t).number l) (stamp setup t (NumberOf l)) _ (word_is (LiveAt l));
+  cores = λ c here. record { stamp = exit_of t c; says = stands.words (CoreAt c) ∙ ap (λ b. Some (record { inside = b; stamp = exit_of t c })) (outside c) };
+  ends = λ c here. ends_are (cores c) (state_after setup t) c (works c here);
+}
+  where
+    limits : (state_after setup t).limits ≡ (Rattle.seq_state.specs.Start.start setup).limits
+    limits = Rattle.flight.proofs.Sounds.limits_of setup t
+
+    works : (c : ℕ) → c < (state_after setup t).limits.cores → WorksIn (cores c) (state_after setup t) c
+    works c here = (stands.each c (subst (λ (n : ℕ). c < n) (ap (λ l. l.cores) limits) here)).works
+
+    idle : (c : ℕ) → (cores c).flight ≡ None
+    idle c = elim (cases_lt c setup.cores) [
+      | inl here ↦ between c here
+      | inr past ↦ (stands.away c past).idle
+    ]
+
+    out : (c : ℕ) → phase t c ≡ Out
+    out c = elim (cases_lt c setup.cores) [
+      | inl here ↦ subst (FlightIs setup t c (cores c).table) (between c here) (stands.each c here).flight
+      | inr past ↦ (stands.away c past).out
+    ]
+
+    outside : (c : ℕ) → ((state_after setup t).core c).inside ≡ false
+    outside c = inside_is setup t c ∙ ap is_in (out c)
+
+    unmarked : (w : Word) (o : Option ℕ) → marked_by setup t w ≡ o → marked_by setup t w ≡ None
+    unmarked w None is = is
+    unmarked w (Some d) is = absurd (true≢false (sym (marker_inside setup cores t stands w d is) ∙ outside d))
+
+    word_is : (w : Word) → WordIs (state_after setup t) (times_of setup t) w (last_left setup t w)
+    word_is w = subst (λ o. WordIs (state_after setup t) (times_of setup t) w (settled_by o (held_by cores) w (last_left setup t w)))
+        (unmarked w (marked_by setup t w) refl) (stands.words w)

@@ -309,3 +309,77 @@ module _ (setup : Setting) (setting : IsSetting setup) (cores : ℕ → Core) (t
       Of m = f.stage ≡ Looking want (AtLeaf leaf m) → LooksUp setup t c (Under table n) (AtLeaf leaf m)
           → Takes setup setting cores t stands c here f flight want (Under table n) is_open no_slot on_way goes done (AtLeaf leaf m) leaf (m % 64)
   under_step (AtEntry root index) at looks = absurd looks.at
+
+-- At a root entry that is itself the target.
+module _ (setup : Setting) (setting : IsSetting setup) (cores : ℕ → Core) (t : Trace) (stands : Stands setup cores t) (c : ℕ) (here : c < setup.cores)
+    (f : InFlight) (flight : (cores c).flight ≡ Some f) (want : Want) (table : Named) (i : ℕ) (is_open : phase t c ≡ Open f.call)
+    (no_slot : IsTrue (has_no_slot (state_after setup t) (InRoot table i)) → RuleMay (state_after setup t) c (rule_of (state_after setup t) c f.call) reply.NoSlot)
+    (on_way : (g j : ℕ) → is_slot_in (wide_way_to (state_after setup t) (InRoot table i)) g j ≡ true
+        → is_slot_in (wide_ways (state_after setup t) c (rule_of (state_after setup t) c f.call)) g j ≡ true)
+    (goes : (e : Step) (look : Look) → Carries setup t e c → LooksUp setup (e ∷ t) c (InRoot table i) look → KnowsLook setup (e ∷ t) c (cores c).table f.call want look)
+    (done : (at : Slot) (v : Entry) → Arrives setup t c (InRoot table i) at → entry_of_word (last_left setup t (EntryAt at.node at.index)) ≡ Some v
+        → Shows setup.frames (place_at (state_after setup t) at) v
+        → GoodTook setup cores t c f (EntryAt at.node at.index) (last_left setup t (EntryAt at.node at.index)) (last_left setup t (EntryAt at.node at.index))
+            (took_found (cores c).table f.call want (found_at at.node at.index (last_left setup t (EntryAt at.node at.index)) v)))
+    (room : (cores c).made < (cores c).limit) where
+  abbrev ShownHere : ℕ → Option Entry → Type 0
+  ShownHere j = TakesShown setup setting cores t stands c here f flight want (InRoot table i) is_open no_slot on_way goes done (AtEntry table.frame j) table.frame j
+
+  entry_step : f.stage ≡ Looking want (AtEntry table.frame i) → LooksUp setup t c (InRoot table i) (AtEntry table.frame i)
+      → Takes setup setting cores t stands c here f flight want (InRoot table i) is_open no_slot on_way goes done (AtEntry table.frame i) table.frame i
+  entry_step at looks = by_read (place_reads setup cores t stands table.frame i looks.relies.node (let w = looks.at.within in omega arith))
+    where
+      slot : Slot
+      slot = record { node = table.frame; index = i }
+
+      within : (table.found && nat_le i 63) ≡ true
+      within = ap (λ b. b && nat_le i 63) looks.at.found ∙ le-leb i 63 looks.at.within
+
+      reaches : reached (state_after setup t) c (InRoot table i) ≡ Some slot
+      reaches = ap (λ b. if b then Some slot else None) within
+
+      leads : led_to (state_after setup t) (InRoot table i) ≡ Some slot
+      leads = ap (λ b. if b then Some slot else None) within
+
+      arrives : IsPlain setup t table.frame i → Arrives setup t c (InRoot table i) slot
+      arrives p = record {
+        relies = looks.relies;
+        reached = reaches;
+        leaf = looks.relies;
+        below = (let w = looks.at.within in omega arith);
+        passed = All-nil (λ (x : Slot). IsSome (own_left t c (EntryAt x.node x.index)));
+        plain = p;
+      }
+
+      by_value : IsPlain setup t table.frame i → (v : Entry) → entry_of_word (last_left setup t (EntryAt table.frame i)) ≡ Some v
+          → Shows setup.frames ((state_after setup t).place table.frame i) v → ShownHere i (Some v)
+      by_value p Free reads shows = done slot Free (arrives p) reads shows
+      by_value p (Held k) reads shows = done slot (Held k) (arrives p) reads shows
+      by_value p (Closing d) reads shows = absurd shows
+      by_value p (Quiescing s) reads shows = done slot (Quiescing s) (arrives p) reads shows
+
+      by_read : IsMarked setup t table.frame i ⊎ IsPlain setup t table.frame i
+          → Takes setup setting cores t stands c here f flight want (InRoot table i) is_open no_slot on_way goes done (AtEntry table.frame i) table.frame i
+      by_read (inl m) = subst (ShownHere i) (sym (ap (entry_within setup.frames) m.says))
+          (busy setup setting cores t stands c here f flight want (InRoot table i) is_open no_slot on_way goes done (AtEntry table.frame i) at room table.frame i m.by
+          (slot_right (root_passed (InRoot table i)) (option_to_list (led_to (state_after setup t) (InRoot table i))) table.frame i
+          (ap (λ o. is_slot_in (option_to_list o) table.frame i) leads ∙ slot_one table.frame i)) m refl)
+      by_read (inr p) =
+          let shown = shown_of setup.frames ((state_after setup t).place table.frame i) (stamp setup t (PlaceOf table.frame i)) (last_left setup t (EntryAt table.frame i)) p.says in
+          subst (ShownHere i) (sym shown.shown) (by_value p shown.value shown.reads shown.shows)
+
+  -- the step of any look-up of a root entry
+  pub in_root_step : (look : Look) → f.stage ≡ Looking want look → LooksUp setup t c (InRoot table i) look
+      → GoodTook setup cores t c f (word_of (look_move look)) (last_left setup t (word_of (look_move look))) (last_left setup t (word_of (look_move look)))
+          (took_look (cores c).table f.call want look (last_left setup t (word_of (look_move look))) (shown_in setup.frames (last_left setup t (word_of (look_move look)))))
+  in_root_step (AtRoot root number) at looks = absurd looks.at
+  in_root_step (AtLeaf leaf number) at looks = absurd looks.at
+  in_root_step (AtEntry root index) at looks = subst Goal looks.at.frame (subst Of looks.at.same (λ at looks. entry_step at looks)) at looks
+    where
+      Of : ℕ → Type 0
+      Of m = f.stage ≡ Looking want (AtEntry table.frame m) → LooksUp setup t c (InRoot table i) (AtEntry table.frame m)
+          → Takes setup setting cores t stands c here f flight want (InRoot table i) is_open no_slot on_way goes done (AtEntry table.frame m) table.frame m
+
+      Goal : ℕ → Type 0
+      Goal r = f.stage ≡ Looking want (AtEntry r index) → LooksUp setup t c (InRoot table i) (AtEntry r index)
+          → Takes setup setting cores t stands c here f flight want (InRoot table i) is_open no_slot on_way goes done (AtEntry r index) r index

@@ -1,5 +1,5 @@
 -- What is said of a word stays where the step leaves the word, and what is said of it, as they were; of every kind of word at once.
-use Rattle.std.proofs.Common.{◌≡◌, ◌≢◌, inl, inr, ℕ, Bool, true, false, ◌∷◌, Option, Some, None, refl, sym, ◌∙◌, ap, subst}
+use Rattle.std.proofs.Common.{◌≡◌, ◌≢◌, inl, inr, ℕ, Bool, true, false, if◌then◌else◌, ◌∷◌, Option, Some, None, refl, sym, ◌∙◌, ap, subst}
 use Rattle.std.proofs.lemmas.Bool.{cases_eq}
 use Rattle.spk_nums.specs.Setting.{Setting}
 use Rattle.word_map.specs.Word.{Word, EntryAt, FrameAt, CountAt, CoreAt, FlushAt, LiveAt, ClockAt}
@@ -146,3 +146,90 @@ module _ (setup : Setting) (cores : ℕ → Core) (t : Trace) (e : Step) (after 
       | inr there ↦ subst (WordIs (state_after setup (e ∷ t)) (times_of setup (e ∷ t)) w) (sym (settled_on w (last_left-there setup w e t there)))
           (word_stays (state_after setup t) (state_after setup (e ∷ t)) (times_of setup t) (times_of setup (e ∷ t)) w (settled setup (held_by cores) t w) (same w there) (words w))
     ]
+
+-- A step by which its core marks its word, or gives it back: the settled word stays, and the frames.
+module _ (setup : Setting) (cores : ℕ → Core) (t : Trace) (e : Step) (after : Core)
+    (frames : (f : ℕ) → (state_after setup (e ∷ t)).frame f ≡ (state_after setup t).frame f)
+    (elsewhere : (w : Word) → w ≢ e.word → ((holds after).marks w ≡ (holds (cores e.core)).marks w) × ((holds after).stands w ≡ (holds (cores e.core)).stands w))
+    (now : mark_of (state_after setup t) e.word e.left ≡ (if (holds after).marks e.word then Some e.core else None))
+    (unowned : (d : ℕ) → d ≢ e.core → marked_by setup t e.word ≡ Some d → ⊥)
+    (settles : settled_by (if (holds after).marks e.word then Some e.core else None) (held_by (put cores e.core after)) e.word e.left
+        ≡ settled setup (held_by cores) t e.word) where
+  abbrev pub holding : ℕ → Holding
+  holding = held_by (put cores e.core after)
+
+  holding_own : (d : ℕ) → d ≡ e.core → holding d ≡ holds after
+  holding_own d own = ap holds (put_same cores e.core after d own)
+
+  holding_other : (d : ℕ) → d ≢ e.core → holding d ≡ held_by cores d
+  holding_other d other = ap holds (put_other cores e.core after d other)
+
+  there_marked : (w : Word) → w ≢ e.word → marked_by setup (e ∷ t) w ≡ marked_by setup t w
+  there_marked w there =
+      mark_same (state_after setup t) (state_after setup (e ∷ t)) w (last_left setup (e ∷ t) w) frames
+      ∙ ap (mark_of (state_after setup t) w) (last_left-there setup w e t there)
+
+  here_marked : (w : Word) → w ≡ e.word → marked_by setup (e ∷ t) w ≡ (if (holds after).marks e.word then Some e.core else None)
+  here_marked w here =
+      mark_same (state_after setup t) (state_after setup (e ∷ t)) w (last_left setup (e ∷ t) w) frames
+      ∙ ap (mark_of (state_after setup t) w) (last_left-here setup w e t here) ∙ ap (λ v. mark_of (state_after setup t) v e.left) here ∙ now
+
+  there_held : (w : Word) (d : ℕ) → w ≢ e.word → (holding d).marks w ≡ (held_by cores d).marks w
+  there_held w d there = elim (cases_eq d e.core) [
+    | inl own ↦ ap (λ h. h.marks w) (holding_own d own) ∙ (elsewhere w there).0 ∙ ap (λ (c : ℕ). (held_by cores c).marks w) (sym own)
+    | inr other ↦ ap (λ h. h.marks w) (holding_other d other)
+  ]
+
+  there_stands : (o : Option ℕ) (w : Word) (x : ℕ) → w ≢ e.word → settled_by o holding w x ≡ settled_by o (held_by cores) w x
+  there_stands None w x there = refl
+  there_stands (Some d) w x there = elim (cases_eq d e.core) [
+    | inl own ↦ ap (λ h. h.stands w) (holding_own d own) ∙ (elsewhere w there).1 ∙ ap (λ (c : ℕ). (held_by cores c).stands w) (sym own)
+    | inr other ↦ ap (λ h. h.stands w) (holding_other d other)
+  ]
+
+  some_inj : (x y : ℕ) → Some x ≡ Some y → x ≡ y
+  some_inj x y h = cc
+
+  none_some : (x : ℕ) → None ≡ Some x → ⊥
+  none_some x h = cc
+
+  owner : (d : ℕ) (b : Bool) → (holds after).marks e.word ≡ b → (if b then Some e.core else None) ≡ Some d → (holding d).marks e.word ≡ true
+  owner d true is h = ap (λ k. k.marks e.word) (holding_own d (sym (some_inj e.core d h))) ∙ is
+  owner d false is h = absurd (none_some d h)
+
+  here_is : (d : ℕ) → MarkIs setup (held_by cores) t e.word d → MarkIs setup holding (e ∷ t) e.word d
+  here_is d is = record {
+    owned = λ h. owner d ((holds after).marks e.word) refl (sym (here_marked e.word refl) ∙ h);
+    kept = λ h. elim (cases_eq d e.core) [
+      | inl own ↦ here_marked e.word refl
+          ∙ ap (λ b. if b then Some e.core else None) (ap (λ k. k.marks e.word) (sym (holding_own d own)) ∙ h) ∙ ap (λ (c : ℕ). Some c) (sym own)
+      | inr other ↦ absurd (unowned d other (is.kept (ap (λ k. k.marks e.word) (sym (holding_other d other)) ∙ h)))
+    ];
+  }
+
+  pub hold_marks : ((w : Word) (d : ℕ) → MarkIs setup (held_by cores) t w d) → (w : Word) (d : ℕ) → MarkIs setup holding (e ∷ t) w d
+  hold_marks marks w d = elim (cases_word w e.word) [
+    | inl here ↦ subst (λ v. MarkIs setup holding (e ∷ t) v d) (sym here) (here_is d (marks e.word d))
+    | inr there ↦ record {
+        owned = λ h. there_held w d there ∙ (marks w d).owned (sym (there_marked w there) ∙ h);
+        kept = λ h. there_marked w there ∙ (marks w d).kept (sym (there_held w d there) ∙ h);
+      }
+  ]
+
+  settled_stays : (w : Word) → settled setup holding (e ∷ t) w ≡ settled setup (held_by cores) t w
+  settled_stays w = elim (cases_word w e.word) [
+    | inl here ↦ subst (λ v. settled setup holding (e ∷ t) v ≡ settled setup (held_by cores) t v) (sym here)
+        (ap (λ o. settled_by o holding e.word (last_left setup (e ∷ t) e.word)) (here_marked e.word refl)
+        ∙ ap (settled_by (if (holds after).marks e.word then Some e.core else None) holding e.word) (last_left-here setup e.word e t refl) ∙ settles)
+    | inr there ↦
+        ap (λ o. settled_by o holding w (last_left setup (e ∷ t) w)) (there_marked w there)
+        ∙ ap (settled_by (marked_by setup t w) holding w) (last_left-there setup w e t there)
+        ∙ there_stands (marked_by setup t w) w (last_left setup t w) there
+  ]
+
+  pub hold_words : ((w : Word) → SameFor (state_after setup t) (state_after setup (e ∷ t)) (times_of setup t) (times_of setup (e ∷ t)) w)
+      → ((w : Word) → WordIs (state_after setup t) (times_of setup t) w (settled setup (held_by cores) t w))
+      → (w : Word) → WordIs (state_after setup (e ∷ t)) (times_of setup (e ∷ t)) w (settled setup holding (e ∷ t) w)
+  hold_words same words w =
+      subst (WordIs (state_after setup (e ∷ t)) (times_of setup (e ∷ t)) w) (sym (settled_stays w))
+      (word_stays (state_after setup t) (state_after setup (e ∷ t)) (times_of setup t) (times_of setup (e ∷ t)) w (settled setup (held_by cores) t w) (same w) (words w))
