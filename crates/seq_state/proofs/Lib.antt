@@ -23,3 +23,4 @@ pub mod Spares
 pub mod SparesRuns
 pub mod Stays
 pub mod Ends
+pub mod FrameTurns
