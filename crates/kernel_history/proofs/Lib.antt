@@ -12,5 +12,6 @@ pub mod GraceSteps
 pub mod Times
 pub mod Waiting
 pub mod Carries
+pub mod Awaits
 pub mod Laws
 pub mod Replies

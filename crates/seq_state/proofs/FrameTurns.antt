@@ -13,19 +13,21 @@ use Rattle.spk_nums.specs.declared.calls.Make.TheVariants as make
 use Rattle.spk_nums.specs.declared.calls.Call.{Call}
 use Rattle.spk_nums.specs.declared.calls.Call.TheVariants.{Look, Copy, Remove, Grow, Shrink, Retype, Make as make_call, Map, Unmap, Touch, Flush, Gate, Kill, Call as call_gate, Ret, Switch, Tick, Transfer, Delegate, Test}
 use Rattle.spk_nums.specs.declared.translations.Translation.{Translation}
+use Rattle.spk_nums.specs.declared.replies.Reply.{Reply}
 use Rattle.spk_nums.specs.declared.replies.Reply.TheVariants as reply
 use Rattle.seq_state.specs.State.{ThreadFields, TcapFields, Object, Blank, Table, Leaf, Pages, Pleaf, Comp, Thread, Tcap, Frame, Untyped, User, Kernel, Thing, PlaceOf, FrameOf, State, put, with_frame, comp_of, comp_in, thread_in}
 use Rattle.seq_state.specs.GracePeriods.{same_thing, is_translated}
 use Rattle.seq_state.specs.Access.{Slot, Named, found, Under}
-use Rattle.seq_state.specs.Rules.{Change, Cause, When, refusal_of, first_cause}
+use Rattle.seq_state.specs.Rules.{Change, Cause, When, Judged, Refused, Found, refusal_of, first_cause}
 use Rattle.seq_state.specs.CapabilityCalls.{outside, not_blank, make_node, make_rule, not_taken}
 use Rattle.seq_state.specs.MemoryCalls.{is_untyped, not_retyped, retype_rule, touch_by, translation_of}
 use Rattle.seq_state.specs.InvocationCalls.{with_thread, running, switch_to}
 use Rattle.seq_state.specs.TimeCalls.{with_tcap, with_budget, tcap_at, moved}
-use Rattle.seq_state.specs.CallRelation.{rule_of, ends_by}
+use Rattle.seq_state.specs.CallRelation.{rule_of, change_of, changed, owed_by, state_by, ends, ends_by}
 use Rattle.seq_state.proofs.Sound.{is_node, put_all}
 use Rattle.seq_state.proofs.SoundCalls.{blank_at, untyped_is}
-use Rattle.seq_state.proofs.Facts.{ChangesFrom, none_parts, when_not, not_not}
+use Rattle.seq_state.proofs.Facts.{ChangesFrom, outcome_from, none_parts, when_not, not_not}
+use Rattle.seq_state.proofs.Changes.{IfFound}
 
 -- Whether a frame is something: a user frame, or has an object.
 abbrev pub is_typed : Frame → Bool
@@ -205,3 +207,32 @@ rule_turns s d (Delegate a b m) = λ j e k g calm f.
     turns_then (Delegate a b m) f (s.frame f) ((moved s j.frame k.frame m).frame f) _ (moved_turns (Delegate a b m) s j.frame k.frame m f)
     (put_turns (Delegate a b m) (moved s j.frame k.frame m) k.frame _ (tcap_turns (Delegate a b m) k.frame ((moved s j.frame k.frame m).frame k.frame) _) f)
 rule_turns s d (Test a b) = λ j e k g calm f. turns_same (Test a b) f (s.frame f)
+
+found_turns : (s : State) (call : Call) (x : Judged Change) → IfFound x (TurnsBy s call) → (f : ℕ) → Turns call f (s.frame f) ((changed s x).frame f)
+found_turns s call (Refused r) by f = turns_same call f (s.frame f)
+found_turns s call (Found change) by f = by f
+
+owed_frame : (s : State) (d : ℕ) (call : Call) (f : ℕ) → (owed_by s d call).frame f ≡ s.frame f
+owed_frame s d (Tick n) f = refl
+owed_frame s d _ f = refl
+
+-- A frame after a decision: of an `ok` by how its call turns it, else it stays.
+pub record TurnsIn (call : Call) (r : Reply) (f : ℕ) (x y : Frame) : Type 0 where
+  pub node : (i : ℕ) → IsTrue (is_node y) → (ends call r (PlaceOf f i) ≡ true) ⊎ (y ≡ x)
+  pub typed : IsTrue (is_typed x) → (ends call r (FrameOf f) ≡ true) ⊎ (IsTrue (is_typed y) × (is_translated y ≡ is_translated x))
+
+pub turns_in_same : (call : Call) (r : Reply) (f : ℕ) (x y : Frame) → y ≡ x → TurnsIn call r f x y
+turns_in_same call r f x y same = record {
+  node = λ i n. inr same;
+  typed = λ h. inr (subst (λ x. IsTrue (is_typed x)) (sym same) h, ap is_translated same);
+}
+
+pub decided_turns : (s : State) (d : ℕ) (call : Call) (r : Reply) (f : ℕ) → TurnsIn call r f (s.frame f) ((state_by s d call r).frame f)
+decided_turns s d call (reply.Ok v) f =
+    let a : Turns call f (s.frame f) ((changed s (change_of s d call)).frame f) =
+    found_turns s call (change_of s d call) (outcome_from (TurnsBy s call) s d (rule_of s d call) (rule_turns s d call)) f in
+    record { node = a.node; typed = a.typed }
+decided_turns s d call reply.Raced f = turns_in_same call reply.Raced f (s.frame f) _ (owed_frame s d call f)
+decided_turns s d call (reply.Busy e) f = turns_in_same call (reply.Busy e) f (s.frame f) _ (owed_frame s d call f)
+decided_turns s d call reply.CallsSpent f = turns_in_same call reply.CallsSpent f (s.frame f) _ refl
+decided_turns s d call r f = turns_in_same call r f (s.frame f) _ refl

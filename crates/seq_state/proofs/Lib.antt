@@ -24,3 +24,4 @@ pub mod SparesRuns
 pub mod Stays
 pub mod Ends
 pub mod FrameTurns
+pub mod Releases
