@@ -1,14 +1,13 @@
 -- A grace period that stands waits for flushes exactly where its thing needs them now.
-use Rattle.std.proofs.Common.{◌≡◌, ◌⊎◌, inl, inr, ℕ, ◌<◌, arith, Bool, true, false, cond, refl, sym, ◌∙◌, ap, subst, IsTrue, [], ◌∷◌, Option, Some, None}
+use Rattle.std.proofs.Common.{◌≡◌, ◌⊎◌, inl, inr, ℕ, ◌<◌, arith, true, false, refl, sym, ◌∙◌, ap, subst, IsTrue, [], ◌∷◌, Option, Some, None}
 use Rattle.std.proofs.lemmas.Bool.{false≢true}
 use Rattle.spk_nums.specs.Setting.{Setting, IsSetting}
 use Rattle.spk_nums.specs.declared.calls.Call.{Call}
 use Rattle.spk_nums.specs.declared.replies.Reply.{Reply}
-use Rattle.seq_state.specs.State.{Frame, Thing, PlaceOf, FrameOf, State}
+use Rattle.seq_state.specs.State.{Thing, PlaceOf, FrameOf, State}
 use Rattle.seq_state.specs.GracePeriods.{is_paging, is_translated, needs_flush}
 use Rattle.seq_state.specs.CallRelation.{MayReply}
-use Rattle.seq_state.specs.Runs.{IsRun}
-use Rattle.seq_state.proofs.Sound.{is_node, IsSound}
+use Rattle.seq_state.proofs.Sound.{is_node}
 use Rattle.seq_state.proofs.SoundRuns.{opened, open_is}
 use Rattle.seq_state.proofs.SoundCalls.{IsOpen}
 use Rattle.seq_state.proofs.FrameTurns.{is_typed, TurnsIn, decided_turns}
@@ -16,8 +15,8 @@ use Rattle.seq_state.proofs.Releases.{begins_typed, ends_begins}
 use Rattle.kernel_history.specs.Trace.{Step, Trace, Phase, Out, Open, Decided, phase, after_enter, state_after, state_entered, state_decided, state_returned, state_before}
 use Rattle.kernel_history.specs.Stamps.{begins_in, ends_in, begins_at, ends_at, stamp, awaits_flushes}
 use Rattle.kernel_history.specs.Legal.{MayDecide, MayFollow, IsLegal}
-use Rattle.kernel_history.specs.Events.{events_of, plain_phase}
-use Rattle.kernel_history.proofs.Steps.{stamp-begins, stamp-ends, stamp-kept, awaits-begins, awaits-kept}
+use Rattle.kernel_history.specs.Events.{plain_phase}
+use Rattle.kernel_history.proofs.Steps.{stamp-ends, stamp-kept, awaits-begins, awaits-kept}
 use Rattle.kernel_history.proofs.Events.{entered_events, before_is, entered_phase, entered_run, run_of}
 use Rattle.kernel_history.proofs.GraceSteps.{cases_bool}
 

@@ -1,9 +1,7 @@
 -- How a call that is carried out turns frames: a node is made only with the end of its places' grace periods, and what a frame is
 -- changes only with the end of its own; and only frames that are something have references released.
-use Rattle.std.proofs.Common.{◌≡◌, ◌≢◌, ◌⊎◌, inl, inr, ℕ, ◌<◌, ◌-◌, Bool, true, false, not, nat_lt, ◌==◌, ◌||◌, cond, refl, sym, ◌∙◌, ap, subst, IsTrue, if◌then◌else◌, List, [], ◌∷◌, take, Option, Some, None}
-use Rattle.std.proofs.lemmas.Bool.{false≢true, true≢false, eq-eqb, eqb-true}
-use Rattle.std.specs.List.{list_any}
-use Rattle.spk_nums.specs.Capability.{Capability}
+use Rattle.std.proofs.Common.{◌≡◌, ◌⊎◌, inl, inr, ℕ, ◌-◌, Bool, true, false, not, refl, sym, ◌∙◌, ap, subst, IsTrue, [], ◌∷◌, Option, Some, None}
+use Rattle.std.proofs.lemmas.Bool.{false≢true, eq-eqb}
 use Rattle.spk_nums.specs.declared.kinds.Kind.{Kind}
 use Rattle.spk_nums.specs.declared.kinds.Kind.TheVariants as kind
 use Rattle.spk_nums.specs.declared.kinds.FrameKind.{FrameKind}
@@ -15,10 +13,10 @@ use Rattle.spk_nums.specs.declared.calls.Call.TheVariants.{Look, Copy, Remove, G
 use Rattle.spk_nums.specs.declared.translations.Translation.{Translation}
 use Rattle.spk_nums.specs.declared.replies.Reply.{Reply}
 use Rattle.spk_nums.specs.declared.replies.Reply.TheVariants as reply
-use Rattle.seq_state.specs.State.{ThreadFields, TcapFields, Object, Blank, Table, Leaf, Pages, Pleaf, Comp, Thread, Tcap, Frame, Untyped, User, Kernel, Thing, PlaceOf, FrameOf, State, put, with_frame, comp_of, comp_in, thread_in}
-use Rattle.seq_state.specs.GracePeriods.{same_thing, is_translated}
-use Rattle.seq_state.specs.Access.{Slot, Named, found, Under}
-use Rattle.seq_state.specs.Rules.{Change, Cause, When, Judged, Refused, Found, refusal_of, first_cause}
+use Rattle.seq_state.specs.State.{ThreadFields, TcapFields, Object, Blank, Table, Leaf, Pages, Pleaf, Comp, Thread, Tcap, Frame, Untyped, User, Kernel, PlaceOf, FrameOf, State, put, comp_of, thread_in}
+use Rattle.seq_state.specs.GracePeriods.{is_translated}
+use Rattle.seq_state.specs.Access.{Named, found}
+use Rattle.seq_state.specs.Rules.{Change, When, Judged, Refused, Found, refusal_of, first_cause}
 use Rattle.seq_state.specs.CapabilityCalls.{outside, not_blank, make_node, make_rule, not_taken}
 use Rattle.seq_state.specs.MemoryCalls.{is_untyped, not_retyped, retype_rule, touch_by, translation_of}
 use Rattle.seq_state.specs.InvocationCalls.{with_thread, running, switch_to}

@@ -1,6 +1,6 @@
 -- References are released only to frames that are something; and a decision that ends a grace period does not begin it.
-use Rattle.std.proofs.Common.{◌≡◌, ◌≢◌, ◌⊎◌, inl, inr, ℕ, ◌<◌, ◌≤◌, arith, Bool, true, false, ◌||◌, ◌==◌, cond, refl, sym, ◌∙◌, ap, subst, IsTrue, if◌then◌else◌, List, [], ◌∷◌, take, Option, Some, None}
-use Rattle.std.proofs.lemmas.Bool.{false≢true, true≢false, eqb-true, cases_lt}
+use Rattle.std.proofs.Common.{◌≡◌, ◌⊎◌, inl, inr, ℕ, ◌≤◌, arith, Bool, true, false, ◌||◌, ◌==◌, refl, sym, ◌∙◌, ap, subst, IsTrue, if◌then◌else◌, List, [], ◌∷◌, take, Option, Some, None}
+use Rattle.std.proofs.lemmas.Bool.{false≢true, eqb-true, cases_lt}
 use Rattle.std.specs.List.{list_any}
 use Rattle.spk_nums.specs.Capability.{Capability}
 use Rattle.spk_nums.specs.declared.kinds.Kind.{Kind}
@@ -14,8 +14,8 @@ use Rattle.spk_nums.specs.declared.calls.Call.TheVariants.{Look, Copy, Remove, G
 use Rattle.spk_nums.specs.declared.translations.Translation.{Translation}
 use Rattle.spk_nums.specs.declared.replies.Reply.{Reply}
 use Rattle.spk_nums.specs.declared.replies.Reply.TheVariants as reply
-use Rattle.seq_state.specs.State.{Holds, Untyped, Blank, Comp, Thread, Frame, Kernel, Liveness, Unused, Live, Dead, Thing, PlaceOf, FrameOf, NumberOf, State, comp_of, comp_in, thread_in, thread_of}
-use Rattle.seq_state.specs.References.{named_by, place_names, frame_names, number_names, times, refs}
+use Rattle.seq_state.specs.State.{Untyped, Blank, Comp, Thread, Frame, Kernel, Liveness, Unused, Live, Dead, Thing, PlaceOf, FrameOf, NumberOf, State, comp_of, comp_in, thread_in, thread_of}
+use Rattle.seq_state.specs.References.{named_by, frame_names, number_names, times, refs}
 use Rattle.seq_state.specs.GracePeriods.{same_thing}
 use Rattle.seq_state.specs.Access.{Slot, Named, found, Target, Under, InRoot}
 use Rattle.seq_state.specs.Rules.{Change, Judged, Refused, Found, held, frames_of, removes}
@@ -23,7 +23,7 @@ use Rattle.seq_state.specs.CapabilityCalls.{make_rule}
 use Rattle.seq_state.specs.MemoryCalls.{retype_rule, touch_by, translation_of}
 use Rattle.seq_state.specs.InvocationCalls.{switch_to}
 use Rattle.seq_state.specs.CallRelation.{rule_of, change_of, begins, begins_in, ends, ends_by, MayReply}
-use Rattle.seq_state.specs.Fitting.{fits, IsGood}
+use Rattle.seq_state.specs.Fitting.{fits}
 use Rattle.seq_state.proofs.Changes.{IfFound}
 use Rattle.seq_state.proofs.Sound.{AreComps, IsStack, IsObjectGood, IsSound}
 use Rattle.seq_state.proofs.SoundCalls.{IsOpen}
