@@ -1,4 +1,4 @@
-use Rattle.std.proofs.Common.{refl, sym, ap, ◌∙◌, subst, arith, ◌+◌, ◌++◌, ◌≡◌, ℕ}
+use Rattle.table_report.proofs.Adding.{all_adds}
 use Rattle.table_report.proofs.names.push_all.Goals as goal
 
 pub returns : goal.returns
