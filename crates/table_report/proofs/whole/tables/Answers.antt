@@ -1,4 +1,5 @@
-use Rattle.std.proofs.Common.{refl, sym, ap, ◌∙◌, subst, arith, ◌+◌, ◌++◌, ◌≡◌, ℕ}
+use Rattle.std.proofs.Common.{arith}
+use Rattle.table_report.proofs.Determined.{whole_text}
 use Rattle.table_report.proofs.whole.tables.Goals as goal
 
 pub returns : goal.returns
