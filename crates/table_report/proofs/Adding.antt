@@ -1,5 +1,5 @@
 -- Lists of named frames, one piece more at a time.
-use Rattle.std.proofs.Common.{◌≡◌, ℕ, ◌+◌, ◌++◌, Bool, true, false, Option, Some, None, List, [], ◌∷◌, refl, sym, ◌∙◌, ap, subst, arith, length}
+use Rattle.std.proofs.Common.{◌≡◌, ℕ, ◌+◌, ◌++◌, Bool, true, false, Option, Some, None, List, [], refl, sym, ◌∙◌, ap, subst, arith, length}
 use Rattle.spk_nums.specs.declared.translations.CoreEnd.{CoreEnd}
 use Rattle.spk_nums.specs.declared.kinds.FrameKind.{FrameKind}
 use Rattle.spk_nums.specs.declared.kinds.FrameKind.TheVariants as frame_kind

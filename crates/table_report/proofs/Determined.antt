@@ -1,23 +1,22 @@
 -- The words and the ends determine the tables of the state that they represent.
-use Rattle.std.proofs.Common.{◌≡◌, ℕ, ◌+◌, ◌<◌, ◌++◌, List, [], Bool, true, false, Option, Some, None, refl, sym, ap, ◌∙◌, subst, arith, length, append_assoc}
+use Rattle.std.proofs.Common.{◌≡◌, ℕ, ◌<◌, ◌++◌, List, [], true, false, Option, None, refl, sym, ap, ◌∙◌, arith, length, append_assoc}
 use Rattle.std.specs.Prelude.{slice_index}
 use Rattle.std.proofs.lemmas.Bool.{true≢false, cases_Bool}
 use Rattle.std.proofs.Common.{inl, inr}
 use Rattle.spk_nums.specs.declared.translations.CoreEnd.{CoreEnd}
 use Rattle.entry_words.specs.declared.entry.Entry.{Entry}
 use Rattle.entry_words.specs.EntryWord.{entry_of_word}
-use Rattle.frame_words.specs.Frame.{frame_of_word}
 use Rattle.frame_words.specs.Live.{live_of_word}
 use Rattle.frame_words.specs.declared.live_word.LiveWord.{LiveWord}
-use Rattle.word_map.specs.Word.{FrameAt, LiveAt}
+use Rattle.word_map.specs.Word.{LiveAt}
 use Rattle.word_map.specs.Places.{Shape}
-use Rattle.seq_state.specs.State.{Place, Free, Holds, Quiescing, Object, Blank, Table, Leaf, Pages, Pleaf, Comp, Thread, Tcap, Frame, Untyped, User, Kernel, Liveness, Unused, Live, Dead, Core, State, first_of_stack, thread_of, tcap_in}
+use Rattle.seq_state.specs.State.{Place, Free, Holds, Quiescing, Object, Blank, Table, Leaf, Pages, Pleaf, Comp, Thread, Tcap, Frame, Untyped, User, Kernel, Liveness, Unused, Live, Dead, State, first_of_stack, thread_of, tcap_in}
 use Rattle.seq_state.specs.Access.{held_in}
 use Rattle.seq_state.specs.References.{place_names, frame_names, number_names, core_names, sum_below, times, node_refs, refs}
 use Rattle.seq_state.specs.Laws.{ticks}
-use Rattle.kernel_history.specs.ObjectWords.{is_node, is_node_object, frame_value}
-use Rattle.kernel_history.specs.FinalWords.{SaysPlace, AreEntries, AreFrame, SaysNumber, HoldNothing, Represent, word_in, end_in, end_of}
-use Rattle.kernel_history.specs.Tables.{lines_below, frame_line, object_word, entry_line, node_lines, object_lines, frame_lines, number_line, core_lines, total_line, tables_of}
+use Rattle.kernel_history.specs.ObjectWords.{is_node, is_node_object}
+use Rattle.kernel_history.specs.FinalWords.{SaysPlace, AreEntries, AreFrame, SaysNumber, Represent, word_in, end_in}
+use Rattle.kernel_history.specs.Tables.{lines_below, frame_line, object_word, entry_line, object_lines, frame_lines, number_line, core_lines, total_line, tables_of}
 use Rattle.kernel_history.proofs.Sums.{sum_same}
 use Rattle.table_report.specs.Counting.{AreCounts}
 use Rattle.table_report.specs.Shown.{place_shown, place_in, number_shown, frame_shown, words_of, frame_at, place_at, number_at, core_at, core_shown, shown, frames_text, numbers_text, cores_text, tables_shown}
@@ -227,8 +226,8 @@ whole_text shape words ends counts begun a b d e total counted cores ticked none
     let c : List ℕ = cores_text ends shape.cores in
     let l : List ℕ = total_line (ticks (shown shape words ends)) in
     let first : a ≡ f = pa ∙ ap (λ x. x ++ frames_text shape words (slice_index counts) shape.frames) none
-        ∙ lines_same (λ f. frame_lines f (frame_at shape words f) (place_at shape words f) (slice_index counts f)) (λ f. frame_lines f (frame_at shape words f) (place_at shape words f) (refs (shown shape words ends) f)) shape.frames
-        (λ f below. ap (frame_lines f (frame_at shape words f) (place_at shape words f)) (counted f below)) in
+    ∙ lines_same (λ f. frame_lines f (frame_at shape words f) (place_at shape words f) (slice_index counts f)) (λ f. frame_lines f (frame_at shape words f) (place_at shape words f) (refs (shown shape words ends) f)) shape.frames
+    (λ f below. ap (frame_lines f (frame_at shape words f) (place_at shape words f)) (counted f below)) in
     let second : b ≡ f ++ n = pb ∙ ap (λ x. x ++ n) first in
     let third : d ≡ (f ++ n) ++ c = pd ∙ ap (λ x. x ++ cores_text ends (length ends)) second ∙ ap (λ k. (f ++ n) ++ cores_text ends k) cores in
     pe ∙ ap (λ x. x ++ total_line total) third ∙ ap (λ k. ((f ++ n) ++ c) ++ total_line k) ticked

@@ -1,20 +1,17 @@
 -- What the words of an object show is the object, where they represent it.
-use Rattle.std.proofs.Common.{◌≡◌, ℕ, zero, suc, ◌+◌, ◌<◌, ◌≤◌, ◌++◌, List, [], ◌∷◌, Bool, true, false, Option, Some, None, refl, sym, ap, ◌∙◌, subst, arith, length, take, reverse}
+use Rattle.std.proofs.Common.{◌≡◌, ℕ, zero, suc, ◌+◌, ◌<◌, ◌≤◌, ◌++◌, List, [], ◌∷◌, Option, Some, None, refl, sym, ap, ◌∙◌, arith, length, take, reverse}
 use Rattle.std.specs.Prelude.{option_to_list}
 use Rattle.std.specs.List.{slice_get}
 use Rattle.std.proofs.lemmas.List.{reverse-append, length-reverse, reverse-reverse}
-use Rattle.std.proofs.Math.Seq.{take-length}
 use Rattle.tcap_words.specs.Stack.{stack_of_word}
 use Rattle.tcap_words.specs.Quality.{quality_of_word}
-use Rattle.tcap_words.specs.Head.{head_of_word}
 use Rattle.tcap_words.specs.Thread.{ThreadFits}
 use Rattle.tcap_words.proofs.ThreadLemmas as threads
 use Rattle.frame_words.specs.Comp.{comp_of_word}
-use Rattle.seq_state.specs.State.{Place, Free, Holds, Quiescing, CompFields, ThreadFields, TcapFields, Object, Blank, Table, Leaf, Pages, Pleaf, Comp, Thread, Tcap, Frame, Untyped, User, Kernel}
-use Rattle.kernel_history.specs.ObjectWords.{thread_value, frame_value, is_node}
+use Rattle.seq_state.specs.State.{Place, CompFields, ThreadFields, TcapFields, Blank, Table, Leaf, Pages, Pleaf, Comp, Thread, Tcap, Frame, Untyped, User, Kernel}
+use Rattle.kernel_history.specs.ObjectWords.{thread_value, frame_value}
 use Rattle.kernel_history.specs.FinalWords.{AreComp, AreThread, AreTcap, AreFrame}
 use Rattle.table_report.specs.Shown.{stacked, listed, stack_shown, qualities_shown, comp_shown, budget_shown, frame_shown}
-use Rattle.table_report.proofs.Lines.{stack_none, stack_more, qualities_none, qualities_more}
 
 -- One more of a list, if it has one more.
 take_option : {A : Type 0} (xs : List A) (n : ℕ) → take (suc n) xs ≡ take n xs ++ option_to_list (slice_get xs n)

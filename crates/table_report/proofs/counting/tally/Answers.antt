@@ -1,4 +1,4 @@
-use Rattle.std.proofs.Common.{arith, ap, ◌∙◌, ◌≡◌, ◌<◌, ◌+◌, length, get_or}
+use Rattle.std.proofs.Common.{arith, ap, ◌∙◌, ◌<◌, ◌+◌, length, get_or}
 use Rattle.std.proofs.lemmas.List.{length-set, get_or_default}
 use Rattle.table_report.proofs.Tallies.{at_most, counts_next, counts_past}
 use Rattle.table_report.proofs.counting.tally.Goals as goal

@@ -1,4 +1,3 @@
-use Rattle.std.proofs.Common.{refl, sym, ap, ◌∙◌, subst, arith, ◌+◌, ◌++◌, ◌≡◌, ℕ}
 use Rattle.table_report.proofs.Lines.{begins, goes_on, lines_none, lines_more}
 use Rattle.table_report.proofs.frames.push_frames.Goals as goal
 

@@ -1,4 +1,3 @@
-
 use Rattle.table_report.proofs.names.push_object.Goals as goal
 
 pub returns-in-Thread : goal.returns-in-Thread

@@ -1,4 +1,4 @@
-use Rattle.std.proofs.Common.{refl, sym, ap, ◌∙◌, subst, arith, ◌+◌, ◌++◌, ◌≡◌, ℕ}
+use Rattle.std.proofs.Common.{sym, ap, arith, ◌≡◌}
 use Rattle.kernel_history.proofs.Sums.{sum_none, sum_more}
 use Rattle.table_report.specs.Shown.{core_shown, core_at}
 use Rattle.table_report.proofs.Lines.{ends_read}
