@@ -2,11 +2,9 @@
 -- steps at which no grace period begins or ends and nothing is flushed. All steps of calls that are carried out today are such.
 use Rattle.std.proofs.Common.{◌≡◌, ◌≢◌, inl, inr, ℕ, zero, suc, ◌+◌, ◌<◌, ◌≤◌, Bool, true, false, cond, ◌∷◌, Option, Some, None, arith, refl, sym, ◌∙◌, ap, subst}
 use Rattle.std.proofs.lemmas.Bool.{cases_eq, false≢true}
-use Rattle.spk_nums.specs.Capability.{Capability}
 use Rattle.spk_nums.specs.Setting.{Setting}
-use Rattle.spk_nums.specs.declared.replies.Reply.{Reply}
 use Rattle.word_map.specs.Word.{Word, EntryAt, FrameAt, CountAt, CoreAt, FlushAt, LiveAt, ClockAt, same_word}
-use Rattle.seq_state.specs.State.{Place, Quiescing, Core as CoreFields, Thing, PlaceOf, NumberOf, State, put, with_core, thread_in, comp_in, first_of_stack, thread_of, comp_of}
+use Rattle.seq_state.specs.State.{Core as CoreFields, Thing, PlaceOf, NumberOf, State, put, thread_in, comp_in, first_of_stack, thread_of, comp_of}
 use Rattle.seq_state.specs.References.{sum_below}
 use Rattle.seq_state.specs.GracePeriods.{entered, returned}
 use Rattle.seq_state.specs.CallRelation.{counted}
@@ -16,7 +14,6 @@ use Rattle.kernel_history.specs.Stamps.{begins_at, ends_at, flushes_at, stamp, c
 use Rattle.kernel_history.proofs.Steps.{stamp-kept, exit_of-own, exit_of-other, flush_of-own, flush_of-other, flush_stored-own, flush_stored-other}
 use Rattle.kernel_history.proofs.Graces.{KeepsTime}
 use Rattle.flight.specs.View.{Core}
-use Rattle.flight.specs.Words.{Times}
 use Rattle.flight.specs.Knows.{WorksIn}
 use Rattle.flight.specs.Stands.{times_of, counted_in}
 use Rattle.flight.proofs.Good.{WorksOn}

@@ -5,11 +5,11 @@ use Rattle.spk_nums.specs.Capability.{Capability}
 use Rattle.spk_nums.specs.Setting.{Setting, IsSetting}
 use Rattle.spk_nums.specs.declared.calls.Call.{Call}
 use Rattle.word_map.specs.Word.{Word, EntryAt}
-use Rattle.seq_state.specs.State.{Quiescing, Thing, State, put, thread_of, comp_of, first_of_stack}
+use Rattle.seq_state.specs.State.{Quiescing, put, thread_of, comp_of, first_of_stack}
 use Rattle.seq_state.proofs.Within.{put_same, put_other}
-use Rattle.kernel_history.specs.Trace.{Step, Trace, Out, Open, phase, state_after, own_left}
+use Rattle.kernel_history.specs.Trace.{Step, Trace, Open, phase, state_after}
 use Rattle.kernel_history.specs.Bounds.{IsWithin}
-use Rattle.kernel_history.specs.Legal.{MayFollow, IsLegal}
+use Rattle.kernel_history.specs.Legal.{MayFollow}
 use Rattle.kernel_history.specs.Stamps.{is_in, clock}
 use Rattle.kernel_history.proofs.Steps.{phase-other, calls_of-other, steps_in_call-other, own_left-other, exit_of-other, flush_of-other, flush_stored-other}
 use Rattle.kernel_history.proofs.Graces.{KeepsTime, LeavesBy}
@@ -23,7 +23,7 @@ use Rattle.flight.specs.declared.stages.InFlight.{InFlight}
 use Rattle.flight.specs.View.{Core}
 use Rattle.flight.specs.Holding.{settled, MarkIs}
 use Rattle.flight.specs.Words.{WordIs}
-use Rattle.flight.specs.Knows.{phase_at, FlightIs, InFlightIs, Knows, WorksIn, CoreIs}
+use Rattle.flight.specs.Knows.{phase_at, FlightIs, Knows, WorksIn, CoreIs}
 use Rattle.flight.specs.Stands.{held_by, times_of, counted_in, Stands}
 use Rattle.flight.proofs.Carries.{look_knows_on, fill_on}
 
