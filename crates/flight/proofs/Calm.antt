@@ -16,7 +16,6 @@ use Rattle.kernel_history.proofs.Graces.{KeepsTime}
 use Rattle.flight.specs.View.{Core}
 use Rattle.flight.specs.Knows.{WorksIn}
 use Rattle.flight.specs.Stands.{times_of, counted_in}
-use Rattle.flight.proofs.Good.{WorksOn}
 use Rattle.flight.proofs.WordFrames.{SameFor}
 
 -- A core that is or is not inside, and has counted so many calls; all else of it stays.
@@ -74,17 +73,6 @@ thread_on s s' d frame thread = ap thread_in (frame (s'.core d).thread) ∙ ap (
 comp_on : (s s' : State) (d : ℕ) → ((f : ℕ) → s'.frame f ≡ s.frame f) → (s'.core d).thread ≡ (s.core d).thread → comp_of s' d ≡ comp_of s d
 comp_on s s' d frame thread =
     ap comp_in (frame (first_of_stack (thread_of s' d).stack)) ∙ ap (λ k. comp_in (s.frame (first_of_stack k.stack))) (thread_on s s' d frame thread)
-
--- where other cores work stays
-pub calm_works : (setup : Setting) (t : Trace) (e : Step) → IsCalm (state_after setup t) (state_after setup (e ∷ t)) e.core → (d : ℕ) → d ≢ e.core → WorksOn setup t e d
-calm_works setup t e calm d other =
-    let core : (state_after setup (e ∷ t)).core d ≡ (state_after setup t).core d = calm.others d other in
-    let thread : ((state_after setup (e ∷ t)).core d).thread ≡ ((state_after setup t).core d).thread = ap (λ k. k.thread) core in
-    record {
-      core = core;
-      thread = thread_on (state_after setup t) (state_after setup (e ∷ t)) d calm.frame thread;
-      comp = comp_on (state_after setup t) (state_after setup (e ∷ t)) d calm.frame thread;
-    }
 
 -- where the own core works stays, but for what it has counted
 pub calm_own : (s s' : State) (c : ℕ) (core after : Core) → IsCalm s s' c → after ≡ record core { made = (s'.core c).counted; exit = after.exit; flight = after.flight }

@@ -29,7 +29,7 @@ use Rattle.flight.specs.Stands.{holds_at, holds_in, holds, Stands}
 use Rattle.flight.proofs.CoreFits.{absorbed_fewer}
 use Rattle.flight.proofs.WordFrames.{load_keeps, load_marks, load_words}
 use Rattle.flight.proofs.Good.{IsGood}
-use Rattle.flight.proofs.Calm.{IsCalm, calm_same, calm_counted, calm_own, calm_works, calm_words, counted_rises, IsPlain, plain_time, plain_exit, plain_flushed}
+use Rattle.flight.proofs.Calm.{IsCalm, calm_same, calm_counted, calm_own, calm_words, counted_rises, IsPlain, plain_time, plain_exit, plain_flushed}
 
 -- A step of core c.
 abbrev pub step_to : ℕ → Option Call → Word → ℕ → ℕ → Option Reply → Option Reply → Step
@@ -148,7 +148,6 @@ module _ (setup : Setting) (setting : IsSetting setup) (cores : ℕ → Core) (t
         none_removed = stands.none_removed;
         time = plain_time setup t e plain;
         leaves = tt;
-        works = calm_works setup t e (calm_same (state_after setup t) c);
         own = inner_own w found found None None refl plain (cores c).made stage fits (calm_same (state_after setup t) c) core_is.works.made at (knows (carries_own setup t e follows (plain_time setup t e plain) stands.graces refl refl refl));
       }
 
@@ -190,7 +189,6 @@ module _ (setup : Setting) (setting : IsSetting setup) (cores : ℕ → Core) (t
         none_removed = λ g i k h. stands.none_removed g i k (sym (ap (λ s. s.place g i) now) ∙ h);
         time = plain_time setup t e plain;
         leaves = tt;
-        works = calm_works setup t e calm;
         own = inner_own w found found (Some r) None refl plain ((cores c).made + calls_counted r) (Exit r) fits calm (counts now)
             (ap (after_decide (Some r)) opens) tt;
       }

@@ -35,7 +35,7 @@ use Rattle.flight.specs.Knows.{phase_at, Knows, FlightIs, CoreIs}
 use Rattle.flight.specs.Stands.{holds_at, holds_in, holds, times_of, Stands}
 use Rattle.flight.proofs.WordFrames.{write_marks, write_words}
 use Rattle.flight.proofs.Good.{IsGood}
-use Rattle.flight.proofs.Calm.{IsCalm, calm_returned, calm_own, calm_works, calm_words, counted_rises, IsPlain, plain_time, plain_exit, plain_flushed}
+use Rattle.flight.proofs.Calm.{IsCalm, calm_returned, calm_own, calm_words, counted_rises, IsPlain, plain_time, plain_exit, plain_flushed}
 use Rattle.flight.proofs.Loads.{step_to, core_at, core_is, flight_is, in_call, inner, inner_within, inner_own, still_holds}
 
 -- The clock fits a stamp: each stamp was drawn by a call that was counted.
@@ -103,7 +103,6 @@ module _ (setup : Setting) (setting : IsSetting setup) (cores : ℕ → Core) (t
           none_removed = removed;
           time = plain_time setup t e plain;
           leaves = tt;
-          works = calm_works setup t e calm;
           own = inner_own setup setting cores t stands c here f flight (EntryAt node index) found left (Some r) None refl plain made stage fits calm counts
               (ap (after_decide (Some r)) opens ∙ sym closes) knows;
         }
@@ -150,7 +149,6 @@ module _ (setup : Setting) (setting : IsSetting setup) (cores : ℕ → Core) (t
           none_removed = stands.none_removed;
           time = plain_time setup t e plain;
           leaves = record { at = x; knows = leave; stored = now.flushed; no_entry = refl; no_decision = refl };
-          works = calm_works setup t e calm;
           own = record {
             fits = fits;
             number = now.number;
@@ -212,7 +210,6 @@ module _ (setup : Setting) (setting : IsSetting setup) (cores : ℕ → Core) (t
         none_removed = λ g i k h. stands.none_removed g i k (sym (places g i) ∙ h);
         time = plain_time setup t e plain;
         leaves = tt;
-        works = calm_works setup t e calm;
         own = record {
           fits = fits;
           number = now.number;
