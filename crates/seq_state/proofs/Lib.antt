@@ -16,3 +16,9 @@ mod Refs
 mod RefsLaw
 mod Rows
 mod TwoCores
+mod Counting
+mod StackLemmas
+pub mod Same
+mod TableLemmas
+mod SetLemmas
+mod StartLemmas

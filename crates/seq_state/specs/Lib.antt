@@ -13,3 +13,8 @@ pub mod Alone
 pub mod Runs
 pub mod Fitting
 pub mod Laws
+pub mod Stacks
+pub mod Parts
+pub mod Tables
+pub mod Representation
+pub mod Kernel
