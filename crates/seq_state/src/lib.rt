@@ -14,6 +14,8 @@ mod parts;
 mod setters;
 mod stack;
 mod start;
+#[cfg(test)]
+mod tests;
 
 ghost use Rattle.seq_state.specs.Laws.{RefusalKeeps, WaitsWithin, PermitsAlone, TicksKept, RefsChange, CapabilitiesFit};
 

@@ -1,6 +1,6 @@
 //! The changes of the plain kernel's state: each sets one part and leaves all else. None takes memory.
 //!
-//! What a change sets past the machine's frames or liveness numbers is no part of the machine, and is not kept.
+//! What is set past the machine's frames or liveness numbers is no part of the machine.
 
 ghost use Rattle.std.specs.Prelude.{◌≡◌, ◌<◌};
 ghost use Rattle.seq_state.specs.State.{with_place, with_frame, with_number, with_core};
