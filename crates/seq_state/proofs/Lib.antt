@@ -19,6 +19,7 @@ mod TwoCores
 mod Counting
 mod StackLemmas
 pub mod Same
-mod TableLemmas
+mod MapLemmas
 mod SetLemmas
 mod StartLemmas
+mod PassLemmas

@@ -1,4 +1,4 @@
--- A change of the tables is that change of the state, for all that the machine has.
+-- A change of the maps is that change of the state, for all that the machine has.
 use Rattle.std.proofs.Common.{◌≡◌, ◌≢◌, inl, inr, ℕ, ◌+◌, ◌*◌, ◌<◌, ◌≤◌, ◌&&◌, ◌==◌, if◌then◌else◌, refl, sym, ◌∙◌, ap, arith, List, Some, IsSome}
 use Rattle.std.proofs.lemmas.Bool.{cases_lt, ne_eqb}
 use Rattle.seq_state.specs.State.{put, with_place, with_frame, with_number, Thing, PlaceOf, FrameOf, NumberOf}
@@ -8,9 +8,9 @@ use Rattle.seq_state.specs.declared.parts.Frame.{Frame}
 use Rattle.seq_state.specs.declared.parts.Liveness.{Liveness}
 use Rattle.seq_state.specs.declared.parts.Grace.{Grace as GraceSets}
 use Rattle.seq_state.specs.Parts.{place_of, frame_of, number_of, grace_of}
-use Rattle.seq_state.specs.Tables.{Tables, at, at_place, IsWhole, state_of, place_or_free, frame_or_untyped, number_or_unused, grace_or_none, grace_in}
+use Rattle.seq_state.specs.Maps.{Maps, at, at_place, IsWhole, state_of, place_or_free, frame_or_untyped, number_or_unused, grace_or_none, grace_in}
 use Rattle.seq_state.specs.Representation.{IsThing, with_grace_of, SameState}
-use Rattle.seq_state.proofs.TableLemmas.{IsWritten, at_place_is, places_written, frames_written, numbers_written, place_graces_written, frame_graces_written, number_graces_written}
+use Rattle.seq_state.proofs.MapLemmas.{IsWritten, at_place_is, places_written, frames_written, numbers_written, place_graces_written, frame_graces_written, number_graces_written}
 use Rattle.seq_state.proofs.Within.{put_other}
 use Rattle.seq_state.proofs.Same.{same_by, same_grace_by}
 
@@ -26,7 +26,7 @@ written old new k x stands s = record { here = s.here stands; others = s.others 
 at_apart : {X : Type 0} (new old : List (ℕ × X)) (g j : ℕ) → j < 64 → at new (64 * g + j) ≡ at old (64 * g + j) → at_place new g j ≡ at_place old g j
 at_apart new old g j small same = at_place_is new g j (64 * g + j) small refl ∙ same ∙ sym (at_place_is old g j (64 * g + j) small refl)
 
-pub places_set : (t : Tables) (es : List (ℕ × Place)) (f i k : ℕ) (p : Place) → IsWhole t → i < 64 → k ≡ 64 * f + i → IsSet t.places es k p
+pub places_set : (t : Maps) (es : List (ℕ × Place)) (f i k : ℕ) (p : Place) → IsWhole t → i < 64 → k ≡ 64 * f + i → IsSet t.places es k p
     → SameState (state_of (record t { places = es })) (with_place (state_of t) f i (place_of p))
 unfolding state_of
 places_set t es f i k p whole small is s = elim (cases_lt f t.limits.frames) [
@@ -45,7 +45,7 @@ places_set t es f i k p whole small is s = elim (cases_lt f t.limits.frames) [
   }
 ]
 
-pub frames_set : (t : Tables) (es : List (ℕ × Frame)) (f k : ℕ) (x : Frame) → IsWhole t → k ≡ f → IsSet t.frames es k x
+pub frames_set : (t : Maps) (es : List (ℕ × Frame)) (f k : ℕ) (x : Frame) → IsWhole t → k ≡ f → IsSet t.frames es k x
     → SameState (state_of (record t { frames = es })) (with_frame (state_of t) f (frame_of x))
 unfolding state_of
 frames_set t es f k x whole is s = elim (cases_lt f t.limits.frames) [
@@ -60,7 +60,7 @@ frames_set t es f k x whole is s = elim (cases_lt f t.limits.frames) [
   }
 ]
 
-pub numbers_set : (t : Tables) (es : List (ℕ × Liveness)) (l k : ℕ) (x : Liveness) → IsWhole t → k ≡ l → IsSet t.numbers es k x
+pub numbers_set : (t : Maps) (es : List (ℕ × Liveness)) (l k : ℕ) (x : Liveness) → IsWhole t → k ≡ l → IsSet t.numbers es k x
     → SameState (state_of (record t { numbers = es })) (with_number (state_of t) l (number_of x))
 unfolding state_of
 numbers_set t es l k x whole is s = elim (cases_lt l 64) [
@@ -75,7 +75,7 @@ numbers_set t es l k x whole is s = elim (cases_lt l 64) [
   }
 ]
 
-pub place_graces_set : (t : Tables) (es : List (ℕ × GraceSets)) (f i k : ℕ) (g : GraceSets) → IsWhole t → i < 64 → k ≡ 64 * f + i → IsSet t.place_graces es k g
+pub place_graces_set : (t : Maps) (es : List (ℕ × GraceSets)) (f i k : ℕ) (g : GraceSets) → IsWhole t → i < 64 → k ≡ 64 * f + i → IsSet t.place_graces es k g
     → SameState (state_of (record t { place_graces = es })) (with_grace_of (state_of t) (PlaceOf f i) (grace_of g))
 unfolding state_of
 place_graces_set t es f i k g whole small is s = elim (cases_lt f t.limits.frames) [
@@ -99,7 +99,7 @@ place_graces_set t es f i k g whole small is s = elim (cases_lt f t.limits.frame
     point past (FrameOf h) _ = refl
     point past (NumberOf l) _ = refl
 
-pub frame_graces_set : (t : Tables) (es : List (ℕ × GraceSets)) (f k : ℕ) (g : GraceSets) → IsWhole t → k ≡ f → IsSet t.frame_graces es k g
+pub frame_graces_set : (t : Maps) (es : List (ℕ × GraceSets)) (f k : ℕ) (g : GraceSets) → IsWhole t → k ≡ f → IsSet t.frame_graces es k g
     → SameState (state_of (record t { frame_graces = es })) (with_grace_of (state_of t) (FrameOf f) (grace_of g))
 unfolding state_of
 frame_graces_set t es f k g whole is s = elim (cases_lt f t.limits.frames) [
@@ -120,7 +120,7 @@ frame_graces_set t es f k g whole is s = elim (cases_lt f t.limits.frames) [
         ap grace_or_none (s.others h (λ e. omega arith)) ∙ sym (ap (λ b. if b then grace_of g else grace_in t (FrameOf h)) (ne_eqb h f (λ e. omega arith)))
     point past (NumberOf l) _ = refl
 
-pub number_graces_set : (t : Tables) (es : List (ℕ × GraceSets)) (l k : ℕ) (g : GraceSets) → IsWhole t → k ≡ l → IsSet t.number_graces es k g
+pub number_graces_set : (t : Maps) (es : List (ℕ × GraceSets)) (l k : ℕ) (g : GraceSets) → IsWhole t → k ≡ l → IsSet t.number_graces es k g
     → SameState (state_of (record t { number_graces = es })) (with_grace_of (state_of t) (NumberOf l) (grace_of g))
 unfolding state_of
 number_graces_set t es l k g whole is s = elim (cases_lt l 64) [

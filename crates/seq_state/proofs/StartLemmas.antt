@@ -5,7 +5,7 @@ use Rattle.spk_nums.specs.Setting.{Setting}
 use Rattle.seq_state.specs.State.{Thing, PlaceOf, FrameOf, NumberOf, Limits}
 use Rattle.seq_state.specs.Start.{start, start_place, start_frame, start_number, start_core, no_grace}
 use Rattle.seq_state.specs.Parts.{place_of, frame_of, number_of, core_of, grace_of}
-use Rattle.seq_state.specs.Tables.{Tables, at, at_place, HasAll, state_of, place_or_free, frame_or_untyped, number_or_unused, core_or_none, grace_or_none, grace_in}
+use Rattle.seq_state.specs.Maps.{Maps, at, at_place, HasAll, state_of, place_or_free, frame_or_untyped, number_or_unused, core_or_none, grace_or_none, grace_in}
 use Rattle.seq_state.specs.Representation.{IsThing, SameState}
 use Rattle.seq_state.proofs.Same.{same_grace_by}
 
@@ -28,7 +28,7 @@ place_is part es f i a small h =
     ap (λ b. part (if b then at es (64 * f + i) else None)) (lt-ltb i 64 small) ∙ part_is part (at es (64 * f + i)) a h
 
 -- No thing has a grace period.
-none_in : (t : Tables) (l : Limits) → HasAll (64 * l.frames) t.place_graces (λ k g. grace_of g ≡ no_grace)
+none_in : (t : Maps) (l : Limits) → HasAll (64 * l.frames) t.place_graces (λ k g. grace_of g ≡ no_grace)
     → HasAll l.frames t.frame_graces (λ k g. grace_of g ≡ no_grace) → HasAll 64 t.number_graces (λ k g. grace_of g ≡ no_grace)
     → (x : Thing) → IsThing l x → grace_in t x ≡ no_grace
 none_in t l places frames numbers (PlaceOf f i) h =
@@ -38,7 +38,7 @@ none_in t l places frames numbers (PlaceOf f i) h =
 none_in t l places frames numbers (FrameOf f) h = part_is grace_or_none (at t.frame_graces f) no_grace (frames f h)
 none_in t l places frames numbers (NumberOf n) h = part_is grace_or_none (at t.number_graces n) no_grace (numbers n h)
 
-pub starts : (t : Tables) (s : Setting) → t.limits ≡ (start s).limits
+pub starts : (t : Maps) (s : Setting) → t.limits ≡ (start s).limits
     → HasAll (64 * s.frames) t.places (λ k p. place_of p ≡ start_place s (k / 64) (k % 64))
     → HasAll s.frames t.frames (λ k x. frame_of x ≡ start_frame s k)
     → HasAll 64 t.numbers (λ k x. number_of x ≡ start_number k)

@@ -1,10 +1,10 @@
--- The kernel's fields as its tables.
+-- The kernel's fields as its maps.
 use Rattle.seq_state.specs.declared.kernel.SeqKernel.TheInside.{Inside}
-use Rattle.seq_state.specs.Tables.{Tables, IsWhole}
+use Rattle.seq_state.specs.Maps.{Maps, IsWhole}
 
--- the maps and the limits
-abbrev pub tables_of : Inside → Tables
-tables_of k = record {
+-- The maps and the limits.
+abbrev pub maps_of : Inside → Maps
+maps_of k = record {
   places = k.places.entries;
   frames = k.frames.entries;
   numbers = k.numbers.entries;
@@ -15,6 +15,6 @@ tables_of k = record {
   limits = record { cores = k.core_count; frames = k.frame_count; calls = k.calls; epochs = k.epochs };
 }
 
--- each key stands
+-- Each key stands.
 abbrev pub IsKernel : Inside → Type 0
-IsKernel k = IsWhole (tables_of k)
+IsKernel k = IsWhole (maps_of k)

@@ -15,6 +15,7 @@ pub mod Fitting
 pub mod Laws
 pub mod Stacks
 pub mod Parts
-pub mod Tables
+pub mod Maps
 pub mod Representation
 pub mod Kernel
+pub mod Passing

@@ -2,7 +2,7 @@
 use Rattle.std.specs.Prelude.{◌≡◌, ◌<◌, ℕ, if◌then◌else◌}
 use Rattle.seq_state.specs.State.{Grace, Thing, PlaceOf, FrameOf, NumberOf, Limits, State, with_grace}
 use Rattle.seq_state.specs.GracePeriods.{same_thing}
-use Rattle.seq_state.specs.Tables.{Tables, state_of}
+use Rattle.seq_state.specs.Maps.{Maps, state_of}
 
 -- A thing's index, if it is a place, is one in a node.
 abbrev pub HasIndex : Thing → Type 0
@@ -37,5 +37,5 @@ pub record SameState (s t : State) : Type 0 where
   pub grace : (x : Thing) → IsThing t.limits x → SameGrace t.limits.cores (s.grace x) (t.grace x)
 
 -- The kernel represents a state.
-abbrev pub Represents : Tables → State → Type 0
+abbrev pub Represents : Maps → State → Type 0
 Represents k s = SameState (state_of k) s

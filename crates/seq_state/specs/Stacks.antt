@@ -5,15 +5,15 @@ use Rattle.std.proofs.lemmas.List.{reverse-reverse}
 use Rattle.spk_nums.specs.Listed.{IsListed, padded, padded-listed, length-listed}
 use Rattle.seq_state.specs.declared.stack.Stack.TheInside.{Inside}
 
--- the frames that the cells hold, the newest first
+-- The frames that the cells hold, the newest first.
 abbrev pub stacked : Inside → List ℕ
 stacked a = reverse (take a.len a.cells)
 
--- the cells hold up to 16 frames, and are blank behind them
+-- The cells hold up to 16 frames, and are blank behind them.
 abbrev pub IsStack : Inside → Type 0
 IsStack a = IsListed 0 16 a.len a.cells
 
--- the cells that hold a list of frames
+-- The cells that hold a list of frames.
 abbrev pub stack_cells : List ℕ → Inside
 stack_cells xs = record { cells = padded 0 16 (reverse xs); len = length (reverse xs) }
 

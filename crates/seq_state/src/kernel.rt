@@ -4,7 +4,7 @@ ghost use Rattle.std.specs.Prelude.{◌≡◌, ◌<◌, ◌+◌, ◌*◌};
 ghost use Rattle.seq_state.specs.State.{FrameOf};
 ghost use Rattle.seq_state.specs.Parts.{place_of, frame_of, number_of, core_of, grace_of, thing_of};
 ghost use Rattle.spk_nums.specs.CoreSets.{has_core};
-ghost use Rattle.seq_state.specs.Tables.{state_of, LimitsFit};
+ghost use Rattle.seq_state.specs.Maps.{state_of, LimitsFit};
 ghost use Rattle.seq_state.specs.Representation.{HasIndex};
 
 use crate::maps::{held, standing};
@@ -34,13 +34,13 @@ pub struct SeqKernel {
 }
 
 impl Model for SeqKernel {
-    ghost use Rattle.seq_state.specs.Tables.{Tables};
+    ghost use Rattle.seq_state.specs.Maps.{Maps};
 
-    ghost Value = { Tables };
+    ghost Value = { Maps };
 
-    ghost use Rattle.seq_state.specs.Kernel.{tables_of, IsKernel};
+    ghost use Rattle.seq_state.specs.Kernel.{maps_of, IsKernel};
 
-    ghost view = { tables_of };
+    ghost view = { maps_of };
 
     ghost invariant = { IsKernel };
 }

@@ -11,6 +11,7 @@ mod counts;
 mod kernel;
 mod maps;
 mod parts;
+mod passing;
 mod setters;
 mod stack;
 mod start;

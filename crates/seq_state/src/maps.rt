@@ -1,7 +1,7 @@
 //! Maps whose keys stand from the start: read and changed without memory.
 
 ghost use Rattle.std.specs.Prelude.{◌≡◌, ◌≢◌, ℕ, Some, IsSome, OnOk};
-ghost use Rattle.seq_state.specs.Tables.{at};
+ghost use Rattle.seq_state.specs.Maps.{at};
 
 use spk_nums::Memory;
 use std::collections::BTreeMap;

@@ -5,7 +5,7 @@
 ghost use Rattle.std.specs.Prelude.{◌≡◌, ◌<◌};
 ghost use Rattle.seq_state.specs.State.{with_place, with_frame, with_number, with_core};
 ghost use Rattle.seq_state.specs.Parts.{place_of, frame_of, number_of, core_of, grace_of, thing_of};
-ghost use Rattle.seq_state.specs.Tables.{state_of};
+ghost use Rattle.seq_state.specs.Maps.{state_of};
 ghost use Rattle.seq_state.specs.Representation.{HasIndex, IsThing, with_grace_of, Represents};
 
 use crate::kernel::{SeqKernel, place_key};

@@ -4,7 +4,7 @@ ghost use Rattle.std.specs.Prelude.{◌≡◌, ◌<◌, ◌≤◌, ◌+◌, ◌-
 ghost use Rattle.spk_nums.specs.Limits.{least_arg, end_of_arg};
 ghost use Rattle.seq_state.specs.Start.{plain_cap, start_range, core_cap, start_cap, start_place, granted, start_frame, start_number, start_core, no_grace, start};
 ghost use Rattle.seq_state.specs.Parts.{place_of, tcap_fields_of, frame_of, number_of, core_of, grace_of};
-ghost use Rattle.seq_state.specs.Tables.{HasAll};
+ghost use Rattle.seq_state.specs.Maps.{HasAll};
 ghost use Rattle.seq_state.specs.Representation.{Represents};
 
 use crate::kernel::SeqKernel;

@@ -140,6 +140,36 @@ fn sets_each_part(rt: HostRuntime) -> Result<(), Fail> {
 }
 
 #[test]
+fn enters_returns_and_flushes(rt: HostRuntime) -> Result<(), Fail> {
+    let setup = machine(2, 16).ok_or("a setup")?;
+    let mut kernel = SeqKernel::start(rt.alloc(), &setup)?;
+    assert_eq!(rt; kernel.cores(), 2);
+    let one = CoreSet::empty().with(CoreNo::new(1));
+    let both = one.with(CoreNo::new(0));
+    let thing = Thing::FrameOf(FrameNo::new(15));
+    kernel.enter(CoreNo::new(1));
+    assert!(rt; kernel.core(CoreNo::new(1)).inside);
+    let begun = Grace {
+        waits: one,
+        not_passed: both,
+        unflushed: both,
+        flush_unknown: both,
+    };
+    kernel.set_grace(thing, begun);
+    kernel.flush(CoreNo::new(1));
+    kernel.leave(CoreNo::new(1));
+    assert!(rt; !kernel.core(CoreNo::new(1)).inside);
+    let left = Grace {
+        waits: CoreSet::empty(),
+        not_passed: both,
+        unflushed: both.without(CoreNo::new(1)),
+        flush_unknown: both.without(CoreNo::new(1)),
+    };
+    assert_eq!(rt; kernel.grace(thing), left);
+    Ok(())
+}
+
+#[test]
 fn stacks(rt: HostRuntime) {
     let mut stack = Stack::one(FrameNo::new(3));
     stack.push(FrameNo::new(9));

@@ -1,4 +1,4 @@
-use Rattle.seq_state.specs.Tables.{state_of}
+use Rattle.seq_state.specs.Maps.{state_of}
 use Rattle.seq_state.proofs.kernel.SeqKernel.frames.Goals as goal
 
 pub returns-clause-value : goal.returns-clause-value

@@ -1,6 +1,6 @@
 use Rattle.std.proofs.Common.{◌≡◌, ◌≤◌, ◌*◌}
 use Rattle.seq_state.specs.References.{frame_names, sum_below, times}
-use Rattle.seq_state.specs.Tables.{state_of}
+use Rattle.seq_state.specs.Maps.{state_of}
 use Rattle.seq_state.proofs.kernel.SeqKernel.refs_of_frames.Given as goal
 
 abbrev pub invariant-each : goal.invariant-each

@@ -13,7 +13,7 @@ use Rattle.seq_state.specs.declared.parts.Grace.{Grace}
 use Rattle.seq_state.specs.Parts.{place_of, frame_of, number_of, core_of, grace_of}
 
 -- The maps, each by its entries in the order of their keys, and the limits. The key of place i of node f is 64 f + i.
-pub record Tables : Type 0 where
+pub record Maps : Type 0 where
   pub places : List (ℕ × Place)
   pub frames : List (ℕ × Frame)
   pub numbers : List (ℕ × Liveness)
@@ -46,7 +46,7 @@ pub record LimitsFit (l : state.Limits) : Type 0 where
   pub most_epochs : l.epochs < 2 ^ 16
 
 -- Each place, frame, liveness number, core and thing of the machine has its key.
-pub record IsWhole (t : Tables) : Type 0 where
+pub record IsWhole (t : Maps) : Type 0 where
   pub fits : LimitsFit t.limits
   pub places : HasKeys (64 * t.limits.frames) t.places
   pub frames : HasKeys t.limits.frames t.frames
@@ -90,13 +90,13 @@ abbrev pub at_place : {X : Type 0} → List (ℕ × X) → ℕ → ℕ → Optio
 at_place es f i = if nat_lt i 64 then at es (64 * f + i) else None
 
 -- The grace period of a thing.
-abbrev pub grace_in : Tables → state.Thing → state.Grace
+abbrev pub grace_in : Maps → state.Thing → state.Grace
 grace_in t (state.PlaceOf f i) = grace_or_none (at_place t.place_graces f i)
 grace_in t (state.FrameOf f) = grace_or_none (at t.frame_graces f)
 grace_in t (state.NumberOf l) = grace_or_none (at t.number_graces l)
 
 -- The state that the maps stand for. Past the machine's frames and cores it has nothing.
-unfoldable pub state_of : Tables → state.State
+unfoldable pub state_of : Maps → state.State
 state_of t = record {
   place = λ f i. place_or_free (at_place t.places f i);
   frame = λ f. frame_or_untyped (at t.frames f);

@@ -1,4 +1,4 @@
--- Reading and changing the tables is reading and changing the state that they stand for.
+-- Reading and changing the maps is reading and changing the state that they stand for.
 use Rattle.std.proofs.Common.{◌≡◌, ◌≢◌, inl, inr, ℕ, ◌+◌, ◌*◌, ◌<◌, true, false, ◌&&◌, ◌==◌, nat_lt, if◌then◌else◌, refl, sym, ◌∙◌, ap, arith, List, Option, Some, None, unwrap_or}
 use Rattle.std.proofs.lemmas.Bool.{cases_eq, cases_lt, lt-ltb, le-ltb, eq-eqb, ne_eqb}
 use Rattle.seq_state.specs.State as state
@@ -12,7 +12,7 @@ use Rattle.seq_state.specs.declared.parts.Core.{Core}
 use Rattle.seq_state.specs.declared.parts.Grace.{Grace}
 use Rattle.seq_state.proofs.Within.{put_same, put_other}
 use Rattle.seq_state.specs.Parts.{place_of, frame_of, number_of, core_of, grace_of}
-use Rattle.seq_state.specs.Tables.{Tables, at, at_place, state_of, place_or_free, frame_or_untyped, number_or_unused, core_or_none, grace_or_none, grace_in}
+use Rattle.seq_state.specs.Maps.{Maps, at, at_place, state_of, place_or_free, frame_or_untyped, number_or_unused, core_or_none, grace_or_none, grace_in}
 use Rattle.seq_state.specs.Representation.{with_grace_of}
 
 -- A map is another with a value at one key.
@@ -20,10 +20,10 @@ pub record IsWritten {X : Type 0} (old new : List (ℕ × X)) (k : ℕ) (x : X) 
   pub here : at new k ≡ Some x
   pub others : (q : ℕ) → q ≢ k → at new q ≡ at old q
 
--- The limits of the state are the tables'.
-pub limits_of : (t u : Tables) → u ≡ t → (state_of t).limits ≡ u.limits
+-- The limits of the state are the kernel's.
+pub limits_of : (t u : Maps) → u ≡ t → (state_of t).limits ≡ u.limits
 unfolding state_of
-limits_of t u same = ap (λ (v : Tables). v.limits) (sym same)
+limits_of t u same = ap (λ (v : Maps). v.limits) (sym same)
 
 -- A part that a map gives, with a value where there is none.
 or_default : {X A : Type 0} (part : Option X → A) (d : X) → part (Some d) ≡ part None → (o : Option X) → part (Some (unwrap_or o d)) ≡ part o
@@ -51,12 +51,12 @@ place_apart old new f i k x small is w g j apart = elim (cases_lt j 64) [
       ap (λ b. if b then at new (64 * g + j) else None) t ∙ sym (ap (λ b. if b then at old (64 * g + j) else None) t)
 ]
 
-pub place_reads : (t : Tables) (f i k : ℕ) (d : Place) → i < 64 → k ≡ 64 * f + i → place_of d ≡ state.Free
+pub place_reads : (t : Maps) (f i k : ℕ) (d : Place) → i < 64 → k ≡ 64 * f + i → place_of d ≡ state.Free
     → place_of (unwrap_or (at t.places k) d) ≡ (state_of t).place f i
 unfolding state_of
 place_reads t f i k d small is free = or_default place_or_free d free (at t.places k) ∙ sym (ap place_or_free (at_place_is t.places f i k small is))
 
-pub places_written : (t : Tables) (es : List (ℕ × Place)) (f i k : ℕ) (p : Place) → i < 64 → k ≡ 64 * f + i → IsWritten t.places es k p
+pub places_written : (t : Maps) (es : List (ℕ × Place)) (f i k : ℕ) (p : Place) → i < 64 → k ≡ 64 * f + i → IsWritten t.places es k p
     → state_of (record t { places = es }) ≡ with_place (state_of t) f i (place_of p)
 unfolding state_of
 places_written t es f i k p small is w = λ j. record {
@@ -89,7 +89,7 @@ places_written t es f i k p small is w = λ j. record {
 
 -- ---- frames, liveness numbers and cores
 
-pub frame_reads : (t : Tables) (f k : ℕ) (o : Option Frame) → k ≡ f → o ≡ at t.frames k → frame_or_untyped o ≡ (state_of t).frame f
+pub frame_reads : (t : Maps) (f k : ℕ) (o : Option Frame) → k ≡ f → o ≡ at t.frames k → frame_or_untyped o ≡ (state_of t).frame f
 unfolding state_of
 frame_reads t f k o is found = ap frame_or_untyped found ∙ ap (λ q. frame_or_untyped (at t.frames q)) is
 
@@ -101,7 +101,7 @@ put_written part old new f k x is w q = elim (cases_eq q f) [
   | inr ne ↦ ap part (w.others q (λ e. ne (e ∙ is))) ∙ sym (put_other (λ g. part (at old g)) f (part (Some x)) q ne)
 ]
 
-pub frames_written : (t : Tables) (es : List (ℕ × Frame)) (f k : ℕ) (x : Frame) → k ≡ f → IsWritten t.frames es k x
+pub frames_written : (t : Maps) (es : List (ℕ × Frame)) (f k : ℕ) (x : Frame) → k ≡ f → IsWritten t.frames es k x
     → state_of (record t { frames = es }) ≡ with_frame (state_of t) f (frame_of x)
 unfolding state_of
 frames_written t es f k x is w = λ j. record {
@@ -113,11 +113,11 @@ frames_written t es f k x is w = λ j. record {
   limits = t.limits;
 }
 
-pub number_reads : (t : Tables) (l k : ℕ) (d : Liveness) → k ≡ l → number_of d ≡ state.Unused → number_of (unwrap_or (at t.numbers k) d) ≡ (state_of t).number l
+pub number_reads : (t : Maps) (l k : ℕ) (d : Liveness) → k ≡ l → number_of d ≡ state.Unused → number_of (unwrap_or (at t.numbers k) d) ≡ (state_of t).number l
 unfolding state_of
 number_reads t l k d is unused = or_default number_or_unused d unused (at t.numbers k) ∙ ap (λ q. number_or_unused (at t.numbers q)) is
 
-pub numbers_written : (t : Tables) (es : List (ℕ × Liveness)) (l k : ℕ) (x : Liveness) → k ≡ l → IsWritten t.numbers es k x
+pub numbers_written : (t : Maps) (es : List (ℕ × Liveness)) (l k : ℕ) (x : Liveness) → k ≡ l → IsWritten t.numbers es k x
     → state_of (record t { numbers = es }) ≡ with_number (state_of t) l (number_of x)
 unfolding state_of
 numbers_written t es l k x is w = λ j. record {
@@ -129,11 +129,11 @@ numbers_written t es l k x is w = λ j. record {
   limits = t.limits;
 }
 
-pub core_reads : (t : Tables) (c k : ℕ) (x : Core) → k ≡ c → at t.cores k ≡ Some x → core_of x ≡ (state_of t).core c
+pub core_reads : (t : Maps) (c k : ℕ) (x : Core) → k ≡ c → at t.cores k ≡ Some x → core_of x ≡ (state_of t).core c
 unfolding state_of
 core_reads t c k x is has = sym (ap core_or_none (ap (at t.cores) (sym is) ∙ has))
 
-pub cores_written : (t : Tables) (es : List (ℕ × Core)) (c k : ℕ) (x : Core) → k ≡ c → IsWritten t.cores es k x
+pub cores_written : (t : Maps) (es : List (ℕ × Core)) (c k : ℕ) (x : Core) → k ≡ c → IsWritten t.cores es k x
     → state_of (record t { cores = es }) ≡ with_core (state_of t) c (core_of x)
 unfolding state_of
 cores_written t es c k x is w = λ j. record {
@@ -147,23 +147,23 @@ cores_written t es c k x is w = λ j. record {
 
 -- ---- grace periods
 
-pub place_grace_reads : (t : Tables) (f i k : ℕ) (d : Grace) → i < 64 → k ≡ 64 * f + i → grace_of d ≡ no_grace
+pub place_grace_reads : (t : Maps) (f i k : ℕ) (d : Grace) → i < 64 → k ≡ 64 * f + i → grace_of d ≡ no_grace
     → grace_of (unwrap_or (at t.place_graces k) d) ≡ (state_of t).grace (state.PlaceOf f i)
 unfolding state_of
 place_grace_reads t f i k d small is none =
     or_default grace_or_none d none (at t.place_graces k) ∙ sym (ap grace_or_none (at_place_is t.place_graces f i k small is))
 
-pub frame_grace_reads : (t : Tables) (f k : ℕ) (d : Grace) → k ≡ f → grace_of d ≡ no_grace
+pub frame_grace_reads : (t : Maps) (f k : ℕ) (d : Grace) → k ≡ f → grace_of d ≡ no_grace
     → grace_of (unwrap_or (at t.frame_graces k) d) ≡ (state_of t).grace (state.FrameOf f)
 unfolding state_of
 frame_grace_reads t f k d is none = or_default grace_or_none d none (at t.frame_graces k) ∙ ap (λ q. grace_or_none (at t.frame_graces q)) is
 
-pub number_grace_reads : (t : Tables) (f k : ℕ) (d : Grace) → k ≡ f → grace_of d ≡ no_grace
+pub number_grace_reads : (t : Maps) (f k : ℕ) (d : Grace) → k ≡ f → grace_of d ≡ no_grace
     → grace_of (unwrap_or (at t.number_graces k) d) ≡ (state_of t).grace (state.NumberOf f)
 unfolding state_of
 number_grace_reads t f k d is none = or_default grace_or_none d none (at t.number_graces k) ∙ ap (λ q. grace_or_none (at t.number_graces q)) is
 
-pub place_graces_written : (t : Tables) (es : List (ℕ × Grace)) (f i k : ℕ) (g : Grace) → i < 64 → k ≡ 64 * f + i → IsWritten t.place_graces es k g
+pub place_graces_written : (t : Maps) (es : List (ℕ × Grace)) (f i k : ℕ) (g : Grace) → i < 64 → k ≡ 64 * f + i → IsWritten t.place_graces es k g
     → state_of (record t { place_graces = es }) ≡ with_grace_of (state_of t) (state.PlaceOf f i) (grace_of g)
 unfolding state_of
 place_graces_written t es f i k g small is w = λ j. record {
@@ -194,7 +194,7 @@ place_graces_written t es f i k g small is w = λ j. record {
     point (state.FrameOf h) = refl
     point (state.NumberOf l) = refl
 
-pub frame_graces_written : (t : Tables) (es : List (ℕ × Grace)) (f k : ℕ) (g : Grace) → k ≡ f → IsWritten t.frame_graces es k g
+pub frame_graces_written : (t : Maps) (es : List (ℕ × Grace)) (f k : ℕ) (g : Grace) → k ≡ f → IsWritten t.frame_graces es k g
     → state_of (record t { frame_graces = es }) ≡ with_grace_of (state_of t) (state.FrameOf f) (grace_of g)
 unfolding state_of
 frame_graces_written t es f k g is w = λ j. record {
@@ -211,7 +211,7 @@ frame_graces_written t es f k g is w = λ j. record {
     point (state.FrameOf h) = put_written grace_or_none t.frame_graces es f k g is w h
     point (state.NumberOf l) = refl
 
-pub number_graces_written : (t : Tables) (es : List (ℕ × Grace)) (l k : ℕ) (g : Grace) → k ≡ l → IsWritten t.number_graces es k g
+pub number_graces_written : (t : Maps) (es : List (ℕ × Grace)) (l k : ℕ) (g : Grace) → k ≡ l → IsWritten t.number_graces es k g
     → state_of (record t { number_graces = es }) ≡ with_grace_of (state_of t) (state.NumberOf l) (grace_of g)
 unfolding state_of
 number_graces_written t es l k g is w = λ j. record {
