@@ -1,5 +1,5 @@
 -- A change of all grace periods is that change of the state, for all that the machine has.
-use Rattle.std.proofs.Common.{◌≡◌, ℕ, ◌+◌, ◌*◌, ◌<◌, ◌≤◌, refl, sym, subst, arith, List, Option, Some, None, IsSome}
+use Rattle.std.proofs.Common.{ℕ, ◌+◌, ◌*◌, ◌<◌, ◌≤◌, refl, sym, subst, arith, List, Option, Some, None, IsSome}
 use Rattle.std.proofs.lemmas.Bool.{false≢true}
 use Rattle.seq_state.specs.declared.parts.Grace.{Grace as GraceSets}
 use Rattle.seq_state.specs.State.{Grace, Thing, PlaceOf, FrameOf, NumberOf, with_grace}

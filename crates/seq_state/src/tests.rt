@@ -146,7 +146,7 @@ fn enters_returns_and_flushes(rt: HostRuntime) -> Result<(), Fail> {
     assert_eq!(rt; kernel.cores(), 2);
     let one = CoreSet::empty().with(CoreNo::new(1));
     let both = one.with(CoreNo::new(0));
-    let thing = Thing::FrameOf(FrameNo::new(15));
+    let last = FrameNo::new(15);
     kernel.enter(CoreNo::new(1));
     assert!(rt; kernel.core(CoreNo::new(1)).inside);
     let begun = Grace {
@@ -155,7 +155,7 @@ fn enters_returns_and_flushes(rt: HostRuntime) -> Result<(), Fail> {
         unflushed: both,
         flush_unknown: both,
     };
-    kernel.set_grace(thing, begun);
+    kernel.set_grace(Thing::FrameOf(last), begun);
     kernel.flush(CoreNo::new(1));
     kernel.leave(CoreNo::new(1));
     assert!(rt; !kernel.core(CoreNo::new(1)).inside);
@@ -165,7 +165,7 @@ fn enters_returns_and_flushes(rt: HostRuntime) -> Result<(), Fail> {
         unflushed: both.without(CoreNo::new(1)),
         flush_unknown: both.without(CoreNo::new(1)),
     };
-    assert_eq!(rt; kernel.grace(thing), left);
+    assert_eq!(rt; kernel.grace(Thing::FrameOf(last)), left);
     Ok(())
 }
 

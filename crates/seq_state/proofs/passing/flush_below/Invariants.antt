@@ -1,5 +1,4 @@
 use Rattle.std.proofs.Common.{◌≡◌, ◌<◌, ◌≤◌, ℕ}
-use Rattle.seq_state.specs.GracePeriods.{passed}
 use Rattle.seq_state.specs.Maps.{at}
 use Rattle.seq_state.specs.Passing.{Becomes, without_flush}
 use Rattle.seq_state.proofs.passing.flush_below.Given as goal

@@ -1,7 +1,7 @@
 use Rattle.std.proofs.Common.{◌≡◌, ◌<◌, ◌≤◌, ℕ}
 use Rattle.seq_state.specs.GracePeriods.{passed}
 use Rattle.seq_state.specs.Maps.{at}
-use Rattle.seq_state.specs.Passing.{Becomes, without_flush}
+use Rattle.seq_state.specs.Passing.{Becomes}
 use Rattle.seq_state.proofs.passing.pass_below.Given as goal
 
 abbrev pub invariant-each : goal.invariant-each
