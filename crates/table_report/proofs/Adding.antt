@@ -1,5 +1,6 @@
 -- Lists of named frames, one piece more at a time.
-use Rattle.std.proofs.Common.{◌≡◌, ℕ, ◌+◌, ◌++◌, Bool, true, false, Option, Some, None, List, [], ◌∷◌, refl, sym, ◌∙◌, ap, subst, arith}
+use Rattle.std.proofs.Common.{◌≡◌, ℕ, ◌+◌, ◌++◌, Bool, true, false, Option, Some, None, List, [], refl, sym, ◌∙◌, ap, subst, arith, length}
+use Rattle.spk_nums.specs.declared.translations.CoreEnd.{CoreEnd}
 use Rattle.spk_nums.specs.declared.kinds.FrameKind.{FrameKind}
 use Rattle.spk_nums.specs.declared.kinds.FrameKind.TheVariants as frame_kind
 use Rattle.spk_nums.specs.declared.kinds.Obj.{Obj}
@@ -12,11 +13,11 @@ use Rattle.word_map.specs.Places.{Shape}
 use Rattle.seq_state.specs.State.{Kernel}
 use Rattle.kernel_history.specs.ObjectWords.{is_node}
 use Rattle.kernel_history.specs.FinalWords.{word_in}
-use Rattle.seq_state.specs.References.{sum_below, times, place_names}
+use Rattle.seq_state.specs.References.{sum_below, times, place_names, frame_names, core_names, number_names, node_refs, refs}
 use Rattle.kernel_history.proofs.Sums.{sum_none, sum_more, sum_zero, times_append}
 use Rattle.tcap_words.specs.Stack.{stack_of_word}
 use Rattle.table_report.specs.Counting.{Adds}
-use Rattle.table_report.specs.Shown.{stacked, stack_shown, place_shown, place_in, words_of, frame_at, place_at, object_shown, kind_shown, frame_shown}
+use Rattle.table_report.specs.Shown.{stacked, stack_shown, place_shown, place_in, words_of, frame_at, place_at, number_at, core_at, shown, object_shown, kind_shown, frame_shown}
 use Rattle.table_report.proofs.Lines.{stack_none, stack_more}
 
 -- A piece is appended.
@@ -98,3 +99,22 @@ kernel_at shape words g w v word is kind =
 -- Two lists one after the other.
 pub adds_both : (a b c : List ℕ) (h k : ℕ → ℕ) → Adds a b h → Adds b c k → Adds a c (λ f. h f + k f)
 adds_both a b c h k p q = record { counts = λ f. let x = p.counts f in let y = q.counts f in omega arith }
+
+-- The names of places, objects, cores and liveness numbers are the references.
+pub all_adds : (shape : Shape) (words : List ℕ) (ends : List CoreEnd) (a b c d e : List ℕ) → length ends ≡ shape.cores
+    → Adds a b (λ f. sum_below (λ g. sum_below (λ i. times f (place_names (place_at shape words g i))) 64) shape.frames)
+    → Adds b c (λ f. sum_below (λ g. times f (frame_names (frame_at shape words g))) shape.frames)
+    → Adds c d (λ f. sum_below (λ k. times f (core_names (core_at ends k))) (length ends))
+    → Adds d e (λ f. sum_below (λ l. times f (number_names (number_at shape words l))) 64)
+    → Adds a e (refs (shown shape words ends))
+unfolding refs node_refs
+all_adds shape words ends a b c d e cores p q r t = record {
+  counts = λ f.
+      let x = p.counts f in
+      let y = q.counts f in
+      let z = r.counts f in
+      let w = t.counts f in
+      let same : sum_below (λ k. times f (core_names (core_at ends k))) (length ends) ≡ sum_below (λ k. times f (core_names (core_at ends k))) shape.cores =
+      ap (sum_below (λ k. times f (core_names (core_at ends k)))) cores in
+      omega (arith, x, y, z, w, same);
+}

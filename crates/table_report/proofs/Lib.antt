@@ -1,3 +1,6 @@
 pub mod Lines
 pub mod Adding
 pub mod Putting
+pub mod Tallies
+pub mod ShownObjects
+pub mod Determined

@@ -1,5 +1,5 @@
 -- Lines, stacks and lists, one more at a time.
-use Rattle.std.proofs.Common.{◌≡◌, ℕ, zero, suc, ◌+◌, ◌*◌, ◌<◌, ◌≤◌, ◌++◌, List, [], ◌∷◌, Option, Some, None, refl, sym, ap, ◌∙◌, arith, append_assoc, append-nil, reverse, length, get_or}
+use Rattle.std.proofs.Common.{◌≡◌, ℕ, zero, suc, ◌+◌, ◌<◌, ◌++◌, List, [], Option, Some, None, refl, sym, ap, ◌∙◌, arith, append_assoc, append-nil, reverse, length, get_or}
 use Rattle.std.specs.Prelude.{option_to_list, unwrap_or}
 use Rattle.std.proofs.lemmas.Option.{slice_get-get_or}
 use Rattle.spk_nums.specs.declared.translations.CoreEnd.{CoreEnd}
@@ -7,7 +7,6 @@ use Rattle.kernel_history.specs.FinalWords.{end_in, no_end}
 use Rattle.std.specs.List.{flat_map}
 use Rattle.std.proofs.lemmas.List.{reverse-append}
 use Rattle.std.proofs.lemmas.Grind.{flat_map-append}
-use Rattle.seq_state.specs.References.{sum_below}
 use Rattle.tcap_words.specs.Stack.{stack_of_word}
 use Rattle.tcap_words.specs.Quality.{quality_of_word}
 use Rattle.tcap_words.specs.declared.stack_word.StackWord.{StackWord}

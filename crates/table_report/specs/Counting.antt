@@ -1,7 +1,5 @@
 -- Counting references by a list of the frames that are named.
-use Rattle.std.specs.Prelude.{◌≡◌, ◌<◌, ◌≤◌, ◌+◌, ℕ, List, length, slice_index}
-use Rattle.spk_nums.specs.declared.translations.CoreEnd.{CoreEnd}
-use Rattle.word_map.specs.Places.{Shape, size_of}
+use Rattle.std.specs.Prelude.{◌≡◌, ◌<◌, ◌+◌, ℕ, List, slice_index}
 use Rattle.seq_state.specs.References.{times}
 
 -- The new list names each frame so much more often than the old one.

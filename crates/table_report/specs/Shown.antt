@@ -1,5 +1,5 @@
 -- The state that words and ends show, whatever they are: a word that unpacks to nothing, or to a core's mark, shows nothing.
-use Rattle.std.specs.Prelude.{ℕ, zero, suc, ◌+◌, Bool, true, false, List, [], ◌∷◌, ◌++◌, Option, Some, None, option_to_list}
+use Rattle.std.specs.Prelude.{ℕ, zero, suc, ◌+◌, Bool, true, false, List, [], ◌++◌, Option, Some, None, option_to_list}
 use Rattle.spk_nums.specs.declared.kinds.FrameKind.{FrameKind}
 use Rattle.spk_nums.specs.declared.kinds.FrameKind.TheVariants as frame_kind
 use Rattle.spk_nums.specs.declared.kinds.Obj.{Obj}
@@ -21,7 +21,7 @@ use Rattle.tcap_words.specs.Stack.{stack_of_word}
 use Rattle.tcap_words.specs.declared.head_word.HeadWord.{HeadWord}
 use Rattle.tcap_words.specs.declared.quality_word.QualityWord.{QualityWord}
 use Rattle.tcap_words.specs.declared.stack_word.StackWord.{StackWord}
-use Rattle.word_map.specs.Word.{Word, EntryAt, FrameAt, LiveAt}
+use Rattle.word_map.specs.Word.{EntryAt, FrameAt, LiveAt}
 use Rattle.word_map.specs.Places.{Shape}
 use Rattle.seq_state.specs.State.{Place, Free, Holds, CompFields, Object, Blank, Table, Leaf, Pages, Pleaf, Comp, Thread, Tcap, Frame, Untyped, User, Kernel, Liveness, Unused, Live, Dead, Core, State}
 use Rattle.seq_state.specs.Start.{no_grace}

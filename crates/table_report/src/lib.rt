@@ -8,14 +8,13 @@ mod counting;
 mod frames;
 mod names;
 mod objects;
-
 mod rest;
 mod sorting;
 mod whole;
 mod words;
 
-pub use whole::report;
 pub use spk_nums;
+pub use whole::report;
 pub use word_map;
 
 #[cfg(test)]

@@ -278,7 +278,8 @@ pub fn push_all(
     push_nodes(names, layout, words)?;
     push_frames(names, layout, words)?;
     push_cores(names, ends)?;
-    push_numbers(names, layout, words)
+    push_numbers(names, layout, words)?;
+    Ok(())
 }
 
 ghost use Rattle.seq_state.specs.References.{refs};

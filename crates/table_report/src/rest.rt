@@ -87,12 +87,7 @@ fn push_times(text: &mut String, end: &CoreEnd) -> Result<(), AllocError>
     write!(text, " comp {comp} spent {spent} owed {owed}\n")
 }
 
-fn push_core(
-    alloc: Global,
-    text: &mut String,
-    core: usize,
-    end: &CoreEnd,
-) -> Result<(), AllocError>
+fn push_core(alloc: Global, text: &mut String, core: usize, end: &CoreEnd) -> Result<(), AllocError>
     ensures { OnOk result (string_bytes text.new ≡ string_bytes text.old ++ core_lines core (core_shown end.now) end.now.comp) }
 {
     let sorted = ascending(alloc, &end.cached)?;

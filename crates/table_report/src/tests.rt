@@ -117,5 +117,7 @@ fn prints_the_largest_machine(rt: HostRuntime) {
     assert!(rt; text.contains("\nframe 3 comp refs 10\n"));
     assert!(rt; text.contains("\nframe 11 thread refs 2\n  stack 3\nframe 12 tcap refs 2\n"));
     assert!(rt; text.contains("  cached 2 7 20 1\n  cached 9 0 20 1\n  cached 9 1 20 1\ncore 1 "));
-    assert!(rt; text.contains("core 7 thread 11 tcap 19 comp 3 spent 0 owed 0\ntotal 4000000000\n"));
+    assert!(rt;
+        text.contains("core 7 thread 11 tcap 19 comp 3 spent 0 owed 0\ntotal 4000000000\n")
+    );
 }

@@ -47,7 +47,9 @@ fn tables(
 pub fn report(alloc: Global, closed: &Closed) -> Result<String, Memory>
     requires words { length closed.now.words.items ≡ size_of closed.now.layout }
     requires ends { length closed.now.ends.items ≡ closed.now.layout.cores }
-    // What is printed are the tables of every state that the words and the ends represent.
+    // What is printed is what the words and the ends show, whatever they are.
+    ensures shown { IfOk result (λ text. string_bytes text ≡ tables_shown closed.now.layout closed.now.words.items closed.now.ends.items) }
+    // It is the tables of every state that they represent.
     ensures tables { IfOk result (λ text. (s : State) → s.limits.cores ≡ closed.now.layout.cores → s.limits.frames ≡ closed.now.layout.frames → Represent (word_in closed.now.layout closed.now.words.items) (end_in closed.now.ends.items) s → string_bytes text ≡ tables_of s) }
 {
     let text = tables(alloc, &closed.layout, &closed.words, &closed.ends)?;

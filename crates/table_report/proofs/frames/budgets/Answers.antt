@@ -1,4 +1,4 @@
-use Rattle.std.proofs.Common.{refl, sym, ap, ◌∙◌, subst, arith, ◌+◌, ◌++◌, ◌≡◌, ℕ}
+use Rattle.std.proofs.Common.{sym, arith, ◌≡◌}
 use Rattle.seq_state.specs.State.{tcap_in}
 use Rattle.kernel_history.proofs.Sums.{sum_none, sum_more}
 use Rattle.table_report.specs.Shown.{frame_at}

@@ -1,4 +1,4 @@
-use Rattle.std.proofs.Common.{refl, sym, ap, ◌∙◌, subst, arith, ◌+◌, ◌++◌, ◌≡◌, ℕ}
+use Rattle.std.proofs.Common.{sym, subst, arith, ◌++◌, ◌≡◌}
 use Rattle.std.proofs.Common.{length}
 use Rattle.seq_state.specs.References.{core_names}
 use Rattle.table_report.specs.Shown.{core_shown}

@@ -1,5 +1,5 @@
-use Rattle.std.proofs.Common.{refl, sym, ap, ◌∙◌, subst, arith, ◌+◌, ◌++◌, ◌≡◌, ℕ}
-use Rattle.table_report.proofs.Adding.{adds_none, adds_piece, adds_more, adds_whole, adds_stacked, adds_stack_none, adds_stack_whole, node_adds, none_adds, node_same, kernel_at}
+use Rattle.std.proofs.Common.{arith, ◌≡◌}
+use Rattle.table_report.proofs.Adding.{adds_none, adds_more, adds_whole}
 use Rattle.table_report.proofs.names.push_frames.Goals as goal
 
 pub frames-init : goal.frames-init

@@ -1,4 +1,4 @@
-use Rattle.std.proofs.Common.{refl, sym, ap, ◌∙◌, subst, arith, ◌+◌, ◌++◌, ◌≡◌, ℕ}
+use Rattle.std.proofs.Common.{arith, ◌≡◌}
 use Rattle.table_report.proofs.Adding.{adds_stacked, adds_stack_none, adds_stack_whole}
 use Rattle.table_report.proofs.names.push_stack.Goals as goal
 

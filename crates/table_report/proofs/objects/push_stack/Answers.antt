@@ -1,5 +1,4 @@
-use Rattle.std.proofs.Common.{refl, sym, ap, ◌∙◌, subst, arith, ◌+◌, ◌++◌, ◌≡◌, ℕ}
-use Rattle.table_report.proofs.Lines.{begins, goes_on, lines_none, lines_more, stack_none, stack_text, qualities_none, qualities_text, stack_begins, qualities_begins}
+use Rattle.table_report.proofs.Lines.{begins, goes_on, stack_text, stack_begins}
 use Rattle.table_report.proofs.objects.push_stack.Goals as goal
 
 pub heights-init : goal.heights-init

@@ -1,4 +1,4 @@
-use Rattle.std.proofs.Common.{refl, sym, ap, ◌∙◌, subst, arith, ◌+◌, ◌++◌, ◌≡◌, ℕ}
+use Rattle.std.proofs.Common.{sym, subst, arith, ◌++◌, ◌≡◌}
 use Rattle.std.specs.Prelude.{string_bytes}
 use Rattle.kernel_history.specs.Tables.{core_lines}
 use Rattle.table_report.specs.Shown.{core_shown}

@@ -1,5 +1,4 @@
-use Rattle.std.proofs.Common.{refl, sym, ap, ◌∙◌, subst, arith, ◌+◌, ◌++◌, ◌≡◌, ℕ}
-use Rattle.table_report.proofs.Lines.{begins, goes_on, lines_none, lines_more, stack_none, stack_text, qualities_none, qualities_text, stack_begins, qualities_begins}
+use Rattle.table_report.proofs.Lines.{begins, goes_on, lines_none, lines_more}
 use Rattle.table_report.proofs.rest.push_numbers.Goals as goal
 
 pub numbers-init : goal.numbers-init

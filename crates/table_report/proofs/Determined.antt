@@ -1,0 +1,234 @@
+-- The words and the ends determine the tables of the state that they represent.
+use Rattle.std.proofs.Common.{◌≡◌, ℕ, ◌<◌, ◌++◌, List, [], true, false, Option, None, refl, sym, ap, ◌∙◌, arith, length, append_assoc}
+use Rattle.std.specs.Prelude.{slice_index}
+use Rattle.std.proofs.lemmas.Bool.{true≢false, cases_Bool}
+use Rattle.std.proofs.Common.{inl, inr}
+use Rattle.spk_nums.specs.declared.translations.CoreEnd.{CoreEnd}
+use Rattle.entry_words.specs.declared.entry.Entry.{Entry}
+use Rattle.entry_words.specs.EntryWord.{entry_of_word}
+use Rattle.frame_words.specs.Live.{live_of_word}
+use Rattle.frame_words.specs.declared.live_word.LiveWord.{LiveWord}
+use Rattle.word_map.specs.Word.{LiveAt}
+use Rattle.word_map.specs.Places.{Shape}
+use Rattle.seq_state.specs.State.{Place, Free, Holds, Quiescing, Object, Blank, Table, Leaf, Pages, Pleaf, Comp, Thread, Tcap, Frame, Untyped, User, Kernel, Liveness, Unused, Live, Dead, State, first_of_stack, thread_of, tcap_in}
+use Rattle.seq_state.specs.Access.{held_in}
+use Rattle.seq_state.specs.References.{place_names, frame_names, number_names, core_names, sum_below, times, node_refs, refs}
+use Rattle.seq_state.specs.Laws.{ticks}
+use Rattle.kernel_history.specs.ObjectWords.{is_node, is_node_object}
+use Rattle.kernel_history.specs.FinalWords.{SaysPlace, AreEntries, AreFrame, SaysNumber, Represent, word_in, end_in}
+use Rattle.kernel_history.specs.Tables.{lines_below, frame_line, object_word, entry_line, object_lines, frame_lines, number_line, core_lines, total_line, tables_of}
+use Rattle.kernel_history.proofs.Sums.{sum_same}
+use Rattle.table_report.specs.Counting.{AreCounts}
+use Rattle.table_report.specs.Shown.{place_shown, place_in, number_shown, frame_shown, words_of, frame_at, place_at, number_at, core_at, core_shown, shown, frames_text, numbers_text, cores_text, tables_shown}
+use Rattle.table_report.proofs.Lines.{lines_same}
+use Rattle.table_report.proofs.ShownObjects.{told, frame_is}
+
+-- What the tables say of a frame does not hang on where its thread runs.
+told_node : (x : Frame) → is_node (told x) ≡ is_node x
+told_node Untyped = refl
+told_node User = refl
+told_node (Kernel Blank) = refl
+told_node (Kernel Table) = refl
+told_node (Kernel Leaf) = refl
+told_node (Kernel Pages) = refl
+told_node (Kernel Pleaf) = refl
+told_node (Kernel (Comp k)) = refl
+told_node (Kernel (Thread t)) = refl
+told_node (Kernel (Tcap q)) = refl
+
+told_lines : (f : ℕ) (x : Frame) (place : ℕ → Place) (k : ℕ) → frame_lines f (told x) place k ≡ frame_lines f x place k
+told_lines f Untyped place k = refl
+told_lines f User place k = refl
+told_lines f (Kernel Blank) place k = refl
+told_lines f (Kernel Table) place k = refl
+told_lines f (Kernel Leaf) place k = refl
+told_lines f (Kernel Pages) place k = refl
+told_lines f (Kernel Pleaf) place k = refl
+told_lines f (Kernel (Comp k)) place n = refl
+told_lines f (Kernel (Thread t)) place k = refl
+told_lines f (Kernel (Tcap q)) place k = refl
+
+told_names : (x : Frame) → frame_names (told x) ≡ frame_names x
+told_names Untyped = refl
+told_names User = refl
+told_names (Kernel Blank) = refl
+told_names (Kernel Table) = refl
+told_names (Kernel Leaf) = refl
+told_names (Kernel Pages) = refl
+told_names (Kernel Pleaf) = refl
+told_names (Kernel (Comp k)) = refl
+told_names (Kernel (Thread t)) = refl
+told_names (Kernel (Tcap q)) = refl
+
+told_budget : (x : Frame) → (tcap_in (told x)).budget ≡ (tcap_in x).budget
+told_budget Untyped = refl
+told_budget User = refl
+told_budget (Kernel Blank) = refl
+told_budget (Kernel Table) = refl
+told_budget (Kernel Leaf) = refl
+told_budget (Kernel Pages) = refl
+told_budget (Kernel Pleaf) = refl
+told_budget (Kernel (Comp k)) = refl
+told_budget (Kernel (Thread t)) = refl
+told_budget (Kernel (Tcap q)) = refl
+
+-- The words of a node are its entries.
+entries_of : (x : Frame) (place : ℕ → Place) (word : ℕ → ℕ) → is_node x ≡ true → AreFrame x place word → AreEntries place word
+entries_of Untyped place word node h = absurd (true≢false (sym node))
+entries_of User place word node h = absurd (true≢false (sym node))
+entries_of (Kernel Blank) place word node h = absurd (true≢false (sym node))
+entries_of (Kernel Table) place word node h = h
+entries_of (Kernel Leaf) place word node h = h
+entries_of (Kernel Pages) place word node h = h
+entries_of (Kernel Pleaf) place word node h = h
+entries_of (Kernel (Comp k)) place word node h = absurd (true≢false (sym node))
+entries_of (Kernel (Thread t)) place word node h = absurd (true≢false (sym node))
+entries_of (Kernel (Tcap q)) place word node h = absurd (true≢false (sym node))
+
+-- What an entry says is what it shows: the line and the reference.
+says_line : (i : ℕ) (p : Place) (shown : Option Entry) → SaysPlace p shown → entry_line i (place_shown shown) ≡ entry_line i p
+says_line i Free shown h = ap (λ o. entry_line i (place_shown o)) h
+says_line i (Holds k) shown h = ap (λ o. entry_line i (place_shown o)) h
+says_line i (Quiescing k) shown h = ap (λ o. entry_line i (place_shown o)) h.says
+
+says_names : (p : Place) (shown : Option Entry) → SaysPlace p shown → place_names (place_shown shown) ≡ place_names p
+says_names Free shown h = ap (λ o. place_names (place_shown o)) h
+says_names (Holds k) shown h = ap (λ o. place_names (place_shown o)) h
+says_names (Quiescing k) shown h = ap (λ o. place_names (place_shown o)) h.says
+
+holds_none : (p : Place) → held_in p ≡ None → place_names p ≡ []
+holds_none Free h = refl
+holds_none (Holds k) h = absurd (cc)
+holds_none (Quiescing k) h = refl
+
+-- The lines of an object hang on the lines of its entries alone, and only where it is a node.
+object_lines_same : (object : Object) (p q : ℕ → Place) → (is_node_object object ≡ true → (i : ℕ) → i < 64 → entry_line i (p i) ≡ entry_line i (q i))
+    → object_lines object p ≡ object_lines object q
+object_lines_same Blank p q same = refl
+object_lines_same Table p q same = lines_same (λ i. entry_line i (p i)) (λ i. entry_line i (q i)) 64 (same refl)
+object_lines_same Leaf p q same = lines_same (λ i. entry_line i (p i)) (λ i. entry_line i (q i)) 64 (same refl)
+object_lines_same Pages p q same = lines_same (λ i. entry_line i (p i)) (λ i. entry_line i (q i)) 64 (same refl)
+object_lines_same Pleaf p q same = lines_same (λ i. entry_line i (p i)) (λ i. entry_line i (q i)) 64 (same refl)
+object_lines_same (Comp k) p q same = refl
+object_lines_same (Thread t) p q same = refl
+object_lines_same (Tcap fields) p q same = refl
+
+frame_lines_same : (f : ℕ) (x : Frame) (p q : ℕ → Place) (k : ℕ) → (is_node x ≡ true → (i : ℕ) → i < 64 → entry_line i (p i) ≡ entry_line i (q i))
+    → frame_lines f x p k ≡ frame_lines f x q k
+frame_lines_same f Untyped p q k same = refl
+frame_lines_same f User p q k same = refl
+frame_lines_same f (Kernel object) p q k same = ap (λ ls. frame_line f (object_word object) k ++ ls) (object_lines_same object p q same)
+
+says_number : (x : Liveness) (shown : Option LiveWord) → SaysNumber x shown → number_shown shown ≡ x
+says_number Unused shown h = ap number_shown h
+says_number (Live epoch f) shown h = ap number_shown h
+says_number (Dead epoch) shown h = ap number_shown h.says
+
+module _ (shape : Shape) (words : List ℕ) (ends : List CoreEnd) (s : State)
+    (cores : s.limits.cores ≡ shape.cores) (frames : s.limits.frames ≡ shape.frames)
+    (h : Represent (word_in shape words) (end_in ends) s) where
+  within : (f : ℕ) → f < shape.frames → f < s.limits.frames
+  within f below = omega (arith, below, frames)
+
+  frame_told : (f : ℕ) → f < shape.frames → frame_at shape words f ≡ told (s.frame f)
+  frame_told f below =
+      ap (λ o. frame_shown o (words_of shape words f)) (h.kinds f (within f below))
+      ∙ frame_is (s.frame f) (s.place f) (words_of shape words f) (h.objects f (within f below))
+
+  node_told : (f : ℕ) → f < shape.frames → is_node (frame_at shape words f) ≡ is_node (s.frame f)
+  node_told f below = ap is_node (frame_told f below) ∙ told_node (s.frame f)
+
+  node_place : (f i : ℕ) → f < shape.frames → is_node (s.frame f) ≡ true → place_at shape words f i ≡ place_shown (entry_of_word (words_of shape words f i))
+  node_place f i below node = ap (λ b. place_in b (words_of shape words f i)) (node_told f below ∙ node)
+
+  bare_place : (f i : ℕ) → f < shape.frames → is_node (s.frame f) ≡ false → place_at shape words f i ≡ Free
+  bare_place f i below bare = ap (λ b. place_in b (words_of shape words f i)) (node_told f below ∙ bare)
+
+  says : (f i : ℕ) → f < shape.frames → i < 64 → is_node (s.frame f) ≡ true → SaysPlace (s.place f i) (entry_of_word (words_of shape words f i))
+  says f i below small node = entries_of (s.frame f) (s.place f) (words_of shape words f) node (h.objects f (within f below)) i small
+
+  names_told : (f i : ℕ) → f < shape.frames → i < 64 → place_names (place_at shape words f i) ≡ place_names (s.place f i)
+  names_told f i below small = elim (cases_Bool (is_node (s.frame f))) [
+    | inl node ↦ ap place_names (node_place f i below node) ∙ says_names (s.place f i) (entry_of_word (words_of shape words f i)) (says f i below small node)
+    | inr bare ↦ ap place_names (bare_place f i below bare) ∙ sym (holds_none (s.place f i) (h.bare f (within f below) bare i small))
+  ]
+
+  lines_told : (f k n : ℕ) → f < shape.frames → k ≡ n → frame_lines f (frame_at shape words f) (place_at shape words f) k ≡ frame_lines f (s.frame f) (s.place f) n
+  lines_told f k n below same =
+      ap (λ x. frame_lines f x (place_at shape words f) k) (frame_told f below)
+      ∙ told_lines f (s.frame f) (place_at shape words f) k
+      ∙ frame_lines_same f (s.frame f) (place_at shape words f) (s.place f) k
+      (λ node i small. ap (entry_line i) (node_place f i below node) ∙ says_line i (s.place f i) (entry_of_word (words_of shape words f i)) (says f i below small node))
+      ∙ ap (frame_lines f (s.frame f) (s.place f)) same
+
+  refs_told : (f : ℕ) → refs (shown shape words ends) f ≡ refs s f
+  unfolding refs node_refs
+  refs_told f =
+      let a = sum_same (λ g. sum_below (λ i. times f (place_names (place_at shape words g i))) 64) (λ g. sum_below (λ i. times f (place_names (s.place g i))) 64) shape.frames
+      (λ g below. sum_same (λ i. times f (place_names (place_at shape words g i))) (λ i. times f (place_names (s.place g i))) 64 (λ i small. ap (times f) (names_told g i below small))) in
+      let b = sum_same (λ g. times f (frame_names (frame_at shape words g))) (λ g. times f (frame_names (s.frame g))) shape.frames
+      (λ g below. ap (λ x. times f (frame_names x)) (frame_told g below) ∙ ap (times f) (told_names (s.frame g))) in
+      let d = sum_same (λ c. times f (core_names (core_at ends c))) (λ c. times f (core_names (s.core c))) shape.cores
+      (λ c below. ap (λ e. times f (core_names (core_shown e))) (h.ends c (omega (arith, below, cores)))) in
+      let e = sum_same (λ l. times f (number_names (number_at shape words l))) (λ l. times f (number_names (s.number l))) 64
+      (λ l small. ap (λ x. times f (number_names x)) (says_number (s.number l) (live_of_word (word_in shape words (LiveAt l))) (h.numbers l small))) in
+      let fa = ap (sum_below (λ g. sum_below (λ i. times f (place_names (s.place g i))) 64)) frames in
+      let fb = ap (sum_below (λ g. times f (frame_names (s.frame g)))) frames in
+      let fd = ap (sum_below (λ c. times f (core_names (s.core c)))) cores in
+      omega (arith, a, b, d, e, fa, fb, fd)
+
+  ticks_told : ticks (shown shape words ends) ≡ ticks s
+  ticks_told =
+      let a = sum_same (λ f. (tcap_in (frame_at shape words f)).budget) (λ f. (tcap_in (s.frame f)).budget) shape.frames
+      (λ f below. ap (λ x. (tcap_in x).budget) (frame_told f below) ∙ told_budget (s.frame f)) in
+      let b = sum_same (λ c. (core_at ends c).spent) (λ c. (s.core c).spent) shape.cores
+      (λ c below. ap (λ e. (core_shown e).spent) (h.ends c (omega (arith, below, cores)))) in
+      let fa = ap (sum_below (λ f. (tcap_in (s.frame f)).budget)) frames in
+      let fb = ap (sum_below (λ c. (s.core c).spent)) cores in
+      omega (arith, a, b, fa, fb)
+
+  frames_told : frames_text shape words (refs (shown shape words ends)) shape.frames ≡ lines_below (λ f. frame_lines f (s.frame f) (s.place f) (refs s f)) s.limits.frames
+  frames_told =
+      lines_same (λ f. frame_lines f (frame_at shape words f) (place_at shape words f) (refs (shown shape words ends) f)) (λ f. frame_lines f (s.frame f) (s.place f) (refs s f)) shape.frames
+      (λ f below. lines_told f (refs (shown shape words ends) f) (refs s f) below (refs_told f))
+      ∙ ap (lines_below (λ f. frame_lines f (s.frame f) (s.place f) (refs s f))) (sym frames)
+
+  numbers_told : numbers_text shape words 64 ≡ lines_below (λ l. number_line l (s.number l)) 64
+  numbers_told = lines_same (λ l. number_line l (number_at shape words l)) (λ l. number_line l (s.number l)) 64
+      (λ l small. ap (number_line l) (says_number (s.number l) (live_of_word (word_in shape words (LiveAt l))) (h.numbers l small)))
+
+  cores_told : cores_text ends shape.cores ≡ lines_below (λ c. core_lines c (s.core c) (first_of_stack (thread_of s c).stack)) s.limits.cores
+  cores_told =
+      lines_same (λ c. core_lines c (core_at ends c) (end_in ends c).comp) (λ c. core_lines c (s.core c) (first_of_stack (thread_of s c).stack)) shape.cores
+      (λ c below. ap (λ e. core_lines c (core_shown e) e.comp) (h.ends c (omega (arith, below, cores))))
+      ∙ ap (lines_below (λ c. core_lines c (s.core c) (first_of_stack (thread_of s c).stack))) (sym cores)
+
+  pub determined : tables_shown shape words ends ≡ tables_of s
+  determined =
+      ap (λ a. a ++ (numbers_text shape words 64 ++ (cores_text ends shape.cores ++ total_line (ticks (shown shape words ends))))) frames_told
+      ∙ ap (λ b. lines_below (λ f. frame_lines f (s.frame f) (s.place f) (refs s f)) s.limits.frames ++ (b ++ (cores_text ends shape.cores ++ total_line (ticks (shown shape words ends))))) numbers_told
+      ∙ ap (λ d. lines_below (λ f. frame_lines f (s.frame f) (s.place f) (refs s f)) s.limits.frames ++ (lines_below (λ l. number_line l (s.number l)) 64 ++ (d ++ total_line (ticks (shown shape words ends))))) cores_told
+      ∙ ap (λ n. lines_below (λ f. frame_lines f (s.frame f) (s.place f) (refs s f)) s.limits.frames ++ (lines_below (λ l. number_line l (s.number l)) 64
+      ++ (lines_below (λ c. core_lines c (s.core c) (first_of_stack (thread_of s c).stack)) s.limits.cores ++ total_line n))) ticks_told
+
+-- The text that the pieces make, one behind the other.
+pub whole_text : (shape : Shape) (words : List ℕ) (ends : List CoreEnd) (counts : List ℕ) (begun a b d e : List ℕ) (total : ℕ)
+    → AreCounts counts (refs (shown shape words ends)) shape.frames → length ends ≡ shape.cores → total ≡ ticks (shown shape words ends)
+    → begun ≡ []
+    → a ≡ begun ++ frames_text shape words (slice_index counts) shape.frames
+    → b ≡ a ++ numbers_text shape words 64
+    → d ≡ b ++ cores_text ends (length ends)
+    → e ≡ d ++ total_line total
+    → e ≡ tables_shown shape words ends
+whole_text shape words ends counts begun a b d e total counted cores ticked none pa pb pd pe =
+    let f : List ℕ = frames_text shape words (refs (shown shape words ends)) shape.frames in
+    let n : List ℕ = numbers_text shape words 64 in
+    let c : List ℕ = cores_text ends shape.cores in
+    let l : List ℕ = total_line (ticks (shown shape words ends)) in
+    let first : a ≡ f = pa ∙ ap (λ x. x ++ frames_text shape words (slice_index counts) shape.frames) none
+    ∙ lines_same (λ f. frame_lines f (frame_at shape words f) (place_at shape words f) (slice_index counts f)) (λ f. frame_lines f (frame_at shape words f) (place_at shape words f) (refs (shown shape words ends) f)) shape.frames
+    (λ f below. ap (frame_lines f (frame_at shape words f) (place_at shape words f)) (counted f below)) in
+    let second : b ≡ f ++ n = pb ∙ ap (λ x. x ++ n) first in
+    let third : d ≡ (f ++ n) ++ c = pd ∙ ap (λ x. x ++ cores_text ends (length ends)) second ∙ ap (λ k. (f ++ n) ++ cores_text ends k) cores in
+    pe ∙ ap (λ x. x ++ total_line total) third ∙ ap (λ k. ((f ++ n) ++ c) ++ total_line k) ticked
+    ∙ append_assoc (f ++ n) c l ∙ append_assoc f n (c ++ l)
