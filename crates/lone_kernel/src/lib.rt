@@ -4,5 +4,5 @@
 mod seats;
 mod lone;
 
-pub use lone::Moved;
+pub use lone::{LoneKernel, Moved};
 pub use seats::{Seat, Turn};

@@ -1,8 +1,11 @@
 use Rattle.std.proofs.Common.{◌∙◌, ap, sym, subst, take, ◌++◌, ◌∷◌, []}
 use Rattle.std.proofs.lemmas.List.{take_more}
-use Rattle.speck_run.specs.Stands.{GoesByItems}
-use Rattle.speck_run.proofs.Runs.{items_more}
-use Rattle.speck_run.proofs.lone.LoneKernel.follow.Goals as goal
+use Rattle.speck_run.specs.Orders.{GoesByItems}
+use Rattle.speck_run.proofs.ByItems.{items_none, items_more}
+use Rattle.speck_run.proofs.orders.follow.Goals as goal
+
+pub loop-item-init : goal.loop-item-init
+loop-item-init c = record { setup = refl; lists = refl; goes = items_none c.args.kernel.now }
 
 pub loop-item-preserved : goal.loop-item-preserved
 loop-item-preserved c =
@@ -13,6 +16,6 @@ loop-item-preserved c =
     record {
       setup = s.setup ∙ i.setup;
       lists = s.lists ∙ i.lists;
-      goes = subst (λ l. GoesByItems c.args.self.now c.take.new.self l) (sym items)
-          (items_more c.args.self.now c.loop-item.self c.take.new.self so_far c.item-item.result i.lists i.goes s.goes);
+      goes = subst (λ l. GoesByItems c.args.kernel.now c.take.new.kernel l) (sym items)
+          (items_more c.args.kernel.now c.loop-item.kernel c.take.new.kernel so_far c.item-item.result i.lists i.goes s.goes);
     }
