@@ -1,24 +1,18 @@
 -- A step of any core leaves cores that stand for the trace with it.
-use Rattle.std.proofs.Common.{◌≡◌, ◌≢◌, inl, inr, ℕ, ◌+◌, ◌^◌, ◌<◌, ◌≤◌, ◌∷◌, Bool, true, false, nat_le, nat_lt, Option, Some, None, arith, refl, sym, ◌∙◌, ap, subst, IsTrue}
+use Rattle.std.proofs.Common.{◌≡◌, ℕ, ◌^◌, ◌<◌, ◌∷◌, true, Option, Some, None, arith, refl, sym, ap, subst}
 use Rattle.std.specs.Prelude.{IsSome}
-use Rattle.std.proofs.lemmas.Bool.{leb-true, leb-false, lt-ltb, lt-leb, false≢true}
-use Rattle.spk_nums.specs.Built.{IsBuilt}
+use Rattle.std.proofs.lemmas.Bool.{lt-ltb, false≢true}
 use Rattle.spk_nums.specs.Capability.{Capability}
-use Rattle.spk_nums.specs.CallLimits.{InLimits}
 use Rattle.spk_nums.specs.Setting.{Setting, IsSetting}
 use Rattle.spk_nums.specs.declared.calls.Call.{Call}
 use Rattle.spk_nums.specs.declared.calls.Call.TheVariants.{Look as look_call, Copy}
 use Rattle.spk_nums.specs.declared.replies.Reply.{Reply}
-use Rattle.spk_nums.specs.declared.replies.Reply.TheVariants as reply
-use Rattle.word_map.specs.Word.{Word, EntryAt, CoreAt, ClockAt}
-use Rattle.word_map.specs.Moves.{Move, word_of, left_of, told_of}
-use Rattle.seq_state.specs.State.{Thing, State, put, comp_of}
-use Rattle.seq_state.specs.Access.{Under, found, root_at}
-use Rattle.seq_state.specs.CallRelation.{counted}
-use Rattle.seq_state.proofs.Within.{put_same}
-use Rattle.kernel_history.specs.Trace.{Step, Trace, Phase, Out, Open, Decided, phase, after_decide, state_after, last_left}
-use Rattle.kernel_history.specs.Stamps.{stamp, clock}
-use Rattle.kernel_history.proofs.Graces.{IsLeave}
+use Rattle.word_map.specs.Word.{CoreAt, ClockAt}
+use Rattle.word_map.specs.Moves.{word_of, left_of, told_of}
+use Rattle.seq_state.specs.State.{put}
+use Rattle.seq_state.specs.Access.{found}
+use Rattle.kernel_history.specs.Trace.{Step, Trace, last_left}
+use Rattle.kernel_history.specs.Stamps.{clock}
 use Rattle.kernel_history.proofs.Steps.{clock_seen-own}
 use Rattle.flight.specs.declared.stages.Want.{Want}
 use Rattle.flight.specs.declared.stages.Want.TheVariants.{First, Second, Target}
@@ -26,21 +20,20 @@ use Rattle.flight.specs.declared.stages.Stage.{Stage}
 use Rattle.flight.specs.declared.stages.Stage.TheVariants.{Enter, Looking, Fill, Exit, Leave}
 use Rattle.flight.specs.declared.stages.InFlight.{InFlight}
 use Rattle.flight.specs.declared.stages.Took.{Took}
-use Rattle.flight.specs.declared.stages.Took.TheVariants.{Goes, Decides, Returns}
-use Rattle.stage_look.specs.Lookup.{look_move}
+use Rattle.flight.specs.declared.stages.Took.TheVariants.{Goes}
 use Rattle.stage_look.specs.declared.look.Look.{Look}
 use Rattle.stage_look.specs.declared.look.Look.TheVariants.{AtRoot, AtLeaf, AtEntry}
 use Rattle.flight.specs.View.{Core}
-use Rattle.flight.specs.Stages.{core_word, stage_move, stage_took, stamp_if, stamp_of, decide, looks, first_name, took_enter}
+use Rattle.flight.specs.Stages.{core_word, stage_move, stage_took, stamp_if, took_enter}
 use Rattle.flight.specs.Steps.{fresh, landed, told, told_in, is_spent, took_by, begun, absorbed_in, move_in}
 use Rattle.flight.specs.Fits.{IsCore}
-use Rattle.flight.specs.Knows.{Knows, KnowsFirst, KnowsSecond, KnowsTarget, KnowsFill, KnowsLook, phase_at, FlightIs}
+use Rattle.flight.specs.Knows.{Knows, KnowsFirst, KnowsSecond, KnowsTarget, KnowsFill, KnowsLook, FlightIs}
 use Rattle.flight.specs.Stands.{Stands}
 use Rattle.flight.specs.Theorems.{MayBegin, decided_in, returned_in, step_at, step_of, core_after, StepsOn}
 use Rattle.flight.proofs.CoreFits.{took_fits, landed_fits, begun_fits}
 use Rattle.flight.proofs.Entries.{enter_good}
 use Rattle.flight.proofs.Good.{stands_on}
-use Rattle.flight.proofs.Loads.{step_to, core_is, flight_is, is_flight, loads_on}
+use Rattle.flight.proofs.Loads.{step_to, is_flight, loads_on}
 use Rattle.flight.proofs.Writes.{clock_small, leaves_on}
 use Rattle.flight.proofs.Refusals.{step_with, GoodTook}
 use Rattle.flight.proofs.LookLeaves.{at_stage, LookGood, look_first}
@@ -119,8 +112,8 @@ module _ (setup : Setting) (setting : IsSetting setup) (cores : ℕ → Core) (t
   -- the step of a call in flight
   next_on : (f : InFlight) → (cores c).flight ≡ Some f → Knows setup t c (cores c).table f.call f.stage
       → Stands setup (put cores c (absorbed_in (cores c) (Some f) (told_of (move_in (cores c) (Some f)) (last_left setup t (word_of (move_in (cores c) (Some f)))))))
-          (step_at c None (move_in (cores c) (Some f)) (last_left setup t (word_of (move_in (cores c) (Some f))))
-          (told_in (cores c) (Some f) (told_of (move_in (cores c) (Some f)) (last_left setup t (word_of (move_in (cores c) (Some f)))))) ∷ t)
+      (step_at c None (move_in (cores c) (Some f)) (last_left setup t (word_of (move_in (cores c) (Some f))))
+      (told_in (cores c) (Some f) (told_of (move_in (cores c) (Some f)) (last_left setup t (word_of (move_in (cores c) (Some f)))))) ∷ t)
   next_on f flight knows = at_core (cores c).core (cores c).shape.frames (stands.each c here).number (ap (λ s. s.frames) (stands.each c here).shape)
       (landed_fits (cores c) f (took_by (cores c) f (told_of (move_in (cores c) (Some f)) (last_left setup t (word_of (move_in (cores c) (Some f))))))
       (stands.each c here).fits (is_flight setup setting cores t stands c here f flight)
@@ -133,7 +126,7 @@ module _ (setup : Setting) (setting : IsSetting setup) (cores : ℕ → Core) (t
       Goal : ℕ → ℕ → Type 0
       Goal m n = IsCore (landed (cores c) f (Taken m n))
           → Stands setup (put cores c (landed (cores c) f (Taken m n)))
-              (step_at c None (stage_move m (cores c).exit f.stage) (last_left setup t (word_of (stage_move m (cores c).exit f.stage))) (told (Taken m n)) ∷ t)
+          (step_at c None (stage_move m (cores c).exit f.stage) (last_left setup t (word_of (stage_move m (cores c).exit f.stage))) (told (Taken m n)) ∷ t)
 
       base : Goal c setup.frames
       base fits = stands_on setup setting cores t stands
@@ -179,6 +172,6 @@ pub steps_on : StepsOn
 steps_on setup setting cores t stands c here None may =
     let f = in_flight setup t c (cores c).table (cores c).flight (stands.each c here).flight may in
     subst (λ o. Stands setup (put cores c (absorbed_in (cores c) o (told_of (move_in (cores c) o) (last_left setup t (word_of (move_in (cores c) o))))))
-        (step_at c None (move_in (cores c) o) (last_left setup t (word_of (move_in (cores c) o))) (told_in (cores c) o (told_of (move_in (cores c) o) (last_left setup t (word_of (move_in (cores c) o))))) ∷ t))
+    (step_at c None (move_in (cores c) o) (last_left setup t (word_of (move_in (cores c) o))) (told_in (cores c) o (told_of (move_in (cores c) o) (last_left setup t (word_of (move_in (cores c) o))))) ∷ t))
     (sym f.1) (next_on setup setting cores t stands c here f.0 f.1 f.2)
 steps_on setup setting cores t stands c here (Some call) may = first_on setup setting cores t stands c here call may

@@ -1,5 +1,5 @@
 -- The start stands for no step.
-use Rattle.std.proofs.Common.{◌≡◌, ◌≢◌, inl, inr, ℕ, zero, suc, ◌+◌, ◌<◌, ◌≤◌, ◌==◌, ◌*◌, ◌-◌, ◌∷◌, nat_lt, length, slice_get, Bool, true, false, List, [], Option, Some, None, arith, refl, sym, ◌∙◌, ap, subst, IsTrue, if◌then◌else◌, pos}
+use Rattle.std.proofs.Common.{◌≡◌, inl, inr, ℕ, zero, suc, ◌+◌, ◌<◌, ◌≤◌, ◌==◌, ◌*◌, ◌-◌, ◌∷◌, nat_lt, length, slice_get, Bool, true, false, [], Option, Some, None, arith, refl, sym, ◌∙◌, ap, subst, IsTrue, if◌then◌else◌, pos}
 use Rattle.std.proofs.lemmas.Bool.{cases_lt, false≢true, lt-ltb, eqb-true}
 use Rattle.spk_nums.specs.Capability.{Capability}
 use Rattle.spk_nums.specs.Setting.{Setting, IsSetting}
@@ -12,34 +12,29 @@ use Rattle.entry_words.proofs.Spelling as entries
 use Rattle.frame_words.specs.Frame.{frame_of_word}
 use Rattle.frame_words.specs.Count.{count_of_word}
 use Rattle.frame_words.specs.Live.{live_of_word}
-use Rattle.frame_words.specs.declared.count_word.CountWord.{CountWord}
 use Rattle.frame_words.specs.declared.count_word.Hold.TheVariants.{Unheld}
-use Rattle.frame_words.specs.declared.live_word.LiveWord.{LiveWord}
 use Rattle.frame_words.specs.declared.live_word.LiveWord.TheVariants as live_word
 use Rattle.frame_words.proofs.CoreLemmas as core_words
 use Rattle.frame_words.proofs.CountLemmas as counts
 use Rattle.frame_words.proofs.FlushLemmas as flushes
 use Rattle.frame_words.proofs.FrameLemmas as frames
 use Rattle.frame_words.proofs.LiveLemmas as lives
-use Rattle.tcap_words.specs.declared.thread_word.ThreadWord.{ThreadWord}
 use Rattle.word_map.specs.Word.{Word, EntryAt, FrameAt, CountAt, CoreAt, FlushAt, LiveAt, ClockAt}
-use Rattle.seq_state.specs.State.{Place, Free, Holds, Quiescing, Object, Blank, Table, Leaf, Pages, Pleaf, Comp, Thread, Tcap, Frame, Untyped, User, Kernel, Liveness, Unused, Live, Dead, PlaceOf, State, comp_in, thread_in, thread_of, first_of_stack}
+use Rattle.seq_state.specs.State.{Place, Free, Holds, Quiescing, Object, Blank, Table, Leaf, Pages, Pleaf, Comp, Thread, Tcap, Frame, Untyped, User, Kernel, State, comp_in, thread_in, thread_of, first_of_stack}
 use Rattle.seq_state.specs.Start.{start, start_place, start_cap, place_with, start_frame, start_number, granted}
-use Rattle.seq_state.specs.References.{refs, sum_below}
+use Rattle.seq_state.specs.References.{refs}
 use Rattle.seq_state.specs.Fitting.{fits, IsGood, EndsWithin}
-use Rattle.seq_state.proofs.Sound.{IsSound}
 use Rattle.seq_state.proofs.SoundStart.{past_three, start_sound}
 use Rattle.kernel_history.specs.BootWords.{boot_word, boot_entry, boot_object, boot_frame, boot_live}
 use Rattle.kernel_history.specs.ObjectWords.{frame_value}
 use Rattle.kernel_history.specs.FinalWords.{SaysPlace, AreObject, AreFrame, SaysNumber, Represent}
-use Rattle.kernel_history.specs.Marks.{entry_mark, frame_mark, count_mark, live_mark, thread_mark, head_mark, mark_in_frame, object_mark, mark_of}
-use Rattle.kernel_history.specs.Trace.{Trace, state_after}
+use Rattle.kernel_history.specs.Marks.{entry_mark, frame_mark, count_mark, live_mark, thread_mark, head_mark, mark_in_frame, object_mark}
 use Rattle.kernel_history.proofs.BootRepresents.{boot_represents}
 use Rattle.kernel_history.proofs.StartRefs.{refs_most}
 use Rattle.kernel_history.proofs.GraceSteps.{grace_start, times_start}
 use Rattle.stage_look.specs.Shown.{CapNames}
 use Rattle.flight.specs.Holding.{marked_by, settled_by}
-use Rattle.flight.specs.Words.{Times, PlaceIs, IsObjectWord, IsFrameWord, NumberIs, WordIs}
+use Rattle.flight.specs.Words.{PlaceIs, IsObjectWord, IsFrameWord, NumberIs, WordIs}
 use Rattle.flight.specs.Stands.{held_by, times_of}
 use Rattle.flight.specs.Theorems.{boot_cores, Boots}
 use Rattle.flight.proofs.CoreFits.{started_fits}
@@ -241,8 +236,8 @@ module _ (setup : Setting) (setting : IsSetting setup) where
   thread_is c here =
       ap thread_in (past_three setup (4 + c) (omega arith)
       ∙ ap (λ b. if b then Kernel (Thread (record { stack = 3 ∷ []; runs_on = Some (4 + c - 4) }))
-          else (if nat_lt (4 + c) (4 + 2 * setup.cores) then Kernel (Tcap (granted (slice_get setup.grants (4 + c - 4 - setup.cores)))) else Untyped))
-          (lt-ltb (4 + c) (4 + setup.cores) (omega (arith, here))))
+      else (if nat_lt (4 + c) (4 + 2 * setup.cores) then Kernel (Tcap (granted (slice_get setup.grants (4 + c - 4 - setup.cores)))) else Untyped))
+      (lt-ltb (4 + c) (4 + setup.cores) (omega (arith, here))))
 
 pub boots : Boots
 boots setup setting = record {

@@ -2,11 +2,9 @@
 -- steps at which no grace period begins or ends and nothing is flushed. All steps of calls that are carried out today are such.
 use Rattle.std.proofs.Common.{◌≡◌, ◌≢◌, inl, inr, ℕ, zero, suc, ◌+◌, ◌<◌, ◌≤◌, Bool, true, false, cond, ◌∷◌, Option, Some, None, arith, refl, sym, ◌∙◌, ap, subst}
 use Rattle.std.proofs.lemmas.Bool.{cases_eq, false≢true}
-use Rattle.spk_nums.specs.Capability.{Capability}
 use Rattle.spk_nums.specs.Setting.{Setting}
-use Rattle.spk_nums.specs.declared.replies.Reply.{Reply}
 use Rattle.word_map.specs.Word.{Word, EntryAt, FrameAt, CountAt, CoreAt, FlushAt, LiveAt, ClockAt, same_word}
-use Rattle.seq_state.specs.State.{Place, Quiescing, Core as CoreFields, Thing, PlaceOf, NumberOf, State, put, with_core, thread_in, comp_in, first_of_stack, thread_of, comp_of}
+use Rattle.seq_state.specs.State.{Core as CoreFields, Thing, PlaceOf, NumberOf, State, put, thread_in, comp_in, first_of_stack, thread_of, comp_of}
 use Rattle.seq_state.specs.References.{sum_below}
 use Rattle.seq_state.specs.GracePeriods.{entered, returned}
 use Rattle.seq_state.specs.CallRelation.{counted}
@@ -16,10 +14,8 @@ use Rattle.kernel_history.specs.Stamps.{begins_at, ends_at, flushes_at, stamp, c
 use Rattle.kernel_history.proofs.Steps.{stamp-kept, exit_of-own, exit_of-other, flush_of-own, flush_of-other, flush_stored-own, flush_stored-other}
 use Rattle.kernel_history.proofs.Graces.{KeepsTime}
 use Rattle.flight.specs.View.{Core}
-use Rattle.flight.specs.Words.{Times}
 use Rattle.flight.specs.Knows.{WorksIn}
 use Rattle.flight.specs.Stands.{times_of, counted_in}
-use Rattle.flight.proofs.Good.{WorksOn}
 use Rattle.flight.proofs.WordFrames.{SameFor}
 
 -- A core that is or is not inside, and has counted so many calls; all else of it stays.
@@ -77,17 +73,6 @@ thread_on s s' d frame thread = ap thread_in (frame (s'.core d).thread) ∙ ap (
 comp_on : (s s' : State) (d : ℕ) → ((f : ℕ) → s'.frame f ≡ s.frame f) → (s'.core d).thread ≡ (s.core d).thread → comp_of s' d ≡ comp_of s d
 comp_on s s' d frame thread =
     ap comp_in (frame (first_of_stack (thread_of s' d).stack)) ∙ ap (λ k. comp_in (s.frame (first_of_stack k.stack))) (thread_on s s' d frame thread)
-
--- where other cores work stays
-pub calm_works : (setup : Setting) (t : Trace) (e : Step) → IsCalm (state_after setup t) (state_after setup (e ∷ t)) e.core → (d : ℕ) → d ≢ e.core → WorksOn setup t e d
-calm_works setup t e calm d other =
-    let core : (state_after setup (e ∷ t)).core d ≡ (state_after setup t).core d = calm.others d other in
-    let thread : ((state_after setup (e ∷ t)).core d).thread ≡ ((state_after setup t).core d).thread = ap (λ k. k.thread) core in
-    record {
-      core = core;
-      thread = thread_on (state_after setup t) (state_after setup (e ∷ t)) d calm.frame thread;
-      comp = comp_on (state_after setup t) (state_after setup (e ∷ t)) d calm.frame thread;
-    }
 
 -- where the own core works stays, but for what it has counted
 pub calm_own : (s s' : State) (c : ℕ) (core after : Core) → IsCalm s s' c → after ≡ record core { made = (s'.core c).counted; exit = after.exit; flight = after.flight }

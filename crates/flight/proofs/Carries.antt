@@ -1,6 +1,6 @@
 -- What a call knows it still knows after a step of another core, and after an own step that decides nothing: each kind of
 -- knowledge once, over the few things that such a step keeps.
-use Rattle.std.proofs.Common.{◌≡◌, ◌≢◌, inl, inr, ℕ, ◌&&◌, nat_le, if◌then◌else◌, cond, ◌∷◌, List, Bool, true, false, Option, Some, None, refl, sym, ◌∙◌, ap, subst}
+use Rattle.std.proofs.Common.{◌≡◌, inl, inr, ℕ, ◌&&◌, nat_le, if◌then◌else◌, cond, ◌∷◌, List, Bool, true, false, Option, Some, None, refl, ◌∙◌, ap, subst}
 use Rattle.std.specs.Prelude.{IsSome, is_some}
 use Rattle.spk_nums.specs.Capability.{Capability}
 use Rattle.spk_nums.specs.Setting.{Setting, IsSetting}
@@ -10,7 +10,7 @@ use Rattle.spk_nums.specs.declared.calls.Call.TheVariants.{Look as look_call, Co
 use Rattle.word_map.specs.Word.{Word, EntryAt}
 use Rattle.stage_look.specs.declared.look.Look.{Look}
 use Rattle.stage_look.specs.declared.look.Look.TheVariants.{AtRoot, AtLeaf, AtEntry}
-use Rattle.seq_state.specs.Access.{Slot, Named, Target, Under, InRoot, usable, linked, root_slot, reached}
+use Rattle.seq_state.specs.Access.{Slot, Target, Under, InRoot, usable, linked, root_slot, reached}
 use Rattle.seq_state.proofs.Facts.{some_inj, none_some}
 use Rattle.seq_state.proofs.Relies.{Relies}
 use Rattle.kernel_history.specs.Trace.{Step, Trace, Open, phase, state_after, own_left}
@@ -22,7 +22,7 @@ use Rattle.kernel_history.proofs.Stays.{relies_reached}
 use Rattle.kernel_history.proofs.Carries.{Carries}
 use Rattle.flight.specs.declared.stages.Want.{Want}
 use Rattle.flight.specs.declared.stages.Want.TheVariants.{First, Second, Target as target_want}
-use Rattle.flight.specs.Knows.{IsReached, HasFound, IsAtLeaf, LookIs, LooksUp, KnowsFirst, KnowsSecond, HasNames, KnowsTarget, KnowsLook, KnowsFill}
+use Rattle.flight.specs.Knows.{IsReached, HasFound, LookIs, LooksUp, KnowsFirst, KnowsSecond, HasNames, KnowsTarget, KnowsLook, KnowsFill}
 
 -- The words on which a call has stepped, after a step of it.
 pub own_kept : (t : Trace) (e : Step) (c : ℕ) → c ≡ e.core → e.enters ≡ None → (w : Word) → IsSome (own_left t c w) → IsSome (own_left (e ∷ t) c w)

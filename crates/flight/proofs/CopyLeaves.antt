@@ -1,56 +1,38 @@
 -- The steps of the look-ups of a copy are good.
-use Rattle.std.proofs.Common.{◌≡◌, ◌≢◌, inl, inr, ℕ, ◌<◌, ◌≤◌, ◌++◌, ◌∷◌, List, [], Bool, true, false, nat_le, Option, Some, None, arith, refl, sym, ◌∙◌, ap, subst, IsTrue}
-use Rattle.std.specs.Prelude.{IsSome, option_to_list}
+use Rattle.std.proofs.Common.{◌≡◌, inl, inr, ℕ, ◌<◌, Bool, true, false, nat_le, Some, refl, sym, ◌∙◌, ap, subst, IsTrue}
 use Rattle.std.proofs.lemmas.Bool.{leb-true}
-use Rattle.std.proofs.lemmas.List.Elements.{All-nil, All-append}
 use Rattle.spk_nums.specs.Capability.{Capability}
 use Rattle.spk_nums.specs.Setting.{Setting, IsSetting}
 use Rattle.spk_nums.specs.declared.kinds.Kind.{Kind}
 use Rattle.spk_nums.specs.declared.kinds.Kind.TheVariants as kind
-use Rattle.spk_nums.specs.declared.calls.Call.{Call}
-use Rattle.spk_nums.specs.declared.calls.Call.TheVariants.{Look as look_call, Copy}
-use Rattle.spk_nums.specs.declared.replies.Value.TheVariants.{Cap}
-use Rattle.spk_nums.specs.declared.replies.Reply.TheVariants as reply
+use Rattle.spk_nums.specs.declared.calls.Call.TheVariants.{Copy}
 use Rattle.entry_words.specs.declared.entry.Entry.{Entry}
 use Rattle.entry_words.specs.declared.entry.Entry.TheVariants.{Free, Held, Closing, Quiescing}
 use Rattle.entry_words.specs.EntryWord.{entry_of_word}
 use Rattle.word_map.specs.Word.{EntryAt}
-use Rattle.word_map.specs.Moves.{word_of}
-use Rattle.seq_state.specs.State.{Thing, State, comp_of}
-use Rattle.seq_state.specs.Access.{Slot, Named, found, root_at, Target, Under, any, only, place_at, held_in, has_no_slot, own}
+use Rattle.seq_state.specs.State.{comp_of}
+use Rattle.seq_state.specs.Access.{Slot, found, root_at, Under, any, only, place_at, held_in, has_no_slot, own}
 use Rattle.seq_state.specs.Rules.{RuleMay, Change, Judged, Refused, Found, IsFoundAnd, named, name_of, outcome, answers}
-use Rattle.seq_state.specs.CapabilityCalls.{look_rule, copy_rule}
-use Rattle.seq_state.specs.CallRelation.{rule_of, changed, change_of, counted, begins_in}
-use Rattle.kernel_history.specs.Trace.{Step, Trace, Open, phase, state_after, last_left, own_left}
-use Rattle.kernel_history.specs.Ways.{wide_way_to, wide_ways, way_to}
-use Rattle.kernel_history.specs.Justified.{HasReached, is_slot_in}
-use Rattle.stage_look.specs.Shown.{shown_in}
-use Rattle.stage_look.specs.Lookup.{look_move, found_at}
+use Rattle.kernel_history.specs.Trace.{Step, Trace, Open, phase, state_after, last_left}
+use Rattle.kernel_history.specs.Ways.{wide_way_to}
+use Rattle.kernel_history.specs.Justified.{is_slot_in}
+use Rattle.stage_look.specs.Lookup.{found_at}
 use Rattle.stage_look.specs.declared.look.Look.{Look}
 use Rattle.stage_look.specs.declared.look.Look.TheVariants.{AtRoot}
-use Rattle.flight.specs.declared.stages.Want.{Want}
 use Rattle.flight.specs.declared.stages.Want.TheVariants.{First, Second, Target as target_want}
-use Rattle.flight.specs.declared.stages.Stage.{Stage}
-use Rattle.flight.specs.declared.stages.Stage.TheVariants.{Looking, Fill, Exit}
-use Rattle.flight.specs.declared.stages.InFlight.{InFlight}
+use Rattle.flight.specs.declared.stages.Stage.TheVariants.{Looking, Fill}
 use Rattle.flight.specs.declared.stages.Took.{Took}
-use Rattle.flight.specs.declared.stages.Took.TheVariants.{Goes}
 use Rattle.flight.specs.View.{Core}
-use Rattle.flight.specs.Holding.{nothing}
-use Rattle.flight.specs.Stages.{decide, looks, is_table, looks_in, took_look, took_found}
-use Rattle.flight.specs.Knows.{IsReached, HasFound, LooksUp, own_in, Knows, phase_at}
-use Rattle.flight.specs.Stands.{holds_at, Stands}
-use Rattle.kernel_history.proofs.Carries.{Carries}
+use Rattle.flight.specs.Stages.{looks, is_table, looks_in, took_found}
+use Rattle.flight.specs.Knows.{HasFound, LooksUp, own_in}
+use Rattle.flight.specs.Stands.{Stands}
 use Rattle.flight.proofs.Carries.{found_on, names_on}
-use Rattle.flight.proofs.Loads.{step_to, core_is, flight_is, is_flight, loads_on, decides_on}
-use Rattle.flight.proofs.Refusals.{GoodTook, not_spent, refuses_no_slot, refuses_empty, refuses_wrong, refuses_occupied}
 use Rattle.flight.proofs.Lookups.{Shows, ShowsHeld, Arrives, slot_left, slot_right, under_step}
-use Rattle.flight.proofs.Findings.{own_is, past_slot, reaches_none, reaches_held, reaches_other, use_held, named_of, found_named, way_gone, gone_with, arriving, reached_now, found_now}
+use Rattle.flight.proofs.Findings.{past_slot, reaches_none, reaches_held, reaches_other, use_held, found_named, arriving, reached_now, found_now}
 use Rattle.spk_nums.specs.declared.kinds.Kind.TheVariants.{Table}
 use Rattle.seq_state.specs.Rules.{slot_of}
-use Rattle.seq_state.proofs.Relies.{Relies}
 use Rattle.kernel_history.proofs.Stays.{relies_usable}
-use Rattle.flight.specs.Knows.{ReliesOn, HasNames, IsSecond, IsTarget, IsFill}
+use Rattle.flight.specs.Knows.{HasNames}
 use Rattle.flight.proofs.LookLeaves.{at_stage, LookGood, table_is, own_no_slot, own_way, own_reached, room_is, open_is, TakesAt, empty_at, no_slot_at, wrong_at, occupied_at, goes_at}
 
 -- A table is wanted alone.

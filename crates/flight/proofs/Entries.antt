@@ -1,12 +1,10 @@
 -- The entry of a call is good: its calls are spent, its first name has no slot, or it looks that name up.
-use Rattle.std.proofs.Common.{◌≡◌, ◌≢◌, inl, inr, ℕ, ◌+◌, ◌<◌, ◌≤◌, ◌∷◌, Bool, true, false, nat_le, Option, Some, None, arith, refl, sym, ◌∙◌, ap, subst, IsTrue}
-use Rattle.std.proofs.lemmas.Bool.{leb-true, leb-false, le-leb, lt-leb}
+use Rattle.std.proofs.Common.{◌≡◌, inl, ℕ, ◌+◌, ◌<◌, ◌≤◌, ◌∷◌, Bool, true, false, nat_le, Some, None, arith, refl, sym, ◌∙◌, ap, subst, IsTrue}
+use Rattle.std.proofs.lemmas.Bool.{leb-true}
 use Rattle.spk_nums.specs.Built.{IsBuilt}
-use Rattle.spk_nums.specs.CallLimits.{InLimits}
 use Rattle.spk_nums.specs.Setting.{Setting, IsSetting}
 use Rattle.spk_nums.specs.declared.calls.Call.{Call}
 use Rattle.spk_nums.specs.declared.calls.Call.TheVariants.{Look as look_call, Copy}
-use Rattle.spk_nums.specs.declared.replies.Reply.{Reply}
 use Rattle.spk_nums.specs.declared.replies.Reply.TheVariants as reply
 use Rattle.word_map.specs.Word.{CoreAt}
 use Rattle.seq_state.specs.State.{State, comp_of}
@@ -80,7 +78,7 @@ module _ (setup : Setting) (setting : IsSetting setup) (cores : ℕ → Core) (t
       (let made = (stands.each c here).works.made in
       let same = same_count in
       let more : ((counted (entered s c) c).core c).counted ≡ ((entered s c).core c).counted + 1 =
-          ap (λ k. k.counted) (put_same (entered s c).core c (record ((entered s c).core c) { counted = ((entered s c).core c).counted + 1 }) c refl) in
+      ap (λ k. k.counted) (put_same (entered s c).core c (record ((entered s c).core c) { counted = ((entered s c).core c).counted + 1 }) c refl) in
       omega arith)
       (λ g i. refl)
       (record { call = call; is_open = refl; permitted = (spent_is ∙ unspent, rule); justified = tt })

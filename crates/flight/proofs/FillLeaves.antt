@@ -1,5 +1,5 @@
 -- The filling compare of a copy is good: it is lost to another core, or the place is free and takes the capability.
-use Rattle.std.proofs.Common.{◌≡◌, ◌≢◌, ◌⊎◌, inl, inr, ℕ, ◌+◌, ◌<◌, ◌≤◌, ◌==◌, ◌&&◌, ◌++◌, ◌∷◌, List, [], Bool, true, false, Option, Some, None, arith, refl, sym, ◌∙◌, ap, subst, IsTrue}
+use Rattle.std.proofs.Common.{◌≡◌, ◌≢◌, ◌⊎◌, inl, inr, ℕ, ◌+◌, ◌<◌, ◌==◌, ◌&&◌, ◌++◌, ◌∷◌, [], Bool, true, false, Option, Some, None, arith, refl, sym, ◌∙◌, ap, subst, IsTrue}
 use Rattle.std.specs.Prelude.{IsSome}
 use Rattle.std.proofs.lemmas.Bool.{eqb-true, eqb-false, false≢true}
 use Rattle.std.proofs.lemmas.List.Elements.{All-append}
@@ -11,13 +11,13 @@ use Rattle.spk_nums.specs.declared.replies.Value.TheVariants.{Nothing}
 use Rattle.spk_nums.specs.declared.replies.Reply.TheVariants as reply
 use Rattle.entry_words.specs.declared.entry.Entry.{Entry}
 use Rattle.entry_words.specs.declared.entry.Entry.TheVariants.{Free, Held, Closing, Quiescing}
-use Rattle.entry_words.specs.EntryWord.{EntryFits, word_of_entry, entry_of_word}
+use Rattle.entry_words.specs.EntryWord.{word_of_entry, entry_of_word}
 use Rattle.entry_words.proofs.Spelling.{spelling}
-use Rattle.word_map.specs.Word.{Word, EntryAt}
+use Rattle.word_map.specs.Word.{EntryAt}
 use Rattle.word_map.specs.Moves.{left_if}
-use Rattle.seq_state.specs.State.{Place, Free as Vacant, Holds, Quiescing as Removed, Frame, Kernel, Table, Leaf, Pages, Pleaf, Thing, PlaceOf, State, put, with_place}
+use Rattle.seq_state.specs.State.{Place, Free as Vacant, Holds, Quiescing as Removed, Frame, Kernel, Table, Leaf, Pages, Pleaf, Thing, PlaceOf, State, with_place}
 use Rattle.seq_state.specs.Access.{Slot, found, Target, Under, any, only, place_at, own}
-use Rattle.seq_state.specs.Rules.{Change, Judged, Refused, Found, IsFoundAnd, Vacant as to_be_free, Does, Name, and_then, or_refuse, unless, not_vacant, named, name_of, vacant, outcome, fills}
+use Rattle.seq_state.specs.Rules.{Found, IsFoundAnd, Vacant as to_be_free, Does, Name, and_then, or_refuse, unless, not_vacant, named, name_of, vacant, outcome, fills}
 use Rattle.seq_state.specs.CapabilityCalls.{copy_rule}
 use Rattle.seq_state.specs.CallRelation.{changed, change_of, counted, begins_in, state_by}
 use Rattle.seq_state.specs.Laws.{calls_counted}
@@ -27,16 +27,14 @@ use Rattle.seq_state.proofs.Apart.{slot_is, place_here, place_there}
 use Rattle.kernel_history.specs.Trace.{Step, Trace, Open, phase, state_after, state_decided_in, last_left, own_left}
 use Rattle.kernel_history.specs.Ways.{way_to, ways, target_of}
 use Rattle.kernel_history.specs.Justified.{HasReached, IsSlot}
-use Rattle.kernel_history.specs.Marks.{entry_mark, mark_of}
+use Rattle.kernel_history.specs.Marks.{entry_mark}
 use Rattle.kernel_history.specs.Stamps.{begins_in as begins_then, stamp}
 use Rattle.stage_look.specs.Shown.{CapNames}
 use Rattle.flight.specs.declared.stages.Stage.TheVariants.{Fill, Exit}
 use Rattle.flight.specs.declared.stages.InFlight.{InFlight}
 use Rattle.flight.specs.View.{Core}
 use Rattle.flight.specs.Stages.{took_fill}
-use Rattle.flight.specs.Steps.{landed}
 use Rattle.flight.specs.Words.{PlaceIs, IsFrameWord, WordIs}
-use Rattle.flight.specs.Holding.{marked_by}
 use Rattle.flight.specs.Knows.{HasFound, IsFill, own_in}
 use Rattle.flight.specs.Stands.{times_of, Stands}
 use Rattle.flight.proofs.Carries.{own_kept, slot_relies}
@@ -180,7 +178,7 @@ module _ (setup : Setting) (setting : IsSetting setup) (cores : ℕ → Core) (t
         let made = (stands.each c here).works.made in
         let x : ((state_after setup (e ∷ t)).core c).counted ≡ ((counted (with_place s node index (Holds k)) c).core c).counted = ap (λ y. (y.core c).counted) now in
         let y : ((counted (with_place s node index (Holds k)) c).core c).counted ≡ (s.core c).counted + 1 =
-            ap (λ z. z.counted) (put_same s.core c (record (s.core c) { counted = (s.core c).counted + 1 }) c refl) in
+        ap (λ z. z.counted) (put_same s.core c (record (s.core c) { counted = (s.core c).counted + 1 }) c refl) in
         omega arith
 
     -- a slot is the target's, or its place is as it was

@@ -1,9 +1,7 @@
 -- At each moment the words say what the state is; and where all cores are between calls, they represent it with the cores' ends.
-use Rattle.std.proofs.Common.{◌≡◌, ◌≢◌, ◌⊎◌, inl, inr, ℕ, zero, suc, ◌+◌, ◌<◌, ◌≤◌, Bool, true, false, List, slice_get, Option, Some, None, arith, refl, sym, ◌∙◌, ap, subst, IsTrue}
-use Rattle.std.specs.Prelude.{IsSome}
+use Rattle.std.proofs.Common.{◌≡◌, ◌≢◌, ◌⊎◌, inl, inr, ℕ, suc, ◌+◌, ◌<◌, true, false, List, slice_get, Option, Some, None, arith, refl, sym, ◌∙◌, ap, subst, IsTrue}
 use Rattle.std.proofs.lemmas.Bool.{cases_lt, false≢true, true≢false}
 use Rattle.spk_nums.specs.Capability.{Capability}
-use Rattle.spk_nums.specs.Setting.{Setting, IsSetting}
 use Rattle.spk_nums.specs.declared.translations.Translation.{Translation}
 use Rattle.spk_nums.specs.declared.translations.CoreEnd.{CoreEnd}
 use Rattle.entry_words.specs.declared.entry.Entry.{Entry}
@@ -11,26 +9,24 @@ use Rattle.entry_words.specs.EntryWord.{entry_of_word}
 use Rattle.tcap_words.specs.Quality.{quality_of_word}
 use Rattle.tcap_words.specs.Stack.{stack_of_word}
 use Rattle.frame_words.specs.declared.live_word.LiveWord.{LiveWord}
-use Rattle.frame_words.specs.declared.core_word.CoreWord.{CoreWord}
 use Rattle.word_map.specs.Word.{Word, EntryAt, FrameAt, CoreAt, LiveAt}
-use Rattle.seq_state.specs.State.{Place, Free, Holds, Quiescing, Object, Blank, Table, Leaf, Pages, Pleaf, Comp, Thread, Tcap, Frame, Untyped, User, Kernel, Liveness, Unused, Live, Dead, PlaceOf, NumberOf, State}
+use Rattle.seq_state.specs.State.{Place, Free, Holds, Quiescing, Blank, Table, Leaf, Pages, Pleaf, Comp, Thread, Tcap, Frame, Untyped, User, Kernel, Liveness, Unused, Live, Dead, PlaceOf, NumberOf, State}
 use Rattle.seq_state.specs.Access.{held_in}
-use Rattle.seq_state.proofs.Sound.{is_node as is_sound_node, IsSound}
+use Rattle.seq_state.proofs.Sound.{is_node as is_sound_node}
 use Rattle.kernel_history.specs.ObjectWords.{is_node, at_height}
-use Rattle.kernel_history.specs.FinalWords.{SaysPlace, AreFrame, SaysNumber, SaysOut, HoldNothing, Represent, end_of as end_in}
-use Rattle.kernel_history.specs.Moments.{EntrySays, CoreSays, WordsSay}
-use Rattle.kernel_history.specs.Trace.{Trace, Phase, Out, Open, Decided, phase, state_after, last_left}
+use Rattle.kernel_history.specs.FinalWords.{SaysPlace, AreFrame, SaysNumber, end_of as end_in}
+use Rattle.kernel_history.specs.Moments.{EntrySays, CoreSays}
+use Rattle.kernel_history.specs.Trace.{Phase, Out, Open, Decided, phase, state_after, last_left}
 use Rattle.kernel_history.specs.Stamps.{is_in, stamp, exit_of}
 use Rattle.kernel_history.proofs.Inside.{inside_is}
 use Rattle.kernel_history.proofs.Stays.{sound_of}
-use Rattle.flight.specs.declared.stages.InFlight.{InFlight}
 use Rattle.flight.specs.View.{Core}
 use Rattle.flight.specs.Steps.{end_of}
-use Rattle.flight.specs.Holding.{marked_by, settled_by, settled}
+use Rattle.flight.specs.Holding.{marked_by, settled_by}
 use Rattle.flight.specs.Words.{PlaceIs, IsFrameWord, NumberIs, WordIs}
 use Rattle.flight.specs.Knows.{FlightIs, WorksIn}
-use Rattle.flight.specs.Stands.{held_by, times_of, Stands}
-use Rattle.flight.specs.Theorems.{SaysWords, AreBetween, Represents}
+use Rattle.flight.specs.Stands.{held_by, times_of}
+use Rattle.flight.specs.Theorems.{SaysWords, Represents}
 use Rattle.flight.proofs.Places.{IsMarked, IsPlain, place_reads, marker_inside}
 
 sound_node : (x : Frame) → IsTrue (is_node x) → IsTrue (is_sound_node x)

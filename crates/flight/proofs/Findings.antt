@@ -1,5 +1,5 @@
 -- What a look-up that has arrived has found: the name of a call, or the place of its target.
-use Rattle.std.proofs.Common.{◌≡◌, ◌≢◌, ℕ, ◌<◌, ◌≤◌, ◌&&◌, ◌||◌, ◌++◌, ◌∷◌, List, [], Bool, true, false, not, nat_le, nat_lt, if◌then◌else◌, Option, Some, None, arith, refl, sym, ◌∙◌, ap, subst, IsTrue, IsFalse}
+use Rattle.std.proofs.Common.{◌≡◌, ℕ, ◌&&◌, ◌||◌, ◌++◌, ◌∷◌, [], Bool, true, false, not, nat_le, if◌then◌else◌, Option, Some, None, refl, sym, ◌∙◌, ap, subst, IsTrue, IsFalse}
 use Rattle.std.specs.Prelude.{IsSome, IsSomeAnd, is_some, option_to_list}
 use Rattle.std.proofs.lemmas.Bool.{leb-false, lt-ltb}
 use Rattle.std.proofs.lemmas.List.Elements.{All-nil, All-cons, All-append}
@@ -10,7 +10,7 @@ use Rattle.spk_nums.specs.declared.replies.Reply.TheVariants as reply
 use Rattle.entry_words.specs.EntryWord.{EntryFits}
 use Rattle.entry_words.specs.declared.entry.Entry.TheVariants.{Held}
 use Rattle.word_map.specs.Word.{EntryAt}
-use Rattle.seq_state.specs.State.{Place, Free, Holds, Quiescing, PlaceOf, State, comp_of}
+use Rattle.seq_state.specs.State.{Holds, PlaceOf, State, comp_of}
 use Rattle.seq_state.specs.Access.{Slot, Named, found, Target, Under, InRoot, place_at, held_in, usable_in, usable, reached, has_no_slot, own}
 use Rattle.seq_state.specs.Rules.{Found, and_then, or_refuse, of_kind, named, name_of, ReachesNone, ReachesHeld, ReachesOther}
 use Rattle.kernel_history.specs.Trace.{Step, Trace, state_after, own_left}
@@ -20,7 +20,7 @@ use Rattle.kernel_history.proofs.Steps.{own_left-here}
 use Rattle.flight.specs.Knows.{IsReached, HasFound, own_in}
 use Rattle.flight.proofs.Carries.{own_kept}
 use Rattle.flight.proofs.Loads.{step_to}
-use Rattle.flight.proofs.Lookups.{ShowsHeld, Arrives}
+use Rattle.flight.proofs.Lookups.{Arrives}
 
 -- the target of an own name
 pub own_is : (s : State) (c table n : ℕ) → table ≡ (comp_of s c).table → own_in table n ≡ own s c n

@@ -5,14 +5,16 @@ use Rattle.spk_nums.specs.Capability.{Capability}
 use Rattle.spk_nums.specs.Setting.{Setting, IsSetting}
 use Rattle.spk_nums.specs.declared.calls.Call.{Call}
 use Rattle.word_map.specs.Word.{Word, EntryAt}
-use Rattle.seq_state.specs.State.{Quiescing, Thing, State, put, thread_of, comp_of, first_of_stack}
+use Rattle.seq_state.specs.State.{Quiescing, put, thread_of, comp_of, first_of_stack}
 use Rattle.seq_state.proofs.Within.{put_same, put_other}
-use Rattle.kernel_history.specs.Trace.{Step, Trace, Out, Open, phase, state_after, own_left}
+use Rattle.kernel_history.specs.Trace.{Step, Trace, Open, phase, state_after}
 use Rattle.kernel_history.specs.Bounds.{IsWithin}
-use Rattle.kernel_history.specs.Legal.{MayFollow, IsLegal}
+use Rattle.kernel_history.specs.Legal.{MayFollow}
 use Rattle.kernel_history.specs.Stamps.{is_in, clock}
 use Rattle.kernel_history.proofs.Steps.{phase-other, calls_of-other, steps_in_call-other, own_left-other, exit_of-other, flush_of-other, flush_stored-other}
 use Rattle.kernel_history.proofs.Graces.{KeepsTime, LeavesBy}
+use Rattle.seq_state.proofs.Stays.{OwnStay}
+use Rattle.kernel_history.proofs.Stays.{own_stays_other}
 use Rattle.kernel_history.proofs.Inside.{inside_is}
 use Rattle.kernel_history.proofs.GraceSteps.{grace_on, times_on}
 use Rattle.kernel_history.proofs.Waiting.{leave_on}
@@ -23,15 +25,9 @@ use Rattle.flight.specs.declared.stages.InFlight.{InFlight}
 use Rattle.flight.specs.View.{Core}
 use Rattle.flight.specs.Holding.{settled, MarkIs}
 use Rattle.flight.specs.Words.{WordIs}
-use Rattle.flight.specs.Knows.{phase_at, FlightIs, InFlightIs, Knows, WorksIn, CoreIs}
+use Rattle.flight.specs.Knows.{phase_at, FlightIs, Knows, WorksIn, CoreIs}
 use Rattle.flight.specs.Stands.{held_by, times_of, counted_in, Stands}
 use Rattle.flight.proofs.Carries.{look_knows_on, fill_on}
-
--- Where another core works stays.
-pub record WorksOn (setup : Setting) (t : Trace) (e : Step) (d : ℕ) : Type 0 where
-  pub core : (state_after setup (e ∷ t)).core d ≡ (state_after setup t).core d
-  pub thread : thread_of (state_after setup (e ∷ t)) d ≡ thread_of (state_after setup t) d
-  pub comp : comp_of (state_after setup (e ∷ t)) d ≡ comp_of (state_after setup t) d
 
 -- A good step: it may follow, keeps its call's bound, and leaves marks, words, time and its own core as they are to be.
 pub record IsGood (setup : Setting) (cores : ℕ → Core) (t : Trace) (e : Step) (after : Core) : Type 0 where
@@ -43,10 +39,11 @@ pub record IsGood (setup : Setting) (cores : ℕ → Core) (t : Trace) (e : Step
   pub none_removed : (f i : ℕ) (k : Capability) → (state_after setup (e ∷ t)).place f i ≢ Quiescing k
   pub time : KeepsTime setup t e
   pub leaves : LeavesBy setup t e e.returns
-  pub works : (d : ℕ) → d ≢ e.core → WorksOn setup t e d
   pub own : CoreIs setup after (e ∷ t) e.core
 
-works_on : (setup : Setting) (t : Trace) (e : Step) (core : Core) (c : ℕ) → WorksOn setup t e c → WorksIn core (state_after setup t) c → WorksIn core (state_after setup (e ∷ t)) c
+-- where another core works stays
+works_on : (setup : Setting) (t : Trace) (e : Step) (core : Core) (c : ℕ) → OwnStay (state_after setup t) (state_after setup (e ∷ t)) c
+    → WorksIn core (state_after setup t) c → WorksIn core (state_after setup (e ∷ t)) c
 works_on setup t e core c on is = record {
   thread = is.thread ∙ ap (λ k. k.thread) (sym on.core);
   depth = is.depth ∙ ap (λ k. length k.stack) (sym on.thread);
@@ -83,13 +80,13 @@ module _ (setup : Setting) (setting : IsSetting setup) (cores : ℕ → Core) (t
     knows = knows_other follows time c table f other f.stage refl is.phase is.knows;
   }
 
-  core_other : MayFollow setup t e → KeepsTime setup t e → (core : Core) (c : ℕ) → c ≢ e.core → WorksOn setup t e c → CoreIs setup core t c → CoreIs setup core (e ∷ t) c
-  core_other follows time core c other works is = record {
+  core_other : MayFollow setup t e → KeepsTime setup t e → (core : Core) (c : ℕ) → c < setup.cores → c ≢ e.core → CoreIs setup core t c → CoreIs setup core (e ∷ t) c
+  core_other follows time core c here other is = record {
     fits = is.fits;
     number = is.number;
     shape = is.shape;
     limit = is.limit;
-    works = works_on setup t e core c works is.works;
+    works = works_on setup t e core c (own_stays_other setup setting t stands.legal e follows c here other) is.works;
     exit = is.exit ∙ sym (exit_of-other c e t other);
     flushed = flush_stored-other c e t other ∙ is.flushed ∙ sym (flush_of-other c e t other);
     flight = flight_other follows time c core.table other core.flight is.flight;
@@ -110,7 +107,7 @@ module _ (setup : Setting) (setting : IsSetting setup) (cores : ℕ → Core) (t
     each = λ c here. elim (cases_eq c e.core) [
       | inl own ↦ subst (λ k. CoreIs setup k (e ∷ t) c) (sym (put_same cores e.core after c own)) (subst (λ (d : ℕ). CoreIs setup after (e ∷ t) d) (sym own) good.own)
       | inr other ↦ subst (λ k. CoreIs setup k (e ∷ t) c) (sym (put_other cores e.core after c other))
-          (core_other good.follows good.time (cores c) c other (good.works c other) (stands.each c here))
+          (core_other good.follows good.time (cores c) c here other (stands.each c here))
     ];
     away = λ c past.
         let core : e.core < setup.cores = good.follows.is_core in

@@ -1,36 +1,35 @@
 -- The ways in which a call in flight makes a step that leaves its word as found: it goes on undecided, or it is decided with a
 -- reply that leaves all as it was but the count of calls.
-use Rattle.std.proofs.Common.{◌≡◌, ◌≢◌, ℕ, ◌+◌, ◌<◌, ◌≤◌, Bool, true, false, ◌∷◌, Option, Some, None, arith, refl, sym, ◌∙◌, ap, subst}
+use Rattle.std.proofs.Common.{◌≡◌, ◌≢◌, ℕ, ◌+◌, ◌<◌, ◌≤◌, false, ◌∷◌, Option, Some, None, arith, refl, sym, ◌∙◌, ap, subst}
 use Rattle.spk_nums.specs.Bounds.{bound_of}
 use Rattle.spk_nums.specs.Setting.{Setting, IsSetting}
 use Rattle.spk_nums.specs.declared.calls.Call.{Call}
 use Rattle.spk_nums.specs.declared.replies.Reply.{Reply}
-use Rattle.word_map.specs.Word.{Word, EntryAt, CoreAt, FlushAt, ClockAt, same_word}
-use Rattle.seq_state.specs.State.{Thing, State, put}
+use Rattle.word_map.specs.Word.{Word, FlushAt, ClockAt, same_word}
+use Rattle.seq_state.specs.State.{Thing}
 use Rattle.seq_state.specs.CallRelation.{MayReply, state_by, counted, begins, ends, flushes}
 use Rattle.seq_state.specs.Laws.{calls_counted}
 use Rattle.seq_state.proofs.Within.{put_same}
 use Rattle.kernel_history.proofs.Inside.{decided-inside}
-use Rattle.kernel_history.specs.Trace.{Step, Trace, Phase, Out, Open, Decided, phase, after_enter, after_decide, after_return, state_after, state_decided_in, last_left, steps_in_call}
+use Rattle.kernel_history.specs.Trace.{Step, Trace, Out, Open, phase, after_decide, after_return, state_after, state_decided_in, last_left, steps_in_call}
 use Rattle.kernel_history.specs.Bounds.{call_in, IsWithin}
 use Rattle.kernel_history.specs.Justified.{IsJustified}
 use Rattle.kernel_history.specs.Legal.{MayFollow}
 use Rattle.kernel_history.proofs.Carries.{Carries, carries_own}
-use Rattle.kernel_history.specs.Stamps.{begins_in, ends_in, flushes_in, clock}
+use Rattle.kernel_history.specs.Stamps.{begins_in, ends_in, flushes_in}
 use Rattle.kernel_history.proofs.Steps.{phase-own, steps_in_call-own}
 use Rattle.flight.specs.declared.stages.Stage.{Stage}
 use Rattle.flight.specs.declared.stages.Stage.TheVariants.{Enter, Looking, Fill, Exit, Leave}
 use Rattle.flight.specs.declared.stages.InFlight.{InFlight}
-use Rattle.flight.specs.declared.stages.Took.TheVariants.{Goes, Decides}
 use Rattle.flight.specs.View.{Core}
-use Rattle.flight.specs.Steps.{went, landed}
+use Rattle.flight.specs.Steps.{went}
 use Rattle.flight.specs.Fits.{IsCore, IsFlight, FlightFits, left_for, left_in, steps_left}
 use Rattle.flight.specs.Knows.{phase_at, Knows, InFlightIs, FlightIs, CoreIs}
-use Rattle.flight.specs.Stands.{holds_at, holds_in, holds, counted_in, Stands}
+use Rattle.flight.specs.Stands.{holds_at, holds_in, holds, Stands}
 use Rattle.flight.proofs.CoreFits.{absorbed_fewer}
 use Rattle.flight.proofs.WordFrames.{load_keeps, load_marks, load_words}
 use Rattle.flight.proofs.Good.{IsGood}
-use Rattle.flight.proofs.Calm.{IsCalm, calm_same, calm_counted, calm_own, calm_works, calm_words, counted_rises, IsPlain, plain_time, plain_exit, plain_flushed}
+use Rattle.flight.proofs.Calm.{IsCalm, calm_same, calm_counted, calm_own, calm_words, counted_rises, IsPlain, plain_time, plain_exit, plain_flushed}
 
 -- A step of core c.
 abbrev pub step_to : ℕ → Option Call → Word → ℕ → ℕ → Option Reply → Option Reply → Step
@@ -149,7 +148,6 @@ module _ (setup : Setting) (setting : IsSetting setup) (cores : ℕ → Core) (t
         none_removed = stands.none_removed;
         time = plain_time setup t e plain;
         leaves = tt;
-        works = calm_works setup t e (calm_same (state_after setup t) c);
         own = inner_own w found found None None refl plain (cores c).made stage fits (calm_same (state_after setup t) c) core_is.works.made at (knows (carries_own setup t e follows (plain_time setup t e plain) stands.graces refl refl refl));
       }
 
@@ -191,7 +189,6 @@ module _ (setup : Setting) (setting : IsSetting setup) (cores : ℕ → Core) (t
         none_removed = λ g i k h. stands.none_removed g i k (sym (ap (λ s. s.place g i) now) ∙ h);
         time = plain_time setup t e plain;
         leaves = tt;
-        works = calm_works setup t e calm;
         own = inner_own w found found (Some r) None refl plain ((cores c).made + calls_counted r) (Exit r) fits calm (counts now)
             (ap (after_decide (Some r)) opens) tt;
       }
@@ -202,5 +199,5 @@ module _ (setup : Setting) (setting : IsSetting setup) (cores : ℕ → Core) (t
           let made = core_is.works.made in
           let g : ((state_after setup (inner w found found (Some r) None ∷ t)).core c).counted ≡ ((counted (state_after setup t) c).core c).counted = ap (λ s. (s.core c).counted) now in
           let k : ((counted (state_after setup t) c).core c).counted ≡ ((state_after setup t).core c).counted + 1 =
-              ap (λ j. j.counted) (put_same (state_after setup t).core c (record ((state_after setup t).core c) { counted = ((state_after setup t).core c).counted + 1 }) c refl) in
+          ap (λ j. j.counted) (put_same (state_after setup t).core c (record ((state_after setup t).core c) { counted = ((state_after setup t).core c).counted + 1 }) c refl) in
           omega arith

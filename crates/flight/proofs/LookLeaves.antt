@@ -1,14 +1,11 @@
 -- The steps of a look, and of the look-ups of a copy, are good.
-use Rattle.std.proofs.Common.{◌≡◌, ◌≢◌, inl, inr, ℕ, ◌<◌, ◌≤◌, ◌++◌, ◌∷◌, List, [], Bool, true, false, nat_le, Option, Some, None, arith, refl, sym, ◌∙◌, ap, subst, IsTrue}
-use Rattle.std.specs.Prelude.{IsSome, option_to_list}
-use Rattle.std.proofs.lemmas.Bool.{leb-true}
+use Rattle.std.proofs.Common.{◌≡◌, inl, ℕ, ◌<◌, ◌∷◌, [], true, false, Some, None, refl, sym, ◌∙◌, ap, subst, IsTrue}
+use Rattle.std.specs.Prelude.{IsSome}
 use Rattle.std.proofs.lemmas.List.Elements.{All-nil, All-append}
 use Rattle.spk_nums.specs.Capability.{Capability}
 use Rattle.spk_nums.specs.Setting.{Setting, IsSetting}
-use Rattle.spk_nums.specs.declared.kinds.Kind.{Kind}
-use Rattle.spk_nums.specs.declared.kinds.Kind.TheVariants as kind
 use Rattle.spk_nums.specs.declared.calls.Call.{Call}
-use Rattle.spk_nums.specs.declared.calls.Call.TheVariants.{Look as look_call, Copy}
+use Rattle.spk_nums.specs.declared.calls.Call.TheVariants.{Look as look_call}
 use Rattle.spk_nums.specs.declared.replies.Value.TheVariants.{Cap}
 use Rattle.spk_nums.specs.declared.replies.Reply.TheVariants as reply
 use Rattle.entry_words.specs.declared.entry.Entry.{Entry}
@@ -19,33 +16,32 @@ use Rattle.word_map.specs.Moves.{word_of}
 use Rattle.seq_state.specs.State.{Thing, State, comp_of}
 use Rattle.seq_state.specs.Access.{Slot, Named, found, root_at, Target, Under, any, only, place_at, held_in, has_no_slot, own}
 use Rattle.seq_state.specs.Rules.{RuleMay, Change, Judged, Refused, Found, IsFoundAnd, named, name_of, outcome, answers}
-use Rattle.seq_state.specs.CapabilityCalls.{look_rule, copy_rule}
+use Rattle.seq_state.specs.CapabilityCalls.{look_rule}
 use Rattle.seq_state.specs.CallRelation.{rule_of, changed, change_of, counted, begins_in}
 use Rattle.kernel_history.specs.Trace.{Step, Trace, Open, phase, state_after, last_left, own_left}
-use Rattle.kernel_history.specs.Ways.{wide_way_to, wide_ways, way_to}
+use Rattle.kernel_history.specs.Ways.{wide_way_to, way_to}
 use Rattle.kernel_history.specs.Justified.{HasReached, is_slot_in}
 use Rattle.stage_look.specs.Shown.{shown_in}
 use Rattle.stage_look.specs.Lookup.{look_move, found_at}
 use Rattle.stage_look.specs.declared.look.Look.{Look}
-use Rattle.stage_look.specs.declared.look.Look.TheVariants.{AtRoot}
 use Rattle.flight.specs.declared.stages.Want.{Want}
-use Rattle.flight.specs.declared.stages.Want.TheVariants.{First, Second, Target as target_want}
+use Rattle.flight.specs.declared.stages.Want.TheVariants.{First}
 use Rattle.flight.specs.declared.stages.Stage.{Stage}
-use Rattle.flight.specs.declared.stages.Stage.TheVariants.{Looking, Fill, Exit}
+use Rattle.flight.specs.declared.stages.Stage.TheVariants.{Looking}
 use Rattle.flight.specs.declared.stages.InFlight.{InFlight}
 use Rattle.flight.specs.declared.stages.Took.{Took}
 use Rattle.flight.specs.declared.stages.Took.TheVariants.{Goes}
 use Rattle.flight.specs.View.{Core}
 use Rattle.flight.specs.Holding.{nothing}
-use Rattle.flight.specs.Stages.{decide, looks, is_table, looks_in, took_look, took_found}
-use Rattle.flight.specs.Knows.{IsReached, HasFound, LooksUp, own_in, Knows, phase_at}
+use Rattle.flight.specs.Stages.{decide, looks, took_look, took_found}
+use Rattle.flight.specs.Knows.{LooksUp, own_in, Knows, phase_at}
 use Rattle.flight.specs.Stands.{holds_at, Stands}
 use Rattle.kernel_history.proofs.Carries.{Carries}
 use Rattle.flight.proofs.Carries.{own_kept}
-use Rattle.flight.proofs.Loads.{step_to, core_is, flight_is, is_flight, loads_on, decides_on}
+use Rattle.flight.proofs.Loads.{step_to, flight_is, is_flight, loads_on, decides_on}
 use Rattle.flight.proofs.Refusals.{GoodTook, not_spent, refuses_no_slot, refuses_empty, refuses_wrong, refuses_occupied}
-use Rattle.flight.proofs.Lookups.{Shows, ShowsHeld, Arrives, slot_left, slot_right, under_step}
-use Rattle.flight.proofs.Findings.{own_is, past_slot, reaches_none, reaches_held, reaches_other, use_held, named_of, found_named, way_gone, gone_with, arriving, reached_now, found_now}
+use Rattle.flight.proofs.Lookups.{Shows, Arrives, slot_left, under_step}
+use Rattle.flight.proofs.Findings.{own_is, reaches_none, use_held, named_of, way_gone, gone_with, arriving}
 
 -- A call in flight at a stage.
 abbrev pub at_stage : Call → ℕ → Stage → InFlight
@@ -111,7 +107,7 @@ module _ (setup : Setting) (setting : IsSetting setup) (cores : ℕ → Core) (t
 
     pub goes_at : (at : Slot) (target : Target) (next : Stage) → (arrives : Arrives setup t c target at) → holds_at next (cores c).core ≡ nothing → Open call ≡ phase_at call next
         → (Carries setup t (arriving setup t c target at (last_left setup t (EntryAt at.node at.index)) arrives) c
-            → Knows setup (arriving setup t c target at (last_left setup t (EntryAt at.node at.index)) arrives ∷ t) c (cores c).table call next)
+        → Knows setup (arriving setup t c target at (last_left setup t (EntryAt at.node at.index)) arrives ∷ t) c (cores c).table call next)
         → TakesAt at (Goes next)
     goes_at at target next arrives holds_none opens knows fits =
         loads_on setup setting cores t stands c here (at_stage call steps (Looking want look)) flight (EntryAt at.node at.index) (last_left setup t (EntryAt at.node at.index)) next refl (λ d. refl)

@@ -1,24 +1,23 @@
 -- A step of a look-up is good, whatever the call looks for: it goes on to the leaf, is refused, or arrives at the place.
-use Rattle.std.proofs.Common.{◌≡◌, ◌≢◌, ◌⊎◌, inl, inr, ℕ, ◌+◌, ◌<◌, ◌≤◌, ◌/◌, ◌%◌, ◌&&◌, ◌||◌, ◌==◌, ◌++◌, ◌∷◌, List, [], Bool, true, false, not, nat_le, nat_lt, cond, if◌then◌else◌, Option, Some, None, arith, refl, sym, ◌∙◌, ap, subst, IsTrue}
+use Rattle.std.proofs.Common.{◌≡◌, ◌⊎◌, inl, inr, ℕ, ◌<◌, ◌≤◌, ◌/◌, ◌%◌, ◌&&◌, ◌||◌, ◌==◌, ◌++◌, ◌∷◌, List, [], Bool, true, false, not, nat_le, nat_lt, if◌then◌else◌, Option, Some, None, arith, refl, sym, ◌∙◌, ap, subst, IsTrue}
 use Rattle.std.specs.Prelude.{IsSome, option_to_list}
 use Rattle.std.specs.List.{list_any}
-use Rattle.std.proofs.lemmas.Bool.{false≢true, le-leb, leb-true, eq-eqb}
+use Rattle.std.proofs.lemmas.Bool.{le-leb, eq-eqb}
 use Rattle.std.proofs.lemmas.List.Folds.{list_any-append}
 use Rattle.std.proofs.lemmas.List.Elements.{All-nil, All-cons}
 use Rattle.spk_nums.specs.Capability.{Capability}
 use Rattle.spk_nums.specs.Setting.{Setting, IsSetting}
 use Rattle.spk_nums.specs.declared.kinds.Kind.{Kind}
 use Rattle.spk_nums.specs.declared.kinds.Kind.TheVariants as kind
-use Rattle.spk_nums.specs.declared.calls.Call.{Call}
 use Rattle.spk_nums.specs.declared.replies.Reply.TheVariants as reply
 use Rattle.entry_words.specs.declared.entry.Entry.{Entry}
 use Rattle.entry_words.specs.declared.entry.Entry.TheVariants.{Free, Held, Closing, Quiescing}
 use Rattle.entry_words.specs.EntryWord.{EntryFits, entry_of_word}
 use Rattle.entry_words.proofs.Spelling.{spelling}
-use Rattle.word_map.specs.Word.{Word, EntryAt}
+use Rattle.word_map.specs.Word.{EntryAt}
 use Rattle.word_map.specs.Moves.{word_of}
 use Rattle.seq_state.specs.State.{Place, Free as Vacant, Holds, Quiescing as Removed, PlaceOf, State}
-use Rattle.seq_state.specs.Access.{Slot, Named, Target, Under, InRoot, place_at, only, held_in, usable_in, usable, linked, slot_in, root_slot, reached, holds_link, has_no_slot}
+use Rattle.seq_state.specs.Access.{Slot, Named, Target, Under, InRoot, place_at, only, usable_in, usable, linked, slot_in, root_slot, reached, holds_link, has_no_slot}
 use Rattle.seq_state.specs.Rules.{RuleMay}
 use Rattle.seq_state.specs.CallRelation.{rule_of}
 use Rattle.seq_state.proofs.Relies.{Relies}
@@ -33,19 +32,17 @@ use Rattle.stage_look.specs.Lookup.{look_move, found_at}
 use Rattle.stage_look.specs.declared.look.Look.{Look}
 use Rattle.stage_look.specs.declared.look.Look.TheVariants.{AtRoot, AtLeaf, AtEntry}
 use Rattle.flight.specs.declared.stages.Want.{Want}
-use Rattle.flight.specs.declared.stages.Stage.{Stage}
 use Rattle.flight.specs.declared.stages.Stage.TheVariants.{Looking}
 use Rattle.flight.specs.declared.stages.InFlight.{InFlight}
-use Rattle.flight.specs.declared.stages.Took.{Took}
 use Rattle.flight.specs.View.{Core}
 use Rattle.flight.specs.Holding.{nothing}
 use Rattle.flight.specs.declared.stages.Took.TheVariants.{Goes}
 use Rattle.flight.specs.Stages.{decide, took_end, took_look, took_found}
 use Rattle.flight.specs.Words.{PlaceIs}
-use Rattle.flight.specs.Knows.{ReliesOn, IsAtRoot, IsAtLeaf, IsAtEntry, LooksUp, KnowsLook, phase_at}
+use Rattle.flight.specs.Knows.{ReliesOn, LooksUp, KnowsLook, phase_at}
 use Rattle.flight.specs.Stands.{holds_at, Stands}
 use Rattle.kernel_history.proofs.Carries.{Carries}
-use Rattle.flight.proofs.Loads.{step_to, is_flight, flight_is, loads_on}
+use Rattle.flight.proofs.Loads.{step_to, loads_on}
 use Rattle.flight.proofs.Places.{IsMarked, IsPlain, place_reads}
 use Rattle.flight.proofs.Refusals.{GoodTook, refuses_no_slot, refuses_busy}
 
@@ -150,9 +147,9 @@ module _ (setup : Setting) (setting : IsSetting setup) (cores : ℕ → Core) (t
     (on_way : (g i : ℕ) → is_slot_in (wide_way_to (state_after setup t) target) g i ≡ true → is_slot_in (wide_ways (state_after setup t) c (rule_of (state_after setup t) c f.call)) g i ≡ true)
     (goes : (e : Step) (look : Look) → Carries setup t e c → LooksUp setup (e ∷ t) c target look → KnowsLook setup (e ∷ t) c (cores c).table f.call want look)
     (done : (at : Slot) (v : Entry) → Arrives setup t c target at → entry_of_word (last_left setup t (EntryAt at.node at.index)) ≡ Some v
-        → Shows setup.frames (place_at (state_after setup t) at) v
-        → GoodTook setup cores t c f (EntryAt at.node at.index) (last_left setup t (EntryAt at.node at.index)) (last_left setup t (EntryAt at.node at.index))
-            (took_found (cores c).table f.call want (found_at at.node at.index (last_left setup t (EntryAt at.node at.index)) v))) where
+    → Shows setup.frames (place_at (state_after setup t) at) v
+    → GoodTook setup cores t c f (EntryAt at.node at.index) (last_left setup t (EntryAt at.node at.index)) (last_left setup t (EntryAt at.node at.index))
+    (took_found (cores c).table f.call want (found_at at.node at.index (last_left setup t (EntryAt at.node at.index)) v))) where
   -- what is taken from the word of a look-up at this place
   abbrev Takes : Look → ℕ → ℕ → Type 0
   Takes look g i = GoodTook setup cores t c f (EntryAt g i) (last_left setup t (EntryAt g i)) (last_left setup t (EntryAt g i))
@@ -191,12 +188,12 @@ module _ (setup : Setting) (setting : IsSetting setup) (cores : ℕ → Core) (t
     (f : InFlight) (flight : (cores c).flight ≡ Some f) (want : Want) (table : Named) (n : ℕ) (is_open : phase t c ≡ Open f.call)
     (no_slot : IsTrue (has_no_slot (state_after setup t) (Under table n)) → RuleMay (state_after setup t) c (rule_of (state_after setup t) c f.call) reply.NoSlot)
     (on_way : (g i : ℕ) → is_slot_in (wide_way_to (state_after setup t) (Under table n)) g i ≡ true
-        → is_slot_in (wide_ways (state_after setup t) c (rule_of (state_after setup t) c f.call)) g i ≡ true)
+    → is_slot_in (wide_ways (state_after setup t) c (rule_of (state_after setup t) c f.call)) g i ≡ true)
     (goes : (e : Step) (look : Look) → Carries setup t e c → LooksUp setup (e ∷ t) c (Under table n) look → KnowsLook setup (e ∷ t) c (cores c).table f.call want look)
     (done : (at : Slot) (v : Entry) → Arrives setup t c (Under table n) at → entry_of_word (last_left setup t (EntryAt at.node at.index)) ≡ Some v
-        → Shows setup.frames (place_at (state_after setup t) at) v
-        → GoodTook setup cores t c f (EntryAt at.node at.index) (last_left setup t (EntryAt at.node at.index)) (last_left setup t (EntryAt at.node at.index))
-            (took_found (cores c).table f.call want (found_at at.node at.index (last_left setup t (EntryAt at.node at.index)) v)))
+    → Shows setup.frames (place_at (state_after setup t) at) v
+    → GoodTook setup cores t c f (EntryAt at.node at.index) (last_left setup t (EntryAt at.node at.index)) (last_left setup t (EntryAt at.node at.index))
+    (took_found (cores c).table f.call want (found_at at.node at.index (last_left setup t (EntryAt at.node at.index)) v)))
     (room : (cores c).made < (cores c).limit) where
   abbrev Shown : Look → ℕ → ℕ → Option Entry → Type 0
   Shown = TakesShown setup setting cores t stands c here f flight want (Under table n) is_open no_slot on_way goes done
@@ -207,7 +204,7 @@ module _ (setup : Setting) (setting : IsSetting setup) (cores : ℕ → Core) (t
     where
       by_link : (k : Capability) → ShowsHeld setup.frames ((state_after setup t).place table.frame (n / 64)) k → (b : Bool) → is_link k.kind ≡ b
           → GoodTook setup cores t c f (EntryAt table.frame (n / 64)) (last_left setup t (EntryAt table.frame (n / 64))) (last_left setup t (EntryAt table.frame (n / 64)))
-              (took_end (cores c).table f.call want (Rattle.stage_look.specs.Lookup.after_link b table.frame n k.frame) (Rattle.stage_look.specs.Lookup.end_by_link b))
+          (took_end (cores c).table f.call want (Rattle.stage_look.specs.Lookup.after_link b table.frame n k.frame) (Rattle.stage_look.specs.Lookup.end_by_link b))
       by_link k shows true is = further setup setting cores t stands c here f flight want (Under table n) is_open no_slot on_way goes done (AtRoot table.frame n) at room table.frame (n / 64) (AtLeaf k.frame n)
           (λ e carries own. record {
             relies = carries.stays.relies _ looks.relies;
@@ -293,7 +290,7 @@ module _ (setup : Setting) (setting : IsSetting setup) (cores : ℕ → Core) (t
   -- the step of any look-up under a number
   pub under_step : (look : Look) → f.stage ≡ Looking want look → LooksUp setup t c (Under table n) look
       → GoodTook setup cores t c f (word_of (look_move look)) (last_left setup t (word_of (look_move look))) (last_left setup t (word_of (look_move look)))
-          (took_look (cores c).table f.call want look (last_left setup t (word_of (look_move look))) (shown_in setup.frames (last_left setup t (word_of (look_move look)))))
+      (took_look (cores c).table f.call want look (last_left setup t (word_of (look_move look))) (shown_in setup.frames (last_left setup t (word_of (look_move look)))))
   under_step (AtRoot root number) at looks = subst Goal looks.at.frame (subst Of looks.at.same (λ at looks. root_step at looks)) at looks
     where
       Of : ℕ → Type 0
@@ -315,12 +312,12 @@ module _ (setup : Setting) (setting : IsSetting setup) (cores : ℕ → Core) (t
     (f : InFlight) (flight : (cores c).flight ≡ Some f) (want : Want) (table : Named) (i : ℕ) (is_open : phase t c ≡ Open f.call)
     (no_slot : IsTrue (has_no_slot (state_after setup t) (InRoot table i)) → RuleMay (state_after setup t) c (rule_of (state_after setup t) c f.call) reply.NoSlot)
     (on_way : (g j : ℕ) → is_slot_in (wide_way_to (state_after setup t) (InRoot table i)) g j ≡ true
-        → is_slot_in (wide_ways (state_after setup t) c (rule_of (state_after setup t) c f.call)) g j ≡ true)
+    → is_slot_in (wide_ways (state_after setup t) c (rule_of (state_after setup t) c f.call)) g j ≡ true)
     (goes : (e : Step) (look : Look) → Carries setup t e c → LooksUp setup (e ∷ t) c (InRoot table i) look → KnowsLook setup (e ∷ t) c (cores c).table f.call want look)
     (done : (at : Slot) (v : Entry) → Arrives setup t c (InRoot table i) at → entry_of_word (last_left setup t (EntryAt at.node at.index)) ≡ Some v
-        → Shows setup.frames (place_at (state_after setup t) at) v
-        → GoodTook setup cores t c f (EntryAt at.node at.index) (last_left setup t (EntryAt at.node at.index)) (last_left setup t (EntryAt at.node at.index))
-            (took_found (cores c).table f.call want (found_at at.node at.index (last_left setup t (EntryAt at.node at.index)) v)))
+    → Shows setup.frames (place_at (state_after setup t) at) v
+    → GoodTook setup cores t c f (EntryAt at.node at.index) (last_left setup t (EntryAt at.node at.index)) (last_left setup t (EntryAt at.node at.index))
+    (took_found (cores c).table f.call want (found_at at.node at.index (last_left setup t (EntryAt at.node at.index)) v)))
     (room : (cores c).made < (cores c).limit) where
   abbrev ShownHere : ℕ → Option Entry → Type 0
   ShownHere j = TakesShown setup setting cores t stands c here f flight want (InRoot table i) is_open no_slot on_way goes done (AtEntry table.frame j) table.frame j
@@ -371,7 +368,7 @@ module _ (setup : Setting) (setting : IsSetting setup) (cores : ℕ → Core) (t
   -- the step of any look-up of a root entry
   pub in_root_step : (look : Look) → f.stage ≡ Looking want look → LooksUp setup t c (InRoot table i) look
       → GoodTook setup cores t c f (word_of (look_move look)) (last_left setup t (word_of (look_move look))) (last_left setup t (word_of (look_move look)))
-          (took_look (cores c).table f.call want look (last_left setup t (word_of (look_move look))) (shown_in setup.frames (last_left setup t (word_of (look_move look)))))
+      (took_look (cores c).table f.call want look (last_left setup t (word_of (look_move look))) (shown_in setup.frames (last_left setup t (word_of (look_move look)))))
   in_root_step (AtRoot root number) at looks = absurd looks.at
   in_root_step (AtLeaf leaf number) at looks = absurd looks.at
   in_root_step (AtEntry root index) at looks = subst Goal looks.at.frame (subst Of looks.at.same (λ at looks. entry_step at looks)) at looks

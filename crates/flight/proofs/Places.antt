@@ -1,14 +1,13 @@
 -- What the word of a place of a node is: it carries the mark of a core that is in a call, or says what the place is.
-use Rattle.std.proofs.Common.{◌≡◌, ◌≢◌, ◌⊎◌, inl, inr, ℕ, ◌<◌, ◌≤◌, Bool, true, false, Option, Some, None, arith, refl, sym, ◌∙◌, ap, subst, IsTrue}
+use Rattle.std.proofs.Common.{◌≡◌, ◌≢◌, ◌⊎◌, inl, inr, ℕ, ◌<◌, true, Option, Some, None, refl, sym, ◌∙◌, ap, subst, IsTrue}
 use Rattle.std.specs.Prelude.{IsSome}
-use Rattle.std.proofs.lemmas.Bool.{cases_lt, false≢true, true≢false}
-use Rattle.spk_nums.specs.Setting.{Setting, IsSetting}
+use Rattle.std.proofs.lemmas.Bool.{cases_lt, false≢true}
+use Rattle.spk_nums.specs.Setting.{Setting}
 use Rattle.entry_words.specs.declared.entry.Entry.{Entry}
 use Rattle.entry_words.specs.declared.entry.Entry.TheVariants.{Free, Held, Closing, Quiescing}
 use Rattle.entry_words.specs.EntryWord.{entry_of_word}
 use Rattle.word_map.specs.Word.{Word, EntryAt}
-use Rattle.seq_state.specs.State.{Place, Frame, Kernel, Table, Leaf, Pages, Pleaf, PlaceOf, State}
-use Rattle.seq_state.specs.Start.{start}
+use Rattle.seq_state.specs.State.{Place, Frame, Kernel, Table, Leaf, Pages, Pleaf, PlaceOf}
 use Rattle.seq_state.proofs.Sound.{is_node}
 use Rattle.kernel_history.specs.Marks.{entry_mark, mark_in_frame}
 use Rattle.kernel_history.specs.Trace.{Trace, Phase, Out, phase, state_after, last_left}
@@ -16,10 +15,10 @@ use Rattle.kernel_history.specs.Stamps.{is_in, stamp}
 use Rattle.kernel_history.proofs.Inside.{inside_is}
 use Rattle.flight.specs.declared.stages.InFlight.{InFlight}
 use Rattle.flight.specs.View.{Core}
-use Rattle.flight.specs.Holding.{marked_by, settled_by, settled}
+use Rattle.flight.specs.Holding.{marked_by, settled_by}
 use Rattle.flight.specs.Words.{PlaceIs, IsFrameWord}
 use Rattle.flight.specs.Knows.{FlightIs}
-use Rattle.flight.specs.Stands.{holds, holds_in, held_by, times_of, Stands}
+use Rattle.flight.specs.Stands.{holds_in, held_by, Stands}
 use Rattle.flight.proofs.Sounds.{limits_of}
 use Rattle.flight.proofs.Loads.{phase_in}
 

@@ -1,20 +1,18 @@
 -- A call that is open and ready decides at its next step; one that is not ready has a step to come behind its next one.
-use Rattle.std.proofs.Common.{◌≡◌, ℕ, ◌+◌, ◌<◌, ◌≤◌, ◌&&◌, ◌==◌, ◌∷◌, Bool, true, false, Option, Some, None, arith, refl, sym, ◌∙◌, ap, subst}
+use Rattle.std.proofs.Common.{◌≡◌, ℕ, ◌+◌, ◌<◌, ◌≤◌, ◌&&◌, ◌==◌, ◌∷◌, Bool, true, false, Option, Some, None, arith, refl, ◌∙◌, ap}
 use Rattle.std.specs.Prelude.{IsSome}
 use Rattle.std.proofs.lemmas.Bool.{false≢true, true≢false}
 use Rattle.spk_nums.specs.Bounds.{bound_of}
-use Rattle.spk_nums.specs.Capability.{Capability}
 use Rattle.spk_nums.specs.Setting.{Setting, IsSetting}
 use Rattle.spk_nums.specs.declared.calls.Call.{Call}
 use Rattle.spk_nums.specs.declared.calls.Call.TheVariants.{Look as look_call, Copy}
-use Rattle.spk_nums.specs.declared.steps.StageEnd.{StageEnd}
 use Rattle.entry_words.specs.declared.entry.Entry.{Entry}
 use Rattle.entry_words.specs.declared.entry.Entry.TheVariants.{Free, Held, Closing, Quiescing}
-use Rattle.kernel_history.specs.Trace.{Step, Trace, steps_in_call}
+use Rattle.kernel_history.specs.Trace.{Trace, steps_in_call}
 use Rattle.kernel_history.specs.Bounds.{call_in}
 use Rattle.kernel_history.proofs.Steps.{steps_in_call-own}
 use Rattle.stage_look.specs.Shown.{shown_in}
-use Rattle.stage_look.specs.Lookup.{look_after, look_end, place_end}
+use Rattle.stage_look.specs.Lookup.{place_end}
 use Rattle.stage_look.specs.declared.look.Look.{Look}
 use Rattle.stage_look.specs.declared.look.Look.TheVariants.{AtRoot, AtLeaf, AtEntry}
 use Rattle.flight.specs.declared.stages.Want.{Want}
@@ -22,12 +20,11 @@ use Rattle.flight.specs.declared.stages.Want.TheVariants.{First, Second, Target}
 use Rattle.flight.specs.declared.stages.Stage.{Stage}
 use Rattle.flight.specs.declared.stages.Stage.TheVariants.{Enter, Looking, Fill, Exit, Leave}
 use Rattle.flight.specs.declared.stages.InFlight.{InFlight}
-use Rattle.flight.specs.declared.stages.Took.{Took}
 use Rattle.flight.specs.View.{Core}
 use Rattle.flight.specs.Stages.{stage_ready, took_end, took_look, took_fill, took_found, decides_at, is_last}
 use Rattle.flight.specs.Steps.{ready_in, told, told_in, took_by, begun}
-use Rattle.flight.specs.Fits.{left_in, left_of_look, behind, behind_first, IsFlight, FlightFits}
-use Rattle.flight.specs.Knows.{Knows, FlightIs, InFlightIs}
+use Rattle.flight.specs.Fits.{left_in, left_of_look, behind, behind_first, IsFlight}
+use Rattle.flight.specs.Knows.{InFlightIs}
 use Rattle.flight.specs.Stands.{Stands}
 use Rattle.flight.specs.Theorems.{IsUndecided, ReadyDecides, EarlyUnlessReady, IsEarly, MayStep, decided_in, turned, step_of}
 use Rattle.flight.proofs.Loads.{flight_is, is_flight, phase_call}

@@ -5,9 +5,6 @@ use Rattle.spk_nums.specs.Setting.{Setting}
 use Rattle.word_map.specs.Word.{Word, EntryAt, FrameAt, CountAt, CoreAt, FlushAt, LiveAt, ClockAt}
 use Rattle.seq_state.specs.State.{Place, Frame, Liveness, PlaceOf, NumberOf, State, put}
 use Rattle.seq_state.proofs.Within.{put_same, put_other}
-use Rattle.frame_words.specs.Core.{core_of_word}
-use Rattle.frame_words.specs.Flush.{flush_of_word}
-use Rattle.frame_words.specs.Frame.{frame_of_word}
 use Rattle.frame_words.specs.Live.{live_of_word}
 use Rattle.kernel_history.specs.ObjectWords.{frame_value}
 use Rattle.kernel_history.specs.Marks.{mark_of, mark_in_frame}
@@ -154,7 +151,7 @@ module _ (setup : Setting) (cores : ℕ → Core) (t : Trace) (e : Step) (after 
     (now : mark_of (state_after setup t) e.word e.left ≡ (if (holds after).marks e.word then Some e.core else None))
     (unowned : (d : ℕ) → d ≢ e.core → marked_by setup t e.word ≡ Some d → ⊥)
     (settles : settled_by (if (holds after).marks e.word then Some e.core else None) (held_by (put cores e.core after)) e.word e.left
-        ≡ settled setup (held_by cores) t e.word) where
+    ≡ settled setup (held_by cores) t e.word) where
   abbrev pub holding : ℕ → Holding
   holding = held_by (put cores e.core after)
 
@@ -211,9 +208,9 @@ module _ (setup : Setting) (cores : ℕ → Core) (t : Trace) (e : Step) (after 
   hold_marks marks w d = elim (cases_word w e.word) [
     | inl here ↦ subst (λ v. MarkIs setup holding (e ∷ t) v d) (sym here) (here_is d (marks e.word d))
     | inr there ↦ record {
-        owned = λ h. there_held w d there ∙ (marks w d).owned (sym (there_marked w there) ∙ h);
-        kept = λ h. there_marked w there ∙ (marks w d).kept (sym (there_held w d there) ∙ h);
-      }
+      owned = λ h. there_held w d there ∙ (marks w d).owned (sym (there_marked w there) ∙ h);
+      kept = λ h. there_marked w there ∙ (marks w d).kept (sym (there_held w d there) ∙ h);
+    }
   ]
 
   settled_stays : (w : Word) → settled setup holding (e ∷ t) w ≡ settled setup (held_by cores) t w

@@ -1,6 +1,6 @@
 -- The ways in which a core makes a step that writes its word: a decided call writes an entry; a call enters or leaves, and the
 -- core's own word is stored.
-use Rattle.std.proofs.Common.{◌≡◌, ◌≢◌, ℕ, zero, suc, ◌+◌, ◌*◌, ◌^◌, ◌<◌, ◌≤◌, Bool, true, false, ◌∷◌, Option, Some, None, arith, refl, sym, ◌∙◌, ap, subst, inl, inr}
+use Rattle.std.proofs.Common.{◌≡◌, ◌≢◌, ℕ, zero, suc, ◌*◌, ◌^◌, ◌<◌, ◌≤◌, Bool, true, false, ◌∷◌, Option, Some, None, arith, refl, sym, ◌∙◌, ap, subst, inl, inr}
 use Rattle.std.proofs.lemmas.Bool.{cases_eq}
 use Rattle.spk_nums.specs.Bounds.{bound_of}
 use Rattle.spk_nums.specs.Capability.{Capability}
@@ -9,35 +9,33 @@ use Rattle.spk_nums.specs.Setting.{Setting, IsSetting}
 use Rattle.spk_nums.specs.declared.calls.Call.{Call}
 use Rattle.spk_nums.specs.declared.replies.Reply.{Reply}
 use Rattle.frame_words.specs.Core.{core_of_word}
-use Rattle.frame_words.specs.declared.core_word.CoreWord.{CoreWord}
 use Rattle.frame_words.proofs.CoreLemmas.{spelling}
-use Rattle.word_map.specs.Word.{Word, EntryAt, CoreAt, FlushAt, ClockAt, same_word}
-use Rattle.seq_state.specs.State.{Quiescing, Thing, State, put}
+use Rattle.word_map.specs.Word.{EntryAt, CoreAt}
+use Rattle.seq_state.specs.State.{Quiescing}
 use Rattle.seq_state.specs.References.{sum_below}
 use Rattle.seq_state.specs.GracePeriods.{returned}
-use Rattle.seq_state.specs.CallRelation.{MayReply}
 use Rattle.seq_state.proofs.Within.{put_same}
-use Rattle.kernel_history.specs.Trace.{Step, Trace, Phase, Out, Open, Decided, phase, after_enter, after_decide, after_return, state_after, last_left, steps_in_call}
+use Rattle.kernel_history.specs.Trace.{Step, Trace, Out, Open, Decided, phase, after_decide, state_after, last_left, steps_in_call}
 use Rattle.kernel_history.specs.Legal.{MayDecide}
 use Rattle.kernel_history.specs.Marks.{mark_of}
-use Rattle.kernel_history.specs.Stamps.{begins_in, ends_in, flushes_in, clock, clock_seen, exit_of}
+use Rattle.kernel_history.specs.Stamps.{clock, exit_of}
 use Rattle.kernel_history.proofs.Graces.{IsLeave}
 use Rattle.kernel_history.proofs.Inside.{decided-inside, inside-own, inside-other}
 use Rattle.kernel_history.proofs.Steps.{phase-own, steps_in_call-own, exit_of-own, exit_of-other}
 use Rattle.flight.specs.declared.stages.Stage.{Stage}
-use Rattle.flight.specs.declared.stages.Stage.TheVariants.{Enter, Looking, Fill, Exit, Leave}
+use Rattle.flight.specs.declared.stages.Stage.TheVariants.{Leave}
 use Rattle.flight.specs.declared.stages.InFlight.{InFlight}
 use Rattle.flight.specs.View.{Core}
 use Rattle.flight.specs.Stages.{core_word}
-use Rattle.flight.specs.Steps.{went, fresh}
+use Rattle.flight.specs.Steps.{fresh}
 use Rattle.flight.specs.Fits.{IsCore}
 use Rattle.flight.specs.Holding.{marked_by}
 use Rattle.flight.specs.Words.{WordIs}
 use Rattle.flight.specs.Knows.{phase_at, Knows, FlightIs, CoreIs}
-use Rattle.flight.specs.Stands.{holds_at, holds_in, holds, times_of, counted_in, Stands}
+use Rattle.flight.specs.Stands.{holds_at, holds_in, holds, times_of, Stands}
 use Rattle.flight.proofs.WordFrames.{write_marks, write_words}
 use Rattle.flight.proofs.Good.{IsGood}
-use Rattle.flight.proofs.Calm.{IsCalm, calm_returned, calm_own, calm_works, calm_words, counted_rises, IsPlain, plain_time, plain_exit, plain_flushed}
+use Rattle.flight.proofs.Calm.{IsCalm, calm_returned, calm_own, calm_words, counted_rises, IsPlain, plain_time, plain_exit, plain_flushed}
 use Rattle.flight.proofs.Loads.{step_to, core_at, core_is, flight_is, in_call, inner, inner_within, inner_own, still_holds}
 
 -- The clock fits a stamp: each stamp was drawn by a call that was counted.
@@ -74,14 +72,14 @@ module _ (setup : Setting) (setting : IsSetting setup) (cores : ℕ → Core) (t
         → IsCore (core_at (cores c) f made stage) → holds_at stage (cores c).core ≡ holds_at f.stage (cores c).core
         → phase_at f.call f.stage ≡ Open f.call → phase_at f.call stage ≡ Decided f.call r
         → (let e : Step = inner setup setting cores t stands c here f flight (EntryAt node index) found left (Some r) None in
-            IsCalm (state_after setup t) (state_after setup (e ∷ t)) c → IsPlain setup t e
-            → made ≡ ((state_after setup (e ∷ t)).core c).counted
-            → ((g i : ℕ) → EntryAt g i ≢ EntryAt node index → (state_after setup (e ∷ t)).place g i ≡ (state_after setup t).place g i)
-            → ((g i : ℕ) (k : Capability) → (state_after setup (e ∷ t)).place g i ≢ Quiescing k)
-            → WordIs (state_after setup (e ∷ t)) (times_of setup (e ∷ t)) (EntryAt node index) left
-            → MayDecide setup t e (Some r) (phase t c)
-            → Knows setup (e ∷ t) c (cores c).table f.call stage
-            → IsGood setup cores t e (core_at (cores c) f made stage))
+        IsCalm (state_after setup t) (state_after setup (e ∷ t)) c → IsPlain setup t e
+        → made ≡ ((state_after setup (e ∷ t)).core c).counted
+        → ((g i : ℕ) → EntryAt g i ≢ EntryAt node index → (state_after setup (e ∷ t)).place g i ≡ (state_after setup t).place g i)
+        → ((g i : ℕ) (k : Capability) → (state_after setup (e ∷ t)).place g i ≢ Quiescing k)
+        → WordIs (state_after setup (e ∷ t)) (times_of setup (e ∷ t)) (EntryAt node index) left
+        → MayDecide setup t e (Some r) (phase t c)
+        → Knows setup (e ∷ t) c (cores c).table f.call stage
+        → IsGood setup cores t e (core_at (cores c) f made stage))
     writes_entry node index found left made r stage is was now fits same opens closes calm plain counts places removed new may knows =
         let e : Step = inner setup setting cores t stands c here f flight (EntryAt node index) found left (Some r) None in
         let after : Core = core_at (cores c) f made stage in
@@ -105,7 +103,6 @@ module _ (setup : Setting) (setting : IsSetting setup) (cores : ℕ → Core) (t
           none_removed = removed;
           time = plain_time setup t e plain;
           leaves = tt;
-          works = calm_works setup t e calm;
           own = inner_own setup setting cores t stands c here f flight (EntryAt node index) found left (Some r) None refl plain made stage fits calm counts
               (ap (after_decide (Some r)) opens ∙ sym closes) knows;
         }
@@ -152,7 +149,6 @@ module _ (setup : Setting) (setting : IsSetting setup) (cores : ℕ → Core) (t
           none_removed = stands.none_removed;
           time = plain_time setup t e plain;
           leaves = record { at = x; knows = leave; stored = now.flushed; no_entry = refl; no_decision = refl };
-          works = calm_works setup t e calm;
           own = record {
             fits = fits;
             number = now.number;
@@ -173,12 +169,12 @@ module _ (setup : Setting) (setting : IsSetting setup) (cores : ℕ → Core) (t
       → InLimits call → IsCore (core_at (cores c) (fresh call) made stage) → holds_at stage (cores c).core ≡ holds_in None (cores c).core
       → after_decide d (Open call) ≡ phase_at call stage
       → (let e : Step = step_to c (Some call) (CoreAt c) found (core_word true (cores c).exit) d None in
-          IsCalm (state_after setup t) (state_after setup (e ∷ t)) c → IsPlain setup t e
-          → made ≡ ((state_after setup (e ∷ t)).core c).counted
-          → ((g i : ℕ) → (state_after setup (e ∷ t)).place g i ≡ (state_after setup t).place g i)
-          → MayDecide setup t e d (Open call)
-          → Knows setup (e ∷ t) c (cores c).table call stage
-          → IsGood setup cores t e (core_at (cores c) (fresh call) made stage))
+      IsCalm (state_after setup t) (state_after setup (e ∷ t)) c → IsPlain setup t e
+      → made ≡ ((state_after setup (e ∷ t)).core c).counted
+      → ((g i : ℕ) → (state_after setup (e ∷ t)).place g i ≡ (state_after setup t).place g i)
+      → MayDecide setup t e d (Open call)
+      → Knows setup (e ∷ t) c (cores c).table call stage
+      → IsGood setup cores t e (core_at (cores c) (fresh call) made stage))
   enters_on found made call d stage is between limits fits same at calm plain counts places may knows =
       let e : Step = step_to c (Some call) (CoreAt c) found (core_word true (cores c).exit) d None in
       let after : Core = core_at (cores c) (fresh call) made stage in
@@ -214,7 +210,6 @@ module _ (setup : Setting) (setting : IsSetting setup) (cores : ℕ → Core) (t
         none_removed = λ g i k h. stands.none_removed g i k (sym (places g i) ∙ h);
         time = plain_time setup t e plain;
         leaves = tt;
-        works = calm_works setup t e calm;
         own = record {
           fits = fits;
           number = now.number;

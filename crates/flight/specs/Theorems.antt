@@ -1,15 +1,14 @@
 -- What is proved of the cores that stand for a trace.
-use Rattle.std.specs.Prelude.{◌≡◌, ◌<◌, ◌+◌, ◌⊎◌, ℕ, true, false, [], ◌∷◌, Option, Some, None, IsSome}
+use Rattle.std.specs.Prelude.{◌≡◌, ◌<◌, ℕ, true, false, [], ◌∷◌, Option, Some, None, IsSome}
 use Rattle.spk_nums.specs.Bounds.{bound_of}
 use Rattle.spk_nums.specs.Built.{IsBuilt}
 use Rattle.spk_nums.specs.CallLimits.{InLimits}
 use Rattle.spk_nums.specs.Setting.{Setting, IsSetting}
 use Rattle.spk_nums.specs.declared.calls.Call.{Call}
 use Rattle.spk_nums.specs.declared.replies.Reply.{Reply}
-use Rattle.word_map.specs.Word.{Word}
 use Rattle.word_map.specs.Moves.{Move, word_of, left_of, told_of}
 use Rattle.seq_state.specs.State.{put}
-use Rattle.kernel_history.specs.Trace.{Step, Trace, Phase, Out, phase, after_enter, state_after, last_left, steps_in_call}
+use Rattle.kernel_history.specs.Trace.{Step, Trace, phase, after_enter, state_after, last_left, steps_in_call}
 use Rattle.kernel_history.specs.Bounds.{call_in}
 use Rattle.kernel_history.specs.FinalWords.{Represent}
 use Rattle.kernel_history.specs.Moments.{WordsSay}

@@ -11,8 +11,6 @@ use Rattle.frame_words.specs.Flush.{flush_of_word}
 use Rattle.frame_words.specs.Live.{live_of_word}
 use Rattle.frame_words.specs.declared.count_word.CountWord.{CountWord}
 use Rattle.frame_words.specs.declared.count_word.Hold.TheVariants.{Unheld}
-use Rattle.frame_words.specs.declared.core_word.CoreWord.{CoreWord}
-use Rattle.frame_words.specs.declared.flush_word.FlushWord.{FlushWord}
 use Rattle.frame_words.specs.declared.live_word.LiveWord.{LiveWord}
 use Rattle.frame_words.specs.declared.live_word.LiveWord.TheVariants as live_word
 use Rattle.tcap_words.specs.Head.{head_of_word}

@@ -13,6 +13,7 @@ pub mod GraceSteps
 pub mod Times
 pub mod Waiting
 pub mod Carries
+pub mod Awaits
 pub mod Laws
 pub mod Sums
 pub mod StartRefs

@@ -13,11 +13,13 @@ use Rattle.seq_state.specs.Fitting.{IsGood}
 use Rattle.seq_state.specs.Runs.{Event, Enters, Decides, Returns, after, phase_of, IsRun, Open as is_open}
 use Rattle.seq_state.proofs.Within.{put_same}
 use Rattle.seq_state.proofs.Sound.{IsSound}
-use Rattle.seq_state.proofs.SoundRuns.{opened, runs_sound, is_open as opens}
+use Rattle.seq_state.proofs.SoundRuns.{opened, runs_sound, is_open as opens, is_in as is_inside}
+use Rattle.seq_state.proofs.SparesRuns.{inside_of}
 use Rattle.seq_state.proofs.Facts.{usable_good}
 use Rattle.seq_state.proofs.Relies.{IsGuarded, Relies}
-use Rattle.seq_state.proofs.Stays.{Stay, OwnStay, event_own, stay_same, stay_then, event_stay, names_node, usable_guarded, usable_relies, table_relies, pages_relies, reached_relies}
+use Rattle.seq_state.proofs.Stays.{Stay, StayIn, OwnStay, stay_in_same, stay_in_then, event_own, event_stay_in, stay_same, stay_then, event_stay, names_node, usable_guarded, usable_relies, table_relies, pages_relies, reached_relies}
 use Rattle.kernel_history.specs.Trace.{Step, Trace, Phase, Out, Open, Decided, phase, after_enter, state_after, state_entered, state_decided, state_returned}
+use Rattle.kernel_history.specs.Stamps.{is_in}
 use Rattle.kernel_history.specs.Legal.{MayFollow, IsLegal}
 use Rattle.kernel_history.specs.Events.{with_entry, with_decision, with_return, events_of, plain_phase}
 use Rattle.kernel_history.proofs.Events.{entered_events, decided_events, entry_apart, decision_apart, state_is, phase_is, run_of, entered_run, decided_run, step_run}
@@ -107,6 +109,49 @@ stays_other setup lim t legal e follows c other call is =
 
     opened_at : phase_of (events_of t) c ≡ is_open
     opened_at = phase_is t c ∙ ap plain_phase is
+
+-- And so does what a core in a call, also a decided one, relies on.
+module _ (setup : Setting) (lim : IsSetting setup) (d c : ℕ) (other : c ≢ d) where
+  entry_in : (o : Option Call) (events : List Event) → IsRun setup (with_entry o d events) → inside_of events c ≡ true
+      → StayIn (after setup events) (after setup (with_entry o d events)) c
+  entry_in None events run is = stay_in_same (after setup events) c
+  entry_in (Some call) events run is = event_stay_in setup lim (Enters d) events run c other is
+
+  decision_in : (o : Option Reply) (p : Phase) (events : List Event) → IsRun setup (with_decision o p d events) → inside_of events c ≡ true
+      → StayIn (after setup events) (after setup (with_decision o p d events)) c
+  decision_in None p events run is = stay_in_same (after setup events) c
+  decision_in (Some r) Out events run is = stay_in_same (after setup events) c
+  decision_in (Some r) (Open call) events run is = event_stay_in setup lim (Decides d call r) events run c other is
+  decision_in (Some r) (Decided call q) events run is = stay_in_same (after setup events) c
+
+  return_in : (o : Option Reply) (events : List Event) → IsRun setup (with_return o d events) → inside_of events c ≡ true
+      → StayIn (after setup events) (after setup (with_return o d events)) c
+  return_in None events run is = stay_in_same (after setup events) c
+  return_in (Some r) events run is = event_stay_in setup lim (Returns d) events run c other is
+
+plain_in : (p : Phase) → is_inside (plain_phase p) ≡ is_in p
+plain_in Out = refl
+plain_in (Open call) = refl
+plain_in (Decided call r) = refl
+
+pub stays_in_other : (setup : Setting) → IsSetting setup → (t : Trace) → IsLegal setup t → (e : Step) → MayFollow setup t e
+    → (c : ℕ) → c ≢ e.core → is_in (phase t c) ≡ true → StayIn (state_after setup t) (state_after setup (e ∷ t)) c
+stays_in_other setup lim t legal e follows c other is =
+    subst (λ s. StayIn s (state_after setup (e ∷ t)) c) (sym (state_is setup t))
+    (subst (λ s. StayIn (after setup (events_of t)) s c) (sym (state_is setup (e ∷ t)))
+    (stay_in_then (after setup (events_of t)) (after setup (entered_events t e)) (after setup (events_of (e ∷ t))) c
+    (entry_in setup lim e.core c other e.enters (events_of t) (entered_run setup t e legal follows run) inside_at)
+    (stay_in_then (after setup (entered_events t e)) (after setup (decided_events t e)) (after setup (events_of (e ∷ t))) c
+    (decision_in setup lim e.core c other e.decides (after_enter e.enters (phase t e.core)) (entered_events t e) (decided_run setup t e legal follows run)
+    (ap is_inside (entry_apart e.enters e.core (events_of t) c other) ∙ inside_at))
+    (return_in setup lim e.core c other e.returns (decided_events t e) (step_run setup t e legal follows run)
+    (ap is_inside (decision_apart e.decides (after_enter e.enters (phase t e.core)) e.core (entered_events t e) c other ∙ entry_apart e.enters e.core (events_of t) c other) ∙ inside_at)))))
+  where
+    run : IsRun setup (events_of t)
+    run = run_of setup t legal
+
+    inside_at : inside_of (events_of t) c ≡ true
+    inside_at = ap is_inside (phase_is t c) ∙ plain_in (phase t c) ∙ is
 
 -- What is a core's own stays through a step of another core, whether it is in a call or not.
 module _ (setup : Setting) (lim : IsSetting setup) (d c : ℕ) (core : c < setup.cores) (other : c ≢ d) where

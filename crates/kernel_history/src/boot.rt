@@ -3,9 +3,8 @@
 //! The table is filled place by place. Each write puts the start state's word at its place, so it leaves every word that
 //! is right already as it is: the order of the writes is free, and places are the layout's alone.
 
-ghost use Rattle.std.specs.Prelude.{◌≡◌, ℕ, ◌<◌, ◌≤◌, ◌==◌, if◌then◌else◌, IfOk, length, pos, None, Some, [], ◌∷◌};
+ghost use Rattle.std.specs.Prelude.{◌≡◌, ℕ, ◌<◌, ◌≤◌, ◌==◌, if◌then◌else◌, IfOk, length, pos, None, Some, [], ◌∷◌, slice_get};
 ghost use Rattle.spk_nums.specs.Setting.{IsSetting};
-ghost use Rattle.spk_nums.specs.declared.grants.Grant.{Grant};
 ghost use Rattle.spk_nums.specs.declared.kinds.FrameKind.TheVariants as frame_kind;
 ghost use Rattle.spk_nums.specs.declared.kinds.Kind.TheVariants as kind;
 ghost use Rattle.entry_words.specs.EntryWord.{word_of_entry};
@@ -131,8 +130,6 @@ fn tcap_word(setup: &Setup, core: u16, index: u16) -> u64
         _ => QualityWord(None).pack(),
     }
 }
-
-ghost use Rattle.std.specs.Prelude.{slice_get};
 
 fn budget(grant: Option<Grant>) -> u32
     ensures { result ≡ (granted grant).budget }

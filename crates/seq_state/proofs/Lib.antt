@@ -23,3 +23,5 @@ pub mod Spares
 pub mod SparesRuns
 pub mod Stays
 pub mod Ends
+pub mod FrameTurns
+pub mod Releases

@@ -26,7 +26,7 @@ use Rattle.seq_state.specs.Laws.{CapabilitiesFit}
 use Rattle.seq_state.proofs.SoundCalls.{Keeps, IsOpen, core_keeps, rule_keeps}
 
 -- Whether a core is in a call, and whether its call is open.
-abbrev is_in : Phase → Bool
+abbrev pub is_in : Phase → Bool
 is_in Out = false
 is_in Open = true
 is_in Decided = true
@@ -53,7 +53,7 @@ limits_stay setting (Returns c ∷ events) = limits_stay setting events
 limits_stay setting (Decides c call r ∷ events) = (decided_stays (after setting events) c call r).limits ∙ limits_stay setting events
 
 -- A core is in a call where its phase says so.
-inside_is : (setting : Setting) (events : List Event) → IsRun setting events → (d : ℕ) → ((after setting events).core d).inside ≡ is_in (phase_of events d)
+pub inside_is : (setting : Setting) (events : List Event) → IsRun setting events → (d : ℕ) → ((after setting events).core d).inside ≡ is_in (phase_of events d)
 inside_is setting [] run d = refl
 inside_is setting (Enters c ∷ events) run d = elim (cases_eq d c) [
   | inl same ↦ ap (λ k. k.inside) (put_same (after setting events).core c _ d same) ∙ sym (ap is_in (phase_own (Enters c) events d same))

@@ -1,4 +1,4 @@
--- Each call that is carried out spares what the other cores in open calls rely on.
+-- Each call that is carried out spares what the other cores in calls rely on.
 use Rattle.std.proofs.Common.{◌≡◌, ◌≢◌, inl, inr, ℕ, ◌<◌, Bool, true, false, not, refl, sym, ◌∙◌, ap, subst, ◌==◌, cond, nat_lt, if◌then◌else◌, ◌+◌, ◌-◌, ◌≤◌, arith, IsTrue, List, [], ◌∷◌, take, Option, Some, None}
 use Rattle.std.proofs.lemmas.Bool.{cases_eq, false≢true, ne_eqb}
 use Rattle.std.specs.List.{list_any}
@@ -39,12 +39,14 @@ use Rattle.seq_state.proofs.Apart.{IsApart, apart_same, apart_then, fill_apart, 
 abbrev pub RunsOn : State → ℕ → Type 0
 RunsOn s c = (thread_of s c).runs_on ≡ Some c
 
--- Core d's call is open in a sound state, in which each core's thread runs on it.
+-- Core d's call is open in a sound state, in which each core's thread runs on it; o are cores that are in a call.
 pub record HasTurn (s : State) (o : ℕ → Bool) (d : ℕ) : Type 0 where
-  pub opens : IsOpen s o d
+  pub opened : ℕ → Bool
+  pub opens : IsOpen s opened d
+  pub inside : (c : ℕ) → o c ≡ true → IsTrue (s.core c).inside × (c < s.limits.cores)
   pub runs : (c : ℕ) → c < s.limits.cores → RunsOn s c
 
--- From s to t, by core d: as `IsApart`, but that a node or component stays where another core in an open call guards it, or where
+-- From s to t, by core d: as `IsApart`, but that a node or component stays where another core in a call guards it, or where
 -- it is referenced; and
 -- core d's thread runs on it.
 pub record Spares (s t : State) (o : ℕ → Bool) (d : ℕ) : Type 0 where
@@ -78,7 +80,7 @@ module _ (s : State) (o : ℕ → Bool) (d : ℕ) (h : HasTurn s o d) where
   own_runs = h.runs d (h.opens.sound.inside d h.opens.is).1
 
   inside : (c : ℕ) → o c ≡ true → IsTrue (s.core c).inside
-  inside c q = (h.opens.sound.inside c q).0
+  inside c q = (h.inside c q).0
 
   -- a change that begins the grace periods of no place
   done : (next : State) (things : List Thing) → ((f i : ℕ) → list_any (same_thing (PlaceOf f i)) things ≡ false)
@@ -105,7 +107,7 @@ module _ (s : State) (o : ℕ → Bool) (d : ℕ) (h : HasTurn s o d) where
       by_place x Free n = refl
       by_place x (Holds k) n = absurd (some_none reply.Occupied n)
       by_place x (Quiescing k) n = ap (usable_in (Quiescing k))
-          (none_waiting s d x (none_parts (waits_of s d x) (flushes_of s x) n).0 c (h.opens.sound.inside c q).1 other)
+          (none_waiting s d x (none_parts (waits_of s d x) (flushes_of s x) n).0 c (h.inside c q).1 other)
 
   filled : (target : Target) (at : Slot) (k : Capability) → vacant s d target ≡ Found at → SparesBy s o d (fills s at k)
   filled target at k e = plain (fills s at k).next (fill_apart s o d at.node at.index k (vacant_none target at e)) own_runs
@@ -266,7 +268,7 @@ module _ (s : State) (o : ℕ → Bool) (d : ℕ) (h : HasTurn s o d) where
 
       waits_away : (c g : ℕ) → c ≢ d → o c ≡ true → IsTrue ((s.grace (FrameOf g)).waits c) → g ≢ f
       waits_away c g other q w same =
-          false≢true (sym (none c (h.opens.sound.inside c q).1 other) ∙ ap (λ n. (s.grace (FrameOf n)).waits c) (sym same) ∙ w)
+          false≢true (sym (none c (h.inside c q).1 other) ∙ ap (λ n. (s.grace (FrameOf n)).waits c) (sym same) ∙ w)
 
       guarded_away : (c g : ℕ) → c ≢ d → o c ≡ true → IsGuarded s c g → g ≢ f
       guarded_away c g other q (inl some) same = let r : refs s g ≡ refs s f = ap (refs s) same in omega (arith, some, r, zero)
@@ -381,7 +383,7 @@ module _ (s : State) (o : ℕ → Bool) (d : ℕ) (h : HasTurn s o d) where
   rule_spares Ret = λ calm.
       done s o d h (pops s d).next (pops s d).begins (λ f i. frames_no_place f i (take 1 (thread_of s d).stack)) (stack_apart s o d h _) (stack_runs s o d h _)
   rule_spares (Switch f q) = λ thread e tcap g.
-      switch_spares s o d h thread tcap.frame (named_fit s o d f kind.Thread thread h.opens.sound h.opens.is e) (thread_in (s.frame thread.frame)).runs_on refl
+      switch_spares s o d h thread tcap.frame (named_fit s h.opened d f kind.Thread thread h.opens.sound h.opens.is e) (thread_in (s.frame thread.frame)).runs_on refl
   rule_spares (Tick n) = λ calm.
       let q : ℕ = (s.core d).tcap in
       let fit : IsTrue (fits kind.Tcap (s.frame q)) = (h.opens.sound.cores d (h.opens.sound.inside d h.opens.is).1).1 in
@@ -389,12 +391,12 @@ module _ (s : State) (o : ℕ → Bool) (d : ℕ) (h : HasTurn s o d) where
       (apart_then s (with_budget s q _) _ o d (tcap_apart s o d q _ (tcap_loose (s.frame q) fit) (tcap_away q fit)) (core_apart (with_budget s q _) o d _))
       (runs_core (with_budget s q _) d _ refl (runs_put s q _ d (own_away s o d h q (tcap_no_thread (s.frame q) fit)) (own_runs s o d h)))
   rule_spares (Transfer a b m) = λ j e k f calm.
-      let fa : IsTrue (fits kind.Tcap (s.frame j.frame)) = named_fit s o d a kind.Tcap j h.opens.sound h.opens.is e in
-      let fb : IsTrue (fits kind.Tcap (s.frame k.frame)) = named_fit s o d b kind.Tcap k h.opens.sound h.opens.is f in
+      let fa : IsTrue (fits kind.Tcap (s.frame j.frame)) = named_fit s h.opened d a kind.Tcap j h.opens.sound h.opens.is e in
+      let fb : IsTrue (fits kind.Tcap (s.frame k.frame)) = named_fit s h.opened d b kind.Tcap k h.opens.sound h.opens.is f in
       plain s o d h (moved s j.frame k.frame m) (moved_apart j.frame k.frame m fa fb) (moved_runs j.frame k.frame m fa fb)
   rule_spares (Delegate a b m) = λ j e k f calm.
-      let fa : IsTrue (fits kind.Tcap (s.frame j.frame)) = named_fit s o d a kind.Tcap j h.opens.sound h.opens.is e in
-      let fb : IsTrue (fits kind.Tcap (s.frame k.frame)) = named_fit s o d b kind.Tcap k h.opens.sound h.opens.is f in
+      let fa : IsTrue (fits kind.Tcap (s.frame j.frame)) = named_fit s h.opened d a kind.Tcap j h.opens.sound h.opens.is e in
+      let fb : IsTrue (fits kind.Tcap (s.frame k.frame)) = named_fit s h.opened d b kind.Tcap k h.opens.sound h.opens.is f in
       plain s o d h (with_qualities (moved s j.frame k.frame m) k.frame (merged_list s j.frame k.frame))
       (apart_then s (moved s j.frame k.frame m) _ o d (moved_apart j.frame k.frame m fa fb)
       (tcap_apart (moved s j.frame k.frame m) o d k.frame _ (moved_loose j.frame k.frame m fa fb) (tcap_away k.frame fb)))

@@ -1,6 +1,6 @@
--- In every state that a run reaches each core's thread runs on it; and each event spares what the other cores in open calls rely on.
+-- In every state that a run reaches each core's thread runs on it; and each event spares what the other cores in calls rely on.
 use Rattle.std.proofs.Common.{◌≡◌, ◌≢◌, inl, inr, ℕ, zero, suc, ◌+◌, ◌-◌, ◌<◌, arith, Bool, true, false, refl, sym, ◌∙◌, ap, subst, ◌==◌, cond, nat_lt, IsTrue, List, [], ◌∷◌}
-use Rattle.std.proofs.lemmas.Bool.{cases_eq, eq-eqb, ne_eqb, ltb-false, or_left, or_right}
+use Rattle.std.proofs.lemmas.Bool.{false≢true, cases_eq, eq-eqb, ne_eqb, ltb-false, or_left, or_right}
 use Rattle.std.specs.List.{list_any}
 use Rattle.spk_nums.specs.Setting.{Setting, IsSetting}
 use Rattle.spk_nums.specs.CallLimits.{InLimits}
@@ -24,7 +24,7 @@ use Rattle.seq_state.proofs.Within.{put_same, put_other}
 use Rattle.seq_state.proofs.Sums.{sum_same, times_cons}
 use Rattle.seq_state.proofs.Sound.{put_all}
 use Rattle.seq_state.proofs.SoundStart.{past_three, choose}
-use Rattle.seq_state.proofs.SoundRuns.{opened, open_is, limits_stay}
+use Rattle.seq_state.proofs.SoundRuns.{is_in, inside_is, opened, open_is, limits_stay}
 use Rattle.seq_state.proofs.Facts.{outcome_from}
 use Rattle.seq_state.proofs.Refs.{RefsBy, rule_refs, grace_refs}
 use Rattle.seq_state.proofs.Relies.{IsGuarded}
@@ -44,7 +44,7 @@ spares_core s t o d k same a = record {
   runs = ap (λ (x : Core). (thread_in (t.frame x.thread)).runs_on) (put_same t.core d k d refl) ∙ ap (λ n. (thread_in (t.frame n)).runs_on) same ∙ a.runs;
 }
 
--- And what other cores in open calls guard, they guard still.
+-- And what other cores in calls guard, they guard still.
 pub record SparesAll (s t : State) (o : ℕ → Bool) (d : ℕ) : Type 0 where
   pub spares : Spares s t o d
   pub guarded : (c f : ℕ) → c ≢ d → o c ≡ true → IsGuarded s c f → IsGuarded t c f
@@ -124,9 +124,9 @@ decided_spares s o d call r h lim may = by_reply r may
 
     by_reply : (r : Reply) → MayReply s d call r → SparesAll s (state_by s d call r) o d
     by_reply (reply.Ok v) may = counted_spares s (changed s (change_of s d call)) o d
-        (changed_spares s o d v (change_of s d call) (λ c q. (h.opens.sound.inside c q).0)
+        (changed_spares s o d v (change_of s d call) (λ c q. (h.inside c q).0)
         (outcome_from (SparesBy s o d) s d (rule_of s d call) (rule_spares s o d h call))
-        (outcome_from (RefsBy s) s d (rule_of s d call) (rule_refs s o d h.opens call lim)) may.1)
+        (outcome_from (RefsBy s) s d (rule_of s d call) (rule_refs s h.opened d h.opens call lim)) may.1)
     by_reply reply.CallsSpent may = same
     by_reply reply.Raced may = counted_spares s (owed_by s d call) o d (owed_spares s o d call runs)
     by_reply (reply.Busy e) may = counted_spares s (owed_by s d call) o d (owed_spares s o d call runs)
@@ -197,27 +197,38 @@ in_machine setting (e ∷ events) c run in_call = elim (cases_eq c (core_of e)) 
     of_event before (Decides d call r) may = before d (λ out. open_out (sym may.is_open ∙ out))
     of_event before (Returns d) may = before d (λ out. decided_out (sym may ∙ out))
 
--- An event of a run, where each core's thread runs on it, spares what other cores in open calls rely on.
+-- The cores that are in a call.
+abbrev pub inside_of : List Event → ℕ → Bool
+inside_of events c = is_in (phase_of events c)
+
+pub inside_facts : (setting : Setting) (events : List Event) → IsRun setting events → (c : ℕ) → inside_of events c ≡ true
+    → IsTrue ((after setting events).core c).inside × (c < (after setting events).limits.cores)
+inside_facts setting events run c q = (
+  inside_is setting events run c ∙ q,
+  subst (λ l. c < l.cores) (sym (limits_stay setting events)) (in_machine setting events c run (λ out. false≢true (sym (ap is_in out) ∙ q))),
+)
+
+-- An event of a run, where each core's thread runs on it, spares what other cores in calls rely on.
 by_event : (setting : Setting) → IsSetting setting → (e : Event) (events : List Event) → IsRun setting (e ∷ events)
     → ((c : ℕ) → c < (after setting events).limits.cores → RunsOn (after setting events) c)
-    → SparesAll (after setting events) (after setting (e ∷ events)) (opened events) (core_of e)
+    → SparesAll (after setting events) (after setting (e ∷ events)) (inside_of events) (core_of e)
 by_event setting lim (Enters d) events run runs =
-    entered_spares (after setting events) (opened events) d (runs d (subst (λ l. d < l.cores) (sym (limits_stay setting events)) run.1.0))
+    entered_spares (after setting events) (inside_of events) d (runs d (subst (λ l. d < l.cores) (sym (limits_stay setting events)) run.1.0))
 by_event setting lim (Returns d) events run runs =
-    returned_spares (after setting events) (opened events) d (runs d (subst (λ l. d < l.cores) (sym (limits_stay setting events))
+    returned_spares (after setting events) (inside_of events) d (runs d (subst (λ l. d < l.cores) (sym (limits_stay setting events))
     (in_machine setting events d run.0 (λ out. decided_out (sym run.1 ∙ out)))))
   where
     decided_out : Decided ≡ Out → ⊥
     decided_out q = cc
 by_event setting lim (Decides d call r) events run runs =
-    decided_spares (after setting events) (opened events) d call r
-    (record { opens = open_is setting lim events d run.0 run.1.is_open; runs = runs }) run.1.in_limits run.1.permitted
+    decided_spares (after setting events) (inside_of events) d call r
+    (record { opened = opened events; opens = open_is setting lim events d run.0 run.1.is_open; inside = inside_facts setting events run.0; runs = runs }) run.1.in_limits run.1.permitted
 
 pub runs_of : (setting : Setting) → IsSetting setting → (events : List Event) → IsRun setting events → (c : ℕ) → c < (after setting events).limits.cores → RunsOn (after setting events) c
 runs_of setting lim [] run c below = start_runs setting c below
 runs_of setting lim (e ∷ events) run c below =
-    runs_on (after setting events) (after setting (e ∷ events)) (opened events) (core_of e) (by_event setting lim e events run (runs_of setting lim events run.0)) (runs_of setting lim events run.0) c below
+    runs_on (after setting events) (after setting (e ∷ events)) (inside_of events) (core_of e) (by_event setting lim e events run (runs_of setting lim events run.0)) (runs_of setting lim events run.0) c below
 
 pub event_spares : (setting : Setting) → IsSetting setting → (e : Event) (events : List Event) → IsRun setting (e ∷ events)
-    → SparesAll (after setting events) (after setting (e ∷ events)) (opened events) (core_of e)
+    → SparesAll (after setting events) (after setting (e ∷ events)) (inside_of events) (core_of e)
 event_spares setting lim e events run = by_event setting lim e events run (runs_of setting lim events run.0)

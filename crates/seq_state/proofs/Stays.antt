@@ -14,12 +14,12 @@ use Rattle.seq_state.specs.Fitting.{fits, IsGood}
 use Rattle.seq_state.specs.Runs.{Event, after, core_of, Open, phase_of, IsRun}
 use Rattle.seq_state.proofs.Sound.{is_node, IsStack, IsObjectGood, WaitsForAll, IsSound, only_is}
 use Rattle.seq_state.proofs.SoundRemovals.{unnamed, below_by}
-use Rattle.seq_state.proofs.SoundRuns.{is_open, opened, limits_stay, runs_sound}
+use Rattle.seq_state.proofs.SoundRuns.{is_in, is_open, opened, limits_stay, runs_sound}
 use Rattle.seq_state.proofs.Sums.{times_first, times_cons}
 use Rattle.seq_state.proofs.Facts.{some_inj, none_some, then_parts, or_found, usable_good}
 use Rattle.seq_state.proofs.Relies.{is_fixed, IsGuarded, Relies}
 use Rattle.seq_state.proofs.Apart.{node_fixed}
-use Rattle.seq_state.proofs.SparesRuns.{SparesAll, event_spares}
+use Rattle.seq_state.proofs.SparesRuns.{SparesAll, inside_of, inside_facts, event_spares}
 
 -- What core c in an open call has and relies on in s, it has and relies on in t.
 pub record Stay (s t : State) (c : ℕ) : Type 0 where
@@ -249,8 +249,8 @@ pub record OwnStay (s t : State) (c : ℕ) : Type 0 where
   pub thread : thread_of t c ≡ thread_of s c
   pub comp : comp_of t c ≡ comp_of s c
 
-pub own_by : (s t : State) (o : ℕ → Bool) (d c : ℕ) → IsSound s o → c < s.limits.cores → c ≢ d → SparesAll s t o d → OwnStay s t c
-own_by s t o d c h below other a = record { core = core; thread = thread; comp = comp }
+pub own_by : (s t : State) (o u : ℕ → Bool) (d c : ℕ) → IsSound s o → c < s.limits.cores → c ≢ d → SparesAll s t u d → OwnStay s t c
+own_by s t o u d c h below other a = record { core = core; thread = thread; comp = comp }
   where
     core : t.core c ≡ s.core c
     core = a.spares.core c other
@@ -262,37 +262,46 @@ own_by s t o d c h below other a = record { core = core; thread = thread; comp =
     comp = ap (λ x. comp_in (t.frame (first_of_stack x.stack))) thread
         ∙ ap comp_in (a.spares.named (own_comp s c) (comp_is (s.frame (own_comp s c)) (comp_fit s o c h below)).1 (comp_named s o c h below))
 
--- What another core's change spares stays.
-pub stay_by : (s t : State) (o : ℕ → Bool) (d c : ℕ) → IsSound s o → o c ≡ true → c ≢ d → SparesAll s t o d → Stay s t c
-stay_by s t o d c h q other a = record {
-  core = core;
-  thread = thread;
-  comp = comp;
+-- What core c, in a call, relies on in s, it relies on in t.
+pub record StayIn (s t : State) (c : ℕ) : Type 0 where
+  pub own : OwnStay s t c
+  pub guarded : (f : ℕ) → IsGuarded s c f → IsGuarded t c f
+  pub frame : (f : ℕ) → IsTrue (is_fixed (s.frame f)) → IsGuarded s c f → t.frame f ≡ s.frame f
+  pub relies : (f : ℕ) → Relies s c f → Relies t c f
+  pub usable : (at : Slot) (k : Capability) → Relies s c at.node → usable s c at ≡ Some k → usable t c at ≡ Some k
+  pub reached : (table : Named) (n : ℕ) (at : Slot) → Relies s c table.frame → reached s c (Under table n) ≡ Some at → reached t c (Under table n) ≡ Some at
+
+pub stay_in_same : (s : State) (c : ℕ) → StayIn s s c
+stay_in_same s c = record {
+  own = record { core = refl; thread = refl; comp = refl };
+  guarded = λ f g. g;
+  frame = λ f fixed g. refl;
+  relies = λ f r. r;
+  usable = λ at k r e. e;
+  reached = λ table n at r e. e;
+}
+
+pub stay_in_then : (s t u : State) (c : ℕ) → StayIn s t c → StayIn t u c → StayIn s u c
+stay_in_then s t u c a b = record {
+  own = record { core = b.own.core ∙ a.own.core; thread = b.own.thread ∙ a.own.thread; comp = b.own.comp ∙ a.own.comp };
+  guarded = λ f g. b.guarded f (a.guarded f g);
+  frame = λ f fixed g. let e : t.frame f ≡ s.frame f = a.frame f fixed g in b.frame f (subst (λ x. IsTrue (is_fixed x)) (sym e) fixed) (a.guarded f g) ∙ e;
+  relies = λ f r. b.relies f (a.relies f r);
+  usable = λ at k r e. b.usable at k (a.relies at.node r) (a.usable at k r e);
+  reached = λ table n at r e. b.reached table n at (a.relies table.frame r) (a.reached table n at r e);
+}
+
+-- What another core's change spares stays; u are cores in a call.
+pub stay_in_by : (s t : State) (o u : ℕ → Bool) (d c : ℕ) → IsSound s o → c < s.limits.cores → u c ≡ true → c ≢ d → SparesAll s t u d → StayIn s t c
+stay_in_by s t o u d c h below q other a = record {
+  own = own_by s t o u d c h below other a;
   guarded = λ f g. a.guarded c f other q g;
   frame = λ f fixed g. a.spares.frame c f other q fixed g;
   relies = λ f r. record { node = subst (λ x. IsTrue (is_node x)) (sym (a.spares.frame c f other q (node_fixed (s.frame f) r.node) r.guarded)) r.node; guarded = a.guarded c f other q r.guarded };
   usable = λ at k r e. stays at k r e;
   reached = λ table n at r e. reaches table n at r e;
-  named = λ n wanted k e.
-      let p = name_parts s c n wanted k e in
-      let own_root : own t c n ≡ own s c n = ap (λ (x : CompFields). Under (root_at x.table) n) comp in
-      name_from t c n wanted p.0 p.2 k
-      (ap (reached t c) own_root ∙ reaches (root_at (comp_of s c).table) n p.0 (table_relies s o c h q) p.1)
-      (stays p.0 p.2 (reached_relies s o c h q (root_at (comp_of s c).table) n p.0 p.1) p.3) p.4;
 }
   where
-    own_stay : OwnStay s t c
-    own_stay = own_by s t o d c h (h.inside c q).1 other a
-
-    core : t.core c ≡ s.core c
-    core = own_stay.core
-
-    thread : thread_of t c ≡ thread_of s c
-    thread = own_stay.thread
-
-    comp : comp_of t c ≡ comp_of s c
-    comp = own_stay.comp
-
     stays : (at : Slot) (k : Capability) → Relies s c at.node → usable s c at ≡ Some k → usable t c at ≡ Some k
     stays at k r e = a.spares.place c at.node at.index k other q r.node e
 
@@ -301,15 +310,40 @@ stay_by s t o d c h q other a = record {
         let l = link_of (usable s c (root_slot table.frame n)) (table.found && nat_le n 4095) (n % 64) at e in
         ap (λ u. if table.found && nat_le n 4095 then slot_in (linked u) (n % 64) else None) (stays (root_slot table.frame n) l.0 r l.1 ∙ sym l.1) ∙ e
 
+-- Where its call is open, a name that it has found stays found.
+stay_by : (s t : State) (o : ℕ → Bool) (c : ℕ) → IsSound s o → o c ≡ true → StayIn s t c → Stay s t c
+stay_by s t o c h q a = record {
+  core = a.own.core;
+  thread = a.own.thread;
+  comp = a.own.comp;
+  guarded = a.guarded;
+  frame = a.frame;
+  relies = a.relies;
+  usable = a.usable;
+  reached = a.reached;
+  named = λ n wanted k e.
+      let p = name_parts s c n wanted k e in
+      let own_root : own t c n ≡ own s c n = ap (λ (x : CompFields). Under (root_at x.table) n) a.own.comp in
+      name_from t c n wanted p.0 p.2 k
+      (ap (reached t c) own_root ∙ a.reached (root_at (comp_of s c).table) n p.0 (table_relies s o c h q) p.1)
+      (a.usable p.0 p.2 (reached_relies s o c h q (root_at (comp_of s c).table) n p.0 p.1) p.3) p.4;
+}
+
 -- An event of another core in a run.
+pub event_stay_in : (setting : Setting) → IsSetting setting → (e : Event) (events : List Event) → IsRun setting (e ∷ events)
+    → (c : ℕ) → c ≢ core_of e → inside_of events c ≡ true → StayIn (after setting events) (after setting (e ∷ events)) c
+event_stay_in setting lim e events run c other inside =
+    stay_in_by (after setting events) (after setting (e ∷ events)) (opened events) (inside_of events) (core_of e) c (runs_sound setting lim events run.0)
+    (inside_facts setting events run.0 c inside).1 inside other (event_spares setting lim e events run)
+
 pub event_stay : (setting : Setting) → IsSetting setting → (e : Event) (events : List Event) → IsRun setting (e ∷ events)
     → (c : ℕ) → c ≢ core_of e → phase_of events c ≡ Open → Stay (after setting events) (after setting (e ∷ events)) c
 event_stay setting lim e events run c other is =
-    stay_by (after setting events) (after setting (e ∷ events)) (opened events) (core_of e) c (runs_sound setting lim events run.0) (ap is_open is) other
-    (event_spares setting lim e events run)
+    stay_by (after setting events) (after setting (e ∷ events)) (opened events) c (runs_sound setting lim events run.0) (ap is_open is)
+    (event_stay_in setting lim e events run c other (ap is_in is))
 
 pub event_own : (setting : Setting) → IsSetting setting → (e : Event) (events : List Event) → IsRun setting (e ∷ events)
     → (c : ℕ) → c < setting.cores → c ≢ core_of e → OwnStay (after setting events) (after setting (e ∷ events)) c
 event_own setting lim e events run c below other =
-    own_by (after setting events) (after setting (e ∷ events)) (opened events) (core_of e) c (runs_sound setting lim events run.0)
+    own_by (after setting events) (after setting (e ∷ events)) (opened events) (inside_of events) (core_of e) c (runs_sound setting lim events run.0)
     (subst (λ l. c < l.cores) (sym (limits_stay setting events)) below) other (event_spares setting lim e events run)

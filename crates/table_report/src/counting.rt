@@ -1,6 +1,6 @@
 //! The references to each frame.
 
-ghost use Rattle.std.specs.Prelude.{◌≡◌, ◌<◌, IfOk, length};
+ghost use Rattle.std.specs.Prelude.{◌≡◌, IfOk, length};
 ghost use Rattle.seq_state.specs.References.{times, refs};
 ghost use Rattle.word_map.specs.Places.{size_of};
 ghost use Rattle.table_report.specs.Shown.{shown};

@@ -1,7 +1,7 @@
 //! The lines of frames, and the sum of their budgets.
 
-ghost use Rattle.std.specs.Prelude.{◌≡◌, ◌<◌, ◌≤◌, ◌*◌, ◌^◌, ◌++◌, length, OnOk, string_bytes, slice_index};
-ghost use Rattle.seq_state.specs.State.{tcap_in};
+ghost use Rattle.std.specs.Prelude.{◌≡◌, ◌<◌, ◌≤◌, ◌^◌, ◌++◌, length, OnOk, string_bytes, slice_index};
+ghost use Rattle.seq_state.specs.State.{tcap_in, Kernel};
 ghost use Rattle.seq_state.specs.References.{sum_below};
 ghost use Rattle.word_map.specs.Places.{size_of};
 ghost use Rattle.kernel_history.specs.Tables.{frame_line, frame_lines, object_lines, object_word};
@@ -141,8 +141,6 @@ fn object_budget(layout: &Layout, words: &[u64], frame: FrameNo, object: Obj) ->
         Obj::Thread => 0,
     }
 }
-
-ghost use Rattle.seq_state.specs.State.{Kernel};
 
 fn frame_budget(layout: &Layout, words: &[u64], frame: FrameNo) -> u32
     requires size { length words.now ≡ size_of layout.now }

@@ -1,15 +1,16 @@
 //! The frames to which there are references, each as often as it is referenced.
 
-ghost use Rattle.std.specs.Prelude.{◌≡◌, ◌<◌, ◌++◌, length, OnOk, Some};
+ghost use Rattle.std.specs.Prelude.{◌≡◌, ◌<◌, ◌++◌, length, OnOk, Some, [], ◌∷◌};
 ghost use Rattle.entry_words.specs.EntryWord.{entry_of_word};
 ghost use Rattle.frame_words.specs.Live.{live_of_word};
 ghost use Rattle.tcap_words.specs.Stack.{stack_of_word};
 ghost use Rattle.seq_state.specs.State.{Kernel};
-ghost use Rattle.seq_state.specs.References.{sum_below, times, named_by, place_names, frame_names, number_names, core_names};
+ghost use Rattle.seq_state.specs.References.{sum_below, times, named_by, place_names, frame_names, number_names, core_names, refs};
 ghost use Rattle.word_map.specs.Places.{size_of};
 ghost use Rattle.kernel_history.specs.ObjectWords.{is_node, is_node_object};
-ghost use Rattle.table_report.specs.Shown.{place_shown, stacked, stack_shown, object_shown, number_shown, core_shown, words_of, frame_at, place_at, number_at, core_at};
+ghost use Rattle.table_report.specs.Shown.{place_shown, stacked, stack_shown, object_shown, number_shown, core_shown, words_of, frame_at, place_at, number_at, core_at, frame_shown, shown};
 ghost use Rattle.table_report.specs.Counting.{Adds};
+ghost use Rattle.frame_words.specs.Frame.{frame_of_word};
 
 use crate::words::{entry_word, frame_word, held, live_word};
 use frame_words::{FrameWord, LiveWord};
@@ -82,9 +83,6 @@ fn is_node(word: u64) -> bool
     }
 }
 
-ghost use Rattle.frame_words.specs.Frame.{frame_of_word};
-ghost use Rattle.table_report.specs.Shown.{frame_shown};
-
 fn push_node(
     names: &mut Vec<u64>,
     layout: &Layout,
@@ -155,8 +153,6 @@ fn push_comp(
     names.push(entry_word(layout, words, frame, 1))?;
     Ok(())
 }
-
-ghost use Rattle.std.specs.Prelude.{[], ◌∷◌};
 
 fn push_object(
     names: &mut Vec<u64>,
@@ -281,6 +277,3 @@ pub fn push_all(
     push_numbers(names, layout, words)?;
     Ok(())
 }
-
-ghost use Rattle.seq_state.specs.References.{refs};
-ghost use Rattle.table_report.specs.Shown.{shown};

@@ -1,6 +1,6 @@
 //! The lines of objects.
 
-ghost use Rattle.std.specs.Prelude.{◌≡◌, ◌<◌, ◌++◌, length, OnOk, string_bytes};
+ghost use Rattle.std.specs.Prelude.{◌≡◌, ◌<◌, ◌++◌, length, OnOk, string_bytes, reverse, None};
 ghost use Rattle.std.specs.List.{flat_map};
 ghost use Rattle.entry_words.specs.EntryWord.{entry_of_word};
 ghost use Rattle.frame_words.specs.Comp.{comp_of_word};
@@ -102,8 +102,6 @@ fn push_stack(
     Ok(())
 }
 
-ghost use Rattle.std.specs.Prelude.{reverse};
-
 /// Appends the line of a thread.
 pub fn push_thread(
     text: &mut String,
@@ -119,8 +117,6 @@ pub fn push_thread(
     push_stack(text, layout, words, frame)?;
     text.push_str("\n")
 }
-
-ghost use Rattle.std.specs.Prelude.{None};
 
 fn push_quality(text: &mut String, word: u64) -> Result<(), AllocError>
     ensures { OnOk result (string_bytes text.new ≡ string_bytes text.old ++ flat_map quality_line (listed (quality_of_word word))) }
