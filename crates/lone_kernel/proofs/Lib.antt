@@ -3,7 +3,7 @@ pub mod OneStep
 pub mod Small
 pub mod Fits
 pub mod Refusals
-pub mod Theory
 pub mod Advance
 pub mod Runs
 pub mod Boot
+pub mod Close

@@ -220,7 +220,11 @@ fn count_due(seats: &[Seat]) -> usize
     requires { sum_by (λ seat. seat.due) seats.now < 2 ^ 60 }
     ensures { result ≡ sum_by (λ seat. seat.due) seats.now }
 {
-    seats.iter().map(|seat| seat.due).sum()
+    let mut due = 0;
+    for seat in seats {
+        due += seat.due;
+    }
+    due
 }
 
 // Where each core ends.
@@ -413,7 +417,7 @@ impl LoneKernel {
     {
         let at = usize::from(core.number());
         let seat = &self.seats[at];
-        seat.state.in_call() && seat.begun + seat.due == self.lists[at].len()
+        seat.state.in_call() && seat.due == self.lists[at].len() - seat.begun
     }
 
     // Whether the core is between calls and its list is finished.

@@ -25,3 +25,10 @@ pub mod Stays
 pub mod Ends
 pub mod FrameTurns
 pub mod Releases
+pub mod Same
+pub mod Counting
+pub mod StackLemmas
+pub mod MapLemmas
+pub mod SetLemmas
+pub mod StartLemmas
+pub mod PassLemmas

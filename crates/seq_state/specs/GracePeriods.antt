@@ -12,13 +12,13 @@ same_thing (FrameOf f) (FrameOf g) = f == g
 same_thing (NumberOf l) (NumberOf m) = l == m
 same_thing _ _ = false
 
--- Whether a frame is a node of page tables.
+-- Whether a frame is a node of page maps.
 abbrev pub is_paging : Frame → Bool
 is_paging (Kernel Pages) = true
 is_paging (Kernel Pleaf) = true
 is_paging _ = false
 
--- Whether a frame may be reached through translations: a user frame, or a node of page tables.
+-- Whether a frame may be reached through translations: a user frame, or a node of page maps.
 abbrev pub is_translated : Frame → Bool
 is_translated User = true
 is_translated x = is_paging x

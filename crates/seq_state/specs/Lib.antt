@@ -13,3 +13,9 @@ pub mod Alone
 pub mod Runs
 pub mod Fitting
 pub mod Laws
+pub mod Stacks
+pub mod Parts
+pub mod Maps
+pub mod Representation
+pub mod Kernel
+pub mod Passing

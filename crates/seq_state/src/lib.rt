@@ -2,9 +2,29 @@
 //!
 //! The definitions stand in this crate's specs. A call is a rule: the capabilities that it names, its target, its own
 //! causes of refusal in order, and what it does. The laws below say of these definitions what a reader would ask of them.
+//!
+//! `SeqKernel` is that state in ordered maps. It starts as the start state; its readers and changes are exact, and take no
+//! memory.
 #![tactic(auto)]
 
+mod counts;
+mod kernel;
+mod maps;
+mod parts;
+mod passing;
+mod setters;
+mod stack;
+mod start;
+#[cfg(test)]
+mod tests;
+
 ghost use Rattle.seq_state.specs.Laws.{RefusalKeeps, WaitsWithin, PermitsAlone, TicksKept, RefsChange, CapabilitiesFit};
+
+pub use kernel::SeqKernel;
+pub use parts::{
+    CompFields, Core, Frame, Grace, Liveness, Object, Place, TcapFields, Thing, ThreadFields,
+};
+pub use stack::Stack;
 
 /// A refusal leaves the state as it was, but for the owed ticks of a `tick`, and the count of calls.
 pub fn refusal_keeps()

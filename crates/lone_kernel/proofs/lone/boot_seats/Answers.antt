@@ -17,7 +17,7 @@ loop-core-preserved c =
     let item = subst (λ (k : ℕ). c.index-lists-from.result ≡ get_or c.args.lists.now k c.index-lists-from.result) n c.index-lists-from.is in
     record {
       fresh = fresh_more c.args.setup.now (map (λ v. v.items) c.args.lists.now) c.loop-core.seats.items c.push.new.self.items c.loop-core.core _ c.loop-core.invariant.fresh c.in_ok-push.ensures.items
-          (fresh_is (λ v. v.items) c.args.setup.now c.args.lists.now c.loop-core.core c.len.result c.index-lists-from.result c.start.result here item c.len.ensures
+          (fresh_is (λ v. v.items) c.args.setup.now c.args.lists.now c.loop-core.core c.len.result c.index-lists-from.result c.start.result here item (c.len.ensures ∙ c.index-lists-from.result.ok.0)
           (c.start.ensures.state ∙ ap (λ (k : ℕ). started k c.args.setup.now) c.new.ensures));
     }
 

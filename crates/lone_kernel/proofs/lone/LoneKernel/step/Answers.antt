@@ -8,7 +8,8 @@ use Rattle.lone_kernel.specs.Moves.{MakesOneStep}
 use Rattle.lone_kernel.proofs.OneStep.{list_is, seat_is, turn_here, fit_here, calls_here, takes_here, stepped_is, fits_behind, fewer_behind}
 use Rattle.lone_kernel.proofs.Fits.{IsOf, turn_is, fits_on, due_on, further, one_decision, count_decided, undecided_due}
 use Rattle.flight.proofs.Advance.{steps_on}
-use Rattle.lone_kernel.proofs.Theory.{says_words, ready_decides}
+use Rattle.flight.proofs.Final.{says_words}
+use Rattle.flight.proofs.Ready.{ready_decides}
 use Rattle.lone_kernel.proofs.Advance.{one_step, stays_idle, steps_like, further_like}
 use Rattle.lone_kernel.proofs.lone.LoneKernel.step.Goals as goal
 use Rattle.lone_kernel.proofs.lone.LoneKernel.step.Goals.{In-Some, After-take-arg-2-1, After-note}

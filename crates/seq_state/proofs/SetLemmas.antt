@@ -1,0 +1,142 @@
+-- A change of the maps is that change of the state, for all that the machine has.
+use Rattle.std.proofs.Common.{◌≡◌, ◌≢◌, inl, inr, ℕ, ◌+◌, ◌*◌, ◌<◌, ◌≤◌, ◌&&◌, ◌==◌, if◌then◌else◌, refl, sym, ◌∙◌, ap, arith, List, Some, IsSome}
+use Rattle.std.proofs.lemmas.Bool.{cases_lt, ne_eqb}
+use Rattle.seq_state.specs.State.{put, with_place, with_frame, with_number, Thing, PlaceOf, FrameOf, NumberOf}
+use Rattle.seq_state.specs.GracePeriods.{same_thing}
+use Rattle.seq_state.specs.declared.parts.Place.{Place}
+use Rattle.seq_state.specs.declared.parts.Frame.{Frame}
+use Rattle.seq_state.specs.declared.parts.Liveness.{Liveness}
+use Rattle.seq_state.specs.declared.parts.Grace.{Grace as GraceSets}
+use Rattle.seq_state.specs.Parts.{place_of, frame_of, number_of, grace_of}
+use Rattle.seq_state.specs.Maps.{Maps, at, at_place, IsWhole, state_of, place_or_free, frame_or_untyped, number_or_unused, grace_or_none, grace_in}
+use Rattle.seq_state.specs.Representation.{IsThing, with_grace_of, SameState}
+use Rattle.seq_state.proofs.MapLemmas.{IsWritten, at_place_is, places_written, frames_written, numbers_written, place_graces_written, frame_graces_written, number_graces_written}
+use Rattle.seq_state.proofs.Within.{put_other}
+use Rattle.seq_state.proofs.Same.{same_by, same_grace_by}
+
+-- A map is another with a value at a key, where that key stands.
+pub record IsSet {X : Type 0} (old new : List (ℕ × X)) (k : ℕ) (x : X) : Type 0 where
+  pub here : IsSome (at old k) → at new k ≡ Some x
+  pub others : (q : ℕ) → q ≢ k → at new q ≡ at old q
+
+-- Where the key stands, the value is written.
+pub written : {X : Type 0} (old new : List (ℕ × X)) (k : ℕ) (x : X) → IsSome (at old k) → IsSet old new k x → IsWritten old new k x
+written old new k x stands s = record { here = s.here stands; others = s.others }
+
+at_apart : {X : Type 0} (new old : List (ℕ × X)) (g j : ℕ) → j < 64 → at new (64 * g + j) ≡ at old (64 * g + j) → at_place new g j ≡ at_place old g j
+at_apart new old g j small same = at_place_is new g j (64 * g + j) small refl ∙ same ∙ sym (at_place_is old g j (64 * g + j) small refl)
+
+pub places_set : (t : Maps) (es : List (ℕ × Place)) (f i k : ℕ) (p : Place) → IsWhole t → i < 64 → k ≡ 64 * f + i → IsSet t.places es k p
+    → SameState (state_of (record t { places = es })) (with_place (state_of t) f i (place_of p))
+unfolding state_of
+places_set t es f i k p whole small is s = elim (cases_lt f t.limits.frames) [
+  | inl below ↦ same_by _ _ (places_written t es f i k p small is (written t.places es k p (whole.places k (omega arith)) s))
+  | inr past ↦ record {
+    limits = refl;
+    place = λ g j g_below j_below.
+        let ne : 64 * g + j ≢ k = λ e. omega arith in
+        let apart : g ≢ f = λ e. omega arith in
+        ap place_or_free (at_apart es t.places g j j_below (s.others (64 * g + j) ne))
+        ∙ sym (ap (λ r. r j) (put_other (λ g j. place_or_free (at_place t.places g j)) f (put (λ j. place_or_free (at_place t.places f j)) i (place_of p)) g apart));
+    frame = λ g _. refl;
+    number = λ l _. refl;
+    core = λ c _. refl;
+    grace = λ x _. same_grace_by t.limits.cores _ _ refl;
+  }
+]
+
+pub frames_set : (t : Maps) (es : List (ℕ × Frame)) (f k : ℕ) (x : Frame) → IsWhole t → k ≡ f → IsSet t.frames es k x
+    → SameState (state_of (record t { frames = es })) (with_frame (state_of t) f (frame_of x))
+unfolding state_of
+frames_set t es f k x whole is s = elim (cases_lt f t.limits.frames) [
+  | inl below ↦ same_by _ _ (frames_written t es f k x is (written t.frames es k x (whole.frames k (omega arith)) s))
+  | inr past ↦ record {
+    limits = refl;
+    place = λ g j _ _. refl;
+    frame = λ g below. ap frame_or_untyped (s.others g (λ e. omega arith)) ∙ sym (put_other (λ g. frame_or_untyped (at t.frames g)) f (frame_of x) g (λ e. omega arith));
+    number = λ l _. refl;
+    core = λ c _. refl;
+    grace = λ x _. same_grace_by t.limits.cores _ _ refl;
+  }
+]
+
+pub numbers_set : (t : Maps) (es : List (ℕ × Liveness)) (l k : ℕ) (x : Liveness) → IsWhole t → k ≡ l → IsSet t.numbers es k x
+    → SameState (state_of (record t { numbers = es })) (with_number (state_of t) l (number_of x))
+unfolding state_of
+numbers_set t es l k x whole is s = elim (cases_lt l 64) [
+  | inl below ↦ same_by _ _ (numbers_written t es l k x is (written t.numbers es k x (whole.numbers k (omega arith)) s))
+  | inr past ↦ record {
+    limits = refl;
+    place = λ g j _ _. refl;
+    frame = λ g _. refl;
+    number = λ m below. ap number_or_unused (s.others m (λ e. omega arith)) ∙ sym (put_other (λ m. number_or_unused (at t.numbers m)) l (number_of x) m (λ e. omega arith));
+    core = λ c _. refl;
+    grace = λ x _. same_grace_by t.limits.cores _ _ refl;
+  }
+]
+
+pub place_graces_set : (t : Maps) (es : List (ℕ × GraceSets)) (f i k : ℕ) (g : GraceSets) → IsWhole t → i < 64 → k ≡ 64 * f + i → IsSet t.place_graces es k g
+    → SameState (state_of (record t { place_graces = es })) (with_grace_of (state_of t) (PlaceOf f i) (grace_of g))
+unfolding state_of
+place_graces_set t es f i k g whole small is s = elim (cases_lt f t.limits.frames) [
+  | inl below ↦ same_by _ _ (place_graces_written t es f i k g small is (written t.place_graces es k g (whole.place_graces k (omega arith)) s))
+  | inr past ↦ record {
+    limits = refl;
+    place = λ h j _ _. refl;
+    frame = λ h _. refl;
+    number = λ m _. refl;
+    core = λ c _. refl;
+    grace = λ x is_thing. same_grace_by t.limits.cores _ _ (point past x is_thing);
+  }
+]
+  where
+    point : t.limits.frames ≤ f → (y : Thing) → IsThing t.limits y → grace_in (record t { place_graces = es }) y ≡ (if same_thing y (PlaceOf f i) then grace_of g else grace_in t y)
+    point past (PlaceOf h m) (h_below, m_below) =
+        let ne : 64 * h + m ≢ k = λ e. omega arith in
+        let apart : h ≢ f = λ e. omega arith in
+        ap grace_or_none (at_apart es t.place_graces h m m_below (s.others (64 * h + m) ne))
+        ∙ sym (ap (λ b. if b && m == i then grace_of g else grace_in t (PlaceOf h m)) (ne_eqb h f apart))
+    point past (FrameOf h) _ = refl
+    point past (NumberOf l) _ = refl
+
+pub frame_graces_set : (t : Maps) (es : List (ℕ × GraceSets)) (f k : ℕ) (g : GraceSets) → IsWhole t → k ≡ f → IsSet t.frame_graces es k g
+    → SameState (state_of (record t { frame_graces = es })) (with_grace_of (state_of t) (FrameOf f) (grace_of g))
+unfolding state_of
+frame_graces_set t es f k g whole is s = elim (cases_lt f t.limits.frames) [
+  | inl below ↦ same_by _ _ (frame_graces_written t es f k g is (written t.frame_graces es k g (whole.frame_graces k (omega arith)) s))
+  | inr past ↦ record {
+    limits = refl;
+    place = λ h j _ _. refl;
+    frame = λ h _. refl;
+    number = λ m _. refl;
+    core = λ c _. refl;
+    grace = λ x is_thing. same_grace_by t.limits.cores _ _ (point past x is_thing);
+  }
+]
+  where
+    point : t.limits.frames ≤ f → (y : Thing) → IsThing t.limits y → grace_in (record t { frame_graces = es }) y ≡ (if same_thing y (FrameOf f) then grace_of g else grace_in t y)
+    point past (PlaceOf h m) _ = refl
+    point past (FrameOf h) below =
+        ap grace_or_none (s.others h (λ e. omega arith)) ∙ sym (ap (λ b. if b then grace_of g else grace_in t (FrameOf h)) (ne_eqb h f (λ e. omega arith)))
+    point past (NumberOf l) _ = refl
+
+pub number_graces_set : (t : Maps) (es : List (ℕ × GraceSets)) (l k : ℕ) (g : GraceSets) → IsWhole t → k ≡ l → IsSet t.number_graces es k g
+    → SameState (state_of (record t { number_graces = es })) (with_grace_of (state_of t) (NumberOf l) (grace_of g))
+unfolding state_of
+number_graces_set t es l k g whole is s = elim (cases_lt l 64) [
+  | inl below ↦ same_by _ _ (number_graces_written t es l k g is (written t.number_graces es k g (whole.number_graces k (omega arith)) s))
+  | inr past ↦ record {
+    limits = refl;
+    place = λ h j _ _. refl;
+    frame = λ h _. refl;
+    number = λ m _. refl;
+    core = λ c _. refl;
+    grace = λ x is_thing. same_grace_by t.limits.cores _ _ (point past x is_thing);
+  }
+]
+  where
+    point : 64 ≤ l → (y : Thing) → IsThing t.limits y → grace_in (record t { number_graces = es }) y ≡ (if same_thing y (NumberOf l) then grace_of g else grace_in t y)
+    point past (PlaceOf h m) _ = refl
+    point past (FrameOf h) _ = refl
+    point past (NumberOf m) below =
+        ap grace_or_none (s.others m (λ e. omega arith)) ∙ sym (ap (λ b. if b then grace_of g else grace_in t (NumberOf m)) (ne_eqb m l (λ e. omega arith)))

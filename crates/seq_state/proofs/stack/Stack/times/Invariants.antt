@@ -1,0 +1,6 @@
+use Rattle.std.proofs.Common.{◌≡◌, ◌≤◌, take}
+use Rattle.seq_state.specs.References.{times}
+use Rattle.seq_state.proofs.stack.Stack.times.Given as goal
+
+abbrev pub invariant-each : goal.invariant-each
+invariant-each l = record { count : l.count ≡ times l.frame (take l.at l.self-inside.cells); most : l.count ≤ l.at }

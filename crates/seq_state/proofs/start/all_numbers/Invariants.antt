@@ -1,0 +1,8 @@
+use Rattle.std.proofs.Common.{◌≡◌}
+use Rattle.seq_state.specs.Start.{start_number}
+use Rattle.seq_state.specs.Parts.{number_of}
+use Rattle.seq_state.specs.Maps.{HasAll}
+use Rattle.seq_state.proofs.start.all_numbers.Given as goal
+
+abbrev pub invariant-each : goal.invariant-each
+invariant-each l = HasAll l.key l.map.entries (λ k x. number_of x ≡ start_number k)

@@ -1,0 +1,20 @@
+-- The kernel's fields as its maps.
+use Rattle.seq_state.specs.declared.kernel.SeqKernel.TheInside.{Inside}
+use Rattle.seq_state.specs.Maps.{Maps, IsWhole}
+
+-- The maps and the limits.
+abbrev pub maps_of : Inside → Maps
+maps_of k = record {
+  places = k.places.entries;
+  frames = k.frames.entries;
+  numbers = k.numbers.entries;
+  cores = k.cores.entries;
+  place_graces = k.place_graces.entries;
+  frame_graces = k.frame_graces.entries;
+  number_graces = k.number_graces.entries;
+  limits = record { cores = k.core_count; frames = k.frame_count; calls = k.calls; epochs = k.epochs };
+}
+
+-- Each key stands.
+abbrev pub IsKernel : Inside → Type 0
+IsKernel k = IsWhole (maps_of k)

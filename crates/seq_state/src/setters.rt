@@ -1,0 +1,66 @@
+//! The changes of the plain kernel's state: each sets one part and leaves all else. None takes memory.
+//!
+//! What is set past the machine's frames or liveness numbers is no part of the machine.
+
+ghost use Rattle.std.specs.Prelude.{◌≡◌, ◌<◌};
+ghost use Rattle.seq_state.specs.State.{with_place, with_frame, with_number, with_core};
+ghost use Rattle.seq_state.specs.Parts.{place_of, frame_of, number_of, core_of, grace_of, thing_of};
+ghost use Rattle.seq_state.specs.Maps.{state_of};
+ghost use Rattle.seq_state.specs.Representation.{HasIndex, IsThing, with_grace_of, Represents};
+
+use crate::kernel::{SeqKernel, place_key};
+use crate::maps::write_at;
+use crate::parts::{Core, Frame, Grace, Liveness, Place, Thing};
+use spk_nums::{CoreNo, EntryNo, FrameNo};
+
+impl SeqKernel {
+    /// Sets a place of a node, the index below 64.
+    pub fn set_place(&mut self, node: FrameNo, index: EntryNo, place: Place)
+        requires { index < 64 }
+        ensures machine { Represents self.new (with_place (state_of self.old) node index (place_of place)) }
+        ensures exact { node < (state_of self.old).limits.frames → state_of self.new ≡ with_place (state_of self.old) node index (place_of place) }
+    {
+        write_at(&mut self.places, place_key(node, index), place);
+    }
+
+    /// Sets a frame; its places stay.
+    pub fn set_frame(&mut self, frame: FrameNo, value: Frame)
+        ensures machine { Represents self.new (with_frame (state_of self.old) frame (frame_of value)) }
+        ensures exact { frame < (state_of self.old).limits.frames → state_of self.new ≡ with_frame (state_of self.old) frame (frame_of value) }
+    {
+        write_at(&mut self.frames, frame.number(), value);
+    }
+
+    /// Sets a liveness number.
+    pub fn set_number(&mut self, number: u8, value: Liveness)
+        ensures machine { Represents self.new (with_number (state_of self.old) number (number_of value)) }
+        ensures exact { number < 64 → state_of self.new ≡ with_number (state_of self.old) number (number_of value) }
+    {
+        write_at(&mut self.numbers, u16::from(number), value);
+    }
+
+    /// Sets a core of the machine.
+    pub fn set_core(&mut self, core: CoreNo, value: Core)
+        requires { core < (state_of self.old).limits.cores }
+        ensures { state_of self.new ≡ with_core (state_of self.old) core (core_of value) }
+    {
+        write_at(&mut self.cores, u16::from(core.number()), value);
+    }
+
+    /// Sets the grace period of a thing; a place's index is below 64.
+    pub fn set_grace(&mut self, thing: Thing, grace: Grace)
+        requires { HasIndex (thing_of thing) }
+        ensures machine { Represents self.new (with_grace_of (state_of self.old) (thing_of thing) (grace_of grace)) }
+        ensures exact { IsThing (state_of self.old).limits (thing_of thing) → state_of self.new ≡ with_grace_of (state_of self.old) (thing_of thing) (grace_of grace) }
+    {
+        match thing {
+            Thing::PlaceOf { node, index } => write_at(
+                &mut self.place_graces,
+                place_key(node, index),
+                grace,
+            ),
+            Thing::FrameOf(frame) => write_at(&mut self.frame_graces, frame.number(), grace),
+            Thing::NumberOf(number) => write_at(&mut self.number_graces, u16::from(number), grace),
+        }
+    }
+}
