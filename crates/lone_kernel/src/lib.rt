@@ -1,8 +1,11 @@
 //! The machine for given orders: a vector of words, and the moves of the cores over it, one atomic step after another.
 #![tactic(auto)]
 
-mod seats;
 mod lone;
+mod seats;
 
 pub use lone::{LoneKernel, Moved};
 pub use seats::{Seat, Turn};
+
+#[cfg(test)]
+mod tests;
