@@ -1,4 +1,4 @@
--- The lists of a script whose lines are all carried out: their calls are built.
+-- The lists of a script whose lines are all carried out: their calls are built, and within their limits.
 use Rattle.std.proofs.Common.{◌≡◌, ℕ, ◌<◌, ◌^◌, Bool, true, false, List, [], ◌∷◌, ◌++◌, length, All, Option, Some, None, Result, Ok, Err, refl, sym, subst, arith, inl, inr}
 use Rattle.std.specs.Prelude.{slice_get, if◌then◌else◌}
 use Rattle.std.specs.Option.{option_and_then, ok_or}
@@ -8,6 +8,7 @@ use Rattle.std.proofs.lemmas.List.Elements.{All-push, All-set, All-get_or, All-t
 use Rattle.spk_nums.specs.declared.calls.Call.{Call}
 use Rattle.spk_nums.specs.declared.steps.Item.{Item}
 use Rattle.spk_nums.specs.Built.{IsBuilt}
+use Rattle.spk_nums.specs.CallLimits.{InLimits}
 use Rattle.script_tokens.specs.Words.{words_of, ending_of}
 use Rattle.script_tokens.specs.declared.scanning.Ending.{Ending}
 use Rattle.script_tokens.specs.declared.scanning.Ending.TheVariants.{Whole, Fault as Faulty}
@@ -26,7 +27,7 @@ use Rattle.script_reader.specs.Heads.{line_of, line_by, may_stand, is_whole}
 use Rattle.script_reader.specs.Orders.{items_of}
 use Rattle.script_reader.specs.Readings.{Row, rows_of, AtMost, Draft_of, Meaning, First_fault, no_draft, calls_of, with_call, with_line, is_order, draft_behind, behind_line, draft_from, and_then, at_line, meaning_at, meaning_of, script_of}
 use Rattle.script_reader.specs.Unbuilt.{IsBuiltRead, IsBuiltBy, IsBuiltLine, IsFirstUnbuiltOf, IsFirstUnbuilt}
-use Rattle.speck_run.specs.Machine.{AreLists}
+use Rattle.lone_kernel.specs.Machine.{AreLists}
 
 -- Each list of a draft has built calls alone.
 abbrev AreBuilt : List (List Call) → Type 0
@@ -47,7 +48,7 @@ by_call head words first.Speck call e built = absurd (not_call _ call e)
 by_call head words first.Cores call e built = absurd (not_call _ call e)
 by_call head words first.Frames call e built = absurd (not_call _ call e)
 by_call head words first.Grant call e built = absurd (not_call _ call e)
-by_call head words first.Calls call e built = absurd built
+by_call head words first.Calls call e built = absurd (not_call _ call e)
 by_call head words first.Epochs call e built = absurd (not_call _ call e)
 by_call head words first.Core call e built = absurd (not_call _ call e)
 by_call head words first.Order call e built = absurd (not_call _ call e)
@@ -147,5 +148,9 @@ unfolding script_of
 are_built source m e none = from_lines source m (draft_from no_draft (rows_of (words_of source))) refl e none
 
 -- The lists of a script whose lines are all carried out can be run.
-pub accepted : (n : ℕ) (source : List ℕ) (m : Meaning) → script_of source ≡ Ok m → IsFirstUnbuilt source None → All (AtMost n) m.lists → n < 2 ^ 32 → AreLists m.lists
-accepted n source m e none most small = λ k d h. let few = most k d h in (are_built source m e none k d h, omega arith)
+pub accepted : (n : ℕ) (source : List ℕ) (m : Meaning) → script_of source ≡ Ok m → IsFirstUnbuilt source None → All (All InLimits) m.lists → All (AtMost n) m.lists → n < 2 ^ 32 → AreLists m.lists
+accepted n source m e none within most small = λ k d h.
+    let few = most k d h in (
+      λ i d' h'. (are_built source m e none k d h i d' h', within k d h i d' h'),
+      omega arith,
+    )

@@ -1,8 +1,4 @@
-pub mod Entries
-pub mod Good
-pub mod Advance
-pub mod Boot
-pub mod Runs
+pub mod ByItems
 pub mod Finish
 pub mod Pieces
 pub mod OneWord

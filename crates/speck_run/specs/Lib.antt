@@ -1,6 +1,4 @@
-pub mod Flight
-pub mod Machine
-pub mod Stands
+pub mod Orders
 pub mod Written
 pub mod Ends
 pub mod Script

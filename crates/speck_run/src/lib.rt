@@ -1,17 +1,12 @@
-//! The machine of one thread, and the top call.
+//! The top call of the program: its words, its input, the script, and the text that is written.
 #![tactic(auto)]
 
 mod ends;
-mod flight;
-mod lone;
+mod orders;
 mod replay;
-mod seats;
 mod text;
 mod top;
 mod words;
 
-pub use flight::{Entry, Stage, Took, Turn};
-pub use lone::{LoneKernel, Moved};
-pub use seats::Core;
 pub use top::{Status, speck};
 pub use words::Command;

@@ -1,12 +1,14 @@
 //! Lists and an order, taken as `replay` does.
 ghost use Rattle.std.specs.Prelude.{◌≡◌, ◌<◌, IfOk, All, map, length, string_bytes};
 ghost use Rattle.kernel_history.specs.GivenSteps.{GivenSteps};
-ghost use Rattle.speck_run.specs.Machine.{AreLists};
+ghost use Rattle.lone_kernel.specs.Machine.{AreLists};
 
-use crate::lone::LoneKernel;
-use crate::text::{write_decisions, write_entries};
+use crate::orders::{follow, run_rest};
+use crate::text::write_decisions;
+use lone_kernel::LoneKernel;
 use spk_nums::{Call, Item, Memory, Setup};
 use std::alloc::{AllocError, Global};
+use table_report::report;
 
 fn copy_lists(alloc: Global, lists: &[Vec<Call>]) -> Result<Vec<Vec<Call>>, AllocError>
     ensures { IfOk result (λ copies. map (λ v. v.items) copies.items ≡ map (λ v. v.items) lists.now) }
@@ -19,26 +21,28 @@ fn copy_lists(alloc: Global, lists: &[Vec<Call>]) -> Result<Vec<Vec<Call>>, Allo
     Ok(copies)
 }
 
-/// Takes the items of the order, then runs each core out, and answers the text of the trace that this makes. There is a
-/// list for each core, each of fewer than 2^32 calls that are built; only want of memory is refused.
+/// Takes the items of the order, then runs each core out, and answers the text of the trace that this makes: its reply
+/// lines, then its tables. There is a list for each core, each of fewer than 2^32 calls that are carried out and within
+/// their limits; only want of memory is refused.
 pub fn replay(
     alloc: Global,
     setup: &Setup,
     lists: Vec<Vec<Call>>,
     items: &[Item],
 ) -> Result<String, Memory>
-    requires built { AreLists (map (λ v. v.items) lists.items) }
+    requires can_run { AreLists (map (λ v. v.items) lists.items) }
     requires one_each { length lists.items ≡ setup.now.cores }
     requires named { All (λ item. item.core < setup.now.cores) items.now }
     ensures { IfOk result (λ text. GivenSteps setup.now (map (λ v. v.items) lists.items) items.now (string_bytes text)) }
 {
     let calls = copy_lists(alloc, &lists)?;
     let mut kernel = LoneKernel::boot(alloc, setup, lists)?;
-    kernel.follow(items);
-    kernel.run_rest();
+    follow(&mut kernel, items);
+    run_rest(&mut kernel, setup.cores());
     let mut text = String::new(alloc);
     write_decisions(alloc, &mut text, &calls, kernel.decisions())?;
-    let words = kernel.close(alloc)?;
-    write_entries(alloc, &mut text, setup, &words)?;
+    let closed = kernel.close(alloc)?;
+    let tables = report(alloc, &closed)?;
+    text.push_str(&tables)?;
     Ok(text)
 }

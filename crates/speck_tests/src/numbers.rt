@@ -72,6 +72,10 @@ fn calls_know_their_limits(rt: HostRuntime) {
     assert!(rt; in_limits(&Call::Tick { n: 1_000_000 }));
     assert!(rt; !in_limits(&Call::Tick { n: 1_000_001 }));
     assert!(rt; is_built(&Call::Look { a: CapId::new(63) }));
-    assert!(rt; is_built(&Call::Look { a: CapId::new(65_535) }));
+    assert!(rt;
+        is_built(&Call::Look {
+            a: CapId::new(65_535)
+        })
+    );
     assert!(rt; !is_built(&Call::Flush));
 }

@@ -10,26 +10,73 @@ use std::test::Fail;
 
 const MACHINE: &str = "speck 1\ncores 2\nframes 32\ngrant 100 0 1\ngrant 100 0 1\n";
 
-const ENTRIES: &str =
-    "  0 range 8 24\n  1 table 0\n  2 pages 2\n  3 comp 3\n  4 thread 4\n  5 thread 5\n  12 tcap 6\n  13 tcap 7\n";
+// The tables of that machine's start, to the last entry of the leaf that holds its capabilities.
+const TO_ENTRIES: &str = "frame 0 table refs 2
+  0 link 1
+frame 1 leaf refs 1
+  0 range 8 24
+  1 table 0
+  2 pages 2
+  3 comp 3
+  4 thread 4
+  5 thread 5
+  12 tcap 6
+  13 tcap 7
+";
 
+// The tables behind the entries.
+const FROM_ENTRIES: &str = "frame 2 pages refs 2
+frame 3 comp refs 4
+  fields 0 2 0 1
+frame 4 thread refs 2
+  stack 3
+frame 5 thread refs 2
+  stack 3
+frame 6 tcap refs 2
+  budget 100
+  quality 0 1
+frame 7 tcap refs 2
+  budget 100
+  quality 0 1
+live 0 epoch 1 frame 3
+core 0 thread 4 tcap 6 comp 3 spent 0 owed 0
+core 1 thread 5 tcap 7 comp 3 spent 0 owed 0
+total 200
+";
+
+// The smallest machine, and the tables of its start.
+const ALONE: &str = "speck 1\ncores 1\nframes 8\ngrant 100 0 1\n";
+
+const ALONE_TABLES: &str = "frame 0 table refs 2
+  0 link 1
+frame 1 leaf refs 1
+  0 range 6 2
+  1 table 0
+  2 pages 2
+  3 comp 3
+  4 thread 4
+  12 tcap 5
+frame 2 pages refs 2
+frame 3 comp refs 3
+  fields 0 2 0 1
+frame 4 thread refs 2
+  stack 3
+frame 5 tcap refs 2
+  budget 100
+  quality 0 1
+live 0 epoch 1 frame 3
+core 0 thread 4 tcap 5 comp 3 spent 0 owed 0
+total 100
+";
+
+// Their first hundred bytes.
+const FRONT: &str =
+    "frame 0 table refs 2\n  0 link 1\nframe 1 leaf refs 1\n  0 range 6 2\n  1 table 0\n  2 pages 2\n  3 comp 3";
+
+// Both cores copy the range to the same place.
 const COPIES: &str = "core 0\ncopy 0 1 20\ncore 1\ncopy 0 1 20\n";
 
-const RACED: &str = "core 0\ncopy 0 1 20\ncore 1\ncopy 0 1 20\norder\n0 0 1 1 0 1\n";
-
-// Both cores go on until their copies are ready, then to their decisions, then to their returns.
-const READY: &str = "core 0\ncopy 0 1 20\ncore 1\ncopy 0 1 20\norder\n0< 1< 0! 1! 0. 1.\n";
-
-// Each core goes on until its copy has returned.
-const RETURNED: &str = "core 0\ncopy 0 1 20\ncore 1\ncopy 0 1 20\norder\n0. 1.\n";
-
-const EMPTY: &str = "core 0\nlook 63\ncore 1\ncopy 62 1 20\n";
-
 const COPIED: &str = "  20 range 8 24\n";
-
-// The first hundred bytes of the raced pair's text.
-const FRONT: &str =
-    "0.1 copy 0 1 20 = ok\n1.1 copy 0 1 20 = raced\n  0 range 8 24\n  1 table 0\n  2 pages 2\n  3 comp 3\n  4 t";
 
 // How bytes are moved: the most a read and a write, and the calls that fail.
 #[derive(Clone, Copy)]
@@ -89,16 +136,10 @@ fn replays(
     answers(alloc, &["replay"], input.as_bytes(), ends, status, text)
 }
 
-// Whether the script of these lines ends with these reply lines and entry lines.
-fn is_done(
-    alloc: Global,
-    lines: &str,
-    ends: &Ends,
-    replies: &str,
-    added: &str,
-) -> Result<bool, Fail> {
-    let text = format!(in alloc; "{replies}{ENTRIES}{added}")?;
-    replays(alloc, lines, ends, Status::Done, text.as_str())
+// Whether the script of these lines ends with these reply lines and the start's tables, with these entry lines added.
+fn is_done(alloc: Global, lines: &str, replies: &str, added: &str) -> Result<bool, Fail> {
+    let text = format!(in alloc; "{replies}{TO_ENTRIES}{added}{FROM_ENTRIES}")?;
+    replays(alloc, lines, &AMPLE, Status::Done, text.as_str())
 }
 
 // Whether the script of these lines is told that this line is the first that is not built.
@@ -127,39 +168,190 @@ fn is_refused(
 }
 
 #[test]
-fn two_cores_copy_and_look(rt: HostRuntime) -> Result<(), Fail> {
+fn the_tables_of_the_start_are_written(rt: HostRuntime) -> Result<(), Fail> {
     let alloc = rt.alloc();
-    let raced = "0.1 copy 0 1 20 = ok\n1.1 copy 0 1 20 = raced\n";
     let by_one = Ends {
         read_most: 1,
         write_most: 1,
         ..AMPLE
     };
-    let occupied = "0.1 copy 0 1 20 = ok\n1.1 copy 0 1 20 = occupied\n";
-    let empty = "0.1 look 63 = empty\n1.1 copy 62 1 20 = empty\n";
-    assert!(rt; is_done(alloc, RACED, &AMPLE, raced, COPIED)?);
-    assert!(rt; is_done(alloc, RACED, &by_one, raced, COPIED)?);
-    assert!(rt; is_done(alloc, READY, &AMPLE, raced, COPIED)?);
-    assert!(rt; is_done(alloc, RETURNED, &AMPLE, occupied, COPIED)?);
-    assert!(rt; is_done(alloc, COPIES, &AMPLE, occupied, COPIED)?);
-    assert!(rt; is_done(alloc, EMPTY, &AMPLE, empty, "")?);
+    assert_eq!(rt; ALONE_TABLES.len(), 341);
+    for ends in [AMPLE, by_one] {
+        assert!(rt;
+            answers(
+                alloc,
+                &["replay"],
+                ALONE.as_bytes(),
+                &ends,
+                Status::Done,
+                ALONE_TABLES
+            )?
+        );
+    }
+    assert!(rt; is_done(alloc, "", "", "")?);
     Ok(())
 }
 
 #[test]
-fn one_core_looks_at_its_table(rt: HostRuntime) -> Result<(), Fail> {
-    let script =
-        "speck 1\n\ncores 01 # alone\r\nframes 8\ngrant 100 0 1\nepochs 7\ncore 0\n\tlook 000#0\nlook 63\ncore 0\nlook 12";
-    let text =
-        "0.1 look 0 = ok range 6 2\n0.2 look 63 = empty\n0.3 look 12 = ok tcap 5\n  0 range 6 2\n  1 table 0\n  2 pages 2\n  3 comp 3\n  4 thread 4\n  12 tcap 5\n";
+fn cores_look_and_copy(rt: HostRuntime) -> Result<(), Fail> {
+    let alloc = rt.alloc();
+    // Lines behind the machine's, the reply lines, and the entry lines that are added.
+    let rows = [
+        (
+            "core 0\nlook 0\nlook 63\nlook 64\nlook 4096\n",
+            "0.1 look 0 = ok range 8 24\n0.2 look 63 = empty\n0.3 look 64 = no-slot\n0.4 look 4096 = no-slot\n",
+            "",
+        ),
+        (
+            "core 0\nlook 13\ncopy 62 1 20\ncopy 0 3 20\ncopy 0 1 64\ncopy 0 1 12\ncopy 64 64 64\n",
+            "0.1 look 13 = ok tcap 7\n0.2 copy 62 1 20 = empty\n0.3 copy 0 3 20 = wrong-cap\n0.4 copy 0 1 64 = no-slot\n0.5 copy 0 1 12 = occupied\n0.6 copy 64 64 64 = no-slot\n",
+            "",
+        ),
+        (
+            "core 0\ncopy 0 1 20\nlook 20\ncopy 20 1 63\ncore 1\nlook 63\n",
+            "0.1 copy 0 1 20 = ok\n0.2 look 20 = ok range 8 24\n0.3 copy 20 1 63 = ok\n1.1 look 63 = ok range 8 24\n",
+            "  20 range 8 24\n  63 range 8 24\n",
+        ),
+        (
+            "calls 2\ncore 0\nlook 0\nlook 1\nlook 2\ncore 1\nlook 2\n",
+            "0.1 look 0 = ok range 8 24\n0.2 look 1 = ok table 0\n0.3 look 2 = calls-spent\n1.1 look 2 = ok pages 2\n",
+            "",
+        ),
+    ];
+    for (lines, replies, added) in rows {
+        assert!(rt; is_done(alloc, lines, replies, added)?, "{lines}");
+    }
+    Ok(())
+}
+
+#[test]
+fn a_copy_of_an_object_is_a_reference_to_it(rt: HostRuntime) -> Result<(), Fail> {
+    let alloc = rt.alloc();
+    let text = format!(in alloc; "0.1 copy 2 1 20 = ok\n{TO_ENTRIES}  20 pages 2\n{FROM_ENTRIES}")?;
+    let text = text.replace(alloc, "pages refs 2", "pages refs 3")?;
+    assert!(rt; replays(alloc, "core 0\ncopy 2 1 20\n", &AMPLE, Status::Done, &text)?);
+    Ok(())
+}
+
+// What both cores' copies to the same place answer under this order, core 0's first.
+fn copies_end(alloc: Global, order: &str, second: &str) -> Result<bool, Fail> {
+    let lines = format!(in alloc; "{COPIES}{order}")?;
+    let replies = format!(in alloc; "0.1 copy 0 1 20 = ok\n1.1 copy 0 1 20 = {second}\n")?;
+    is_done(alloc, lines.as_str(), replies.as_str(), COPIED)
+}
+
+#[test]
+fn two_cores_copy_to_one_place(rt: HostRuntime) -> Result<(), Fail> {
+    let alloc = rt.alloc();
+    // A copy of a range enters, and loads six entries; then it is ready.
+    let rows = [
+        ("order\n0< 1< 0! 1! 0. 1.\n", "raced"),
+        ("order\n0< 1< 0! 1!\n", "raced"),
+        ("order\n0< 1< 0 1\n", "raced"),
+        ("order\n0 0 0 0 0 0 0 1 1 1 1 1 1 1 0 1\n", "raced"),
+        ("order\n0. 1.\n", "occupied"),
+        ("order\n0! 1!\n", "occupied"),
+        ("order\n0< 0! 1< 1!\n", "occupied"),
+        ("order\n0 0 0 0 0 0 0 1 1 1 1 1 1 0 1\n", "occupied"),
+        ("", "occupied"),
+    ];
+    for (order, second) in rows {
+        assert!(rt; copies_end(alloc, order, second)?, "{order}");
+    }
+    Ok(())
+}
+
+#[test]
+fn the_first_to_decide_is_told_first(rt: HostRuntime) -> Result<(), Fail> {
+    let lines = "core 0\nlook 0\nlook 1\ncore 1\nlook 2\nlook 3\norder\n1! 0! 1! 0. 1. 1< 0.\n";
+    let replies =
+        "1.1 look 2 = ok pages 2\n0.1 look 0 = ok range 8 24\n0.2 look 1 = ok table 0\n1.2 look 3 = ok comp 3\n";
+    assert!(rt; is_done(rt.alloc(), lines, replies, "")?);
+    Ok(())
+}
+
+#[test]
+fn items_of_idle_cores_do_nothing(rt: HostRuntime) -> Result<(), Fail> {
+    // Core 1 has no list, and core 0 has finished its own behind its first item.
+    let lines = "core 0\nlook 0\norder\n1 1< 1! 1. 0. 0 0< 0! 0. 1\n";
+    assert!(rt; is_done(rt.alloc(), lines, "0.1 look 0 = ok range 8 24\n", "")?);
+    Ok(())
+}
+
+// The tables of the start of the largest machine, each of whose cores is granted all that it may.
+fn largest_tables(alloc: Global) -> Result<String, Fail> {
+    let mut text = String::from_str(
+        alloc,
+        "frame 0 table refs 2\n  0 link 1\nframe 1 leaf refs 1\n  0 range 20 492\n  1 table 0\n  2 pages 2\n  3 comp 3\n",
+    )?;
+    for frame in 4..12u32 {
+        text.push_str(&format!(in alloc; "  {frame} thread {frame}\n")?)?;
+    }
+    for frame in 12..20u32 {
+        text.push_str(&format!(in alloc; "  {frame} tcap {frame}\n")?)?;
+    }
+    // Each thread's stack, the capability and the live component itself are references to the component.
+    text.push_str("frame 2 pages refs 2\nframe 3 comp refs 10\n  fields 0 2 0 1\n")?;
+    for frame in 4..12u32 {
+        text.push_str(&format!(in alloc; "frame {frame} thread refs 2\n  stack 3\n")?)?;
+    }
+    for frame in 12..20u32 {
+        text.push_str(&format!(in alloc;
+            "frame {frame} tcap refs 2\n  budget 500000000\n  quality 63 16777215\n"
+        )?)?;
+    }
+    text.push_str("live 0 epoch 1 frame 3\n")?;
+    for core in 0..8u32 {
+        let thread = 4 + core;
+        let tcap = 12 + core;
+        text.push_str(&format!(in alloc;
+            "core {core} thread {thread} tcap {tcap} comp 3 spent 0 owed 0\n"
+        )?)?;
+    }
+    text.push_str("total 4000000000\n")?;
+    Ok(text)
+}
+
+#[test]
+fn the_largest_machine_is_run(rt: HostRuntime) -> Result<(), Fail> {
+    let alloc = rt.alloc();
+    let mut script = String::from_str(alloc, "speck 1\ncores 8\nframes 512\n")?;
+    for _ in 0..8u32 {
+        script.push_str("grant 500000000 63 16777215\n")?;
+    }
+    script.push_str("core 7\nlook 19\ncore 3\nlook 0\norder\n7<\n")?;
+    let tables = largest_tables(alloc)?;
+    let text = format!(in alloc;
+        "3.1 look 0 = ok range 20 492\n7.1 look 19 = ok tcap 19\n{tables}"
+    )?;
     assert!(rt;
         answers(
-            rt.alloc(),
+            alloc,
             &["replay"],
             script.as_bytes(),
             &AMPLE,
             Status::Done,
-            text
+            text.as_str()
+        )?
+    );
+    Ok(())
+}
+
+#[test]
+fn spaces_and_comments_are_passed_over(rt: HostRuntime) -> Result<(), Fail> {
+    let alloc = rt.alloc();
+    let script =
+        "speck 1\n\ncores 01 # alone\r\nframes 8\ngrant 100 0 1\nepochs 7\ncore 0\n\tlook 000#0\nlook 63\ncore 0\nlook 12";
+    let replies = "0.1 look 0 = ok range 6 2\n0.2 look 63 = empty\n0.3 look 12 = ok tcap 5\n";
+    let text = format!(in alloc; "{replies}{ALONE_TABLES}")?;
+    assert!(rt;
+        answers(
+            alloc,
+            &["replay"],
+            script.as_bytes(),
+            &AMPLE,
+            Status::Done,
+            text.as_str()
         )?
     );
     Ok(())
@@ -168,14 +360,11 @@ fn one_core_looks_at_its_table(rt: HostRuntime) -> Result<(), Fail> {
 #[test]
 fn the_first_line_that_is_not_built_is_told(rt: HostRuntime) -> Result<(), Fail> {
     let rows = [
-        ("core 0\nlook 64\n", 7),
-        ("core 0\nlook 63\nlook 65535\nlook 64\n", 8),
-        ("core 0\ncopy 0 2 20\n", 7),
-        ("core 0\ncopy 0 1 64\n", 7),
+        ("core 0\nflush\n", 7),
+        ("core 0\nlook 64\ncopy 0 2 64\nlook 65535\nshrink 1 0\n", 10),
         ("core 1\nlook 0\n\ncore 0\nremove 1 20\n", 10),
         ("core 0\nmake tcap 0 8 1 20 0 5\norder\n0\n", 7),
-        ("calls 4194304\ncore 0\nlook 64\n", 6),
-        ("calls 2\n", 6),
+        ("calls 4194304\nepochs 1\ncore 0\nret\n", 9),
     ];
     for (lines, line) in rows {
         assert!(rt; is_not_built(rt.alloc(), lines, line)?, "at line {line}");
@@ -217,13 +406,13 @@ fn a_fault_of_a_call_is_told_at_its_line(rt: HostRuntime) -> Result<(), Fail> {
         ("look 1 2", 7, Cause::S4, "S4 extra word"),
         ("core 2", 7, Cause::S6, "S6 no such core"),
         (
-            "look 64\ngrant 1 0 1",
+            "flush\ngrant 1 0 1",
             8,
             Cause::S7,
             "S7 section out of place",
         ),
-        ("look 64\norder\n0 0? 2", 9, Cause::S2, "S2 unknown word"),
-        ("look 64\norder\n0 1! 2.", 9, Cause::S6, "S6 no such core"),
+        ("flush\norder\n0 0? 2", 9, Cause::S2, "S2 unknown word"),
+        ("flush\norder\n0 1! 2.", 9, Cause::S6, "S6 no such core"),
         ("look \u{7f}", 7, Cause::S8, "S8 not ASCII"),
     ];
     for (lines, line, cause, text) in rows {
@@ -251,7 +440,7 @@ fn a_foreign_byte_and_one_line_too_many_are_told(rt: HostRuntime) -> Result<(), 
     Ok(())
 }
 
-// A script in its printed form, with a `calls` line and calls that are not built.
+// Lines in their printed form, with calls that are not built.
 const UNBUILT: &str =
     "calls 2\nepochs 1\ncore 1\nmake tcap 65535 8 1 65535 63 16777215\ntransfer 12 13 4000000000\norder\n0< 1! 0. 1\n";
 
@@ -310,17 +499,15 @@ fn faults_have_their_statuses(rt: HostRuntime) -> Result<(), Fail> {
         read_fails: 1,
         ..AMPLE
     };
-    assert!(rt; replays(alloc, RACED, &second_write, Status::WriteFault, FRONT)?);
-    assert!(rt; replays(alloc, RACED, &full, Status::WriteFault, "0.1 copy 0")?);
-    assert!(rt;
-        replays(
-            alloc,
-            RACED,
-            &first_read,
-            Status::ReadFault,
-            "read failed\n"
-        )?
-    );
+    let rows = [
+        (second_write, Status::WriteFault, FRONT),
+        (full, Status::WriteFault, "frame 0 ta"),
+        (first_read, Status::ReadFault, "read failed\n"),
+    ];
+    assert_eq!(rt; FRONT.len(), 100);
+    for (ends, status, text) in rows {
+        assert!(rt; answers(alloc, &["replay"], ALONE.as_bytes(), &ends, status, text)?);
+    }
     Ok(())
 }
 

@@ -5,8 +5,8 @@ use Rattle.script_reader.specs.Unbuilt.{IsFirstUnbuilt, IsFirstUnbuiltOf}
 use Rattle.speck_run.proofs.Accepted.{accepted}
 use Rattle.speck_run.proofs.top.judge_input.Goals as goal
 
-pub replay-requires-clause-built : goal.replay-requires-clause-built
-replay-requires-clause-built c =
+pub replay-requires-clause-can_run : goal.replay-requires-clause-can_run
+replay-requires-clause-can_run c =
     let bytes = c.args.bytes.now in
     let tokens = c.in-Ok.ensures.tokens in
     let words : views c.deref.result.now ≡ words_of bytes = ap views c.deref.ensures.value ∙ tokens in
@@ -14,4 +14,4 @@ replay-requires-clause-built c =
     subst (λ ws. IsFirstUnbuiltOf (rows_of ws) None) words c.in_default-first_unbuilt.ensures in
     let few = c.in-Ok.ensures.words in
     let small = c.requires in
-    accepted (length c.in-Ok.script.tokens.items) bytes (script_view c.in-Ok.script) c.in-Ok.ensures.value first c.in-Ok.ensures.calls (omega arith)
+    accepted (length c.in-Ok.script.tokens.items) bytes (script_view c.in-Ok.script) c.in-Ok.ensures.value first c.in-Ok.ensures.script.limits c.in-Ok.ensures.calls (omega arith)
