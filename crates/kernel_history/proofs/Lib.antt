@@ -6,7 +6,6 @@ pub mod Replies
 pub mod Events
 pub mod Inside
 pub mod Graces
-pub mod Statements
 pub mod Stays
 pub mod GraceSets
 pub mod GraceSteps
@@ -19,3 +18,4 @@ pub mod Sums
 pub mod StartRefs
 pub mod Fillings
 pub mod BootRepresents
+pub mod SeveralCores

@@ -8,6 +8,7 @@ pub mod Ways
 pub mod Justified
 pub mod Legal
 pub mod Bounds
+pub mod Footprint
 pub mod Order
 pub mod FinalWords
 pub mod BootLaws

@@ -18,7 +18,6 @@ pub fn boot_words_represent_the_start()
     ensures { BootRepresentsStart }
 {}
 
-
 /// The events of a legal trace are a run of the sequential kernel, and the trace leaves the state that they leave. So each law of
 /// the sequential kernel holds after each legal trace.
 #[tactic(auto, using(crate::proofs::Laws::legal_runs))]

@@ -1,0 +1,110 @@
+-- The footprint of a call: the frames and liveness numbers whose words its steps may be on.
+use Rattle.std.specs.Prelude.{◌≡◌, ℕ, ◌==◌, Bool, List, [], ◌∷◌, ◌++◌, map, Option, Some, None, IsTrue}
+use Rattle.std.specs.List.{list_any, flat_map}
+use Rattle.spk_nums.specs.Capability.{Capability}
+use Rattle.spk_nums.specs.Setting.{Setting}
+use Rattle.spk_nums.specs.declared.calls.Call.{Call}
+use Rattle.spk_nums.specs.declared.calls.Call.TheVariants.{Retype, Make as make_call, Map}
+use Rattle.spk_nums.specs.declared.calls.Make.{Make}
+use Rattle.spk_nums.specs.declared.calls.Make.TheVariants.{Comp as make_comp}
+use Rattle.word_map.specs.Word.{Word, EntryAt, FrameAt, CountAt, CoreAt, FlushAt, LiveAt, ClockAt}
+use Rattle.seq_state.specs.State.{Frame, Kernel, Comp, State, thread_of, comp_of}
+use Rattle.seq_state.specs.References.{named_by, frame_names}
+use Rattle.seq_state.specs.Access.{Slot, place_at}
+use Rattle.seq_state.specs.Rules.{Rule, Name, Vacant, Held, Mapped, Does, Judged, Refused, Found, named, name_of}
+use Rattle.seq_state.specs.CallRelation.{rule_of}
+use Rattle.kernel_history.specs.Ways.{capability_in, wide_ways, target_of}
+use Rattle.kernel_history.specs.Bounds.{call_in}
+use Rattle.kernel_history.specs.Trace.{Step, Trace, phase, after_enter, WasBefore}
+
+-- The frame that a capability names; a range names none.
+abbrev pub frame_of_cap : Option Capability → List ℕ
+frame_of_cap None = []
+frame_of_cap (Some k) = named_by k.kind k.frame
+
+-- The frame that a name has led to.
+abbrev pub frame_of_name : Judged Capability → List ℕ
+frame_of_name (Refused r) = []
+frame_of_name (Found k) = named_by k.kind k.frame
+
+-- The frames to which the names of a rule lead core c.
+abbrev pub frames_named : State → ℕ → Rule → List ℕ
+frames_named s c (Name n wanted rest) = frame_of_name (named s c n wanted) ++ frames_named s c (rest (name_of (named s c n wanted)))
+frames_named s c (Vacant target rest) = []
+frames_named s c (Held target rest) = []
+frames_named s c (Mapped table v rest) = []
+frames_named s c (Does causes change) = []
+
+-- The frame that the entry at a slot names, also where it is removed.
+abbrev pub frame_at_slot : State → Option Slot → List ℕ
+frame_at_slot s None = []
+frame_at_slot s (Some at) = frame_of_cap (capability_in (place_at s at))
+
+-- The frame that is an argument of a call.
+abbrev pub frame_argument : Call → List ℕ
+frame_argument (Retype r f k) = f ∷ []
+frame_argument (make_call what range frame table slot) = frame ∷ []
+frame_argument (Map p v r f w) = f ∷ []
+frame_argument _ = []
+
+-- The liveness number that is an argument of a call.
+abbrev pub number_of_make : Make → List ℕ
+number_of_make (make_comp table pages live) = live ∷ []
+number_of_make _ = []
+
+abbrev pub number_argument : Call → List ℕ
+number_argument (make_call what range frame table slot) = number_of_make what
+number_argument _ = []
+
+-- The frames that a call of core c is about: those that its names lead to, that its target's entry names, and its argument.
+abbrev pub frames_about : State → ℕ → Call → List ℕ
+frames_about s c call =
+    frames_named s c (rule_of s c call) ++ (frame_at_slot s (target_of s c (rule_of s c call)) ++ frame_argument call)
+
+-- The frames of core c itself: its thread, its temporal capability, the components of that thread, and the table and the pages
+-- of the component that it works in.
+abbrev pub frames_own : State → ℕ → List ℕ
+frames_own s c =
+    (s.core c).thread ∷ ((s.core c).tcap ∷ ((thread_of s c).stack ++ ((comp_of s c).table ∷ (comp_of s c).pages ∷ [])))
+
+-- The frames of a call's footprint: the core's own, the nodes of its way, those that it is about, and the fields and the
+-- stack's components of these.
+abbrev pub frames_near : State → ℕ → Call → List ℕ
+frames_near s c call =
+    frames_own s c
+    ++ (map (λ at. at.node) (wide_ways s c (rule_of s c call))
+    ++ (frames_about s c call ++ flat_map (λ f. frame_names (s.frame f)) (frames_about s c call)))
+
+-- The liveness number of the component in a frame.
+abbrev pub number_in : Frame → List ℕ
+number_in (Kernel (Comp k)) = k.number ∷ []
+number_in _ = []
+
+-- The liveness numbers of a call's footprint: its argument, and those of the components near.
+abbrev pub numbers_near : State → ℕ → Call → List ℕ
+numbers_near s c call = number_argument call ++ flat_map (λ f. number_in (s.frame f)) (frames_near s c call)
+
+-- The number is one of these.
+abbrev pub is_one_of : ℕ → List ℕ → Bool
+is_one_of n ns = list_any (λ m. m == n) ns
+
+-- The word is near a call of core c in the state: of a frame or a number of its footprint, or of a core or the clock.
+abbrev pub IsNearIn : ℕ → Call → Word → State → Type 0
+IsNearIn c call (EntryAt f i) s = IsTrue (is_one_of f (frames_near s c call))
+IsNearIn c call (FrameAt f) s = IsTrue (is_one_of f (frames_near s c call))
+IsNearIn c call (CountAt f d) s = IsTrue (is_one_of f (frames_near s c call))
+IsNearIn c call (CoreAt d) s = Unit {0}
+IsNearIn c call (FlushAt d) s = Unit {0}
+IsNearIn c call (LiveAt l) s = IsTrue (is_one_of l (numbers_near s c call))
+IsNearIn c call ClockAt s = Unit {0}
+
+-- The step is on a word that is in the footprint of its call, as that is at some moment of the call so far.
+pub record StepsNear (setup : Setting) (t : Trace) (e : Step) : Type 0 where
+  pub call : Call
+  pub is_of : call_in (after_enter e.enters (phase t e.core)) ≡ Some call
+  pub near : WasBefore (IsNearIn e.core call e.word) setup t e
+
+-- Each step of the trace is in the footprint of its call.
+abbrev pub KeepsFootprints : Setting → Trace → Type 0
+KeepsFootprints setup [] = Unit {0}
+KeepsFootprints setup (e ∷ t) = KeepsFootprints setup t × StepsNear setup t e
