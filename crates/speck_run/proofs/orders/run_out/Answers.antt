@@ -1,5 +1,5 @@
 use Rattle.std.proofs.Common.{◌∙◌, refl}
-use Rattle.speck_run.proofs.ByItems.{alone_none, alone_more, runs_out}
+use Rattle.speck_run.proofs.ByItems.{alone_none, alone_more}
 use Rattle.speck_run.proofs.orders.run_out.Goals as goal
 
 pub going-init : goal.going-init

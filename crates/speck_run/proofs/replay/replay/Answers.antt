@@ -1,7 +1,7 @@
 use Rattle.std.proofs.Common.{◌≡◌, ◌++◌, ◌∙◌, sym, ap, subst, map}
 use Rattle.std.specs.Prelude.{string_bytes}
 use Rattle.std.proofs.lemmas.List.{length-map}
-use Rattle.word_map.specs.Places.{Shape, size_of}
+use Rattle.word_map.specs.Places.{Shape}
 use Rattle.kernel_history.specs.Trace.{state_after}
 use Rattle.kernel_history.specs.Tables.{tables_of}
 use Rattle.kernel_history.specs.FinalWords.{Represent, word_in, end_in}
