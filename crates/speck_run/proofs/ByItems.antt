@@ -1,15 +1,15 @@
 -- Moves one after another, by an order and then to the ends of the lists.
-use Rattle.std.proofs.Common.{◌≡◌, ◌≢◌, ◌⊎◌, inl, inr, ℕ, suc, ◌+◌, ◌<◌, ◌++◌, List, [], ◌∷◌, arith, sym, subst}
-use Rattle.std.proofs.lemmas.List.Elements.{All-cons, All-nil, All-append}
+use Rattle.std.proofs.Common.{◌≡◌, ◌≢◌, ◌⊎◌, inl, inr, ℕ, suc, ◌+◌, ◌<◌, ◌++◌, List, [], ◌∷◌, arith, refl, sym, ◌∙◌, subst}
+use Rattle.std.proofs.lemmas.List.Elements.{All-nil, All-append}
 use Rattle.std.proofs.lemmas.List.{append_assoc}
 use Rattle.spk_nums.specs.declared.calls.Call.{Call}
 use Rattle.spk_nums.specs.declared.steps.Item.{Item}
 use Rattle.spk_nums.specs.declared.steps.How.TheVariants as how
-use Rattle.kernel_history.specs.Trace.{Step, Trace}
-use Rattle.kernel_history.specs.Order.{IsIdle, IsDecided, AreOf, GoesThrough, UnlessDecided, Stretch, FollowsItem, FollowsItems, RunsOut, FollowsCores}
+use Rattle.kernel_history.specs.Trace.{Trace}
+use Rattle.kernel_history.specs.Order.{IsIdle, GoesThrough, UnlessDecided, Stretch, FollowsItem, FollowsItems, RunsOut, FollowsCores}
 use Rattle.lone_kernel.specs.declared.lone.Moved.{Moved}
 use Rattle.lone_kernel.specs.declared.lone.Moved.TheVariants.{Idle, Went}
-use Rattle.lone_kernel.specs.Machine.{Machine, IsReady}
+use Rattle.lone_kernel.specs.Machine.{Machine}
 use Rattle.lone_kernel.specs.Stands.{StandsFor, GoesOn, KeepsPromises}
 use Rattle.lone_kernel.specs.Moves.{MovesTo, MovesBy, MakesStep, MakesOneStep, StopsReady, IsRefusedEarly, GoesUntilReady, GoesThroughDecision, GoesToReturn}
 use Rattle.lone_kernel.proofs.Runs.{stays_on, goes_on}

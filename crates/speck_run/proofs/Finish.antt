@@ -1,12 +1,11 @@
 -- The machine at the end of a run: its cores are between calls, and its text is that of the trace for which it stands.
-use Rattle.std.proofs.Common.{◌≡◌, inl, inr, ℕ, ◌<◌, ◌++◌, List, [], length, sym, ◌∙◌, ap, subst, arith, true, false}
+use Rattle.std.proofs.Common.{◌≡◌, inl, inr, ℕ, ◌<◌, ◌++◌, List, [], length, sym, ◌∙◌, ap, subst, arith, true}
 use Rattle.std.specs.Prelude.{Option, Some, None}
 use Rattle.std.proofs.lemmas.Bool.{cases_lt}
 use Rattle.std.proofs.lemmas.List.{get_or_past}
 use Rattle.spk_nums.specs.Setting.{Setting}
 use Rattle.spk_nums.specs.declared.calls.Call.{Call}
 use Rattle.spk_nums.specs.declared.steps.Item.{Item}
-use Rattle.seq_state.specs.State.{State}
 use Rattle.kernel_history.specs.Trace.{Trace, state_after, calls_of, decisions_of}
 use Rattle.kernel_history.specs.Legal.{IsLegal}
 use Rattle.kernel_history.specs.Bounds.{KeepsBounds}
@@ -18,7 +17,7 @@ use Rattle.kernel_history.specs.GivenSteps.{GivenSteps}
 use Rattle.kernel_history.proofs.Idle.{all_idle}
 use Rattle.flight.specs.declared.stages.InFlight.{InFlight}
 use Rattle.flight.specs.Steps.{ready_in}
-use Rattle.lone_kernel.specs.Machine.{Machine, core_at, IsReady}
+use Rattle.lone_kernel.specs.Machine.{Machine, core_at}
 use Rattle.lone_kernel.specs.Stands.{StandsFor, KeepsPromises}
 use Rattle.lone_kernel.proofs.Runs.{in_call, none_of}
 use Rattle.speck_run.specs.Orders.{GoesByItems, RunsCoresOut}

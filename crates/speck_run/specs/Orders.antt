@@ -1,5 +1,5 @@
 -- How orders extend each trace for which a machine stood.
-use Rattle.std.specs.Prelude.{◌≡◌, ℕ, List, [], ◌++◌}
+use Rattle.std.specs.Prelude.{ℕ, List, ◌++◌}
 use Rattle.spk_nums.specs.declared.steps.Item.{Item}
 use Rattle.kernel_history.specs.Trace.{Trace}
 use Rattle.kernel_history.specs.Order.{AreOf, FollowsItem, FollowsItems, RunsOut, FollowsCores}

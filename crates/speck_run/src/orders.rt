@@ -4,7 +4,7 @@ ghost use Rattle.lone_kernel.specs.Machine.{IsFinished};
 ghost use Rattle.speck_run.specs.Orders.{GoesByItem, GoesByItems, RunsCoreOut, RunsCoresOut};
 
 use lone_kernel::{LoneKernel, Moved};
-use spk_nums::{CoreNo, How, Item};
+use spk_nums::{CoreNo, How, Item, Setup};
 
 fn take(kernel: &mut LoneKernel, item: &Item) -> Moved
     requires { item.now.core < kernel.old.setup.cores }
@@ -44,14 +44,14 @@ fn run_out(kernel: &mut LoneKernel, core: CoreNo)
     'going: while let Moved::Went = kernel.to_return(core) {}
 }
 
-/// Runs each core, from 0 upwards, through its remaining calls. The machine has this many cores.
-pub fn run_rest(kernel: &mut LoneKernel, cores: u8)
-    requires { cores ≡ kernel.old.setup.cores }
+/// Runs each core, from 0 upwards, through its remaining calls. The setup is the machine's.
+pub fn run_rest(kernel: &mut LoneKernel, setup: &Setup)
+    requires { setup.now ≡ kernel.old.setup }
     ensures setup { kernel.new.setup ≡ kernel.old.setup }
     ensures lists { kernel.new.lists ≡ kernel.old.lists }
     ensures goes { RunsCoresOut kernel.old kernel.new kernel.old.setup.cores }
 {
-    for core in 0..cores {
+    for core in 0..setup.cores() {
         run_out(kernel, CoreNo::new(core));
     }
 }

@@ -38,7 +38,7 @@ pub fn replay(
     let calls = copy_lists(alloc, &lists)?;
     let mut kernel = LoneKernel::boot(alloc, setup, lists)?;
     follow(&mut kernel, items);
-    run_rest(&mut kernel, setup.cores());
+    run_rest(&mut kernel, setup);
     let mut text = String::new(alloc);
     write_decisions(alloc, &mut text, &calls, kernel.decisions())?;
     let closed = kernel.close(alloc)?;

@@ -1,4 +1,4 @@
-use Rattle.std.proofs.Common.{ℕ, ◌∙◌, subst}
+use Rattle.std.proofs.Common.{ℕ, ◌∙◌, refl, subst}
 use Rattle.speck_run.specs.Orders.{RunsCoreOut}
 use Rattle.speck_run.proofs.ByItems.{cores_none, cores_more}
 use Rattle.speck_run.proofs.orders.run_rest.Goals as goal
