@@ -12,7 +12,7 @@ use Rattle.seq_state.proofs.Within.{put_same, put_other}
 use Rattle.kernel_history.specs.Trace.{Step, Trace, state_after}
 use Rattle.kernel_history.specs.Stamps.{begins_at, ends_at, flushes_at, stamp, clock, clock_seen, exit_of, exit_after, flush_of, flush_stored}
 use Rattle.kernel_history.proofs.Steps.{stamp-kept, exit_of-own, exit_of-other, flush_of-own, flush_of-other, flush_stored-own, flush_stored-other}
-use Rattle.kernel_history.proofs.Graces.{KeepsTime}
+use Rattle.kernel_history.specs.Graces.{KeepsTime}
 use Rattle.flight.specs.View.{Core}
 use Rattle.flight.specs.Knows.{WorksIn}
 use Rattle.flight.specs.Stands.{times_of, counted_in}

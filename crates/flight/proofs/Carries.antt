@@ -12,7 +12,7 @@ use Rattle.stage_look.specs.declared.look.Look.{Look}
 use Rattle.stage_look.specs.declared.look.Look.TheVariants.{AtRoot, AtLeaf, AtEntry}
 use Rattle.seq_state.specs.Access.{Slot, Target, Under, InRoot, usable, linked, root_slot, reached}
 use Rattle.seq_state.proofs.Facts.{some_inj, none_some}
-use Rattle.seq_state.proofs.Relies.{Relies}
+use Rattle.seq_state.specs.Relies.{Relies}
 use Rattle.kernel_history.specs.Trace.{Step, Trace, Open, phase, state_after, own_left}
 use Rattle.kernel_history.specs.Justified.{HasReached}
 use Rattle.kernel_history.specs.Legal.{IsLegal}

@@ -9,7 +9,7 @@ use Rattle.spk_nums.specs.declared.replies.Reply.TheVariants as reply
 use Rattle.word_map.specs.Word.{CoreAt}
 use Rattle.seq_state.specs.State.{State, comp_of}
 use Rattle.seq_state.specs.Access.{root_at, has_no_slot, own}
-use Rattle.seq_state.proofs.Relies.{Relies}
+use Rattle.seq_state.specs.Relies.{Relies}
 use Rattle.seq_state.specs.GracePeriods.{entered}
 use Rattle.seq_state.specs.Rules.{RuleMay}
 use Rattle.seq_state.specs.CallRelation.{rule_of, are_calls_spent, counted}

@@ -21,7 +21,7 @@ use Rattle.seq_state.specs.Rules.{Found, IsFoundAnd, Vacant as to_be_free, Does,
 use Rattle.seq_state.specs.CapabilityCalls.{copy_rule}
 use Rattle.seq_state.specs.CallRelation.{changed, change_of, counted, begins_in, state_by}
 use Rattle.seq_state.specs.Laws.{calls_counted}
-use Rattle.seq_state.proofs.Sound.{is_node}
+use Rattle.seq_state.specs.Relies.{is_node}
 use Rattle.seq_state.proofs.Within.{put_same}
 use Rattle.seq_state.proofs.Apart.{slot_is, place_here, place_there}
 use Rattle.kernel_history.specs.Trace.{Step, Trace, Open, phase, state_after, state_decided_in, last_left, own_left}

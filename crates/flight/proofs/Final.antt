@@ -12,7 +12,7 @@ use Rattle.frame_words.specs.declared.live_word.LiveWord.{LiveWord}
 use Rattle.word_map.specs.Word.{Word, EntryAt, FrameAt, CoreAt, LiveAt}
 use Rattle.seq_state.specs.State.{Place, Free, Holds, Quiescing, Blank, Table, Leaf, Pages, Pleaf, Comp, Thread, Tcap, Frame, Untyped, User, Kernel, Liveness, Unused, Live, Dead, PlaceOf, NumberOf, State}
 use Rattle.seq_state.specs.Access.{held_in}
-use Rattle.seq_state.proofs.Sound.{is_node as is_sound_node}
+use Rattle.seq_state.specs.Relies.{is_node as is_sound_node}
 use Rattle.kernel_history.specs.ObjectWords.{is_node, at_height}
 use Rattle.kernel_history.specs.FinalWords.{SaysPlace, AreFrame, SaysNumber, end_of as end_in}
 use Rattle.kernel_history.specs.Moments.{EntrySays, CoreSays}

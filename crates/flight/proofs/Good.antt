@@ -12,7 +12,7 @@ use Rattle.kernel_history.specs.Bounds.{IsWithin}
 use Rattle.kernel_history.specs.Legal.{MayFollow}
 use Rattle.kernel_history.specs.Stamps.{is_in, clock}
 use Rattle.kernel_history.proofs.Steps.{phase-other, calls_of-other, steps_in_call-other, own_left-other, exit_of-other, flush_of-other, flush_stored-other}
-use Rattle.kernel_history.proofs.Graces.{KeepsTime, LeavesBy}
+use Rattle.kernel_history.specs.Graces.{KeepsTime, LeavesBy}
 use Rattle.seq_state.proofs.Stays.{OwnStay}
 use Rattle.kernel_history.proofs.Stays.{own_stays_other}
 use Rattle.kernel_history.proofs.Inside.{inside_is}

@@ -19,7 +19,7 @@ use Rattle.kernel_history.specs.Trace.{Step, Trace, Out, Open, Decided, phase, a
 use Rattle.kernel_history.specs.Legal.{MayDecide}
 use Rattle.kernel_history.specs.Marks.{mark_of}
 use Rattle.kernel_history.specs.Stamps.{clock, exit_of}
-use Rattle.kernel_history.proofs.Graces.{IsLeave}
+use Rattle.kernel_history.specs.Graces.{IsLeave}
 use Rattle.kernel_history.proofs.Inside.{decided-inside, inside-own, inside-other}
 use Rattle.kernel_history.proofs.Steps.{phase-own, steps_in_call-own, exit_of-own, exit_of-other}
 use Rattle.flight.specs.declared.stages.Stage.{Stage}

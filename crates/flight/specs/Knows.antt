@@ -11,8 +11,8 @@ use Rattle.entry_words.specs.declared.entry.Entry.TheVariants as entry
 use Rattle.word_map.specs.Word.{EntryAt}
 use Rattle.seq_state.specs.State.{State, first_of_stack, thread_of, comp_of}
 use Rattle.seq_state.specs.Access.{Slot, Named, found, root_at, Target, Under, InRoot, any, only, usable, linked, root_slot, reached}
-use Rattle.seq_state.proofs.Relies.{Relies}
-use Rattle.kernel_history.proofs.Graces.{IsLeave}
+use Rattle.seq_state.specs.Relies.{Relies}
+use Rattle.kernel_history.specs.Graces.{IsLeave}
 use Rattle.kernel_history.specs.BootWords.{shape_of}
 use Rattle.kernel_history.specs.Trace.{Trace, Phase, Out, Open, Decided, phase, state_after, own_left, steps_in_call}
 use Rattle.kernel_history.specs.Ways.{root_passed}

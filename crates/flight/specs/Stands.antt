@@ -9,7 +9,7 @@ use Rattle.kernel_history.specs.Trace.{Trace, Out, phase, calls_of, state_after}
 use Rattle.kernel_history.specs.Legal.{IsLegal}
 use Rattle.kernel_history.specs.Bounds.{KeepsBounds}
 use Rattle.kernel_history.specs.Stamps.{stamp, clock, exit_of, flush_stored}
-use Rattle.kernel_history.proofs.Graces.{GraceIs, TimesAre}
+use Rattle.kernel_history.specs.Graces.{GraceIs, TimesAre}
 use Rattle.flight.specs.declared.stages.Stage.{Stage}
 use Rattle.flight.specs.declared.stages.Stage.TheVariants.{Enter, Looking, Fill, Exit, Leave}
 use Rattle.flight.specs.declared.stages.InFlight.{InFlight}

@@ -7,7 +7,7 @@ use Rattle.spk_nums.specs.declared.replies.Reply.{Reply}
 use Rattle.seq_state.specs.State.{Thing, PlaceOf, FrameOf, State}
 use Rattle.seq_state.specs.GracePeriods.{is_paging, is_translated, needs_flush}
 use Rattle.seq_state.specs.CallRelation.{MayReply}
-use Rattle.seq_state.proofs.Sound.{is_node}
+use Rattle.seq_state.specs.Relies.{is_node}
 use Rattle.seq_state.proofs.SoundRuns.{opened, open_is}
 use Rattle.seq_state.proofs.SoundCalls.{IsOpen}
 use Rattle.seq_state.proofs.FrameTurns.{is_typed, TurnsIn, decided_turns}

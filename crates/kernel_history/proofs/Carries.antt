@@ -13,7 +13,7 @@ use Rattle.kernel_history.specs.Legal.{MayFollow, IsLegal}
 use Rattle.kernel_history.proofs.Names.{cases_word}
 use Rattle.kernel_history.proofs.Steps.{own_left-here, own_left-there, own_left-other}
 use Rattle.kernel_history.proofs.Inside.{inside_is}
-use Rattle.kernel_history.proofs.Graces.{GraceIs, KeepsTime}
+use Rattle.kernel_history.specs.Graces.{GraceIs, KeepsTime}
 use Rattle.kernel_history.proofs.Stays.{Stays, ReliesOn, stays_other, stays_plain}
 use Rattle.kernel_history.proofs.Waiting.{Passed, Flushed, still_past, stamp_rises, passed_on, flushed_on, node_goes_on, number_goes_on}
 

@@ -5,7 +5,7 @@ use Rattle.spk_nums.specs.declared.replies.Reply.{Reply}
 use Rattle.seq_state.specs.State.{Grace, put}
 use Rattle.seq_state.specs.GracePeriods.{passed}
 use Rattle.seq_state.proofs.Within.{put_same, put_other}
-use Rattle.kernel_history.proofs.Graces.{Fits, FitsFlush}
+use Rattle.kernel_history.specs.Graces.{Fits, FitsFlush}
 
 -- Whether a core is in each of the four sets.
 pub record Sets : Type 0 where

@@ -16,7 +16,7 @@ use Rattle.kernel_history.specs.Stamps.{begins_in, ends_in, flushes_in, begins_a
 use Rattle.kernel_history.specs.Legal.{MayDecide, MayFollow}
 use Rattle.kernel_history.proofs.Steps.{stamp-begins, stamp-ends, stamp-kept, awaits-begins, awaits-ends, awaits-kept, exit_of-own, exit_of-other, flush_of-own, flush_of-other, flush_stored-own, flush_stored-other}
 use Rattle.kernel_history.proofs.Inside.{decided-inside, entered-inside, inside-other}
-use Rattle.kernel_history.proofs.Graces.{GraceIs, TimesAre, KeepsTime, IsLeave, Leaving, LeavesBy}
+use Rattle.kernel_history.specs.Graces.{GraceIs, TimesAre, KeepsTime, IsLeave, Leaving, LeavesBy}
 use Rattle.kernel_history.proofs.GraceSets.{Sets, sets_of, sets_new, sets_none, sets_flushed, sets_passed, FitsAll, fits_new, fits_none, fits_kept, fits_flushed, fits_passed, left_of, left_other, passed_own}
 
 -- Grace periods go with stamps at the start.

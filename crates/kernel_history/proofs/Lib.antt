@@ -5,7 +5,6 @@ pub mod Idle
 pub mod Replies
 pub mod Events
 pub mod Inside
-pub mod Graces
 pub mod Stays
 pub mod GraceSets
 pub mod GraceSteps

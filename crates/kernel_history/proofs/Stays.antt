@@ -16,7 +16,7 @@ use Rattle.seq_state.proofs.Sound.{IsSound}
 use Rattle.seq_state.proofs.SoundRuns.{opened, runs_sound, is_open as opens, is_in as is_inside}
 use Rattle.seq_state.proofs.SparesRuns.{inside_of}
 use Rattle.seq_state.proofs.Facts.{usable_good}
-use Rattle.seq_state.proofs.Relies.{IsGuarded, Relies}
+use Rattle.seq_state.specs.Relies.{IsGuarded, Relies}
 use Rattle.seq_state.proofs.Stays.{Stay, StayIn, OwnStay, stay_in_same, stay_in_then, event_own, event_stay_in, stay_same, stay_then, event_stay, names_node, usable_guarded, usable_relies, table_relies, pages_relies, reached_relies}
 use Rattle.kernel_history.specs.Trace.{Step, Trace, Phase, Out, Open, Decided, phase, after_enter, state_after, state_entered, state_decided, state_returned}
 use Rattle.kernel_history.specs.Stamps.{is_in}

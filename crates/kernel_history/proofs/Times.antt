@@ -7,7 +7,7 @@ use Rattle.seq_state.specs.State.{Thing}
 use Rattle.kernel_history.specs.Trace.{Step, Trace}
 use Rattle.kernel_history.specs.Stamps.{begins_at, flushes_at, clock}
 use Rattle.kernel_history.proofs.Steps.{last_left-here, last_left-there}
-use Rattle.kernel_history.proofs.Graces.{KeepsTime}
+use Rattle.kernel_history.specs.Graces.{KeepsTime}
 
 module _ (setup : Setting) (t : Trace) (e : Step) where
   -- a step on another word, at which no grace period begins and no flush is decided

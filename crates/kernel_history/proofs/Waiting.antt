@@ -9,14 +9,14 @@ use Rattle.seq_state.specs.State.{Grace, Thing, PlaceOf, NumberOf, State, put}
 use Rattle.seq_state.specs.Start.{no_grace}
 use Rattle.seq_state.specs.CallRelation.{MayReply}
 use Rattle.seq_state.proofs.Within.{put_same, put_other}
-use Rattle.seq_state.proofs.Sound.{is_node}
+use Rattle.seq_state.specs.Relies.{is_node}
 use Rattle.seq_state.proofs.Ends.{MayEnd, ends_by_rule}
 use Rattle.kernel_history.specs.Trace.{Step, Trace, Phase, Out, Open, Decided, phase, after_enter, state_after, state_entered, state_before}
 use Rattle.kernel_history.specs.Stamps.{ends_in, begins_at, ends_at, flushes_at, stamp, awaits_flushes, clock, clock_seen, exit_of, flush_of, flush_stored}
 use Rattle.kernel_history.specs.Legal.{MayDecide, MayFollow}
 use Rattle.kernel_history.proofs.Steps.{stamp-begins, stamp-ends, stamp-kept, clock_seen-own, clock_seen-other}
 use Rattle.kernel_history.proofs.Inside.{entered-inside}
-use Rattle.kernel_history.proofs.Graces.{GraceIs, KeepsTime, IsLeave}
+use Rattle.kernel_history.specs.Graces.{GraceIs, KeepsTime, IsLeave}
 use Rattle.kernel_history.proofs.GraceSets.{left_of, left_other}
 use Rattle.kernel_history.proofs.GraceSteps.{cases_bool, grace_then, grace_now, then_begins, then_ends, then_flushes, then_kept}
 

@@ -2,6 +2,7 @@ pub mod ObjectWords
 pub mod BootWords
 pub mod Trace
 pub mod Stamps
+pub mod Graces
 pub mod Events
 pub mod Marks
 pub mod Ways

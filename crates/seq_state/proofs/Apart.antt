@@ -11,10 +11,9 @@ use Rattle.seq_state.specs.Access.{usable_in}
 use Rattle.seq_state.specs.Rules.{frames_of}
 use Rattle.seq_state.specs.CapabilityCalls.{cleared}
 use Rattle.seq_state.proofs.Within.{put_same, put_other}
-use Rattle.seq_state.proofs.Sound.{is_node}
+use Rattle.seq_state.specs.Relies.{is_node, is_fixed}
 use Rattle.seq_state.proofs.SoundRemovals.{frames_no_place}
 use Rattle.seq_state.proofs.Facts.{some_inj, none_some}
-use Rattle.seq_state.proofs.Relies.{is_fixed}
 
 -- From s to t: other cores stay as they are, and the frames of their threads; nodes and components stay; what other cores in
 -- opened calls may use in nodes they still may; and they still wait for the frames for which they waited.

@@ -11,7 +11,8 @@ use Rattle.seq_state.specs.Access.{Slot, found, Target, Under, InRoot, place_at,
 use Rattle.seq_state.specs.Rules.{Change, Rule, Name, Vacant, Held, Mapped, Does, Judged, Refused, Found, and_then, unless, or_refuse, of_kind, named, first_of, not_vacant, vacant, held, mapped, first_cause, outcome}
 use Rattle.seq_state.proofs.Changes.{IfFound}
 use Rattle.seq_state.specs.Fitting.{fits, IsGood}
-use Rattle.seq_state.proofs.Sound.{is_node, IsSound, only_is}
+use Rattle.seq_state.specs.Relies.{is_node}
+use Rattle.seq_state.proofs.Sound.{IsSound, only_is}
 
 -- P holds of the change that a rule makes where it is carried out.
 abbrev pub ChangesFrom : (Change → Type 0) → State → ℕ → Rule → Type 0

@@ -22,7 +22,8 @@ use Rattle.seq_state.specs.MemoryCalls.{is_untyped, not_retyped, retype_rule, to
 use Rattle.seq_state.specs.InvocationCalls.{with_thread, running, switch_to}
 use Rattle.seq_state.specs.TimeCalls.{with_tcap, with_budget, tcap_at, moved}
 use Rattle.seq_state.specs.CallRelation.{rule_of, change_of, changed, owed_by, state_by, ends, ends_by}
-use Rattle.seq_state.proofs.Sound.{is_node, put_all}
+use Rattle.seq_state.specs.Relies.{is_node}
+use Rattle.seq_state.proofs.Sound.{put_all}
 use Rattle.seq_state.proofs.SoundCalls.{blank_at, untyped_is}
 use Rattle.seq_state.proofs.Facts.{ChangesFrom, outcome_from, none_parts, when_not, not_not}
 use Rattle.seq_state.proofs.Changes.{IfFound}

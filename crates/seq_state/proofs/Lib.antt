@@ -17,7 +17,6 @@ pub mod RefsLaw
 pub mod Rows
 pub mod TwoCores
 pub mod GraceChanges
-pub mod Relies
 pub mod Apart
 pub mod Spares
 pub mod SparesRuns

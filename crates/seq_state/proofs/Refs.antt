@@ -28,7 +28,8 @@ use Rattle.seq_state.specs.Laws.{released}
 use Rattle.seq_state.proofs.Within.{put_same, put_other}
 use Rattle.seq_state.proofs.Sums.{sum_same, sum_one, times_cons, times_append}
 use Rattle.seq_state.specs.Fitting.{fits, IsGood}
-use Rattle.seq_state.proofs.Sound.{is_node, IsSound, put_all}
+use Rattle.seq_state.specs.Relies.{is_node}
+use Rattle.seq_state.proofs.Sound.{IsSound, put_all}
 use Rattle.seq_state.proofs.SoundRemovals.{below_by}
 use Rattle.seq_state.proofs.Facts.{ChangesFrom, named_good, named_fit, RootIsNode, vacant_facts, held_facts, none_parts, when_not, not_not}
 use Rattle.seq_state.proofs.SoundCalls.{IsOpen, node_of, in_range, blank_at, own_thread, thread_below, tcap_below, untyped_is, root_node}

@@ -9,14 +9,7 @@ use Rattle.seq_state.specs.State.{Holds, Quiescing, Blank, Table, Leaf, Pages, P
 use Rattle.seq_state.specs.References.{named_by}
 use Rattle.seq_state.specs.Access.{kind_number, only}
 use Rattle.seq_state.specs.Fitting.{fits, IsGood}
-
--- Whether a frame is a node.
-abbrev pub is_node : Frame → Bool
-is_node (Kernel Table) = true
-is_node (Kernel Leaf) = true
-is_node (Kernel Pages) = true
-is_node (Kernel Pleaf) = true
-is_node _ = false
+use Rattle.seq_state.specs.Relies.{is_node}
 
 -- Core c waits for each of these frames.
 abbrev pub WaitsForAll : State → ℕ → List ℕ → Type 0

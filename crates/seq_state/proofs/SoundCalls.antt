@@ -28,7 +28,8 @@ use Rattle.seq_state.specs.TimeCalls.{with_tcap, with_budget, with_qualities, tc
 use Rattle.seq_state.specs.CallRelation.{rule_of}
 use Rattle.seq_state.proofs.Within.{put_same, put_other}
 use Rattle.seq_state.specs.Fitting.{fits, IsGood, EndsWithin}
-use Rattle.seq_state.proofs.Sound.{is_node, AreComps, IsStack, IsObjectGood, IsSound, weaken, only_is, Extends, from_blank, from_untyped, put_all, frame_step}
+use Rattle.seq_state.specs.Relies.{is_node}
+use Rattle.seq_state.proofs.Sound.{AreComps, IsStack, IsObjectGood, IsSound, weaken, only_is, Extends, from_blank, from_untyped, put_all, frame_step}
 use Rattle.seq_state.proofs.SoundSteps.{fill_step, core_step, live_step, dead_step, clear_step, grace_step}
 use Rattle.seq_state.proofs.SoundRemovals.{frames_no_place, begin_step, remove_step, unnamed, untyped, untype_step, none_waits, below_by}
 use Rattle.seq_state.proofs.Facts.{ChangesFrom, named_good, named_fit, RootIsNode, reached_node, vacant_facts, held_facts, none_parts, when_not, not_not}

@@ -13,7 +13,8 @@ use Rattle.seq_state.specs.Rules.{frames_of, waits_of}
 use Rattle.seq_state.proofs.Within.{put_same, put_other}
 use Rattle.seq_state.proofs.Sums.{sum_term, times_cons, times_first}
 use Rattle.seq_state.specs.Fitting.{fits, IsGood}
-use Rattle.seq_state.proofs.Sound.{is_node, WaitsForAll, AreComps, IsStack, IsObjectGood, IsSound, put_all}
+use Rattle.seq_state.specs.Relies.{is_node}
+use Rattle.seq_state.proofs.Sound.{WaitsForAll, AreComps, IsStack, IsObjectGood, IsSound, put_all}
 use Rattle.seq_state.proofs.SoundSteps.{place_all, holds_quiescing, quiescing_holds, quiescing_inj, waits_all, grace_step}
 
 -- No frame is a place.

@@ -8,7 +8,8 @@ use Rattle.seq_state.specs.State.{Place, Holds, Quiescing, Frame, Untyped, Kerne
 use Rattle.seq_state.specs.Start.{start, start_place, start_frame, start_cap, core_cap, start_number, granted, plain_cap, place_with}
 use Rattle.seq_state.proofs.SoundSteps.{free_holds, free_quiescing, holds_quiescing, holds_inj}
 use Rattle.seq_state.specs.Fitting.{fits, IsGood}
-use Rattle.seq_state.proofs.Sound.{is_node, IsObjectGood, IsSound}
+use Rattle.seq_state.specs.Relies.{is_node}
+use Rattle.seq_state.proofs.Sound.{IsObjectGood, IsSound}
 
 -- A choice has what each of its cases has.
 pub choose : {A : Type 0} (P : A → Type 0) (b : Bool) (x y : A) → (b ≡ true → P x) → (b ≡ false → P y) → P (if b then x else y)

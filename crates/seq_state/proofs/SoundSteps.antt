@@ -8,7 +8,8 @@ use Rattle.seq_state.specs.Start.{no_grace}
 use Rattle.seq_state.specs.References.{named_by}
 use Rattle.seq_state.specs.CapabilityCalls.{cleared}
 use Rattle.seq_state.specs.Fitting.{fits, IsGood}
-use Rattle.seq_state.proofs.Sound.{is_node, WaitsForAll, IsSound, put_all}
+use Rattle.seq_state.specs.Relies.{is_node}
+use Rattle.seq_state.proofs.Sound.{WaitsForAll, IsSound, put_all}
 
 -- P holds of every place where it holds of the old places and of the new one.
 pub place_all : (P : ℕ → ℕ → Place → Type 0) (s : State) (g j : ℕ) (p : Place) (f i : ℕ)

@@ -27,12 +27,12 @@ use Rattle.seq_state.specs.TimeCalls.{with_tcap, with_budget, with_qualities, tc
 use Rattle.seq_state.specs.CallRelation.{rule_of}
 use Rattle.seq_state.specs.Fitting.{fits}
 use Rattle.seq_state.proofs.Within.{put_same, put_other}
-use Rattle.seq_state.proofs.Sound.{is_node, put_all}
+use Rattle.seq_state.specs.Relies.{is_node, is_fixed, IsGuarded}
+use Rattle.seq_state.proofs.Sound.{put_all}
 use Rattle.seq_state.proofs.SoundRemovals.{frames_no_place, unnamed, none_waits, none_waiting}
 use Rattle.seq_state.proofs.SoundCalls.{IsOpen, blank_at, untyped_is, zero_refs}
 use Rattle.seq_state.proofs.Sums.{times_first}
 use Rattle.seq_state.proofs.Facts.{ChangesFrom, named_fit, held_facts, then_parts, found_inj, some_inj, some_none, refused_found, none_parts, when_not, not_not}
-use Rattle.seq_state.proofs.Relies.{is_fixed, IsGuarded}
 use Rattle.seq_state.proofs.Apart.{IsApart, apart_same, apart_then, fill_apart, remove_apart, begin_apart, frame_apart, core_apart, number_apart, clear_apart, flush_apart, frame_waits}
 
 -- The current thread of a core runs on it.

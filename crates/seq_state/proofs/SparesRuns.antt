@@ -27,7 +27,7 @@ use Rattle.seq_state.proofs.SoundStart.{past_three, choose}
 use Rattle.seq_state.proofs.SoundRuns.{is_in, inside_is, opened, open_is, limits_stay}
 use Rattle.seq_state.proofs.Facts.{outcome_from}
 use Rattle.seq_state.proofs.Refs.{RefsBy, rule_refs, grace_refs}
-use Rattle.seq_state.proofs.Relies.{IsGuarded}
+use Rattle.seq_state.specs.Relies.{IsGuarded}
 use Rattle.seq_state.proofs.Apart.{apart_same}
 use Rattle.seq_state.proofs.Spares.{RunsOn, HasTurn, Spares, SparesBy, spares_by, rule_spares}
 

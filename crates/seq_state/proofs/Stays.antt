@@ -12,12 +12,12 @@ use Rattle.seq_state.specs.Access.{Slot, Named, Under, place_at, usable_in, usab
 use Rattle.seq_state.specs.Rules.{Found, and_then, or_refuse, of_kind, named}
 use Rattle.seq_state.specs.Fitting.{fits, IsGood}
 use Rattle.seq_state.specs.Runs.{Event, after, core_of, Open, phase_of, IsRun}
-use Rattle.seq_state.proofs.Sound.{is_node, IsStack, IsObjectGood, WaitsForAll, IsSound, only_is}
+use Rattle.seq_state.specs.Relies.{is_node, is_fixed, IsGuarded, Relies}
+use Rattle.seq_state.proofs.Sound.{IsStack, IsObjectGood, WaitsForAll, IsSound, only_is}
 use Rattle.seq_state.proofs.SoundRemovals.{unnamed, below_by}
 use Rattle.seq_state.proofs.SoundRuns.{is_in, is_open, opened, limits_stay, runs_sound}
 use Rattle.seq_state.proofs.Sums.{times_first, times_cons}
 use Rattle.seq_state.proofs.Facts.{some_inj, none_some, then_parts, or_found, usable_good}
-use Rattle.seq_state.proofs.Relies.{is_fixed, IsGuarded, Relies}
 use Rattle.seq_state.proofs.Apart.{node_fixed}
 use Rattle.seq_state.proofs.SparesRuns.{SparesAll, inside_of, inside_facts, event_spares}
 

@@ -12,6 +12,7 @@ pub mod CallRelation
 pub mod Alone
 pub mod Runs
 pub mod Fitting
+pub mod Relies
 pub mod Laws
 pub mod Stacks
 pub mod Parts

@@ -1,8 +1,15 @@
 -- What a core in an open call relies on: frames that no other core may retype.
-use Rattle.std.proofs.Common.{◌⊎◌, ℕ, ◌<◌, Bool, true, false, IsTrue}
+use Rattle.std.specs.Prelude.{◌⊎◌, ℕ, ◌<◌, Bool, true, false, IsTrue}
 use Rattle.seq_state.specs.State.{Table, Leaf, Pages, Pleaf, Comp, Frame, Kernel, FrameOf, State}
 use Rattle.seq_state.specs.References.{refs}
-use Rattle.seq_state.proofs.Sound.{is_node}
+
+-- Whether a frame is a node.
+abbrev pub is_node : Frame → Bool
+is_node (Kernel Table) = true
+is_node (Kernel Leaf) = true
+is_node (Kernel Pages) = true
+is_node (Kernel Pleaf) = true
+is_node _ = false
 
 -- Whether a frame has an object that no call changes: a node or a component.
 abbrev pub is_fixed : Frame → Bool
