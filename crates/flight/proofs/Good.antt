@@ -5,7 +5,7 @@ use Rattle.spk_nums.specs.Capability.{Capability}
 use Rattle.spk_nums.specs.Setting.{Setting, IsSetting}
 use Rattle.spk_nums.specs.declared.calls.Call.{Call}
 use Rattle.word_map.specs.Word.{Word, EntryAt}
-use Rattle.seq_state.specs.State.{Quiescing, put, thread_of, comp_of, first_of_stack}
+use Rattle.seq_state.specs.State.{Quiescing, put, first_of_stack}
 use Rattle.seq_state.proofs.Within.{put_same, put_other}
 use Rattle.kernel_history.specs.Trace.{Step, Trace, Open, phase, state_after}
 use Rattle.kernel_history.specs.Bounds.{IsWithin}

@@ -1,16 +1,15 @@
 -- A machine that stands for a trace stands, after a step, for the trace with that step.
 use Rattle.std.proofs.Common.{◌≡◌, ◌≢◌, ◌⊎◌, inl, inr, ℕ, ◌+◌, ◌<◌, ◌≤◌, ◌++◌, List, [], ◌∷◌, length, take, get_or, Option, Some, None, arith, refl, sym, ◌∙◌, ap, subst, Bool, true, false, get_or-set_same, get_or-set_other}
-use Rattle.std.specs.Prelude.{option_to_list, slice_get, slice_set, All, option_map, IsSome}
+use Rattle.std.specs.Prelude.{option_to_list, option_map, IsSome}
 use Rattle.std.proofs.lemmas.Bool.{cases_eq, eq-eqb, ne_eqb}
 use Rattle.std.proofs.lemmas.List.{append-nil, length-take-le, take_more, take_all}
 use Rattle.std.proofs.lemmas.List.Elements.{All-cons}
 use Rattle.std.proofs.lemmas.Option.{slice_get_cases}
 use Rattle.spk_nums.specs.declared.calls.Call.{Call}
-use Rattle.spk_nums.specs.declared.replies.Reply.{Reply}
 use Rattle.spk_nums.specs.Setting.{Setting, IsSetting}
 use Rattle.word_map.specs.Word.{Word}
 use Rattle.word_map.specs.Places.{Shape, IsShape, IsIn, place_of, shared}
-use Rattle.word_map.specs.Moves.{word_of, left_of, told_of}
+use Rattle.word_map.specs.Moves.{word_of, told_of}
 use Rattle.word_map.proofs.PlaceLemmas.{has_places}
 use Rattle.seq_state.specs.State.{put}
 use Rattle.stage_look.specs.Lookup.{look_move}
@@ -23,25 +22,24 @@ use Rattle.kernel_history.specs.Order.{IsIdle, IsDecided}
 use Rattle.kernel_history.proofs.Names.{cases_word}
 use Rattle.kernel_history.proofs.Steps.{calls_of-own, calls_of-other, last_left-here, last_left-there}
 use Rattle.flight.specs.View.{Core}
-use Rattle.flight.specs.Fits.{IsCore, StageFits, FlightFits, steps_left}
+use Rattle.flight.specs.Fits.{IsCore, StageFits, FlightFits}
 use Rattle.flight.specs.Steps.{begun, move_of, move_in, ready_of, ready_in, absorbed, told_of_step}
 use Rattle.flight.specs.Stages.{stage_move}
 use Rattle.kernel_history.specs.BootWords.{shape_of}
-use Rattle.flight.specs.Knows.{FlightIs, InFlightIs, CoreIs, phase_at}
+use Rattle.flight.specs.Knows.{FlightIs, InFlightIs}
 use Rattle.flight.specs.Stands.{Stands}
-use Rattle.flight.specs.Theorems.{turned, decided_in, returned_in, step_at, step_of, core_after, MayStep, StepsOn, SaysWords, ReadyDecides, IsUndecided, IsUndecidedAt}
+use Rattle.flight.specs.Theorems.{decided_in, returned_in, step_at, step_of, core_after, MayStep, StepsOn, SaysWords, ReadyDecides, IsUndecided, IsUndecidedAt}
 use Rattle.flight.specs.declared.stages.Absorbed.{Absorbed}
 use Rattle.flight.specs.declared.stages.Absorbed.TheVariants.{Going, Decided, Returned}
 use Rattle.flight.specs.declared.stages.InFlight.{InFlight}
 use Rattle.flight.specs.declared.stages.Stage.{Stage}
 use Rattle.flight.specs.declared.stages.Stage.TheVariants.{Enter, Looking, Fill, Exit, Leave}
-use Rattle.lone_kernel.specs.declared.seats.Seat.{Seat}
 use Rattle.lone_kernel.specs.declared.seats.Turn.{Turn}
 use Rattle.lone_kernel.specs.declared.seats.Turn.TheVariants.{Begins, GoesOn}
-use Rattle.lone_kernel.specs.Machine.{Machine, seat_at, core_at, list_at, turn_if, turn_of, turn_at, is_decided_at, is_decided_in, IsFinished, IsReady, HasDecided, IsFit, IsFitSeat, CanRun, CanTake, enters_as, core_in, begun_by, said_by, seat_after, place_next, found_by, stepped, step_in}
-use Rattle.lone_kernel.specs.Stands.{StandsFor, IsPending, WillDecide, GoesOn as goes_on_by}
+use Rattle.lone_kernel.specs.Machine.{Machine, seat_at, core_at, list_at, turn_if, turn_at, is_decided_at, is_decided_in, IsFinished, IsReady, IsFit, CanTake, enters_as, core_in, begun_by, said_by, seat_after, place_next, found_by, stepped, step_in}
+use Rattle.lone_kernel.specs.Stands.{StandsFor, WillDecide}
 use Rattle.lone_kernel.specs.Moves.{calls_begun, GoesFurther, MovesTo, StaysIdle, MakesStep, MakesOneStep, RefusedAt, IsNotBoth}
-use Rattle.lone_kernel.proofs.Fits.{IsOf, is_of, seat_same, seat_there, turned_shape}
+use Rattle.lone_kernel.proofs.Fits.{IsOf, is_of, seat_same, seat_there}
 use Rattle.lone_kernel.proofs.Refusals.{unready_refuses, decided_refuses}
 
 -- the word of a step is one of the machine, by the name that it shares

@@ -1,6 +1,6 @@
 -- A machine that has just booted is fit, and stands for the empty trace.
-use Rattle.std.proofs.Common.{◌≡◌, inl, inr, ℕ, ◌+◌, ◌*◌, ◌<◌, ◌≤◌, ◌^◌, ◌++◌, List, [], ◌∷◌, length, get_or, map, zero, suc, take, fold, arith, refl, sym, ◌∙◌, ap, subst, sum_by, Bool, true, false}
-use Rattle.std.specs.Prelude.{Some, None, Option, All}
+use Rattle.std.proofs.Common.{◌≡◌, inl, inr, ℕ, ◌+◌, ◌*◌, ◌<◌, ◌≤◌, ◌^◌, ◌++◌, List, [], ◌∷◌, length, get_or, map, suc, take, fold, arith, refl, sym, ◌∙◌, ap, subst, sum_by, Bool, true, false}
+use Rattle.std.specs.Prelude.{Some, None, Option}
 use Rattle.std.proofs.lemmas.Bool.{cases_eq, cases_lt}
 use Rattle.std.proofs.lemmas.List.{length-map, length-append, get_or-map, get_or_push, get_or_past, get_or_append_left}
 use Rattle.spk_nums.specs.declared.calls.Call.{Call}
@@ -17,7 +17,7 @@ use Rattle.flight.specs.declared.stages.InFlight.{InFlight}
 use Rattle.flight.specs.Stands.{Stands}
 use Rattle.flight.specs.Theorems.{Boots, SaysWords, boot_cores}
 use Rattle.lone_kernel.specs.declared.seats.Seat.{Seat}
-use Rattle.lone_kernel.specs.Machine.{Machine, seat_at, core_at, list_at, fresh_seat, is_decided_at, due_at, due_in, IsFit, IsFitSeat, CanRun, AreLists, AreFresh}
+use Rattle.lone_kernel.specs.Machine.{Machine, seat_at, core_at, list_at, fresh_seat, is_decided_at, due_at, due_in, IsFit, IsFitSeat, AreLists, AreFresh}
 use Rattle.lone_kernel.specs.Stands.{StandsFor}
 
 -- the seats so far, of the first n lists

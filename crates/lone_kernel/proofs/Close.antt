@@ -1,8 +1,5 @@
 -- The words and ends that a machine leaves represent the state that its traces leave.
-use Rattle.std.proofs.Common.{◌≡◌, inl, inr, ℕ, ◌+◌, ◌<◌, ◌≤◌, List, [], ◌∷◌, length, get_or, map, Option, Some, None, arith, refl, sym, ◌∙◌, ap, subst, zero, suc}
-use Rattle.std.specs.Prelude.{slice_get, unwrap_or}
-use Rattle.std.proofs.lemmas.Bool.{cases_lt}
-use Rattle.std.proofs.lemmas.List.{length-map, get_or_past}
+use Rattle.std.proofs.Common.{◌≡◌, ℕ, ◌+◌, ◌<◌, List, [], ◌∷◌, length, get_or, map, None, arith, refl, sym, ◌∙◌, ap, subst, zero, suc}
 use Rattle.spk_nums.specs.Setting.{Setting, IsSetting}
 use Rattle.spk_nums.specs.declared.translations.CoreEnd.{CoreEnd}
 use Rattle.word_map.specs.Word.{Word, EntryAt, FrameAt, CoreAt, LiveAt}
@@ -18,14 +15,13 @@ use Rattle.tcap_words.specs.Head.{head_of_word}
 use Rattle.tcap_words.specs.Quality.{quality_of_word}
 use Rattle.seq_state.specs.State.{Place, Object, Blank, Table, Leaf, Pages, Pleaf, Comp, Thread, Tcap, Frame, Untyped, User, Kernel, State}
 use Rattle.kernel_history.specs.BootWords.{shape_of}
-use Rattle.kernel_history.specs.FinalWords.{Represent, AreEntries, AreComp, AreThread, AreTcap, AreObject, AreFrame, SaysPlace, SaysNumber, SaysOut, word_in, no_end, end_in}
+use Rattle.kernel_history.specs.FinalWords.{Represent, AreEntries, AreObject, AreFrame, SaysPlace, SaysNumber, SaysOut, word_in, end_in}
 use Rattle.kernel_history.specs.Trace.{Trace, state_after, last_left}
-use Rattle.flight.specs.View.{Core}
 use Rattle.flight.specs.Steps.{end_of}
 use Rattle.flight.proofs.Sounds.{limits_of}
 use Rattle.flight.proofs.Final.{represents}
 use Rattle.lone_kernel.specs.declared.seats.Seat.{Seat}
-use Rattle.lone_kernel.specs.Machine.{Machine, seat_at, core_at, fresh_seat}
+use Rattle.lone_kernel.specs.Machine.{Machine, core_at, fresh_seat}
 use Rattle.lone_kernel.specs.Stands.{StandsFor}
 
 -- words that are alike say alike

@@ -1,6 +1,6 @@
 -- A machine that fits still does behind a step, and has less to do.
-use Rattle.std.proofs.Common.{◌≡◌, ◌≢◌, inl, inr, ℕ, ◌+◌, ◌-◌, ◌<◌, ◌≤◌, ◌^◌, List, [], length, get_or, Option, Some, None, arith, refl, sym, ◌∙◌, ap, subst, Bool, true, false, get_or-set_same, get_or-set_other}
-use Rattle.std.specs.Prelude.{slice_get, slice_set, sum_by, All, option_map, IsSome}
+use Rattle.std.proofs.Common.{◌≡◌, ◌≢◌, inl, inr, ℕ, ◌+◌, ◌<◌, ◌≤◌, List, [], length, get_or, Option, Some, None, arith, refl, sym, ◌∙◌, ap, subst, false, get_or-set_same, get_or-set_other}
+use Rattle.std.specs.Prelude.{slice_set, sum_by, All, option_map, IsSome}
 use Rattle.std.proofs.lemmas.Bool.{cases_eq}
 use Rattle.std.proofs.lemmas.List.{length-set}
 use Rattle.std.proofs.lemmas.List.Sums.{sum_by-set}
@@ -10,10 +10,8 @@ use Rattle.spk_nums.specs.Setting.{Setting}
 use Rattle.kernel_history.specs.Trace.{decision_at}
 use Rattle.flight.specs.View.{Core}
 use Rattle.flight.specs.Fits.{IsCore, steps_left}
-use Rattle.flight.specs.Steps.{begun, fresh, went, landed, told, took_by, move_of, absorbed, told_of_step, absorbed_in, told_in}
-use Rattle.flight.specs.Stages.{stage_took}
-use Rattle.flight.specs.Theorems.{turned, decided_in}
-use Rattle.kernel_history.specs.BootWords.{shape_of}
+use Rattle.flight.specs.Steps.{begun, landed, told, took_by, absorbed, told_of_step, absorbed_in, told_in}
+use Rattle.flight.specs.Theorems.{decided_in}
 use Rattle.flight.specs.declared.stages.Absorbed.{Absorbed}
 use Rattle.flight.specs.declared.stages.Absorbed.TheVariants.{Going, Decided, Returned}
 use Rattle.flight.specs.declared.stages.InFlight.{InFlight}
@@ -22,7 +20,7 @@ use Rattle.flight.specs.declared.stages.Took.TheVariants.{Goes, Decides, Returns
 use Rattle.lone_kernel.specs.declared.seats.Seat.{Seat}
 use Rattle.lone_kernel.specs.declared.seats.Turn.{Turn}
 use Rattle.lone_kernel.specs.declared.seats.Turn.TheVariants.{Begins, GoesOn}
-use Rattle.lone_kernel.specs.Machine.{Machine, seat_at, core_at, list_at, fresh_seat, turn_if, turn_of, turn_at, is_decided_at, is_decided_in, due_at, due_in, IsFitSeat, IsFit, CanRun, CanBegin, CanTake, enters_as, core_in, begun_by, decisions_in, said_by, seat_after, found_by, stepped}
+use Rattle.lone_kernel.specs.Machine.{Machine, seat_at, core_at, list_at, fresh_seat, turn_if, turn_of, turn_at, is_decided_at, is_decided_in, due_at, due_in, IsFitSeat, IsFit, CanRun, CanTake, core_in, begun_by, decisions_in, said_by, seat_after, found_by, stepped}
 use Rattle.lone_kernel.specs.Moves.{calls_begun, GoesFurther}
 use Rattle.lone_kernel.proofs.Turns.{Turns, stage_turns}
 use Rattle.lone_kernel.proofs.Small.{steps_small}

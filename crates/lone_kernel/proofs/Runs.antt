@@ -1,5 +1,5 @@
 -- Moves: steps of one core, one after another.
-use Rattle.std.proofs.Common.{◌≡◌, ◌≢◌, ◌⊎◌, inl, inr, ℕ, ◌+◌, ◌-◌, ◌*◌, ◌<◌, ◌≤◌, ◌++◌, List, [], ◌∷◌, length, get_or, arith, refl, sym, ◌∙◌, ap, subst, true, false, Bool}
+use Rattle.std.proofs.Common.{◌≡◌, ◌≢◌, ◌⊎◌, inl, inr, ℕ, ◌-◌, ◌<◌, ◌≤◌, ◌++◌, [], ◌∷◌, length, get_or, arith, refl, sym, ◌∙◌, ap, subst, true, false, Bool}
 use Rattle.std.specs.Prelude.{Option, Some, None, IsSome, ◌↔◌, option_map}
 use Rattle.std.proofs.lemmas.List.{length-take-le}
 use Rattle.std.proofs.lemmas.List.Elements.{All-cons, All-nil}
@@ -9,18 +9,18 @@ use Rattle.spk_nums.specs.declared.replies.Reply.{Reply}
 use Rattle.spk_nums.specs.Setting.{Setting}
 use Rattle.kernel_history.specs.Trace.{Step, Trace, Phase, phase, after_enter, after_decide, after_return, decided, calls_of}
 use Rattle.kernel_history.specs.Trace as history
-use Rattle.kernel_history.specs.Legal.{MayFollow, MayDecide, MayReturn, DecidesBy}
-use Rattle.kernel_history.specs.Order.{IsIdle, IsDecided, AreOf, HaveNone, GoesThrough, UnlessDecided}
+use Rattle.kernel_history.specs.Legal.{MayFollow}
+use Rattle.kernel_history.specs.Order.{IsIdle, IsDecided, AreOf, HaveNone, UnlessDecided}
 use Rattle.kernel_history.proofs.Steps.{phase-own}
 use Rattle.kernel_history.proofs.Open.{returns_if_out, none_if_in}
-use Rattle.flight.specs.Fits.{left_for, steps_left}
+use Rattle.flight.specs.Fits.{left_for}
 use Rattle.flight.specs.declared.stages.InFlight.{InFlight}
 use Rattle.lone_kernel.specs.declared.seats.Turn.TheVariants.{Begins}
 use Rattle.lone_kernel.specs.declared.lone.Moved.{Moved}
 use Rattle.lone_kernel.specs.declared.lone.Moved.TheVariants.{Idle, Went}
-use Rattle.lone_kernel.specs.Machine.{Machine, seat_at, core_at, list_at, IsFinished, IsReady, IsInCall, HasDecided, is_decided_in, turn_if}
+use Rattle.lone_kernel.specs.Machine.{Machine, seat_at, core_at, list_at, IsFinished, IsReady, IsInCall, HasDecided, turn_if}
 use Rattle.lone_kernel.specs.Stands.{StandsFor, GoesOn}
-use Rattle.lone_kernel.specs.Moves.{MovesTo, MovesBy, MakesStep, MakesOneStep, IsNotBoth, StopsReady, IsRefusedEarly, RefusedAt, GoesUntilReady, GoesThroughDecision, GoesToReturn, GoesFurther, work_in, work_at, calls_in, calls_left, calls_begun}
+use Rattle.lone_kernel.specs.Moves.{MovesTo, MovesBy, MakesOneStep, IsNotBoth, RefusedAt, GoesUntilReady, GoesThroughDecision, GoesToReturn, GoesFurther, work_in, work_at, calls_in, calls_left, calls_begun}
 use Rattle.lone_kernel.proofs.Advance.{decided_if, in_call_if, out_if}
 
 -- a step of a core that has a turn is made

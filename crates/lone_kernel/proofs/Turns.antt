@@ -1,7 +1,6 @@
 -- A call is decided once: by a step of an undecided stage, behind which every stage is decided.
 use Rattle.std.proofs.Common.{◌≡◌, ℕ, Bool, true, false, refl}
 use Rattle.spk_nums.specs.Capability.{Capability}
-use Rattle.spk_nums.specs.declared.kinds.Kind.{Kind}
 use Rattle.spk_nums.specs.declared.calls.Call.{Call}
 use Rattle.spk_nums.specs.declared.calls.Call.TheVariants.{Look as look_call, Copy}
 use Rattle.spk_nums.specs.declared.replies.Reply.{Reply}
@@ -9,7 +8,6 @@ use Rattle.spk_nums.specs.declared.steps.StageEnd.{StageEnd}
 use Rattle.spk_nums.specs.declared.steps.StageEnd.TheVariants as ends
 use Rattle.entry_words.specs.declared.entry.Entry.{Entry}
 use Rattle.entry_words.specs.declared.entry.Entry.TheVariants.{Free, Held, Closing, Quiescing}
-use Rattle.stage_look.specs.Lookup.{look_end, look_after}
 use Rattle.stage_look.specs.declared.look.Look.{Look}
 use Rattle.stage_look.specs.declared.look.Found.{Found}
 use Rattle.flight.specs.declared.stages.Want.{Want}
@@ -18,7 +16,7 @@ use Rattle.flight.specs.declared.stages.Stage.{Stage}
 use Rattle.flight.specs.declared.stages.Stage.TheVariants.{Enter, Looking, Fill, Exit, Leave}
 use Rattle.flight.specs.declared.stages.Took.{Took}
 use Rattle.flight.specs.declared.stages.Took.TheVariants.{Goes, Decides, Returns}
-use Rattle.flight.specs.Stages.{decide, looks, first_name, took_enter, first_held, took_first, is_table, looks_in, second_held, took_second, took_target, took_found, took_end, took_look, took_fill, stage_took}
+use Rattle.flight.specs.Stages.{decide, looks, first_name, took_enter, first_held, took_first, is_table, looks_in, second_held, took_second, took_target, took_found, took_end, took_fill, stage_took}
 use Rattle.lone_kernel.specs.Machine.{is_decided_at}
 
 -- What a step of a stage leads to: it goes on as it was, it decides, or it returns a call that was decided.

@@ -1,12 +1,12 @@
 -- What a machine for given orders is, and one step of a core.
-use Rattle.std.specs.Prelude.{◌≡◌, ◌≢◌, Bool, true, false, ℕ, ◌+◌, ◌-◌, ◌<◌, ◌≤◌, ◌^◌, List, [], ◌∷◌, ◌++◌, length, slice_get, slice_index, slice_index_or, slice_set, Option, Some, None, option_map, All, IsSome}
+use Rattle.std.specs.Prelude.{◌≡◌, ◌≢◌, Bool, true, false, ℕ, ◌+◌, ◌-◌, ◌<◌, ◌≤◌, ◌^◌, List, [], ◌++◌, length, slice_get, slice_index, slice_index_or, slice_set, Option, Some, None, option_map, All, IsSome}
 use Rattle.spk_nums.specs.Built.{IsBuilt}
 use Rattle.spk_nums.specs.CallLimits.{InLimits}
 use Rattle.spk_nums.specs.declared.calls.Call.{Call}
 use Rattle.spk_nums.specs.declared.replies.Decision.{Decision}
 use Rattle.spk_nums.specs.Setting.{Setting}
 use Rattle.word_map.specs.Places.{Shape, place_of, size_of}
-use Rattle.word_map.specs.Moves.{Move, word_of, left_of, told_of}
+use Rattle.word_map.specs.Moves.{word_of, left_of, told_of}
 use Rattle.kernel_history.specs.Trace.{Step, decision_at}
 use Rattle.flight.specs.View.{Core}
 use Rattle.flight.specs.Fits.{IsCore}

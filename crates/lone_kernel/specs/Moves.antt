@@ -1,14 +1,14 @@
 -- How the moves of a machine extend each trace for which it stood.
-use Rattle.std.specs.Prelude.{◌≡◌, ◌≢◌, ◌⊎◌, true, false, ℕ, ◌+◌, ◌-◌, ◌*◌, ◌<◌, ◌≤◌, List, [], ◌∷◌, ◌++◌, length, Option, Some, None, IsSome, IsSomeAnd}
+use Rattle.std.specs.Prelude.{◌≡◌, ◌≢◌, ◌⊎◌, false, ℕ, ◌+◌, ◌-◌, ◌*◌, ◌<◌, ◌≤◌, ◌∷◌, ◌++◌, length, Option, Some, None}
 use Rattle.spk_nums.specs.declared.replies.Reply.{Reply}
 use Rattle.seq_state.specs.Laws.{IsRefusal}
-use Rattle.kernel_history.specs.Trace.{Step, Trace, phase}
-use Rattle.kernel_history.specs.Order.{IsIdle, IsDecided, AreOf, HaveNone, UnlessDecided, GoesThrough}
+use Rattle.kernel_history.specs.Trace.{Step, Trace}
+use Rattle.kernel_history.specs.Order.{IsIdle, AreOf, HaveNone, UnlessDecided, GoesThrough}
 use Rattle.lone_kernel.specs.declared.lone.Moved.{Moved}
 use Rattle.lone_kernel.specs.declared.lone.Moved.TheVariants.{Idle, Went}
 use Rattle.flight.specs.Fits.{steps_left, left_in}
 use Rattle.flight.specs.declared.stages.InFlight.{InFlight}
-use Rattle.lone_kernel.specs.Machine.{Machine, core_at, seat_at, list_at, is_decided_in, IsFinished, IsReady}
+use Rattle.lone_kernel.specs.Machine.{Machine, core_at, seat_at, list_at, is_decided_in, IsReady}
 use Rattle.lone_kernel.specs.Stands.{StandsFor, GoesOn}
 
 -- Core c was not idle after t, and the machine goes on to a trace that is as said.

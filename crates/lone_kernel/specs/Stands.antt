@@ -1,8 +1,8 @@
 -- When a machine stands for a trace.
-use Rattle.std.specs.Prelude.{◌≡◌, ◌≢◌, ◌⊎◌, ℕ, ◌+◌, ◌<◌, ◌≤◌, List, [], ◌∷◌, ◌++◌, All, Option, Some, None, IsSome, IsSomeAnd, take, slice_index}
+use Rattle.std.specs.Prelude.{◌≡◌, ◌≢◌, ◌⊎◌, ℕ, ◌<◌, ◌++◌, All, take, slice_index}
 use Rattle.word_map.specs.Word.{Word}
 use Rattle.word_map.specs.Places.{IsIn, place_of, shared}
-use Rattle.kernel_history.specs.Trace.{Step, Trace, last_left, calls_of, decisions_of}
+use Rattle.kernel_history.specs.Trace.{Trace, last_left, calls_of, decisions_of}
 use Rattle.kernel_history.specs.Moments.{WordsSayAlong}
 use Rattle.kernel_history.specs.Order.{DecidesNext}
 use Rattle.kernel_history.specs.BootWords.{shape_of}

@@ -1,11 +1,11 @@
 -- In every state that a run reaches, capabilities name frames with an object of their kind, and no frame that is referenced
 -- is untyped. `open` are the cores in a call that is not decided.
-use Rattle.std.proofs.Common.{◌≡◌, ◌≢◌, inl, inr, ℕ, ◌<◌, ◌≤◌, Bool, true, false, refl, sym, ◌∙◌, ap, subst, arith, ◌==◌, if◌then◌else◌, IsTrue, List, [], ◌∷◌}
+use Rattle.std.proofs.Common.{◌≡◌, ◌≢◌, inl, inr, ℕ, ◌<◌, ◌≤◌, Bool, true, refl, sym, ◌∙◌, ap, subst, arith, ◌==◌, if◌then◌else◌, IsTrue, List, [], ◌∷◌}
 use Rattle.std.proofs.lemmas.Bool.{cases_eq, false≢true, eq-eqb, ne_eqb, eqb-true}
 use Rattle.spk_nums.specs.Capability.{Capability}
 use Rattle.spk_nums.specs.declared.kinds.Kind.{Kind}
 use Rattle.spk_nums.specs.declared.kinds.Kind.TheVariants as kind
-use Rattle.seq_state.specs.State.{Holds, Quiescing, Blank, Table, Leaf, Pages, Pleaf, Comp, Thread, Frame, Untyped, Kernel, Live, PlaceOf, FrameOf, State, put, with_frame}
+use Rattle.seq_state.specs.State.{Holds, Quiescing, Blank, Comp, Thread, Frame, Untyped, Kernel, Live, PlaceOf, FrameOf, State, put, with_frame}
 use Rattle.seq_state.specs.References.{named_by}
 use Rattle.seq_state.specs.Access.{kind_number, only}
 use Rattle.seq_state.specs.Fitting.{fits, IsGood}

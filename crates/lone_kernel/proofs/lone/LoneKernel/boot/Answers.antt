@@ -1,4 +1,4 @@
-use Rattle.std.proofs.Common.{◌<◌, ◌^◌, refl, arith, sym, ◌∙◌, ap, subst, map, sum_by, []}
+use Rattle.std.proofs.Common.{◌<◌, ◌^◌, sym, subst, map, sum_by, []}
 use Rattle.flight.proofs.Boot.{boots}
 use Rattle.flight.proofs.Final.{says_words}
 use Rattle.lone_kernel.specs.Machine.{AreFresh}

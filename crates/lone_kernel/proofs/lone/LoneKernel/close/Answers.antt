@@ -1,11 +1,10 @@
-use Rattle.std.proofs.Common.{◌≡◌, ◌<◌, ℕ, List, [], length, get_or, map, arith, sym, ◌∙◌, ap, subst}
-use Rattle.std.specs.Prelude.{None}
+use Rattle.std.proofs.Common.{◌<◌, [], length, get_or, map, arith, sym, ◌∙◌, ap, subst}
 use Rattle.spk_nums.specs.Setting.{IsSetting}
 use Rattle.kernel_history.specs.BootWords.{shape_of}
 use Rattle.kernel_history.specs.FinalWords.{Represent, word_in, end_in}
 use Rattle.kernel_history.specs.Trace.{state_after}
 use Rattle.flight.specs.Steps.{end_of}
-use Rattle.lone_kernel.specs.Machine.{Machine, core_at, fresh_seat, IsFit}
+use Rattle.lone_kernel.specs.Machine.{fresh_seat, IsFit}
 use Rattle.lone_kernel.proofs.Close.{same_default, closes}
 use Rattle.lone_kernel.proofs.lone.LoneKernel.close.Goals as goal
 

@@ -1,7 +1,6 @@
-use Rattle.std.proofs.Common.{◌≡◌, ◌≢◌, ◌<◌, ◌∙◌, inl, refl, ap, sym, arith, false, true}
-use Rattle.std.specs.Prelude.{None}
+use Rattle.std.proofs.Common.{◌<◌, ◌∙◌, inl, refl, ap, sym, arith}
 use Rattle.std.proofs.lemmas.Bool.{false≢true}
-use Rattle.lone_kernel.specs.Machine.{core_at, IsFinished, IsInCall}
+use Rattle.lone_kernel.specs.Machine.{core_at, IsInCall}
 use Rattle.lone_kernel.proofs.Runs.{went, busy_if, begins_in_call, in_call_none, in_call_more, works_on, returns_at_last, counted_more, counted_last, none_of}
 use Rattle.lone_kernel.proofs.lone.LoneKernel.finish.Goals as goal
 

@@ -1,5 +1,5 @@
-use Rattle.std.proofs.Common.{◌≡◌, ◌≤◌, length}
-use Rattle.lone_kernel.specs.Machine.{IsFinished, core_at, seat_at, list_at}
+use Rattle.std.proofs.Common.{◌≡◌}
+use Rattle.lone_kernel.specs.Machine.{IsFinished}
 use Rattle.lone_kernel.specs.Moves.{work_at}
 use Rattle.lone_kernel.proofs.Runs.{GoesInCall, Counted}
 use Rattle.lone_kernel.proofs.lone.LoneKernel.finish.Given as goal

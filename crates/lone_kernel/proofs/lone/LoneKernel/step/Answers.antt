@@ -1,5 +1,5 @@
-use Rattle.std.proofs.Common.{◌≡◌, ◌≢◌, ℕ, ◌<◌, ◌+◌, ◌++◌, refl, length, map, Some, None, sym, ◌∙◌, ap, subst, arith, slice_set, sum_by, get_or, get_or-set_same}
-use Rattle.std.proofs.lemmas.List.{length-append, get_or_read}
+use Rattle.std.proofs.Common.{◌≡◌, ℕ, ◌<◌, ◌++◌, length, map, Some, sym, ◌∙◌, ap, subst, arith, slice_set, sum_by, get_or, get_or-set_same}
+use Rattle.std.proofs.lemmas.List.{length-append}
 use Rattle.kernel_history.specs.Trace.{decision_at}
 use Rattle.flight.specs.Theorems.{decided_in}
 use Rattle.lone_kernel.specs.declared.seats.Seat.{Seat}
