@@ -97,17 +97,6 @@ alone_more m m' m'' c goes call t stands =
       goes = goes_on g.goes (subst (λ u. GoesOn m' m'' (g.steps ++ t) u) adds s.goes);
     }
 
--- where the move did nothing, core c is at its list's end
-pub runs_out : (m m' m'' : Machine) (c : ℕ) → m'.lists ≡ m.lists → MovesBy Idle m' m'' c (GoesToReturn m' m'' c) → GoesByCore m m' c → RunsCoreOut m m'' c
-runs_out m m' m'' c same stays goes t stands =
-    let g = goes t stands in
-    let idle = stays.idle (g.steps ++ t) g.goes.stands in
-    record {
-      after = g.steps ++ t;
-      goes = subst (λ x. GoesOn m x t (g.steps ++ t)) (sym stays.same) g.goes;
-      out = record { steps = g.steps; adds = refl; own = g.own; idle = subst (λ l. IsIdle l (g.steps ++ t) c) same idle };
-    }
-
 pub cores_none : (m : Machine) → RunsCoresOut m m 0
 cores_none m t stands = record { after = t; goes = stays_on m t stands; out = refl }
 

@@ -33,7 +33,7 @@ pub enum Status {
     Memory,
     /// The source gave more than 1,048,576 bytes.
     TooLong,
-    /// The input of `replay` is a script with a `calls` line or a call that is not built; this is the first such line.
+    /// The input of `replay` is a script with a call that is not built; this is the line of the first.
     NotBuilt { line: u32 },
 }
 
@@ -168,8 +168,9 @@ fn finish<K: Sink>(sink: &mut K, answer: &Answer) -> Status
 /// Words other than `replay` alone or `print` alone are `Words`, and nothing is read. A source that
 /// fails is `ReadFault`, and one that gives a byte past 1,048,576 is `TooLong`; no more than that
 /// byte is taken. An input that is no script is `Script`, with its first fault. Under `replay` a
-/// script that has a `calls` line, or a call that is not built, is `NotBuilt`, at the first such
-/// line; else the script's steps are taken and their text is written, and the status is `Done`.
+/// script that has a call that is not built is `NotBuilt`, at the line of the first such call; else
+/// the script's steps are taken and their text is written, the reply lines and the tables, and the
+/// status is `Done`.
 /// Under `print` each script is written in its printed form, and the status is `Done`.
 /// Each of the other statuses writes its line in place of the text. A sink that fails is
 /// `WriteFault`, and holds a prefix of what was due. `Memory` may come in place of any status, and

@@ -233,7 +233,7 @@ fn a_copy_of_an_object_is_a_reference_to_it(rt: HostRuntime) -> Result<(), Fail>
     Ok(())
 }
 
-// What both cores' copies to the same place answer under this order, core 0's first.
+// Whether core 0's copy is carried out under this order, and core 1's, to the same place, is then answered so.
 fn copies_end(alloc: Global, order: &str, second: &str) -> Result<bool, Fail> {
     let lines = format!(in alloc; "{COPIES}{order}")?;
     let replies = format!(in alloc; "0.1 copy 0 1 20 = ok\n1.1 copy 0 1 20 = {second}\n")?;
