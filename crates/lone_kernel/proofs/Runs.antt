@@ -184,14 +184,17 @@ module _ (m m' m'' : Machine) (c : ℕ) (here : c < m.setup.cores) (middle : c <
         busy = busy t stands;
         after = e ∷ (g.steps ++ t);
         goes = goes_on g.goes on;
-        is = inr (not_decided m t c here stands un_first, record {
-          steps = g.steps;
-          last = e;
-          adds = refl;
-          own = All-cons (λ x. x.core ≡ c) e g.steps made.own g.own;
-          before = g.undecided;
-          ends = decides_now (g.steps ++ t) e c made.own (not_decided m' (g.steps ++ t) c middle g.goes.stands un) (is_decided m'' (e ∷ (g.steps ++ t)) c there on.stands now);
-        });
+        is = inr (
+          not_decided m t c here stands un_first,
+          record {
+            steps = g.steps;
+            last = e;
+            adds = refl;
+            own = All-cons (λ x. x.core ≡ c) e g.steps made.own g.own;
+            before = g.undecided;
+            ends = decides_now (g.steps ++ t) e c made.own (not_decided m' (g.steps ++ t) c middle g.goes.stands un) (is_decided m'' (e ∷ (g.steps ++ t)) c there on.stands now);
+          },
+        );
       }
 
   -- the step that refuses a call before it is ready
@@ -206,17 +209,20 @@ module _ (m m' m'' : Machine) (c : ℕ) (here : c < m.setup.cores) (middle : c <
         busy = busy t stands;
         after = e ∷ (g.steps ++ t);
         goes = goes_on g.goes on;
-        is = inr (not_decided m t c here stands un_first, inr record {
-          through = record {
-            steps = g.steps;
-            last = e;
-            adds = refl;
-            own = All-cons (λ x. x.core ≡ c) e g.steps made.own g.own;
-            before = g.undecided;
-            ends = decides_now (g.steps ++ t) e c made.own (not_decided m' (g.steps ++ t) c middle g.goes.stands un) (is_decided m'' (e ∷ (g.steps ++ t)) c there on.stands now);
-          };
-          refused = refused_of e made.early;
-        });
+        is = inr (
+          not_decided m t c here stands un_first,
+          inr record {
+            through = record {
+              steps = g.steps;
+              last = e;
+              adds = refl;
+              own = All-cons (λ x. x.core ≡ c) e g.steps made.own g.own;
+              before = g.undecided;
+              ends = decides_now (g.steps ++ t) e c made.own (not_decided m' (g.steps ++ t) c middle g.goes.stands un) (is_decided m'' (e ∷ (g.steps ++ t)) c there on.stands now);
+            };
+            refused = refused_of e made.early;
+          },
+        );
       } where
         refused_of : (e : Step) → IsReady m' c ⊎ RefusedAt e → RefusedAt e
         refused_of e (inl ready) = absurd (unready ready)

@@ -13,7 +13,6 @@ ghost use Rattle.word_map.specs.Moves.{place_in};
 ghost use Rattle.word_map.specs.Places.{size_of, place_of, shared};
 ghost use Rattle.kernel_history.specs.Trace.{Trace, state_after, decision_at};
 ghost use Rattle.kernel_history.specs.FinalWords.{Represent, word_in, end_in};
-
 ghost use Rattle.flight.specs.Fits.{IsCore, steps_left};
 ghost use Rattle.kernel_history.specs.BootWords.{shape_of};
 ghost use Rattle.flight.specs.Steps.{end_of};

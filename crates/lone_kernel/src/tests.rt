@@ -54,7 +54,10 @@ fn a_race_is_lost(rt: HostRuntime) {
     assert_eq!(rt; kernel.to_return(first), Moved::Went);
     assert_eq!(rt; kernel.step(first), Moved::Idle);
     assert_eq!(rt; kernel.to_return(second), Moved::Idle);
-    assert_eq!(rt; kernel.decisions()[0], decision(0, Reply::Ok(Value::Nothing)));
+    assert_eq!(rt;
+        kernel.decisions()[0],
+        decision(0, Reply::Ok(Value::Nothing))
+    );
     assert_eq!(rt; kernel.decisions()[1], decision(1, Reply::Raced));
     let closed = kernel.close(alloc).expect(&rt, "wanted");
     assert_eq!(rt; closed.words.len(), 2_213);
