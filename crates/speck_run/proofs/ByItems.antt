@@ -6,7 +6,7 @@ use Rattle.spk_nums.specs.declared.calls.Call.{Call}
 use Rattle.spk_nums.specs.declared.steps.Item.{Item}
 use Rattle.spk_nums.specs.declared.steps.How.TheVariants as how
 use Rattle.kernel_history.specs.Trace.{Trace}
-use Rattle.kernel_history.specs.Order.{IsIdle, GoesThrough, UnlessDecided, Stretch, FollowsItem, FollowsItems, RunsOut, FollowsCores}
+use Rattle.kernel_history.specs.Order.{GoesThrough, UnlessDecided, Stretch, FollowsItem, FollowsItems, RunsOut, FollowsCores}
 use Rattle.lone_kernel.specs.declared.lone.Moved.{Moved}
 use Rattle.lone_kernel.specs.declared.lone.Moved.TheVariants.{Idle, Went}
 use Rattle.lone_kernel.specs.Machine.{Machine}
