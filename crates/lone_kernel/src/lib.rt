@@ -6,6 +6,3 @@ mod seats;
 
 pub use lone::{LoneKernel, Moved};
 pub use seats::{Seat, Turn};
-
-#[cfg(test)]
-mod tests;
