@@ -18,3 +18,5 @@ pub mod Entries
 pub mod Boot
 pub mod Advance
 pub mod Final
+pub mod Turns
+pub mod Unready

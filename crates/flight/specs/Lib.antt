@@ -1,6 +1,7 @@
 pub mod View
 pub mod Stages
 pub mod Steps
+pub mod Decided
 pub mod Fits
 pub mod Holding
 pub mod Words

@@ -1,6 +1,5 @@
 -- What is proved of the cores that stand for a trace.
-use Rattle.std.specs.Prelude.{◌≡◌, ◌<◌, ℕ, true, false, [], ◌∷◌, Option, Some, None, IsSome}
-use Rattle.spk_nums.specs.Bounds.{bound_of}
+use Rattle.std.specs.Prelude.{Bool, ◌≡◌, ◌<◌, ℕ, true, false, [], ◌∷◌, Option, Some, None, IsSome}
 use Rattle.spk_nums.specs.Built.{IsBuilt}
 use Rattle.spk_nums.specs.CallLimits.{InLimits}
 use Rattle.spk_nums.specs.Setting.{Setting, IsSetting}
@@ -8,8 +7,7 @@ use Rattle.spk_nums.specs.declared.calls.Call.{Call}
 use Rattle.spk_nums.specs.declared.replies.Reply.{Reply}
 use Rattle.word_map.specs.Moves.{Move, word_of, left_of, told_of}
 use Rattle.seq_state.specs.State.{put}
-use Rattle.kernel_history.specs.Trace.{Step, Trace, phase, after_enter, state_after, last_left, steps_in_call}
-use Rattle.kernel_history.specs.Bounds.{call_in}
+use Rattle.kernel_history.specs.Trace.{Step, Trace, state_after, last_left}
 use Rattle.kernel_history.specs.FinalWords.{Represent}
 use Rattle.kernel_history.specs.Moments.{WordsSay}
 use Rattle.flight.specs.declared.stages.Absorbed.{Absorbed}
@@ -19,6 +17,8 @@ use Rattle.flight.specs.declared.stages.Stage.TheVariants.{Enter, Looking, Fill,
 use Rattle.flight.specs.declared.stages.InFlight.{InFlight}
 use Rattle.flight.specs.View.{Core}
 use Rattle.flight.specs.Steps.{started, begun, move_of, ready_of, absorbed, told_of_step, end_of}
+use Rattle.flight.specs.Stages.{stage_took}
+use Rattle.flight.specs.Decided.{is_decided_at, Turns, RefusedBy}
 use Rattle.flight.specs.Stands.{Stands}
 
 -- The cores of a machine that has just booted.
@@ -96,17 +96,15 @@ abbrev pub Represents : Type 0
 Represents = (setup : Setting) → IsSetting setup → (cores : ℕ → Core) (t : Trace) → Stands setup cores t → AreBetween setup cores
     → Represent (last_left setup t) (λ c. end_of (cores c)) (state_after setup t)
 
--- The call of the step e has made fewer steps than its bound.
-pub record IsEarly (n : ℕ) (t : Trace) (e : Step) : Type 0 where
-  pub call : Call
-  pub is_of : call_in (after_enter e.enters (phase t e.core)) ≡ Some call
-  pub steps : steps_in_call (e ∷ t) e.core < bound_of call n
+-- A step of a core whose call is not ready decides a refusal, if it decides: an `ok` is decided by the step at which the call is
+-- ready.
+abbrev pub UnreadyRefuses : Type 0
+UnreadyRefuses = (core : Core) (found : ℕ) → ready_of core ≡ false → RefusedBy (decided_in (told_of_step core found))
 
--- A step of a core whose call is not ready is early.
-abbrev pub EarlyUnlessReady : Type 0
-EarlyUnlessReady = (setup : Setting) → IsSetting setup → (cores : ℕ → Core) (t : Trace) → Stands setup cores t
-    → (c : ℕ) → c < setup.cores → (enters : Option Call) → MayStep enters (cores c) → ready_of (turned enters (cores c)) ≡ false
-    → IsEarly setup.cores t (step_of setup t c enters (turned enters (cores c)))
+-- A call is decided once: by a step of an undecided stage, behind which every stage is decided, and it returns behind it.
+abbrev pub DecidesOnce : Type 0
+DecidesOnce = (table frames : ℕ) (spent : Bool) (call : Call) (s : Stage) (found : ℕ)
+    → Turns (is_decided_at s) (stage_took table frames spent call s found)
 
 -- The call in flight is not decided.
 abbrev pub IsUndecidedAt : Stage → Type 0

@@ -1,6 +1,6 @@
 //! What is proved of the step machine, as laws: cores that stand for a trace go on standing for it, step by step.
 
-ghost use Rattle.flight.specs.Theorems.{Boots, StepsOn, SaysWords, Represents, EarlyUnlessReady, ReadyDecides};
+ghost use Rattle.flight.specs.Theorems.{Boots, StepsOn, SaysWords, Represents, ReadyDecides, UnreadyRefuses, DecidesOnce};
 
 /// The start stands for no step.
 #[tactic(auto, using(crate::proofs::Boot::boots))]
@@ -26,14 +26,20 @@ pub fn represents()
     ensures { Represents }
 {}
 
-/// A step of a core whose call is not ready has fewer steps than its bound.
-#[tactic(auto, using(crate::proofs::Ready::early_unless_ready))]
-pub fn early_unless_ready()
-    ensures { EarlyUnlessReady }
-{}
-
 /// The next step of an open call that is ready decides.
 #[tactic(auto, using(crate::proofs::Ready::ready_decides))]
 pub fn ready_decides()
     ensures { ReadyDecides }
+{}
+
+/// A step of a core whose call is not ready decides a refusal, if it decides.
+#[tactic(auto, using(crate::proofs::Unready::unready_refuses))]
+pub fn unready_refuses()
+    ensures { UnreadyRefuses }
+{}
+
+/// A call is decided by one step, and returns behind it.
+#[tactic(auto, using(crate::proofs::Turns::stage_turns))]
+pub fn decides_once()
+    ensures { DecidesOnce }
 {}

@@ -7,5 +7,7 @@ mod stages;
 mod steps;
 
 pub use core_state::CoreState;
-pub use laws::{boots, early_unless_ready, ready_decides, represents, says_words, steps_on};
+pub use laws::{
+    boots, decides_once, ready_decides, represents, says_words, steps_on, unready_refuses,
+};
 pub use stages::{Absorbed, InFlight, Stage, Want};

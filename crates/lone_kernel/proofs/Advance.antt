@@ -36,11 +36,12 @@ use Rattle.flight.specs.declared.stages.Stage.{Stage}
 use Rattle.flight.specs.declared.stages.Stage.TheVariants.{Enter, Looking, Fill, Exit, Leave}
 use Rattle.lone_kernel.specs.declared.seats.Turn.{Turn}
 use Rattle.lone_kernel.specs.declared.seats.Turn.TheVariants.{Begins, GoesOn}
-use Rattle.lone_kernel.specs.Machine.{Machine, seat_at, core_at, list_at, turn_if, turn_at, is_decided_at, is_decided_in, IsFinished, IsReady, IsFit, CanTake, enters_as, core_in, begun_by, said_by, seat_after, place_next, found_by, stepped, step_in}
+use Rattle.flight.specs.Decided.{is_decided_at, is_decided_in}
+use Rattle.lone_kernel.specs.Machine.{Machine, seat_at, core_at, list_at, turn_if, turn_at, IsFinished, IsReady, IsFit, CanTake, enters_as, core_in, begun_by, said_by, seat_after, place_next, found_by, stepped, step_in}
 use Rattle.lone_kernel.specs.Stands.{StandsFor, WillDecide}
 use Rattle.lone_kernel.specs.Moves.{calls_begun, GoesFurther, MovesTo, StaysIdle, MakesStep, MakesOneStep, RefusedAt, IsNotBoth}
 use Rattle.lone_kernel.proofs.Fits.{IsOf, is_of, seat_same, seat_there}
-use Rattle.lone_kernel.proofs.Refusals.{unready_refuses, decided_refuses}
+use Rattle.flight.proofs.Unready.{unready_refuses, decided_refuses}
 
 -- the word of a step is one of the machine, by the name that it shares
 look_shared : (look : Look) → shared (word_of (look_move look)) ≡ word_of (look_move look)

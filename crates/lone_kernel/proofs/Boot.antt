@@ -17,7 +17,8 @@ use Rattle.flight.specs.declared.stages.InFlight.{InFlight}
 use Rattle.flight.specs.Stands.{Stands}
 use Rattle.flight.specs.Theorems.{Boots, SaysWords, boot_cores}
 use Rattle.lone_kernel.specs.declared.seats.Seat.{Seat}
-use Rattle.lone_kernel.specs.Machine.{Machine, seat_at, core_at, list_at, fresh_seat, is_decided_at, due_at, due_in, IsFit, IsFitSeat, AreLists, AreFresh}
+use Rattle.flight.specs.Decided.{is_decided_at}
+use Rattle.lone_kernel.specs.Machine.{Machine, seat_at, core_at, list_at, fresh_seat, due_at, due_in, IsFit, IsFitSeat, AreLists, AreFresh}
 use Rattle.lone_kernel.specs.Stands.{StandsFor}
 
 -- the seats so far, of the first n lists

@@ -20,9 +20,11 @@ use Rattle.flight.specs.declared.stages.Took.TheVariants.{Goes, Decides, Returns
 use Rattle.lone_kernel.specs.declared.seats.Seat.{Seat}
 use Rattle.lone_kernel.specs.declared.seats.Turn.{Turn}
 use Rattle.lone_kernel.specs.declared.seats.Turn.TheVariants.{Begins, GoesOn}
-use Rattle.lone_kernel.specs.Machine.{Machine, seat_at, core_at, list_at, fresh_seat, turn_if, turn_of, turn_at, is_decided_at, is_decided_in, due_at, due_in, IsFitSeat, IsFit, CanRun, CanTake, core_in, begun_by, decisions_in, said_by, seat_after, found_by, stepped}
+use Rattle.flight.specs.Decided.{is_decided_at, is_decided_in}
+use Rattle.lone_kernel.specs.Machine.{Machine, seat_at, core_at, list_at, fresh_seat, turn_if, turn_of, turn_at, due_at, due_in, IsFitSeat, IsFit, CanRun, CanTake, core_in, begun_by, decisions_in, said_by, seat_after, found_by, stepped}
 use Rattle.lone_kernel.specs.Moves.{calls_begun, GoesFurther}
-use Rattle.lone_kernel.proofs.Turns.{Turns, stage_turns}
+use Rattle.flight.specs.Decided.{Turns}
+use Rattle.flight.proofs.Turns.{stage_turns}
 use Rattle.lone_kernel.proofs.Small.{steps_small}
 
 some_inj : {A : Type 0} (x y : A) → Some x ≡ Some y → x ≡ y

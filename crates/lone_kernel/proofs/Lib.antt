@@ -1,8 +1,6 @@
-pub mod Turns
 pub mod OneStep
 pub mod Small
 pub mod Fits
-pub mod Refusals
 pub mod Advance
 pub mod Runs
 pub mod Boot

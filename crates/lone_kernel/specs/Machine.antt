@@ -12,12 +12,11 @@ use Rattle.flight.specs.View.{Core}
 use Rattle.flight.specs.Fits.{IsCore}
 use Rattle.flight.specs.Steps.{started, move_of, ready_of, absorbed, told_of_step}
 use Rattle.kernel_history.specs.BootWords.{shape_of}
+use Rattle.flight.specs.Decided.{is_decided_at, is_decided_in}
 use Rattle.flight.specs.Theorems.{turned, decided_in, step_at}
 use Rattle.flight.specs.declared.stages.Absorbed.{Absorbed}
 use Rattle.flight.specs.declared.stages.Absorbed.TheVariants.{Going, Decided, Returned}
 use Rattle.flight.specs.declared.stages.InFlight.{InFlight}
-use Rattle.flight.specs.declared.stages.Stage.{Stage}
-use Rattle.flight.specs.declared.stages.Stage.TheVariants.{Enter, Looking, Fill, Exit, Leave}
 use Rattle.lone_kernel.specs.declared.seats.Seat.{Seat}
 use Rattle.lone_kernel.specs.declared.seats.Turn.{Turn}
 use Rattle.lone_kernel.specs.declared.seats.Turn.TheVariants.{Begins, GoesOn}
@@ -62,19 +61,6 @@ IsFinished m c = turn_at m c ≡ None
 -- Core c has a call in flight.
 abbrev pub IsInCall : Machine → ℕ → Type 0
 IsInCall m c = (core_at m c).flight ≢ None
-
--- Whether a stage is behind its call's decision.
-abbrev pub is_decided_at : Stage → Bool
-is_decided_at Enter = false
-is_decided_at (Looking want look) = false
-is_decided_at (Fill node index word k) = false
-is_decided_at (Exit r) = true
-is_decided_at (Leave r x) = true
-
--- Whether there is a call in flight that is decided.
-abbrev pub is_decided_in : Option InFlight → Bool
-is_decided_in None = false
-is_decided_in (Some f) = is_decided_at f.stage
 
 -- The call of core c is decided.
 abbrev pub HasDecided : Machine → ℕ → Type 0

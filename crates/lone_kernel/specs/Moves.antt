@@ -1,14 +1,14 @@
 -- How the moves of a machine extend each trace for which it stood.
 use Rattle.std.specs.Prelude.{◌≡◌, ◌≢◌, ◌⊎◌, false, ℕ, ◌+◌, ◌-◌, ◌*◌, ◌<◌, ◌≤◌, ◌∷◌, ◌++◌, length, Option, Some, None}
 use Rattle.spk_nums.specs.declared.replies.Reply.{Reply}
-use Rattle.seq_state.specs.Laws.{IsRefusal}
 use Rattle.kernel_history.specs.Trace.{Step, Trace}
 use Rattle.kernel_history.specs.Order.{IsIdle, AreOf, HaveNone, UnlessDecided, GoesThrough}
 use Rattle.lone_kernel.specs.declared.lone.Moved.{Moved}
 use Rattle.lone_kernel.specs.declared.lone.Moved.TheVariants.{Idle, Went}
+use Rattle.flight.specs.Decided.{is_decided_in, RefusedBy}
 use Rattle.flight.specs.Fits.{steps_left, left_in}
 use Rattle.flight.specs.declared.stages.InFlight.{InFlight}
-use Rattle.lone_kernel.specs.Machine.{Machine, core_at, seat_at, list_at, is_decided_in, IsReady}
+use Rattle.lone_kernel.specs.Machine.{Machine, core_at, seat_at, list_at, IsReady}
 use Rattle.lone_kernel.specs.Stands.{StandsFor, GoesOn}
 
 -- Core c was not idle after t, and the machine goes on to a trace that is as said.
@@ -28,11 +28,7 @@ abbrev pub MovesBy : Moved → Machine → Machine → ℕ → Type 0 → Type 0
 MovesBy Idle m m' c Moves = StaysIdle m m' c
 MovesBy Went m m' c Moves = Moves
 
--- A decision with this reply, if there is one, is a refusal.
-abbrev pub RefusedBy : Option Reply → Type 0
-RefusedBy None = Unit {0}
-RefusedBy (Some r) = IsRefusal r
-
+-- The step decides a refusal, if it decides.
 abbrev pub RefusedAt : Step → Type 0
 RefusedAt e = RefusedBy e.decides
 

@@ -18,7 +18,8 @@ ghost use Rattle.kernel_history.specs.BootWords.{shape_of};
 ghost use Rattle.flight.specs.Steps.{end_of};
 ghost use Rattle.flight.specs.Theorems.{decided_in};
 ghost use Rattle.lone_kernel.specs.Ops.{left_by, told_by};
-ghost use Rattle.lone_kernel.specs.Machine.{IsFitSeat, CanRun, turn_of, begun_by, core_in, said_by, CanTake, MakesTurn, TakesTurn, seat_after, words_after, place_next, decisions_in, is_decided_in, IsFinished, IsInCall, HasDecided, IsReady, list_at, seat_at, core_at, AreLists, AreFresh};
+ghost use Rattle.flight.specs.Decided.{is_decided_in};
+ghost use Rattle.lone_kernel.specs.Machine.{IsFitSeat, CanRun, turn_of, begun_by, core_in, said_by, CanTake, MakesTurn, TakesTurn, seat_after, words_after, place_next, decisions_in, IsFinished, IsInCall, HasDecided, IsReady, list_at, seat_at, core_at, AreLists, AreFresh};
 ghost use Rattle.lone_kernel.specs.Stands.{StandsFor};
 ghost use Rattle.lone_kernel.specs.Moves.{MovesBy, MakesOneStep, GoesFurther, GoesUntilReady, GoesThroughDecision, GoesToReturn, calls_left};
 

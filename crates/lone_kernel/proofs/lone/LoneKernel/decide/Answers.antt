@@ -1,6 +1,7 @@
 use Rattle.std.proofs.Common.{◌<◌, ◌∙◌, refl, ap, sym, arith}
 use Rattle.std.proofs.lemmas.Bool.{false≢true}
-use Rattle.lone_kernel.specs.Machine.{core_at, HasDecided, IsInCall, is_decided_in}
+use Rattle.flight.specs.Decided.{is_decided_in}
+use Rattle.lone_kernel.specs.Machine.{core_at, HasDecided, IsInCall}
 use Rattle.lone_kernel.proofs.Runs.{went, busy_if, begins_in_call, open_none, open_more, works_on, undecided_false, decides_at_last}
 use Rattle.lone_kernel.proofs.lone.LoneKernel.decide.Goals as goal
 

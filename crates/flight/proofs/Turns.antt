@@ -1,5 +1,5 @@
 -- A call is decided once: by a step of an undecided stage, behind which every stage is decided.
-use Rattle.std.proofs.Common.{◌≡◌, ℕ, Bool, true, false, refl}
+use Rattle.std.proofs.Common.{ℕ, Bool, true, false, refl}
 use Rattle.spk_nums.specs.Capability.{Capability}
 use Rattle.spk_nums.specs.declared.calls.Call.{Call}
 use Rattle.spk_nums.specs.declared.calls.Call.TheVariants.{Look as look_call, Copy}
@@ -14,16 +14,8 @@ use Rattle.flight.specs.declared.stages.Want.{Want}
 use Rattle.flight.specs.declared.stages.Want.TheVariants.{First, Second, Target}
 use Rattle.flight.specs.declared.stages.Stage.{Stage}
 use Rattle.flight.specs.declared.stages.Stage.TheVariants.{Enter, Looking, Fill, Exit, Leave}
-use Rattle.flight.specs.declared.stages.Took.{Took}
-use Rattle.flight.specs.declared.stages.Took.TheVariants.{Goes, Decides, Returns}
 use Rattle.flight.specs.Stages.{decide, looks, first_name, took_enter, first_held, took_first, is_table, looks_in, second_held, took_second, took_target, took_found, took_end, took_fill, stage_took}
-use Rattle.lone_kernel.specs.Machine.{is_decided_at}
-
--- What a step of a stage leads to: it goes on as it was, it decides, or it returns a call that was decided.
-abbrev pub Turns : Bool → Took → Type 0
-Turns decided (Goes s) = is_decided_at s ≡ decided
-Turns decided (Decides r s) = (decided ≡ false) × (is_decided_at s ≡ true)
-Turns decided (Returns r x) = decided ≡ true
+use Rattle.flight.specs.Decided.{is_decided_at, Turns}
 
 decide_turns : (r : Reply) → Turns false (decide r)
 decide_turns r = (refl, refl)

@@ -11,7 +11,6 @@ use Rattle.stage_look.specs.Shown.{is_link, shown_in}
 use Rattle.stage_look.specs.declared.look.Look.{Look}
 use Rattle.stage_look.specs.declared.look.Look.TheVariants.{AtRoot, AtLeaf, AtEntry}
 use Rattle.stage_look.specs.declared.look.Found.{Found}
-use Rattle.seq_state.specs.Laws.{IsRefusal}
 use Rattle.flight.specs.View.{Core}
 use Rattle.flight.specs.Steps.{ready_of, ready_in, told, took_by, told_in, told_of_step}
 use Rattle.flight.specs.Theorems.{decided_in}
@@ -23,15 +22,8 @@ use Rattle.flight.specs.declared.stages.Stage.TheVariants.{Enter, Looking, Fill,
 use Rattle.flight.specs.declared.stages.Took.{Took}
 use Rattle.flight.specs.declared.stages.Took.TheVariants.{Goes, Decides, Returns}
 use Rattle.flight.specs.Stages.{looks, first_name, took_enter, first_held, took_first, is_table, looks_in, second_held, took_second, took_target, took_found, took_end, took_look, stage_took, decides_at, is_last, stage_ready}
-use Rattle.lone_kernel.specs.Machine.{is_decided_in}
-use Rattle.lone_kernel.specs.Moves.{RefusedBy}
-use Rattle.lone_kernel.proofs.Turns.{Turns, stage_turns}
-
--- What a step leads to is no `ok`.
-abbrev pub Refuses : Took → Type 0
-Refuses (Goes s) = Unit {0}
-Refuses (Decides r s) = IsRefusal r
-Refuses (Returns r x) = Unit {0}
+use Rattle.flight.specs.Decided.{is_decided_in, Turns, Refuses, RefusedBy}
+use Rattle.flight.proofs.Turns.{stage_turns}
 
 looks_refuses : (within : Bool) (want : Want) (root number : ℕ) → Refuses (looks within want root number)
 looks_refuses true want root number = tt
