@@ -9,8 +9,8 @@ use Rattle.spk_nums.specs.declared.calls.Call.TheVariants.{Look as look_call, Co
 use Rattle.spk_nums.specs.declared.replies.Reply.{Reply}
 use Rattle.word_map.specs.Word.{CoreAt, ClockAt}
 use Rattle.word_map.specs.Moves.{word_of, left_of, told_of}
-use Rattle.seq_state.specs.State.{put}
-use Rattle.seq_state.specs.Access.{found}
+use Rattle.kernel_rules.specs.State.{put}
+use Rattle.kernel_rules.specs.Access.{found}
 use Rattle.kernel_history.specs.Trace.{Step, Trace, last_left}
 use Rattle.kernel_history.specs.Stamps.{clock}
 use Rattle.kernel_history.proofs.Steps.{clock_seen-own}

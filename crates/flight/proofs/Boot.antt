@@ -20,11 +20,11 @@ use Rattle.frame_words.proofs.FlushLemmas as flushes
 use Rattle.frame_words.proofs.FrameLemmas as frames
 use Rattle.frame_words.proofs.LiveLemmas as lives
 use Rattle.word_map.specs.Word.{Word, EntryAt, FrameAt, CountAt, CoreAt, FlushAt, LiveAt, ClockAt}
-use Rattle.seq_state.specs.State.{Place, Free, Holds, Quiescing, Object, Blank, Table, Leaf, Pages, Pleaf, Comp, Thread, Tcap, Frame, Untyped, User, Kernel, State, comp_in, thread_in, thread_of, first_of_stack}
-use Rattle.seq_state.specs.Start.{start, start_place, start_cap, place_with, start_frame, start_number, granted}
-use Rattle.seq_state.specs.References.{refs}
-use Rattle.seq_state.specs.Fitting.{fits, IsGood, EndsWithin}
-use Rattle.seq_state.proofs.SoundStart.{past_three, start_sound}
+use Rattle.kernel_rules.specs.State.{Place, Free, Holds, Quiescing, Object, Blank, Table, Leaf, Pages, Pleaf, Comp, Thread, Tcap, Frame, Untyped, User, Kernel, State, comp_in, thread_in, thread_of, first_of_stack}
+use Rattle.kernel_rules.specs.Start.{start, start_place, start_cap, place_with, start_frame, start_number, granted}
+use Rattle.kernel_rules.specs.References.{refs}
+use Rattle.kernel_rules.specs.Fitting.{fits, IsGood, EndsWithin}
+use Rattle.kernel_rules.proofs.SoundStart.{past_three, start_sound}
 use Rattle.kernel_history.specs.BootWords.{boot_word, boot_entry, boot_object, boot_frame, boot_live}
 use Rattle.kernel_history.specs.ObjectWords.{frame_value}
 use Rattle.kernel_history.specs.FinalWords.{SaysPlace, AreObject, AreFrame, SaysNumber, Represent}

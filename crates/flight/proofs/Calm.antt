@@ -4,11 +4,11 @@ use Rattle.std.proofs.Common.{◌≡◌, ◌≢◌, inl, inr, ℕ, zero, suc, �
 use Rattle.std.proofs.lemmas.Bool.{cases_eq, false≢true}
 use Rattle.spk_nums.specs.Setting.{Setting}
 use Rattle.word_map.specs.Word.{Word, EntryAt, FrameAt, CountAt, CoreAt, FlushAt, LiveAt, ClockAt, same_word}
-use Rattle.seq_state.specs.State.{Core as CoreFields, Thing, PlaceOf, NumberOf, State, put, thread_in, comp_in, first_of_stack, thread_of, comp_of}
-use Rattle.seq_state.specs.References.{sum_below}
-use Rattle.seq_state.specs.GracePeriods.{entered, returned}
-use Rattle.seq_state.specs.CallRelation.{counted}
-use Rattle.seq_state.proofs.Within.{put_same, put_other}
+use Rattle.kernel_rules.specs.State.{Core as CoreFields, Thing, PlaceOf, NumberOf, State, put, thread_in, comp_in, first_of_stack, thread_of, comp_of}
+use Rattle.kernel_rules.specs.References.{sum_below}
+use Rattle.kernel_rules.specs.GracePeriods.{entered, returned}
+use Rattle.kernel_rules.specs.CallRelation.{counted}
+use Rattle.kernel_rules.proofs.Within.{put_same, put_other}
 use Rattle.kernel_history.specs.Trace.{Step, Trace, state_after}
 use Rattle.kernel_history.specs.Stamps.{begins_at, ends_at, flushes_at, stamp, clock, clock_seen, exit_of, exit_after, flush_of, flush_stored}
 use Rattle.kernel_history.proofs.Steps.{stamp-kept, exit_of-own, exit_of-other, flush_of-own, flush_of-other, flush_stored-own, flush_stored-other}

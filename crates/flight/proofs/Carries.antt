@@ -10,9 +10,9 @@ use Rattle.spk_nums.specs.declared.calls.Call.TheVariants.{Look as look_call, Co
 use Rattle.word_map.specs.Word.{Word, EntryAt}
 use Rattle.stage_look.specs.declared.look.Look.{Look}
 use Rattle.stage_look.specs.declared.look.Look.TheVariants.{AtRoot, AtLeaf, AtEntry}
-use Rattle.seq_state.specs.Access.{Slot, Target, Under, InRoot, usable, linked, root_slot, reached}
-use Rattle.seq_state.proofs.Facts.{some_inj, none_some}
-use Rattle.seq_state.specs.Relies.{Relies}
+use Rattle.kernel_rules.specs.Access.{Slot, Target, Under, InRoot, usable, linked, root_slot, reached}
+use Rattle.kernel_rules.proofs.Facts.{some_inj, none_some}
+use Rattle.kernel_rules.specs.Relies.{Relies}
 use Rattle.kernel_history.specs.Trace.{Step, Trace, Open, phase, state_after, own_left}
 use Rattle.kernel_history.specs.Justified.{HasReached}
 use Rattle.kernel_history.specs.Legal.{IsLegal}

@@ -10,9 +10,9 @@ use Rattle.entry_words.specs.declared.entry.Entry.{Entry}
 use Rattle.entry_words.specs.declared.entry.Entry.TheVariants.{Free, Held, Closing, Quiescing}
 use Rattle.entry_words.specs.EntryWord.{entry_of_word}
 use Rattle.word_map.specs.Word.{EntryAt}
-use Rattle.seq_state.specs.State.{comp_of}
-use Rattle.seq_state.specs.Access.{Slot, found, root_at, Under, any, only, place_at, held_in, has_no_slot, own}
-use Rattle.seq_state.specs.Rules.{RuleMay, Change, Judged, Refused, Found, IsFoundAnd, named, name_of, outcome, answers}
+use Rattle.kernel_rules.specs.State.{comp_of}
+use Rattle.kernel_rules.specs.Access.{Slot, found, root_at, Under, any, only, place_at, held_in, has_no_slot, own}
+use Rattle.kernel_rules.specs.Rules.{RuleMay, Change, Judged, Refused, Found, IsFoundAnd, named, name_of, outcome, answers}
 use Rattle.kernel_history.specs.Trace.{Step, Trace, Open, phase, state_after, last_left}
 use Rattle.kernel_history.specs.Ways.{wide_way_to}
 use Rattle.kernel_history.specs.Justified.{is_slot_in}
@@ -30,7 +30,7 @@ use Rattle.flight.proofs.Carries.{found_on, names_on}
 use Rattle.flight.proofs.Lookups.{Shows, ShowsHeld, Arrives, slot_left, slot_right, under_step}
 use Rattle.flight.proofs.Findings.{past_slot, reaches_none, reaches_held, reaches_other, use_held, found_named, arriving, reached_now, found_now}
 use Rattle.spk_nums.specs.declared.kinds.Kind.TheVariants.{Table}
-use Rattle.seq_state.specs.Rules.{slot_of}
+use Rattle.kernel_rules.specs.Rules.{slot_of}
 use Rattle.kernel_history.proofs.Stays.{relies_usable}
 use Rattle.flight.specs.Knows.{HasNames}
 use Rattle.flight.proofs.LookLeaves.{at_stage, LookGood, table_is, own_no_slot, own_way, own_reached, room_is, open_is, TakesAt, empty_at, no_slot_at, wrong_at, occupied_at, goes_at}
@@ -49,8 +49,8 @@ table_kind kind.Tcap = refl
 table_kind kind.Link = refl
 table_kind kind.Page = refl
 
-table_names : (k : Kind) → only kind.Table k ≡ true → IsTrue (Rattle.seq_state.proofs.Stays.names_node k)
-table_names k is = subst (λ j. IsTrue (Rattle.seq_state.proofs.Stays.names_node j)) (sym (Rattle.seq_state.proofs.Sound.only_is kind.Table k is)) refl
+table_names : (k : Kind) → only kind.Table k ≡ true → IsTrue (Rattle.kernel_rules.proofs.Stays.names_node k)
+table_names k is = subst (λ j. IsTrue (Rattle.kernel_rules.proofs.Stays.names_node j)) (sym (Rattle.kernel_rules.proofs.Sound.only_is kind.Table k is)) refl
 
 module _ (setup : Setting) (setting : IsSetting setup) (cores : ℕ → Core) (t : Trace) (stands : Stands setup cores t) (c : ℕ) (here : c < setup.cores)
     (a u b steps : ℕ) (look : Look) where
@@ -172,7 +172,7 @@ module _ (setup : Setting) (setting : IsSetting setup) (cores : ℕ → Core) (t
           free = reads;
         })
     target_done at (Held i) arrives reads shows = occupied_at setup setting cores t stands c here (Copy a u b) steps (target_want k) look flight at
-        (inr (inr (inl (subst (λ x. Rattle.seq_state.specs.Rules.ReachesHeld (state_after setup t) c (Under x b)) (sym root_is) (reaches_held (state_after setup t) c (Under (found j) b) at i arrives.reached shows.holds)))))
+        (inr (inr (inl (subst (λ x. Rattle.kernel_rules.specs.Rules.ReachesHeld (state_after setup t) c (Under x b)) (sym root_is) (reaches_held (state_after setup t) c (Under (found j) b) at i arrives.reached shows.holds)))))
     target_done at (Closing d) arrives reads shows = absurd shows
     target_done at (Quiescing s) arrives reads shows = absurd (stands.none_removed at.node at.index shows.held shows.removed)
 

@@ -4,7 +4,7 @@ use Rattle.std.proofs.lemmas.Bool.{leb-true, leb-false}
 use Rattle.spk_nums.specs.Bounds.{bound_of_retype, bound_of_make, bound_of}
 use Rattle.spk_nums.specs.Capability.{Capability}
 use Rattle.spk_nums.specs.Setting.{Setting, IsSetting}
-use Rattle.spk_nums.specs.Built.{IsBuilt}
+use Rattle.supported_calls.specs.Built.{IsBuilt}
 use Rattle.spk_nums.specs.CallLimits.{InLimits}
 use Rattle.spk_nums.specs.declared.kinds.Kind.{Kind}
 use Rattle.spk_nums.specs.declared.kinds.Kind.TheVariants.{Table}
@@ -20,7 +20,7 @@ use Rattle.entry_words.specs.declared.entry.Entry.{Entry}
 use Rattle.entry_words.specs.declared.entry.Entry.TheVariants.{Free, Held, Closing, Quiescing}
 use Rattle.word_map.specs.Places.{Shape, IsIn}
 use Rattle.word_map.specs.Moves.{word_of}
-use Rattle.seq_state.specs.Laws.{calls_counted}
+use Rattle.kernel_rules.specs.Laws.{calls_counted}
 use Rattle.stage_look.specs.Shown.{end_of_frames, CapNames, EntryNames, shown_in, is_link}
 use Rattle.stage_look.specs.Lookup.{LookFits, end_by_link, place_end, after_link}
 use Rattle.stage_look.specs.declared.look.Look.{Look}

@@ -1,19 +1,19 @@
 -- The entry of a call is good: its calls are spent, its first name has no slot, or it looks that name up.
 use Rattle.std.proofs.Common.{◌≡◌, inl, ℕ, ◌+◌, ◌<◌, ◌≤◌, ◌∷◌, Bool, true, false, nat_le, Some, None, arith, refl, sym, ◌∙◌, ap, subst, IsTrue}
 use Rattle.std.proofs.lemmas.Bool.{leb-true}
-use Rattle.spk_nums.specs.Built.{IsBuilt}
+use Rattle.supported_calls.specs.Built.{IsBuilt}
 use Rattle.spk_nums.specs.Setting.{Setting, IsSetting}
 use Rattle.spk_nums.specs.declared.calls.Call.{Call}
 use Rattle.spk_nums.specs.declared.calls.Call.TheVariants.{Look as look_call, Copy}
 use Rattle.spk_nums.specs.declared.replies.Reply.TheVariants as reply
 use Rattle.word_map.specs.Word.{CoreAt}
-use Rattle.seq_state.specs.State.{State, comp_of}
-use Rattle.seq_state.specs.Access.{root_at, has_no_slot, own}
-use Rattle.seq_state.specs.Relies.{Relies}
-use Rattle.seq_state.specs.GracePeriods.{entered}
-use Rattle.seq_state.specs.Rules.{RuleMay}
-use Rattle.seq_state.specs.CallRelation.{rule_of, are_calls_spent, counted}
-use Rattle.seq_state.proofs.Within.{put_same}
+use Rattle.kernel_rules.specs.State.{State, comp_of}
+use Rattle.kernel_rules.specs.Access.{root_at, has_no_slot, own}
+use Rattle.kernel_rules.specs.Relies.{Relies}
+use Rattle.kernel_rules.specs.GracePeriods.{entered}
+use Rattle.kernel_rules.specs.Rules.{RuleMay}
+use Rattle.kernel_rules.specs.CallRelation.{rule_of, are_calls_spent, counted}
+use Rattle.kernel_rules.proofs.Within.{put_same}
 use Rattle.kernel_history.specs.Trace.{Step, Trace, Out, Open, phase, state_after, last_left}
 use Rattle.kernel_history.specs.Legal.{MayFollow}
 use Rattle.kernel_history.proofs.Steps.{phase-own}

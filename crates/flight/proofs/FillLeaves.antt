@@ -14,16 +14,16 @@ use Rattle.entry_words.specs.declared.entry.Entry.TheVariants.{Free, Held, Closi
 use Rattle.entry_words.specs.EntryWord.{word_of_entry, entry_of_word}
 use Rattle.entry_words.proofs.Spelling.{spelling}
 use Rattle.word_map.specs.Word.{EntryAt}
-use Rattle.word_map.specs.Moves.{left_if}
-use Rattle.seq_state.specs.State.{Place, Free as Vacant, Holds, Quiescing as Removed, Frame, Kernel, Table, Leaf, Pages, Pleaf, Thing, PlaceOf, State, with_place}
-use Rattle.seq_state.specs.Access.{Slot, found, Target, Under, any, only, place_at, own}
-use Rattle.seq_state.specs.Rules.{Found, IsFoundAnd, Vacant as to_be_free, Does, Name, and_then, or_refuse, unless, not_vacant, named, name_of, vacant, outcome, fills}
-use Rattle.seq_state.specs.CapabilityCalls.{copy_rule}
-use Rattle.seq_state.specs.CallRelation.{changed, change_of, counted, begins_in, state_by}
-use Rattle.seq_state.specs.Laws.{calls_counted}
-use Rattle.seq_state.specs.Relies.{is_node}
-use Rattle.seq_state.proofs.Within.{put_same}
-use Rattle.seq_state.proofs.Apart.{slot_is, place_here, place_there}
+use Rattle.spk_nums.specs.WordSteps.{left_if}
+use Rattle.kernel_rules.specs.State.{Place, Free as Vacant, Holds, Quiescing as Removed, Frame, Kernel, Table, Leaf, Pages, Pleaf, Thing, PlaceOf, State, with_place}
+use Rattle.kernel_rules.specs.Access.{Slot, found, Target, Under, any, only, place_at, own}
+use Rattle.kernel_rules.specs.Rules.{Found, IsFoundAnd, Vacant as to_be_free, Does, Name, and_then, or_refuse, unless, not_vacant, named, name_of, vacant, outcome, fills}
+use Rattle.kernel_rules.specs.CapabilityCalls.{copy_rule}
+use Rattle.kernel_rules.specs.CallRelation.{changed, change_of, counted, begins_in, state_by}
+use Rattle.kernel_rules.specs.Laws.{calls_counted}
+use Rattle.kernel_rules.specs.Relies.{is_node}
+use Rattle.kernel_rules.proofs.Within.{put_same}
+use Rattle.kernel_rules.proofs.Apart.{slot_is, place_here, place_there}
 use Rattle.kernel_history.specs.Trace.{Step, Trace, Open, phase, state_after, state_decided_in, last_left, own_left}
 use Rattle.kernel_history.specs.Ways.{way_to, ways, target_of}
 use Rattle.kernel_history.specs.Justified.{HasReached, IsSlot}
@@ -48,7 +48,7 @@ use Rattle.flight.proofs.LookLeaves.{at_stage, table_is}
 
 -- The change of a copy whose names are found and whose target is free.
 module _ (s : State) (c a u b : ℕ) (k j : Capability) (at : Slot) (first : named s c a any ≡ Found k) (second : named s c u (only kind.Table) ≡ Found j)
-    (reached_at : Rattle.seq_state.specs.Access.reached s c (Under (found j) b) ≡ Some at) (free : place_at s at ≡ Vacant) where
+    (reached_at : Rattle.kernel_rules.specs.Access.reached s c (Under (found j) b) ≡ Some at) (free : place_at s at ≡ Vacant) where
   vacant_is : vacant s c (Under (found j) b) ≡ Found at
   vacant_is =
       ap (λ o. and_then (or_refuse o reply.NoSlot) λ at. unless (not_vacant s c (PlaceOf at.node at.index) (place_at s at)) at) reached_at
@@ -56,7 +56,7 @@ module _ (s : State) (c a u b : ℕ) (k j : Capability) (at : Slot) (first : nam
 
   pub copy_change : change_of s c (Copy a u b) ≡ Found (fills s at k)
   copy_change =
-      ap (λ x. and_then x λ k. outcome s c (Name u (only kind.Table) λ table. to_be_free (Under table b) λ at. Does [] (fills s at (Rattle.seq_state.specs.Access.capability (found k))))) first
+      ap (λ x. and_then x λ k. outcome s c (Name u (only kind.Table) λ table. to_be_free (Under table b) λ at. Does [] (fills s at (Rattle.kernel_rules.specs.Access.capability (found k))))) first
       ∙ ap (λ x. and_then x λ j. outcome s c (to_be_free (Under (found j) b) λ at. Does [] (fills s at k))) second
       ∙ ap (λ x. and_then x λ at. outcome s c (Does [] (fills s at k))) vacant_is
 
@@ -120,7 +120,7 @@ module _ (setup : Setting) (setting : IsSetting setup) (cores : ℕ → Core) (t
   in_node = (slot_relies setup setting t stands.legal c (Copy a u b) is_open (Under (found knows.root) b) slot knows.way).node
 
   target_slot : target_of s c (copy_rule s a u b) ≡ Some slot
-  target_slot = ap (λ x. Rattle.seq_state.specs.Access.reached s c (Under (name_of x) b)) second_is ∙ knows.way.reached
+  target_slot = ap (λ x. Rattle.kernel_rules.specs.Access.reached s c (Under (name_of x) b)) second_is ∙ knows.way.reached
 
   -- lost
   lost : was ≢ word → GoodTook setup cores t c f (EntryAt node index) was was (took_fill false)

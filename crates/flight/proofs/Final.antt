@@ -10,9 +10,9 @@ use Rattle.tcap_words.specs.Quality.{quality_of_word}
 use Rattle.tcap_words.specs.Stack.{stack_of_word}
 use Rattle.frame_words.specs.declared.live_word.LiveWord.{LiveWord}
 use Rattle.word_map.specs.Word.{Word, EntryAt, FrameAt, CoreAt, LiveAt}
-use Rattle.seq_state.specs.State.{Place, Free, Holds, Quiescing, Blank, Table, Leaf, Pages, Pleaf, Comp, Thread, Tcap, Frame, Untyped, User, Kernel, Liveness, Unused, Live, Dead, PlaceOf, NumberOf, State}
-use Rattle.seq_state.specs.Access.{held_in}
-use Rattle.seq_state.specs.Relies.{is_node as is_sound_node}
+use Rattle.kernel_rules.specs.State.{Place, Free, Holds, Quiescing, Blank, Table, Leaf, Pages, Pleaf, Comp, Thread, Tcap, Frame, Untyped, User, Kernel, Liveness, Unused, Live, Dead, PlaceOf, NumberOf, State}
+use Rattle.kernel_rules.specs.Access.{held_in}
+use Rattle.kernel_rules.specs.Relies.{is_node as is_sound_node}
 use Rattle.kernel_history.specs.ObjectWords.{is_node, at_height}
 use Rattle.kernel_history.specs.FinalWords.{SaysPlace, AreFrame, SaysNumber, end_of as end_in}
 use Rattle.kernel_history.specs.Moments.{EntrySays, CoreSays}
@@ -146,7 +146,7 @@ represents setup setting cores t stands between = record {
   ends = λ c here. ends_are (cores c) (state_after setup t) c (works c here);
 }
   where
-    limits : (state_after setup t).limits ≡ (Rattle.seq_state.specs.Start.start setup).limits
+    limits : (state_after setup t).limits ≡ (Rattle.kernel_rules.specs.Start.start setup).limits
     limits = Rattle.flight.proofs.Sounds.limits_of setup t
 
     works : (c : ℕ) → c < (state_after setup t).limits.cores → WorksIn (cores c) (state_after setup t) c

@@ -10,9 +10,9 @@ use Rattle.spk_nums.specs.declared.replies.Reply.TheVariants as reply
 use Rattle.entry_words.specs.EntryWord.{EntryFits}
 use Rattle.entry_words.specs.declared.entry.Entry.TheVariants.{Held}
 use Rattle.word_map.specs.Word.{EntryAt}
-use Rattle.seq_state.specs.State.{Holds, PlaceOf, State, comp_of}
-use Rattle.seq_state.specs.Access.{Slot, Named, found, Target, Under, InRoot, place_at, held_in, usable_in, usable, reached, has_no_slot, own}
-use Rattle.seq_state.specs.Rules.{Found, and_then, or_refuse, of_kind, named, name_of, ReachesNone, ReachesHeld, ReachesOther}
+use Rattle.kernel_rules.specs.State.{Holds, PlaceOf, State, comp_of}
+use Rattle.kernel_rules.specs.Access.{Slot, Named, found, Target, Under, InRoot, place_at, held_in, usable_in, usable, reached, has_no_slot, own}
+use Rattle.kernel_rules.specs.Rules.{Found, and_then, or_refuse, of_kind, named, name_of, ReachesNone, ReachesHeld, ReachesOther}
 use Rattle.kernel_history.specs.Trace.{Step, Trace, state_after, own_left}
 use Rattle.kernel_history.specs.Ways.{root_passed, way_to}
 use Rattle.kernel_history.specs.Justified.{HasReached}
@@ -28,7 +28,7 @@ own_is s c table n is = ap (λ (x : ℕ). own_in x n) is
 
 -- A number past its range has no slot.
 pub past_slot : (s : State) (table : Named) (n : ℕ) → nat_le n 4095 ≡ false → IsTrue (has_no_slot s (Under table n))
-past_slot s table n past = ap (λ b. b || (table.found && not (Rattle.seq_state.specs.Access.holds_link (place_at s (Rattle.seq_state.specs.Access.root_slot table.frame n))))) (lt-ltb 4095 n (leb-false n 4095 past))
+past_slot s table n past = ap (λ b. b || (table.found && not (Rattle.kernel_rules.specs.Access.holds_link (place_at s (Rattle.kernel_rules.specs.Access.root_slot table.frame n))))) (lt-ltb 4095 n (leb-false n 4095 past))
 
 -- A place that is reached holds nothing, or something, or a capability of another kind.
 some_and : {A : Type 0} (P : A → Type 0) (o : Option A) (x : A) → o ≡ Some x → P x → IsSomeAnd o P
@@ -55,7 +55,7 @@ pub named_of : (s : State) (c n : ℕ) (wanted : Kind → Bool) (at : Slot) (k :
 named_of s c n wanted at k r u w =
     ap (λ x. and_then (or_refuse x reply.NoSlot) λ at. and_then (or_refuse (usable s c at) reply.Empty) λ k. of_kind wanted k) r
     ∙ ap (λ x. and_then (or_refuse x reply.Empty) λ k. of_kind wanted k) u
-    ∙ ap (λ b. if b then Found k else Rattle.seq_state.specs.Rules.Refused reply.WrongCap) w
+    ∙ ap (λ b. if b then Found k else Rattle.kernel_rules.specs.Rules.Refused reply.WrongCap) w
 
 pub found_named : (setup : Setting) (t : Trace) (c table n : ℕ) (wanted : Kind → Bool) (k : Capability) → table ≡ (comp_of (state_after setup t) c).table
     → HasFound setup t c (own_in table n) wanted k → named (state_after setup t) c n wanted ≡ Found k

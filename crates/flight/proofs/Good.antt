@@ -5,15 +5,15 @@ use Rattle.spk_nums.specs.Capability.{Capability}
 use Rattle.spk_nums.specs.Setting.{Setting, IsSetting}
 use Rattle.spk_nums.specs.declared.calls.Call.{Call}
 use Rattle.word_map.specs.Word.{Word, EntryAt}
-use Rattle.seq_state.specs.State.{Quiescing, put, first_of_stack}
-use Rattle.seq_state.proofs.Within.{put_same, put_other}
+use Rattle.kernel_rules.specs.State.{Quiescing, put, first_of_stack}
+use Rattle.kernel_rules.proofs.Within.{put_same, put_other}
 use Rattle.kernel_history.specs.Trace.{Step, Trace, Open, phase, state_after}
 use Rattle.kernel_history.specs.Bounds.{IsWithin}
 use Rattle.kernel_history.specs.Legal.{MayFollow}
 use Rattle.kernel_history.specs.Stamps.{is_in, clock}
 use Rattle.kernel_history.proofs.Steps.{phase-other, calls_of-other, steps_in_call-other, own_left-other, exit_of-other, flush_of-other, flush_stored-other}
 use Rattle.kernel_history.specs.Graces.{KeepsTime, LeavesBy}
-use Rattle.seq_state.proofs.Stays.{OwnStay}
+use Rattle.kernel_rules.proofs.Stays.{OwnStay}
 use Rattle.kernel_history.proofs.Stays.{own_stays_other}
 use Rattle.kernel_history.proofs.Inside.{inside_is}
 use Rattle.kernel_history.proofs.GraceSteps.{grace_on, times_on}

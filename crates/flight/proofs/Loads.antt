@@ -6,10 +6,10 @@ use Rattle.spk_nums.specs.Setting.{Setting, IsSetting}
 use Rattle.spk_nums.specs.declared.calls.Call.{Call}
 use Rattle.spk_nums.specs.declared.replies.Reply.{Reply}
 use Rattle.word_map.specs.Word.{Word, FlushAt, ClockAt, same_word}
-use Rattle.seq_state.specs.State.{Thing}
-use Rattle.seq_state.specs.CallRelation.{MayReply, state_by, counted, begins, ends, flushes}
-use Rattle.seq_state.specs.Laws.{calls_counted}
-use Rattle.seq_state.proofs.Within.{put_same}
+use Rattle.kernel_rules.specs.State.{Thing}
+use Rattle.kernel_rules.specs.CallRelation.{MayReply, state_by, counted, begins, ends, flushes}
+use Rattle.kernel_rules.specs.Laws.{calls_counted}
+use Rattle.kernel_rules.proofs.Within.{put_same}
 use Rattle.kernel_history.proofs.Inside.{decided-inside}
 use Rattle.kernel_history.specs.Trace.{Step, Trace, Out, Open, phase, after_decide, after_return, state_after, state_decided_in, last_left, steps_in_call}
 use Rattle.kernel_history.specs.Bounds.{call_in, IsWithin}

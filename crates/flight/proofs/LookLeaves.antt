@@ -13,11 +13,11 @@ use Rattle.entry_words.specs.declared.entry.Entry.TheVariants.{Free, Held, Closi
 use Rattle.entry_words.specs.EntryWord.{entry_of_word}
 use Rattle.word_map.specs.Word.{EntryAt}
 use Rattle.word_map.specs.Moves.{word_of}
-use Rattle.seq_state.specs.State.{Thing, State, comp_of}
-use Rattle.seq_state.specs.Access.{Slot, Named, found, root_at, Target, Under, any, only, place_at, held_in, has_no_slot, own}
-use Rattle.seq_state.specs.Rules.{RuleMay, Change, Judged, Refused, Found, IsFoundAnd, named, name_of, outcome, answers}
-use Rattle.seq_state.specs.CapabilityCalls.{look_rule}
-use Rattle.seq_state.specs.CallRelation.{rule_of, changed, change_of, counted, begins_in}
+use Rattle.kernel_rules.specs.State.{Thing, State, comp_of}
+use Rattle.kernel_rules.specs.Access.{Slot, Named, found, root_at, Target, Under, any, only, place_at, held_in, has_no_slot, own}
+use Rattle.kernel_rules.specs.Rules.{RuleMay, Change, Judged, Refused, Found, IsFoundAnd, named, name_of, outcome, answers}
+use Rattle.kernel_rules.specs.CapabilityCalls.{look_rule}
+use Rattle.kernel_rules.specs.CallRelation.{rule_of, changed, change_of, counted, begins_in}
 use Rattle.kernel_history.specs.Trace.{Step, Trace, Open, phase, state_after, last_left, own_left}
 use Rattle.kernel_history.specs.Ways.{wide_way_to, way_to}
 use Rattle.kernel_history.specs.Justified.{HasReached, is_slot_in}
@@ -56,7 +56,7 @@ LookGood setup cores t c f want look =
 -- A look that has found its capability answers it.
 module _ (s : State) (c a : ℕ) (k : Capability) (is : named s c a any ≡ Found k) where
   pub look_change : change_of s c (look_call a) ≡ Found (answers s (Cap k))
-  look_change = ap (λ x. Rattle.seq_state.specs.Rules.and_then x λ k. outcome s c (Rattle.seq_state.specs.Rules.Does [] (answers s (Cap (Rattle.seq_state.specs.Access.capability (found k)))))) is
+  look_change = ap (λ x. Rattle.kernel_rules.specs.Rules.and_then x λ k. outcome s c (Rattle.kernel_rules.specs.Rules.Does [] (answers s (Cap (Rattle.kernel_rules.specs.Access.capability (found k)))))) is
 
   pub look_state : counted (changed s (change_of s c (look_call a))) c ≡ counted s c
   look_state = ap (λ x. counted (changed s x) c) look_change
@@ -78,8 +78,8 @@ module _ (setup : Setting) (setting : IsSetting setup) (cores : ℕ → Core) (t
       → is_slot_in (wide_way_to (state_after setup t) (own (state_after setup t) c n)) g i ≡ true
   own_way n g i h = subst (λ x. is_slot_in (wide_way_to (state_after setup t) x) g i ≡ true) (own_is (state_after setup t) c (cores c).table n table_is) h
 
-  pub own_reached : (n : ℕ) (at : Slot) → Arrives setup t c (own_in (cores c).table n) at → Rattle.seq_state.specs.Access.reached (state_after setup t) c (own (state_after setup t) c n) ≡ Some at
-  own_reached n at arrives = ap (Rattle.seq_state.specs.Access.reached (state_after setup t) c) (sym (own_is (state_after setup t) c (cores c).table n table_is)) ∙ arrives.reached
+  pub own_reached : (n : ℕ) (at : Slot) → Arrives setup t c (own_in (cores c).table n) at → Rattle.kernel_rules.specs.Access.reached (state_after setup t) c (own (state_after setup t) c n) ≡ Some at
+  own_reached n at arrives = ap (Rattle.kernel_rules.specs.Access.reached (state_after setup t) c) (sym (own_is (state_after setup t) c (cores c).table n table_is)) ∙ arrives.reached
 
   -- A call that has loaded the place for which it looked: it is refused, or goes on.
   module _ (call : Call) (steps : ℕ) (want : Want) (look : Look) (flight : (cores c).flight ≡ Some (at_stage call steps (Looking want look))) where

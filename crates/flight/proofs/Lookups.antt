@@ -16,11 +16,11 @@ use Rattle.entry_words.specs.EntryWord.{EntryFits, entry_of_word}
 use Rattle.entry_words.proofs.Spelling.{spelling}
 use Rattle.word_map.specs.Word.{EntryAt}
 use Rattle.word_map.specs.Moves.{word_of}
-use Rattle.seq_state.specs.State.{Place, Free as Vacant, Holds, Quiescing as Removed, PlaceOf, State}
-use Rattle.seq_state.specs.Access.{Slot, Named, Target, Under, InRoot, place_at, only, usable_in, usable, linked, slot_in, root_slot, reached, holds_link, has_no_slot}
-use Rattle.seq_state.specs.Rules.{RuleMay}
-use Rattle.seq_state.specs.CallRelation.{rule_of}
-use Rattle.seq_state.specs.Relies.{Relies}
+use Rattle.kernel_rules.specs.State.{Place, Free as Vacant, Holds, Quiescing as Removed, PlaceOf, State}
+use Rattle.kernel_rules.specs.Access.{Slot, Named, Target, Under, InRoot, place_at, only, usable_in, usable, linked, slot_in, root_slot, reached, holds_link, has_no_slot}
+use Rattle.kernel_rules.specs.Rules.{RuleMay}
+use Rattle.kernel_rules.specs.CallRelation.{rule_of}
+use Rattle.kernel_rules.specs.Relies.{Relies}
 use Rattle.kernel_history.specs.Trace.{Step, Trace, Open, phase, state_after, last_left, own_left}
 use Rattle.kernel_history.specs.Ways.{capability_in, led_to, root_passed, wide_way_to, wide_ways}
 use Rattle.kernel_history.specs.Justified.{is_slot_in, HasReached}

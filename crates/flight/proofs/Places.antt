@@ -7,8 +7,8 @@ use Rattle.entry_words.specs.declared.entry.Entry.{Entry}
 use Rattle.entry_words.specs.declared.entry.Entry.TheVariants.{Free, Held, Closing, Quiescing}
 use Rattle.entry_words.specs.EntryWord.{entry_of_word}
 use Rattle.word_map.specs.Word.{Word, EntryAt}
-use Rattle.seq_state.specs.State.{Place, Frame, Kernel, Table, Leaf, Pages, Pleaf, PlaceOf}
-use Rattle.seq_state.specs.Relies.{is_node}
+use Rattle.kernel_rules.specs.State.{Place, Frame, Kernel, Table, Leaf, Pages, Pleaf, PlaceOf}
+use Rattle.kernel_rules.specs.Relies.{is_node}
 use Rattle.kernel_history.specs.Marks.{entry_mark, mark_in_frame}
 use Rattle.kernel_history.specs.Trace.{Trace, Phase, Out, phase, state_after, last_left}
 use Rattle.kernel_history.specs.Stamps.{is_in, stamp}

@@ -1,15 +1,15 @@
 -- The refusals of a call at a load: each leaves all as it was, but counts the call.
 use Rattle.std.proofs.Common.{◌≡◌, ℕ, ◌<◌, false, Some, None, arith, refl, sym, ◌∙◌, ap}
 use Rattle.std.proofs.lemmas.Bool.{false≢true, lt-leb}
-use Rattle.spk_nums.specs.Built.{IsBuilt}
+use Rattle.supported_calls.specs.Built.{IsBuilt}
 use Rattle.spk_nums.specs.Setting.{Setting, IsSetting}
 use Rattle.spk_nums.specs.declared.calls.Call.{Call}
 use Rattle.spk_nums.specs.declared.calls.Call.TheVariants.{Look, Copy}
 use Rattle.spk_nums.specs.declared.replies.Reply.TheVariants as reply
 use Rattle.word_map.specs.Word.{Word, FlushAt, same_word}
-use Rattle.seq_state.specs.State.{State}
-use Rattle.seq_state.specs.Rules.{RuleMay}
-use Rattle.seq_state.specs.CallRelation.{rule_of, are_calls_spent, owed_by, counted}
+use Rattle.kernel_rules.specs.State.{State}
+use Rattle.kernel_rules.specs.Rules.{RuleMay}
+use Rattle.kernel_rules.specs.CallRelation.{rule_of, are_calls_spent, owed_by, counted}
 use Rattle.kernel_history.specs.Marks.{mark_of}
 use Rattle.kernel_history.specs.Trace.{Step, Trace, Open, state_after, last_left}
 use Rattle.kernel_history.specs.Justified.{IsOnWay, IsRaceLost}

@@ -1,8 +1,8 @@
 -- The limits of the state after a trace are those of the setup.
 use Rattle.std.proofs.Common.{◌≡◌, ◌∙◌, ap}
 use Rattle.spk_nums.specs.Setting.{Setting}
-use Rattle.seq_state.specs.Start.{start}
-use Rattle.seq_state.proofs.SoundRuns.{limits_stay}
+use Rattle.kernel_rules.specs.Start.{start}
+use Rattle.kernel_rules.proofs.SoundRuns.{limits_stay}
 use Rattle.kernel_history.specs.Trace.{Trace, state_after}
 use Rattle.kernel_history.specs.Events.{events_of}
 use Rattle.kernel_history.proofs.Events.{state_is}

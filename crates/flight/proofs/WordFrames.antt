@@ -3,8 +3,8 @@ use Rattle.std.proofs.Common.{◌≡◌, ◌≢◌, inl, inr, ℕ, Bool, true, f
 use Rattle.std.proofs.lemmas.Bool.{cases_eq}
 use Rattle.spk_nums.specs.Setting.{Setting}
 use Rattle.word_map.specs.Word.{Word, EntryAt, FrameAt, CountAt, CoreAt, FlushAt, LiveAt, ClockAt}
-use Rattle.seq_state.specs.State.{Place, Frame, Liveness, PlaceOf, NumberOf, State, put}
-use Rattle.seq_state.proofs.Within.{put_same, put_other}
+use Rattle.kernel_rules.specs.State.{Place, Frame, Liveness, PlaceOf, NumberOf, State, put}
+use Rattle.kernel_rules.proofs.Within.{put_same, put_other}
 use Rattle.frame_words.specs.Live.{live_of_word}
 use Rattle.kernel_history.specs.ObjectWords.{frame_value}
 use Rattle.kernel_history.specs.Marks.{mark_of, mark_in_frame}

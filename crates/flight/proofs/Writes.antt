@@ -11,10 +11,10 @@ use Rattle.spk_nums.specs.declared.replies.Reply.{Reply}
 use Rattle.frame_words.specs.Core.{core_of_word}
 use Rattle.frame_words.proofs.CoreLemmas.{spelling}
 use Rattle.word_map.specs.Word.{EntryAt, CoreAt}
-use Rattle.seq_state.specs.State.{Quiescing}
-use Rattle.seq_state.specs.References.{sum_below}
-use Rattle.seq_state.specs.GracePeriods.{returned}
-use Rattle.seq_state.proofs.Within.{put_same}
+use Rattle.kernel_rules.specs.State.{Quiescing}
+use Rattle.kernel_rules.specs.References.{sum_below}
+use Rattle.kernel_rules.specs.GracePeriods.{returned}
+use Rattle.kernel_rules.proofs.Within.{put_same}
 use Rattle.kernel_history.specs.Trace.{Step, Trace, Out, Open, Decided, phase, after_decide, state_after, last_left, steps_in_call}
 use Rattle.kernel_history.specs.Legal.{MayDecide}
 use Rattle.kernel_history.specs.Marks.{mark_of}

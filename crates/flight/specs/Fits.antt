@@ -1,7 +1,7 @@
 -- What holds of a core at every moment: its numbers are in range, and its call keeps within its bound of steps.
 use Rattle.std.specs.Prelude.{ℕ, ◌+◌, ◌<◌, ◌≤◌, Option, Some, None}
 use Rattle.spk_nums.specs.Bounds.{bound_of}
-use Rattle.spk_nums.specs.Built.{IsBuilt}
+use Rattle.supported_calls.specs.Built.{IsBuilt}
 use Rattle.spk_nums.specs.CallLimits.{InLimits}
 use Rattle.spk_nums.specs.declared.calls.Call.{Call}
 use Rattle.spk_nums.specs.declared.calls.Call.TheVariants.{Look as look_call, Copy}

@@ -9,9 +9,9 @@ use Rattle.spk_nums.specs.declared.calls.Call.TheVariants.{Look as look_call, Co
 use Rattle.entry_words.specs.EntryWord.{EntryFits, entry_of_word}
 use Rattle.entry_words.specs.declared.entry.Entry.TheVariants as entry
 use Rattle.word_map.specs.Word.{EntryAt}
-use Rattle.seq_state.specs.State.{State, first_of_stack, thread_of, comp_of}
-use Rattle.seq_state.specs.Access.{Slot, Named, found, root_at, Target, Under, InRoot, any, only, usable, linked, root_slot, reached}
-use Rattle.seq_state.specs.Relies.{Relies}
+use Rattle.kernel_rules.specs.State.{State, first_of_stack, thread_of, comp_of}
+use Rattle.kernel_rules.specs.Access.{Slot, Named, found, root_at, Target, Under, InRoot, any, only, usable, linked, root_slot, reached}
+use Rattle.kernel_rules.specs.Relies.{Relies}
 use Rattle.kernel_history.specs.Graces.{IsLeave}
 use Rattle.kernel_history.specs.BootWords.{shape_of}
 use Rattle.kernel_history.specs.Trace.{Trace, Phase, Out, Open, Decided, phase, state_after, own_left, steps_in_call}

@@ -3,8 +3,8 @@ use Rattle.std.specs.Prelude.{◌≡◌, ◌≢◌, ◌+◌, ◌<◌, ◌≤◌,
 use Rattle.spk_nums.specs.Capability.{Capability}
 use Rattle.spk_nums.specs.Setting.{Setting}
 use Rattle.word_map.specs.Word.{Word}
-use Rattle.seq_state.specs.State.{Quiescing, Thing, State}
-use Rattle.seq_state.specs.References.{sum_below}
+use Rattle.kernel_rules.specs.State.{Quiescing, Thing, State}
+use Rattle.kernel_rules.specs.References.{sum_below}
 use Rattle.kernel_history.specs.Trace.{Trace, Out, phase, calls_of, state_after}
 use Rattle.kernel_history.specs.Legal.{IsLegal}
 use Rattle.kernel_history.specs.Bounds.{KeepsBounds}

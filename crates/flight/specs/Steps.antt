@@ -5,7 +5,7 @@ use Rattle.spk_nums.specs.declared.calls.Call.{Call}
 use Rattle.spk_nums.specs.declared.translations.CoreEnd.{CoreEnd}
 use Rattle.word_map.specs.Word.{ClockAt}
 use Rattle.word_map.specs.Moves.{Move, LoadOf}
-use Rattle.seq_state.specs.Laws.{calls_counted}
+use Rattle.kernel_rules.specs.Laws.{calls_counted}
 use Rattle.flight.specs.declared.stages.Stage.{Stage}
 use Rattle.flight.specs.declared.stages.Stage.TheVariants.{Enter}
 use Rattle.flight.specs.declared.stages.InFlight.{InFlight}

@@ -1,12 +1,12 @@
 -- What is proved of the cores that stand for a trace.
 use Rattle.std.specs.Prelude.{Bool, ◌≡◌, ◌<◌, ℕ, true, false, [], ◌∷◌, Option, Some, None, IsSome}
-use Rattle.spk_nums.specs.Built.{IsBuilt}
+use Rattle.supported_calls.specs.Built.{IsBuilt}
 use Rattle.spk_nums.specs.CallLimits.{InLimits}
 use Rattle.spk_nums.specs.Setting.{Setting, IsSetting}
 use Rattle.spk_nums.specs.declared.calls.Call.{Call}
 use Rattle.spk_nums.specs.declared.replies.Reply.{Reply}
 use Rattle.word_map.specs.Moves.{Move, word_of, left_of, told_of}
-use Rattle.seq_state.specs.State.{put}
+use Rattle.kernel_rules.specs.State.{put}
 use Rattle.kernel_history.specs.Trace.{Step, Trace, state_after, last_left}
 use Rattle.kernel_history.specs.FinalWords.{Represent}
 use Rattle.kernel_history.specs.Moments.{WordsSay}

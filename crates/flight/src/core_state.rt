@@ -1,11 +1,12 @@
 //! The state of a core: where it works, what it has counted, and the call in flight.
 
 ghost use Rattle.std.specs.Prelude.{◌≡◌, ◌<◌, ◌≤◌, None, IsSome, IsSomeAnd, IsTrue, ◌↔◌, option_map};
-ghost use Rattle.spk_nums.specs.Built.{IsBuilt};
+ghost use Rattle.supported_calls.specs.Built.{IsBuilt};
 ghost use Rattle.spk_nums.specs.CallLimits.{InLimits};
 ghost use Rattle.word_map.specs.Places.{size_of};
-ghost use Rattle.word_map.specs.Moves.{op_of, place_in};
-ghost use Rattle.seq_state.specs.Laws.{calls_counted};
+ghost use Rattle.word_map.specs.Moves.{op_of};
+ghost use Rattle.spk_nums.specs.WordSteps.{place_in};
+ghost use Rattle.kernel_rules.specs.Laws.{calls_counted};
 ghost use Rattle.flight.specs.Steps.{started, end_of, begun, move_of, ready_of, went, absorbed, told_of_step};
 ghost use Rattle.flight.specs.Fits.{IsCore, steps_left};
 

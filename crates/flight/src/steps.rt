@@ -24,7 +24,8 @@ ghost use Rattle.std.specs.Prelude.{◌≡◌, ◌<◌, nat_le};
 ghost use Rattle.entry_words.specs.EntryWord.{word_of_entry};
 ghost use Rattle.entry_words.specs.declared.entry.Entry.TheVariants.{Held};
 ghost use Rattle.word_map.specs.Places.{size_of};
-ghost use Rattle.word_map.specs.Moves.{op_of, place_in};
+ghost use Rattle.word_map.specs.Moves.{op_of};
+ghost use Rattle.spk_nums.specs.WordSteps.{place_in};
 ghost use Rattle.flight.specs.Stages.{core_word, stage_move, decide, looks, took_enter, first_held, took_first, is_table, second_held, took_second, took_target, took_found, took_end, took_fill, stamp_of, stage_took, decides_at, is_last, stage_ready};
 ghost use Rattle.flight.specs.Fits.{StageFits};
 

@@ -4,14 +4,14 @@ use Rattle.std.proofs.lemmas.Bool.{false≢true}
 use Rattle.spk_nums.specs.Setting.{Setting, IsSetting}
 use Rattle.spk_nums.specs.declared.calls.Call.{Call}
 use Rattle.spk_nums.specs.declared.replies.Reply.{Reply}
-use Rattle.seq_state.specs.State.{Thing, PlaceOf, FrameOf, State}
-use Rattle.seq_state.specs.GracePeriods.{is_paging, is_translated, needs_flush}
-use Rattle.seq_state.specs.CallRelation.{MayReply}
-use Rattle.seq_state.specs.Relies.{is_node}
-use Rattle.seq_state.proofs.SoundRuns.{opened, open_is}
-use Rattle.seq_state.proofs.SoundCalls.{IsOpen}
-use Rattle.seq_state.proofs.FrameTurns.{is_typed, TurnsIn, decided_turns}
-use Rattle.seq_state.proofs.Releases.{begins_typed, ends_begins}
+use Rattle.kernel_rules.specs.State.{Thing, PlaceOf, FrameOf, State}
+use Rattle.kernel_rules.specs.GracePeriods.{is_paging, is_translated, needs_flush}
+use Rattle.kernel_rules.specs.CallRelation.{MayReply}
+use Rattle.kernel_rules.specs.Relies.{is_node}
+use Rattle.kernel_rules.proofs.SoundRuns.{opened, open_is}
+use Rattle.kernel_rules.proofs.SoundCalls.{IsOpen}
+use Rattle.kernel_rules.proofs.FrameTurns.{is_typed, TurnsIn, decided_turns}
+use Rattle.kernel_rules.proofs.Releases.{begins_typed, ends_begins}
 use Rattle.kernel_history.specs.Trace.{Step, Trace, Phase, Out, Open, Decided, phase, after_enter, state_after, state_entered, state_decided, state_returned, state_before}
 use Rattle.kernel_history.specs.Stamps.{begins_in, ends_in, begins_at, ends_at, stamp, awaits_flushes}
 use Rattle.kernel_history.specs.Legal.{MayDecide, MayFollow, IsLegal}

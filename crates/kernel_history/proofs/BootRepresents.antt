@@ -26,9 +26,9 @@ use Rattle.tcap_words.proofs.HeadLemmas as heads
 use Rattle.tcap_words.proofs.QualityLemmas as qualities
 use Rattle.tcap_words.proofs.StackLemmas as stacks
 use Rattle.tcap_words.proofs.ThreadLemmas as threads
-use Rattle.seq_state.specs.State.{Place, Free, Holds, Quiescing, TcapFields, Blank, Table, Leaf, Pages, Pleaf, Comp, Thread, Tcap, Frame, Untyped, User, Kernel}
-use Rattle.seq_state.specs.Start.{start, start_place, start_cap, core_cap, start_frame, start_number, place_with, granted}
-use Rattle.seq_state.specs.References.{refs}
+use Rattle.kernel_rules.specs.State.{Place, Free, Holds, Quiescing, TcapFields, Blank, Table, Leaf, Pages, Pleaf, Comp, Thread, Tcap, Frame, Untyped, User, Kernel}
+use Rattle.kernel_rules.specs.Start.{start, start_place, start_cap, core_cap, start_frame, start_number, place_with, granted}
+use Rattle.kernel_rules.specs.References.{refs}
 use Rattle.kernel_history.specs.ObjectWords.{is_node, frame_value, at_height}
 use Rattle.kernel_history.specs.BootWords.{boot_entry, boot_frame, boot_thread, boot_tcap, boot_live}
 use Rattle.kernel_history.specs.FinalWords.{SaysPlace, AreThread, AreTcap, AreFrame, SaysNumber, HoldNothing}

@@ -5,7 +5,7 @@ use Rattle.std.proofs.lemmas.Bool.{true≢false, cases_eq, eq-eqb, ne_eqb}
 use Rattle.spk_nums.specs.Setting.{Setting, IsSetting}
 use Rattle.spk_nums.specs.declared.calls.Call.{Call}
 use Rattle.word_map.specs.Word.{Word}
-use Rattle.seq_state.specs.State.{Thing, PlaceOf, NumberOf, State}
+use Rattle.kernel_rules.specs.State.{Thing, PlaceOf, NumberOf, State}
 use Rattle.kernel_history.specs.Trace.{Step, Trace, Open, phase, state_after, state_entered, own_left, IfNot, WasAt, WasBefore}
 use Rattle.kernel_history.specs.Stamps.{is_in, stamp, clock}
 use Rattle.kernel_history.specs.Justified.{IsRemoved}

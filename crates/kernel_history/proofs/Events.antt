@@ -5,8 +5,8 @@ use Rattle.spk_nums.specs.declared.calls.Call.{Call}
 use Rattle.spk_nums.specs.declared.replies.Reply.{Reply}
 use Rattle.spk_nums.specs.Setting.{Setting}
 use Rattle.spk_nums.specs.CallLimits.{InLimits}
-use Rattle.seq_state.specs.State.{State}
-use Rattle.seq_state.specs.Runs.{Event, Enters, Decides, Returns, after, core_of, phase_by, phase_of, IsRun}
+use Rattle.kernel_rules.specs.State.{State}
+use Rattle.kernel_rules.specs.Runs.{Event, Enters, Decides, Returns, after, core_of, phase_by, phase_of, IsRun}
 use Rattle.kernel_history.specs.Trace.{Step, Trace, Phase, Out, Open, Decided, phase, after_enter, after_decide, after_return, state_after, state_entered, state_decided, state_returned, state_before}
 use Rattle.kernel_history.specs.Events.{with_entry, with_decision, with_return, events_of, plain_phase}
 use Rattle.kernel_history.specs.Legal.{MayEnter, MayDecide, MayReturn, MayFollow, IsLegal}
@@ -163,8 +163,8 @@ decision_run setup t e (Some r) (Open call) may within is run = (
   record {
     is_open = is;
     in_limits = within;
-    permitted = subst (λ s. Rattle.seq_state.specs.CallRelation.MayReply s e.core call r) (before_is setup t e)
-        (subst (λ k. Rattle.seq_state.specs.CallRelation.MayReply (state_before setup t e) e.core k r) (open_inj call may.call may.is_open) may.permitted);
+    permitted = subst (λ s. Rattle.kernel_rules.specs.CallRelation.MayReply s e.core call r) (before_is setup t e)
+        (subst (λ k. Rattle.kernel_rules.specs.CallRelation.MayReply (state_before setup t e) e.core k r) (open_inj call may.call may.is_open) may.permitted);
   },
 )
   where

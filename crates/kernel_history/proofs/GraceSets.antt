@@ -2,9 +2,9 @@
 use Rattle.std.proofs.Common.{◌≡◌, ◌≢◌, ℕ, ◌<◌, ◌≤◌, arith, Bool, true, false, cond, refl, ◌∙◌, ap, Option, Some, None}
 use Rattle.std.proofs.lemmas.Bool.{false≢true}
 use Rattle.spk_nums.specs.declared.replies.Reply.{Reply}
-use Rattle.seq_state.specs.State.{Grace, put}
-use Rattle.seq_state.specs.GracePeriods.{passed}
-use Rattle.seq_state.proofs.Within.{put_same, put_other}
+use Rattle.kernel_rules.specs.State.{Grace, put}
+use Rattle.kernel_rules.specs.GracePeriods.{passed}
+use Rattle.kernel_rules.proofs.Within.{put_same, put_other}
 use Rattle.kernel_history.specs.Graces.{Fits, FitsFlush}
 
 -- Whether a core is in each of the four sets.

@@ -5,9 +5,9 @@ use Rattle.std.proofs.lemmas.Bool.{cases_eq}
 use Rattle.spk_nums.specs.declared.calls.Call.{Call}
 use Rattle.spk_nums.specs.declared.replies.Reply.{Reply}
 use Rattle.spk_nums.specs.Setting.{Setting}
-use Rattle.seq_state.specs.State.{State}
-use Rattle.seq_state.proofs.Within.{put_same, put_other}
-use Rattle.seq_state.proofs.AloneLaw.{decided_stays}
+use Rattle.kernel_rules.specs.State.{State}
+use Rattle.kernel_rules.proofs.Within.{put_same, put_other}
+use Rattle.kernel_rules.proofs.AloneLaw.{decided_stays}
 use Rattle.kernel_history.specs.Trace.{Step, Trace, Phase, Out, Open, Decided, phase, after_enter, after_decide, after_return, state_after, state_entered, state_decided, state_returned}
 use Rattle.kernel_history.specs.Stamps.{is_in}
 use Rattle.kernel_history.proofs.Steps.{phase-own, phase-other}

@@ -8,8 +8,8 @@ use Rattle.spk_nums.specs.declared.replies.Reply.{Reply}
 use Rattle.spk_nums.specs.declared.replies.Reply.TheVariants as reply
 use Rattle.spk_nums.specs.Setting.{Setting}
 use Rattle.word_map.specs.Word.{Word}
-use Rattle.seq_state.specs.Runs.{after, phase_of}
-use Rattle.seq_state.specs.CallRelation.{rule_of}
+use Rattle.kernel_rules.specs.Runs.{after, phase_of}
+use Rattle.kernel_rules.specs.CallRelation.{rule_of}
 use Rattle.kernel_history.specs.Trace.{Step, Trace, Phase, Out, Open, Decided, phase, after_enter, after_decide, after_return, state_after, state_before, calls_of, last_left, own_left}
 use Rattle.kernel_history.specs.Stamps.{is_in}
 use Rattle.kernel_history.specs.Justified.{IsJustifiedIn, own_left_before}

@@ -11,13 +11,13 @@ use Rattle.spk_nums.specs.declared.calls.Call.TheVariants as call
 use Rattle.spk_nums.specs.declared.replies.Value.TheVariants.{Nothing}
 use Rattle.spk_nums.specs.declared.replies.Reply.{Reply}
 use Rattle.spk_nums.specs.declared.replies.Reply.TheVariants as reply
-use Rattle.seq_state.specs.State.{State}
-use Rattle.seq_state.specs.Start.{start}
-use Rattle.seq_state.specs.References.{sum_below, node_refs, refs}
-use Rattle.seq_state.specs.GracePeriods.{entered}
-use Rattle.seq_state.specs.MemoryCalls.{holds_nothing}
-use Rattle.seq_state.specs.CallRelation.{MayReply}
-use Rattle.seq_state.specs.Alone.{plain_steps}
+use Rattle.kernel_rules.specs.State.{State}
+use Rattle.kernel_rules.specs.Start.{start}
+use Rattle.kernel_rules.specs.References.{sum_below, node_refs, refs}
+use Rattle.kernel_rules.specs.GracePeriods.{entered}
+use Rattle.kernel_rules.specs.MemoryCalls.{holds_nothing}
+use Rattle.kernel_rules.specs.CallRelation.{MayReply}
+use Rattle.kernel_rules.specs.Alone.{plain_steps}
 
 -- Neither of two stands, none of three, and so on.
 neither : {A B : Type 0} → (A → ⊥) → (B → ⊥) → A ⊎ B → ⊥

@@ -11,10 +11,10 @@ use Rattle.spk_nums.specs.declared.calls.Call.TheVariants as call
 use Rattle.spk_nums.specs.declared.replies.Value.TheVariants.{Nothing, Cap}
 use Rattle.spk_nums.specs.declared.replies.Reply.{Reply}
 use Rattle.spk_nums.specs.declared.replies.Reply.TheVariants as reply
-use Rattle.seq_state.specs.References.{sum_below, node_refs, refs}
-use Rattle.seq_state.specs.MemoryCalls.{holds_nothing}
-use Rattle.seq_state.specs.CallRelation.{MayReply}
-use Rattle.seq_state.specs.Runs.{Event, Enters, Decides, Returns, after}
+use Rattle.kernel_rules.specs.References.{sum_below, node_refs, refs}
+use Rattle.kernel_rules.specs.MemoryCalls.{holds_nothing}
+use Rattle.kernel_rules.specs.CallRelation.{MayReply}
+use Rattle.kernel_rules.specs.Runs.{Event, Enters, Decides, Returns, after}
 
 two_cores : Setting
 two_cores = record {

@@ -2,8 +2,8 @@
 use Rattle.std.proofs.Common.{◌≡◌, ◌≢◌, inl, inr, ℕ, ◌+◌, ◌-◌, ◌*◌, ◌<◌, ◌≤◌, Bool, true, false, refl, sym, ap, ◌∙◌, arith, ◌==◌, nat_lt, [], ◌∷◌}
 use Rattle.std.proofs.lemmas.Bool.{ne_eqb, ltb-true, lt-ltb, cases_eq, cases_lt}
 use Rattle.spk_nums.specs.Setting.{Setting, IsSetting}
-use Rattle.seq_state.specs.Start.{start, start_place, start_cap, core_cap, start_frame, start_number, place_with}
-use Rattle.seq_state.specs.References.{place_names, frame_names, number_names, core_names, sum_below, times, node_refs, refs}
+use Rattle.kernel_rules.specs.Start.{start, start_place, start_cap, core_cap, start_frame, start_number, place_with}
+use Rattle.kernel_rules.specs.References.{place_names, frame_names, number_names, core_names, sum_below, times, node_refs, refs}
 use Rattle.kernel_history.proofs.Sums.{sum_same, sum_zero, sum_const, sum_both, sum_split, times_append, one_same, one_other, hits, hits_in, hits_out}
 
 pub not_below : (a b : ℕ) → b ≤ a → nat_lt a b ≡ false

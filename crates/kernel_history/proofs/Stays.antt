@@ -5,19 +5,19 @@ use Rattle.spk_nums.specs.Setting.{Setting, IsSetting}
 use Rattle.spk_nums.specs.Capability.{Capability}
 use Rattle.spk_nums.specs.declared.calls.Call.{Call}
 use Rattle.spk_nums.specs.declared.replies.Reply.{Reply}
-use Rattle.seq_state.specs.State.{Core, State, comp_of, comp_in, thread_in, first_of_stack}
-use Rattle.seq_state.specs.GracePeriods.{entered}
-use Rattle.seq_state.specs.References.{named_by}
-use Rattle.seq_state.specs.Access.{Slot, Named, Under, usable, reached}
-use Rattle.seq_state.specs.Fitting.{IsGood}
-use Rattle.seq_state.specs.Runs.{Event, Enters, Decides, Returns, after, phase_of, IsRun, Open as is_open}
-use Rattle.seq_state.proofs.Within.{put_same}
-use Rattle.seq_state.proofs.Sound.{IsSound}
-use Rattle.seq_state.proofs.SoundRuns.{opened, runs_sound, is_open as opens, is_in as is_inside}
-use Rattle.seq_state.proofs.SparesRuns.{inside_of}
-use Rattle.seq_state.proofs.Facts.{usable_good}
-use Rattle.seq_state.specs.Relies.{IsGuarded, Relies}
-use Rattle.seq_state.proofs.Stays.{Stay, StayIn, OwnStay, stay_in_same, stay_in_then, event_own, event_stay_in, stay_same, stay_then, event_stay, names_node, usable_guarded, usable_relies, table_relies, pages_relies, reached_relies}
+use Rattle.kernel_rules.specs.State.{Core, State, comp_of, comp_in, thread_in, first_of_stack}
+use Rattle.kernel_rules.specs.GracePeriods.{entered}
+use Rattle.kernel_rules.specs.References.{named_by}
+use Rattle.kernel_rules.specs.Access.{Slot, Named, Under, usable, reached}
+use Rattle.kernel_rules.specs.Fitting.{IsGood}
+use Rattle.kernel_rules.specs.Runs.{Event, Enters, Decides, Returns, after, phase_of, IsRun, Open as is_open}
+use Rattle.kernel_rules.proofs.Within.{put_same}
+use Rattle.kernel_rules.proofs.Sound.{IsSound}
+use Rattle.kernel_rules.proofs.SoundRuns.{opened, runs_sound, is_open as opens, is_in as is_inside}
+use Rattle.kernel_rules.proofs.SparesRuns.{inside_of}
+use Rattle.kernel_rules.proofs.Facts.{usable_good}
+use Rattle.kernel_rules.specs.Relies.{IsGuarded, Relies}
+use Rattle.kernel_rules.proofs.Stays.{Stay, StayIn, OwnStay, stay_in_same, stay_in_then, event_own, event_stay_in, stay_same, stay_then, event_stay, names_node, usable_guarded, usable_relies, table_relies, pages_relies, reached_relies}
 use Rattle.kernel_history.specs.Trace.{Step, Trace, Phase, Out, Open, Decided, phase, after_enter, state_after, state_entered, state_decided, state_returned}
 use Rattle.kernel_history.specs.Stamps.{is_in}
 use Rattle.kernel_history.specs.Legal.{MayFollow, IsLegal}

@@ -4,8 +4,8 @@ use Rattle.std.specs.Prelude.{option_to_list, is_some}
 use Rattle.std.proofs.lemmas.Bool.{eq-eqb, ne_eqb}
 use Rattle.spk_nums.specs.Setting.{Setting}
 use Rattle.word_map.specs.Word.{Word, FlushAt, ClockAt, same_word}
-use Rattle.seq_state.specs.State.{Thing}
-use Rattle.seq_state.specs.GracePeriods.{needs_flush}
+use Rattle.kernel_rules.specs.State.{Thing}
+use Rattle.kernel_rules.specs.GracePeriods.{needs_flush}
 use Rattle.kernel_history.specs.Trace.{Step, Trace, phase, after_enter, after_decide, after_return, last_left, calls_of, steps_in_call, own_left, state_before}
 use Rattle.kernel_history.specs.Stamps.{begins_at, ends_at, flushes_at, stamp, awaits_flushes, clock_seen, exit_after, exit_of, flush_of, flush_stored}
 use Rattle.kernel_history.proofs.Names.{same_word-same, same_word-other}

@@ -1,7 +1,7 @@
 -- Sums over the numbers below a bound, in parts; and how often a run of numbers has a number.
 use Rattle.std.proofs.Common.{◌≡◌, ◌≢◌, inl, inr, ℕ, zero, suc, ◌+◌, ◌*◌, ◌<◌, ◌≤◌, arith, refl, sym, ap, ◌∙◌, ◌==◌, cond, List, [], ◌∷◌, ◌++◌, fold}
 use Rattle.std.proofs.lemmas.Bool.{cases_eq, eq-eqb, ne_eqb}
-use Rattle.seq_state.specs.References.{sum_below, times}
+use Rattle.kernel_rules.specs.References.{sum_below, times}
 
 pub sum_none : (f : ℕ → ℕ) → sum_below f 0 ≡ 0
 unfolding sum_below

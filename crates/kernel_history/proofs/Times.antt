@@ -3,7 +3,7 @@ use Rattle.std.proofs.Common.{◌≡◌, ◌≢◌, ◌+◌, arith, false, sym, 
 use Rattle.std.proofs.lemmas.Bool.{false≢true}
 use Rattle.spk_nums.specs.Setting.{Setting}
 use Rattle.word_map.specs.Word.{ClockAt}
-use Rattle.seq_state.specs.State.{Thing}
+use Rattle.kernel_rules.specs.State.{Thing}
 use Rattle.kernel_history.specs.Trace.{Step, Trace}
 use Rattle.kernel_history.specs.Stamps.{begins_at, flushes_at, clock}
 use Rattle.kernel_history.proofs.Steps.{last_left-here, last_left-there}

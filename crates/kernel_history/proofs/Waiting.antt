@@ -5,12 +5,12 @@ use Rattle.spk_nums.specs.Setting.{Setting}
 use Rattle.spk_nums.specs.declared.calls.Call.{Call}
 use Rattle.spk_nums.specs.declared.replies.Reply.{Reply}
 use Rattle.word_map.specs.Word.{ClockAt, same_word}
-use Rattle.seq_state.specs.State.{Grace, Thing, PlaceOf, NumberOf, State, put}
-use Rattle.seq_state.specs.Start.{no_grace}
-use Rattle.seq_state.specs.CallRelation.{MayReply}
-use Rattle.seq_state.proofs.Within.{put_same, put_other}
-use Rattle.seq_state.specs.Relies.{is_node}
-use Rattle.seq_state.proofs.Ends.{MayEnd, ends_by_rule}
+use Rattle.kernel_rules.specs.State.{Grace, Thing, PlaceOf, NumberOf, State, put}
+use Rattle.kernel_rules.specs.Start.{no_grace}
+use Rattle.kernel_rules.specs.CallRelation.{MayReply}
+use Rattle.kernel_rules.proofs.Within.{put_same, put_other}
+use Rattle.kernel_rules.specs.Relies.{is_node}
+use Rattle.kernel_rules.proofs.Ends.{MayEnd, ends_by_rule}
 use Rattle.kernel_history.specs.Trace.{Step, Trace, Phase, Out, Open, Decided, phase, after_enter, state_after, state_entered, state_before}
 use Rattle.kernel_history.specs.Stamps.{ends_in, begins_at, ends_at, flushes_at, stamp, awaits_flushes, clock, clock_seen, exit_of, flush_of, flush_stored}
 use Rattle.kernel_history.specs.Legal.{MayDecide, MayFollow}

@@ -1,6 +1,6 @@
 -- What is promised of the words of the machine at the start.
 use Rattle.spk_nums.specs.Setting.{Setting, IsSetting}
-use Rattle.seq_state.specs.Start.{start}
+use Rattle.kernel_rules.specs.Start.{start}
 use Rattle.kernel_history.specs.BootWords.{boot_word}
 use Rattle.kernel_history.specs.FinalWords.{Represent, RepresentCounts, end_of}
 

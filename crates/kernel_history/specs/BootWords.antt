@@ -16,9 +16,9 @@ use Rattle.tcap_words.specs.Head.{word_of_head}
 use Rattle.tcap_words.specs.Thread.{word_of_thread}
 use Rattle.word_map.specs.Places.{Shape}
 use Rattle.word_map.specs.Word.{Word, EntryAt, FrameAt, CountAt, CoreAt, FlushAt, LiveAt, ClockAt}
-use Rattle.seq_state.specs.State.{Place, Free, Holds, Quiescing, ThreadFields, TcapFields, Object, Blank, Table, Leaf, Pages, Pleaf, Comp, Thread, Tcap, Frame, Untyped, User, Kernel, Liveness, Unused, Live, Dead}
-use Rattle.seq_state.specs.Start.{start}
-use Rattle.seq_state.specs.References.{refs}
+use Rattle.kernel_rules.specs.State.{Place, Free, Holds, Quiescing, ThreadFields, TcapFields, Object, Blank, Table, Leaf, Pages, Pleaf, Comp, Thread, Tcap, Frame, Untyped, User, Kernel, Liveness, Unused, Live, Dead}
+use Rattle.kernel_rules.specs.Start.{start}
+use Rattle.kernel_rules.specs.References.{refs}
 use Rattle.kernel_history.specs.ObjectWords.{frame_value, comp_word, thread_value, stack_word, quality_word}
 
 -- The entry of a place; at the start none is quiescing.

@@ -19,9 +19,9 @@ use Rattle.tcap_words.specs.Stack.{stack_of_word}
 use Rattle.tcap_words.specs.Thread.{thread_of_word}
 use Rattle.word_map.specs.Word.{Word, EntryAt, FrameAt, CountAt, CoreAt, LiveAt}
 use Rattle.word_map.specs.Places.{Shape, place_of, counter_of}
-use Rattle.seq_state.specs.State.{Place, Free, Holds, Quiescing, CompFields, ThreadFields, TcapFields, Object, Blank, Table, Leaf, Pages, Pleaf, Comp, Thread, Tcap, Frame, Untyped, User, Kernel, Liveness, Unused, Live, Dead, State, first_of_stack, thread_of}
-use Rattle.seq_state.specs.References.{refs}
-use Rattle.seq_state.specs.Access.{held_in}
+use Rattle.kernel_rules.specs.State.{Place, Free, Holds, Quiescing, CompFields, ThreadFields, TcapFields, Object, Blank, Table, Leaf, Pages, Pleaf, Comp, Thread, Tcap, Frame, Untyped, User, Kernel, Liveness, Unused, Live, Dead, State, first_of_stack, thread_of}
+use Rattle.kernel_rules.specs.References.{refs}
+use Rattle.kernel_rules.specs.Access.{held_in}
 use Rattle.kernel_history.specs.ObjectWords.{is_node, frame_value, thread_value, at_height}
 
 -- What the word of a place says that no core is closing: it is free, holds the capability, or is quiescing since some stamp.

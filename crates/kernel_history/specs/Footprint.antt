@@ -8,11 +8,11 @@ use Rattle.spk_nums.specs.declared.calls.Call.TheVariants.{Retype, Make as make_
 use Rattle.spk_nums.specs.declared.calls.Make.{Make}
 use Rattle.spk_nums.specs.declared.calls.Make.TheVariants.{Comp as make_comp}
 use Rattle.word_map.specs.Word.{Word, EntryAt, FrameAt, CountAt, CoreAt, FlushAt, LiveAt, ClockAt}
-use Rattle.seq_state.specs.State.{Frame, Kernel, Comp, State, thread_of, comp_of}
-use Rattle.seq_state.specs.References.{named_by, frame_names}
-use Rattle.seq_state.specs.Access.{Slot, place_at}
-use Rattle.seq_state.specs.Rules.{Rule, Name, Vacant, Held, Mapped, Does, Judged, Refused, Found, named, name_of}
-use Rattle.seq_state.specs.CallRelation.{rule_of}
+use Rattle.kernel_rules.specs.State.{Frame, Kernel, Comp, State, thread_of, comp_of}
+use Rattle.kernel_rules.specs.References.{named_by, frame_names}
+use Rattle.kernel_rules.specs.Access.{Slot, place_at}
+use Rattle.kernel_rules.specs.Rules.{Rule, Name, Vacant, Held, Mapped, Does, Judged, Refused, Found, named, name_of}
+use Rattle.kernel_rules.specs.CallRelation.{rule_of}
 use Rattle.kernel_history.specs.Ways.{capability_in, wide_ways, target_of}
 use Rattle.kernel_history.specs.Bounds.{call_in}
 use Rattle.kernel_history.specs.Trace.{Step, Trace, phase, after_enter, WasBefore}

@@ -6,11 +6,11 @@ use Rattle.spk_nums.specs.declared.replies.Reply.{Reply}
 use Rattle.spk_nums.specs.declared.replies.Reply.TheVariants as reply
 use Rattle.spk_nums.specs.Setting.{Setting}
 use Rattle.word_map.specs.Word.{Word, EntryAt, FrameAt, CountAt, CoreAt, FlushAt, LiveAt, ClockAt}
-use Rattle.seq_state.specs.State.{Place, Free, Holds, Quiescing, Thread, Tcap, Frame, Kernel, Liveness, Unused, Live, Dead, Thing, PlaceOf, FrameOf, NumberOf, State}
-use Rattle.seq_state.specs.Access.{Slot}
-use Rattle.seq_state.specs.GracePeriods.{same_thing, MayWait, MayBeUnflushed}
-use Rattle.seq_state.specs.CallRelation.{rule_of}
-use Rattle.seq_state.specs.Rules.{Rule}
+use Rattle.kernel_rules.specs.State.{Place, Free, Holds, Quiescing, Thread, Tcap, Frame, Kernel, Liveness, Unused, Live, Dead, Thing, PlaceOf, FrameOf, NumberOf, State}
+use Rattle.kernel_rules.specs.Access.{Slot}
+use Rattle.kernel_rules.specs.GracePeriods.{same_thing, MayWait, MayBeUnflushed}
+use Rattle.kernel_rules.specs.CallRelation.{rule_of}
+use Rattle.kernel_rules.specs.Rules.{Rule}
 use Rattle.kernel_history.specs.ObjectWords.{is_node}
 use Rattle.kernel_history.specs.Marks.{mark_of}
 use Rattle.kernel_history.specs.Ways.{ways, wide_ways, target_of, asked_of, waited_in, flushed_in}

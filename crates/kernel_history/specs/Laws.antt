@@ -4,7 +4,7 @@ use Rattle.spk_nums.specs.declared.calls.Call.{Call}
 use Rattle.spk_nums.specs.declared.replies.Reply.{Reply}
 use Rattle.spk_nums.specs.declared.replies.Reply.TheVariants as reply
 use Rattle.spk_nums.specs.Setting.{Setting}
-use Rattle.seq_state.specs.Runs.{after, IsRun}
+use Rattle.kernel_rules.specs.Runs.{after, IsRun}
 use Rattle.kernel_history.specs.Trace.{Step, Trace, Out, phase, state_after, calls_of}
 use Rattle.kernel_history.specs.Stamps.{is_in}
 use Rattle.kernel_history.specs.Events.{events_of, plain_phase}

@@ -4,7 +4,7 @@ use Rattle.spk_nums.specs.declared.calls.Call.{Call}
 use Rattle.spk_nums.specs.declared.replies.Reply.{Reply}
 use Rattle.spk_nums.specs.Setting.{Setting}
 use Rattle.spk_nums.specs.CallLimits.{InLimits}
-use Rattle.seq_state.specs.CallRelation.{MayReply}
+use Rattle.kernel_rules.specs.CallRelation.{MayReply}
 use Rattle.kernel_history.specs.Justified.{IsJustified}
 use Rattle.kernel_history.specs.Trace.{Step, Trace, Phase, Out, Open, Decided, phase, after_enter, after_decide, state_before, last_left}
 

@@ -18,7 +18,7 @@ use Rattle.tcap_words.specs.declared.head_word.HeadWord.{HeadWord}
 use Rattle.tcap_words.specs.declared.thread_word.ThreadWord.{ThreadWord}
 use Rattle.tcap_words.specs.declared.thread_word.ThreadWord.TheVariants.{Idle, Running, Claimed}
 use Rattle.word_map.specs.Word.{Word, EntryAt, FrameAt, CountAt, CoreAt, FlushAt, LiveAt, ClockAt}
-use Rattle.seq_state.specs.State.{Object, Blank, Table, Leaf, Pages, Pleaf, Comp, Thread, Tcap, Frame, Untyped, User, Kernel, State}
+use Rattle.kernel_rules.specs.State.{Object, Blank, Table, Leaf, Pages, Pleaf, Comp, Thread, Tcap, Frame, Untyped, User, Kernel, State}
 
 -- The core that is closing an entry.
 abbrev pub entry_mark : Option Entry → Option ℕ

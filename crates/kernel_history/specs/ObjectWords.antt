@@ -9,7 +9,7 @@ use Rattle.tcap_words.specs.Quality.{word_of_quality}
 use Rattle.tcap_words.specs.Stack.{word_of_stack}
 use Rattle.tcap_words.specs.declared.thread_word.ThreadWord.{ThreadWord}
 use Rattle.tcap_words.specs.declared.thread_word.ThreadWord.TheVariants.{Idle, Running}
-use Rattle.seq_state.specs.State.{CompFields, Object, Blank, Table, Leaf, Pages, Pleaf, Comp, Thread, Tcap, Frame, Untyped, User, Kernel}
+use Rattle.kernel_rules.specs.State.{CompFields, Object, Blank, Table, Leaf, Pages, Pleaf, Comp, Thread, Tcap, Frame, Untyped, User, Kernel}
 
 -- Whether an object is a node, whose 64 words are entries.
 abbrev pub is_node_object : Object → Bool

@@ -3,9 +3,9 @@ use Rattle.std.specs.Prelude.{ℕ, Bool, true, false, ◌==◌, ◌&&◌, if◌t
 use Rattle.spk_nums.specs.declared.replies.Reply.{Reply}
 use Rattle.spk_nums.specs.Setting.{Setting}
 use Rattle.word_map.specs.Word.{FlushAt, ClockAt, same_word}
-use Rattle.seq_state.specs.State.{Thing, State}
-use Rattle.seq_state.specs.GracePeriods.{needs_flush}
-use Rattle.seq_state.specs.CallRelation.{begins, ends, flushes}
+use Rattle.kernel_rules.specs.State.{Thing, State}
+use Rattle.kernel_rules.specs.GracePeriods.{needs_flush}
+use Rattle.kernel_rules.specs.CallRelation.{begins, ends, flushes}
 use Rattle.kernel_history.specs.Trace.{Step, Trace, Phase, Out, Open, Decided, phase, after_enter, state_before, last_left}
 
 -- Whether a core is in a call.

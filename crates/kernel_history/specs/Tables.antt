@@ -3,9 +3,9 @@ use Rattle.std.specs.Prelude.{ℕ, zero, suc, ◌==◌, ◌||◌, ◌&&◌, Bool
 use Rattle.std.specs.List.{flat_map}
 use Rattle.spk_nums.specs.Texts.{cap_text}
 use Rattle.spk_nums.specs.declared.translations.Translation.{Translation}
-use Rattle.seq_state.specs.State.{Place, Free, Holds, Quiescing, CompFields, ThreadFields, TcapFields, Object, Blank, Table, Leaf, Pages, Pleaf, Comp, Thread, Tcap, Frame, Untyped, User, Kernel, Liveness, Unused, Live, Dead, Core, State, first_of_stack, thread_of}
-use Rattle.seq_state.specs.References.{refs}
-use Rattle.seq_state.specs.Laws.{ticks}
+use Rattle.kernel_rules.specs.State.{Place, Free, Holds, Quiescing, CompFields, ThreadFields, TcapFields, Object, Blank, Table, Leaf, Pages, Pleaf, Comp, Thread, Tcap, Frame, Untyped, User, Kernel, Liveness, Unused, Live, Dead, Core, State, first_of_stack, thread_of}
+use Rattle.kernel_rules.specs.References.{refs}
+use Rattle.kernel_rules.specs.Laws.{ticks}
 
 -- A space and a number.
 abbrev pub number : ℕ → List ℕ

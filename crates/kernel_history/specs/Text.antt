@@ -5,9 +5,9 @@ use Rattle.spk_nums.specs.Texts.{reply_line_text}
 use Rattle.spk_nums.specs.declared.calls.Call.{Call}
 use Rattle.spk_nums.specs.declared.replies.Decision.{Decision}
 use Rattle.spk_nums.specs.Setting.{Setting}
-use Rattle.seq_state.specs.State.{State}
-use Rattle.seq_state.specs.Start.{start}
-use Rattle.seq_state.specs.Alone.{plain_reply, plain_step, plain_steps}
+use Rattle.kernel_rules.specs.State.{State}
+use Rattle.kernel_rules.specs.Start.{start}
+use Rattle.kernel_rules.specs.Alone.{plain_reply, plain_step, plain_steps}
 use Rattle.kernel_history.specs.Trace.{Trace, state_after, calls_of, decisions_of}
 use Rattle.kernel_history.specs.Tables.{tables_of, lines_below}
 

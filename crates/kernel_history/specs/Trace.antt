@@ -5,10 +5,10 @@ use Rattle.spk_nums.specs.declared.replies.Reply.{Reply}
 use Rattle.spk_nums.specs.declared.replies.Decision.{Decision}
 use Rattle.spk_nums.specs.Setting.{Setting}
 use Rattle.word_map.specs.Word.{Word, same_word}
-use Rattle.seq_state.specs.State.{State}
-use Rattle.seq_state.specs.Start.{start}
-use Rattle.seq_state.specs.GracePeriods.{entered, returned}
-use Rattle.seq_state.specs.CallRelation.{state_by}
+use Rattle.kernel_rules.specs.State.{State}
+use Rattle.kernel_rules.specs.Start.{start}
+use Rattle.kernel_rules.specs.GracePeriods.{entered, returned}
+use Rattle.kernel_rules.specs.CallRelation.{state_by}
 use Rattle.kernel_history.specs.BootWords.{boot_word}
 
 -- An atomic step of a core on a word: the value found, the value left, and the events of the core's call at it:

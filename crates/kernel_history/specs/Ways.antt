@@ -1,9 +1,9 @@
 -- The places through which the names, the target and the page of a call are reached, and the things that it waits for.
 use Rattle.std.specs.Prelude.{ℕ, ◌%◌, ◌&&◌, nat_le, if◌then◌else◌, List, [], ◌∷◌, ◌++◌, option_to_list, Option, Some, None}
 use Rattle.spk_nums.specs.Capability.{Capability}
-use Rattle.seq_state.specs.State.{Place, Free, Holds, Quiescing, Thing, PlaceOf, State}
-use Rattle.seq_state.specs.Access.{Slot, Target, Under, InRoot, place_at, linked, slot_in, root_slot, reached, root_at, own}
-use Rattle.seq_state.specs.Rules.{Rule, Name, Vacant, Held, Mapped, Does, Cause, When, WaitedFor, Unflushed, Judged, Refused, Found, named, held, name_of, slot_of}
+use Rattle.kernel_rules.specs.State.{Place, Free, Holds, Quiescing, Thing, PlaceOf, State}
+use Rattle.kernel_rules.specs.Access.{Slot, Target, Under, InRoot, place_at, linked, slot_in, root_slot, reached, root_at, own}
+use Rattle.kernel_rules.specs.Rules.{Rule, Name, Vacant, Held, Mapped, Does, Cause, When, WaitedFor, Unflushed, Judged, Refused, Found, named, held, name_of, slot_of}
 
 -- The capability of a place, also where it is removed.
 abbrev pub capability_in : Place → Option Capability

@@ -11,7 +11,7 @@ use Rattle.word_map.specs.Word.{Word}
 use Rattle.word_map.specs.Places.{Shape, IsShape, IsIn, place_of, shared}
 use Rattle.word_map.specs.Moves.{word_of, told_of}
 use Rattle.word_map.proofs.PlaceLemmas.{has_places}
-use Rattle.seq_state.specs.State.{put}
+use Rattle.kernel_rules.specs.State.{put}
 use Rattle.stage_look.specs.Lookup.{look_move}
 use Rattle.stage_look.specs.declared.look.Look.{Look}
 use Rattle.stage_look.specs.declared.look.Look.TheVariants.{AtRoot, AtLeaf, AtEntry}

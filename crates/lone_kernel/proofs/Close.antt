@@ -13,7 +13,7 @@ use Rattle.tcap_words.specs.Thread.{thread_of_word}
 use Rattle.tcap_words.specs.Stack.{stack_of_word}
 use Rattle.tcap_words.specs.Head.{head_of_word}
 use Rattle.tcap_words.specs.Quality.{quality_of_word}
-use Rattle.seq_state.specs.State.{Place, Object, Blank, Table, Leaf, Pages, Pleaf, Comp, Thread, Tcap, Frame, Untyped, User, Kernel, State}
+use Rattle.kernel_rules.specs.State.{Place, Object, Blank, Table, Leaf, Pages, Pleaf, Comp, Thread, Tcap, Frame, Untyped, User, Kernel, State}
 use Rattle.kernel_history.specs.BootWords.{shape_of}
 use Rattle.kernel_history.specs.FinalWords.{Represent, AreEntries, AreObject, AreFrame, SaysPlace, SaysNumber, SaysOut, word_in, end_in}
 use Rattle.kernel_history.specs.Trace.{Trace, state_after, last_left}

@@ -7,7 +7,8 @@ use Rattle.spk_nums.specs.declared.calls.Call.{Call}
 use Rattle.spk_nums.specs.declared.replies.Decision.{Decision}
 use Rattle.spk_nums.specs.declared.steps.WordOp.{WordOp}
 use Rattle.word_map.specs.Places.{Shape, place_of}
-use Rattle.word_map.specs.Moves.{Move, LoadOf, CompareOf, StoreOf, AddOf, word_of, op_of, place_in, left_of, told_of}
+use Rattle.word_map.specs.Moves.{Move, LoadOf, CompareOf, StoreOf, AddOf, word_of, op_of, left_of, told_of}
+use Rattle.spk_nums.specs.WordSteps.{place_in}
 use Rattle.kernel_history.specs.Trace.{decision_at}
 use Rattle.flight.specs.View.{Core}
 use Rattle.flight.specs.Fits.{IsCore, steps_left}
@@ -17,7 +18,7 @@ use Rattle.flight.specs.Theorems.{decided_in}
 use Rattle.flight.specs.declared.stages.Absorbed.{Absorbed}
 use Rattle.lone_kernel.specs.declared.seats.Seat.{Seat}
 use Rattle.lone_kernel.specs.declared.seats.Turn.{Turn}
-use Rattle.lone_kernel.specs.Ops.{left_by, told_by}
+use Rattle.spk_nums.specs.WordSteps.{left_by, told_by}
 use Rattle.lone_kernel.specs.Machine.{Machine, fresh_seat, seat_at, core_at, list_at, turn_of, turn_at, IsFit, IsFitSeat, CanRun, core_in, begun_by, decisions_in, place_next, words_after, said_by, seat_after, found_by, stepped, MakesTurn, TakesTurn}
 
 -- a step by its place is the step by its word's name

@@ -1,4 +1,3 @@
-pub mod Ops
 pub mod Machine
 pub mod Stands
 pub mod Moves

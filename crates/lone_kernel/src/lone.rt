@@ -9,7 +9,7 @@
 //!
 //! **Decisions.** A step that decides a call notes the reply at once, so the decisions are in the order of the trace.
 ghost use Rattle.std.specs.Prelude.{◌≡◌, ◌≢◌, ◌↔◌, false, IsSome, None, Some, [], ℕ, ◌+◌, ◌<◌, ◌≤◌, ◌^◌, ◌++◌, IsTrue, All, IfOk, map, sum_by, length, slice_index, slice_set, vec_len, vec_capacity};
-ghost use Rattle.word_map.specs.Moves.{place_in};
+ghost use Rattle.spk_nums.specs.WordSteps.{place_in};
 ghost use Rattle.word_map.specs.Places.{size_of, place_of, shared};
 ghost use Rattle.kernel_history.specs.Trace.{Trace, state_after, decision_at};
 ghost use Rattle.kernel_history.specs.FinalWords.{Represent, word_in, end_in};
@@ -17,7 +17,7 @@ ghost use Rattle.flight.specs.Fits.{IsCore, steps_left};
 ghost use Rattle.kernel_history.specs.BootWords.{shape_of};
 ghost use Rattle.flight.specs.Steps.{end_of};
 ghost use Rattle.flight.specs.Theorems.{decided_in};
-ghost use Rattle.lone_kernel.specs.Ops.{left_by, told_by};
+ghost use Rattle.spk_nums.specs.WordSteps.{left_by, told_by};
 ghost use Rattle.flight.specs.Decided.{is_decided_in};
 ghost use Rattle.lone_kernel.specs.Machine.{IsFitSeat, CanRun, turn_of, begun_by, core_in, said_by, CanTake, MakesTurn, TakesTurn, seat_after, words_after, place_next, decisions_in, IsFinished, IsInCall, HasDecided, IsReady, list_at, seat_at, core_at, AreLists, AreFresh};
 ghost use Rattle.lone_kernel.specs.Stands.{StandsFor};

@@ -2,7 +2,7 @@
 use Rattle.std.specs.Prelude.{◌≡◌, ◌⊎◌, ℕ, List, [], ◌∷◌, Option, Some, None, Result, Ok, Err, slice_get}
 use Rattle.std.specs.Option.{option_and_then}
 use Rattle.spk_nums.specs.declared.calls.Call.{Call as A_call}
-use Rattle.spk_nums.specs.Built.{IsBuilt}
+use Rattle.supported_calls.specs.Built.{IsBuilt}
 use Rattle.script_tokens.specs.Words.{words_of}
 use Rattle.script_reader.specs.declared.cause.Cause.{Cause}
 use Rattle.script_reader.specs.declared.first_words.FirstWord.{FirstWord}

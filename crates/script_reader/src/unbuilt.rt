@@ -11,7 +11,7 @@ use crate::first_words::FirstWord;
 use crate::head::first_of;
 use crate::reading::line_length;
 use script_tokens::Token;
-use spk_nums::is_built;
+use supported_calls::is_built;
 
 fn is_built_line(words: &[Token]) -> bool
     ensures { IsTrue result ↔ IsBuiltLine (texts words.now) }

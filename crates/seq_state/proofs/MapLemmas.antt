@@ -1,16 +1,16 @@
 -- Reading and changing the maps is reading and changing the state that they stand for.
 use Rattle.std.proofs.Common.{◌≡◌, ◌≢◌, inl, inr, ℕ, ◌+◌, ◌*◌, ◌<◌, true, false, ◌&&◌, ◌==◌, nat_lt, if◌then◌else◌, refl, sym, ◌∙◌, ap, arith, List, Option, Some, None, unwrap_or}
 use Rattle.std.proofs.lemmas.Bool.{cases_eq, cases_lt, lt-ltb, le-ltb, eq-eqb, ne_eqb}
-use Rattle.seq_state.specs.State as state
-use Rattle.seq_state.specs.State.{put, with_place, with_frame, with_number, with_core, State, Limits}
-use Rattle.seq_state.specs.Start.{no_grace}
-use Rattle.seq_state.specs.GracePeriods.{same_thing}
+use Rattle.kernel_rules.specs.State as state
+use Rattle.kernel_rules.specs.State.{put, with_place, with_frame, with_number, with_core, State, Limits}
+use Rattle.kernel_rules.specs.Start.{no_grace}
+use Rattle.kernel_rules.specs.GracePeriods.{same_thing}
 use Rattle.seq_state.specs.declared.parts.Place.{Place}
 use Rattle.seq_state.specs.declared.parts.Frame.{Frame}
 use Rattle.seq_state.specs.declared.parts.Liveness.{Liveness}
 use Rattle.seq_state.specs.declared.parts.Core.{Core}
 use Rattle.seq_state.specs.declared.parts.Grace.{Grace}
-use Rattle.seq_state.proofs.Within.{put_same, put_other}
+use Rattle.kernel_rules.proofs.Within.{put_same, put_other}
 use Rattle.seq_state.specs.Parts.{place_of, frame_of, number_of, core_of, grace_of}
 use Rattle.seq_state.specs.Maps.{Maps, at, at_place, state_of, place_or_free, frame_or_untyped, number_or_unused, core_or_none, grace_or_none, grace_in}
 use Rattle.seq_state.specs.Representation.{with_grace_of}

@@ -2,7 +2,7 @@
 use Rattle.std.proofs.Common.{ℕ, ◌+◌, ◌*◌, ◌<◌, ◌≤◌, refl, sym, subst, arith, List, Option, Some, None, IsSome}
 use Rattle.std.proofs.lemmas.Bool.{false≢true}
 use Rattle.seq_state.specs.declared.parts.Grace.{Grace as GraceSets}
-use Rattle.seq_state.specs.State.{Grace, Thing, PlaceOf, FrameOf, NumberOf, with_grace}
+use Rattle.kernel_rules.specs.State.{Grace, Thing, PlaceOf, FrameOf, NumberOf, with_grace}
 use Rattle.seq_state.specs.Parts.{grace_of}
 use Rattle.seq_state.specs.Maps.{Maps, at, at_place, IsWhole, state_of, grace_or_none, grace_in}
 use Rattle.seq_state.specs.Representation.{IsThing, SameGrace, SameState}

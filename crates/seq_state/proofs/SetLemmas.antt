@@ -1,8 +1,8 @@
 -- A change of the maps is that change of the state, for all that the machine has.
 use Rattle.std.proofs.Common.{◌≡◌, ◌≢◌, inl, inr, ℕ, ◌+◌, ◌*◌, ◌<◌, ◌≤◌, ◌&&◌, ◌==◌, if◌then◌else◌, refl, sym, ◌∙◌, ap, arith, List, Some, IsSome}
 use Rattle.std.proofs.lemmas.Bool.{cases_lt, ne_eqb}
-use Rattle.seq_state.specs.State.{put, with_place, with_frame, with_number, Thing, PlaceOf, FrameOf, NumberOf}
-use Rattle.seq_state.specs.GracePeriods.{same_thing}
+use Rattle.kernel_rules.specs.State.{put, with_place, with_frame, with_number, Thing, PlaceOf, FrameOf, NumberOf}
+use Rattle.kernel_rules.specs.GracePeriods.{same_thing}
 use Rattle.seq_state.specs.declared.parts.Place.{Place}
 use Rattle.seq_state.specs.declared.parts.Frame.{Frame}
 use Rattle.seq_state.specs.declared.parts.Liveness.{Liveness}
@@ -11,7 +11,7 @@ use Rattle.seq_state.specs.Parts.{place_of, frame_of, number_of, grace_of}
 use Rattle.seq_state.specs.Maps.{Maps, at, at_place, IsWhole, state_of, place_or_free, frame_or_untyped, number_or_unused, grace_or_none, grace_in}
 use Rattle.seq_state.specs.Representation.{IsThing, with_grace_of, SameState}
 use Rattle.seq_state.proofs.MapLemmas.{IsWritten, at_place_is, places_written, frames_written, numbers_written, place_graces_written, frame_graces_written, number_graces_written}
-use Rattle.seq_state.proofs.Within.{put_other}
+use Rattle.kernel_rules.proofs.Within.{put_other}
 use Rattle.seq_state.proofs.Same.{same_by, same_grace_by}
 
 -- A map is another with a value at a key, where that key stands.

@@ -2,8 +2,8 @@
 use Rattle.std.proofs.Common.{◌≡◌, ◌≢◌, inl, inr, ℕ, ◌+◌, ◌*◌, ◌/◌, ◌%◌, ◌<◌, if◌then◌else◌, sym, ◌∙◌, ap, subst, arith, List, Option, Some, None, IsSomeAnd}
 use Rattle.std.proofs.lemmas.Bool.{cases_eq, lt-ltb}
 use Rattle.spk_nums.specs.Setting.{Setting}
-use Rattle.seq_state.specs.State.{Thing, PlaceOf, FrameOf, NumberOf, Limits}
-use Rattle.seq_state.specs.Start.{start, start_place, start_frame, start_number, start_core, no_grace}
+use Rattle.kernel_rules.specs.State.{Thing, PlaceOf, FrameOf, NumberOf, Limits}
+use Rattle.kernel_rules.specs.Start.{start, start_place, start_frame, start_number, start_core, no_grace}
 use Rattle.seq_state.specs.Parts.{place_of, frame_of, number_of, core_of, grace_of}
 use Rattle.seq_state.specs.Maps.{Maps, at, at_place, HasAll, state_of, place_or_free, frame_or_untyped, number_or_unused, core_or_none, grace_or_none, grace_in}
 use Rattle.seq_state.specs.Representation.{IsThing, SameState}

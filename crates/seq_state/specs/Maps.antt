@@ -3,8 +3,8 @@ use Rattle.std.specs.Prelude.{◌<◌, ◌≤◌, ◌^◌, ℕ, ◌+◌, ◌*◌
 use Rattle.std.specs.Ordering.{nat_cmp}
 use Rattle.std.specs.Map.{lookup}
 use Rattle.std.specs.BTreeMap.{is_at}
-use Rattle.seq_state.specs.State as state
-use Rattle.seq_state.specs.Start.{no_grace}
+use Rattle.kernel_rules.specs.State as state
+use Rattle.kernel_rules.specs.Start.{no_grace}
 use Rattle.seq_state.specs.declared.parts.Place.{Place}
 use Rattle.seq_state.specs.declared.parts.Frame.{Frame}
 use Rattle.seq_state.specs.declared.parts.Liveness.{Liveness}

@@ -1,6 +1,6 @@
 -- The parts of the plain kernel's state, read as those of the definitions.
 use Rattle.spk_nums.specs.CoreSets.{has_core}
-use Rattle.seq_state.specs.State as state
+use Rattle.kernel_rules.specs.State as state
 use Rattle.seq_state.specs.declared.parts.Place.{Place}
 use Rattle.seq_state.specs.declared.parts.Place.TheVariants as place
 use Rattle.seq_state.specs.declared.parts.CompFields.{CompFields}

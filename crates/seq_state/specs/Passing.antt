@@ -1,8 +1,8 @@
 -- What a return and a flush make of all grace periods, in the plain kernel's maps.
 use Rattle.std.specs.Prelude.{ℕ, false, Option, Some, None, IsSomeAnd}
 use Rattle.seq_state.specs.declared.parts.Grace.{Grace as GraceSets}
-use Rattle.seq_state.specs.State.{Grace, State, put, with_grace}
-use Rattle.seq_state.specs.GracePeriods.{passed}
+use Rattle.kernel_rules.specs.State.{Grace, State, put, with_grace}
+use Rattle.kernel_rules.specs.GracePeriods.{passed}
 use Rattle.seq_state.specs.Parts.{grace_of}
 use Rattle.seq_state.specs.Representation.{SameGrace}
 

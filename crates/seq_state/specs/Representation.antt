@@ -1,7 +1,7 @@
 -- When two states are one for all that a machine has, and which states the plain kernel represents.
 use Rattle.std.specs.Prelude.{◌≡◌, ◌<◌, ℕ, if◌then◌else◌}
-use Rattle.seq_state.specs.State.{Grace, Thing, PlaceOf, FrameOf, NumberOf, Limits, State, with_grace}
-use Rattle.seq_state.specs.GracePeriods.{same_thing}
+use Rattle.kernel_rules.specs.State.{Grace, Thing, PlaceOf, FrameOf, NumberOf, Limits, State, with_grace}
+use Rattle.kernel_rules.specs.GracePeriods.{same_thing}
 use Rattle.seq_state.specs.Maps.{Maps, state_of}
 
 -- A thing's index, if it is a place, is one in a node.

@@ -1,7 +1,7 @@
 //! The references to a frame, counted afresh.
 
 ghost use Rattle.std.specs.Prelude.{◌≡◌, ◌<◌, ◌≤◌, ◌*◌, [], ◌∷◌};
-ghost use Rattle.seq_state.specs.References.{named_by, place_names, frame_names, number_names, core_names, sum_below, times, node_refs, refs};
+ghost use Rattle.kernel_rules.specs.References.{named_by, place_names, frame_names, number_names, core_names, sum_below, times, node_refs, refs};
 ghost use Rattle.seq_state.specs.Parts.{place_of, object_of, frame_of, number_of, core_of};
 ghost use Rattle.seq_state.specs.Maps.{state_of};
 

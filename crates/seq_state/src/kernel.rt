@@ -1,7 +1,7 @@
 //! The plain kernel's state, in ordered maps.
 
 ghost use Rattle.std.specs.Prelude.{◌≡◌, ◌<◌, ◌+◌, ◌*◌};
-ghost use Rattle.seq_state.specs.State.{FrameOf};
+ghost use Rattle.kernel_rules.specs.State.{FrameOf};
 ghost use Rattle.seq_state.specs.Parts.{place_of, frame_of, number_of, core_of, grace_of, thing_of};
 ghost use Rattle.spk_nums.specs.CoreSets.{has_core};
 ghost use Rattle.seq_state.specs.Maps.{state_of, LimitsFit};

@@ -1,7 +1,7 @@
 //! The parts of the plain kernel's state, as plain data; a spec function of each gives the part of the definitions.
 
 ghost use Rattle.std.specs.Prelude.{◌≡◌};
-ghost use Rattle.seq_state.specs.Start.{no_grace};
+ghost use Rattle.kernel_rules.specs.Start.{no_grace};
 
 use crate::stack::Stack;
 use spk_nums::{Cap, CoreNo, CoreSet, EntryNo, FrameNo, Qualities, Translations};

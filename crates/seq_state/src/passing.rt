@@ -1,8 +1,8 @@
 //! A core enters a call, returns from it, and flushes: changes of the core and of the grace periods of all things.
 
 ghost use Rattle.std.specs.Prelude.{◌≡◌, ◌≢◌, ◌<◌, ◌*◌, ℕ, false};
-ghost use Rattle.seq_state.specs.State.{put};
-ghost use Rattle.seq_state.specs.GracePeriods.{passed, entered, returned, flushed};
+ghost use Rattle.kernel_rules.specs.State.{put};
+ghost use Rattle.kernel_rules.specs.GracePeriods.{passed, entered, returned, flushed};
 ghost use Rattle.seq_state.specs.Parts.{grace_of};
 ghost use Rattle.seq_state.specs.Maps.{at, state_of};
 ghost use Rattle.seq_state.specs.Representation.{SameGrace, Represents};

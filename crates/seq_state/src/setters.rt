@@ -3,7 +3,7 @@
 //! What is set past the machine's frames or liveness numbers is no part of the machine.
 
 ghost use Rattle.std.specs.Prelude.{◌≡◌, ◌<◌};
-ghost use Rattle.seq_state.specs.State.{with_place, with_frame, with_number, with_core};
+ghost use Rattle.kernel_rules.specs.State.{with_place, with_frame, with_number, with_core};
 ghost use Rattle.seq_state.specs.Parts.{place_of, frame_of, number_of, core_of, grace_of, thing_of};
 ghost use Rattle.seq_state.specs.Maps.{state_of};
 ghost use Rattle.seq_state.specs.Representation.{HasIndex, IsThing, with_grace_of, Represents};

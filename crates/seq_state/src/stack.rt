@@ -1,7 +1,7 @@
 //! The stack of a thread.
 
 ghost use Rattle.std.specs.Prelude.{◌≡◌, ◌<◌, ◌≤◌, [], ◌∷◌, length, slice_get, drop};
-ghost use Rattle.seq_state.specs.References.{times};
+ghost use Rattle.kernel_rules.specs.References.{times};
 
 use spk_nums::FrameNo;
 use std::marker::Model;

@@ -1,7 +1,8 @@
 use spk_nums::{
     Call, CapId, CoreNo, CoreSet, FrameArg, Grant, Grants, Make, Qualities, Setup, Translations,
-    in_limits, is_built,
+    in_limits,
 };
+use supported_calls::is_built;
 
 fn granted(cores: u8) -> Grants {
     let mut grants = Grants::empty();

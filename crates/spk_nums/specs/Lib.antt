@@ -1,5 +1,4 @@
 pub mod Bounds
-pub mod Built
 pub mod CallLimits
 pub mod Capability
 pub mod CoreSets
@@ -14,3 +13,4 @@ pub mod Setting
 pub mod Spelling
 pub mod Texts
 pub mod Translations
+pub mod WordSteps

@@ -1,7 +1,6 @@
 //! Numbers, capabilities, calls and replies: the words that every other crate speaks in.
 #![tactic(auto)]
 
-mod built;
 mod calls;
 mod cap;
 mod core_set;
@@ -19,7 +18,6 @@ mod steps;
 mod texts;
 mod translations;
 
-pub use built::is_built;
 pub use calls::{Call, Make};
 pub use cap::Cap;
 pub use core_set::CoreSet;

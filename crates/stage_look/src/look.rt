@@ -11,7 +11,8 @@
 
 ghost use Rattle.std.specs.Prelude.{◌≡◌, ◌<◌, ◌≤◌, nat_le};
 ghost use Rattle.word_map.specs.Places.{size_of};
-ghost use Rattle.word_map.specs.Moves.{op_of, place_in};
+ghost use Rattle.word_map.specs.Moves.{op_of};
+ghost use Rattle.spk_nums.specs.WordSteps.{place_in};
 ghost use Rattle.stage_look.specs.Shown.{end_of_frames, shown_in, entry_within, held_if, is_link};
 ghost use Rattle.stage_look.specs.Lookup.{LookFits, look_move, root_end, place_end, look_end, root_after, look_after, EndFits};
 

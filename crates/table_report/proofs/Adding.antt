@@ -10,10 +10,10 @@ use Rattle.frame_words.specs.Frame.{frame_of_word}
 use Rattle.frame_words.specs.declared.frame_word.FrameWord.{FrameWord}
 use Rattle.word_map.specs.Word.{FrameAt}
 use Rattle.word_map.specs.Places.{Shape}
-use Rattle.seq_state.specs.State.{Kernel}
+use Rattle.kernel_rules.specs.State.{Kernel}
 use Rattle.kernel_history.specs.ObjectWords.{is_node}
 use Rattle.kernel_history.specs.FinalWords.{word_in}
-use Rattle.seq_state.specs.References.{sum_below, times, place_names, frame_names, core_names, number_names, node_refs, refs}
+use Rattle.kernel_rules.specs.References.{sum_below, times, place_names, frame_names, core_names, number_names, node_refs, refs}
 use Rattle.kernel_history.proofs.Sums.{sum_none, sum_more, sum_zero, times_append}
 use Rattle.tcap_words.specs.Stack.{stack_of_word}
 use Rattle.table_report.specs.Counting.{Adds}

@@ -10,10 +10,10 @@ use Rattle.frame_words.specs.Live.{live_of_word}
 use Rattle.frame_words.specs.declared.live_word.LiveWord.{LiveWord}
 use Rattle.word_map.specs.Word.{LiveAt}
 use Rattle.word_map.specs.Places.{Shape}
-use Rattle.seq_state.specs.State.{Place, Free, Holds, Quiescing, Object, Blank, Table, Leaf, Pages, Pleaf, Comp, Thread, Tcap, Frame, Untyped, User, Kernel, Liveness, Unused, Live, Dead, State, first_of_stack, thread_of, tcap_in}
-use Rattle.seq_state.specs.Access.{held_in}
-use Rattle.seq_state.specs.References.{place_names, frame_names, number_names, core_names, sum_below, times, node_refs, refs}
-use Rattle.seq_state.specs.Laws.{ticks}
+use Rattle.kernel_rules.specs.State.{Place, Free, Holds, Quiescing, Object, Blank, Table, Leaf, Pages, Pleaf, Comp, Thread, Tcap, Frame, Untyped, User, Kernel, Liveness, Unused, Live, Dead, State, first_of_stack, thread_of, tcap_in}
+use Rattle.kernel_rules.specs.Access.{held_in}
+use Rattle.kernel_rules.specs.References.{place_names, frame_names, number_names, core_names, sum_below, times, node_refs, refs}
+use Rattle.kernel_rules.specs.Laws.{ticks}
 use Rattle.kernel_history.specs.ObjectWords.{is_node, is_node_object}
 use Rattle.kernel_history.specs.FinalWords.{SaysPlace, AreEntries, AreFrame, SaysNumber, Represent, word_in, end_in}
 use Rattle.kernel_history.specs.Tables.{lines_below, frame_line, object_word, entry_line, object_lines, frame_lines, number_line, core_lines, total_line, tables_of}

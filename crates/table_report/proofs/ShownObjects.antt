@@ -8,7 +8,7 @@ use Rattle.tcap_words.specs.Quality.{quality_of_word}
 use Rattle.tcap_words.specs.Thread.{ThreadFits}
 use Rattle.tcap_words.proofs.ThreadLemmas as threads
 use Rattle.frame_words.specs.Comp.{comp_of_word}
-use Rattle.seq_state.specs.State.{Place, CompFields, ThreadFields, TcapFields, Blank, Table, Leaf, Pages, Pleaf, Comp, Thread, Tcap, Frame, Untyped, User, Kernel}
+use Rattle.kernel_rules.specs.State.{Place, CompFields, ThreadFields, TcapFields, Blank, Table, Leaf, Pages, Pleaf, Comp, Thread, Tcap, Frame, Untyped, User, Kernel}
 use Rattle.kernel_history.specs.ObjectWords.{thread_value, frame_value}
 use Rattle.kernel_history.specs.FinalWords.{AreComp, AreThread, AreTcap, AreFrame}
 use Rattle.table_report.specs.Shown.{stacked, listed, stack_shown, qualities_shown, comp_shown, budget_shown, frame_shown}

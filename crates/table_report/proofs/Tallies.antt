@@ -4,7 +4,7 @@ use Rattle.std.proofs.Math.ListN.{set}
 use Rattle.std.proofs.lemmas.Bool.{cases_eq}
 use Rattle.std.proofs.lemmas.List.{take_more, length-take-le, get_or-set_same, get_or-set_other}
 use Rattle.std.proofs.lemmas.List.Sums.{count_by-le-length}
-use Rattle.seq_state.specs.References.{times}
+use Rattle.kernel_rules.specs.References.{times}
 use Rattle.kernel_history.proofs.Sums.{times_append, one_same, one_other}
 
 module _ (names : List ℕ) (at : ℕ) (below : at < length names) where

@@ -23,10 +23,10 @@ use Rattle.tcap_words.specs.declared.quality_word.QualityWord.{QualityWord}
 use Rattle.tcap_words.specs.declared.stack_word.StackWord.{StackWord}
 use Rattle.word_map.specs.Word.{EntryAt, FrameAt, LiveAt}
 use Rattle.word_map.specs.Places.{Shape}
-use Rattle.seq_state.specs.State.{Place, Free, Holds, CompFields, Object, Blank, Table, Leaf, Pages, Pleaf, Comp, Thread, Tcap, Frame, Untyped, User, Kernel, Liveness, Unused, Live, Dead, Core, State}
-use Rattle.seq_state.specs.Start.{no_grace}
-use Rattle.seq_state.specs.References.{refs}
-use Rattle.seq_state.specs.Laws.{ticks}
+use Rattle.kernel_rules.specs.State.{Place, Free, Holds, CompFields, Object, Blank, Table, Leaf, Pages, Pleaf, Comp, Thread, Tcap, Frame, Untyped, User, Kernel, Liveness, Unused, Live, Dead, Core, State}
+use Rattle.kernel_rules.specs.Start.{no_grace}
+use Rattle.kernel_rules.specs.References.{refs}
+use Rattle.kernel_rules.specs.Laws.{ticks}
 use Rattle.kernel_history.specs.ObjectWords.{is_node}
 use Rattle.kernel_history.specs.FinalWords.{word_in, end_in}
 use Rattle.kernel_history.specs.Tables.{lines_below, frame_lines, number_line, core_lines, total_line}

@@ -1,7 +1,7 @@
 //! The references to each frame.
 
 ghost use Rattle.std.specs.Prelude.{◌≡◌, IfOk, length};
-ghost use Rattle.seq_state.specs.References.{times, refs};
+ghost use Rattle.kernel_rules.specs.References.{times, refs};
 ghost use Rattle.word_map.specs.Places.{size_of};
 ghost use Rattle.table_report.specs.Shown.{shown};
 ghost use Rattle.table_report.specs.Counting.{AreCounts};

@@ -1,8 +1,8 @@
 //! The lines of frames, and the sum of their budgets.
 
 ghost use Rattle.std.specs.Prelude.{◌≡◌, ◌<◌, ◌≤◌, ◌^◌, ◌++◌, length, OnOk, string_bytes, slice_index};
-ghost use Rattle.seq_state.specs.State.{tcap_in, Kernel};
-ghost use Rattle.seq_state.specs.References.{sum_below};
+ghost use Rattle.kernel_rules.specs.State.{tcap_in, Kernel};
+ghost use Rattle.kernel_rules.specs.References.{sum_below};
 ghost use Rattle.word_map.specs.Places.{size_of};
 ghost use Rattle.kernel_history.specs.Tables.{frame_line, frame_lines, object_lines, object_word};
 ghost use Rattle.table_report.specs.Shown.{object_shown, place_in, words_of, frame_at, place_at, frames_text};

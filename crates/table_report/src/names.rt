@@ -4,8 +4,8 @@ ghost use Rattle.std.specs.Prelude.{◌≡◌, ◌<◌, ◌++◌, length, OnOk, 
 ghost use Rattle.entry_words.specs.EntryWord.{entry_of_word};
 ghost use Rattle.frame_words.specs.Live.{live_of_word};
 ghost use Rattle.tcap_words.specs.Stack.{stack_of_word};
-ghost use Rattle.seq_state.specs.State.{Kernel};
-ghost use Rattle.seq_state.specs.References.{sum_below, times, named_by, place_names, frame_names, number_names, core_names, refs};
+ghost use Rattle.kernel_rules.specs.State.{Kernel};
+ghost use Rattle.kernel_rules.specs.References.{sum_below, times, named_by, place_names, frame_names, number_names, core_names, refs};
 ghost use Rattle.word_map.specs.Places.{size_of};
 ghost use Rattle.kernel_history.specs.ObjectWords.{is_node, is_node_object};
 ghost use Rattle.table_report.specs.Shown.{place_shown, stacked, stack_shown, object_shown, number_shown, core_shown, words_of, frame_at, place_at, number_at, core_at, frame_shown, shown};

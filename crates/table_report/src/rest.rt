@@ -3,7 +3,7 @@
 ghost use Rattle.std.specs.Prelude.{◌≡◌, ◌≤◌, ◌^◌, ◌++◌, length, OnOk, Some, string_bytes, codes};
 ghost use Rattle.std.specs.List.{flat_map};
 ghost use Rattle.frame_words.specs.Live.{live_of_word};
-ghost use Rattle.seq_state.specs.References.{sum_below};
+ghost use Rattle.kernel_rules.specs.References.{sum_below};
 ghost use Rattle.word_map.specs.Places.{size_of};
 ghost use Rattle.kernel_history.specs.Tables.{number, number_line, translation_line, core_lines, total_line};
 ghost use Rattle.table_report.specs.Shown.{number_shown, numbers_text, core_shown, core_at, cores_text};

@@ -1,7 +1,7 @@
 //! The tables, whole.
 
 ghost use Rattle.std.specs.Prelude.{◌≡◌, IfOk, length, string_bytes};
-ghost use Rattle.seq_state.specs.State.{State};
+ghost use Rattle.kernel_rules.specs.State.{State};
 ghost use Rattle.word_map.specs.Places.{size_of};
 ghost use Rattle.kernel_history.specs.FinalWords.{Represent, word_in, end_in};
 ghost use Rattle.kernel_history.specs.Tables.{tables_of};

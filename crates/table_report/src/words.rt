@@ -2,7 +2,7 @@
 
 ghost use Rattle.std.specs.Prelude.{◌≡◌, ◌<◌, length, Some};
 ghost use Rattle.entry_words.specs.EntryWord.{entry_of_word};
-ghost use Rattle.seq_state.specs.Start.{place_with};
+ghost use Rattle.kernel_rules.specs.Start.{place_with};
 ghost use Rattle.word_map.specs.Word.{FrameAt, LiveAt};
 ghost use Rattle.word_map.specs.Places.{size_of};
 ghost use Rattle.kernel_history.specs.FinalWords.{word_in};

@@ -11,7 +11,8 @@ use Rattle.turn_rule.specs.declared.view.Entry.{Entry}
 use Rattle.turn_rule.specs.declared.view.Start.{Start}
 use Rattle.turn_rule.specs.declared.view.Part.{Part}
 use Rattle.turn_rule.specs.declared.view.View.{View}
-use Rattle.turn_rule.specs.Steps.{Steps, place_of, left_by, told_by}
+use Rattle.turn_rule.specs.Steps.{Steps}
+use Rattle.spk_nums.specs.WordSteps.{place_in, left_by, told_by}
 use Rattle.turn_rule.specs.Trace.{entry, AreOfOthers, called, MayCall, program_after, IsStep, MayFollow, IsSound}
 use Rattle.turn_rule.specs.Rule.{part, nothing, view, Begins, Fits, Kept, IsSeated, IsDue, Goes}
 use Rattle.turn_rule.proofs.Traces.{program_here, program_stays}
@@ -53,7 +54,7 @@ module _ {P C : Type 0} (T : Steps P C) where
 
 module _ {P C : Type 0} (T : Steps P C) (start : Start P) where
   module _ (s : State (Unit {0}) (View P C)) (h : Kept T start s) (id : ℕ) (me : Me (Unit {0}) (View P C)) (at : get_elem? s.views id ≡ some me.0) (words : ℕ) (call : Option C) (op : WordOp) (due : IsDue T words me call op)
-      (count : words ≡ length start.words) (small : get_or s.words (place_of op) 0 < 18446744073709551616) where
+      (count : words ≡ length start.words) (small : get_or s.words (place_in op) 0 < 18446744073709551616) where
     abbrev v : Part P C
     v = me.0.own
 
@@ -61,7 +62,7 @@ module _ {P C : Type 0} (T : Steps P C) (start : Start P) where
     mine = h.own id me.0 at
 
     abbrev n : ℕ
-    n = get_or s.words (place_of op) 0
+    n = get_or s.words (place_in op) 0
 
     abbrev e : Entry C
     e = entry v.from op n call
@@ -83,18 +84,18 @@ module _ {P C : Type 0} (T : Steps P C) (start : Start P) where
     follows : MayFollow T start h.trace e
     follows = record {
       inside = let inside = due.inside in omega arith;
-      found = h.words (place_of op);
+      found = h.words (place_in op);
       in_range = small;
       program = due.program;
       runs = runs;
       step = record { may = due.may; op = op; next = due.next; place = refl; left = refl };
     }
 
-    kept : (c : List (ℕ × Unit {0})) → Kept T start (stepped s (place_of op) (left_by op n) id c w keeps)
+    kept : (c : List (ℕ × Unit {0})) → Kept T start (stepped s (place_in op) (left_by op n) id c w keeps)
     kept c = let from = due.seated.from in let end = due.seated.end in let its : h.owner v.from ≡ id = mine.owns v.from (omega arith) (omega arith) in record {
       trace = e ∷ h.trace;
-      count = length-set s.words (place_of op) (left_by op n) ∙ h.count;
-      words = λ i. let same = h.count in let inside = due.inside in stored_at s.words (place_of op) i (left_by op n) (omega arith) ∙ ap (λ (m : ℕ). if place_of op == i then left_by op n else m) (h.words i);
+      count = length-set s.words (place_in op) (left_by op n) ∙ h.count;
+      words = λ i. let same = h.count in let inside = due.inside in stored_at s.words (place_in op) i (left_by op n) (omega arith) ∙ ap (λ (m : ℕ). if place_in op == i then left_by op n else m) (h.words i);
       sound = (h.sound, follows);
       owner = h.owner;
       own = λ j u is. ⊎_elim
@@ -120,7 +121,7 @@ module _ {P C : Type 0} (T : Steps P C) (start : Start P) where
 
   -- what `Allows` asks of a step that the program makes
   pub goes_on : (slots id : ℕ) (me : Me (Unit {0}) (View P C)) (words : ℕ) (call : Option C) (op : WordOp) → IsDue T words me call op → words ≡ length start.words
-      → Allows (Kept T start) slots id me (place_of op) (left_by op) (λ n m. Goes T me.0.own call op (told_by op n) m.0.own × (m.1 ≡ me.1))
+      → Allows (Kept T start) slots id me (place_in op) (left_by op) (λ n m. Goes T me.0.own call op (told_by op n) m.0.own × (m.1 ≡ me.1))
   goes_on slots id me words call op due count s h _ at small =
       (w s h id me at words call op due count small, keeps, tt, kept s h id me at words call op due count small me.1, (goes s h id me at words call op due count small, refl))
 

@@ -5,7 +5,8 @@ use native.Mathlib.Decide.{dec_le}
 use Rattle.std.specs.Option.{option_map}
 use Rattle.turn_rule.specs.declared.view.Entry.{Entry}
 use Rattle.turn_rule.specs.declared.view.Start.{Start}
-use Rattle.turn_rule.specs.Steps.{Steps, told_by}
+use Rattle.turn_rule.specs.Steps.{Steps}
+use Rattle.spk_nums.specs.WordSteps.{told_by}
 use Rattle.turn_rule.specs.Trace.{AreOfOthers, Extends, ExtendsByOthers, word_after, called, told, after_entry, program_after, IsStep, MayFollow, IsSound}
 
 module _ {C : Type 0} where

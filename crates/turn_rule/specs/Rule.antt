@@ -9,7 +9,8 @@ use Rattle.turn_rule.specs.declared.view.Entry.{Entry}
 use Rattle.turn_rule.specs.declared.view.Start.{Start}
 use Rattle.turn_rule.specs.declared.view.Part.{Part}
 use Rattle.turn_rule.specs.declared.view.View.{View}
-use Rattle.turn_rule.specs.Steps.{Steps, place_of, told_by}
+use Rattle.turn_rule.specs.Steps.{Steps}
+use Rattle.spk_nums.specs.WordSteps.{place_in, told_by}
 use Rattle.turn_rule.specs.Trace.{entry, AreOfOthers, word_after, called, MayCall, IsSound, Follows}
 
 abbrev pub start_of : {P : Type 0} → List ℕ → List P → Start P
@@ -82,7 +83,7 @@ module _ {P C : Type 0} (T : Steps P C) where
     pub seated : IsSeated words core me program
     pub may : MayCall T program call
     pub next : T.next (called T program call) ≡ Some op
-    pub inside : place_of op < words
+    pub inside : place_in op < words
 
   -- the part is of the same start, has the cores from the same one below `to`, and has seen a sound trace
   pub record Stays (v : Part P C) (to : ℕ) (w : Part P C) : Type 0 where

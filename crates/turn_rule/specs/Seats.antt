@@ -4,7 +4,8 @@ use Rattle.atomic_table.specs.Seated.{TableId}
 use Rattle.spk_nums.specs.declared.steps.WordOp.{WordOp}
 use Rattle.turn_rule.specs.declared.view.Entry.{Entry}
 use Rattle.turn_rule.specs.declared.view.Start.{Start}
-use Rattle.turn_rule.specs.Steps.{Steps, told_by}
+use Rattle.turn_rule.specs.Steps.{Steps}
+use Rattle.spk_nums.specs.WordSteps.{told_by}
 use Rattle.turn_rule.specs.Trace.{entry, AreOfOthers, Extends, ExtendsByOthers, word_after, called, program_after, IsSound, Follows}
 
 -- which table it is, and its words and programs at the start

@@ -4,12 +4,13 @@ use Rattle.std.specs.Option.{option_map}
 use Rattle.spk_nums.specs.declared.steps.WordOp.{WordOp}
 use Rattle.turn_rule.specs.declared.view.Entry.{Entry}
 use Rattle.turn_rule.specs.declared.view.Start.{Start}
-use Rattle.turn_rule.specs.Steps.{Steps, place_of, left_by, told_by}
+use Rattle.turn_rule.specs.Steps.{Steps}
+use Rattle.spk_nums.specs.WordSteps.{place_in, left_by, told_by}
 
 module _ {C : Type 0} where
   -- the entry of a step of core c that found n, and of the call that began with it, if any
   abbrev pub entry : ℕ → WordOp → ℕ → Option C → Entry C
-  entry c op n call = record { core = c; at = place_of op; found = n; left = left_by op n; call = call }
+  entry c op n call = record { core = c; at = place_in op; found = n; left = left_by op n; call = call }
 
   -- no entry is core c's
   abbrev pub AreOfOthers : ℕ → List (Entry C) → Type 0
@@ -63,7 +64,7 @@ module _ {P C : Type 0} (T : Steps P C) where
     pub may : MayCall p e.call
     pub op : WordOp
     pub next : T.next (called p e.call) ≡ Some op
-    pub place : e.at ≡ place_of op
+    pub place : e.at ≡ place_in op
     pub left : e.left ≡ left_by op e.found
 
   -- the entry may follow the trace: it found the word last left at its place, and is the step that its core's program makes

@@ -9,7 +9,8 @@ pub trait CoreProgram: Drop {
     type Call: Drop;
 
     ghost use Rattle.std.specs.Prelude.{◌≡◌, ◌<◌, IsNone, IsSome, IfSome};
-    ghost use Rattle.turn_rule.specs.Steps.{Steps, place_of};
+    ghost use Rattle.turn_rule.specs.Steps.{Steps};
+ghost use Rattle.spk_nums.specs.WordSteps.{place_in};
 
     // How the program goes on: its next step, what a word and a call make of it, which calls are fit, and its words.
     ghost steps: { Steps Self Self.Call };
@@ -25,7 +26,7 @@ pub trait CoreProgram: Drop {
     /// The next step, on a word below the program's size; none between calls.
     fn next_op(&self) -> Option<WordOp>
         ensures next { result ≡ steps.next self.now }
-        ensures inside { IfSome result (λ op. place_of op < steps.size self.now) };
+        ensures inside { IfSome result (λ op. place_in op < steps.size self.now) };
 
     /// Takes in the word that its step tells: the word found, or for a store the word stored.
     fn absorb(&mut self, found: u64)

@@ -8,7 +8,7 @@ use Rattle.spk_nums.specs.declared.steps.WordOp.{WordOp}
 use Rattle.spk_nums.specs.declared.steps.WordOp.TheVariants.{Load, Compare}
 use Rattle.turn_rule.specs.declared.view.Entry.{Entry}
 use Rattle.turn_rule.specs.declared.view.Start.{Start}
-use Rattle.turn_rule.specs.Steps.{place_of, left_by, told_by}
+use Rattle.spk_nums.specs.WordSteps.{place_in, left_by, told_by}
 use Rattle.turn_rule.specs.Trace.{called, word_after, program_after, IsSound, MayFollow}
 use Rattle.turn_rule.proofs.Traces.{kept_along, word_here, program_here, program_elsewhere, core_inside}
 use Rattle.turn_tests.specs.declared.counter.Stage.{Stage}
@@ -46,15 +46,15 @@ total_of_all (p ∷ l) f h =
     sym (sum_by-cons (λ (q : Counter). q.wins) p l ∙ (let both = rest in let one = first in omega arith))
 
 -- a step is on word 0, and leaves the word and the wins as they were or both one more
-step_counts : (s : Stage) (w : ℕ) (op : WordOp) → next_at s ≡ Some op → (at left found : ℕ) → at ≡ place_of op → left ≡ left_by op found
+step_counts : (s : Stage) (w : ℕ) (op : WordOp) → next_at s ≡ Some op → (at left found : ℕ) → at ≡ place_in op → left ≡ left_by op found
     → (at ≡ 0) × (((left ≡ found) × ((after_at s w (told_by op found)).wins ≡ w)) ⊎ ((left ≡ (found + 1) % 2 ^ 64) × ((after_at s w (told_by op found)).wins ≡ (w + 1) % 2 ^ 64)))
 step_counts Idle w op next at left found place leaves = absurd (none-some op next)
-step_counts (Looks k) w op next at left found place leaves = let is : op ≡ Load 0 = cc in (place ∙ ap place_of is, inl (leaves ∙ ap (λ o. left_by o found) is, refl))
+step_counts (Looks k) w op next at left found place leaves = let is : op ≡ Load 0 = cc in (place ∙ ap place_in is, inl (leaves ∙ ap (λ o. left_by o found) is, refl))
 step_counts (Tries seen k) w op next at left found place leaves =
     let is : op ≡ Compare 0 seen ((seen + 1) % 2 ^ 64) = cc in
     let leaves_it : left ≡ (if found == seen then (seen + 1) % 2 ^ 64 else found) = leaves ∙ ap (λ o. left_by o found) is in
     let told : told_by op found ≡ found = ap (λ o. told_by o found) is in (
-      place ∙ ap place_of is,
+      place ∙ ap place_in is,
       dite (ℕ_discrete found seen)
           (λ (same : found ≡ seen). inr (
             leaves_it ∙ ap (λ b. if b then (seen + 1) % 2 ^ 64 else found) (eq-eqb found seen same) ∙ ap (λ (n : ℕ). (n + 1) % 2 ^ 64) (sym same),

@@ -1,7 +1,8 @@
 -- Atomic steps on the words of the table, by the words' names.
-use Rattle.std.specs.Prelude.{ℕ, ◌+◌, ◌%◌, ◌^◌, ◌==◌, Bool, if◌then◌else◌}
+use Rattle.std.specs.Prelude.{ℕ, ◌+◌, ◌%◌, ◌^◌, ◌==◌}
 use Rattle.spk_nums.specs.declared.steps.WordOp.{WordOp}
 use Rattle.spk_nums.specs.declared.steps.WordOp.TheVariants.{Load, Compare, Store, Add}
+use Rattle.spk_nums.specs.WordSteps.{left_if}
 use Rattle.word_map.specs.Word.{Word}
 use Rattle.word_map.specs.Places.{Shape, place_of}
 
@@ -25,17 +26,6 @@ op_of s (LoadOf w) = Load (place_of s w)
 op_of s (CompareOf w expected new) = Compare (place_of s w) expected new
 op_of s (StoreOf w new) = Store (place_of s w) new
 op_of s (AddOf w by) = Add (place_of s w) by
-
--- the place at which a step on the table is made
-abbrev pub place_in : WordOp → ℕ
-place_in (Load at) = at
-place_in (Compare at expected new) = at
-place_in (Store at new) = at
-place_in (Add at by) = at
-
--- what a compare leaves, where it did or did not find what it expects
-abbrev pub left_if : Bool → ℕ → ℕ → ℕ
-left_if equal found new = if equal then new else found
 
 -- what a step leaves in the word, where it found this
 abbrev pub left_of : Move → ℕ → ℕ

@@ -1,5 +1,5 @@
 use Rattle.std.proofs.Common.{◌≡◌, ◌<◌, ◌≤◌, ℕ}
-use Rattle.seq_state.specs.GracePeriods.{passed}
+use Rattle.kernel_rules.specs.GracePeriods.{passed}
 use Rattle.seq_state.specs.Maps.{at}
 use Rattle.seq_state.specs.Passing.{Becomes}
 use Rattle.seq_state.proofs.passing.pass_below.Given as goal

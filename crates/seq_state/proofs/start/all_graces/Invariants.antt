@@ -1,5 +1,5 @@
 use Rattle.std.proofs.Common.{◌≡◌}
-use Rattle.seq_state.specs.Start.{no_grace}
+use Rattle.kernel_rules.specs.Start.{no_grace}
 use Rattle.seq_state.specs.Parts.{grace_of}
 use Rattle.seq_state.specs.Maps.{HasAll}
 use Rattle.seq_state.proofs.start.all_graces.Given as goal

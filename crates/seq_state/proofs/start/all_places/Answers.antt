@@ -1,5 +1,5 @@
 use Rattle.std.proofs.Common.{◌≡◌, ◌/◌, ◌%◌}
-use Rattle.seq_state.specs.Start.{start_place}
+use Rattle.kernel_rules.specs.Start.{start_place}
 use Rattle.seq_state.specs.Parts.{place_of}
 use Rattle.seq_state.proofs.StartLemmas.{all_more}
 use Rattle.seq_state.proofs.start.all_places.Goals as goal

@@ -1,5 +1,5 @@
 use Rattle.std.proofs.Common.{◌≡◌, ℕ, ◌<◌, length, get_or, take}
-use Rattle.seq_state.specs.References.{times}
+use Rattle.kernel_rules.specs.References.{times}
 use Rattle.table_report.proofs.counting.tally.Given as goal
 
 abbrev pub invariant-names : goal.invariant-names

@@ -1,6 +1,6 @@
 use Rattle.std.proofs.Common.{sym, subst, arith, ◌++◌, ◌≡◌}
 use Rattle.std.proofs.Common.{length}
-use Rattle.seq_state.specs.References.{core_names}
+use Rattle.kernel_rules.specs.References.{core_names}
 use Rattle.table_report.specs.Shown.{core_shown}
 use Rattle.table_report.proofs.Lines.{ends_read}
 use Rattle.table_report.proofs.Adding.{adds_none, adds_piece, adds_more, adds_whole}

@@ -1,4 +1,4 @@
-use Rattle.seq_state.specs.References.{sum_below, times, place_names}
+use Rattle.kernel_rules.specs.References.{sum_below, times, place_names}
 use Rattle.entry_words.specs.EntryWord.{entry_of_word}
 use Rattle.table_report.specs.Counting.{Adds}
 use Rattle.table_report.specs.Shown.{place_shown, words_of}

@@ -1,4 +1,4 @@
-use Rattle.seq_state.specs.References.{sum_below, times, frame_names}
+use Rattle.kernel_rules.specs.References.{sum_below, times, frame_names}
 use Rattle.table_report.specs.Counting.{Adds}
 use Rattle.table_report.specs.Shown.{frame_at}
 use Rattle.table_report.proofs.names.push_frames.Given as goal

@@ -1,4 +1,4 @@
-use Rattle.seq_state.specs.References.{times}
+use Rattle.kernel_rules.specs.References.{times}
 use Rattle.table_report.specs.Counting.{Adds}
 use Rattle.table_report.specs.Shown.{stack_shown, words_of}
 use Rattle.table_report.proofs.names.push_stack.Given as goal

@@ -1,5 +1,5 @@
 use Rattle.std.proofs.Common.{◌≡◌, ◌*◌, ◌≤◌}
-use Rattle.seq_state.specs.References.{sum_below}
+use Rattle.kernel_rules.specs.References.{sum_below}
 use Rattle.table_report.specs.Shown.{core_at}
 use Rattle.table_report.proofs.rest.spent.Given as goal
 

@@ -1,7 +1,7 @@
 use Rattle.std.proofs.Common.{◌≡◌, ◌+◌, arith, ap}
 use Rattle.std.specs.Prelude.{string_bytes}
-use Rattle.seq_state.specs.References.{sum_below}
-use Rattle.seq_state.specs.Laws.{ticks}
+use Rattle.kernel_rules.specs.References.{sum_below}
+use Rattle.kernel_rules.specs.Laws.{ticks}
 use Rattle.table_report.specs.Shown.{core_at, shown}
 use Rattle.table_report.proofs.Determined.{whole_text}
 use Rattle.table_report.proofs.whole.tables.Goals as goal

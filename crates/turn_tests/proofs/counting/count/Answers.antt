@@ -1,6 +1,6 @@
 use Rattle.std.proofs.Common.{◌≡◌, ◌+◌, [], ◌∷◌, Some, None, arith, ap}
 use Rattle.spk_nums.specs.declared.steps.WordOp.TheVariants.{Load}
-use Rattle.turn_rule.specs.Steps.{told_by}
+use Rattle.spk_nums.specs.WordSteps.{told_by}
 use Rattle.turn_rule.specs.Seats.{MakesStep}
 use Rattle.turn_tests.specs.Counter.{counter_steps, steps_left}
 use Rattle.turn_tests.proofs.Calls.{step_makes, makes_more, fewer_left, the_some}

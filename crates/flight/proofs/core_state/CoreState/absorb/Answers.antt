@@ -1,6 +1,6 @@
 use Rattle.std.proofs.Common.{◌≡◌, ◌∙◌, ap, sym, ◌+◌, ◌<◌, ℕ, Option, Some, option_map}
 use Rattle.spk_nums.specs.declared.replies.Reply.{Reply}
-use Rattle.seq_state.specs.Laws.{calls_counted}
+use Rattle.kernel_rules.specs.Laws.{calls_counted}
 use Rattle.flight.specs.declared.stages.InFlight.{InFlight}
 use Rattle.flight.specs.declared.stages.Stage.{Stage}
 use Rattle.flight.specs.declared.stages.Took.{Took}

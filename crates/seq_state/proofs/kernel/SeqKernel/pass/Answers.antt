@@ -1,4 +1,4 @@
-use Rattle.seq_state.specs.GracePeriods.{passed}
+use Rattle.kernel_rules.specs.GracePeriods.{passed}
 use Rattle.seq_state.specs.Kernel.{maps_of}
 use Rattle.seq_state.proofs.PassLemmas.{all_become}
 use Rattle.seq_state.proofs.kernel.SeqKernel.pass.Goals as goal

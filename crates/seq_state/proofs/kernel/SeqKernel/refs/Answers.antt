@@ -1,5 +1,5 @@
 use Rattle.std.proofs.Common.{◌≡◌, ℕ, ◌+◌}
-use Rattle.seq_state.specs.References.{refs}
+use Rattle.kernel_rules.specs.References.{refs}
 use Rattle.seq_state.proofs.kernel.SeqKernel.refs.Goals as goal
 
 -- The four sums together.

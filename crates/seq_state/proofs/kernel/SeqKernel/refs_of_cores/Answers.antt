@@ -1,5 +1,5 @@
 use Rattle.std.proofs.Common.{ap, ◌∙◌, arith}
-use Rattle.seq_state.specs.References.{core_names, times}
+use Rattle.kernel_rules.specs.References.{core_names, times}
 use Rattle.seq_state.specs.Maps.{state_of}
 use Rattle.seq_state.proofs.Counting.{sum_none, counted}
 use Rattle.seq_state.proofs.kernel.SeqKernel.refs_of_cores.Goals as goal

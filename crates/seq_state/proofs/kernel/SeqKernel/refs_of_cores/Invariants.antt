@@ -1,5 +1,5 @@
 use Rattle.std.proofs.Common.{◌≡◌, ◌≤◌, ◌*◌}
-use Rattle.seq_state.specs.References.{core_names, sum_below, times}
+use Rattle.kernel_rules.specs.References.{core_names, sum_below, times}
 use Rattle.seq_state.specs.Maps.{state_of}
 use Rattle.seq_state.proofs.kernel.SeqKernel.refs_of_cores.Given as goal
 

@@ -1,5 +1,5 @@
 use Rattle.std.proofs.Common.{refl, ap, ◌∙◌, arith}
-use Rattle.seq_state.specs.References.{number_names, times}
+use Rattle.kernel_rules.specs.References.{number_names, times}
 use Rattle.seq_state.specs.Maps.{state_of}
 use Rattle.seq_state.proofs.Counting.{sum_none, counted}
 use Rattle.seq_state.proofs.kernel.SeqKernel.refs_of_numbers.Goals as goal

@@ -1,5 +1,5 @@
 use Rattle.std.proofs.Common.{arith}
-use Rattle.seq_state.specs.References.{node_refs}
+use Rattle.kernel_rules.specs.References.{node_refs}
 use Rattle.seq_state.specs.Maps.{state_of}
 use Rattle.seq_state.proofs.Counting.{sum_none, counted}
 use Rattle.seq_state.proofs.kernel.SeqKernel.refs_of_places.Goals as goal

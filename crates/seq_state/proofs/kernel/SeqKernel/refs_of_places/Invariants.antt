@@ -1,5 +1,5 @@
 use Rattle.std.proofs.Common.{◌≡◌, ◌≤◌, ◌*◌}
-use Rattle.seq_state.specs.References.{sum_below, node_refs}
+use Rattle.kernel_rules.specs.References.{sum_below, node_refs}
 use Rattle.seq_state.specs.Maps.{state_of}
 use Rattle.seq_state.proofs.kernel.SeqKernel.refs_of_places.Given as goal
 

@@ -1,5 +1,5 @@
 use Rattle.std.proofs.Common.{ap, arith}
-use Rattle.seq_state.specs.State.{Limits}
+use Rattle.kernel_rules.specs.State.{Limits}
 use Rattle.seq_state.specs.Kernel.{maps_of}
 use Rattle.seq_state.proofs.MapLemmas as maps
 use Rattle.seq_state.proofs.SetLemmas as sets

@@ -1,5 +1,5 @@
 use Rattle.std.proofs.Common.{◌≡◌, take, arith, ap, sym, ◌∙◌}
-use Rattle.seq_state.specs.References.{times}
+use Rattle.kernel_rules.specs.References.{times}
 use Rattle.seq_state.proofs.StackLemmas.{times_reverse}
 use Rattle.seq_state.proofs.stack.Stack.times.Goals as goal
 

@@ -1,0 +1,4 @@
+pub mod Ticks
+pub mod TicksLaw
+pub mod Rows
+pub mod TwoCores

@@ -1,0 +1,255 @@
+-- In a state in which no core is in a call nobody waits; so there the relation and the reply to a call made alone agree.
+use Rattle.std.proofs.Common.{◌≡◌, inl, inr, ℕ, Bool, true, false, refl, sym, ◌∙◌, ap, subst, if◌then◌else◌, IsTrue, IsFalse, List, [], ◌∷◌, Option, Some, None}
+use Rattle.std.proofs.lemmas.Bool.{cases_eq, false≢true}
+use Rattle.std.specs.List.{list_any}
+use Rattle.spk_nums.specs.Setting.{Setting}
+use Rattle.spk_nums.specs.declared.kinds.FrameKind.{FrameKind}
+use Rattle.spk_nums.specs.declared.kinds.FrameKind.TheVariants as frame_kind
+use Rattle.spk_nums.specs.declared.calls.Make.{Make}
+use Rattle.spk_nums.specs.declared.calls.Make.TheVariants as make
+use Rattle.spk_nums.specs.declared.translations.Translation.{Translation}
+use Rattle.spk_nums.specs.declared.calls.Call.{Call}
+use Rattle.spk_nums.specs.declared.calls.Call.TheVariants.{Look, Copy, Remove, Grow, Shrink, Retype, Make as make_call, Map, Unmap, Touch, Flush, Gate, Kill, Call as call_gate, Ret, Switch, Tick, Transfer, Delegate, Test}
+use Rattle.spk_nums.specs.declared.replies.Value.{Value}
+use Rattle.spk_nums.specs.declared.replies.Reply.{Reply}
+use Rattle.spk_nums.specs.declared.replies.Reply.TheVariants as reply
+use Rattle.kernel_rules.specs.State.{Core, Thing, FrameOf, State, put, comp_of, thread_in}
+use Rattle.kernel_rules.specs.Start.{no_grace}
+use Rattle.kernel_rules.specs.GracePeriods.{same_thing, new_grace, entered, returned}
+use Rattle.kernel_rules.specs.Access.{Named, found}
+use Rattle.kernel_rules.specs.Rules.{Change, Judged, Refused, Found, IsFoundAnd, RuleMay}
+use Rattle.kernel_rules.specs.CapabilityCalls.{make_rule, is_place_of}
+use Rattle.kernel_rules.specs.MemoryCalls.{retype_rule, touch_by, translation_of}
+use Rattle.kernel_rules.specs.InvocationCalls.{switch_to}
+use Rattle.kernel_rules.specs.CallRelation.{rule_of, change_of, changed, counted, owed_by, state_by, are_calls_spent, MayReply}
+use Rattle.kernel_rules.specs.Alone.{reply_in, alone}
+use Rattle.kernel_rules.specs.Runs.{Event, Enters, Decides, Returns, after}
+use Rattle.kernel_rules.specs.Laws.{PermitsAlone}
+use Rattle.kernel_rules.proofs.Changes.{AllChanges, IfFound, outcome_all}
+use Rattle.kernel_rules.proofs.Within.{put_same, put_other, waits_within}
+use Rattle.kernel_rules.proofs.Agrees.{IsCalm, IsPlain, IfRefused, HasPlain, rule_refused}
+
+-- A core that replaces core c and is in a call where c was: every core is in a call where it was.
+pub core_inside : (s : State) (c d : ℕ) (k : Core) → k.inside ≡ (s.core c).inside → (put s.core c k d).inside ≡ (s.core d).inside
+core_inside s c d k e = elim (cases_eq d c) [
+  | inl same ↦ ap (λ x. x.inside) (put_same s.core c k d same) ∙ e ∙ sym (ap (λ i. (s.core i).inside) same)
+  | inr other ↦ ap (λ x. x.inside) (put_other s.core c k d other)
+]
+
+-- Who waits after a change waited before, and who is in a call was; the limits stay.
+pub record Waits (s : State) (change : Change) : Type 0 where
+  pub inside : (d : ℕ) → (change.next.core d).inside ≡ (s.core d).inside
+  pub waits : (x : Thing) (d : ℕ) → IsTrue ((change.next.grace x).waits d) → IsTrue ((s.grace x).waits d)
+  pub limits : change.next.limits ≡ s.limits
+
+node_waits : (s : State) (f : ℕ) (b : Thing → Bool) (x : Thing) (d : ℕ)
+    → IsTrue ((if b x then no_grace else s.grace x).waits d) → IsTrue ((s.grace x).waits d)
+node_waits s f b x d = tested (b x)
+  where
+    tested : (t : Bool) → IsTrue ((if t then no_grace else s.grace x).waits d) → IsTrue ((s.grace x).waits d)
+    tested true h = absurd (false≢true h)
+    tested false h = h
+
+make_waits : (s : State) (what : Make) (r f t b : ℕ) → AllChanges (Waits s) (make_rule s what r f t b)
+make_waits s make.Table r f t b = λ range table at. record { inside = λ d. refl; waits = node_waits s f (is_place_of f); limits = refl }
+make_waits s make.Leaf r f t b = λ range table at. record { inside = λ d. refl; waits = node_waits s f (is_place_of f); limits = refl }
+make_waits s make.Pages r f t b = λ range table at. record { inside = λ d. refl; waits = node_waits s f (is_place_of f); limits = refl }
+make_waits s make.Pleaf r f t b = λ range table at. record { inside = λ d. refl; waits = node_waits s f (is_place_of f); limits = refl }
+make_waits s (make.Thread comp) r f t b = λ range table k at. record { inside = λ d. refl; waits = λ x d h. h; limits = refl }
+make_waits s (make.Tcap sched quality) r f t b = λ range table at. record { inside = λ d. refl; waits = λ x d h. h; limits = refl }
+make_waits s (make.Comp x p live) r f t b = λ range table k j at. record { inside = λ d. refl; waits = λ x d h. h; limits = refl }
+
+retype_waits : (s : State) (r f : ℕ) (k : FrameKind) → AllChanges (Waits s) (retype_rule s r f k)
+retype_waits s r f frame_kind.Untyped = λ range. record { inside = λ d. refl; waits = node_waits s f (λ x. same_thing x (FrameOf f)); limits = refl }
+retype_waits s r f frame_kind.User = λ range. record { inside = λ d. refl; waits = λ x d h. h; limits = refl }
+retype_waits s r f frame_kind.Kernel = λ range. record { inside = λ d. refl; waits = λ x d h. h; limits = refl }
+
+touch_waits : (s : State) (c pages v : ℕ) (t : Option Translation) → AllChanges (Waits s) (touch_by s c pages v t)
+touch_waits s c pages v None = λ mapping. record { inside = λ d. core_inside s c d _ refl; waits = λ x d h. h; limits = refl }
+touch_waits s c pages v (Some t) = record { inside = λ d. refl; waits = λ x d h. h; limits = refl }
+
+switch_waits : (s : State) (c : ℕ) (h : Named) (q : ℕ) (e : Option ℕ) → AllChanges (Waits s) (switch_to s c h q e)
+switch_waits s c h q None = record { inside = λ d. core_inside s c d _ refl; waits = λ x d h. h; limits = refl }
+switch_waits s c h q (Some e) = record { inside = λ d. core_inside s c d _ refl; waits = λ x d h. h; limits = refl }
+
+pub rule_waits : (s : State) (c : ℕ) (call : Call) → AllChanges (Waits s) (rule_of s c call)
+rule_waits s c (Look a) = λ k. record { inside = λ d. refl; waits = λ x d h. h; limits = refl }
+rule_waits s c (Copy a t b) = λ k table at. record { inside = λ d. refl; waits = λ x d h. h; limits = refl }
+rule_waits s c (Remove t b) = λ table at k. record { inside = λ d. refl; waits = λ x d h. h; limits = refl }
+rule_waits s c (Grow t i l) = λ table leaf at. record { inside = λ d. refl; waits = λ x d h. h; limits = refl }
+rule_waits s c (Shrink t i) = λ table at k. record { inside = λ d. refl; waits = λ x d h. h; limits = refl }
+rule_waits s c (Retype r f k) = retype_waits s r f k
+rule_waits s c (make_call what range frame table slot) = make_waits s what range frame table slot
+rule_waits s c (Map p v r f w) = λ pages range at. record { inside = λ d. refl; waits = λ x d h. h; limits = refl }
+rule_waits s c (Unmap p v) = λ pages at k. record { inside = λ d. refl; waits = λ x d h. h; limits = refl }
+rule_waits s c (Touch v) = touch_waits s c (comp_of s c).pages v (translation_of (s.core c).cached (comp_of s c).pages v)
+rule_waits s c Flush = record { inside = λ d. core_inside s c d _ refl; waits = λ x d h. h; limits = refl }
+rule_waits s c (Gate k t b) = λ comp table at. record { inside = λ d. refl; waits = λ x d h. h; limits = refl }
+rule_waits s c (Kill k) = λ comp. record { inside = λ d. refl; waits = λ x d h. h; limits = refl }
+rule_waits s c (call_gate g) = λ gate. record { inside = λ d. refl; waits = λ x d h. h; limits = refl }
+rule_waits s c Ret = record { inside = λ d. refl; waits = λ x d h. h; limits = refl }
+rule_waits s c (Switch h q) = λ thread tcap. switch_waits s c (found thread) tcap.frame (thread_in (s.frame thread.frame)).runs_on
+rule_waits s c (Tick n) = record { inside = λ d. core_inside s c d _ refl; waits = λ x d h. h; limits = refl }
+rule_waits s c (Transfer a b m) = λ a b. record { inside = λ d. refl; waits = λ x d h. h; limits = refl }
+rule_waits s c (Delegate a b m) = λ a b. record { inside = λ d. refl; waits = λ x d h. h; limits = refl }
+rule_waits s c (Test a b) = λ a b. record { inside = λ d. refl; waits = λ x d h. h; limits = refl }
+
+-- The cores that wait are in a call.
+abbrev pub AreInside : State → Type 0
+AreInside s = (x : Thing) (d : ℕ) → IsTrue ((s.grace x).waits d) → IsTrue (s.core d).inside
+
+counted_inside : (s : State) (c : ℕ) → AreInside s → AreInside (counted s c)
+counted_inside s c h x d w = core_inside s c d _ refl ∙ h x d w
+
+changed_inside : (s : State) (found : Judged Change) → IfFound found (Waits s) → AreInside s → AreInside (changed s found)
+changed_inside s (Refused r) waits h x d = h x d
+changed_inside s (Found change) waits h x d = tested (list_any (same_thing x) change.begins)
+  where
+    tested : (t : Bool) → IsTrue ((if t then new_grace s x else change.next.grace x).waits d) → IsTrue (change.next.core d).inside
+    tested true w = waits.inside d ∙ w
+    tested false w = waits.inside d ∙ h x d (waits.waits x d w)
+
+owed_inside : (s : State) (c : ℕ) (call : Call) → AreInside s → AreInside (owed_by s c call)
+owed_inside s c (Tick n) h x d w = core_inside s c d _ refl ∙ h x d w
+owed_inside s c _ h x d w = h x d w
+
+decided_inside : (s : State) (c : ℕ) (call : Call) (r : Reply) → AreInside s → AreInside (state_by s c call r)
+decided_inside s c call (reply.Ok v) h = counted_inside (changed s (change_of s c call)) c
+    (changed_inside s (change_of s c call) (outcome_all (Waits s) s c (rule_of s c call) (rule_waits s c call)) h)
+decided_inside s c call reply.CallsSpent h = h
+decided_inside s c call reply.Raced h = counted_inside (owed_by s c call) c (owed_inside s c call h)
+decided_inside s c call (reply.Busy e) h = counted_inside (owed_by s c call) c (owed_inside s c call h)
+decided_inside s c call _ h = counted_inside s c h
+
+-- A decision leaves each core in a call where it was, and the limits.
+pub record Stays (s new : State) : Type 0 where
+  pub inside : (d : ℕ) → (new.core d).inside ≡ (s.core d).inside
+  pub limits : new.limits ≡ s.limits
+
+counted_stays : (s t : State) (c : ℕ) → Stays s t → Stays s (counted t c)
+counted_stays s t c h = record { inside = λ d. core_inside t c d _ refl ∙ h.inside d; limits = h.limits }
+
+changed_stays : (s : State) (found : Judged Change) → IfFound found (Waits s) → Stays s (changed s found)
+changed_stays s (Refused r) waits = record { inside = λ d. refl; limits = refl }
+changed_stays s (Found change) waits = record { inside = waits.inside; limits = waits.limits }
+
+owed_stays : (s : State) (c : ℕ) (call : Call) → Stays s (owed_by s c call)
+owed_stays s c (Tick n) = record { inside = λ d. core_inside s c d _ refl; limits = refl }
+owed_stays s c _ = record { inside = λ d. refl; limits = refl }
+
+pub decided_stays : (s : State) (c : ℕ) (call : Call) (r : Reply) → Stays s (state_by s c call r)
+decided_stays s c call (reply.Ok v) = counted_stays s (changed s (change_of s c call)) c
+    (changed_stays s (change_of s c call) (outcome_all (Waits s) s c (rule_of s c call) (rule_waits s c call)))
+decided_stays s c call reply.CallsSpent = record { inside = λ d. refl; limits = refl }
+decided_stays s c call reply.Raced = counted_stays s (owed_by s c call) c (owed_stays s c call)
+decided_stays s c call (reply.Busy e) = counted_stays s (owed_by s c call) c (owed_stays s c call)
+decided_stays s c call _ = counted_stays s s c (record { inside = λ d. refl; limits = refl })
+
+entered_inside : (s : State) (c : ℕ) → AreInside s → AreInside (entered s c)
+entered_inside s c h x d w = elim (cases_eq d c) [
+  | inl same ↦ ap (λ k. k.inside) (put_same s.core c _ d same)
+  | inr other ↦ ap (λ k. k.inside) (put_other s.core c _ d other) ∙ h x d w
+]
+
+returned_inside : (s : State) (c : ℕ) → AreInside s → AreInside (returned s c)
+returned_inside s c h x d w = elim (cases_eq d c) [
+  | inl same ↦ absurd (false≢true (sym (put_same (s.grace x).waits c false d same) ∙ w))
+  | inr other ↦ ap (λ k. k.inside) (put_other s.core c _ d other) ∙ h x d (sym (put_other (s.grace x).waits c false d other) ∙ w)
+]
+
+-- In every state reached from the start, the cores that wait are in a call.
+pub waits_inside : (setting : Setting) (events : List Event) → AreInside (after setting events)
+waits_inside setting [] = λ x d w. absurd (false≢true w)
+waits_inside setting (Enters c ∷ events) = entered_inside (after setting events) c (waits_inside setting events)
+waits_inside setting (Returns c ∷ events) = returned_inside (after setting events) c (waits_inside setting events)
+waits_inside setting (Decides c call r ∷ events) = decided_inside (after setting events) c call r (waits_inside setting events)
+
+make_plain : (s : State) (what : Make) (r f t b : ℕ) → HasPlain (make_rule s what r f t b)
+make_plain s make.Table r f t b = λ range table. (refl, λ at. (tt, (tt, tt)))
+make_plain s make.Leaf r f t b = λ range table. (refl, λ at. (tt, (tt, tt)))
+make_plain s make.Pages r f t b = λ range table. (refl, λ at. (tt, (tt, tt)))
+make_plain s make.Pleaf r f t b = λ range table. (refl, λ at. (tt, (tt, tt)))
+make_plain s (make.Thread comp) r f t b = λ range table k. (refl, λ at. (tt, (tt, tt)))
+make_plain s (make.Tcap sched quality) r f t b = λ range table. (refl, λ at. (tt, (tt, tt)))
+make_plain s (make.Comp x p live) r f t b = λ range table k j. (refl, λ at. (tt, (tt, (tt, (tt, tt)))))
+
+retype_plain : (s : State) (r f : ℕ) (k : FrameKind) → HasPlain (retype_rule s r f k)
+retype_plain s r f frame_kind.Untyped = λ range. (tt, (tt, (tt, (tt, tt))))
+retype_plain s r f frame_kind.User = λ range. (tt, (tt, tt))
+retype_plain s r f frame_kind.Kernel = λ range. (tt, (tt, tt))
+
+touch_plain : (s : State) (c pages v : ℕ) (t : Option Translation) → HasPlain (touch_by s c pages v t)
+touch_plain s c pages v None = λ mapping. tt
+touch_plain s c pages v (Some t) = (tt, tt)
+
+switch_plain : (s : State) (c : ℕ) (h : Named) (q : ℕ) (e : Option ℕ) → HasPlain (switch_to s c h q e)
+switch_plain s c h q None = tt
+switch_plain s c h q (Some e) = (tt, tt)
+
+rule_plain : (s : State) (c : ℕ) (call : Call) → HasPlain (rule_of s c call)
+rule_plain s c (Look a) = λ k. tt
+rule_plain s c (Copy a t b) = λ k table. (refl, λ at. tt)
+rule_plain s c (Remove t b) = λ table. (refl, λ at k. tt)
+rule_plain s c (Grow t i l) = λ table leaf. (refl, λ at. tt)
+rule_plain s c (Shrink t i) = λ table. (refl, λ at k. tt)
+rule_plain s c (Retype r f k) = retype_plain s r f k
+rule_plain s c (make_call what range frame table slot) = make_plain s what range frame table slot
+rule_plain s c (Map p v r f w) = λ pages range. (refl, λ at. (tt, (tt, tt)))
+rule_plain s c (Unmap p v) = λ pages. (refl, λ at k. tt)
+rule_plain s c (Touch v) = touch_plain s c (comp_of s c).pages v (translation_of (s.core c).cached (comp_of s c).pages v)
+rule_plain s c Flush = tt
+rule_plain s c (Gate k t b) = λ comp table. (refl, λ at. tt)
+rule_plain s c (Kill k) = λ comp. (tt, tt)
+rule_plain s c (call_gate g) = λ gate. (tt, (tt, tt))
+rule_plain s c Ret = (tt, tt)
+rule_plain s c (Switch h q) = λ thread tcap. switch_plain s c (found thread) tcap.frame (thread_in (s.frame thread.frame)).runs_on
+rule_plain s c (Tick n) = tt
+rule_plain s c (Transfer a b m) = λ a b. (tt, (tt, (tt, tt)))
+rule_plain s c (Delegate a b m) = λ a b. (tt, (tt, (tt, tt)))
+rule_plain s c (Test a b) = λ a b. (tt, tt)
+
+-- A plain refusal of a call's rule is a reply that the relation permits.
+may_plain : (s : State) (c : ℕ) (call : Call) (r : Reply) → IsPlain r → IsFalse (are_calls_spent s c)
+    → RuleMay s c (rule_of s c call) r → MayReply s c call r
+may_plain s c call (reply.Ok v) plain some may = absurd plain
+may_plain s c call reply.Raced plain some may = absurd plain
+may_plain s c call (reply.Busy d) plain some may = absurd plain
+may_plain s c call reply.CallsSpent plain some may = absurd plain
+may_plain s c call _ plain some may = (some, may)
+
+ok_inj : (v w : Value) → reply.Ok v ≡ reply.Ok w → v ≡ w
+ok_inj v w e = cc
+
+permitted : (s : State) (c : ℕ) (call : Call) → IsCalm s → MayReply s c call (alone s c call)
+permitted s c call calm = tested (are_calls_spent s c) refl
+  where
+    found : (j : Judged Change) → change_of s c call ≡ j → IfRefused j (λ r. RuleMay s c (rule_of s c call) r × IsPlain r)
+        → IsFalse (are_calls_spent s c) → MayReply s c call (reply_in j)
+    found (Refused r) e h some = may_plain s c call r h.1 some h.0
+    found (Found change) e h some = (some, subst (λ j. IsFoundAnd j (λ k. k.value ≡ change.value)) (sym e) refl)
+
+    tested : (t : Bool) → are_calls_spent s c ≡ t → MayReply s c call (if t then reply.CallsSpent else reply_in (change_of s c call))
+    tested true e = e
+    tested false e = found (change_of s c call) refl (rule_refused s c (rule_of s c call) calm (rule_plain s c call)) e
+
+only_ok : (s : State) (c : ℕ) (call : Call) (v : Value) → MayReply s c call (reply.Ok v) → alone s c call ≡ reply.Ok v
+only_ok s c call v may = ap (λ t. if t then reply.CallsSpent else reply_in (change_of s c call)) may.0 ∙ found (change_of s c call) may.1
+  where
+    found : (j : Judged Change) → IsFoundAnd j (λ k. k.value ≡ v) → reply_in j ≡ reply.Ok v
+    found (Refused r) h = absurd h
+    found (Found change) h = ap reply.Ok h
+
+nobody : (b : Bool) → (IsTrue b → ⊥) → b ≡ false
+nobody true h = absurd (h refl)
+nobody false h = refl
+
+pub permits_alone : PermitsAlone
+permits_alone setting events quiet c call =
+    let calm : IsCalm (entered (after setting events) c) = record {
+      nobody = λ x d. nobody (((after setting events).grace x).waits d) (λ w. false≢true (sym (quiet d) ∙ waits_inside setting events x d w));
+      flushes = λ x d. (waits_within setting events x d).flushes;
+    } in
+    record {
+      only_ok = only_ok (entered (after setting events) c) c call;
+      permitted = permitted (entered (after setting events) c) c call calm;
+    }

@@ -1,0 +1,16 @@
+pub mod State
+pub mod Start
+pub mod References
+pub mod Access
+pub mod GracePeriods
+pub mod Rules
+pub mod CapabilityCalls
+pub mod MemoryCalls
+pub mod InvocationCalls
+pub mod TimeCalls
+pub mod CallRelation
+pub mod Alone
+pub mod Runs
+pub mod Fitting
+pub mod Relies
+pub mod Laws

@@ -1,0 +1,126 @@
+-- The calls on memory: retyping frames, and mapping, touching and flushing pages.
+use Rattle.std.specs.Prelude.{ℕ, Bool, true, false, not, ◌&&◌, ◌==◌, nat_lt, nat_le, if◌then◌else◌, List, [], ◌∷◌, ◌++◌, length, Option, Some, None, is_some, find}
+use Rattle.std.specs.List.{list_any, range_with_len}
+use Rattle.spk_nums.specs.declared.kinds.Kind.TheVariants as kind
+use Rattle.spk_nums.specs.declared.kinds.FrameKind.{FrameKind}
+use Rattle.spk_nums.specs.declared.kinds.FrameKind.TheVariants as frame_kind
+use Rattle.spk_nums.specs.declared.kinds.PageFlags.{PageFlags}
+use Rattle.spk_nums.specs.declared.translations.Translation.{Translation}
+use Rattle.spk_nums.specs.declared.replies.Value.{Value}
+use Rattle.spk_nums.specs.declared.replies.Value.TheVariants.{Nothing, Page}
+use Rattle.spk_nums.specs.declared.replies.Reply.TheVariants as reply
+use Rattle.kernel_rules.specs.State.{Object, Blank, Comp, Thread, Tcap, Frame, Untyped, User, Kernel, FrameOf, State, with_frame, with_core, with_grace, comp_of}
+use Rattle.kernel_rules.specs.Start.{no_grace}
+use Rattle.kernel_rules.specs.References.{refs, frame_names}
+use Rattle.kernel_rules.specs.Access.{Under, only, held_in}
+use Rattle.kernel_rules.specs.GracePeriods.{same_thing, flushed}
+use Rattle.kernel_rules.specs.Rules.{Change, Cause, When, WaitedFor, Unflushed, Rule, Name, Vacant, Held, Mapped, Does, answers, leaves, fills, frames_of, removes}
+use Rattle.kernel_rules.specs.CapabilityCalls.{outside}
+
+-- Whether a frame is untyped.
+abbrev pub is_untyped : Frame → Bool
+is_untyped Untyped = true
+is_untyped User = false
+is_untyped (Kernel object) = false
+
+-- Whether a frame is a user frame.
+abbrev pub is_user : Frame → Bool
+is_user Untyped = false
+is_user User = true
+is_user (Kernel object) = false
+
+-- Whether no place of a node holds anything.
+unfoldable pub holds_nothing : State → ℕ → Bool
+holds_nothing s f = not (list_any (λ i. is_some (held_in (s.place f i))) (range_with_len 0 64))
+
+-- Whether an object is empty: a node holds nothing, a thread is at depth 1, a temporal capability has no budget.
+abbrev pub is_empty_object : State → ℕ → Object → Bool
+is_empty_object s f Blank = true
+is_empty_object s f (Comp k) = true
+is_empty_object s f (Thread t) = nat_le (length t.stack) 1
+is_empty_object s f (Tcap q) = q.budget == 0
+is_empty_object s f _ = holds_nothing s f
+
+-- Whether a frame has no object that is not empty.
+abbrev pub is_empty : State → ℕ → Frame → Bool
+is_empty s f (Kernel object) = is_empty_object s f object
+is_empty s f _ = true
+
+-- The causes against a retype of a frame: to untyped it is none from untyped, and the frame must have no reference, no core
+-- that waits for it or has not flushed, and an empty object; to user or kernel it must be untyped.
+abbrev pub not_retyped : State → ℕ → FrameKind → List Cause
+not_retyped s f frame_kind.Untyped =
+    When (is_untyped (s.frame f)) reply.FrameKind
+    ∷ When (nat_lt 0 (refs s f)) (reply.Referenced (refs s f))
+    ∷ WaitedFor (FrameOf f)
+    ∷ Unflushed (FrameOf f)
+    ∷ When (not (is_empty s f (s.frame f))) reply.NotEmpty
+    ∷ []
+not_retyped s f _ = When (not (is_untyped (s.frame f))) reply.FrameKind ∷ []
+
+-- The change of a retype: to untyped it ends the frame's grace period and releases the references of its object.
+abbrev pub retypes : State → ℕ → FrameKind → Change
+retypes s f frame_kind.Untyped = record {
+  value = Nothing;
+  next = with_grace (with_frame s f Untyped) (λ x. if same_thing x (FrameOf f) then no_grace else s.grace x);
+  takes = [];
+  begins = frames_of (frame_names (s.frame f));
+}
+retypes s f frame_kind.User = leaves (with_frame s f User)
+retypes s f frame_kind.Kernel = leaves (with_frame s f (Kernel Blank))
+
+-- `retype R F K` names a range R; its frame F becomes one of the kind K.
+abbrev pub retype_rule : State → ℕ → ℕ → FrameKind → Rule
+retype_rule s r f k =
+    Name r (only kind.Range) λ range.
+    Does (outside range f ∷ not_retyped s f k) (retypes s f k)
+
+-- `frame-kind` of a `map`: the frame is no user frame.
+abbrev pub not_user : State → ℕ → Cause
+not_user s f = When (not (is_user (s.frame f))) reply.FrameKind
+
+-- `map P V R F W` names pages P and a range R; the free page V of P then maps the user frame F of R with the flags W.
+abbrev pub map_rule : State → ℕ → ℕ → ℕ → ℕ → PageFlags → Rule
+map_rule s p v r f w =
+    Name p (only kind.Pages) λ pages.
+    Name r (only kind.Range) λ range.
+    Vacant (Under pages v) λ at.
+    Does (outside range f ∷ not_user s f ∷ []) (fills s at (record { kind = kind.Page; frame = f; arg = w.0 }))
+
+-- `unmap P V` names pages P; the mapping of its page V is removed.
+abbrev pub unmap_rule : State → ℕ → ℕ → Rule
+unmap_rule s p v =
+    Name p (only kind.Pages) λ pages.
+    Held (Under pages v) λ at mapping.
+    Does [] (removes s at mapping)
+
+-- The translation of a page of a page root that a list has, if it has one.
+abbrev pub translation_of : List Translation → ℕ → ℕ → Option Translation
+translation_of cached pages v = find (λ t. t.pages == pages && t.page == v) cached
+
+-- The list with one more translation, where it has room: it keeps 64.
+abbrev pub caching : List Translation → Translation → List Translation
+caching cached t = if nat_lt (length cached) 64 then cached ++ t ∷ [] else cached
+
+-- The answer that a translation gives.
+abbrev pub translated : Translation → Value
+translated t = Page t.frame t.flags
+
+-- The change of a `touch` that walked the table: it answers the translation found, and caches it.
+abbrev pub caches : State → ℕ → Translation → Change
+caches s c t = answers (with_core s c (record (s.core c) { cached = caching (s.core c).cached t })) (translated t)
+
+-- A `touch` answers the cached translation, or else the mapping found in the table.
+abbrev pub touch_by : State → ℕ → ℕ → ℕ → Option Translation → Rule
+touch_by s c pages v (Some t) = Does (When (nat_lt 4095 v) reply.NoSlot ∷ []) (answers s (translated t))
+touch_by s c pages v None =
+    Mapped pages v λ mapping.
+    Does [] (caches s c (record { pages = pages; page = v; frame = mapping.frame; flags = record { 0 = mapping.arg } }))
+
+-- `touch V` answers the frame and flags of the page V of the pages of the component that core c works in.
+abbrev pub touch_rule : State → ℕ → ℕ → Rule
+touch_rule s c v = touch_by s c (comp_of s c).pages v (translation_of (s.core c).cached (comp_of s c).pages v)
+
+-- `flush` empties the translations of core c.
+abbrev pub flush_rule : State → ℕ → Rule
+flush_rule s c = Does [] (leaves (flushed s c))

@@ -1,0 +1,41 @@
+//! The sequential kernel as definitions: its state, and what each call needs, does and answers.
+//!
+//! The definitions stand in this crate's specs. A call is a rule: the capabilities that it names, its target, its own
+//! causes of refusal in order, and what it does. The laws below say what every run keeps; laws that nothing above needs
+//! stand in `kernel_laws`.
+#![tactic(auto)]
+
+ghost use Rattle.kernel_rules.specs.Laws.{RefusalKeeps, WaitsWithin, PermitsAlone, RefsChange, CapabilitiesFit};
+
+/// A refusal leaves the state as it was, but for the owed ticks of a `tick`, and the count of calls.
+pub fn refusal_keeps()
+    ensures { RefusalKeeps }
+{}
+
+/// In every state reached from the start, and for each place, frame and liveness number, the cores that wait are among
+/// those that have not passed, and the cores that are unflushed among those whose flush is unknown.
+#[tactic(auto, using(crate::proofs::Within::waits_within))]
+pub fn waits_within()
+    ensures { WaitsWithin }
+{}
+
+/// Of a call that a core enters while no core is in a call: the relation permits `ok` with a value only where the reply to
+/// a call made alone is that `ok`, and it permits the reply to a call made alone.
+#[tactic(auto, using(crate::proofs::AloneLaw::permits_alone))]
+pub fn permits_alone()
+    ensures { PermitsAlone }
+{}
+
+/// In every state that a run reaches, a call that is carried out changes the references to each frame by those that it takes
+/// less those that it releases; each release begins the frame's grace period.
+#[tactic(auto, using(crate::proofs::RefsLaw::refs_change))]
+pub fn refs_change()
+    ensures { RefsChange }
+{}
+
+/// In every state that a run reaches, each capability that a place holds, and each that a core in an open call may use, names a
+/// frame with an object of its kind; a range ends within the machine's frames.
+#[tactic(auto, using(crate::proofs::SoundRuns::capabilities_fit))]
+pub fn capabilities_fit()
+    ensures { CapabilitiesFit }
+{}

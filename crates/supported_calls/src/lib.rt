@@ -1,0 +1,15 @@
+//! Which calls the machine carries out today. It stands apart from the words that all crates speak in, so that a call more
+//! changes nothing below the crates that ask.
+#![tactic(auto)]
+
+ghost use Rattle.std.specs.Prelude.{IsTrue, ◌↔◌};
+ghost use Rattle.supported_calls.specs.Built.{IsBuilt};
+
+use spk_nums::Call;
+
+/// Whether the machine carries the call out today.
+pub fn is_built(call: &Call) -> bool
+    ensures { IsTrue result ↔ IsBuilt call.now }
+{
+    matches!(call, Call::Look { .. } | Call::Copy { .. })
+}
