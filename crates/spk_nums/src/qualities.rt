@@ -1,7 +1,7 @@
 //! Lists of qualities: for each scheduler through which time came, how good it is there.
 
 ghost use Rattle.std.specs.Prelude.{◌≡◌, ◌<◌, ◌≤◌, ◌^◌, [], ◌∷◌, ◌++◌, length, slice_get, if◌then◌else◌};
-ghost use Rattle.spk_nums.specs.Qualities.{takes_pair};
+ghost use Rattle.spk_nums.specs.Qualities.{IsQualityList, takes_pair};
 
 use std::marker::Model;
 
@@ -52,10 +52,11 @@ impl Qualities {
         Qualities { cells, len: 1 }
     }
 
-    /// The number of pairs, at most 8.
+    /// The number of pairs, at most 8; each pair is in range, and their schedulers ascend.
     pub fn len(&self) -> usize
         ensures length { result ≡ length self.now }
         ensures most { length self.now ≤ 8 }
+        ensures sorted { IsQualityList self.now }
     {
         usize::from(self.len)
     }
