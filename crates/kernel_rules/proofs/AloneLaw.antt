@@ -160,7 +160,7 @@ returned_inside s c h x d w = elim (cases_eq d c) [
 -- In every state reached from the start, the cores that wait are in a call.
 pub waits_inside : (setting : Setting) (events : List Event) → AreInside (after setting events)
 waits_inside setting [] = λ x d w. absurd (false≢true w)
-waits_inside setting (Enters c ∷ events) = entered_inside (after setting events) c (waits_inside setting events)
+waits_inside setting (Enters c call ∷ events) = entered_inside (after setting events) c (waits_inside setting events)
 waits_inside setting (Returns c ∷ events) = returned_inside (after setting events) c (waits_inside setting events)
 waits_inside setting (Decides c call r ∷ events) = decided_inside (after setting events) c call r (waits_inside setting events)
 

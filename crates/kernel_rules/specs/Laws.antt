@@ -1,5 +1,5 @@
 -- Laws of the definitions, each the contract of a function of this crate.
-use Rattle.std.specs.Prelude.{ℕ, ◌+◌, ◌≡◌, false, List, [], ◌∷◌, Some, sum_by, IsTrue}
+use Rattle.std.specs.Prelude.{ℕ, ◌+◌, ◌≡◌, false, List, [], ◌∷◌, Some, IsTrue}
 use Rattle.spk_nums.specs.Setting.{Setting, IsSetting}
 use Rattle.spk_nums.specs.Capability.{Capability}
 use Rattle.spk_nums.specs.declared.calls.Call.{Call}
@@ -15,7 +15,7 @@ use Rattle.kernel_rules.specs.CallRelation.{MayReply, change_of, state_by}
 use Rattle.kernel_rules.specs.Alone.{plain_reply}
 use Rattle.kernel_rules.specs.Access.{Slot, usable}
 use Rattle.kernel_rules.specs.Fitting.{IsGood}
-use Rattle.kernel_rules.specs.Runs.{Event, after, Open, phase_of, MayDecide, IsRun}
+use Rattle.kernel_rules.specs.Runs.{Event, after, is_open, phase_of, MayDecide, IsRun}
 
 -- The reply is a refusal.
 abbrev pub IsRefusal : Reply → Type 0
@@ -94,7 +94,7 @@ RefsChange = (setting : Setting) → IsSetting setting → (events : List Event)
 -- Capabilities name frames with an object of their kind: each that a place holds, and each that a core may use in an open call.
 pub record NamesFit (setting : Setting) (events : List Event) : Type 0 where
   pub held : (f i : ℕ) (k : Capability) → (after setting events).place f i ≡ Holds k → IsGood (after setting events) k
-  pub used : (c : ℕ) (at : Slot) (k : Capability) → phase_of events c ≡ Open → usable (after setting events) c at ≡ Some k
+  pub used : (c : ℕ) (at : Slot) (k : Capability) → IsTrue (is_open (phase_of events c)) → usable (after setting events) c at ≡ Some k
       → IsGood (after setting events) k
 
 -- In every state that a run reaches, capabilities name what they say, though frames are retyped and made anew.
