@@ -3,5 +3,6 @@ pub mod TicksLaw
 pub mod Lists
 pub mod Shapes
 pub mod RangesLaw
+pub mod Causes
 pub mod Rows
 pub mod TwoCores

@@ -2,7 +2,7 @@
 //! of a function. Worked examples of calls, which the checker computes, stand in the proofs.
 #![tactic(auto)]
 
-ghost use Rattle.kernel_laws.specs.Laws.{TicksKept, RangesHold};
+ghost use Rattle.kernel_laws.specs.Laws.{TicksKept, RangesHold, CausesStand};
 
 /// In every state that a run reaches, the budgets of all temporal capabilities and the ticks that all cores have spent sum to
 /// the grants.
@@ -17,4 +17,11 @@ pub fn ticks_kept()
 #[tactic(auto, using(crate::proofs::RangesLaw::ranges_hold))]
 pub fn ranges_hold()
     ensures { RangesHold }
+{}
+
+/// In every state, each reply that the relation permits has its cause. The causes are said by reply, apart from the rules of
+/// calls: a cause about what a name leads to needs that name found.
+#[tactic(auto, using(crate::proofs::Causes::causes_stand))]
+pub fn causes_stand()
+    ensures { CausesStand }
 {}
