@@ -4,5 +4,7 @@ pub mod Lists
 pub mod Shapes
 pub mod RangesLaw
 pub mod Causes
+pub mod NodeSteps
+pub mod NodesLaw
 pub mod Rows
 pub mod TwoCores

@@ -3,6 +3,7 @@
 #![tactic(auto)]
 
 ghost use Rattle.kernel_laws.specs.Laws.{TicksKept, RangesHold, CausesStand};
+ghost use Rattle.kernel_laws.specs.Nodes.{NodesHoldWhatFits};
 
 /// In every state that a run reaches, the budgets of all temporal capabilities and the ticks that all cores have spent sum to
 /// the grants.
@@ -24,4 +25,12 @@ pub fn ranges_hold()
 #[tactic(auto, using(crate::proofs::Causes::causes_stand))]
 pub fn causes_stand()
     ensures { CausesStand }
+{}
+
+/// In every state that a run reaches, nodes hold what fits them: roots of capability tables links to leaves, roots of page
+/// tables links to leaves of pages, leaves no links and no pages, and leaves of pages these alone. So does what a core in an
+/// open call may use of a node; and what it finds mapped is a page.
+#[tactic(auto, using(crate::proofs::NodesLaw::nodes_hold_what_fits))]
+pub fn nodes_hold_what_fits()
+    ensures { NodesHoldWhatFits }
 {}

@@ -23,7 +23,7 @@ frames_no_place f i [] = refl
 frames_no_place f i (g ∷ fs) = frames_no_place f i fs
 
 -- A choice by a test that fails is the second.
-not_chosen : (b : Bool) (g h : Grace) (c : ℕ) → b ≡ false → IsTrue ((if b then g else h).waits c) → IsTrue (h.waits c)
+pub not_chosen : (b : Bool) (g h : Grace) (c : ℕ) → b ≡ false → IsTrue ((if b then g else h).waits c) → IsTrue (h.waits c)
 not_chosen b g h c e w = subst (λ b. IsTrue ((if b then g else h).waits c)) e w
 
 -- A core that is in a call waits for a frame whose grace period begins, and for the others as before.
