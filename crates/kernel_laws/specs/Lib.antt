@@ -1,3 +1,4 @@
 pub mod Laws
 pub mod Causes
 pub mod Nodes
+pub mod Lives

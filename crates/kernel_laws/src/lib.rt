@@ -4,6 +4,7 @@
 
 ghost use Rattle.kernel_laws.specs.Laws.{TicksKept, RangesHold, CausesStand};
 ghost use Rattle.kernel_laws.specs.Nodes.{NodesHoldWhatFits};
+ghost use Rattle.kernel_laws.specs.Lives.{LiveNumbersFit, GatesFit, DeadStays, ThreadsRun};
 
 /// In every state that a run reaches, the budgets of all temporal capabilities and the ticks that all cores have spent sum to
 /// the grants.
@@ -33,4 +34,29 @@ pub fn causes_stand()
 #[tactic(auto, using(crate::proofs::NodesLaw::nodes_hold_what_fits))]
 pub fn nodes_hold_what_fits()
     ensures { NodesHoldWhatFits }
+{}
+
+/// In every state that a run reaches, the frame of a live liveness number has a component of that number and epoch.
+#[tactic(auto, using(crate::proofs::Lives::live_numbers_fit))]
+pub fn live_numbers_fit()
+    ensures { LiveNumbersFit }
+{}
+
+/// In every state that a run reaches, a gate that a place holds, or that a core in an open call may use, has the epoch in which
+/// its component was made.
+#[tactic(auto, using(crate::proofs::Gates::gates_fit))]
+pub fn gates_fit()
+    ensures { GatesFit }
+{}
+
+/// A dead epoch never lives again: a liveness number that is dead after an epoch lives later in higher epochs alone.
+#[tactic(auto, using(crate::proofs::Lives::dead_stays))]
+pub fn dead_stays()
+    ensures { DeadStays }
+{}
+
+/// In every state that a run reaches, a thread runs on a core exactly where it is that core's current one.
+#[tactic(auto, using(crate::proofs::Threads::threads_run))]
+pub fn threads_run()
+    ensures { ThreadsRun }
 {}

@@ -60,7 +60,7 @@ stay_then s t u c a b = record {
 }
 
 -- What is named is referenced.
-object_named : (s : State) (o : ℕ → Bool) (g f : ℕ) → IsSound s o → 1 ≤ times f (frame_names (s.frame g)) → 0 < refs s f
+pub object_named : (s : State) (o : ℕ → Bool) (g f : ℕ) → IsSound s o → 1 ≤ times f (frame_names (s.frame g)) → 0 < refs s f
 object_named s o g f h one = by_refs (refs s f) refl
   where
     none : refs s f ≡ 0 → times f (frame_names (s.frame g)) ≡ 0
@@ -73,7 +73,7 @@ object_named s o g f h one = by_refs (refs s f) refl
     by_refs zero is = absurd (let z = none is in omega (arith, one, z))
     by_refs (suc n) is = omega (arith, is)
 
-place_named : (s : State) (o : ℕ → Bool) (g i f : ℕ) (k : Capability) → IsSound s o → s.place g i ≡ Holds k → 1 ≤ times f (named_by k.kind k.frame) → 0 < refs s f
+pub place_named : (s : State) (o : ℕ → Bool) (g i f : ℕ) (k : Capability) → IsSound s o → s.place g i ≡ Holds k → 1 ≤ times f (named_by k.kind k.frame) → 0 < refs s f
 place_named s o g i f k h at one = by_refs (refs s f) refl
   where
     none : refs s f ≡ 0 → times f (named_by k.kind k.frame) ≡ 0
