@@ -5,6 +5,7 @@ use Rattle.std.proofs.lemmas.Bool.{true≢false, cases_eq, eq-eqb, ne_eqb}
 use Rattle.spk_nums.specs.Setting.{Setting, IsSetting}
 use Rattle.spk_nums.specs.declared.calls.Call.{Call}
 use Rattle.word_map.specs.Word.{Word}
+use Rattle.word_map.specs.Moves.{word_of}
 use Rattle.kernel_rules.specs.State.{Thing, PlaceOf, NumberOf, State}
 use Rattle.kernel_history.specs.Trace.{Step, Trace, Open, phase, state_after, state_entered, own_left, IfNot, WasAt, WasBefore}
 use Rattle.kernel_history.specs.Stamps.{is_in, stamp, clock}
@@ -30,7 +31,7 @@ own_stays c e t no_entry w had = elim (cases_eq c e.core) [
 ]
 
 -- And what it left there stands while the call makes no step on that word.
-pub own_apart : (c : ℕ) (e : Step) (t : Trace) → c ≡ e.core → e.enters ≡ None → (w : Word) → w ≢ (word_of e.move) → own_left (e ∷ t) c w ≡ own_left t c w
+pub own_apart : (c : ℕ) (e : Step) (t : Trace) → c ≡ e.core → e.enters ≡ None → (w : Word) → w ≢ word_of e.move → own_left (e ∷ t) c w ≡ own_left t c w
 own_apart c e t own no_entry w there = own_left-there c e t own w there ∙ ap (λ o. cond (is_some o) None (own_left t c w)) no_entry
 
 -- moments of a call

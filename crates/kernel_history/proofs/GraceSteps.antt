@@ -5,6 +5,7 @@ use Rattle.spk_nums.specs.declared.calls.Call.{Call}
 use Rattle.spk_nums.specs.declared.replies.Reply.{Reply}
 use Rattle.spk_nums.specs.Setting.{Setting}
 use Rattle.word_map.specs.Word.{FlushAt, same_word}
+use Rattle.word_map.specs.Moves.{word_of}
 use Rattle.kernel_rules.specs.State.{Grace, Thing, State}
 use Rattle.kernel_rules.specs.Start.{no_grace}
 use Rattle.kernel_rules.specs.GracePeriods.{new_grace, needs_flush, passed}

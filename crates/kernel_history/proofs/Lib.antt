@@ -12,9 +12,12 @@ pub mod Times
 pub mod Waiting
 pub mod Carries
 pub mod Awaits
+pub mod Markings
+pub mod AloneCalls
 pub mod Laws
 pub mod Sums
 pub mod StartRefs
 pub mod Fillings
 pub mod BootRepresents
+pub mod Small
 pub mod SeveralCores

@@ -4,9 +4,10 @@ use Rattle.std.specs.Prelude.{option_to_list, is_some}
 use Rattle.std.proofs.lemmas.Bool.{eq-eqb, ne_eqb}
 use Rattle.spk_nums.specs.Setting.{Setting}
 use Rattle.word_map.specs.Word.{Word, FlushAt, ClockAt, same_word}
+use Rattle.word_map.specs.Moves.{word_of, left_of}
 use Rattle.kernel_rules.specs.State.{Thing}
 use Rattle.kernel_rules.specs.GracePeriods.{needs_flush}
-use Rattle.kernel_history.specs.Trace.{Step, Trace, phase, after_enter, after_decide, after_return, last_left, calls_of, steps_in_call, own_left, state_before}
+use Rattle.kernel_history.specs.Trace.{Step, Trace, phase, after_enter, after_decide, after_return, last_left, calls_of, steps_in_call, own_left, only_reads, own_read, state_before}
 use Rattle.kernel_history.specs.Stamps.{begins_at, ends_at, flushes_at, stamp, awaits_flushes, clock_seen, exit_after, exit_of, flush_of, flush_stored}
 use Rattle.kernel_history.proofs.Names.{same_word-same, same_word-other}
 
@@ -20,11 +21,17 @@ module _ (c : ℕ) (e : Step) (t : Trace) (own : c ≡ e.core) where
   pub steps_in_call-own : steps_in_call (e ∷ t) c ≡ cond (is_some e.enters) 1 (steps_in_call t c + 1)
   steps_in_call-own = rw (eq-eqb c e.core own)
 
-  pub own_left-here : (w : Word) → w ≡ (word_of e.move) → own_left (e ∷ t) c w ≡ Some (left_of e.move e.found)
+  pub own_left-here : (w : Word) → w ≡ word_of e.move → own_left (e ∷ t) c w ≡ Some (left_of e.move e.found)
   own_left-here w here = rw (eq-eqb c e.core own, same_word-same w (word_of e.move) here)
 
-  pub own_left-there : (w : Word) → w ≢ (word_of e.move) → own_left (e ∷ t) c w ≡ cond (is_some e.enters) None (own_left t c w)
+  pub own_left-there : (w : Word) → w ≢ word_of e.move → own_left (e ∷ t) c w ≡ cond (is_some e.enters) None (own_left t c w)
   own_left-there w there = rw (eq-eqb c e.core own, same_word-other w (word_of e.move) there)
+
+  pub own_read-here : (w : Word) → w ≡ word_of e.move → own_read (e ∷ t) c w ≡ (cond (only_reads e) (Some e.found) None)
+  own_read-here w here = rw (eq-eqb c e.core own, same_word-same w (word_of e.move) here)
+
+  pub own_read-there : (w : Word) → w ≢ word_of e.move → own_read (e ∷ t) c w ≡ cond (is_some e.enters) None (own_read t c w)
+  own_read-there w there = rw (eq-eqb c e.core own, same_word-other w (word_of e.move) there)
 
 module _ (c : ℕ) (e : Step) (t : Trace) (other : c ≢ e.core) where
   pub phase-other : phase (e ∷ t) c ≡ phase t c
@@ -39,11 +46,14 @@ module _ (c : ℕ) (e : Step) (t : Trace) (other : c ≢ e.core) where
   pub own_left-other : (w : Word) → own_left (e ∷ t) c w ≡ own_left t c w
   own_left-other w = rw (ne_eqb c e.core other)
 
+  pub own_read-other : (w : Word) → own_read (e ∷ t) c w ≡ own_read t c w
+  own_read-other w = rw (ne_eqb c e.core other)
+
 module _ (setup : Setting) (w : Word) (e : Step) (t : Trace) where
-  pub last_left-here : w ≡ (word_of e.move) → last_left setup (e ∷ t) w ≡ (left_of e.move e.found)
+  pub last_left-here : w ≡ word_of e.move → last_left setup (e ∷ t) w ≡ (left_of e.move e.found)
   last_left-here here = rw (same_word-same w (word_of e.move) here)
 
-  pub last_left-there : w ≢ (word_of e.move) → last_left setup (e ∷ t) w ≡ last_left setup t w
+  pub last_left-there : w ≢ word_of e.move → last_left setup (e ∷ t) w ≡ last_left setup t w
   last_left-there there = rw (same_word-other w (word_of e.move) there)
 
 -- Stamps: of a thing whose grace period begins, of one whose grace period ends, and of the others.
