@@ -1,6 +1,6 @@
 -- What holds of a call that is alone: its core waits for nothing, and what is carried out is what the sequential kernel answers.
 use Rattle.std.proofs.Common.{◌≡◌, ◌≢◌, inl, inr, ℕ, Bool, true, false, [], ◌∷◌, Option, Some, None, refl, sym, ◌∙◌, ap, subst, if◌then◌else◌, IsTrue}
-use Rattle.std.proofs.lemmas.Bool.{false≢true}
+use Rattle.std.proofs.lemmas.Bool.{cases_eq, false≢true}
 use Rattle.spk_nums.specs.Setting.{Setting}
 use Rattle.spk_nums.specs.declared.calls.Call.{Call}
 use Rattle.spk_nums.specs.declared.replies.Value.{Value}
@@ -88,8 +88,8 @@ alone_waits_none setup (e ∷ t) legal c call is alone x =
         state_of : Option Call → Option Reply → Option Reply → State
         state_of o d q = state_after setup (record { core = e.core; move = e.move; found = e.found; enters = o; decides = d; returns = q } ∷ t)
 
--- At the step at which a call that is alone is still open, its core waits in no grace period.
-pub alone_before : (setup : Setting) (t : Trace) (e : Step) → IsLegal setup t → MayEnter e.enters (phase t e.core) → IsAlone t e → (call : Call)
+-- At the step at which a call that is alone is still open, its core waits in no grace period, and nor does any other.
+alone_before : (setup : Setting) (t : Trace) (e : Step) → IsLegal setup t → MayEnter e.enters (phase t e.core) → IsAlone t e → (call : Call)
     → after_enter e.enters (phase t e.core) ≡ Open call → (x : Thing) → ((state_before setup t e).grace x).waits e.core ≡ false
 alone_before setup t e legal enters alone call is x =
     entered_waits e.enters (state_after setup t) e.core e.core x ∙ by_entry e.enters refl enters alone.undisturbed is
@@ -98,3 +98,10 @@ alone_before setup t e legal enters alone call is x =
         → ((state_after setup t).grace x).waits e.core ≡ false
     by_entry None os may rest is = alone_waits_none setup t legal e.core call is rest x
     by_entry (Some k) os may rest is = out_waits_none setup t e.core may.0 x
+
+pub nobody_waits : (setup : Setting) (t : Trace) (e : Step) → IsLegal setup t → MayEnter e.enters (phase t e.core) → IsAlone t e → (call : Call)
+    → after_enter e.enters (phase t e.core) ≡ Open call → (x : Thing) (d : ℕ) → ((state_before setup t e).grace x).waits d ≡ false
+nobody_waits setup t e legal enters alone call is x d = elim (cases_eq d e.core) [
+  | inl own ↦ ap ((state_before setup t e).grace x).waits own ∙ alone_before setup t e legal enters alone call is x
+  | inr other ↦ entered_waits e.enters (state_after setup t) e.core d x ∙ out_waits_none setup t d (alone.others_out d other) x
+]

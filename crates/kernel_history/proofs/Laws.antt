@@ -133,19 +133,20 @@ read_is_left (e ∷ t) c w v has = elim (cases_eq c e.core) [
     by_entry None has before = before has
     by_entry (Some call) has before = absurd (none_some has)
 
-module _ (setup : Setting) (t : Trace) (e : Step) (follows : MayFollow setup t e) (alone : IsAlone t e) where
-  not_inside : (d : ℕ) → d ≢ e.core → IsTrue ((state_before setup t e).core d).inside → ⊥
+-- A call that is alone is held up by no core, and loses no race.
+module _ (setup : Setting) (t : Trace) (e : Step) (found : e.found ≡ last_left setup t (word_of e.move)) (alone : IsAlone t e) where
+  pub not_inside : (d : ℕ) → d ≢ e.core → IsTrue ((state_before setup t e).core d).inside → ⊥
   not_inside d other inside =
       false≢true (sym (entered-inside e.enters (state_after setup t) e.core d other ∙ inside_is setup t d ∙ ap is_in (alone.others_out d other)) ∙ inside)
 
-  not_changed : (own : ℕ) → own_read_before t e ≡ Some own → e.found ≢ own → ⊥
+  pub not_changed : (own : ℕ) → own_read_before t e ≡ Some own → e.found ≢ own → ⊥
   not_changed own was changed = by_entry e.enters refl alone.undisturbed was
     where
       none_some : None ≡ Some own → ⊥
       none_some q = cc
 
       by_entry : (o : Option Call) → e.enters ≡ o → UnlessEnters o (IsUndisturbed t e.core) → cond (is_some o) None (own_read t e.core (word_of e.move)) ≡ Some own → ⊥
-      by_entry None is undisturbed was = changed (follows.found ∙ own_is_last setup t e.core (word_of e.move) own undisturbed (read_is_left t e.core (word_of e.move) own was))
+      by_entry None is undisturbed was = changed (found ∙ own_is_last setup t e.core (word_of e.move) own undisturbed (read_is_left t e.core (word_of e.move) own was))
       by_entry (Some call) is undisturbed was = none_some was
 
   calm : (r : Reply) (call : Call) → IsJustifiedIn setup t e (state_before setup t e) (rule_of (state_before setup t e) e.core call) r → IsNotHeldUp (Some r)
@@ -159,4 +160,4 @@ module _ (setup : Setting) (t : Trace) (e : Step) (follows : MayFollow setup t e
   decides_calm (Some r) p may = calm r may.call may.justified
 
 pub alone_goes_on : AloneGoesOn
-alone_goes_on setup t e legal alone = decides_calm setup t e legal.1 alone e.decides (after_enter e.enters (phase t e.core)) legal.1.decides
+alone_goes_on setup t e legal alone = decides_calm setup t e legal.1.found alone e.decides (after_enter e.enters (phase t e.core)) legal.1.decides
