@@ -187,7 +187,7 @@ module _ (setup : Setting) (setting : IsSetting setup) (cores : ℕ → Core) (t
         time = plain_time setup t e plain;
         leaves = tt;
         own = inner_own move None None refl plain (cores c).made stage lands.fits (calm_same (state_after setup t) c) core_is.works.made at
-            (knows (carries_own setup t e follows (plain_time setup t e plain) stands.graces refl refl refl));
+            (knows (carries_own setup setting t stands.legal e follows (plain_time setup t e plain) stands.graces refl refl refl));
       }
 
   -- A decision at a load or at a lost compare, which leaves all as it was but counts the call.

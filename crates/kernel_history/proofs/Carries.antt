@@ -77,15 +77,15 @@ pub record Carries (setup : Setting) (t : Trace) (e : Step) (c : ℕ) : Type 0 w
   pub passed : (x : Thing) (s d : ℕ) → s < clock setup t → Passed setup t x s d → Passed setup (e ∷ t) x s d
   pub flushed : (x : Thing) (s d : ℕ) → s < clock setup t → Flushed setup t x s d → Flushed setup (e ∷ t) x s d
 
-carries_by : (setup : Setting) (t : Trace) (e : Step) → MayFollow setup t e → KeepsTime setup t e → ((x : Thing) → GraceIs setup t x)
+carries_by : (setup : Setting) → IsSetting setup → (t : Trace) → IsLegal setup t → (e : Step) → MayFollow setup t e → KeepsTime setup t e → ((x : Thing) → GraceIs setup t x)
     → (c : ℕ) → (c ≡ e.core → e.enters ≡ None) → Stays setup t e c → Carries setup t e c
-carries_by setup t e follows time graces c no_entry stays = record {
+carries_by setup lim t legal e follows time graces c no_entry stays = record {
   own = own_stays c e t no_entry;
   stays = stays;
   was_removed = λ x. was_stays (IsRemoved x) setup t e c no_entry;
   past = still_past setup t e follows time graces;
-  place_rises = λ f i relies. stamp_rises setup t e follows time graces (PlaceOf f i) (node_goes_on setup t e follows f i relies.node);
-  number_rises = λ l. stamp_rises setup t e follows time graces (NumberOf l) (number_goes_on setup t e follows l);
+  place_rises = λ f i relies. stamp_rises setup t e follows time graces (PlaceOf f i) (node_goes_on setup lim t legal e follows f i relies.node);
+  number_rises = λ l. stamp_rises setup t e follows time graces (NumberOf l) (number_goes_on setup lim t legal e follows l);
   passed = passed_on setup t e follows time graces;
   flushed = flushed_on setup t e follows time graces;
 }
@@ -94,13 +94,13 @@ carries_by setup t e follows time graces c no_entry stays = record {
 pub carries_other : (setup : Setting) → IsSetting setup → (t : Trace) → IsLegal setup t → (e : Step) → MayFollow setup t e → KeepsTime setup t e
     → ((x : Thing) → GraceIs setup t x) → (c : ℕ) → c ≢ e.core → (call : Call) → phase t c ≡ Open call → Carries setup t e c
 carries_other setup lim t legal e follows time graces c other call is =
-    carries_by setup t e follows time graces c (λ own. absurd (other own)) (stays_other setup lim t legal e follows c other call is)
+    carries_by setup lim t legal e follows time graces c (λ own. absurd (other own)) (stays_other setup lim t legal e follows c other call is)
 
 -- After an own step without event.
-pub carries_own : (setup : Setting) (t : Trace) (e : Step) → MayFollow setup t e → KeepsTime setup t e → ((x : Thing) → GraceIs setup t x)
+pub carries_own : (setup : Setting) → IsSetting setup → (t : Trace) → IsLegal setup t → (e : Step) → MayFollow setup t e → KeepsTime setup t e → ((x : Thing) → GraceIs setup t x)
     → e.enters ≡ None → e.decides ≡ None → e.returns ≡ None → Carries setup t e e.core
-carries_own setup t e follows time graces no_entry no_decision no_return =
-    carries_by setup t e follows time graces e.core (λ own. no_entry) (stays_plain setup t e e.core no_entry no_decision no_return)
+carries_own setup lim t legal e follows time graces no_entry no_decision no_return =
+    carries_by setup lim t legal e follows time graces e.core (λ own. no_entry) (stays_plain setup t e e.core no_entry no_decision no_return)
 
 -- A core in a call is inside.
 pub open_inside : (setup : Setting) (t : Trace) (c : ℕ) (call : Call) → phase t c ≡ Open call → ((state_after setup t).core c).inside ≡ true

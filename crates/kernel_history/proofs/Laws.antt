@@ -19,7 +19,7 @@ use Rattle.kernel_history.specs.Laws.{LegalRuns, EventsDetermine, LegalUpTo, ret
 use Rattle.kernel_history.specs.Alone.{UnlessEnters, IsUndisturbed, IsAlone}
 use Rattle.kernel_history.proofs.Names.{cases_word}
 use Rattle.kernel_history.proofs.Steps.{phase-own, phase-other, calls_of-own, calls_of-other, own_left-here, own_left-there, own_left-other, own_read-here, own_read-there, own_read-other, last_left-here, last_left-there}
-use Rattle.kernel_history.proofs.Events.{state_is, phase_is, run_of}
+use Rattle.kernel_history.proofs.Events.{state_is, phase_is, run_of, plain_inj}
 use Rattle.kernel_history.proofs.Inside.{inside_is, entered-inside}
 
 pub legal_runs : LegalRuns
@@ -28,7 +28,7 @@ legal_runs setup t legal = record { run = run_of setup t legal; state = state_is
 pub events_determine : EventsDetermine
 events_determine setup t u same = record {
   state = state_is setup t ∙ ap (after setup) same ∙ sym (state_is setup u);
-  phases = λ c. sym (phase_is t c) ∙ ap (λ events. phase_of events c) same ∙ phase_is u c;
+  phases = λ c. plain_inj (phase t c) (phase u c) (sym (phase_is t c) ∙ ap (λ events. phase_of events c) same ∙ phase_is u c);
 }
 
 pub legal_up_to : LegalUpTo

@@ -4,6 +4,7 @@ pub mod Open
 pub mod Idle
 pub mod Replies
 pub mod Events
+pub mod Opens
 pub mod Inside
 pub mod Stays
 pub mod GraceSets

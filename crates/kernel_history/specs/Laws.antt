@@ -7,7 +7,7 @@ use Rattle.spk_nums.specs.Setting.{Setting}
 use Rattle.kernel_rules.specs.Runs.{after, IsRun}
 use Rattle.kernel_history.specs.Trace.{Step, Trace, Out, phase, state_after, calls_of}
 use Rattle.kernel_history.specs.Stamps.{is_in}
-use Rattle.kernel_history.specs.Events.{events_of, plain_phase}
+use Rattle.kernel_history.specs.Events.{events_of}
 use Rattle.kernel_history.specs.Legal.{IsLegal}
 use Rattle.kernel_history.specs.Alone.{IsAlone}
 
@@ -20,10 +20,10 @@ pub record IsRunOfEvents (setup : Setting) (t : Trace) : Type 0 where
 abbrev pub LegalRuns : Type 0
 LegalRuns = (setup : Setting) (t : Trace) → IsLegal setup t → IsRunOfEvents setup t
 
--- Two traces leave the same state, and each core between calls, in an open call or in a decided one alike.
+-- Two traces leave the same state, and each core between calls, in the same open call, or in the same call decided with the same reply.
 pub record LeaveAlike (setup : Setting) (t u : Trace) : Type 0 where
   pub state : state_after setup t ≡ state_after setup u
-  pub phases : (c : ℕ) → plain_phase (phase t c) ≡ plain_phase (phase u c)
+  pub phases : (c : ℕ) → phase t c ≡ phase u c
 
 -- What a trace leaves is determined by its events.
 abbrev pub EventsDetermine : Type 0
