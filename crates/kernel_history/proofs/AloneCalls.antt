@@ -1,5 +1,5 @@
 -- What holds of a call that is alone: its core waits for nothing, and what is carried out is what the sequential kernel answers.
-use Rattle.std.proofs.Common.{◌≡◌, ◌≢◌, inl, inr, ℕ, Bool, true, false, [], ◌∷◌, Option, Some, None, refl, sym, ◌∙◌, ap, subst, if◌then◌else◌, IsTrue}
+use Rattle.std.proofs.Common.{◌≡◌, inl, inr, ℕ, Bool, true, false, [], ◌∷◌, Option, Some, None, refl, sym, ◌∙◌, ap, subst, if◌then◌else◌}
 use Rattle.std.proofs.lemmas.Bool.{cases_eq, false≢true}
 use Rattle.spk_nums.specs.Setting.{Setting}
 use Rattle.spk_nums.specs.declared.calls.Call.{Call}
@@ -10,11 +10,10 @@ use Rattle.kernel_rules.specs.State.{Thing, State}
 use Rattle.kernel_rules.specs.Rules.{Judged, Refused, Found, IsFoundAnd}
 use Rattle.kernel_rules.specs.CallRelation.{MayReply, are_calls_spent, change_of}
 use Rattle.kernel_rules.specs.Alone.{reply_in, alone}
-use Rattle.kernel_rules.specs.Runs.{after}
 use Rattle.kernel_rules.proofs.AloneLaw.{AreInside, waits_inside}
 use Rattle.kernel_history.specs.Trace.{Step, Trace, Phase, Out, Open, Decided, phase, after_enter, after_decide, after_return, state_after, state_entered, state_before}
 use Rattle.kernel_history.specs.Stamps.{is_in}
-use Rattle.kernel_history.specs.Legal.{MayEnter, MayFollow, IsLegal}
+use Rattle.kernel_history.specs.Legal.{MayEnter, IsLegal}
 use Rattle.kernel_history.specs.Events.{events_of}
 use Rattle.kernel_history.specs.Alone.{UnlessEnters, IsUndisturbed, IsAlone}
 use Rattle.kernel_history.proofs.Steps.{phase-own}

@@ -22,3 +22,4 @@ pub mod Fillings
 pub mod BootRepresents
 pub mod Small
 pub mod SeveralCores
+pub mod Texts

@@ -1,13 +1,12 @@
 -- Marks are put by the cores whose they are, in their present calls.
-use Rattle.std.proofs.Common.{◌≡◌, ◌≢◌, ◌⊎◌, inl, inr, ℕ, ◌==◌, ◌&&◌, Bool, true, false, ◌∷◌, Option, Some, None, refl, sym, ◌∙◌, ap}
+use Rattle.std.proofs.Common.{◌≡◌, ◌≢◌, ◌⊎◌, inl, inr, ℕ, ◌==◌, ◌&&◌, Bool, true, false, ◌∷◌, Option, Some, None, refl, ◌∙◌, ap}
 use Rattle.std.specs.Prelude.{is_some}
-use Rattle.std.proofs.lemmas.Bool.{cases_eq, eqb-true, ne_eqb}
+use Rattle.std.proofs.lemmas.Bool.{cases_eq, eqb-true}
 use Rattle.spk_nums.specs.Setting.{Setting}
 use Rattle.spk_nums.specs.declared.calls.Call.{Call}
 use Rattle.word_map.specs.Word.{Word}
-use Rattle.word_map.specs.Moves.{word_of}
 use Rattle.kernel_history.specs.Trace.{Step, Trace, IfNot}
-use Rattle.kernel_history.specs.Marking.{marked_by, PutsMark, HasMarked}
+use Rattle.kernel_history.specs.Marking.{marked_by, HasMarked}
 use Rattle.kernel_history.specs.Discipline.{MarksOwn}
 
 -- A core is the one named, or it is not.

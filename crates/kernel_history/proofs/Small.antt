@@ -1,8 +1,8 @@
 -- Each word has 64 bits, after each legal trace.
-use Rattle.std.proofs.Common.{◌≡◌, inl, inr, ℕ, ◌<◌, ◌^◌, [], ◌∷◌, sym, subst}
+use Rattle.std.proofs.Common.{inl, inr, ℕ, ◌<◌, ◌^◌, [], ◌∷◌, sym, subst}
 use Rattle.spk_nums.specs.Setting.{Setting, IsSetting}
 use Rattle.word_map.specs.Word.{Word}
-use Rattle.word_map.specs.Moves.{word_of, left_of}
+use Rattle.word_map.specs.Moves.{word_of}
 use Rattle.kernel_history.specs.Trace.{Trace, last_left}
 use Rattle.kernel_history.specs.Legal.{IsLegal}
 use Rattle.kernel_history.proofs.Names.{cases_word}

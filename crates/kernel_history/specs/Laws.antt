@@ -1,11 +1,10 @@
 -- Laws of legal traces, each the contract of a function of this crate.
-use Rattle.std.specs.Prelude.{◌≡◌, ◌≢◌, ◌+◌, ◌==◌, ◌&&◌, ◌++◌, ℕ, if◌then◌else◌, [], ◌∷◌, length, Option, Some, None, is_some}
-use Rattle.spk_nums.specs.declared.calls.Call.{Call}
+use Rattle.std.specs.Prelude.{◌≡◌, ◌+◌, ◌==◌, ◌&&◌, ◌++◌, ℕ, if◌then◌else◌, [], ◌∷◌, length, Option, Some, None, is_some}
 use Rattle.spk_nums.specs.declared.replies.Reply.{Reply}
 use Rattle.spk_nums.specs.declared.replies.Reply.TheVariants as reply
 use Rattle.spk_nums.specs.Setting.{Setting}
 use Rattle.kernel_rules.specs.Runs.{after, IsRun}
-use Rattle.kernel_history.specs.Trace.{Step, Trace, Out, phase, state_after, calls_of}
+use Rattle.kernel_history.specs.Trace.{Step, Trace, phase, state_after, calls_of}
 use Rattle.kernel_history.specs.Stamps.{is_in}
 use Rattle.kernel_history.specs.Events.{events_of}
 use Rattle.kernel_history.specs.Legal.{IsLegal}
