@@ -1,5 +1,5 @@
 -- The steps of the look-ups of a copy are good.
-use Rattle.std.proofs.Common.{◌≡◌, inl, inr, ℕ, ◌<◌, [], ◌∷◌, if◌then◌else◌, Bool, true, false, nat_le, Some, None, refl, sym, ◌∙◌, ap, subst, IsTrue}
+use Rattle.std.proofs.Common.{◌≡◌, inl, inr, ℕ, ◌<◌, [], if◌then◌else◌, Bool, true, false, nat_le, Some, None, refl, sym, ◌∙◌, ap, subst, IsTrue}
 use Rattle.std.proofs.lemmas.Bool.{leb-true, eq-eqb}
 use Rattle.spk_nums.specs.Capability.{Capability}
 use Rattle.spk_nums.specs.Setting.{Setting, IsSetting}

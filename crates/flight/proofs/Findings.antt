@@ -13,7 +13,7 @@ use Rattle.word_map.specs.Word.{EntryAt}
 use Rattle.word_map.specs.Moves.{LoadOf, word_of}
 use Rattle.kernel_rules.specs.State.{Free as Vacant, Holds, Quiescing as Removed, PlaceOf, State, comp_of}
 use Rattle.kernel_rules.specs.Access.{Slot, Named, found, Target, Under, InRoot, place_at, held_in, usable_in, usable, reached, has_no_slot, own}
-use Rattle.kernel_rules.specs.Rules.{Refused, Found, and_then, or_refuse, of_kind, named, name_of, ReachesNone, ReachesHeld, ReachesOther}
+use Rattle.kernel_rules.specs.Rules.{Refused, Found, and_then, or_refuse, of_kind, named, ReachesNone, ReachesHeld, ReachesOther}
 use Rattle.kernel_history.specs.Trace.{Step, Trace, state_after, own_left}
 use Rattle.kernel_history.specs.Ways.{root_passed, way_to}
 use Rattle.kernel_history.specs.Justified.{HasReached}

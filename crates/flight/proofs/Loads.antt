@@ -27,7 +27,7 @@ use Rattle.kernel_history.specs.Stamps.{begins_in, ends_in, flushes_in}
 use Rattle.kernel_history.proofs.Small.{last_small}
 use Rattle.kernel_history.proofs.Steps.{phase-own, steps_in_call-own}
 use Rattle.flight.specs.declared.stages.Stage.{Stage}
-use Rattle.flight.specs.declared.stages.Stage.TheVariants.{Enter, Looking, Fill, Exit, Leave}
+use Rattle.flight.specs.declared.stages.Stage.TheVariants.{Exit}
 use Rattle.flight.specs.declared.stages.InFlight.{InFlight}
 use Rattle.flight.specs.View.{Core}
 use Rattle.flight.specs.Steps.{went}

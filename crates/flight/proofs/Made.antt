@@ -1,13 +1,10 @@
 -- A trace that is the machine's is a history of the machine.
-use Rattle.std.proofs.Common.{◌≡◌, ℕ, ◌<◌, [], ◌∷◌, Option, refl, sym, ◌∙◌, ap, subst}
+use Rattle.std.proofs.Common.{◌≡◌, ℕ, [], ◌∷◌, sym, ◌∙◌, ap, subst}
 use Rattle.spk_nums.specs.Setting.{Setting, IsSetting}
-use Rattle.spk_nums.specs.declared.calls.Call.{Call}
 use Rattle.word_map.specs.Moves.{word_of}
 use Rattle.kernel_rules.specs.State.{put}
 use Rattle.kernel_history.specs.Moments.{WordsSayAlong}
 use Rattle.kernel_history.specs.Trace.{Step, Trace, last_left}
-use Rattle.flight.specs.View.{Core}
-use Rattle.flight.specs.Steps.{move_of}
 use Rattle.flight.specs.Made.{step_of, core_after, cores_after, core_at, IsMadeStep, IsMade}
 use Rattle.flight.specs.Histories.{MadeHistories}
 use Rattle.flight.specs.Stands.{Stands}

@@ -1,5 +1,5 @@
 -- A call in flight is in its phase, and a core whose mark a word carries is in a call.
-use Rattle.std.proofs.Common.{◌≡◌, ◌≢◌, inl, inr, ℕ, true, Option, Some, None, refl, sym, ◌∙◌, ap}
+use Rattle.std.proofs.Common.{◌≡◌, ◌≢◌, inl, inr, ℕ, true, Option, Some, None, refl, sym, ◌∙◌}
 use Rattle.std.specs.Prelude.{IsSome}
 use Rattle.std.proofs.lemmas.Bool.{cases_lt, false≢true}
 use Rattle.spk_nums.specs.Setting.{Setting}

@@ -1,25 +1,22 @@
 -- What the word of a place of a node is: it carries the mark of a core that is in a call, or says what the place is.
-use Rattle.std.proofs.Common.{◌≡◌, ◌≢◌, ◌⊎◌, inl, inr, ℕ, ◌<◌, true, Option, Some, None, refl, sym, ◌∙◌, ap, subst, IsTrue}
+use Rattle.std.proofs.Common.{◌≡◌, ◌⊎◌, inl, inr, ℕ, ◌<◌, Option, Some, None, refl, sym, ◌∙◌, ap, subst, IsTrue}
 use Rattle.std.specs.Prelude.{IsSome}
-use Rattle.std.proofs.lemmas.Bool.{cases_lt, false≢true}
+use Rattle.std.proofs.lemmas.Bool.{false≢true}
 use Rattle.spk_nums.specs.Setting.{Setting}
 use Rattle.entry_words.specs.declared.entry.Entry.{Entry}
 use Rattle.entry_words.specs.declared.entry.Entry.TheVariants.{Free, Held, Closing, Quiescing}
 use Rattle.entry_words.specs.EntryWord.{entry_of_word}
-use Rattle.word_map.specs.Word.{Word, EntryAt}
+use Rattle.word_map.specs.Word.{EntryAt}
 use Rattle.kernel_rules.specs.State.{Place, Frame, Kernel, Table, Leaf, Pages, Pleaf, PlaceOf}
 use Rattle.kernel_rules.specs.Relies.{is_node}
 use Rattle.kernel_history.specs.Marks.{entry_mark, mark_in_frame}
-use Rattle.kernel_history.specs.Trace.{Trace, Phase, Out, phase, state_after, last_left}
-use Rattle.kernel_history.specs.Stamps.{is_in, stamp}
-use Rattle.kernel_history.proofs.Inside.{inside_is}
-use Rattle.flight.specs.declared.stages.InFlight.{InFlight}
+use Rattle.kernel_history.specs.Trace.{Trace, state_after, last_left}
+use Rattle.kernel_history.specs.Stamps.{stamp}
 use Rattle.flight.specs.View.{Core}
 use Rattle.kernel_history.specs.Marking.{marked_by}
 use Rattle.flight.specs.Holding.{settled_by}
 use Rattle.flight.specs.Words.{PlaceIs, IsFrameWord}
-use Rattle.flight.specs.Knows.{FlightIs}
-use Rattle.flight.specs.Stands.{holds_in, held_by, Stands}
+use Rattle.flight.specs.Stands.{held_by, Stands}
 use Rattle.flight.proofs.Sounds.{limits_of}
 
 -- The word of a place carries the mark of a core.

@@ -4,7 +4,7 @@ use Rattle.spk_nums.specs.Setting.{Setting, IsSetting}
 use Rattle.spk_nums.specs.declared.calls.Call.{Call}
 use Rattle.word_map.specs.Moves.{word_of}
 use Rattle.kernel_rules.specs.State.{put}
-use Rattle.kernel_history.specs.Trace.{Step, Trace, state_after, last_left}
+use Rattle.kernel_history.specs.Trace.{Trace, state_after, last_left}
 use Rattle.kernel_history.specs.FinalWords.{Represent}
 use Rattle.kernel_history.specs.Moments.{WordsSay}
 use Rattle.flight.specs.declared.stages.Stage.{Stage}
