@@ -16,7 +16,7 @@ use Rattle.kernel_rules.specs.References.{refs}
 use Rattle.kernel_rules.specs.Access.{found, only}
 use Rattle.kernel_rules.specs.Rules.{Change, Cause, When, WaitedFor, Unflushed, Found, named, first_cause, refusal_of, waits_of, flushes_of}
 use Rattle.kernel_rules.specs.CapabilityCalls.{outside, not_blank, make_rule, not_taken}
-use Rattle.kernel_rules.specs.MemoryCalls.{is_untyped, is_empty, not_retyped, retype_rule, touch_by, translation_of}
+use Rattle.kernel_rules.specs.MemoryCalls.{is_untyped_now, is_empty, not_retyped, retype_rule, touch_by, translation_of}
 use Rattle.kernel_rules.specs.InvocationCalls.{with_thread, with_stack, running, switches, switch_to}
 use Rattle.kernel_rules.specs.TimeCalls.{tcap_at, with_tcap, with_budget, with_qualities, moved, merged_list, charge, are_same, is_short, are_unlike, are_many}
 use Rattle.kernel_rules.specs.CallRelation.{rule_of}
@@ -26,7 +26,7 @@ use Rattle.kernel_rules.proofs.Sums.{sum_same, sum_one}
 use Rattle.kernel_rules.specs.Fitting.{fits}
 use Rattle.kernel_rules.proofs.Sound.{IsSound, put_all}
 use Rattle.kernel_rules.proofs.Facts.{ChangesFrom, named_fit, none_parts, when_not, not_not, first_two}
-use Rattle.kernel_rules.proofs.SoundCalls.{IsOpen, in_range, blank_at, own_thread, thread_below, tcap_below, untyped_is}
+use Rattle.kernel_rules.proofs.SoundCalls.{IsOpen, in_range, blank_by, untyped_by, own_thread, thread_below, tcap_below}
 
 abbrev budget : Frame → ℕ
 budget x = (tcap_in x).budget
@@ -64,19 +64,20 @@ own_core s o c h = (h.sound.inside c h.is).1
 
 -- A blank frame holds an object without budget.
 blank_ticks : (s : State) (o : ℕ → Bool) (c : ℕ) → IsOpen s o c → (r f : ℕ) (range : Capability) → named s c r (only kind.Range) ≡ Found range
-    → (object : Object) → budget (Kernel object) ≡ 0 → (refusal_of s c (outside (found range) f) ≡ None) × (refusal_of s c (not_blank s f) ≡ None)
+    → (object : Object) → budget (Kernel object) ≡ 0 → (causes : List Cause) → first_cause s c (outside (found range) f ∷ not_blank s f ∷ causes) ≡ None
     → ticks (with_frame s f (Kernel object)) ≡ ticks s
-blank_ticks s o c h r f range e object none calm =
-    same_budget s f (Kernel object) (in_range s o c r f range h e calm.0) (none ∙ ap budget (sym (blank_at s c f calm.1)))
+blank_ticks s o c h r f range e object none causes calm =
+    let p = blank_by s o c r f range causes h e calm in
+    same_budget s f (Kernel object) p.0 (none ∙ ap budget (sym p.1))
 
 make_ticks : (s : State) (o : ℕ → Bool) (c : ℕ) → IsOpen s o c → (what : Make) (r f t b : ℕ) → ChangesFrom (TicksStay s) s c (make_rule s what r f t b)
-make_ticks s o c h make.Table r f t b = λ range e table g at v calm. blank_ticks s o c h r f range e Table refl (first_two s c (outside (found range) f) (not_blank s f) [] calm)
-make_ticks s o c h make.Leaf r f t b = λ range e table g at v calm. blank_ticks s o c h r f range e Leaf refl (first_two s c (outside (found range) f) (not_blank s f) [] calm)
-make_ticks s o c h make.Pages r f t b = λ range e table g at v calm. blank_ticks s o c h r f range e Pages refl (first_two s c (outside (found range) f) (not_blank s f) [] calm)
-make_ticks s o c h make.Pleaf r f t b = λ range e table g at v calm. blank_ticks s o c h r f range e Pleaf refl (first_two s c (outside (found range) f) (not_blank s f) [] calm)
-make_ticks s o c h (make.Thread comp) r f t b = λ range e table g k j at v calm. blank_ticks s o c h r f range e (Thread _) refl (first_two s c (outside (found range) f) (not_blank s f) [] calm)
-make_ticks s o c h (make.Tcap sched quality) r f t b = λ range e table g at v calm. blank_ticks s o c h r f range e (Tcap _) refl (first_two s c (outside (found range) f) (not_blank s f) [] calm)
-make_ticks s o c h (make.Comp x p l) r f t b = λ range e table g own_table a own_pages d at v calm. blank_ticks s o c h r f range e (Comp _) refl (first_two s c (outside (found range) f) (not_blank s f) (not_taken s l) calm)
+make_ticks s o c h make.Table r f t b = λ range e table g at v calm. blank_ticks s o c h r f range e Table refl [] calm
+make_ticks s o c h make.Leaf r f t b = λ range e table g at v calm. blank_ticks s o c h r f range e Leaf refl [] calm
+make_ticks s o c h make.Pages r f t b = λ range e table g at v calm. blank_ticks s o c h r f range e Pages refl [] calm
+make_ticks s o c h make.Pleaf r f t b = λ range e table g at v calm. blank_ticks s o c h r f range e Pleaf refl [] calm
+make_ticks s o c h (make.Thread comp) r f t b = λ range e table g k j at v calm. blank_ticks s o c h r f range e (Thread _) refl [] calm
+make_ticks s o c h (make.Tcap sched quality) r f t b = λ range e table g at v calm. blank_ticks s o c h r f range e (Tcap _) refl [] calm
+make_ticks s o c h (make.Comp x p l) r f t b = λ range e table g own_table a own_pages d at v calm. blank_ticks s o c h r f range e (Comp _) refl (not_taken s l) calm
 
 empty_budget : (s : State) (f : ℕ) (x : Frame) → is_empty s f x ≡ true → budget x ≡ 0
 empty_budget s f (Kernel (Tcap q)) e = eqb-true q.budget 0 e
@@ -92,18 +93,16 @@ empty_budget s f User e = refl
 
 retype_ticks : (s : State) (o : ℕ → Bool) (c : ℕ) → IsOpen s o c → (r f : ℕ) (k : FrameKind) → ChangesFrom (TicksStay s) s c (retype_rule s r f k)
 retype_ticks s o c h r f frame_kind.User = λ range e calm.
-    let p = first_two s c (outside (found range) f) (When (not (is_untyped (s.frame f))) reply.FrameKind) [] calm in
-    same_budget s f User (in_range s o c r f range h e p.0)
-    (ap budget (sym (untyped_is (s.frame f) (not_not (is_untyped (s.frame f)) (when_not (not (is_untyped (s.frame f))) reply.FrameKind p.1)))))
+    let p = untyped_by s o c r f range h e calm in
+    same_budget s f User p.0 (ap budget (sym p.1))
 retype_ticks s o c h r f frame_kind.Kernel = λ range e calm.
-    let p = first_two s c (outside (found range) f) (When (not (is_untyped (s.frame f))) reply.FrameKind) [] calm in
-    same_budget s f (Kernel Blank) (in_range s o c r f range h e p.0)
-    (ap budget (sym (untyped_is (s.frame f) (not_not (is_untyped (s.frame f)) (when_not (not (is_untyped (s.frame f))) reply.FrameKind p.1)))))
+    let p = untyped_by s o c r f range h e calm in
+    same_budget s f (Kernel Blank) p.0 (ap budget (sym p.1))
 retype_ticks s o c h r f frame_kind.Untyped = λ range e calm.
     let held : Cause = When (not (is_empty s f (s.frame f))) reply.NotEmpty in
     let referenced : Cause = When (nat_lt 0 (refs s f)) (reply.Referenced (refs s f)) in
     let p = none_parts (refusal_of s c (outside (found range) f)) (first_cause s c (not_retyped s f frame_kind.Untyped)) calm in
-    let p1 = none_parts (refusal_of s c (When (is_untyped (s.frame f)) reply.FrameKind)) (first_cause s c (referenced ∷ WaitedFor (FrameOf f) ∷ Unflushed (FrameOf f) ∷ held ∷ [])) p.1 in
+    let p1 = none_parts (refusal_of s c (is_untyped_now s f)) (first_cause s c (referenced ∷ WaitedFor (FrameOf f) ∷ Unflushed (FrameOf f) ∷ held ∷ [])) p.1 in
     let p2 = none_parts (refusal_of s c referenced) (first_cause s c (WaitedFor (FrameOf f) ∷ Unflushed (FrameOf f) ∷ held ∷ [])) p1.1 in
     let p3 = none_parts (waits_of s c (FrameOf f)) (first_cause s c (Unflushed (FrameOf f) ∷ held ∷ [])) p2.1 in
     let p4 = none_parts (flushes_of s (FrameOf f)) (first_cause s c (held ∷ [])) p3.1 in

@@ -13,7 +13,7 @@ use Rattle.kernel_rules.specs.Start.{start, start_frame, granted}
 use Rattle.kernel_rules.specs.References.{sum_below}
 use Rattle.kernel_rules.specs.Rules.{Change, Judged, Refused, Found, IsFoundAnd}
 use Rattle.kernel_rules.specs.CallRelation.{rule_of, change_of, changed, owed_by, state_by, MayReply}
-use Rattle.kernel_rules.specs.Runs.{Enters, Decides, Returns, after}
+use Rattle.kernel_rules.specs.Runs.{Enters, Decides, Returns, after, is_open}
 use Rattle.kernel_rules.specs.Laws.{ticks}
 use Rattle.kernel_laws.specs.Laws.{grants_sum, TicksKept}
 use Rattle.kernel_rules.proofs.Changes.{IfFound}
@@ -137,8 +137,8 @@ decided_ticks s o c call _ h may = same_spent s c _ refl
 
 pub ticks_kept : TicksKept
 ticks_kept setting lim [] run = start_ticks setting lim
-ticks_kept setting lim (Enters c ∷ events) run = same_spent (after setting events) c _ refl ∙ ticks_kept setting lim events run.0
+ticks_kept setting lim (Enters c call ∷ events) run = same_spent (after setting events) c _ refl ∙ ticks_kept setting lim events run.0
 ticks_kept setting lim (Returns c ∷ events) run = same_spent (after setting events) c _ refl ∙ ticks_kept setting lim events run.0
 ticks_kept setting lim (Decides c call r ∷ events) run =
-    decided_ticks (after setting events) (opened events) c call r (open_is setting lim events c run.0 run.1.is_open) run.1.permitted
+    decided_ticks (after setting events) (opened events) c call r (open_is setting lim events c run.0 (ap is_open run.1.is_open)) run.1.permitted
     ∙ ticks_kept setting lim events run.0

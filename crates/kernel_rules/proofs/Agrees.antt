@@ -1,6 +1,6 @@
--- The relation and the reply to a call made alone agree where no core waits.
-use Rattle.std.proofs.Common.{◌≡◌, ◌⊎◌, inl, inr, ℕ, zero, suc, ◌+◌, ◌<◌, Bool, true, false, not, ◌&&◌, ◌||◌, refl, sym, ◌∙◌, ap, subst, arith, cond, ◌==◌, nat_lt, nat_le, if◌then◌else◌, IsTrue, IsFalse, IsSomeAnd, is_some, List, [], ◌∷◌, Option, Some, None, find, ◌%◌}
-use Rattle.std.proofs.lemmas.Bool.{false≢true, true≢false, ltb-false, leb-false, le-leb, lt-ltb, or_left, or_right, not_from_false, and_left}
+-- The first refusal in order is one that the relation permits, where those who wait are in calls.
+use Rattle.std.proofs.Common.{◌≡◌, ◌≢◌, ◌⊎◌, inl, inr, ℕ, zero, suc, ◌+◌, ◌<◌, Bool, true, false, not, ◌&&◌, ◌||◌, refl, sym, ◌∙◌, ap, subst, arith, cond, ◌==◌, nat_lt, nat_le, if◌then◌else◌, IsTrue, IsFalse, IsSomeAnd, is_some, List, [], ◌∷◌, Option, Some, None, find, ◌%◌}
+use Rattle.std.proofs.lemmas.Bool.{false≢true, true≢false, eqb-false, ltb-false, leb-false, le-leb, lt-ltb, or_left, or_right, not_from_false}
 use Rattle.std.specs.List.{range_with_len}
 use Rattle.spk_nums.specs.Capability.{Capability}
 use Rattle.spk_nums.specs.declared.kinds.Kind.{Kind}
@@ -9,12 +9,13 @@ use Rattle.spk_nums.specs.declared.replies.Reply.{Reply}
 use Rattle.spk_nums.specs.declared.replies.Reply.TheVariants as reply
 use Rattle.kernel_rules.specs.State.{Place, Free, Holds, Quiescing, Thing, PlaceOf, State}
 use Rattle.kernel_rules.specs.Access.{Slot, found, root_at, Target, Under, InRoot, place_at, held_in, usable_in, usable, linked, slot_in, reached, root_slot, only, holds_link, has_no_slot, own}
-use Rattle.kernel_rules.specs.GracePeriods.{lowest, quiescing_by, unflushed_by, MayBeUnflushed}
-use Rattle.kernel_rules.specs.Rules.{name_of, slot_of, Cause, When, WaitedFor, Unflushed, Rule, Name, Vacant, Held, Mapped, Does, Judged, Refused, Found, and_then, unless, or_refuse, of_kind, named, first_of, waits_of, flushes_of, not_vacant, vacant, held, mapped, first_cause, outcome, IsFoundAnd, NameMay, VacantMay, HeldMay, MappedMay, UnflushedMay, OneMay, RuleMay}
+use Rattle.kernel_rules.specs.GracePeriods.{lowest, other_waiting, quiescing_by, unflushed_by, MayWait, MayBeUnflushed}
+use Rattle.kernel_rules.specs.Rules.{name_of, slot_of, Cause, When, WaitedFor, Unflushed, Rule, Name, Vacant, Held, Mapped, Does, Judged, Refused, Found, and_then, unless, or_refuse, of_kind, named, first_of, waits_of, flushes_of, not_vacant, vacant, held, mapped, first_cause, outcome, IsFoundAnd, NameMay, VacantMay, HeldMay, MappedMay, WaitedMay, UnflushedMay, OneMay, RuleMay}
 
--- No core waits, and what is unflushed is unknown.
-pub record IsCalm (s : State) : Type 0 where
-  pub nobody : (x : Thing) (d : ℕ) → (s.grace x).waits d ≡ false
+-- Who waits is in a call and has not passed, and what is unflushed is unknown.
+pub record IsBounded (s : State) : Type 0 where
+  pub inside : (x : Thing) (d : ℕ) → IsTrue ((s.grace x).waits d) → IsTrue (s.core d).inside
+  pub waits : (x : Thing) (d : ℕ) → IsTrue ((s.grace x).waits d) → IsTrue ((s.grace x).not_passed d)
   pub flushes : (x : Thing) (d : ℕ) → IsTrue ((s.grace x).unflushed d) → IsTrue ((s.grace x).flush_unknown d)
 
 -- A refusal that is no loss of a race, no mark and no want of calls.
@@ -162,22 +163,49 @@ find_in p a (suc n) e h = tested (find_in p (a + 1) n e) (p a) refl h
     tested more true t q = (ap p (sym (some_inj q)) ∙ t, (let k = some_inj q in omega (arith, k)))
     tested more false t q = later (more q)
 
--- Nothing is found where nothing passes the test.
-find_none : (p : ℕ → Bool) (xs : List ℕ) → ((d : ℕ) → p d ≡ false) → find p xs ≡ None
-find_none p [] h = refl
-find_none p (x ∷ xs) h = ap (λ t. cond t (Some x) (find p xs)) (h x) ∙ find_none p xs h
+both : (a b : Bool) → (a && b) ≡ true → (a ≡ true) × (b ≡ true)
+both true b h = (refl, h)
+both false b h = absurd (false≢true h)
 
-nobody_waits : (s : State) (c : ℕ) (x : Thing) → IsCalm s → waits_of s c x ≡ None
-nobody_waits s c x calm = ap quiescing_by (find_none (λ e. (s.grace x).waits e && not (e == c)) (range_with_len 0 s.limits.cores)
-    λ d. and_left ((s.grace x).waits d) (not (d == c)) (calm.nobody x d))
+differs : (d c : ℕ) (b : Bool) → (d == c) ≡ b → not b ≡ true → d ≢ c
+differs d c false is h = eqb-false d c is
+differs d c true is h = absurd (false≢true h)
+
+-- Whoever waits may do so.
+wait_found : (s : State) (c : ℕ) (x : Thing) (e : ℕ) → IsBounded s → other_waiting s c x ≡ Some e → MayWait s c x e
+wait_found s c x e calm h =
+    let at = find_in (λ e. (s.grace x).waits e && not (e == c)) 0 s.limits.cores e h in
+    let p = both ((s.grace x).waits e) (not (e == c)) at.0 in
+    record {
+      is_core = (let q = at.1 in omega (arith, q));
+      other = differs e c (e == c) refl p.1;
+      is_inside = calm.inside x e p.0;
+      not_passed = calm.waits x e p.0;
+    }
+
+wait_refused : (s : State) (c : ℕ) (x : Thing) (P : Reply → Type 0) → IsBounded s
+    → ((e : ℕ) → MayWait s c x e → P (reply.Quiescing e)) → (r : Reply) → waits_of s c x ≡ Some r → P r
+wait_refused s c x P calm h r e = tested (other_waiting s c x) refl e
+  where
+    is : (d : ℕ) → Some (reply.Quiescing d) ≡ Some r → reply.Quiescing d ≡ r
+    is d q = cc
+
+    tested : (o : Option ℕ) → other_waiting s c x ≡ o → quiescing_by o ≡ Some r → P r
+    tested None l q = absurd (some_none r (sym q))
+    tested (Some d) l q = subst P (is d q) (h d (wait_found s c x d calm l))
+
+-- A first refusal is either of the two.
+first_parts : (o p : Option Reply) (r : Reply) → first_of o p ≡ Some r → (o ≡ Some r) ⊎ (p ≡ Some r)
+first_parts None p r h = inr h
+first_parts (Some q) p r h = inl h
 
 -- Whoever is unflushed may be so.
-flush_found : (s : State) (x : Thing) (e : ℕ) → IsCalm s → lowest s (s.grace x).unflushed ≡ Some e → MayBeUnflushed s x e
+flush_found : (s : State) (x : Thing) (e : ℕ) → IsBounded s → lowest s (s.grace x).unflushed ≡ Some e → MayBeUnflushed s x e
 flush_found s x e calm h =
     let at : ((s.grace x).unflushed e ≡ true) × (e < 0 + s.limits.cores) = find_in (s.grace x).unflushed 0 s.limits.cores e h in
     record { is_core = (let q = at.1 in omega (arith, q)); flush_unknown = calm.flushes x e at.0 }
 
-flush_refused : (s : State) (x : Thing) (P : Reply → Type 0) → IsCalm s
+flush_refused : (s : State) (x : Thing) (P : Reply → Type 0) → IsBounded s
     → ((e : ℕ) → MayBeUnflushed s x e → P (reply.Unflushed e)) → (r : Reply) → flushes_of s x ≡ Some r → P r
 flush_refused s x P calm h r e = tested (lowest s (s.grace x).unflushed) refl e
   where
@@ -188,7 +216,7 @@ flush_refused s x P calm h r e = tested (lowest s (s.grace x).unflushed) refl e
     tested None l q = absurd (some_none r (sym q))
     tested (Some d) l q = subst P (is d q) (h d (flush_found s x d calm l))
 
-vacant_refused : (s : State) (c : ℕ) (target : Target) → IsTrue (has_root target) → IsCalm s
+vacant_refused : (s : State) (c : ℕ) (target : Target) → IsTrue (has_root target) → IsBounded s
     → IfRefused (vacant s c target) (λ r. VacantMay s c target r × IsPlain r)
 vacant_refused s c target named calm =
     then_refused (or_refuse (reached s c target) reply.NoSlot) (λ at. unless (not_vacant s c (PlaceOf at.node at.index) (place_at s at)) at) P
@@ -207,10 +235,12 @@ vacant_refused s c target named calm =
     place_refused at e Free is r h = absurd (some_none r (sym h))
     place_refused at e (Holds k) is r h = subst P (occupied r h)
         (some_and (reached s c target) at (λ at. IsTrue (is_some (held_in (place_at s at)))) e (ap (λ p. is_some (held_in p)) is), tt)
-    place_refused at e (Quiescing k) is r h =
-        flush_refused s (PlaceOf at.node at.index) P calm
-        (λ d may. (some_and (reached s c target) at (λ at. MayBeUnflushed s (PlaceOf at.node at.index) d) e may, tt))
-        r (sym (ap (λ o. first_of o (flushes_of s (PlaceOf at.node at.index))) (nobody_waits s c (PlaceOf at.node at.index) calm)) ∙ h)
+    place_refused at e (Quiescing k) is r h = elim (first_parts (waits_of s c (PlaceOf at.node at.index)) (flushes_of s (PlaceOf at.node at.index)) r h) [
+      | inl waits ↦ wait_refused s c (PlaceOf at.node at.index) P calm
+          (λ d may. (some_and (reached s c target) at (λ at. MayWait s c (PlaceOf at.node at.index) d) e may, tt)) r waits
+      | inr flushes ↦ flush_refused s (PlaceOf at.node at.index) P calm
+          (λ d may. (some_and (reached s c target) at (λ at. MayBeUnflushed s (PlaceOf at.node at.index) d) e may, tt)) r flushes
+    ]
 
 none_held : (o : Option Capability) → o ≡ None → IsFalse (is_some o)
 none_held o e = ap is_some e
@@ -297,11 +327,7 @@ HasPlain (Held target rest) = IsTrue (has_root target) × ((at : Slot) (k : Capa
 HasPlain (Mapped table v rest) = (k : Capability) → HasPlain (rest k)
 HasPlain (Does causes change) = ArePlain causes
 
-first_parts : (o p : Option Reply) (r : Reply) → first_of o p ≡ Some r → (o ≡ Some r) ⊎ (p ≡ Some r)
-first_parts None p r h = inr h
-first_parts (Some q) p r h = inl h
-
-cause_refused : (s : State) (c : ℕ) (causes : List Cause) → IsCalm s → ArePlain causes
+cause_refused : (s : State) (c : ℕ) (causes : List Cause) → IsBounded s → ArePlain causes
     → (r : Reply) → first_cause s c causes ≡ Some r → OneMay s c causes r × IsPlain r
 cause_refused s c [] calm plain r h = absurd (some_none r (sym h))
 cause_refused s c (When condition q ∷ causes) calm plain r h = tested (cause_refused s c causes calm plain.1 r) condition refl h
@@ -315,9 +341,12 @@ cause_refused s c (When condition q ∷ causes) calm plain r h = tested (cause_r
     tested more true e k = (inl (e, sym (is k)), subst IsPlain (is k) plain.0)
     tested more false e k = (inr (more k).0, (more k).1)
 cause_refused s c (WaitedFor x ∷ causes) calm plain r h =
-    let later : OneMay s c causes r × IsPlain r = cause_refused s c causes calm plain r
-    (sym (ap (λ o. first_of o (first_cause s c causes)) (nobody_waits s c x calm)) ∙ h) in
-    (inr later.0, later.1)
+    tested (cause_refused s c causes calm plain r) (first_parts (waits_of s c x) (first_cause s c causes) r h)
+  where
+    tested : (first_cause s c causes ≡ Some r → OneMay s c causes r × IsPlain r)
+        → (waits_of s c x ≡ Some r) ⊎ (first_cause s c causes ≡ Some r) → (WaitedMay s c x r ⊎ OneMay s c causes r) × IsPlain r
+    tested more (inl e) = wait_refused s c x (λ r. (WaitedMay s c x r ⊎ OneMay s c causes r) × IsPlain r) calm (λ d may. (inl may, tt)) r e
+    tested more (inr e) = (inr (more e).0, (more e).1)
 cause_refused s c (Unflushed x ∷ causes) calm plain r h =
     tested (cause_refused s c causes calm plain r) (first_parts (flushes_of s x) (first_cause s c causes) r h)
   where
@@ -327,7 +356,7 @@ cause_refused s c (Unflushed x ∷ causes) calm plain r h =
     tested more (inr e) = (inr (more e).0, (more e).1)
 
 -- The first refusal of a rule is one that it may be refused with.
-pub rule_refused : (s : State) (c : ℕ) (rule : Rule) → IsCalm s → HasPlain rule
+pub rule_refused : (s : State) (c : ℕ) (rule : Rule) → IsBounded s → HasPlain rule
     → IfRefused (outcome s c rule) (λ r. RuleMay s c rule r × IsPlain r)
 rule_refused s c (Name n wanted rest) calm plain =
     then_refused (named s c n wanted) (λ k. outcome s c (rest (found k))) (λ r. RuleMay s c (Name n wanted rest) r × IsPlain r)

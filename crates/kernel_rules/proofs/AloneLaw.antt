@@ -1,4 +1,4 @@
--- In a state in which no core is in a call nobody waits; so there the relation and the reply to a call made alone agree.
+-- Who waits is in a call; so in every reached state the relation and the first reply in order agree.
 use Rattle.std.proofs.Common.{◌≡◌, inl, inr, ℕ, Bool, true, false, refl, sym, ◌∙◌, ap, subst, if◌then◌else◌, IsTrue, IsFalse, List, [], ◌∷◌, Option, Some, None}
 use Rattle.std.proofs.lemmas.Bool.{cases_eq, false≢true}
 use Rattle.std.specs.List.{list_any}
@@ -24,10 +24,10 @@ use Rattle.kernel_rules.specs.InvocationCalls.{switch_to}
 use Rattle.kernel_rules.specs.CallRelation.{rule_of, change_of, changed, counted, owed_by, state_by, are_calls_spent, MayReply}
 use Rattle.kernel_rules.specs.Alone.{reply_in, alone}
 use Rattle.kernel_rules.specs.Runs.{Event, Enters, Decides, Returns, after}
-use Rattle.kernel_rules.specs.Laws.{PermitsAlone}
+use Rattle.kernel_rules.specs.Laws.{FirstPermitted}
 use Rattle.kernel_rules.proofs.Changes.{AllChanges, IfFound, outcome_all}
 use Rattle.kernel_rules.proofs.Within.{put_same, put_other, waits_within}
-use Rattle.kernel_rules.proofs.Agrees.{IsCalm, IsPlain, IfRefused, HasPlain, rule_refused}
+use Rattle.kernel_rules.proofs.Agrees.{IsBounded, IsPlain, IfRefused, HasPlain, rule_refused}
 
 -- A core that replaces core c and is in a call where c was: every core is in a call where it was.
 pub core_inside : (s : State) (c d : ℕ) (k : Core) → k.inside ≡ (s.core c).inside → (put s.core c k d).inside ≡ (s.core d).inside
@@ -160,7 +160,7 @@ returned_inside s c h x d w = elim (cases_eq d c) [
 -- In every state reached from the start, the cores that wait are in a call.
 pub waits_inside : (setting : Setting) (events : List Event) → AreInside (after setting events)
 waits_inside setting [] = λ x d w. absurd (false≢true w)
-waits_inside setting (Enters c ∷ events) = entered_inside (after setting events) c (waits_inside setting events)
+waits_inside setting (Enters c call ∷ events) = entered_inside (after setting events) c (waits_inside setting events)
 waits_inside setting (Returns c ∷ events) = returned_inside (after setting events) c (waits_inside setting events)
 waits_inside setting (Decides c call r ∷ events) = decided_inside (after setting events) c call r (waits_inside setting events)
 
@@ -220,7 +220,7 @@ may_plain s c call _ plain some may = (some, may)
 ok_inj : (v w : Value) → reply.Ok v ≡ reply.Ok w → v ≡ w
 ok_inj v w e = cc
 
-permitted : (s : State) (c : ℕ) (call : Call) → IsCalm s → MayReply s c call (alone s c call)
+permitted : (s : State) (c : ℕ) (call : Call) → IsBounded s → MayReply s c call (alone s c call)
 permitted s c call calm = tested (are_calls_spent s c) refl
   where
     found : (j : Judged Change) → change_of s c call ≡ j → IfRefused j (λ r. RuleMay s c (rule_of s c call) r × IsPlain r)
@@ -239,17 +239,12 @@ only_ok s c call v may = ap (λ t. if t then reply.CallsSpent else reply_in (cha
     found (Refused r) h = absurd h
     found (Found change) h = ap reply.Ok h
 
-nobody : (b : Bool) → (IsTrue b → ⊥) → b ≡ false
-nobody true h = absurd (h refl)
-nobody false h = refl
-
-pub permits_alone : PermitsAlone
-permits_alone setting events quiet c call =
-    let calm : IsCalm (entered (after setting events) c) = record {
-      nobody = λ x d. nobody (((after setting events).grace x).waits d) (λ w. false≢true (sym (quiet d) ∙ waits_inside setting events x d w));
-      flushes = λ x d. (waits_within setting events x d).flushes;
-    } in
-    record {
-      only_ok = only_ok (entered (after setting events) c) c call;
-      permitted = permitted (entered (after setting events) c) c call calm;
-    }
+pub first_permitted : FirstPermitted
+first_permitted setting events c call = record {
+  only_ok = only_ok (after setting events) c call;
+  permitted = permitted (after setting events) c call (record {
+    inside = waits_inside setting events;
+    waits = λ x d. (waits_within setting events x d).waits;
+    flushes = λ x d. (waits_within setting events x d).flushes;
+  });
+}

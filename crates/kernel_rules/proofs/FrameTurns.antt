@@ -1,6 +1,6 @@
 -- How a call that is carried out turns frames: a node is made only with the end of its places' grace periods, and what a frame is
 -- changes only with the end of its own; and only frames that are something have references released.
-use Rattle.std.proofs.Common.{◌≡◌, ◌⊎◌, inl, inr, ℕ, ◌-◌, Bool, true, false, not, refl, sym, ◌∙◌, ap, subst, IsTrue, [], ◌∷◌, Option, Some, None}
+use Rattle.std.proofs.Common.{◌≡◌, ◌⊎◌, inl, inr, ℕ, ◌-◌, Bool, true, false, refl, sym, ◌∙◌, ap, subst, IsTrue, [], Option, Some, None}
 use Rattle.std.proofs.lemmas.Bool.{false≢true, eq-eqb}
 use Rattle.spk_nums.specs.declared.kinds.Kind.{Kind}
 use Rattle.spk_nums.specs.declared.kinds.Kind.TheVariants as kind
@@ -16,16 +16,16 @@ use Rattle.spk_nums.specs.declared.replies.Reply.TheVariants as reply
 use Rattle.kernel_rules.specs.State.{ThreadFields, TcapFields, Object, Blank, Table, Leaf, Pages, Pleaf, Comp, Thread, Tcap, Frame, Untyped, User, Kernel, PlaceOf, FrameOf, State, put, comp_of, thread_in}
 use Rattle.kernel_rules.specs.GracePeriods.{is_translated}
 use Rattle.kernel_rules.specs.Access.{Named, found}
-use Rattle.kernel_rules.specs.Rules.{Change, When, Judged, Refused, Found, refusal_of, first_cause}
-use Rattle.kernel_rules.specs.CapabilityCalls.{outside, not_blank, make_node, make_rule, not_taken}
-use Rattle.kernel_rules.specs.MemoryCalls.{is_untyped, not_retyped, retype_rule, touch_by, translation_of}
+use Rattle.kernel_rules.specs.Rules.{Change, Judged, Refused, Found}
+use Rattle.kernel_rules.specs.CapabilityCalls.{make_node, make_rule, not_taken}
+use Rattle.kernel_rules.specs.MemoryCalls.{retype_rule, touch_by, translation_of}
 use Rattle.kernel_rules.specs.InvocationCalls.{with_thread, running, switch_to}
 use Rattle.kernel_rules.specs.TimeCalls.{with_tcap, with_budget, tcap_at, moved}
 use Rattle.kernel_rules.specs.CallRelation.{rule_of, change_of, changed, owed_by, state_by, ends, ends_by}
 use Rattle.kernel_rules.specs.Relies.{is_node}
 use Rattle.kernel_rules.proofs.Sound.{put_all}
-use Rattle.kernel_rules.proofs.SoundCalls.{blank_at, untyped_is}
-use Rattle.kernel_rules.proofs.Facts.{ChangesFrom, outcome_from, none_parts, when_not, not_not}
+use Rattle.kernel_rules.proofs.SoundCalls.{IsOpen, blank_by, untyped_by}
+use Rattle.kernel_rules.proofs.Facts.{ChangesFrom, outcome_from}
 use Rattle.kernel_rules.proofs.Changes.{IfFound}
 
 -- Whether a frame is something: a user frame, or has an object.
@@ -112,29 +112,25 @@ made_turns call f x object blank ends = record {
   typed = λ h. absurd (false≢true (ap is_typed (sym blank) ∙ h));
 }
 
-node_turns : (call : Call) (s : State) (d : ℕ) (object : Object) (k : Kind) (r f t b : ℕ) → ((i : ℕ) → ends_by call (PlaceOf f i) ≡ true)
-    → ChangesFrom (TurnsBy s call) s d (make_node s object k r f t b)
-node_turns call s d object k r f t b ends = λ range e table g at v calm.
-    let p = none_parts (refusal_of s d (outside (found range) f)) (first_cause s d (not_blank s f ∷ [])) calm in
-    put_turns call s f (Kernel object) (made_turns call f (s.frame f) object (blank_at s d f (none_parts (refusal_of s d (not_blank s f)) None p.1).0) ends)
+node_turns : (call : Call) (s : State) (o : ℕ → Bool) (d : ℕ) → IsOpen s o d → (object : Object) (k : Kind) (r f t b : ℕ)
+    → ((i : ℕ) → ends_by call (PlaceOf f i) ≡ true) → ChangesFrom (TurnsBy s call) s d (make_node s object k r f t b)
+node_turns call s o d h object k r f t b ends = λ range e table g at v calm.
+    put_turns call s f (Kernel object) (made_turns call f (s.frame f) object (blank_by s o d r f range [] h e calm).1 ends)
 
-make_turns : (s : State) (d : ℕ) (what : Make) (r f t b : ℕ) → ChangesFrom (TurnsBy s (make_call what r f t b)) s d (make_rule s what r f t b)
-make_turns s d make.Table r f t b = node_turns (make_call make.Table r f t b) s d Table kind.Table r f t b (λ i. eq-eqb f f refl)
-make_turns s d make.Leaf r f t b = node_turns (make_call make.Leaf r f t b) s d Leaf kind.Leaf r f t b (λ i. eq-eqb f f refl)
-make_turns s d make.Pages r f t b = node_turns (make_call make.Pages r f t b) s d Pages kind.Pages r f t b (λ i. eq-eqb f f refl)
-make_turns s d make.Pleaf r f t b = node_turns (make_call make.Pleaf r f t b) s d Pleaf kind.Pleaf r f t b (λ i. eq-eqb f f refl)
-make_turns s d (make.Thread comp) r f t b = λ range e table g k j at v calm.
-    let p = none_parts (refusal_of s d (outside (found range) f)) (first_cause s d (not_blank s f ∷ [])) calm in
+make_turns : (s : State) (o : ℕ → Bool) (d : ℕ) → IsOpen s o d → (what : Make) (r f t b : ℕ) → ChangesFrom (TurnsBy s (make_call what r f t b)) s d (make_rule s what r f t b)
+make_turns s o d h make.Table r f t b = node_turns (make_call make.Table r f t b) s o d h Table kind.Table r f t b (λ i. eq-eqb f f refl)
+make_turns s o d h make.Leaf r f t b = node_turns (make_call make.Leaf r f t b) s o d h Leaf kind.Leaf r f t b (λ i. eq-eqb f f refl)
+make_turns s o d h make.Pages r f t b = node_turns (make_call make.Pages r f t b) s o d h Pages kind.Pages r f t b (λ i. eq-eqb f f refl)
+make_turns s o d h make.Pleaf r f t b = node_turns (make_call make.Pleaf r f t b) s o d h Pleaf kind.Pleaf r f t b (λ i. eq-eqb f f refl)
+make_turns s o d h (make.Thread comp) r f t b = λ range e table g k j at v calm.
     put_turns (make_call (make.Thread comp) r f t b) s f _
-    (blank_turns (make_call (make.Thread comp) r f t b) f (s.frame f) _ (blank_at s d f (none_parts (refusal_of s d (not_blank s f)) None p.1).0) refl)
-make_turns s d (make.Tcap sched quality) r f t b = λ range e table g at v calm.
-    let p = none_parts (refusal_of s d (outside (found range) f)) (first_cause s d (not_blank s f ∷ [])) calm in
+    (blank_turns (make_call (make.Thread comp) r f t b) f (s.frame f) _ (blank_by s o d r f range [] h e calm).1 refl)
+make_turns s o d h (make.Tcap sched quality) r f t b = λ range e table g at v calm.
     put_turns (make_call (make.Tcap sched quality) r f t b) s f _
-    (blank_turns (make_call (make.Tcap sched quality) r f t b) f (s.frame f) _ (blank_at s d f (none_parts (refusal_of s d (not_blank s f)) None p.1).0) refl)
-make_turns s d (make.Comp x y l) r f t b = λ range e table g own_table a own_pages k at v calm.
-    let p = none_parts (refusal_of s d (outside (found range) f)) (first_cause s d (not_blank s f ∷ not_taken s l)) calm in
+    (blank_turns (make_call (make.Tcap sched quality) r f t b) f (s.frame f) _ (blank_by s o d r f range [] h e calm).1 refl)
+make_turns s o d h (make.Comp x y l) r f t b = λ range e table g own_table a own_pages k at v calm.
     put_turns (make_call (make.Comp x y l) r f t b) s f _
-    (blank_turns (make_call (make.Comp x y l) r f t b) f (s.frame f) _ (blank_at s d f (none_parts (refusal_of s d (not_blank s f)) (first_cause s d (not_taken s l)) p.1).0) refl)
+    (blank_turns (make_call (make.Comp x y l) r f t b) f (s.frame f) _ (blank_by s o d r f range (not_taken s l) h e calm).1 refl)
 
 -- A retype.
 typed_turns : (call : Call) (f : ℕ) (x y : Frame) → x ≡ Untyped → is_node y ≡ false → Turns call f x y
@@ -143,20 +139,15 @@ typed_turns call f x y untyped none = record {
   typed = λ h. absurd (false≢true (ap is_typed (sym untyped) ∙ h));
 }
 
-untyped_by : (s : State) (d f : ℕ) → refusal_of s d (When (not (is_untyped (s.frame f))) reply.FrameKind) ≡ None → s.frame f ≡ Untyped
-untyped_by s d f none = untyped_is (s.frame f) (not_not (is_untyped (s.frame f)) (when_not (not (is_untyped (s.frame f))) reply.FrameKind none))
-
-retype_turns : (s : State) (d r f : ℕ) (k : FrameKind) → ChangesFrom (TurnsBy s (Retype r f k)) s d (retype_rule s r f k)
-retype_turns s d r f frame_kind.Untyped = λ range e calm.
+retype_turns : (s : State) (o : ℕ → Bool) (d : ℕ) → IsOpen s o d → (r f : ℕ) (k : FrameKind) → ChangesFrom (TurnsBy s (Retype r f k)) s d (retype_rule s r f k)
+retype_turns s o d h r f frame_kind.Untyped = λ range e calm.
     put_turns (Retype r f frame_kind.Untyped) s f Untyped (record { node = λ i n. absurd (false≢true n); typed = λ h. inl (eq-eqb f f refl) })
-retype_turns s d r f frame_kind.User = λ range e calm.
-    let p = none_parts (refusal_of s d (outside (found range) f)) (first_cause s d (not_retyped s f frame_kind.User)) calm in
+retype_turns s o d h r f frame_kind.User = λ range e calm.
     put_turns (Retype r f frame_kind.User) s f User
-    (typed_turns (Retype r f frame_kind.User) f (s.frame f) User (untyped_by s d f (none_parts (refusal_of s d (When (not (is_untyped (s.frame f))) reply.FrameKind)) None p.1).0) refl)
-retype_turns s d r f frame_kind.Kernel = λ range e calm.
-    let p = none_parts (refusal_of s d (outside (found range) f)) (first_cause s d (not_retyped s f frame_kind.Kernel)) calm in
+    (typed_turns (Retype r f frame_kind.User) f (s.frame f) User (untyped_by s o d r f range h e calm).1 refl)
+retype_turns s o d h r f frame_kind.Kernel = λ range e calm.
     put_turns (Retype r f frame_kind.Kernel) s f (Kernel Blank)
-    (typed_turns (Retype r f frame_kind.Kernel) f (s.frame f) (Kernel Blank) (untyped_by s d f (none_parts (refusal_of s d (When (not (is_untyped (s.frame f))) reply.FrameKind)) None p.1).0) refl)
+    (typed_turns (Retype r f frame_kind.Kernel) f (s.frame f) (Kernel Blank) (untyped_by s o d r f range h e calm).1 refl)
 
 touch_turns : (s : State) (d v pages : ℕ) (t : Option Translation) → ChangesFrom (TurnsBy s (Touch v)) s d (touch_by s d pages v t)
 touch_turns s d v pages None = λ mapping e calm f. turns_same (Touch v) f (s.frame f)
@@ -183,29 +174,29 @@ moved_turns call s a b m f =
     (put_turns call s a _ (tcap_turns call a (s.frame a) _) f)
     (put_turns call first b _ (tcap_turns call b (first.frame b) _) f)
 
-pub rule_turns : (s : State) (d : ℕ) (call : Call) → ChangesFrom (TurnsBy s call) s d (rule_of s d call)
-rule_turns s d (Look a) = λ k e calm f. turns_same (Look a) f (s.frame f)
-rule_turns s d (Copy a t b) = λ k e table g at h calm f. turns_same (Copy a t b) f (s.frame f)
-rule_turns s d (Remove t b) = λ table e at k g calm f. turns_same (Remove t b) f (s.frame f)
-rule_turns s d (Grow t i l) = λ table e leaf g at h calm f. turns_same (Grow t i l) f (s.frame f)
-rule_turns s d (Shrink t i) = λ table e at k g calm f. turns_same (Shrink t i) f (s.frame f)
-rule_turns s d (Retype r f k) = retype_turns s d r f k
-rule_turns s d (make_call what r f t b) = make_turns s d what r f t b
-rule_turns s d (Map p v r g w) = λ pages e range h at u calm f. turns_same (Map p v r g w) f (s.frame f)
-rule_turns s d (Unmap p v) = λ pages e at k g calm f. turns_same (Unmap p v) f (s.frame f)
-rule_turns s d (Touch v) = touch_turns s d v (comp_of s d).pages (translation_of (s.core d).cached (comp_of s d).pages v)
-rule_turns s d Flush = λ calm f. turns_same Flush f (s.frame f)
-rule_turns s d (Gate k t b) = λ comp e table g at h calm f. turns_same (Gate k t b) f (s.frame f)
-rule_turns s d (Kill k) = λ comp e calm f. turns_same (Kill k) f (s.frame f)
-rule_turns s d (call_gate g) = λ gate e calm. put_turns (call_gate g) s (s.core d).thread _ (thread_turns (call_gate g) (s.core d).thread (s.frame (s.core d).thread) _)
-rule_turns s d Ret = λ calm. put_turns Ret s (s.core d).thread _ (thread_turns Ret (s.core d).thread (s.frame (s.core d).thread) _)
-rule_turns s d (Switch h q) = λ thread e tcap g. switch_turns s d h q (found thread) tcap.frame (thread_in (s.frame thread.frame)).runs_on
-rule_turns s d (Tick n) = λ calm. put_turns (Tick n) s (s.core d).tcap _ (tcap_turns (Tick n) (s.core d).tcap (s.frame (s.core d).tcap) _)
-rule_turns s d (Transfer a b m) = λ j e k g calm. moved_turns (Transfer a b m) s j.frame k.frame m
-rule_turns s d (Delegate a b m) = λ j e k g calm f.
+pub rule_turns : (s : State) (o : ℕ → Bool) (d : ℕ) → IsOpen s o d → (call : Call) → ChangesFrom (TurnsBy s call) s d (rule_of s d call)
+rule_turns s o d opens (Look a) = λ k e calm f. turns_same (Look a) f (s.frame f)
+rule_turns s o d opens (Copy a t b) = λ k e table g at v calm f. turns_same (Copy a t b) f (s.frame f)
+rule_turns s o d opens (Remove t b) = λ table e at k g calm f. turns_same (Remove t b) f (s.frame f)
+rule_turns s o d opens (Grow t i l) = λ table e leaf g at v calm f. turns_same (Grow t i l) f (s.frame f)
+rule_turns s o d opens (Shrink t i) = λ table e at k g calm f. turns_same (Shrink t i) f (s.frame f)
+rule_turns s o d opens (Retype r f k) = retype_turns s o d opens r f k
+rule_turns s o d opens (make_call what r f t b) = make_turns s o d opens what r f t b
+rule_turns s o d opens (Map p v r g w) = λ pages e range j at u calm f. turns_same (Map p v r g w) f (s.frame f)
+rule_turns s o d opens (Unmap p v) = λ pages e at k g calm f. turns_same (Unmap p v) f (s.frame f)
+rule_turns s o d opens (Touch v) = touch_turns s d v (comp_of s d).pages (translation_of (s.core d).cached (comp_of s d).pages v)
+rule_turns s o d opens Flush = λ calm f. turns_same Flush f (s.frame f)
+rule_turns s o d opens (Gate k t b) = λ comp e table g at v calm f. turns_same (Gate k t b) f (s.frame f)
+rule_turns s o d opens (Kill k) = λ comp e calm f. turns_same (Kill k) f (s.frame f)
+rule_turns s o d opens (call_gate g) = λ gate e calm. put_turns (call_gate g) s (s.core d).thread _ (thread_turns (call_gate g) (s.core d).thread (s.frame (s.core d).thread) _)
+rule_turns s o d opens Ret = λ calm. put_turns Ret s (s.core d).thread _ (thread_turns Ret (s.core d).thread (s.frame (s.core d).thread) _)
+rule_turns s o d opens (Switch b q) = λ thread e tcap g. switch_turns s d b q (found thread) tcap.frame (thread_in (s.frame thread.frame)).runs_on
+rule_turns s o d opens (Tick n) = λ calm. put_turns (Tick n) s (s.core d).tcap _ (tcap_turns (Tick n) (s.core d).tcap (s.frame (s.core d).tcap) _)
+rule_turns s o d opens (Transfer a b m) = λ j e k g calm. moved_turns (Transfer a b m) s j.frame k.frame m
+rule_turns s o d opens (Delegate a b m) = λ j e k g calm f.
     turns_then (Delegate a b m) f (s.frame f) ((moved s j.frame k.frame m).frame f) _ (moved_turns (Delegate a b m) s j.frame k.frame m f)
     (put_turns (Delegate a b m) (moved s j.frame k.frame m) k.frame _ (tcap_turns (Delegate a b m) k.frame ((moved s j.frame k.frame m).frame k.frame) _) f)
-rule_turns s d (Test a b) = λ j e k g calm f. turns_same (Test a b) f (s.frame f)
+rule_turns s o d opens (Test a b) = λ j e k g calm f. turns_same (Test a b) f (s.frame f)
 
 found_turns : (s : State) (call : Call) (x : Judged Change) → IfFound x (TurnsBy s call) → (f : ℕ) → Turns call f (s.frame f) ((changed s x).frame f)
 found_turns s call (Refused r) by f = turns_same call f (s.frame f)
@@ -226,12 +217,12 @@ turns_in_same call r f x y same = record {
   typed = λ h. inr (subst (λ x. IsTrue (is_typed x)) (sym same) h, ap is_translated same);
 }
 
-pub decided_turns : (s : State) (d : ℕ) (call : Call) (r : Reply) (f : ℕ) → TurnsIn call r f (s.frame f) ((state_by s d call r).frame f)
-decided_turns s d call (reply.Ok v) f =
+pub decided_turns : (s : State) (o : ℕ → Bool) (d : ℕ) → IsOpen s o d → (call : Call) (r : Reply) (f : ℕ) → TurnsIn call r f (s.frame f) ((state_by s d call r).frame f)
+decided_turns s o d opens call (reply.Ok v) f =
     let a : Turns call f (s.frame f) ((changed s (change_of s d call)).frame f) =
-    found_turns s call (change_of s d call) (outcome_from (TurnsBy s call) s d (rule_of s d call) (rule_turns s d call)) f in
+    found_turns s call (change_of s d call) (outcome_from (TurnsBy s call) s d (rule_of s d call) (rule_turns s o d opens call)) f in
     record { node = a.node; typed = a.typed }
-decided_turns s d call reply.Raced f = turns_in_same call reply.Raced f (s.frame f) _ (owed_frame s d call f)
-decided_turns s d call (reply.Busy e) f = turns_in_same call (reply.Busy e) f (s.frame f) _ (owed_frame s d call f)
-decided_turns s d call reply.CallsSpent f = turns_in_same call reply.CallsSpent f (s.frame f) _ refl
-decided_turns s d call r f = turns_in_same call r f (s.frame f) _ refl
+decided_turns s o d opens call reply.Raced f = turns_in_same call reply.Raced f (s.frame f) _ (owed_frame s d call f)
+decided_turns s o d opens call (reply.Busy e) f = turns_in_same call (reply.Busy e) f (s.frame f) _ (owed_frame s d call f)
+decided_turns s o d opens call reply.CallsSpent f = turns_in_same call reply.CallsSpent f (s.frame f) _ refl
+decided_turns s o d opens call r f = turns_in_same call r f (s.frame f) _ refl

@@ -20,7 +20,7 @@ use Rattle.kernel_rules.specs.References.{place_names, frame_names, number_names
 use Rattle.kernel_rules.specs.Access.{found, Slot, Target, Under, InRoot, place_at, held_in, only, root}
 use Rattle.kernel_rules.specs.Rules.{Change, Cause, When, Found, named, vacant, held, first_cause, refusal_of, frames_of, fills, removes}
 use Rattle.kernel_rules.specs.CapabilityCalls.{outside, not_blank, makes, makes_comp, cleared, make_rule, not_taken, is_live, epoch_of}
-use Rattle.kernel_rules.specs.MemoryCalls.{is_untyped, not_retyped, retype_rule, touch_by, translation_of}
+use Rattle.kernel_rules.specs.MemoryCalls.{not_retyped, retype_rule, touch_by, translation_of}
 use Rattle.kernel_rules.specs.InvocationCalls.{with_thread, with_stack, pushes, pops, running, switches, switch_to, kills, is_live_in}
 use Rattle.kernel_rules.specs.TimeCalls.{tcap_at, with_tcap, with_budget, moved}
 use Rattle.kernel_rules.specs.CallRelation.{rule_of}
@@ -31,8 +31,8 @@ use Rattle.kernel_rules.specs.Fitting.{fits, IsGood}
 use Rattle.kernel_rules.specs.Relies.{is_node}
 use Rattle.kernel_rules.proofs.Sound.{IsSound, put_all}
 use Rattle.kernel_rules.proofs.SoundRemovals.{below_by}
-use Rattle.kernel_rules.proofs.Facts.{ChangesFrom, named_good, named_fit, RootIsNode, vacant_facts, held_facts, none_parts, when_not, not_not, first_two}
-use Rattle.kernel_rules.proofs.SoundCalls.{IsOpen, node_of, in_range, blank_at, own_thread, thread_below, tcap_below, untyped_is, root_node}
+use Rattle.kernel_rules.proofs.Facts.{ChangesFrom, named_good, named_fit, RootIsNode, vacant_facts, held_facts, none_parts, when_not, not_not}
+use Rattle.kernel_rules.proofs.SoundCalls.{IsOpen, node_of, in_range, blank_by, own_thread, thread_below, tcap_below, untyped_by, root_node}
 
 -- What a change of a place makes of the references.
 pub place_refs : (s : State) (g i : ℕ) (p : Place) (f : ℕ) → g < s.limits.frames → i < 64
@@ -160,13 +160,13 @@ made_facts : (s : State) (o : ℕ → Bool) (c r f : ℕ) (range : Capability) (
     → named s c r (only kind.Range) ≡ Found range → vacant s c target ≡ Found at → first_cause s c (outside (found range) f ∷ not_blank s f ∷ causes) ≡ None → Made s at f
 made_facts s o c r f range target at causes h node e v calm =
     let n : IsTrue (is_node (s.frame at.node)) × (at.index < 64) = node_of s o c target at h node v in
-    let p = first_two s c (outside (found range) f) (not_blank s f) causes calm in
+    let p = blank_by s o c r f range causes h e calm in
     record {
       node = node_below s o at.node h.sound n.0;
       small = n.1;
       nothing = not_held_names (place_at s at) (vacant_facts s c target at v).1;
-      below = in_range s o c r f range h e p.0;
-      blank = blank_at s c f p.1;
+      below = p.0;
+      blank = p.1;
     }
 
 object_refs : (s : State) (at : Slot) (f : ℕ) (object : Object) (k : Kind) → Made s at f → RefsBy s (makes s f object k at)
@@ -213,14 +213,14 @@ make_refs s o c h (make.Comp x p l) r f t b lim = λ range e table g own_table a
 
 retype_refs : (s : State) (o : ℕ → Bool) (c : ℕ) → IsOpen s o c → (r f : ℕ) (k : FrameKind) → ChangesFrom (RefsBy s) s c (retype_rule s r f k)
 retype_refs s o c h r f frame_kind.User = λ range e calm g.
-    let p = first_two s c (outside (found range) f) (When (not (is_untyped (s.frame f))) reply.FrameKind) [] calm in
-    let a = frame_refs s f User g (in_range s o c r f range h e p.0) in
-    let b : times g (frame_names (s.frame f)) ≡ 0 = ap (λ x. times g (frame_names x)) (untyped_is (s.frame f) (not_not (is_untyped (s.frame f)) (when_not (not (is_untyped (s.frame f))) reply.FrameKind p.1))) in
+    let p = untyped_by s o c r f range h e calm in
+    let a = frame_refs s f User g p.0 in
+    let b : times g (frame_names (s.frame f)) ≡ 0 = ap (λ x. times g (frame_names x)) p.1 in
     omega (arith, a, b)
 retype_refs s o c h r f frame_kind.Kernel = λ range e calm g.
-    let p = first_two s c (outside (found range) f) (When (not (is_untyped (s.frame f))) reply.FrameKind) [] calm in
-    let a = frame_refs s f (Kernel Blank) g (in_range s o c r f range h e p.0) in
-    let b : times g (frame_names (s.frame f)) ≡ 0 = ap (λ x. times g (frame_names x)) (untyped_is (s.frame f) (not_not (is_untyped (s.frame f)) (when_not (not (is_untyped (s.frame f))) reply.FrameKind p.1))) in
+    let p = untyped_by s o c r f range h e calm in
+    let a = frame_refs s f (Kernel Blank) g p.0 in
+    let b : times g (frame_names (s.frame f)) ≡ 0 = ap (λ x. times g (frame_names x)) p.1 in
     omega (arith, a, b)
 retype_refs s o c h r f frame_kind.Untyped = λ range e calm g.
     let p = none_parts (refusal_of s c (outside (found range) f)) (first_cause s c (not_retyped s f frame_kind.Untyped)) calm in

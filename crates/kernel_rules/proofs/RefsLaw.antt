@@ -7,12 +7,12 @@ use Rattle.kernel_rules.specs.GracePeriods.{begun}
 use Rattle.kernel_rules.specs.Rules.{Change, Judged, Refused, Found, IsFoundAnd}
 use Rattle.kernel_rules.specs.CallRelation.{rule_of, change_of, changed, counted}
 use Rattle.kernel_rules.specs.Laws.{released, RefsChange}
-use Rattle.kernel_rules.specs.Runs.{after}
+use Rattle.kernel_rules.specs.Runs.{after, is_open}
 use Rattle.kernel_rules.proofs.Changes.{IfFound}
 use Rattle.kernel_rules.proofs.Sums.{sum_same}
 use Rattle.kernel_rules.proofs.Sound.{put_all}
 use Rattle.kernel_rules.proofs.Facts.{outcome_from}
-use Rattle.kernel_rules.proofs.SoundRuns.{opened, open_is}
+use Rattle.kernel_rules.proofs.SoundRuns.{opened, open_limits, open_is}
 use Rattle.kernel_rules.proofs.Refs.{RefsBy, grace_refs, rule_refs}
 
 -- A call that is counted changes no reference.
@@ -37,5 +37,6 @@ pub refs_change : RefsChange
 refs_change setting lim events run c call v may =
     changed_refs (after setting events) c v (change_of (after setting events) c call)
     (outcome_from (RefsBy (after setting events)) (after setting events) c (rule_of (after setting events) c call)
-    (rule_refs (after setting events) (opened events) c (open_is setting lim events c run may.is_open) call may.in_limits))
+    (rule_refs (after setting events) (opened events) c (open_is setting lim events c run (ap is_open may.is_open)) call
+    (open_limits setting events c call run may.is_open)))
     may.permitted.1

@@ -205,13 +205,13 @@ make_begins s d x (make.Thread comp) r f t b = λ range e table g k j at v calm.
 make_begins s d x (make.Tcap sched quality) r f t b = λ range e table g at v calm. refl
 make_begins s d x (make.Comp y p l) r f t b = λ range e table g own_table a own_pages k at v calm. refl
 
-pub ends_begins : (s : State) (o : ℕ → Bool) (d : ℕ) (call : Call) (r : Reply) (x : Thing) → IsSound s o → MayReply s d call r → ends call r x ≡ true → begins s d call r x ≡ false
+pub ends_begins : (s : State) (o : ℕ → Bool) (d : ℕ) (call : Call) (r : Reply) (x : Thing) → IsOpen s o d → MayReply s d call r → ends call r x ≡ true → begins s d call r x ≡ false
 ends_begins s o d call (reply.Ok v) x h may is = by_call call may is
   where
     by_call : (call : Call) → MayReply s d call (reply.Ok v) → ends_by call x ≡ true → begins_in (change_of s d call) x ≡ false
     by_call (make_call what r f t b) may is =
         found_not (change_of s d (make_call what r f t b)) x (outcome_from (BeginsNot x) s d (rule_of s d (make_call what r f t b)) (make_begins s d x what r f t b))
-    by_call (Retype r f frame_kind.Untyped) may is = by_thing x is (ends_by_rule s d (Retype r f frame_kind.Untyped) (reply.Ok v) x may is)
+    by_call (Retype r f frame_kind.Untyped) may is = by_thing x is (ends_by_rule s o d h (Retype r f frame_kind.Untyped) (reply.Ok v) x may is)
       where
         by_thing : (x : Thing) → same_thing x (FrameOf f) ≡ true → MayEnd s d x → begins_in (change_of s d (Retype r f frame_kind.Untyped)) x ≡ false
         by_thing (PlaceOf g i) is may = absurd (false≢true is)
@@ -220,6 +220,6 @@ ends_begins s o d call (reply.Ok v) x h may is = by_call call may is
             let same : g ≡ f = eqb-true g f is in
             found_not (change_of s d (Retype r f frame_kind.Untyped)) (FrameOf g)
             (outcome_from (BeginsNot (FrameOf g)) s d (rule_of s d (Retype r f frame_kind.Untyped))
-            (λ range e calm. not_among g (frame_names (s.frame f)) (ap (λ n. times g (frame_names (s.frame n))) (sym same) ∙ own_names s o g h may.0)))
+            (λ range e calm. not_among g (frame_names (s.frame f)) (ap (λ n. times g (frame_names (s.frame n))) (sym same) ∙ own_names s o g h.sound may.0)))
     by_call call may is = absurd (false≢true is)
 ends_begins s o d call _ x h may is = absurd (false≢true is)

@@ -1,6 +1,6 @@
 -- Each call that is carried out keeps a state sound.
 use Rattle.std.proofs.Common.{◌≡◌, inl, inr, ℕ, zero, suc, ◌+◌, ◌-◌, ◌<◌, ◌≤◌, Bool, true, false, not, ◌&&◌, ◌||◌, refl, sym, ◌∙◌, ap, subst, arith, ◌==◌, nat_lt, nat_le, if◌then◌else◌, IsTrue, IsFalse, List, [], ◌∷◌, length, take, drop, Option, Some, None, is_some}
-use Rattle.std.proofs.lemmas.Bool.{cases_eq, false≢true, true≢false, ltb-true, ltb-false}
+use Rattle.std.proofs.lemmas.Bool.{cases_eq, false≢true, true≢false, ltb-true, ltb-false, lt-ltb}
 use Rattle.std.specs.List.{list_any, range_with_len}
 use Rattle.spk_nums.specs.Capability.{Capability}
 use Rattle.spk_nums.specs.declared.kinds.Kind.{Kind}
@@ -21,8 +21,8 @@ use Rattle.kernel_rules.specs.References.{refs, frame_names, number_names}
 use Rattle.kernel_rules.specs.Access.{Slot, found, Target, Under, InRoot, held_in, only, root}
 use Rattle.kernel_rules.specs.GracePeriods.{same_thing, begun, flushed}
 use Rattle.kernel_rules.specs.Rules.{Change, Cause, When, WaitedFor, Unflushed, Found, named, vacant, held, first_cause, refusal_of, waits_of, flushes_of, frames_of, fills, removes}
-use Rattle.kernel_rules.specs.CapabilityCalls.{grow_rule, leaf_of, has_frame, outside, epoch_of, is_blank, not_blank, makes, cleared, make_node, makes_comp, make_rule, not_taken}
-use Rattle.kernel_rules.specs.MemoryCalls.{is_untyped, is_user, holds_nothing, is_empty, not_retyped, retype_rule, not_user, map_rule, touch_by, translation_of}
+use Rattle.kernel_rules.specs.CapabilityCalls.{grow_rule, leaf_of, has_frame, outside, epoch_of, is_frame, is_blank, not_blank, makes, cleared, make_node, makes_comp, make_rule, not_taken}
+use Rattle.kernel_rules.specs.MemoryCalls.{is_untyped, is_untyped_now, not_untyped, is_user, holds_nothing, is_empty, not_retyped, retype_rule, not_user, map_rule, touch_by, translation_of}
 use Rattle.kernel_rules.specs.InvocationCalls.{kills, with_thread, pushes, call_rule, pops, ret_rule, running, switches, switch_to}
 use Rattle.kernel_rules.specs.TimeCalls.{with_tcap, with_budget, with_qualities, tcap_at, moved, merged_list}
 use Rattle.kernel_rules.specs.CallRelation.{rule_of}
@@ -32,7 +32,7 @@ use Rattle.kernel_rules.specs.Relies.{is_node}
 use Rattle.kernel_rules.proofs.Sound.{AreComps, IsStack, IsObjectGood, IsSound, weaken, only_is, Extends, from_blank, from_untyped, put_all, frame_step}
 use Rattle.kernel_rules.proofs.SoundSteps.{fill_step, core_step, live_step, dead_step, clear_step, grace_step}
 use Rattle.kernel_rules.proofs.SoundRemovals.{frames_no_place, begin_step, remove_step, unnamed, untyped, untype_step, none_waits, below_by}
-use Rattle.kernel_rules.proofs.Facts.{ChangesFrom, named_good, named_fit, RootIsNode, reached_node, vacant_facts, held_facts, none_parts, when_not, not_not}
+use Rattle.kernel_rules.proofs.Facts.{ChangesFrom, named_good, named_fit, RootIsNode, reached_node, vacant_facts, held_facts, none_parts, when_not, not_not, first_two}
 
 -- The state after a change, in which the call of core c is no longer open, is sound.
 abbrev pub Keeps : State → (ℕ → Bool) → ℕ → Change → Type 0
@@ -137,8 +137,26 @@ in_range s o c r f range h e none =
     let below : f < range.frame + range.arg = ltb-true f (range.frame + range.arg) (both (nat_le range.frame f) (nat_lt f (range.frame + range.arg)) has).1 in
     omega (arith, ends, below)
 
-pub blank_at : (s : State) (c f : ℕ) → refusal_of s c (not_blank s f) ≡ None → s.frame f ≡ Kernel Blank
-blank_at s c f none = blank_is (s.frame f) (not_not (is_blank (s.frame f)) (when_not (not (is_blank (s.frame f))) reply.FrameKind none))
+-- A frame of the machine is of the kind that a cause of `frame-kind` asks for, where the cause does not stand.
+pub kind_by : (s : State) (f : ℕ) (wanted : Bool) → f < s.limits.frames → (if is_frame s f && not wanted then Some reply.FrameKind else None) ≡ None → wanted ≡ true
+kind_by s f wanted below none =
+    not_not wanted (sym (ap (λ b. b && not wanted) (lt-ltb f s.limits.frames below)) ∙ when_not (is_frame s f && not wanted) reply.FrameKind none)
+
+-- Where no cause of a `make` stands, its frame is a blank frame of the machine.
+pub blank_by : (s : State) (o : ℕ → Bool) (c r f : ℕ) (range : Capability) (causes : List Cause) → IsOpen s o c → named s c r (only kind.Range) ≡ Found range
+    → first_cause s c (outside (found range) f ∷ not_blank s f ∷ causes) ≡ None → (f < s.limits.frames) × (s.frame f ≡ Kernel Blank)
+blank_by s o c r f range causes h e calm =
+    let p = first_two s c (outside (found range) f) (not_blank s f) causes calm in
+    let below : f < s.limits.frames = in_range s o c r f range h e p.0 in
+    (below, blank_is (s.frame f) (kind_by s f (is_blank (s.frame f)) below p.1))
+
+-- Where no cause of a retype to user or kernel stands, its frame is an untyped frame of the machine.
+pub untyped_by : (s : State) (o : ℕ → Bool) (c r f : ℕ) (range : Capability) → IsOpen s o c → named s c r (only kind.Range) ≡ Found range
+    → first_cause s c (outside (found range) f ∷ not_untyped s f ∷ []) ≡ None → (f < s.limits.frames) × (s.frame f ≡ Untyped)
+untyped_by s o c r f range h e calm =
+    let p = first_two s c (outside (found range) f) (not_untyped s f) [] calm in
+    let below : f < s.limits.frames = in_range s o c r f range h e p.0 in
+    (below, untyped_is (s.frame f) (kind_by s f (is_untyped (s.frame f)) below p.1))
 
 -- The frame of a `make` has the object, and the place its capability.
 made : (s : State) (o : ℕ → Bool) (f : ℕ) (object : Object) (k : Kind) (at : Slot) → f < s.limits.frames → s.frame f ≡ Kernel Blank
@@ -168,11 +186,10 @@ node_keeps : (s : State) (o : ℕ → Bool) (c : ℕ) → IsOpen s o c → (obje
     → ((f : ℕ) → IsObjectGood (cleared s f) (Kernel object))
     → (r f t b : ℕ) → ChangesFrom (Keeps s o c) s c (make_node s object k r f t b)
 node_keeps s o c h object k fit real good r f t b = λ range e table g at v calm.
-    let p = none_parts (refusal_of s c (outside (found range) f)) (first_cause s c (not_blank s f ∷ [])) calm in
-    let q = none_parts (refusal_of s c (not_blank s f)) None p.1 in
+    let p = blank_by s o c r f range [] h e calm in
     let n : IsTrue (is_node (s.frame at.node)) × (at.index < 64) = node_of s o c (Under (found table) b) at h tt v in
     plain s (makes (cleared s f) f object k at).next o c h
-    (made (cleared s f) o f object k at (in_range s o c r f range h e p.0) (blank_at s c f q.0) (good f) fit real n.0 n.1 (clear_step s o f h.sound))
+    (made (cleared s f) o f object k at p.0 p.1 (good f) fit real n.0 n.1 (clear_step s o f h.sound))
 
 make_keeps : (s : State) (o : ℕ → Bool) (c : ℕ) → IsOpen s o c → (what : Make) (r f t b : ℕ) → InLimits (make_call what r f t b)
     → ChangesFrom (Keeps s o c) s c (make_rule s what r f t b)
@@ -181,33 +198,30 @@ make_keeps s o c h make.Leaf r f t b lim = node_keeps s o c h Leaf kind.Leaf ref
 make_keeps s o c h make.Pages r f t b lim = node_keeps s o c h Pages kind.Pages refl refl (λ f. tt) r f t b
 make_keeps s o c h make.Pleaf r f t b lim = node_keeps s o c h Pleaf kind.Pleaf refl refl (λ f. tt) r f t b
 make_keeps s o c h (make.Thread comp) r f t b lim = λ range e table g k j at v calm.
-    let p = none_parts (refusal_of s c (outside (found range) f)) (first_cause s c (not_blank s f ∷ [])) calm in
-    let q = none_parts (refusal_of s c (not_blank s f)) None p.1 in
+    let p = blank_by s o c r f range [] h e calm in
     let n : IsTrue (is_node (s.frame at.node)) × (at.index < 64) = node_of s o c (Under (found table) b) at h tt v in
     let object : Object = Thread (record { stack = k.frame ∷ []; runs_on = None }) in
     plain s (makes s f object kind.Thread at).next o c h
-    (made s o f object kind.Thread at (in_range s o c r f range h e p.0) (blank_at s c f q.0) (named_fit s o c comp kind.Comp k h.sound h.is j, tt) refl refl n.0 n.1 h.sound)
+    (made s o f object kind.Thread at p.0 p.1 (named_fit s o c comp kind.Comp k h.sound h.is j, tt) refl refl n.0 n.1 h.sound)
 make_keeps s o c h (make.Tcap sched quality) r f t b lim = λ range e table g at v calm.
-    let p = none_parts (refusal_of s c (outside (found range) f)) (first_cause s c (not_blank s f ∷ [])) calm in
-    let q = none_parts (refusal_of s c (not_blank s f)) None p.1 in
+    let p = blank_by s o c r f range [] h e calm in
     let n : IsTrue (is_node (s.frame at.node)) × (at.index < 64) = node_of s o c (Under (found table) b) at h tt v in
     let object : Object = Tcap (record { budget = 0; qualities = (sched, quality) ∷ [] }) in
     plain s (makes s f object kind.Tcap at).next o c h
-    (made s o f object kind.Tcap at (in_range s o c r f range h e p.0) (blank_at s c f q.0) tt refl refl n.0 n.1 h.sound)
+    (made s o f object kind.Tcap at p.0 p.1 tt refl refl n.0 n.1 h.sound)
 make_keeps s o c h (make.Comp x p l) r f t b lim = λ range e table g own_table a own_pages d at v calm.
-    let p1 = none_parts (refusal_of s c (outside (found range) f)) (first_cause s c (not_blank s f ∷ not_taken s l)) calm in
-    let q = none_parts (refusal_of s c (not_blank s f)) (first_cause s c (not_taken s l)) p1.1 in
+    let p1 = blank_by s o c r f range (not_taken s l) h e calm in
     let n : IsTrue (is_node (s.frame at.node)) × (at.index < 64) = node_of s o c (Under (found table) b) at h tt v in
     let comp : CompFields = record { table = own_table.frame; pages = own_pages.frame; number = l; epoch = epoch_of (s.number l) + 1 } in
     plain s (makes_comp s f comp at).next o c h
     (live_step (makes s f (Comp comp) kind.Comp at).next o l comp.epoch f
     (subst (λ y. IsTrue (fits kind.Comp y)) (sym (put_same s.frame f (Kernel (Comp comp)) f refl)) refl) lim
-    (made s o f (Comp comp) kind.Comp at (in_range s o c r f range h e p1.0) (blank_at s c f q.0)
+    (made s o f (Comp comp) kind.Comp at p1.0 p1.1
     (named_fit s o c x kind.Table own_table h.sound h.is a, named_fit s o c p kind.Pages own_pages h.sound h.is d) refl refl n.0 n.1 h.sound))
 
 -- Each call on memory.
-pub from_untyped_at : (s : State) (c r f : ℕ) (y : Frame) → (if not (is_untyped (s.frame f)) then Some reply.FrameKind else None) ≡ None → Extends (s.frame f) y
-from_untyped_at s c r f y none = subst (λ x. Extends x y) (sym (untyped_is (s.frame f) (not_not (is_untyped (s.frame f)) (when_not (not (is_untyped (s.frame f))) reply.FrameKind none)))) (from_untyped y)
+from_untyped_at : (s : State) (f : ℕ) (y : Frame) → s.frame f ≡ Untyped → Extends (s.frame f) y
+from_untyped_at s f y untyped = subst (λ x. Extends x y) (sym untyped) (from_untyped y)
 
 -- A node that holds nothing holds nothing at any index.
 any_not : (p : ℕ → Bool) (a n i : ℕ) → not (list_any p (range_with_len a n)) ≡ true → a ≤ i → i < a + n → p i ≡ false
@@ -239,18 +253,16 @@ zero_refs n e = let p = ltb-false 0 n e in omega (arith, p)
 
 retype_keeps : (s : State) (o : ℕ → Bool) (c : ℕ) → IsOpen s o c → (r f : ℕ) (k : FrameKind) → ChangesFrom (Keeps s o c) s c (retype_rule s r f k)
 retype_keeps s o c h r f frame_kind.User = λ range e calm.
-    let p = none_parts (refusal_of s c (outside (found range) f)) (first_cause s c (not_retyped s f frame_kind.User)) calm in
-    let q = none_parts (refusal_of s c (When (not (is_untyped (s.frame f))) reply.FrameKind)) None p.1 in
-    plain s (with_frame s f User) o c h (frame_step s o f User (in_range s o c r f range h e p.0) (from_untyped_at s c r f User q.0) tt h.sound)
+    let p = untyped_by s o c r f range h e calm in
+    plain s (with_frame s f User) o c h (frame_step s o f User p.0 (from_untyped_at s f User p.1) tt h.sound)
 retype_keeps s o c h r f frame_kind.Kernel = λ range e calm.
-    let p = none_parts (refusal_of s c (outside (found range) f)) (first_cause s c (not_retyped s f frame_kind.Kernel)) calm in
-    let q = none_parts (refusal_of s c (When (not (is_untyped (s.frame f))) reply.FrameKind)) None p.1 in
-    plain s (with_frame s f (Kernel Blank)) o c h (frame_step s o f (Kernel Blank) (in_range s o c r f range h e p.0) (from_untyped_at s c r f (Kernel Blank) q.0) tt h.sound)
+    let p = untyped_by s o c r f range h e calm in
+    plain s (with_frame s f (Kernel Blank)) o c h (frame_step s o f (Kernel Blank) p.0 (from_untyped_at s f (Kernel Blank) p.1) tt h.sound)
 retype_keeps s o c h r f frame_kind.Untyped = λ range e calm.
     let held : Cause = When (not (is_empty s f (s.frame f))) reply.NotEmpty in
     let referenced : Cause = When (nat_lt 0 (refs s f)) (reply.Referenced (refs s f)) in
     let p = none_parts (refusal_of s c (outside (found range) f)) (first_cause s c (not_retyped s f frame_kind.Untyped)) calm in
-    let p1 = none_parts (refusal_of s c (When (is_untyped (s.frame f)) reply.FrameKind)) (first_cause s c (referenced ∷ WaitedFor (FrameOf f) ∷ Unflushed (FrameOf f) ∷ held ∷ [])) p.1 in
+    let p1 = none_parts (refusal_of s c (is_untyped_now s f)) (first_cause s c (referenced ∷ WaitedFor (FrameOf f) ∷ Unflushed (FrameOf f) ∷ held ∷ [])) p.1 in
     let p2 = none_parts (refusal_of s c referenced) (first_cause s c (WaitedFor (FrameOf f) ∷ Unflushed (FrameOf f) ∷ held ∷ [])) p1.1 in
     let p3 = none_parts (waits_of s c (FrameOf f)) (first_cause s c (Unflushed (FrameOf f) ∷ held ∷ [])) p2.1 in
     let p4 = none_parts (flushes_of s (FrameOf f)) (first_cause s c (held ∷ [])) p3.1 in
@@ -265,9 +277,8 @@ retype_keeps s o c h r f frame_kind.Untyped = λ range e calm.
 
 map_keeps : (s : State) (o : ℕ → Bool) (c : ℕ) → IsOpen s o c → (p v r f : ℕ) (w : PageFlags) → ChangesFrom (Keeps s o c) s c (map_rule s p v r f w)
 map_keeps s o c h p v r f w = λ pages e range g at u calm.
-    let q = none_parts (refusal_of s c (outside (found range) f)) (first_cause s c (not_user s f ∷ [])) calm in
-    let q1 = none_parts (refusal_of s c (not_user s f)) None q.1 in
-    let user : s.frame f ≡ User = user_is (s.frame f) (not_not (is_user (s.frame f)) (when_not (not (is_user (s.frame f))) reply.FrameKind q1.0)) in
+    let q = first_two s c (outside (found range) f) (not_user s f) [] calm in
+    let user : s.frame f ≡ User = user_is (s.frame f) (kind_by s f (is_user (s.frame f)) (in_range s o c r f range h g q.0) q.1) in
     filled s o c (Under (found pages) v) at (record { kind = kind.Page; frame = f; arg = w.0 }) h tt u
     (record { fit = subst (λ x. IsTrue (fits kind.Page x)) (sym user) refl; within = tt })
 

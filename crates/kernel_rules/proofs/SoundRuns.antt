@@ -3,6 +3,7 @@ use Rattle.std.proofs.Common.{◌≡◌, ◌≢◌, inl, inr, ℕ, ◌<◌, Bool
 use Rattle.std.proofs.lemmas.Bool.{cases_eq, false≢true, eq-eqb, ne_eqb}
 use Rattle.spk_nums.specs.Setting.{Setting, IsSetting}
 use Rattle.spk_nums.specs.declared.kinds.Kind.TheVariants as kind
+use Rattle.spk_nums.specs.CallLimits.{InLimits}
 use Rattle.spk_nums.specs.declared.calls.Call.{Call}
 use Rattle.spk_nums.specs.declared.calls.Call.TheVariants.{Tick}
 use Rattle.spk_nums.specs.declared.replies.Reply.{Reply}
@@ -13,7 +14,7 @@ use Rattle.kernel_rules.specs.Start.{start}
 use Rattle.kernel_rules.specs.GracePeriods.{entered, returned}
 use Rattle.kernel_rules.specs.Rules.{Change, Judged, Refused, Found, IsFoundAnd}
 use Rattle.kernel_rules.specs.CallRelation.{rule_of, change_of, changed, counted, owed_by, state_by, MayReply}
-use Rattle.kernel_rules.specs.Runs.{Event, Enters, Decides, Returns, after, Phase, Out, Open, Decided, core_of, phase_by, phase_of, IsRun}
+use Rattle.kernel_rules.specs.Runs.{Event, Enters, Decides, Returns, after, Phase, Out, Open, Decided, is_in, is_open, core_of, phase_by, phase_of, MayFollow, IsRun}
 use Rattle.kernel_rules.proofs.Changes.{IfFound}
 use Rattle.kernel_rules.proofs.Within.{put_same, put_other}
 use Rattle.kernel_rules.proofs.AloneLaw.{waits_inside, decided_stays}
@@ -25,17 +26,7 @@ use Rattle.kernel_rules.proofs.Facts.{outcome_from, usable_good}
 use Rattle.kernel_rules.specs.Laws.{CapabilitiesFit}
 use Rattle.kernel_rules.proofs.SoundCalls.{Keeps, IsOpen, core_keeps, rule_keeps}
 
--- Whether a core is in a call, and whether its call is open.
-abbrev pub is_in : Phase → Bool
-is_in Out = false
-is_in Open = true
-is_in Decided = true
-
-abbrev pub is_open : Phase → Bool
-is_open Out = false
-is_open Open = true
-is_open Decided = false
-
+-- The cores whose calls are open.
 abbrev pub opened : List Event → ℕ → Bool
 opened events c = is_open (phase_of events c)
 
@@ -48,16 +39,16 @@ phase_other e events c other = ap (λ b. if b then phase_by e else phase_of even
 -- The limits are those of the setting.
 pub limits_stay : (setting : Setting) (events : List Event) → (after setting events).limits ≡ (start setting).limits
 limits_stay setting [] = refl
-limits_stay setting (Enters c ∷ events) = limits_stay setting events
+limits_stay setting (Enters c call ∷ events) = limits_stay setting events
 limits_stay setting (Returns c ∷ events) = limits_stay setting events
 limits_stay setting (Decides c call r ∷ events) = (decided_stays (after setting events) c call r).limits ∙ limits_stay setting events
 
 -- A core is in a call where its phase says so.
 pub inside_is : (setting : Setting) (events : List Event) → IsRun setting events → (d : ℕ) → ((after setting events).core d).inside ≡ is_in (phase_of events d)
 inside_is setting [] run d = refl
-inside_is setting (Enters c ∷ events) run d = elim (cases_eq d c) [
-  | inl same ↦ ap (λ k. k.inside) (put_same (after setting events).core c _ d same) ∙ sym (ap is_in (phase_own (Enters c) events d same))
-  | inr other ↦ ap (λ k. k.inside) (put_other (after setting events).core c _ d other) ∙ inside_is setting events run.0 d ∙ sym (ap is_in (phase_other (Enters c) events d other))
+inside_is setting (Enters c call ∷ events) run d = elim (cases_eq d c) [
+  | inl same ↦ ap (λ k. k.inside) (put_same (after setting events).core c _ d same) ∙ sym (ap is_in (phase_own (Enters c call) events d same))
+  | inr other ↦ ap (λ k. k.inside) (put_other (after setting events).core c _ d other) ∙ inside_is setting events run.0 d ∙ sym (ap is_in (phase_other (Enters c call) events d other))
 ]
 inside_is setting (Returns c ∷ events) run d = elim (cases_eq d c) [
   | inl same ↦ ap (λ k. k.inside) (put_same (after setting events).core c _ d same) ∙ sym (ap is_in (phase_own (Returns c) events d same))
@@ -128,7 +119,7 @@ changed_sound : (s : State) (o : ℕ → Bool) (c : ℕ) (v : Value) (found : Ju
 changed_sound s o c v (Refused r) keeps ok = absurd ok
 changed_sound s o c v (Found change) keeps ok = keeps
 
-decided_sound : (s : State) (o : ℕ → Bool) (c : ℕ) (call : Call) (r : Reply) → IsOpen s o c → Rattle.spk_nums.specs.CallLimits.InLimits call → MayReply s c call r
+decided_sound : (s : State) (o : ℕ → Bool) (c : ℕ) (call : Call) (r : Reply) → IsOpen s o c → InLimits call → MayReply s c call r
     → IsSound (state_by s c call r) (put o c false)
 decided_sound s o c call (reply.Ok v) h lim may = counted_sound (changed s (change_of s c call)) (put o c false) c
     (changed_sound s o c v (change_of s c call) (outcome_from (Keeps s o c) s c (rule_of s c call) (rule_keeps s o c h call lim)) may.1)
@@ -141,14 +132,35 @@ nobody : (b : Bool) → (IsTrue b → ⊥) → b ≡ false
 nobody true h = absurd (h refl)
 nobody false h = refl
 
+-- An open call is within its limits.
+abbrev OpenWithin : Phase → Type 0
+OpenWithin Out = Unit {0}
+OpenWithin (Open call) = InLimits call
+OpenWithin (Decided call r) = Unit {0}
+
+open_within : (setting : Setting) (events : List Event) → IsRun setting events → (c : ℕ) → OpenWithin (phase_of events c)
+open_within setting [] run c = tt
+open_within setting (e ∷ events) run c = elim (cases_eq c (core_of e)) [
+  | inl same ↦ subst OpenWithin (sym (phase_own e events c same)) (by_event e run.1)
+  | inr other ↦ subst OpenWithin (sym (phase_other e events c other)) (open_within setting events run.0 c)
+]
+  where
+    by_event : (e : Event) → MayFollow setting events e → OpenWithin (phase_by e)
+    by_event (Enters d call) may = may.in_limits
+    by_event (Decides d call r) may = tt
+    by_event (Returns d) may = tt
+
+pub open_limits : (setting : Setting) (events : List Event) (c : ℕ) (call : Call) → IsRun setting events → phase_of events c ≡ Open call → InLimits call
+open_limits setting events c call run is = subst OpenWithin is (open_within setting events run c)
+
 pub runs_sound : (setting : Setting) → IsSetting setting → (events : List Event) → IsRun setting events → IsSound (after setting events) (opened events)
 runs_sound setting lim [] run = start_sound setting lim
-runs_sound setting lim (Enters c ∷ events) run =
-    enter_sound (after setting events) (opened events) (opened (Enters c ∷ events)) c
-    (subst (λ l. c < l.cores) (sym (limits_stay setting events)) run.1.0)
+runs_sound setting lim (Enters c call ∷ events) run =
+    enter_sound (after setting events) (opened events) (opened (Enters c call ∷ events)) c
+    (subst (λ l. c < l.cores) (sym (limits_stay setting events)) run.1.is_core)
     (λ x. nobody (((after setting events).grace x).waits c) (λ w.
-    false≢true (sym (inside_is setting events run.0 c ∙ ap is_in run.1.1) ∙ waits_inside setting events x c w)))
-    (λ d other q. sym (ap is_open (phase_other (Enters c) events d other)) ∙ q)
+    false≢true (sym (inside_is setting events run.0 c ∙ ap is_in run.1.is_out) ∙ waits_inside setting events x c w)))
+    (λ d other q. sym (ap is_open (phase_other (Enters c call) events d other)) ∙ q)
     (runs_sound setting lim events run.0)
 runs_sound setting lim (Returns c ∷ events) run =
     return_sound (after setting events) (opened events) (opened (Returns c ∷ events)) c
@@ -164,15 +176,16 @@ runs_sound setting lim (Decides c call r ∷ events) run =
       | inr other ↦ put_other (opened events) c false d other ∙ sym (ap is_open (phase_other (Decides c call r) events d other)) ∙ q
     ])
     (decided_sound (after setting events) (opened events) c call r
-    (record { sound = runs_sound setting lim events run.0; is = ap is_open run.1.is_open }) run.1.in_limits run.1.permitted)
+    (record { sound = runs_sound setting lim events run.0; is = ap is_open run.1.is_open })
+    (open_limits setting events c call run.0 run.1.is_open) run.1.permitted)
 
 -- The state in which a core's call is open.
-pub open_is : (setting : Setting) → IsSetting setting → (events : List Event) (c : ℕ) → IsRun setting events → phase_of events c ≡ Open
+pub open_is : (setting : Setting) → IsSetting setting → (events : List Event) (c : ℕ) → IsRun setting events → IsTrue (is_open (phase_of events c))
     → IsOpen (after setting events) (opened events) c
-open_is setting lim events c run is = record { sound = runs_sound setting lim events run; is = ap is_open is }
+open_is setting lim events c run is = record { sound = runs_sound setting lim events run; is = is }
 
 pub capabilities_fit : CapabilitiesFit
 capabilities_fit setting lim events run = record {
   held = (runs_sound setting lim events run).held;
-  used = λ c at k is. usable_good (after setting events) (opened events) c at k (runs_sound setting lim events run) (ap is_open is);
+  used = λ c at k is. usable_good (after setting events) (opened events) c at k (runs_sound setting lim events run) is;
 }

@@ -20,8 +20,8 @@ use Rattle.kernel_rules.specs.References.{refs, times, frame_names, number_names
 use Rattle.kernel_rules.specs.Access.{Slot, found, Target, Under, InRoot, place_at, usable_in, reached}
 use Rattle.kernel_rules.specs.GracePeriods.{same_thing, new_grace, begun, flushed}
 use Rattle.kernel_rules.specs.Rules.{Change, Cause, When, WaitedFor, Unflushed, Found, named, vacant, held, unless, not_vacant, first_cause, refusal_of, waits_of, flushes_of, frames_of, fills, removes}
-use Rattle.kernel_rules.specs.CapabilityCalls.{outside, epoch_of, not_blank, makes, cleared, make_node, makes_comp, make_rule, not_taken}
-use Rattle.kernel_rules.specs.MemoryCalls.{is_untyped, is_empty, not_retyped, retypes, retype_rule, touch_by, translation_of}
+use Rattle.kernel_rules.specs.CapabilityCalls.{outside, epoch_of, makes, cleared, make_node, makes_comp, make_rule, not_taken}
+use Rattle.kernel_rules.specs.MemoryCalls.{is_untyped_now, is_empty, not_retyped, retypes, retype_rule, touch_by, translation_of}
 use Rattle.kernel_rules.specs.InvocationCalls.{kills, with_thread, pushes, call_rule, pops, ret_rule, running, switches, switch_to}
 use Rattle.kernel_rules.specs.TimeCalls.{with_tcap, with_budget, with_qualities, tcap_at, moved, merged_list}
 use Rattle.kernel_rules.specs.CallRelation.{rule_of}
@@ -30,9 +30,9 @@ use Rattle.kernel_rules.proofs.Within.{put_same, put_other}
 use Rattle.kernel_rules.specs.Relies.{is_node, is_fixed, IsGuarded}
 use Rattle.kernel_rules.proofs.Sound.{put_all}
 use Rattle.kernel_rules.proofs.SoundRemovals.{frames_no_place, unnamed, none_waits, none_waiting}
-use Rattle.kernel_rules.proofs.SoundCalls.{IsOpen, blank_at, untyped_is, zero_refs}
+use Rattle.kernel_rules.proofs.SoundCalls.{IsOpen, blank_by, untyped_by, zero_refs}
 use Rattle.kernel_rules.proofs.Sums.{times_first}
-use Rattle.kernel_rules.proofs.Facts.{ChangesFrom, named_fit, held_facts, then_parts, found_inj, some_inj, some_none, refused_found, none_parts, when_not, not_not}
+use Rattle.kernel_rules.proofs.Facts.{ChangesFrom, named_fit, held_facts, then_parts, found_inj, some_inj, some_none, refused_found, none_parts, when_not}
 use Rattle.kernel_rules.proofs.Apart.{IsApart, apart_same, apart_then, fill_apart, remove_apart, begin_apart, frame_apart, core_apart, number_apart, clear_apart, flush_apart, frame_waits}
 
 -- The current thread of a core runs on it.
@@ -190,9 +190,7 @@ cleared_none s f at c none = elim (cases_eq at.node f) [
 module _ (s : State) (o : ℕ → Bool) (d : ℕ) (h : HasTurn s o d) where
   node_spares : (object : Object) (k : Kind) (r f t b : ℕ) → ChangesFrom (SparesBy s o d) s d (make_node s object k r f t b)
   node_spares object k r f t b = λ range e table g at v calm.
-      let p = none_parts (refusal_of s d (outside (found range) f)) (first_cause s d (not_blank s f ∷ [])) calm in
-      let q = none_parts (refusal_of s d (not_blank s f)) None p.1 in
-      let blank : s.frame f ≡ Kernel Blank = blank_at s d f q.0 in
+      let blank : s.frame f ≡ Kernel Blank = (blank_by s h.opened d r f range [] h.opens e calm).1 in
       plain s o d h (makes (cleared s f) f object k at).next
       (apart_then s (cleared s f) (makes (cleared s f) f object k at).next o d
       (clear_apart s o d f (ap is_node blank))
@@ -213,17 +211,11 @@ module _ (s : State) (o : ℕ → Bool) (d : ℕ) (h : HasTurn s o d) where
   make_spares make.Pages r f t b = node_spares Pages kind.Pages r f t b
   make_spares make.Pleaf r f t b = node_spares Pleaf kind.Pleaf r f t b
   make_spares (make.Thread comp) r f t b = λ range e table g k j at v calm.
-      let p = none_parts (refusal_of s d (outside (found range) f)) (first_cause s d (not_blank s f ∷ [])) calm in
-      let q = none_parts (refusal_of s d (not_blank s f)) None p.1 in
-      object_spares f (Thread (record { stack = k.frame ∷ []; runs_on = None })) kind.Thread (Under (found table) b) at (blank_at s d f q.0) v
+      object_spares f (Thread (record { stack = k.frame ∷ []; runs_on = None })) kind.Thread (Under (found table) b) at (blank_by s h.opened d r f range [] h.opens e calm).1 v
   make_spares (make.Tcap sched quality) r f t b = λ range e table g at v calm.
-      let p = none_parts (refusal_of s d (outside (found range) f)) (first_cause s d (not_blank s f ∷ [])) calm in
-      let q = none_parts (refusal_of s d (not_blank s f)) None p.1 in
-      object_spares f (Tcap (record { budget = 0; qualities = (sched, quality) ∷ [] })) kind.Tcap (Under (found table) b) at (blank_at s d f q.0) v
+      object_spares f (Tcap (record { budget = 0; qualities = (sched, quality) ∷ [] })) kind.Tcap (Under (found table) b) at (blank_by s h.opened d r f range [] h.opens e calm).1 v
   make_spares (make.Comp x y l) r f t b = λ range e table g own_table a own_pages k at v calm.
-      let p = none_parts (refusal_of s d (outside (found range) f)) (first_cause s d (not_blank s f ∷ not_taken s l)) calm in
-      let q = none_parts (refusal_of s d (not_blank s f)) (first_cause s d (not_taken s l)) p.1 in
-      let blank : s.frame f ≡ Kernel Blank = blank_at s d f q.0 in
+      let blank : s.frame f ≡ Kernel Blank = (blank_by s h.opened d r f range (not_taken s l) h.opens e calm).1 in
       let comp : CompFields = record { table = own_table.frame; pages = own_pages.frame; number = l; epoch = epoch_of (s.number l) + 1 } in
       plain s o d h (makes_comp s f comp at).next
       (apart_then s (with_number s l (Live comp.epoch f)) (makes_comp s f comp at).next o d
@@ -238,9 +230,6 @@ module _ (s : State) (o : ℕ → Bool) (d : ℕ) (h : HasTurn s o d) where
       plain s o d h (with_frame s f y)
       (frame_apart s o d f y (ap is_fixed untyped) (thread_away s o d h f (ap (fits kind.Thread) untyped)))
       (runs_put s f y d (own_away s o d h f (ap (fits kind.Thread) untyped)) (own_runs s o d h))
-
-  untyped_by : (f : ℕ) → refusal_of s d (When (not (is_untyped (s.frame f))) reply.FrameKind) ≡ None → s.frame f ≡ Untyped
-  untyped_by f none = untyped_is (s.frame f) (not_not (is_untyped (s.frame f)) (when_not (not (is_untyped (s.frame f))) reply.FrameKind none))
 
   -- a retype to untyped, of a frame that is not named and for which no other core waits
   untype_spares : (f : ℕ) → refs s f ≡ 0 → ((c : ℕ) → c < s.limits.cores → c ≢ d → (s.grace (FrameOf f)).waits c ≡ false)
@@ -276,18 +265,14 @@ module _ (s : State) (o : ℕ → Bool) (d : ℕ) (h : HasTurn s o d) where
 
   retype_spares : (r f : ℕ) (k : FrameKind) → ChangesFrom (SparesBy s o d) s d (retype_rule s r f k)
   retype_spares r f frame_kind.User = λ range e calm.
-      let p = none_parts (refusal_of s d (outside (found range) f)) (first_cause s d (not_retyped s f frame_kind.User)) calm in
-      let q = none_parts (refusal_of s d (When (not (is_untyped (s.frame f))) reply.FrameKind)) None p.1 in
-      typed_spares f User (untyped_by f q.0)
+      typed_spares f User (untyped_by s h.opened d r f range h.opens e calm).1
   retype_spares r f frame_kind.Kernel = λ range e calm.
-      let p = none_parts (refusal_of s d (outside (found range) f)) (first_cause s d (not_retyped s f frame_kind.Kernel)) calm in
-      let q = none_parts (refusal_of s d (When (not (is_untyped (s.frame f))) reply.FrameKind)) None p.1 in
-      typed_spares f (Kernel Blank) (untyped_by f q.0)
+      typed_spares f (Kernel Blank) (untyped_by s h.opened d r f range h.opens e calm).1
   retype_spares r f frame_kind.Untyped = λ range e calm.
       let held : Cause = When (not (is_empty s f (s.frame f))) reply.NotEmpty in
       let referenced : Cause = When (nat_lt 0 (refs s f)) (reply.Referenced (refs s f)) in
       let p = none_parts (refusal_of s d (outside (found range) f)) (first_cause s d (not_retyped s f frame_kind.Untyped)) calm in
-      let p1 = none_parts (refusal_of s d (When (is_untyped (s.frame f)) reply.FrameKind)) (first_cause s d (referenced ∷ WaitedFor (FrameOf f) ∷ Unflushed (FrameOf f) ∷ held ∷ [])) p.1 in
+      let p1 = none_parts (refusal_of s d (is_untyped_now s f)) (first_cause s d (referenced ∷ WaitedFor (FrameOf f) ∷ Unflushed (FrameOf f) ∷ held ∷ [])) p.1 in
       let p2 = none_parts (refusal_of s d referenced) (first_cause s d (WaitedFor (FrameOf f) ∷ Unflushed (FrameOf f) ∷ held ∷ [])) p1.1 in
       let p3 = none_parts (waits_of s d (FrameOf f)) (first_cause s d (Unflushed (FrameOf f) ∷ held ∷ [])) p2.1 in
       untype_spares f (zero_refs (refs s f) (when_not (nat_lt 0 (refs s f)) (reply.Referenced (refs s f)) p2.0)) (none_waits s d f p3.0)

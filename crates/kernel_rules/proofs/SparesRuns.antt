@@ -18,13 +18,13 @@ use Rattle.kernel_rules.specs.GracePeriods.{same_thing, new_grace, begun, entere
 use Rattle.kernel_rules.specs.Rules.{Change, Judged, Refused, Found, IsFoundAnd}
 use Rattle.kernel_rules.specs.CallRelation.{rule_of, change_of, changed, counted, owed_by, state_by, MayReply}
 use Rattle.kernel_rules.specs.Laws.{released}
-use Rattle.kernel_rules.specs.Runs.{Event, Enters, Decides, Returns, after, core_of, Out, Open, Decided, phase_by, phase_of, MayFollow, IsRun}
+use Rattle.kernel_rules.specs.Runs.{Event, Enters, Decides, Returns, after, core_of, Out, is_in, is_open, is_decided, phase_by, phase_of, MayFollow, IsRun}
 use Rattle.kernel_rules.proofs.Changes.{IfFound}
 use Rattle.kernel_rules.proofs.Within.{put_same, put_other}
 use Rattle.kernel_rules.proofs.Sums.{sum_same, times_cons}
 use Rattle.kernel_rules.proofs.Sound.{put_all}
 use Rattle.kernel_rules.proofs.SoundStart.{past_three, choose}
-use Rattle.kernel_rules.proofs.SoundRuns.{is_in, inside_is, opened, open_is, limits_stay}
+use Rattle.kernel_rules.proofs.SoundRuns.{inside_is, opened, open_limits, open_is, limits_stay}
 use Rattle.kernel_rules.proofs.Facts.{outcome_from}
 use Rattle.kernel_rules.proofs.Refs.{RefsBy, rule_refs, grace_refs}
 use Rattle.kernel_rules.specs.Relies.{IsGuarded}
@@ -186,16 +186,10 @@ in_machine setting (e ∷ events) c run in_call = elim (cases_eq c (core_of e)) 
     phase_apart : c ≢ core_of e → phase_of (e ∷ events) c ≡ phase_of events c
     phase_apart other = ap (λ b. cond b (phase_by e) (phase_of events c)) (ne_eqb c (core_of e) other)
 
-    open_out : Open ≡ Out → ⊥
-    open_out q = cc
-
-    decided_out : Decided ≡ Out → ⊥
-    decided_out q = cc
-
     of_event : ((d : ℕ) → phase_of events d ≢ Out → d < setting.cores) → (e : Event) → MayFollow setting events e → core_of e < setting.cores
-    of_event before (Enters d) may = may.0
-    of_event before (Decides d call r) may = before d (λ out. open_out (sym may.is_open ∙ out))
-    of_event before (Returns d) may = before d (λ out. decided_out (sym may ∙ out))
+    of_event before (Enters d call) may = may.is_core
+    of_event before (Decides d call r) may = before d (λ out. false≢true (ap is_open (sym out ∙ may.is_open)))
+    of_event before (Returns d) may = before d (λ out. false≢true (sym (ap is_decided out) ∙ may))
 
 -- The cores that are in a call.
 abbrev pub inside_of : List Event → ℕ → Bool
@@ -212,17 +206,15 @@ inside_facts setting events run c q = (
 by_event : (setting : Setting) → IsSetting setting → (e : Event) (events : List Event) → IsRun setting (e ∷ events)
     → ((c : ℕ) → c < (after setting events).limits.cores → RunsOn (after setting events) c)
     → SparesAll (after setting events) (after setting (e ∷ events)) (inside_of events) (core_of e)
-by_event setting lim (Enters d) events run runs =
-    entered_spares (after setting events) (inside_of events) d (runs d (subst (λ l. d < l.cores) (sym (limits_stay setting events)) run.1.0))
+by_event setting lim (Enters d call) events run runs =
+    entered_spares (after setting events) (inside_of events) d (runs d (subst (λ l. d < l.cores) (sym (limits_stay setting events)) run.1.is_core))
 by_event setting lim (Returns d) events run runs =
     returned_spares (after setting events) (inside_of events) d (runs d (subst (λ l. d < l.cores) (sym (limits_stay setting events))
-    (in_machine setting events d run.0 (λ out. decided_out (sym run.1 ∙ out)))))
-  where
-    decided_out : Decided ≡ Out → ⊥
-    decided_out q = cc
+    (in_machine setting events d run.0 (λ out. false≢true (sym (ap is_decided out) ∙ run.1)))))
 by_event setting lim (Decides d call r) events run runs =
     decided_spares (after setting events) (inside_of events) d call r
-    (record { opened = opened events; opens = open_is setting lim events d run.0 run.1.is_open; inside = inside_facts setting events run.0; runs = runs }) run.1.in_limits run.1.permitted
+    (record { opened = opened events; opens = open_is setting lim events d run.0 (ap is_open run.1.is_open); inside = inside_facts setting events run.0; runs = runs })
+    (open_limits setting events d call run.0 run.1.is_open) run.1.permitted
 
 pub runs_of : (setting : Setting) → IsSetting setting → (events : List Event) → IsRun setting events → (c : ℕ) → c < (after setting events).limits.cores → RunsOn (after setting events) c
 runs_of setting lim [] run c below = start_runs setting c below

@@ -11,11 +11,11 @@ use Rattle.kernel_rules.specs.References.{named_by, place_names, frame_names, ti
 use Rattle.kernel_rules.specs.Access.{Slot, Named, Under, place_at, usable_in, usable, linked, slot_in, reached, root_slot, root_at, only, own}
 use Rattle.kernel_rules.specs.Rules.{Found, and_then, or_refuse, of_kind, named}
 use Rattle.kernel_rules.specs.Fitting.{fits, IsGood}
-use Rattle.kernel_rules.specs.Runs.{Event, after, core_of, Open, phase_of, IsRun}
+use Rattle.kernel_rules.specs.Runs.{Event, after, core_of, Phase, Out, Open, Decided, is_in, is_open, phase_of, IsRun}
 use Rattle.kernel_rules.specs.Relies.{is_node, is_fixed, IsGuarded, Relies}
 use Rattle.kernel_rules.proofs.Sound.{IsStack, IsObjectGood, WaitsForAll, IsSound, only_is}
 use Rattle.kernel_rules.proofs.SoundRemovals.{unnamed, below_by}
-use Rattle.kernel_rules.proofs.SoundRuns.{is_in, is_open, opened, limits_stay, runs_sound}
+use Rattle.kernel_rules.proofs.SoundRuns.{opened, limits_stay, runs_sound}
 use Rattle.kernel_rules.proofs.Sums.{times_first, times_cons}
 use Rattle.kernel_rules.proofs.Facts.{some_inj, none_some, then_parts, or_found, usable_good}
 use Rattle.kernel_rules.proofs.Apart.{node_fixed}
@@ -336,11 +336,16 @@ event_stay_in setting lim e events run c other inside =
     stay_in_by (after setting events) (after setting (e ∷ events)) (opened events) (inside_of events) (core_of e) c (runs_sound setting lim events run.0)
     (inside_facts setting events run.0 c inside).1 inside other (event_spares setting lim e events run)
 
+open_in : (p : Phase) → IsTrue (is_open p) → is_in p ≡ true
+open_in Out h = absurd (false≢true h)
+open_in (Open call) h = refl
+open_in (Decided call r) h = absurd (false≢true h)
+
 pub event_stay : (setting : Setting) → IsSetting setting → (e : Event) (events : List Event) → IsRun setting (e ∷ events)
-    → (c : ℕ) → c ≢ core_of e → phase_of events c ≡ Open → Stay (after setting events) (after setting (e ∷ events)) c
+    → (c : ℕ) → c ≢ core_of e → IsTrue (is_open (phase_of events c)) → Stay (after setting events) (after setting (e ∷ events)) c
 event_stay setting lim e events run c other is =
-    stay_by (after setting events) (after setting (e ∷ events)) (opened events) c (runs_sound setting lim events run.0) (ap is_open is)
-    (event_stay_in setting lim e events run c other (ap is_in is))
+    stay_by (after setting events) (after setting (e ∷ events)) (opened events) c (runs_sound setting lim events run.0) is
+    (event_stay_in setting lim e events run c other (open_in (phase_of events c) is))
 
 pub event_own : (setting : Setting) → IsSetting setting → (e : Event) (events : List Event) → IsRun setting (e ∷ events)
     → (c : ℕ) → c < setting.cores → c ≢ core_of e → OwnStay (after setting events) (after setting (e ∷ events)) c

@@ -148,6 +148,6 @@ decided_within s c call _ within x d = within x d
 
 pub waits_within : WaitsWithin
 waits_within setting [] x d = none_within d
-waits_within setting (Enters c ∷ events) x d = waits_within setting events x d
+waits_within setting (Enters c call ∷ events) x d = waits_within setting events x d
 waits_within setting (Returns c ∷ events) x d = passed_within ((after setting events).grace x) c d (waits_within setting events x d)
 waits_within setting (Decides c call r ∷ events) x d = decided_within (after setting events) c call r (waits_within setting events) x d

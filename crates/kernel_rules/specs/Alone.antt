@@ -13,7 +13,7 @@ abbrev pub reply_in : Judged Change → Reply
 reply_in (Refused r) = r
 reply_in (Found change) = reply.Ok change.value
 
--- The reply to core c's call where no other core is in a call.
+-- The first reply in order to core c's call: the reply where no other core is in a call.
 abbrev pub alone : State → ℕ → Call → Reply
 alone s c call = if are_calls_spent s c then reply.CallsSpent else reply_in (change_of s c call)
 

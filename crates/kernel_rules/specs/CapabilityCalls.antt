@@ -65,14 +65,18 @@ has_frame range f = nat_le range.frame f && nat_lt f (range.frame + range.arg)
 abbrev pub outside : Named → ℕ → Cause
 outside range f = When (range.found && not (has_frame range f)) reply.OutOfRange
 
+-- Whether a number is that of a frame of the machine.
+abbrev pub is_frame : State → ℕ → Bool
+is_frame s f = nat_lt f s.limits.frames
+
 -- Whether a frame is a blank kernel frame.
 abbrev pub is_blank : Frame → Bool
 is_blank (Kernel Blank) = true
 is_blank _ = false
 
--- `frame-kind` of a `make`: the frame is no blank kernel frame.
+-- `frame-kind` of a `make`: the frame is one of the machine's, and no blank kernel frame.
 abbrev pub not_blank : State → ℕ → Cause
-not_blank s f = When (not (is_blank (s.frame f))) reply.FrameKind
+not_blank s f = When (is_frame s f && not (is_blank (s.frame f))) reply.FrameKind
 
 -- The change of a `make`: the frame holds the object, and the target its capability. References are taken for the capability
 -- and for the object's fields.

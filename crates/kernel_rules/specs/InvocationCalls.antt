@@ -69,7 +69,7 @@ call_rule s c g =
     Name g (only kind.Gate) λ gate.
     Does (
     When (nat_le 16 (length (thread_of s c).stack)) reply.Deep
-    ∷ When (not (is_live_in (s.number (comp_in (s.frame gate.frame)).number) gate.arg)) reply.Dead
+    ∷ not_live s gate (comp_in (s.frame gate.frame)).number gate.arg
     ∷ []) (pushes s c gate.frame)
 
 -- The change of a return: the component on top of the current thread's stack is popped, and its reference released.

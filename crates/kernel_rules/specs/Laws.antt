@@ -1,5 +1,5 @@
 -- Laws of the definitions, each the contract of a function of this crate.
-use Rattle.std.specs.Prelude.{ℕ, ◌+◌, ◌≡◌, false, List, [], ◌∷◌, Some, sum_by, IsTrue}
+use Rattle.std.specs.Prelude.{ℕ, ◌+◌, ◌≡◌, List, [], ◌∷◌, Some, IsTrue}
 use Rattle.spk_nums.specs.Setting.{Setting, IsSetting}
 use Rattle.spk_nums.specs.Capability.{Capability}
 use Rattle.spk_nums.specs.declared.calls.Call.{Call}
@@ -9,13 +9,12 @@ use Rattle.spk_nums.specs.declared.replies.Reply.{Reply}
 use Rattle.spk_nums.specs.declared.replies.Reply.TheVariants as reply
 use Rattle.kernel_rules.specs.State.{Holds, Grace, Thing, PlaceOf, FrameOf, NumberOf, State, put, tcap_in}
 use Rattle.kernel_rules.specs.References.{sum_below, times, refs}
-use Rattle.kernel_rules.specs.GracePeriods.{entered}
 use Rattle.kernel_rules.specs.Rules.{IsFoundAnd}
 use Rattle.kernel_rules.specs.CallRelation.{MayReply, change_of, state_by}
-use Rattle.kernel_rules.specs.Alone.{plain_reply}
+use Rattle.kernel_rules.specs.Alone.{alone}
 use Rattle.kernel_rules.specs.Access.{Slot, usable}
 use Rattle.kernel_rules.specs.Fitting.{IsGood}
-use Rattle.kernel_rules.specs.Runs.{Event, after, Open, phase_of, MayDecide, IsRun}
+use Rattle.kernel_rules.specs.Runs.{Event, after, is_open, phase_of, MayDecide, IsRun}
 
 -- The reply is a refusal.
 abbrev pub IsRefusal : Reply → Type 0
@@ -56,20 +55,19 @@ pub record IsWithin (g : Grace) (c : ℕ) : Type 0 where
 abbrev pub WaitsWithin : Type 0
 WaitsWithin = (setting : Setting) (events : List Event) (x : Thing) (c : ℕ) → IsWithin ((after setting events).grace x) c
 
--- No core is in a call.
-abbrev pub IsQuiet : State → Type 0
-IsQuiet s = (c : ℕ) → (s.core c).inside ≡ false
+-- In every state reached from the start, a core that waits in a grace period is in a call.
+abbrev pub WaitersInside : Type 0
+WaitersInside = (setting : Setting) (events : List Event) (x : Thing) (c : ℕ) → IsTrue (((after setting events).grace x).waits c)
+    → IsTrue ((after setting events).core c).inside
 
--- Of a call that core c has just entered: the relation permits `ok` with a value only where the reply to a call made alone is
--- that `ok`, and it permits the reply to a call made alone.
-pub record AgreesAlone (s : State) (c : ℕ) (call : Call) : Type 0 where
-  pub only_ok : (v : Value) → MayReply (entered s c) c call (reply.Ok v) → plain_reply s c call ≡ reply.Ok v
-  pub permitted : MayReply (entered s c) c call (plain_reply s c call)
+-- The relation permits `ok` with a value only where the first reply in order is that `ok`, and it permits the first reply in order.
+pub record AgreesFirst (s : State) (c : ℕ) (call : Call) : Type 0 where
+  pub only_ok : (v : Value) → MayReply s c call (reply.Ok v) → alone s c call ≡ reply.Ok v
+  pub permitted : MayReply s c call (alone s c call)
 
--- In every state reached from the start in which no core is in a call, the relation and the reply to a call made alone agree.
-abbrev pub PermitsAlone : Type 0
-PermitsAlone = (setting : Setting) (events : List Event) → IsQuiet (after setting events)
-    → (c : ℕ) (call : Call) → AgreesAlone (after setting events) c call
+-- In every state reached from the start, whoever is in a call, the relation and the first reply in order agree.
+abbrev pub FirstPermitted : Type 0
+FirstPermitted = (setting : Setting) (events : List Event) (c : ℕ) (call : Call) → AgreesFirst (after setting events) c call
 
 -- The ticks of the machine: the budgets of all temporal capabilities, and what all cores have spent.
 abbrev pub ticks : State → ℕ
@@ -94,7 +92,7 @@ RefsChange = (setting : Setting) → IsSetting setting → (events : List Event)
 -- Capabilities name frames with an object of their kind: each that a place holds, and each that a core may use in an open call.
 pub record NamesFit (setting : Setting) (events : List Event) : Type 0 where
   pub held : (f i : ℕ) (k : Capability) → (after setting events).place f i ≡ Holds k → IsGood (after setting events) k
-  pub used : (c : ℕ) (at : Slot) (k : Capability) → phase_of events c ≡ Open → usable (after setting events) c at ≡ Some k
+  pub used : (c : ℕ) (at : Slot) (k : Capability) → IsTrue (is_open (phase_of events c)) → usable (after setting events) c at ≡ Some k
       → IsGood (after setting events) k
 
 -- In every state that a run reaches, capabilities name what they say, though frames are retyped and made anew.

@@ -13,4 +13,5 @@ pub mod Alone
 pub mod Runs
 pub mod Fitting
 pub mod Relies
+pub mod Ranges
 pub mod Laws

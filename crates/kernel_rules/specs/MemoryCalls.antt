@@ -15,7 +15,7 @@ use Rattle.kernel_rules.specs.References.{refs, frame_names}
 use Rattle.kernel_rules.specs.Access.{Under, only, held_in}
 use Rattle.kernel_rules.specs.GracePeriods.{same_thing, flushed}
 use Rattle.kernel_rules.specs.Rules.{Change, Cause, When, WaitedFor, Unflushed, Rule, Name, Vacant, Held, Mapped, Does, answers, leaves, fills, frames_of, removes}
-use Rattle.kernel_rules.specs.CapabilityCalls.{outside}
+use Rattle.kernel_rules.specs.CapabilityCalls.{outside, is_frame}
 
 -- Whether a frame is untyped.
 abbrev pub is_untyped : Frame → Bool
@@ -46,17 +46,25 @@ abbrev pub is_empty : State → ℕ → Frame → Bool
 is_empty s f (Kernel object) = is_empty_object s f object
 is_empty s f _ = true
 
+-- `frame-kind` of a retype to untyped: the frame is one of the machine's, and untyped.
+abbrev pub is_untyped_now : State → ℕ → Cause
+is_untyped_now s f = When (is_frame s f && is_untyped (s.frame f)) reply.FrameKind
+
+-- `frame-kind` of a retype to user or kernel: the frame is one of the machine's, and not untyped.
+abbrev pub not_untyped : State → ℕ → Cause
+not_untyped s f = When (is_frame s f && not (is_untyped (s.frame f))) reply.FrameKind
+
 -- The causes against a retype of a frame: to untyped it is none from untyped, and the frame must have no reference, no core
 -- that waits for it or has not flushed, and an empty object; to user or kernel it must be untyped.
 abbrev pub not_retyped : State → ℕ → FrameKind → List Cause
 not_retyped s f frame_kind.Untyped =
-    When (is_untyped (s.frame f)) reply.FrameKind
+    is_untyped_now s f
     ∷ When (nat_lt 0 (refs s f)) (reply.Referenced (refs s f))
     ∷ WaitedFor (FrameOf f)
     ∷ Unflushed (FrameOf f)
     ∷ When (not (is_empty s f (s.frame f))) reply.NotEmpty
     ∷ []
-not_retyped s f _ = When (not (is_untyped (s.frame f))) reply.FrameKind ∷ []
+not_retyped s f _ = not_untyped s f ∷ []
 
 -- The change of a retype: to untyped it ends the frame's grace period and releases the references of its object.
 abbrev pub retypes : State → ℕ → FrameKind → Change
@@ -75,9 +83,9 @@ retype_rule s r f k =
     Name r (only kind.Range) λ range.
     Does (outside range f ∷ not_retyped s f k) (retypes s f k)
 
--- `frame-kind` of a `map`: the frame is no user frame.
+-- `frame-kind` of a `map`: the frame is one of the machine's, and no user frame.
 abbrev pub not_user : State → ℕ → Cause
-not_user s f = When (not (is_user (s.frame f))) reply.FrameKind
+not_user s f = When (is_frame s f && not (is_user (s.frame f))) reply.FrameKind
 
 -- `map P V R F W` names pages P and a range R; the free page V of P then maps the user frame F of R with the flags W.
 abbrev pub map_rule : State → ℕ → ℕ → ℕ → ℕ → PageFlags → Rule

@@ -5,7 +5,7 @@
 //! stand in `kernel_laws`.
 #![tactic(auto)]
 
-ghost use Rattle.kernel_rules.specs.Laws.{RefusalKeeps, WaitsWithin, PermitsAlone, RefsChange, CapabilitiesFit};
+ghost use Rattle.kernel_rules.specs.Laws.{RefusalKeeps, WaitsWithin, WaitersInside, FirstPermitted, RefsChange, CapabilitiesFit};
 
 /// A refusal leaves the state as it was, but for the owed ticks of a `tick`, and the count of calls.
 pub fn refusal_keeps()
@@ -19,11 +19,17 @@ pub fn waits_within()
     ensures { WaitsWithin }
 {}
 
-/// Of a call that a core enters while no core is in a call: the relation permits `ok` with a value only where the reply to
-/// a call made alone is that `ok`, and it permits the reply to a call made alone.
-#[tactic(auto, using(crate::proofs::AloneLaw::permits_alone))]
-pub fn permits_alone()
-    ensures { PermitsAlone }
+/// In every state reached from the start, a core that waits in a grace period is in a call.
+#[tactic(auto, using(crate::proofs::AloneLaw::waits_inside))]
+pub fn waiters_inside()
+    ensures { WaitersInside }
+{}
+
+/// In every state reached from the start, whoever is in a call: the relation permits `ok` with a value only where the first
+/// reply in order is that `ok`, and it permits the first reply in order.
+#[tactic(auto, using(crate::proofs::AloneLaw::first_permitted))]
+pub fn first_permitted()
+    ensures { FirstPermitted }
 {}
 
 /// In every state that a run reaches, a call that is carried out changes the references to each frame by those that it takes
