@@ -1,6 +1,8 @@
 pub mod View
 pub mod Stages
 pub mod Steps
+pub mod Made
+pub mod Histories
 pub mod Decided
 pub mod Fits
 pub mod Holding

@@ -23,14 +23,14 @@ use Rattle.kernel_history.proofs.Waiting.{Passed, Flushed, still_past, stamp_ris
 pub own_stays : (c : ℕ) (e : Step) (t : Trace) → (c ≡ e.core → e.enters ≡ None) → (w : Word) → IsSome (own_left t c w) → IsSome (own_left (e ∷ t) c w)
 own_stays c e t no_entry w had = elim (cases_eq c e.core) [
   | inr other ↦ ap is_some (own_left-other c e t other w) ∙ had
-  | inl own ↦ elim (cases_word w e.word) [
+  | inl own ↦ elim (cases_word w (word_of e.move)) [
     | inl here ↦ ap is_some (own_left-here c e t own w here)
     | inr there ↦ ap is_some (own_left-there c e t own w there ∙ ap (λ o. cond (is_some o) None (own_left t c w)) (no_entry own)) ∙ had
   ]
 ]
 
 -- And what it left there stands while the call makes no step on that word.
-pub own_apart : (c : ℕ) (e : Step) (t : Trace) → c ≡ e.core → e.enters ≡ None → (w : Word) → w ≢ e.word → own_left (e ∷ t) c w ≡ own_left t c w
+pub own_apart : (c : ℕ) (e : Step) (t : Trace) → c ≡ e.core → e.enters ≡ None → (w : Word) → w ≢ (word_of e.move) → own_left (e ∷ t) c w ≡ own_left t c w
 own_apart c e t own no_entry w there = own_left-there c e t own w there ∙ ap (λ o. cond (is_some o) None (own_left t c w)) no_entry
 
 -- moments of a call

@@ -91,8 +91,8 @@ one_call_at_a_time setup (e ∷ t) legal c = elim (cases_eq c e.core) [
 -- What a core's call left in a word is what the word has, while the core alone has stepped since.
 own_is_last : (setup : Setting) (t : Trace) (c : ℕ) (w : Word) (v : ℕ) → IsUndisturbed t c → own_left t c w ≡ Some v → last_left setup t w ≡ v
 own_is_last setup [] c w v alone own = absurd (cc)
-own_is_last setup (e ∷ t) c w v alone own = elim (cases_word w e.word) [
-  | inl here ↦ last_left-here setup w e t here ∙ some_inj e.left v (sym (own_left-here c e t (sym alone.0) w here) ∙ own)
+own_is_last setup (e ∷ t) c w v alone own = elim (cases_word w (word_of e.move)) [
+  | inl here ↦ last_left-here setup w e t here ∙ some_inj (left_of e.move e.found) v (sym (own_left-here c e t (sym alone.0) w here) ∙ own)
   | inr there ↦ last_left-there setup w e t there ∙ by_entry e.enters alone.1 (sym (own_left-there c e t (sym alone.0) w there) ∙ own) (own_is_last setup t c w v)
 ]
   where
@@ -118,8 +118,8 @@ module _ (setup : Setting) (t : Trace) (e : Step) (follows : MayFollow setup t e
       none_some : None ≡ Some own → ⊥
       none_some q = cc
 
-      by_entry : (o : Option Call) → e.enters ≡ o → UnlessEnters o (IsUndisturbed t e.core) → cond (is_some o) None (own_left t e.core e.word) ≡ Some own → ⊥
-      by_entry None is undisturbed was = changed (follows.found ∙ own_is_last setup t e.core e.word own undisturbed was)
+      by_entry : (o : Option Call) → e.enters ≡ o → UnlessEnters o (IsUndisturbed t e.core) → cond (is_some o) None (own_left t e.core (word_of e.move)) ≡ Some own → ⊥
+      by_entry None is undisturbed was = changed (follows.found ∙ own_is_last setup t e.core (word_of e.move) own undisturbed was)
       by_entry (Some call) is undisturbed was = none_some was
 
   calm : (r : Reply) (call : Call) → IsJustifiedIn setup t e (state_before setup t e) (rule_of (state_before setup t e) e.core call) r → IsNotHeldUp (Some r)

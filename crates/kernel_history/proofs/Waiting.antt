@@ -221,7 +221,7 @@ module _ (setup : Setting) (t : Trace) (e : Step) (follows : MayFollow setup t e
   }
 
   -- a core that loads the clock may leave
-  pub leave_starts : ClockAt ≡ e.word → e.found ≡ clock setup t → ((x : Thing) → begins_at setup t e x ≡ false) → IsLeave setup (e ∷ t) e.core e.found
+  pub leave_starts : ClockAt ≡ (word_of e.move) → e.found ≡ clock setup t → ((x : Thing) → begins_at setup t e x ≡ false) → IsLeave setup (e ∷ t) e.core e.found
   leave_starts at found none = record {
     seen = clock_seen-own e.core e t refl ∙ ap (λ b. cond b e.found (clock_seen t e.core)) (ap (same_word ClockAt) (sym at));
     some = (let p = (graces (NumberOf 0)).past in omega (arith, p, found));

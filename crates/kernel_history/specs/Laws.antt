@@ -9,6 +9,7 @@ use Rattle.kernel_history.specs.Trace.{Step, Trace, Out, phase, state_after, cal
 use Rattle.kernel_history.specs.Stamps.{is_in}
 use Rattle.kernel_history.specs.Events.{events_of, plain_phase}
 use Rattle.kernel_history.specs.Legal.{IsLegal}
+use Rattle.kernel_history.specs.Alone.{IsAlone}
 
 -- The events of the trace are a run of the sequential kernel, and the trace leaves the state that they leave.
 pub record IsRunOfEvents (setup : Setting) (t : Trace) : Type 0 where
@@ -40,21 +41,6 @@ returned_calls (e ∷ t) c = if c == e.core && is_some e.returns then returned_c
 -- In a legal trace a core has entered the calls that have returned, and one more exactly where it is in a call.
 abbrev pub OneCallAtATime : Type 0
 OneCallAtATime = (setup : Setting) (t : Trace) → IsLegal setup t → (c : ℕ) → length (calls_of t c) ≡ returned_calls t c + (if is_in (phase t c) then 1 else 0)
-
--- What is said, unless the step enters a call.
-abbrev pub UnlessEnters : Option Call → Type 0 → Type 0
-UnlessEnters None Said = Said
-UnlessEnters (Some call) Said = Unit {0}
-
--- Since core c entered its call, it alone has stepped.
-abbrev pub IsUndisturbed : Trace → ℕ → Type 0
-IsUndisturbed [] c = Unit {0}
-IsUndisturbed (e ∷ t) c = (e.core ≡ c) × UnlessEnters e.enters (IsUndisturbed t c)
-
--- At the step e no other core is in a call, and none has stepped since e's call was entered.
-pub record IsAlone (t : Trace) (e : Step) : Type 0 where
-  pub others_out : (d : ℕ) → d ≢ e.core → phase t d ≡ Out
-  pub undisturbed : UnlessEnters e.enters (IsUndisturbed t e.core)
 
 -- The step decides none of `raced`, `busy` and `quiescing`.
 abbrev pub IsNotHeldUp : Option Reply → Type 0

@@ -1,6 +1,6 @@
 //! Lists and an order, taken as `replay` does.
 ghost use Rattle.std.specs.Prelude.{◌≡◌, ◌<◌, IfOk, All, map, length, string_bytes};
-ghost use Rattle.kernel_history.specs.GivenSteps.{GivenSteps};
+ghost use Rattle.lone_kernel.specs.GivenSteps.{GivenSteps};
 ghost use Rattle.lone_kernel.specs.Machine.{AreLists};
 
 use crate::orders::{follow, run_rest};
