@@ -33,6 +33,7 @@ use Rattle.flight.specs.Knows.{Knows, KnowsFirst, KnowsSecond, KnowsTarget, Know
 use Rattle.flight.specs.Stands.{Stands}
 use Rattle.flight.specs.Made.{MayBegin, decided_in, returned_in, step_at, step_of, core_after}
 use Rattle.flight.specs.Theorems.{found_by, StepsOn}
+use Rattle.flight.proofs.Spelling.{stage_named}
 use Rattle.flight.proofs.CoreFits.{took_fits, landed_fits, begun_fits, stage_is_in}
 use Rattle.flight.proofs.Entries.{enter_good}
 use Rattle.flight.proofs.Good.{stands_on}
@@ -42,19 +43,6 @@ use Rattle.flight.proofs.Refusals.{step_with, GoodTook}
 use Rattle.flight.proofs.LookLeaves.{at_stage, LookGood, look_first}
 use Rattle.flight.proofs.CopyLeaves.{copy_first, copy_second, copy_target}
 use Rattle.flight.proofs.FillLeaves.{copy_fill}
-
--- The word of a stage's step is the one name of its place.
-look_named : (look : Look) → shared (word_of (look_move look)) ≡ word_of (look_move look)
-look_named (AtRoot root number) = refl
-look_named (AtLeaf leaf number) = refl
-look_named (AtEntry root index) = refl
-
-pub stage_named : (core exit : ℕ) (s : Stage) → shared (word_of (stage_move core exit s)) ≡ word_of (stage_move core exit s)
-stage_named core exit Enter = refl
-stage_named core exit (Looking want look) = look_named look
-stage_named core exit (Fill node index word k) = refl
-stage_named core exit (Exit r) = refl
-stage_named core exit (Leave r x) = refl
 
 module _ (setup : Setting) (setting : IsSetting setup) (cores : ℕ → Core) (t : Trace) (stands : Stands setup cores t) (c : ℕ) (here : c < setup.cores) where
   -- what a call takes at its stage from the word of its move

@@ -1,4 +1,5 @@
 pub mod CoreFits
+pub mod Spelling
 pub mod Ready
 pub mod Sounds
 pub mod WordFrames
@@ -21,4 +22,5 @@ pub mod Advance
 pub mod Final
 pub mod Made
 pub mod Turns
+pub mod Phases
 pub mod Unready

@@ -10,3 +10,4 @@ pub mod Words
 pub mod Knows
 pub mod Stands
 pub mod Theorems
+pub mod Phases

@@ -2,7 +2,7 @@
 use Rattle.std.specs.Prelude.{◌≡◌, ◌≢◌, false, ℕ, ◌+◌, ◌-◌, ◌*◌, ◌<◌, ◌≤◌, length, Option, Some, None}
 use Rattle.spk_nums.specs.declared.steps.How.{How}
 use Rattle.kernel_history.specs.Trace.{Trace}
-use Rattle.kernel_history.specs.Order.{IsIdle, Stretch}
+use Rattle.kernel_history.specs.Order.{IsIdle, MakesOne, Stretch}
 use Rattle.lone_kernel.specs.declared.lone.Moved.{Moved}
 use Rattle.lone_kernel.specs.declared.lone.Moved.TheVariants.{Idle, Went}
 use Rattle.flight.specs.Decided.{is_decided_in}
@@ -23,6 +23,10 @@ pub record MovesTo (m m' : Machine) (c : ℕ) (t : Trace) (Is : Trace → Type 0
 pub record StaysIdle (m m' : Machine) (c : ℕ) : Type 0 where
   pub same : m' ≡ m
   pub idle : (t : Trace) → StandsFor m t → IsIdle m.lists t c
+
+-- Each trace goes on by one step of core c.
+abbrev pub StepsOnce : Machine → Machine → ℕ → Type 0
+StepsOnce m m' c = (t : Trace) → StandsFor m t → MovesTo m m' c t (λ u. MakesOne c t u)
 
 -- Each trace goes on by the stretch of an item of core c.
 abbrev pub GoesBy : How → Machine → Machine → ℕ → Type 0

@@ -1,18 +1,15 @@
 use Rattle.std.proofs.Common.{◌≡◌, ℕ, ◌<◌, ◌++◌, length, map, Some, sym, ◌∙◌, ap, subst, arith, slice_set, sum_by, get_or, get_or-set_same}
 use Rattle.std.proofs.lemmas.List.{length-append}
 use Rattle.kernel_history.specs.Trace.{decision_at}
-use Rattle.flight.specs.Theorems.{decided_in}
+use Rattle.flight.specs.Made.{decided_in}
 use Rattle.lone_kernel.specs.declared.seats.Seat.{Seat}
 use Rattle.lone_kernel.specs.Machine.{Machine, seat_at, core_at, list_at, IsFit, IsFitSeat, IsFinished, stepped, turn_at, turn_of, seat_after, found_by, decisions_in}
-use Rattle.lone_kernel.specs.Moves.{MakesOneStep}
+use Rattle.lone_kernel.specs.Moves.{StepsOnce}
 use Rattle.lone_kernel.proofs.OneStep.{list_is, seat_is, turn_here, fit_here, calls_here, takes_here, stepped_is, fits_behind, fewer_behind}
 use Rattle.lone_kernel.proofs.Fits.{IsOf, turn_is, fits_on, due_on, further, one_decision, count_decided, undecided_due}
-use Rattle.flight.proofs.Advance.{steps_on}
-use Rattle.flight.proofs.Final.{says_words}
-use Rattle.flight.proofs.Ready.{ready_decides}
-use Rattle.lone_kernel.proofs.Advance.{one_step, stays_idle, steps_like, further_like}
-use Rattle.lone_kernel.proofs.lone.LoneKernel.step.Goals as goal
-use Rattle.lone_kernel.proofs.lone.LoneKernel.step.Goals.{In-Some, After-take-arg-2-1, After-note}
+use Rattle.lone_kernel.proofs.Advance.{one_step, steps_like, further_like}
+use Rattle.lone_kernel.proofs.lone.LoneKernel.step_once.Goals as goal
+use Rattle.lone_kernel.proofs.lone.LoneKernel.step_once.Goals.{In-Some, After-take-arg-2-1, After-note}
 
 abbrev machine : In-Some → Machine
 machine c = record { setup = c.self.inside.setup; words = c.self.inside.words.items; lists = map (λ v. v.items) c.self.inside.lists.items; seats = c.self.inside.seats.items; decisions = c.self.inside.decisions.items }
@@ -21,7 +18,7 @@ at : (c : In-Some) → c.from-at.result < c.self.inside.setup.cores
 at c =
     let n = c.number.ensures.value in
     let f = c.from-at.ensures in
-    let r : c.args.core < c.args.self.now.setup.cores = c.requires in
+    let r : c.args.core < c.args.self.now.setup.cores = c.requires.here in
     let v = ap (λ m. m.setup.cores) c.self.view_is in
     omega arith
 
@@ -148,12 +145,12 @@ invariant_of-self c =
 pub returns-clause-goes : goal.returns-clause-goes
 returns-clause-goes c t stands =
     let i = before c in
-    let goes : MakesOneStep (machine i) (stepped (machine i) c.from-at.result c.in-Some.turn) c.from-at.result
-    = λ t s. one_step steps_on says_words ready_decides (machine i) t c.from-at.result c.in-Some.turn i.self.invariant.0 i.self.invariant.2 (at i) (turn_at_core c) s in
+    let goes : StepsOnce (machine i) (stepped (machine i) c.from-at.result c.in-Some.turn) c.from-at.result
+    = λ t s. one_step (machine i) t c.from-at.result c.in-Some.turn i.self.invariant.0 i.self.invariant.2 (at i) (turn_at_core c) s in
     steps_like i.self.view_is (made_now c) (core_is c) goes t stands
 
 pub returns-clause-work : goal.returns-clause-work
-returns-clause-work c h =
+returns-clause-work c =
     let i = before c in
     further_like i.self.view_is (made_now c) (core_is c) (further (machine i) c.from-at.result c.in-Some.turn i.self.invariant.0 (at i) (turn_at_core c)
     (fits_behind (λ v. v.items) c.self.inside.setup c.self.inside.words.items c.self.inside.lists.items c.self.inside.seats.items c.self.inside.decisions.items
@@ -175,21 +172,3 @@ take-absorbed-requires-clause-machine c =
     let i = (goal.at.take-absorbed-requires-clause-machine c).In-Some in
     i.self.invariant.1 ∙ sym (fit_lent i c.index_mut.result.now c.index_mut.ensures.value).shape
 
-pub returns-in_default-clause-goes : goal.returns-in_default-clause-goes
-returns-in_default-clause-goes c =
-    let n = c.number.ensures.value in
-    let f = c.from-at.ensures in
-    let r : c.args.core < c.args.self.now.setup.cores = c.requires in
-    let v = ap (λ m. m.setup.cores) c.self.view_is in
-    let m : Machine = record { setup = c.self.inside.setup; words = c.self.inside.words.items; lists = map (λ v. v.items) c.self.inside.lists.items; seats = c.self.inside.seats.items; decisions = c.self.inside.decisions.items } in
-    let here : c.from-at.result < c.self.inside.setup.cores = omega arith in
-    let lists : list_at m c.from-at.result ≡ c.index.result.now.items =
-    list_is (λ v. v.items) c.self.inside.setup c.self.inside.words.items c.self.inside.lists.items c.self.inside.seats.items c.self.inside.decisions.items
-    c.from-at.result c.index.result.now c.index-2.result.now c.self.invariant.0 here c.index.ensures c.index-2.ensures in
-    let seats : seat_at m c.from-at.result ≡ c.index-2.result.now =
-    seat_is (λ v. v.items) c.self.inside.setup c.self.inside.words.items c.self.inside.lists.items c.self.inside.seats.items c.self.inside.decisions.items
-    c.from-at.result c.index.result.now c.index-2.result.now c.self.invariant.0 here c.index.ensures c.index-2.ensures in
-    let none : IsFinished m c.from-at.result = ap (λ l. turn_of l (seat_at m c.from-at.result)) lists ∙ ap (turn_of c.index.result.now.items) seats ∙ sym c.turn.ensures ∙ c.in_default.is in
-    let core : c.from-at.result ≡ c.args.core = omega arith in
-    let finished : IsFinished c.args.self.now c.args.core = subst (λ (i : ℕ). IsFinished c.args.self.now i) core (subst (λ x. IsFinished x c.from-at.result) c.self.view_is none) in
-    stays_idle c.args.self.now c.args.core r finished
