@@ -1,5 +1,5 @@
 -- A step of any core leaves cores that stand for the trace with it.
-use Rattle.std.proofs.Common.{◌≡◌, ℕ, ◌^◌, ◌<◌, ◌∷◌, true, Option, Some, None, arith, refl, sym, ap, subst}
+use Rattle.std.proofs.Common.{◌≡◌, inl, ℕ, ◌^◌, ◌<◌, ◌∷◌, true, Option, Some, None, arith, refl, sym, ap, subst}
 use Rattle.std.specs.Prelude.{IsSome}
 use Rattle.std.proofs.lemmas.Bool.{lt-ltb, false≢true}
 use Rattle.spk_nums.specs.Capability.{Capability}
@@ -8,7 +8,8 @@ use Rattle.spk_nums.specs.declared.calls.Call.{Call}
 use Rattle.spk_nums.specs.declared.calls.Call.TheVariants.{Look as look_call, Copy}
 use Rattle.spk_nums.specs.declared.replies.Reply.{Reply}
 use Rattle.word_map.specs.Word.{CoreAt, ClockAt}
-use Rattle.word_map.specs.Moves.{word_of, left_of, told_of}
+use Rattle.word_map.specs.Places.{IsIn, shared}
+use Rattle.word_map.specs.Moves.{LoadOf, StoreOf, word_of, told_of}
 use Rattle.kernel_rules.specs.State.{put}
 use Rattle.kernel_rules.specs.Access.{found}
 use Rattle.kernel_history.specs.Trace.{Step, Trace, last_left}
@@ -21,6 +22,7 @@ use Rattle.flight.specs.declared.stages.Stage.TheVariants.{Enter, Looking, Fill,
 use Rattle.flight.specs.declared.stages.InFlight.{InFlight}
 use Rattle.flight.specs.declared.stages.Took.{Took}
 use Rattle.flight.specs.declared.stages.Took.TheVariants.{Goes}
+use Rattle.stage_look.specs.Lookup.{look_move}
 use Rattle.stage_look.specs.declared.look.Look.{Look}
 use Rattle.stage_look.specs.declared.look.Look.TheVariants.{AtRoot, AtLeaf, AtEntry}
 use Rattle.flight.specs.View.{Core}
@@ -29,11 +31,13 @@ use Rattle.flight.specs.Steps.{fresh, landed, told, told_in, is_spent, took_by, 
 use Rattle.flight.specs.Fits.{IsCore}
 use Rattle.flight.specs.Knows.{Knows, KnowsFirst, KnowsSecond, KnowsTarget, KnowsFill, KnowsLook, FlightIs}
 use Rattle.flight.specs.Stands.{Stands}
-use Rattle.flight.specs.Theorems.{MayBegin, decided_in, returned_in, step_at, step_of, core_after, StepsOn}
-use Rattle.flight.proofs.CoreFits.{took_fits, landed_fits, begun_fits}
+use Rattle.flight.specs.Made.{MayBegin, decided_in, returned_in, step_at, step_of, core_after}
+use Rattle.flight.specs.Theorems.{found_by, StepsOn}
+use Rattle.flight.proofs.Spelling.{stage_named}
+use Rattle.flight.proofs.CoreFits.{took_fits, landed_fits, begun_fits, stage_is_in}
 use Rattle.flight.proofs.Entries.{enter_good}
 use Rattle.flight.proofs.Good.{stands_on}
-use Rattle.flight.proofs.Loads.{step_to, is_flight, loads_on}
+use Rattle.flight.proofs.Loads.{Lands, step_to, is_flight, loads_on}
 use Rattle.flight.proofs.Writes.{clock_small, leaves_on}
 use Rattle.flight.proofs.Refusals.{step_with, GoodTook}
 use Rattle.flight.proofs.LookLeaves.{at_stage, LookGood, look_first}
@@ -47,8 +51,7 @@ module _ (setup : Setting) (setting : IsSetting setup) (cores : ℕ → Core) (t
 
   abbrev StageGood : Call → ℕ → Stage → Type 0
   StageGood call steps stage =
-      GoodTook setup cores t c (at_stage call steps stage) (word_of (stage_move c (cores c).exit stage)) (last_left setup t (word_of (stage_move c (cores c).exit stage)))
-      (left_of (stage_move c (cores c).exit stage) (last_left setup t (word_of (stage_move c (cores c).exit stage))))
+      GoodTook setup cores t c (at_stage call steps stage) (stage_move c (cores c).exit stage)
       (TakenAt call steps stage (told_of (stage_move c (cores c).exit stage) (last_left setup t (word_of (stage_move c (cores c).exit stage)))))
 
   first_good : (call : Call) (steps : ℕ) (look : Look) → (cores c).flight ≡ Some (at_stage call steps (Looking First look)) → KnowsFirst setup t c (cores c).table call look
@@ -83,12 +86,13 @@ module _ (setup : Setting) (setting : IsSetting setup) (cores : ℕ → Core) (t
   exit_good call steps r flight = subst Goal (sym (ap (λ b. stamp_if b (clock setup t)) (lt-ltb (clock setup t) (2 ^ 28) (clock_small setup setting cores t stands)))) loads
     where
       Goal : ℕ → Type 0
-      Goal x = GoodTook setup cores t c (at_stage call steps (Exit r)) ClockAt (clock setup t) (clock setup t) (Goes (Leave r x))
+      Goal x = GoodTook setup cores t c (at_stage call steps (Exit r)) (LoadOf ClockAt) (Goes (Leave r x))
 
       loads : Goal (clock setup t)
-      loads fits =
-          let e : Step = step_to c None ClockAt (clock setup t) (clock setup t) None None in
-          loads_on setup setting cores t stands c here (at_stage call steps (Exit r)) flight ClockAt (clock setup t) (Leave r (clock setup t)) refl (λ d. refl) fits refl refl
+      loads lands =
+          let e : Step = step_to c None (LoadOf ClockAt) (clock setup t) None None in
+          loads_on setup setting cores t stands c here (at_stage call steps (Exit r)) flight (LoadOf ClockAt) (Leave r (clock setup t))
+          (record { of_call = record { moves = refl; near = inl tt }; kept = refl; apart = λ d. refl }) lands refl refl
           (λ carries. record {
             seen = clock_seen-own c e t refl;
             some = stands.some_time;
@@ -97,7 +101,7 @@ module _ (setup : Setting) (setting : IsSetting setup) (cores : ℕ → Core) (t
           })
 
   leave_good : (call : Call) (steps : ℕ) (r : Reply) (x : ℕ) → (cores c).flight ≡ Some (at_stage call steps (Leave r x)) → StageGood call steps (Leave r x)
-  leave_good call steps r x flight fits = leaves_on setup setting cores t stands c here (at_stage call steps (Leave r x)) flight (last_left setup t (CoreAt c)) r x refl refl fits
+  leave_good call steps r x flight lands = leaves_on setup setting cores t stands c here (at_stage call steps (Leave r x)) flight r x refl lands
 
   -- a further step of a call, by its stage
   pub stage_good : (call : Call) (steps : ℕ) (stage : Stage) → (cores c).flight ≡ Some (at_stage call steps stage) → Knows setup t c (cores c).table call stage → StageGood call steps stage
@@ -115,31 +119,35 @@ module _ (setup : Setting) (setting : IsSetting setup) (cores : ℕ → Core) (t
       (step_at c None (move_in (cores c) (Some f)) (last_left setup t (word_of (move_in (cores c) (Some f))))
       (told_in (cores c) (Some f) (told_of (move_in (cores c) (Some f)) (last_left setup t (word_of (move_in (cores c) (Some f)))))) ∷ t)
   next_on f flight knows = at_core (cores c).core (cores c).shape.frames (stands.each c here).number (ap (λ s. s.frames) (stands.each c here).shape)
-      (landed_fits (cores c) f (took_by (cores c) f (told_of (move_in (cores c) (Some f)) (last_left setup t (word_of (move_in (cores c) (Some f))))))
-      (stands.each c here).fits (is_flight setup setting cores t stands c here f flight)
-      (took_fits (cores c) f (told_of (move_in (cores c) (Some f)) (last_left setup t (word_of (move_in (cores c) (Some f))))) (stands.each c here).fits (is_flight setup setting cores t stands c here f flight)))
+      (record {
+        fits = landed_fits (cores c) f (took_by (cores c) f (told_of (move_in (cores c) (Some f)) (last_left setup t (word_of (move_in (cores c) (Some f))))))
+            (stands.each c here).fits (is_flight setup setting cores t stands c here f flight)
+            (took_fits (cores c) f (told_of (move_in (cores c) (Some f)) (last_left setup t (word_of (move_in (cores c) (Some f))))) (stands.each c here).fits (is_flight setup setting cores t stands c here f flight));
+        is_in = subst (λ s. IsIn s (word_of (stage_move (cores c).core (cores c).exit f.stage))) (stands.each c here).shape
+            (stage_is_in (cores c).shape (cores c).core (cores c).exit f.stage (stands.each c here).fits.core (is_flight setup setting cores t stands c here f flight).stage);
+        is_named = stage_named (cores c).core (cores c).exit f.stage;
+      })
     where
       Taken : ℕ → ℕ → Took
       Taken m n = stage_took (cores c).table n (is_spent (cores c)) f.call f.stage
           (told_of (stage_move m (cores c).exit f.stage) (last_left setup t (word_of (stage_move m (cores c).exit f.stage))))
 
       Goal : ℕ → ℕ → Type 0
-      Goal m n = IsCore (landed (cores c) f (Taken m n))
+      Goal m n = Lands setup (landed (cores c) f (Taken m n)) (word_of (stage_move m (cores c).exit f.stage))
           → Stands setup (put cores c (landed (cores c) f (Taken m n)))
           (step_at c None (stage_move m (cores c).exit f.stage) (last_left setup t (word_of (stage_move m (cores c).exit f.stage))) (told (Taken m n)) ∷ t)
 
       base : Goal c setup.frames
-      base fits = stands_on setup setting cores t stands
-          (step_with c (word_of (stage_move c (cores c).exit f.stage)) (last_left setup t (word_of (stage_move c (cores c).exit f.stage)))
-          (left_of (stage_move c (cores c).exit f.stage) (last_left setup t (word_of (stage_move c (cores c).exit f.stage)))) (Taken c setup.frames))
-          (landed (cores c) f (Taken c setup.frames)) (stage_good f.call f.steps f.stage flight knows fits)
+      base lands = stands_on setup setting cores t stands
+          (step_with c (stage_move c (cores c).exit f.stage) (last_left setup t (word_of (stage_move c (cores c).exit f.stage))) (Taken c setup.frames))
+          (landed (cores c) f (Taken c setup.frames)) (stage_good f.call f.steps f.stage flight knows lands)
 
       at_core : (m n : ℕ) → m ≡ c → n ≡ setup.frames → Goal m n
       at_core m n ms ns = subst (λ (m : ℕ). Goal m n) (sym ms) (subst (λ (n : ℕ). Goal c n) (sym ns) base)
 
   -- a step that begins a call
   first_on : (call : Call) (may : MayBegin call (cores c))
-      → Stands setup (put cores c (core_after setup t (begun (cores c) call))) (step_of setup t c (Some call) (begun (cores c) call) ∷ t)
+      → Stands setup (put cores c (core_after (begun (cores c) call) (found_by setup t (begun (cores c) call)))) (step_of c (Some call) (begun (cores c) call) (found_by setup t (begun (cores c) call)) ∷ t)
   first_on call may = at_core (cores c).core (stands.each c here).number
     where
       took : Took
@@ -156,8 +164,8 @@ module _ (setup : Setting) (setting : IsSetting setup) (cores : ℕ → Core) (t
 
       base : Goal c
       base = stands_on setup setting cores t stands
-          (step_to c (Some call) (CoreAt c) (last_left setup t (CoreAt c)) (core_word true (cores c).exit) (decided_in (told took)) (returned_in (told took)))
-          (landed (begun (cores c) call) (fresh call) took) (enter_good setup setting cores t stands c here call may fits)
+          (step_to c (Some call) (StoreOf (CoreAt c) (core_word true (cores c).exit)) (last_left setup t (CoreAt c)) (decided_in (told took)) (returned_in (told took)))
+          (landed (begun (cores c) call) (fresh call) took) (enter_good setup setting cores t stands c here call may (record { fits = fits; is_in = here; is_named = refl }))
 
       at_core : (m : ℕ) → m ≡ c → Goal m
       at_core m ms = subst Goal (sym ms) base

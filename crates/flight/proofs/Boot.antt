@@ -33,10 +33,12 @@ use Rattle.kernel_history.proofs.BootRepresents.{boot_represents}
 use Rattle.kernel_history.proofs.StartRefs.{refs_most}
 use Rattle.kernel_history.proofs.GraceSteps.{grace_start, times_start}
 use Rattle.stage_look.specs.Shown.{CapNames}
-use Rattle.flight.specs.Holding.{marked_by, settled_by}
+use Rattle.kernel_history.specs.Marking.{marked_by}
+use Rattle.flight.specs.Holding.{settled_by}
 use Rattle.flight.specs.Words.{PlaceIs, IsObjectWord, IsFrameWord, NumberIs, WordIs}
 use Rattle.flight.specs.Stands.{held_by, times_of}
-use Rattle.flight.specs.Theorems.{boot_cores, Boots}
+use Rattle.flight.specs.Made.{boot_cores}
+use Rattle.flight.specs.Theorems.{Boots}
 use Rattle.flight.proofs.CoreFits.{started_fits}
 
 -- A good capability names frames of the machine.
@@ -243,6 +245,10 @@ pub boots : Boots
 boots setup setting = record {
   legal = tt;
   bounds = tt;
+  alone = tt;
+  discipline = tt;
+  footprints = tt;
+  marked = λ w d h. absurd (none_some d (sym (boot_mark setup setting w) ∙ h));
   marks = λ w d. record { owned = λ h. absurd (none_some d (sym (boot_mark setup setting w) ∙ h)); kept = λ h. absurd (false≢true h) };
   words = λ w. subst (λ o. WordIs (start setup) (times_of setup []) w (settled_by o (held_by (boot_cores setup)) w (boot_word setup w))) (sym (boot_mark setup setting w)) (boot_says setup setting w);
   draws = omega arith;

@@ -4,6 +4,7 @@ use Rattle.std.proofs.Common.{◌≡◌, ◌≢◌, inl, inr, ℕ, zero, suc, �
 use Rattle.std.proofs.lemmas.Bool.{cases_eq, false≢true}
 use Rattle.spk_nums.specs.Setting.{Setting}
 use Rattle.word_map.specs.Word.{Word, EntryAt, FrameAt, CountAt, CoreAt, FlushAt, LiveAt, ClockAt, same_word}
+use Rattle.word_map.specs.Moves.{word_of}
 use Rattle.kernel_rules.specs.State.{Core as CoreFields, Thing, PlaceOf, NumberOf, State, put, thread_in, comp_in, first_of_stack, thread_of, comp_of}
 use Rattle.kernel_rules.specs.References.{sum_below}
 use Rattle.kernel_rules.specs.GracePeriods.{entered, returned}
@@ -117,7 +118,7 @@ pub record IsPlain (setup : Setting) (t : Trace) (e : Step) : Type 0 where
   pub begins : (x : Thing) → begins_at setup t e x ≡ false
   pub ends : (x : Thing) → ends_at t e x ≡ false
   pub flushes : flushes_at t e ≡ false
-  pub apart : (d : ℕ) → same_word (FlushAt d) e.word ≡ false
+  pub apart : (d : ℕ) → same_word (FlushAt d) (word_of e.move) ≡ false
   pub same : clock setup (e ∷ t) ≡ clock setup t
 
 pub plain_time : (setup : Setting) (t : Trace) (e : Step) → IsPlain setup t e → KeepsTime setup t e

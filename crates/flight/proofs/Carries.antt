@@ -8,12 +8,13 @@ use Rattle.spk_nums.specs.declared.kinds.Kind.{Kind}
 use Rattle.spk_nums.specs.declared.calls.Call.{Call}
 use Rattle.spk_nums.specs.declared.calls.Call.TheVariants.{Look as look_call, Copy}
 use Rattle.word_map.specs.Word.{Word, EntryAt}
+use Rattle.word_map.specs.Moves.{word_of}
 use Rattle.stage_look.specs.declared.look.Look.{Look}
 use Rattle.stage_look.specs.declared.look.Look.TheVariants.{AtRoot, AtLeaf, AtEntry}
 use Rattle.kernel_rules.specs.Access.{Slot, Target, Under, InRoot, usable, linked, root_slot, reached}
 use Rattle.kernel_rules.proofs.Facts.{some_inj, none_some}
 use Rattle.kernel_rules.specs.Relies.{Relies}
-use Rattle.kernel_history.specs.Trace.{Step, Trace, Open, phase, state_after, own_left}
+use Rattle.kernel_history.specs.Trace.{Step, Trace, Open, phase, state_after, own_left, own_read}
 use Rattle.kernel_history.specs.Justified.{HasReached}
 use Rattle.kernel_history.specs.Legal.{IsLegal}
 use Rattle.kernel_history.proofs.Names.{cases_word}
@@ -26,7 +27,7 @@ use Rattle.flight.specs.Knows.{IsReached, HasFound, LookIs, LooksUp, KnowsFirst,
 
 -- The words on which a call has stepped, after a step of it.
 pub own_kept : (t : Trace) (e : Step) (c : ℕ) → c ≡ e.core → e.enters ≡ None → (w : Word) → IsSome (own_left t c w) → IsSome (own_left (e ∷ t) c w)
-own_kept t e c own no_entry w had = elim (cases_word w e.word) [
+own_kept t e c own no_entry w had = elim (cases_word w (word_of e.move)) [
   | inl at ↦ ap is_some (own_left-here c e t own w at)
   | inr there ↦ ap is_some (own_left-there c e t own w there ∙ ap (λ o. cond (is_some o) None (own_left t c w)) no_entry) ∙ had
 ]
@@ -113,7 +114,7 @@ module _ (setup : Setting) (setting : IsSetting setup) (t : Trace) (e : Step) (l
   look_knows_on table asked (Second k) look has = second_on table asked k look has
   look_knows_on table asked (target_want k) look has = target_on table asked k look has
 
-  pub fill_on : (table : ℕ) (asked : Call) (node index word : ℕ) (k : Capability) → own_left (e ∷ t) c (EntryAt node index) ≡ own_left t c (EntryAt node index)
+  pub fill_on : (table : ℕ) (asked : Call) (node index word : ℕ) (k : Capability) → own_read (e ∷ t) c (EntryAt node index) ≡ own_read t c (EntryAt node index)
       → KnowsFill setup t c table asked node index word k → KnowsFill setup (e ∷ t) c table asked node index word k
   fill_on table (Copy a u b) node index word k same has = record {
     root = has.root;

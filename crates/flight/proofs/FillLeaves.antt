@@ -1,7 +1,7 @@
 -- The filling compare of a copy is good: it is lost to another core, or the place is free and takes the capability.
-use Rattle.std.proofs.Common.{◌≡◌, ◌≢◌, ◌⊎◌, inl, inr, ℕ, ◌+◌, ◌<◌, ◌==◌, ◌&&◌, ◌++◌, ◌∷◌, [], Bool, true, false, Option, Some, None, arith, refl, sym, ◌∙◌, ap, subst, IsTrue}
-use Rattle.std.specs.Prelude.{IsSome}
-use Rattle.std.proofs.lemmas.Bool.{eqb-true, eqb-false, false≢true}
+use Rattle.std.proofs.Common.{◌≡◌, ◌≢◌, ◌⊎◌, inl, inr, ℕ, ◌+◌, ◌^◌, ◌/◌, ◌%◌, ◌<◌, ◌==◌, ◌&&◌, nat_le, if◌then◌else◌, ◌++◌, ◌∷◌, [], Bool, true, false, Option, Some, None, arith, refl, sym, ◌∙◌, ap, subst, IsTrue}
+use Rattle.std.specs.Prelude.{IsSome, option_to_list}
+use Rattle.std.proofs.lemmas.Bool.{eqb-true, eqb-false, eq-eqb, false≢true}
 use Rattle.std.proofs.lemmas.List.Elements.{All-append}
 use Rattle.spk_nums.specs.Capability.{Capability}
 use Rattle.spk_nums.specs.Setting.{Setting, IsSetting}
@@ -14,20 +14,23 @@ use Rattle.entry_words.specs.declared.entry.Entry.TheVariants.{Free, Held, Closi
 use Rattle.entry_words.specs.EntryWord.{word_of_entry, entry_of_word}
 use Rattle.entry_words.proofs.Spelling.{spelling}
 use Rattle.word_map.specs.Word.{EntryAt}
+use Rattle.word_map.specs.Moves.{Move, CompareOf, left_of}
 use Rattle.spk_nums.specs.WordSteps.{left_if}
 use Rattle.kernel_rules.specs.State.{Place, Free as Vacant, Holds, Quiescing as Removed, Frame, Kernel, Table, Leaf, Pages, Pleaf, Thing, PlaceOf, State, with_place}
-use Rattle.kernel_rules.specs.Access.{Slot, found, Target, Under, any, only, place_at, own}
+use Rattle.kernel_rules.specs.Access.{Slot, Named, found, Target, Under, any, only, place_at, usable_in, linked, slot_in, root_slot, reached, own}
 use Rattle.kernel_rules.specs.Rules.{Found, IsFoundAnd, Vacant as to_be_free, Does, Name, and_then, or_refuse, unless, not_vacant, named, name_of, vacant, outcome, fills}
 use Rattle.kernel_rules.specs.CapabilityCalls.{copy_rule}
-use Rattle.kernel_rules.specs.CallRelation.{changed, change_of, counted, begins_in, state_by}
+use Rattle.kernel_rules.specs.CallRelation.{MayReply, changed, change_of, counted, begins_in, state_by}
 use Rattle.kernel_rules.specs.Laws.{calls_counted}
 use Rattle.kernel_rules.specs.Relies.{is_node}
 use Rattle.kernel_rules.proofs.Within.{put_same}
 use Rattle.kernel_rules.proofs.Apart.{slot_is, place_here, place_there}
 use Rattle.kernel_history.specs.Trace.{Step, Trace, Open, phase, state_after, state_decided_in, last_left, own_left}
-use Rattle.kernel_history.specs.Ways.{way_to, ways, target_of}
-use Rattle.kernel_history.specs.Justified.{HasReached, IsSlot}
-use Rattle.kernel_history.specs.Marks.{entry_mark}
+use Rattle.kernel_history.specs.Ways.{capability_in, led_to, root_passed, way_to, wide_way_to, ways, wide_ways, target_of}
+use Rattle.kernel_history.specs.Discipline.{changes_in_frame}
+use Rattle.kernel_history.specs.Justified.{is_slot_in, HasReached, IsSlot}
+use Rattle.kernel_history.proofs.AloneCalls.{ok_first}
+use Rattle.kernel_history.specs.Marks.{entry_mark, mark_in_frame}
 use Rattle.kernel_history.specs.Stamps.{begins_in as begins_then, stamp}
 use Rattle.stage_look.specs.Shown.{CapNames}
 use Rattle.flight.specs.declared.stages.Stage.TheVariants.{Fill, Exit}
@@ -38,11 +41,12 @@ use Rattle.flight.specs.Words.{PlaceIs, IsFrameWord, WordIs}
 use Rattle.flight.specs.Knows.{HasFound, IsFill, own_in}
 use Rattle.flight.specs.Stands.{times_of, Stands}
 use Rattle.flight.proofs.Carries.{own_kept, slot_relies}
-use Rattle.flight.proofs.Loads.{inner, flight_is, is_flight}
+use Rattle.flight.proofs.Loads.{IsOfCall, inner, flight_is, is_flight}
 use Rattle.flight.proofs.Writes.{writes_entry}
 use Rattle.flight.proofs.Calm.{IsCalm, calm_core, IsPlain}
 use Rattle.flight.proofs.Places.{IsMarked, IsPlain as IsUnmarked, node_mark, place_reads}
 use Rattle.flight.proofs.Refusals.{GoodTook, not_spent, refuses_raced}
+use Rattle.flight.proofs.Lookups.{slot_right, slot_one, near_way}
 use Rattle.flight.proofs.Findings.{own_is, found_named, way_gone}
 use Rattle.flight.proofs.LookLeaves.{at_stage, table_is}
 
@@ -89,6 +93,29 @@ node_word n (Kernel Pages) p r i v node h = λ below. h
 node_word n (Kernel Pleaf) p r i v node h = λ below. h
 node_word n _ p r i v node h = absurd (false≢true node)
 
+-- A copy changes the places of nodes.
+changes_node : (x : Frame) → IsTrue (is_node x) → IsTrue (changes_in_frame (Copy 0 0 0) x)
+changes_node (Kernel Table) node = refl
+changes_node (Kernel Leaf) node = refl
+changes_node (Kernel Pages) node = refl
+changes_node (Kernel Pleaf) node = refl
+changes_node _ node = absurd (false≢true node)
+
+-- A slot that is reached under a number is on the way.
+leads_like : (p : Place) (waits b : Bool) (i : ℕ) (at : Slot) → (if b then slot_in (linked (usable_in p waits)) i else None) ≡ Some at
+    → (if b then slot_in (linked (capability_in p)) i else None) ≡ Some at
+leads_like Vacant waits b i at h = h
+leads_like (Holds k) waits b i at h = h
+leads_like (Removed k) true b i at h = h
+leads_like (Removed k) false true i at h = absurd (cc)
+leads_like (Removed k) false false i at h = h
+
+target_way : (s : State) (c : ℕ) (table : Named) (n : ℕ) (at : Slot) → reached s c (Under table n) ≡ Some at → is_slot_in (wide_way_to s (Under table n)) at.node at.index ≡ true
+target_way s c table n at is = slot_right (root_passed (Under table n)) (option_to_list (led_to s (Under table n))) at.node at.index
+    (ap (λ o. is_slot_in (option_to_list o) at.node at.index)
+    (leads_like (place_at s (root_slot table.frame n)) ((s.grace (PlaceOf table.frame (n / 64))).waits c) (table.found && nat_le n 4095) (n % 64) at is)
+    ∙ slot_one at.node at.index)
+
 module _ (setup : Setting) (setting : IsSetting setup) (cores : ℕ → Core) (t : Trace) (stands : Stands setup cores t) (c : ℕ) (here : c < setup.cores)
     (a u b steps node index word : ℕ) (k : Capability) (flight : (cores c).flight ≡ Some (at_stage (Copy a u b) steps (Fill node index word k)))
     (knows : IsFill setup t c (cores c).table a u b k node index word) where
@@ -122,25 +149,47 @@ module _ (setup : Setting) (setting : IsSetting setup) (cores : ℕ → Core) (t
   target_slot : target_of s c (copy_rule s a u b) ≡ Some slot
   target_slot = ap (λ x. Rattle.kernel_rules.specs.Access.reached s c (Under (name_of x) b)) second_is ∙ knows.way.reached
 
+  -- the compare is one of the call, on a place of its way
+  abbrev compare : Move
+  compare = CompareOf (EntryAt node index) word (word_of_entry (Held k))
+
+  on_way : is_slot_in (wide_ways s c (copy_rule s a u b)) node index ≡ true
+  on_way = slot_right (wide_way_to s (own s c a)) _ node index (slot_right (wide_way_to s (own s c u)) _ node index
+      (subst (λ x. is_slot_in (wide_way_to s (Under (name_of x) b)) node index ≡ true) (sym second_is)
+      (target_way s c (found knows.root) b slot knows.way.reached)))
+
+  of_call : IsOfCall setup t c (Copy a u b) compare
+  of_call = record { moves = changes_node (s.frame node) in_node; near = inl (near_way s c (Copy a u b) node index on_way) }
+
   -- lost
-  lost : was ≢ word → GoodTook setup cores t c f (EntryAt node index) was was (took_fill false)
-  lost changed_since =
-      refuses_raced setup setting cores t stands c here f flight refl refl (is_flight setup setting cores t stands c here f flight).room (EntryAt node index) was refl (λ d. refl)
+  lost : (was == word) ≡ false → GoodTook setup cores t c f compare (took_fill false)
+  lost other =
+      refuses_raced setup setting cores t stands c here f flight refl refl (is_flight setup setting cores t stands c here f flight).room compare
+      (record { of_call = of_call; kept = kept; apart = λ d. refl })
       (record {
         at = inl (subst (λ o. IsSlot o node index) (sym target_slot) (refl, refl));
-        reads = refl;
+        reads = eq-eqb (left_of compare was) was kept;
         own = word;
-        was_own = knows.own;
-        changed = changed_since;
+        has_read = knows.own;
+        changed = eqb-false was word other;
       })
+    where
+      kept : left_of compare was ≡ was
+      kept = ap (λ b. left_if b was (word_of_entry (Held k))) other
 
   -- won
-  module _ (same : was ≡ word) where
+  module _ (equal : (was == word) ≡ true) where
+    same : was ≡ word
+    same = eqb-true was word equal
+
+    leaves : left_of compare was ≡ word_of_entry (Held k)
+    leaves = ap (λ b. left_if b was (word_of_entry (Held k))) equal
+
     abbrev new : ℕ
     new = word_of_entry (Held k)
 
     abbrev e : Step
-    e = inner setup setting cores t stands c here f flight (EntryAt node index) was new (Some (reply.Ok Nothing)) None
+    e = inner setup setting cores t stands c here f flight compare (Some (reply.Ok Nothing)) None
 
     says_free : entry_of_word was ≡ Some Free
     says_free = ap entry_of_word same ∙ knows.free
@@ -230,24 +279,27 @@ module _ (setup : Setting) (setting : IsSetting setup) (cores : ℕ → Core) (t
         own_gone n wanted q has = subst (λ x. HasReached (e ∷ t) c (way_to s c x)) (own_is s c (cores c).table n (table_is setup setting cores t stands c here))
             (way_gone setup t (e ∷ t) c (own_in (cores c).table n) has.at has.way.reached (λ m d h. own_kept t e c refl refl _ (has.way.stepped m d h)))
 
-    won : GoodTook setup cores t c f (EntryAt node index) was new (took_fill true)
-    won fits = writes_entry setup setting cores t stands c here f flight node index was new ((cores c).made + calls_counted (reply.Ok Nothing)) (reply.Ok Nothing) (Exit (reply.Ok Nothing))
-        refl unmarked.mark (node_mark (s.frame node) index new in_node ∙ ap entry_mark new_says) fits refl refl refl calm plain counts elsewhere removed word_now
-        (record {
-          call = Copy a u b;
-          is_open = is_open;
-          permitted = (
-            not_spent setup (cores c) t c (stands.each c here) (is_flight setup setting cores t stands c here f flight).room,
-            copy_answers s c a u b k knows.root slot first_is second_is knows.way.reached free,
-          );
-          justified = gone;
-        })
+    permitted : MayReply s c (Copy a u b) (reply.Ok Nothing)
+    permitted = (
+      not_spent setup (cores c) t c (stands.each c here) (is_flight setup setting cores t stands c here f flight).room,
+      copy_answers s c a u b k knows.root slot first_is second_is knows.way.reached free,
+    )
+
+    won : GoodTook setup cores t c f compare (took_fill true)
+    won lands = writes_entry setup setting cores t stands c here f flight compare node index ((cores c).made + calls_counted (reply.Ok Nothing)) (reply.Ok Nothing) (Exit (reply.Ok Nothing))
+        refl unmarked.mark
+        (ap (mark_in_frame (s.frame node) index) leaves ∙ node_mark (s.frame node) index new in_node ∙ ap entry_mark new_says)
+        (subst (λ (n : ℕ). n < 2 ^ 64) (sym leaves) (spelling.small (Held k) knows.names.first.fits))
+        of_call lands refl refl refl calm plain counts elsewhere removed
+        (subst (WordIs (state_after setup (e ∷ t)) (times_of setup (e ∷ t)) (EntryAt node index)) (sym leaves) word_now)
+        (record { call = Copy a u b; is_open = is_open; permitted = permitted; justified = gone })
+        (λ is_alone. ok_first s c (Copy a u b) Nothing permitted)
         tt
 
   -- the compare
-  pub copy_fill : GoodTook setup cores t c f (EntryAt node index) was (left_if (was == word) was (word_of_entry (Held k))) (took_fill (was == word))
+  pub copy_fill : GoodTook setup cores t c f compare (took_fill (was == word))
   copy_fill = by_test (was == word) refl
     where
-      by_test : (equal : Bool) → (was == word) ≡ equal → GoodTook setup cores t c f (EntryAt node index) was (left_if equal was (word_of_entry (Held k))) (took_fill equal)
-      by_test true is = won (eqb-true was word is)
-      by_test false is = lost (eqb-false was word is)
+      by_test : (equal : Bool) → (was == word) ≡ equal → GoodTook setup cores t c f compare (took_fill equal)
+      by_test true is = won is
+      by_test false is = lost is

@@ -22,12 +22,14 @@ use Rattle.kernel_history.proofs.Inside.{inside_is}
 use Rattle.kernel_history.proofs.Stays.{sound_of}
 use Rattle.flight.specs.View.{Core}
 use Rattle.flight.specs.Steps.{end_of}
-use Rattle.flight.specs.Holding.{marked_by, settled_by}
+use Rattle.kernel_history.specs.Marking.{marked_by}
+use Rattle.flight.specs.Holding.{settled_by}
 use Rattle.flight.specs.Words.{PlaceIs, IsFrameWord, NumberIs, WordIs}
 use Rattle.flight.specs.Knows.{FlightIs, WorksIn}
 use Rattle.flight.specs.Stands.{held_by, times_of}
 use Rattle.flight.specs.Theorems.{SaysWords, Represents}
-use Rattle.flight.proofs.Places.{IsMarked, IsPlain, place_reads, marker_inside}
+use Rattle.flight.proofs.Markers.{marker_inside}
+use Rattle.flight.proofs.Places.{IsMarked, IsPlain, place_reads}
 
 sound_node : (x : Frame) → IsTrue (is_node x) → IsTrue (is_sound_node x)
 sound_node Untyped h = absurd (false≢true h)

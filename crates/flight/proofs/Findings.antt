@@ -1,5 +1,5 @@
 -- What a look-up that has arrived has found: the name of a call, or the place of its target.
-use Rattle.std.proofs.Common.{◌≡◌, ℕ, ◌&&◌, ◌||◌, ◌++◌, ◌∷◌, [], Bool, true, false, not, nat_le, if◌then◌else◌, Option, Some, None, refl, sym, ◌∙◌, ap, subst, IsTrue, IsFalse}
+use Rattle.std.proofs.Common.{◌≡◌, ℕ, ◌%◌, ◌&&◌, ◌||◌, ◌++◌, ◌∷◌, [], Bool, true, false, not, nat_le, if◌then◌else◌, Option, Some, None, refl, sym, ◌∙◌, ap, subst, IsTrue, IsFalse}
 use Rattle.std.specs.Prelude.{IsSome, IsSomeAnd, is_some, option_to_list}
 use Rattle.std.proofs.lemmas.Bool.{leb-false, lt-ltb}
 use Rattle.std.proofs.lemmas.List.Elements.{All-nil, All-cons, All-append}
@@ -10,9 +10,10 @@ use Rattle.spk_nums.specs.declared.replies.Reply.TheVariants as reply
 use Rattle.entry_words.specs.EntryWord.{EntryFits}
 use Rattle.entry_words.specs.declared.entry.Entry.TheVariants.{Held}
 use Rattle.word_map.specs.Word.{EntryAt}
-use Rattle.kernel_rules.specs.State.{Holds, PlaceOf, State, comp_of}
+use Rattle.word_map.specs.Moves.{LoadOf, word_of}
+use Rattle.kernel_rules.specs.State.{Free as Vacant, Holds, Quiescing as Removed, PlaceOf, State, comp_of}
 use Rattle.kernel_rules.specs.Access.{Slot, Named, found, Target, Under, InRoot, place_at, held_in, usable_in, usable, reached, has_no_slot, own}
-use Rattle.kernel_rules.specs.Rules.{Found, and_then, or_refuse, of_kind, named, name_of, ReachesNone, ReachesHeld, ReachesOther}
+use Rattle.kernel_rules.specs.Rules.{Refused, Found, and_then, or_refuse, of_kind, named, ReachesNone, ReachesHeld, ReachesOther}
 use Rattle.kernel_history.specs.Trace.{Step, Trace, state_after, own_left}
 use Rattle.kernel_history.specs.Ways.{root_passed, way_to}
 use Rattle.kernel_history.specs.Justified.{HasReached}
@@ -20,7 +21,8 @@ use Rattle.kernel_history.proofs.Steps.{own_left-here}
 use Rattle.flight.specs.Knows.{IsReached, HasFound, own_in}
 use Rattle.flight.proofs.Carries.{own_kept}
 use Rattle.flight.proofs.Loads.{step_to}
-use Rattle.flight.proofs.Lookups.{Arrives}
+use Rattle.flight.proofs.Refusals.{NobodyWaits}
+use Rattle.flight.proofs.Lookups.{Arrives, use_removed}
 
 -- the target of an own name
 pub own_is : (s : State) (c table n : ℕ) → table ≡ (comp_of s c).table → own_in table n ≡ own s c n
@@ -55,7 +57,39 @@ pub named_of : (s : State) (c n : ℕ) (wanted : Kind → Bool) (at : Slot) (k :
 named_of s c n wanted at k r u w =
     ap (λ x. and_then (or_refuse x reply.NoSlot) λ at. and_then (or_refuse (usable s c at) reply.Empty) λ k. of_kind wanted k) r
     ∙ ap (λ x. and_then (or_refuse x reply.Empty) λ k. of_kind wanted k) u
-    ∙ ap (λ b. if b then Found k else Rattle.kernel_rules.specs.Rules.Refused reply.WrongCap) w
+    ∙ ap (λ b. if b then Found k else Refused reply.WrongCap) w
+
+-- And refused where it reaches no slot, may use nothing there, or a capability of another kind.
+pub named_no_slot : (s : State) (c n : ℕ) (wanted : Kind → Bool) → reached s c (own s c n) ≡ None → named s c n wanted ≡ Refused reply.NoSlot
+named_no_slot s c n wanted r =
+    ap (λ x. and_then (or_refuse x reply.NoSlot) λ at. and_then (or_refuse (usable s c at) reply.Empty) λ k. of_kind wanted k) r
+
+pub named_empty : (s : State) (c n : ℕ) (wanted : Kind → Bool) (at : Slot) → reached s c (own s c n) ≡ Some at → usable s c at ≡ None → named s c n wanted ≡ Refused reply.Empty
+named_empty s c n wanted at r u =
+    ap (λ x. and_then (or_refuse x reply.NoSlot) λ at. and_then (or_refuse (usable s c at) reply.Empty) λ k. of_kind wanted k) r
+    ∙ ap (λ x. and_then (or_refuse x reply.Empty) λ k. of_kind wanted k) u
+
+pub named_wrong : (s : State) (c n : ℕ) (wanted : Kind → Bool) (at : Slot) (k : Capability) → reached s c (own s c n) ≡ Some at → usable s c at ≡ Some k
+    → wanted k.kind ≡ false → named s c n wanted ≡ Refused reply.WrongCap
+named_wrong s c n wanted at k r u w =
+    ap (λ x. and_then (or_refuse x reply.NoSlot) λ at. and_then (or_refuse (usable s c at) reply.Empty) λ k. of_kind wanted k) r
+    ∙ ap (λ x. and_then (or_refuse x reply.Empty) λ k. of_kind wanted k) u
+    ∙ ap (λ b. if b then Found k else Refused reply.WrongCap) w
+
+-- A number past its range reaches no slot.
+pub past_unreached : (s : State) (c : ℕ) (table : Named) (n : ℕ) → nat_le n 4095 ≡ false → reached s c (Under table n) ≡ None
+past_unreached s c table n past = by_found table.found
+  where
+    by_found : (b : Bool) → (if b && nat_le n 4095 then Rattle.kernel_rules.specs.Access.slot_in (Rattle.kernel_rules.specs.Access.linked (usable s c (Rattle.kernel_rules.specs.Access.root_slot table.frame n))) (n % 64) else None) ≡ None
+    by_found true = ap (λ b. if b then Rattle.kernel_rules.specs.Access.slot_in (Rattle.kernel_rules.specs.Access.linked (usable s c (Rattle.kernel_rules.specs.Access.root_slot table.frame n))) (n % 64) else None) past
+    by_found false = refl
+
+-- Of a free place nothing may be used, nor of one that is removed where the core does not wait.
+pub use_free : (s : State) (c : ℕ) (at : Slot) → place_at s at ≡ Vacant → usable s c at ≡ None
+use_free s c at is = ap (λ p. usable_in p ((s.grace (PlaceOf at.node at.index)).waits c)) is
+
+pub use_removed_at : (s : State) (c : ℕ) (at : Slot) (k : Capability) → place_at s at ≡ Removed k → NobodyWaits s → usable s c at ≡ None
+use_removed_at s c at k is nobody = use_removed (place_at s at) k ((s.grace (PlaceOf at.node at.index)).waits c) is (nobody (PlaceOf at.node at.index) c)
 
 pub found_named : (setup : Setting) (t : Trace) (c table n : ℕ) (wanted : Kind → Bool) (k : Capability) → table ≡ (comp_of (state_after setup t) c).table
     → HasFound setup t c (own_in table n) wanted k → named (state_after setup t) c n wanted ≡ Found k
@@ -69,7 +103,7 @@ pub way_gone : (setup : Setting) (t : Trace) (d : Trace) (c : ℕ) (target : Tar
 way_gone setup t d c target at is had = subst (λ o. HasReached d c (root_passed target ++ option_to_list o)) (sym is) had
 
 -- The call has gone the whole way with the step that arrives.
-pub gone_with : (setup : Setting) (t : Trace) (c : ℕ) (target : Target) (at : Slot) (e : Step) → c ≡ e.core → EntryAt at.node at.index ≡ e.word
+pub gone_with : (setup : Setting) (t : Trace) (c : ℕ) (target : Target) (at : Slot) (e : Step) → c ≡ e.core → EntryAt at.node at.index ≡ word_of e.move
     → ((w : Rattle.word_map.specs.Word.Word) → IsSome (own_left t c w) → IsSome (own_left (e ∷ t) c w)) → Arrives setup t c target at
     → HasReached (e ∷ t) c (root_passed target ++ at ∷ [])
 gone_with setup t c target at e own word stays arrives =
@@ -81,7 +115,7 @@ gone_with setup t c target at e own word stays arrives =
 -- The undecided load at which it arrives.
 module _ (setup : Setting) (t : Trace) (c : ℕ) (target : Target) (at : Slot) (found : ℕ) (arrives : Arrives setup t c target at) where
   abbrev pub arriving : Step
-  arriving = step_to c None (EntryAt at.node at.index) found found None None
+  arriving = step_to c None (LoadOf (EntryAt at.node at.index)) found None None
 
   pub reached_now : IsReached setup (arriving ∷ t) c target at
   reached_now = record {

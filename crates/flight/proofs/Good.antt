@@ -1,23 +1,28 @@
 -- What a step must show, and why the cores then stand for the trace with it. Calls are not looked at here.
 use Rattle.std.proofs.Common.{◌≡◌, ◌≢◌, inl, inr, ℕ, ◌+◌, ◌<◌, ◌≤◌, ◌∷◌, length, Option, Some, None, arith, refl, sym, ◌∙◌, ap, subst}
-use Rattle.std.proofs.lemmas.Bool.{cases_eq}
+use Rattle.std.proofs.lemmas.Bool.{cases_eq, true≢false}
 use Rattle.spk_nums.specs.Capability.{Capability}
 use Rattle.spk_nums.specs.Setting.{Setting, IsSetting}
 use Rattle.spk_nums.specs.declared.calls.Call.{Call}
 use Rattle.word_map.specs.Word.{Word, EntryAt}
 use Rattle.kernel_rules.specs.State.{Quiescing, put, first_of_stack}
 use Rattle.kernel_rules.proofs.Within.{put_same, put_other}
-use Rattle.kernel_history.specs.Trace.{Step, Trace, Open, phase, state_after}
+use Rattle.kernel_history.specs.Trace.{Step, Trace, Out, Open, phase, state_after}
 use Rattle.kernel_history.specs.Bounds.{IsWithin}
-use Rattle.kernel_history.specs.Legal.{MayFollow}
+use Rattle.kernel_history.specs.Marking.{marked_by}
+use Rattle.kernel_history.specs.Discipline.{IsDisciplined}
+use Rattle.kernel_history.specs.Footprint.{StepsNear}
+use Rattle.kernel_history.specs.Alone.{AnswersAlone}
+use Rattle.kernel_history.specs.Legal.{MayEnter, MayFollow}
 use Rattle.kernel_history.specs.Stamps.{is_in, clock}
-use Rattle.kernel_history.proofs.Steps.{phase-other, calls_of-other, steps_in_call-other, own_left-other, exit_of-other, flush_of-other, flush_stored-other}
+use Rattle.kernel_history.proofs.Steps.{phase-other, calls_of-other, steps_in_call-other, own_read-other, exit_of-other, flush_of-other, flush_stored-other}
 use Rattle.kernel_history.specs.Graces.{KeepsTime, LeavesBy}
 use Rattle.kernel_rules.proofs.Stays.{OwnStay}
 use Rattle.kernel_history.proofs.Stays.{own_stays_other}
 use Rattle.kernel_history.proofs.Inside.{inside_is}
 use Rattle.kernel_history.proofs.GraceSteps.{grace_on, times_on}
 use Rattle.kernel_history.proofs.Waiting.{leave_on}
+use Rattle.kernel_history.proofs.Markings.{marked_on}
 use Rattle.kernel_history.proofs.Carries.{Carries, carries_other}
 use Rattle.flight.specs.declared.stages.Stage.{Stage}
 use Rattle.flight.specs.declared.stages.Stage.TheVariants.{Enter, Looking, Fill, Exit, Leave}
@@ -27,12 +32,17 @@ use Rattle.flight.specs.Holding.{settled, MarkIs}
 use Rattle.flight.specs.Words.{WordIs}
 use Rattle.flight.specs.Knows.{phase_at, FlightIs, Knows, WorksIn, CoreIs}
 use Rattle.flight.specs.Stands.{held_by, times_of, counted_in, Stands}
+use Rattle.flight.proofs.Markers.{marker_inside}
 use Rattle.flight.proofs.Carries.{look_knows_on, fill_on}
 
--- A good step: it may follow, keeps its call's bound, and leaves marks, words, time and its own core as they are to be.
+-- A good step: it may follow, keeps its call's bound, answers in order where its call is alone, keeps the discipline and its call's
+-- footprint, and leaves marks, words, time and its own core as they are to be.
 pub record IsGood (setup : Setting) (cores : ℕ → Core) (t : Trace) (e : Step) (after : Core) : Type 0 where
   pub follows : MayFollow setup t e
   pub within : IsWithin setup.cores t e
+  pub alone : AnswersAlone setup t e
+  pub disciplined : IsDisciplined setup t e
+  pub near : StepsNear setup t e
   pub marks : (w : Word) (d : ℕ) → MarkIs setup (held_by (put cores e.core after)) (e ∷ t) w d
   pub words : (w : Word) → WordIs (state_after setup (e ∷ t)) (times_of setup (e ∷ t)) w (settled setup (held_by (put cores e.core after)) (e ∷ t) w)
   pub draws : clock setup (e ∷ t) ≤ 1 + counted_in setup (state_after setup (e ∷ t))
@@ -67,7 +77,7 @@ module _ (setup : Setting) (setting : IsSetting setup) (cores : ℕ → Core) (t
   knows_other follows time c table f other (Looking want look) is at has =
       look_knows_on setup setting t e stands.legal c f.call at (open_carries follows time c f.call other at) table f.call want look has
   knows_other follows time c table f other (Fill node index word k) is at has =
-      fill_on setup setting t e stands.legal c f.call at (open_carries follows time c f.call other at) table f.call node index word k (own_left-other c e t other (EntryAt node index)) has
+      fill_on setup setting t e stands.legal c f.call at (open_carries follows time c f.call other at) table f.call node index word k (own_read-other c e t other (EntryAt node index)) has
   knows_other follows time c table f other (Exit r) is at has = has
   knows_other follows time c table f other (Leave r x) is at has =
       leave_on setup t e follows time stands.graces c x other (inside_is setup t c ∙ ap is_in at) has
@@ -92,12 +102,20 @@ module _ (setup : Setting) (setting : IsSetting setup) (cores : ℕ → Core) (t
     flight = flight_other follows time c core.table other core.flight is.flight;
   }
 
+  -- no word carries the mark of a core that is between calls
+  bare : (call : Call) → e.enters ≡ Some call → phase t e.core ≡ Out → (w : Word) → marked_by setup t w ≢ Some e.core
+  bare call is out w h = true≢false (sym (marker_inside setup cores t stands w e.core h) ∙ inside_is setup t e.core ∙ ap is_in out)
+
   -- a good step leaves cores that stand for the trace with it
   pub stands_on : (after : Core) → IsGood setup cores t e after → Stands setup (put cores e.core after) (e ∷ t)
   stands_on after good = record {
     legal = (stands.legal, good.follows);
     bounds = (stands.bounds, good.within);
+    alone = (stands.alone, good.alone);
+    discipline = (stands.discipline, good.disciplined);
+    footprints = (stands.footprints, good.near);
     marks = good.marks;
+    marked = marked_on setup t e good.disciplined.marks (λ call is w. bare call is (subst (λ o. MayEnter o (phase t e.core)) is good.follows.enters).0 w) stands.marked;
     words = good.words;
     draws = good.draws;
     some_time = (let a = stands.some_time in let b = good.time.rises in omega arith);

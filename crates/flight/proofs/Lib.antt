@@ -1,8 +1,10 @@
 pub mod CoreFits
+pub mod Spelling
 pub mod Ready
 pub mod Sounds
 pub mod WordFrames
 pub mod Carries
+pub mod Markers
 pub mod Good
 pub mod Calm
 pub mod Loads
@@ -18,5 +20,7 @@ pub mod Entries
 pub mod Boot
 pub mod Advance
 pub mod Final
+pub mod Made
 pub mod Turns
+pub mod Phases
 pub mod Unready

@@ -1,25 +1,33 @@
 -- The ways in which a call in flight makes a step that leaves its word as found: it goes on undecided, or it is decided with a
 -- reply that leaves all as it was but the count of calls.
-use Rattle.std.proofs.Common.{◌≡◌, ◌≢◌, ℕ, ◌+◌, ◌<◌, ◌≤◌, false, ◌∷◌, Option, Some, None, arith, refl, sym, ◌∙◌, ap, subst}
+use Rattle.std.proofs.Common.{◌≡◌, ◌≢◌, ◌⊎◌, ℕ, ◌+◌, ◌^◌, ◌<◌, ◌≤◌, false, ◌∷◌, Option, Some, None, arith, refl, sym, ◌∙◌, ap, subst}
 use Rattle.spk_nums.specs.Bounds.{bound_of}
 use Rattle.spk_nums.specs.Setting.{Setting, IsSetting}
 use Rattle.spk_nums.specs.declared.calls.Call.{Call}
 use Rattle.spk_nums.specs.declared.replies.Reply.{Reply}
 use Rattle.word_map.specs.Word.{Word, FlushAt, ClockAt, same_word}
+use Rattle.word_map.specs.Places.{IsIn, shared}
+use Rattle.word_map.specs.Moves.{Move, word_of, left_of}
 use Rattle.kernel_rules.specs.State.{Thing}
 use Rattle.kernel_rules.specs.CallRelation.{MayReply, state_by, counted, begins, ends, flushes}
+use Rattle.kernel_rules.specs.Alone.{alone}
 use Rattle.kernel_rules.specs.Laws.{calls_counted}
 use Rattle.kernel_rules.proofs.Within.{put_same}
 use Rattle.kernel_history.proofs.Inside.{decided-inside}
-use Rattle.kernel_history.specs.Trace.{Step, Trace, Out, Open, phase, after_decide, after_return, state_after, state_decided_in, last_left, steps_in_call}
+use Rattle.kernel_history.specs.Trace.{Step, Trace, Out, Open, phase, after_decide, after_return, state_after, state_decided_in, last_left, steps_in_call, WasAt}
+use Rattle.kernel_history.specs.BootWords.{shape_of}
+use Rattle.kernel_history.specs.Discipline.{MayMove, MarksOwn, KeepsMarked, IsDisciplined}
+use Rattle.kernel_history.specs.Footprint.{IsNearIn, StepsNear}
+use Rattle.kernel_history.specs.Alone.{IsAlone, IsFirst}
 use Rattle.kernel_history.specs.Bounds.{call_in, IsWithin}
 use Rattle.kernel_history.specs.Justified.{IsJustified}
 use Rattle.kernel_history.specs.Legal.{MayFollow}
 use Rattle.kernel_history.proofs.Carries.{Carries, carries_own}
 use Rattle.kernel_history.specs.Stamps.{begins_in, ends_in, flushes_in}
+use Rattle.kernel_history.proofs.Small.{last_small}
 use Rattle.kernel_history.proofs.Steps.{phase-own, steps_in_call-own}
 use Rattle.flight.specs.declared.stages.Stage.{Stage}
-use Rattle.flight.specs.declared.stages.Stage.TheVariants.{Enter, Looking, Fill, Exit, Leave}
+use Rattle.flight.specs.declared.stages.Stage.TheVariants.{Exit}
 use Rattle.flight.specs.declared.stages.InFlight.{InFlight}
 use Rattle.flight.specs.View.{Core}
 use Rattle.flight.specs.Steps.{went}
@@ -27,17 +35,17 @@ use Rattle.flight.specs.Fits.{IsCore, IsFlight, FlightFits, left_for, left_in, s
 use Rattle.flight.specs.Knows.{phase_at, Knows, InFlightIs, FlightIs, CoreIs}
 use Rattle.flight.specs.Stands.{holds_at, holds_in, holds, Stands}
 use Rattle.flight.proofs.CoreFits.{absorbed_fewer}
-use Rattle.flight.proofs.WordFrames.{load_keeps, load_marks, load_words}
+use Rattle.flight.proofs.Markers.{phase_in, phase_call}
+use Rattle.flight.proofs.WordFrames.{marks_own, load_keeps, load_marks, load_words}
 use Rattle.flight.proofs.Good.{IsGood}
 use Rattle.flight.proofs.Calm.{IsCalm, calm_same, calm_counted, calm_own, calm_words, counted_rises, IsPlain, plain_time, plain_exit, plain_flushed}
 
 -- A step of core c.
-abbrev pub step_to : ℕ → Option Call → Word → ℕ → ℕ → Option Reply → Option Reply → Step
-step_to c enters w found left decides returns = record {
+abbrev pub step_to : ℕ → Option Call → Move → ℕ → Option Reply → Option Reply → Step
+step_to c enters move found decides returns = record {
   core = c;
-  word = w;
+  move = move;
   found = found;
-  left = left;
   enters = enters;
   decides = decides;
   returns = returns;
@@ -47,20 +55,22 @@ step_to c enters w found left decides returns = record {
 abbrev pub core_at : Core → InFlight → ℕ → Stage → Core
 core_at core f made stage = record core { made = made; flight = Some (went f stage) }
 
--- A call that has entered is in its phase.
-pub phase_in : (setup : Setting) (t : Trace) (c table : ℕ) (call : Call) (stage : Stage) → Knows setup t c table call stage → phase_at call stage ≢ Out
-phase_in setup t c table call Enter knows = absurd knows
-phase_in setup t c table call (Looking want look) knows = λ h. cc
-phase_in setup t c table call (Fill node index word k) knows = λ h. cc
-phase_in setup t c table call (Exit r) knows = λ h. cc
-phase_in setup t c table call (Leave r x) knows = λ h. cc
+-- The core behind a step is in its ranges, and the word of the step is one of the machine, by the one name of its place.
+pub record Lands (setup : Setting) (core : Core) (w : Word) : Type 0 where
+  pub fits : IsCore core
+  pub is_in : IsIn (shape_of setup) w
+  pub is_named : shared w ≡ w
 
-pub phase_call : (setup : Setting) (t : Trace) (c table : ℕ) (call : Call) (stage : Stage) → Knows setup t c table call stage → call_in (phase_at call stage) ≡ Some call
-phase_call setup t c table call Enter knows = absurd knows
-phase_call setup t c table call (Looking want look) knows = refl
-phase_call setup t c table call (Fill node index word k) knows = refl
-phase_call setup t c table call (Exit r) knows = refl
-phase_call setup t c table call (Leave r x) knows = refl
+-- The operation is one of the call, and its word is in the call's footprint.
+pub record IsOfCall (setup : Setting) (t : Trace) (c : ℕ) (call : Call) (move : Move) : Type 0 where
+  pub moves : MayMove (state_after setup t) c call move
+  pub near : IsNearIn c call (word_of move) (state_after setup t) ⊎ WasAt (IsNearIn c call (word_of move)) setup t c
+
+-- And it leaves its word as found, which is no flush word.
+pub record OnlyLooks (setup : Setting) (t : Trace) (c : ℕ) (call : Call) (move : Move) : Type 0 where
+  pub of_call : IsOfCall setup t c call move
+  pub kept : left_of move (last_left setup t (word_of move)) ≡ last_left setup t (word_of move)
+  pub apart : (d : ℕ) → same_word (FlushAt d) (word_of move) ≡ false
 
 -- The call f of core c is in flight.
 module _ (setup : Setting) (setting : IsSetting setup) (cores : ℕ → Core) (t : Trace) (stands : Stands setup cores t) (c : ℕ) (here : c < setup.cores)
@@ -87,18 +97,27 @@ module _ (setup : Setting) (setting : IsSetting setup) (cores : ℕ → Core) (t
   in_call out = phase_in setup t c (cores c).table f.call f.stage flight_is.knows (sym flight_is.phase ∙ out)
 
   -- a step within the call keeps the bound, and leaves its core at the next stage unless it returns
-  module _ (w : Word) (found left : ℕ) (decides returns : Option Reply) where
+  module _ (move : Move) (decides returns : Option Reply) where
     abbrev pub inner : Step
-    inner = step_to c None w found left decides returns
+    inner = step_to c None move (last_left setup t (word_of move)) decides returns
+
+    is_of : call_in (phase t c) ≡ Some f.call
+    is_of = ap call_in flight_is.phase ∙ phase_call setup t c (cores c).table f.call f.stage flight_is.knows
 
     pub inner_within : IsWithin setup.cores t inner
     inner_within = record {
       call = f.call;
-      is_of = ap call_in flight_is.phase ∙ phase_call setup t c (cores c).table f.call f.stage flight_is.knows;
+      is_of = is_of;
       steps = (let a = has_room in
           let b : steps_in_call (inner ∷ t) c ≡ f.steps + 1 = steps_in_call-own c inner t refl ∙ ap (λ (n : ℕ). n + 1) flight_is.steps in
           omega arith);
     }
+
+    pub inner_disciplined : IsOfCall setup t c f.call move → MarksOwn setup t inner → KeepsMarked setup t inner → IsDisciplined setup t inner
+    inner_disciplined of_call marks keeps = record { call = f.call; is_of = is_of; moves = of_call.moves; marks = marks; keeps = keeps }
+
+    pub inner_near : IsOfCall setup t c f.call move → StepsNear setup t inner
+    inner_near of_call = record { call = f.call; is_of = is_of; near = of_call.near }
 
     pub inner_own : returns ≡ None → IsPlain setup t inner → (made : ℕ) (stage : Stage) → IsCore (core_at (cores c) f made stage) → IsCalm (state_after setup t) (state_after setup (inner ∷ t)) c
         → made ≡ ((state_after setup (inner ∷ t)).core c).counted → after_decide decides (phase_at f.call f.stage) ≡ phase_at f.call stage
@@ -123,45 +142,66 @@ module _ (setup : Setting) (setting : IsSetting setup) (cores : ℕ → Core) (t
     pub still_holds : (made : ℕ) (stage : Stage) → holds_at stage (cores c).core ≡ holds_at f.stage (cores c).core → holds (core_at (cores c) f made stage) ≡ holds (cores c)
     still_holds made stage same = same ∙ ap (λ o. holds_in o (cores c).core) (sym flight)
 
+    -- a step that leaves its word as found leaves one of 64 bits
+    pub kept_small : left_of move (last_left setup t (word_of move)) ≡ last_left setup t (word_of move) → left_of move (last_left setup t (word_of move)) < 2 ^ 64
+    kept_small kept = subst (λ (n : ℕ). n < 2 ^ 64) (sym kept) (last_small setup setting t stands.legal (word_of move))
+
   -- An undecided load, after which the call is at this stage; what it knew it still knows.
-  pub loads_on : (w : Word) (found : ℕ) (stage : Stage) → found ≡ last_left setup t w → ((d : ℕ) → same_word (FlushAt d) w ≡ false)
-      → IsCore (core_at (cores c) f (cores c).made stage) → holds_at stage (cores c).core ≡ holds_at f.stage (cores c).core → phase_at f.call f.stage ≡ phase_at f.call stage
-      → (Carries setup t (inner w found found None None) c → Knows setup (inner w found found None None ∷ t) c (cores c).table f.call stage)
-      → IsGood setup cores t (inner w found found None None) (core_at (cores c) f (cores c).made stage)
-  loads_on w found stage is apart fits same at knows =
-      let e : Step = inner w found found None None in
-      let still = still_holds w found found None None (cores c).made stage same in
+  pub loads_on : (move : Move) (stage : Stage) → OnlyLooks setup t c f.call move
+      → Lands setup (core_at (cores c) f (cores c).made stage) (word_of move) → holds_at stage (cores c).core ≡ holds_at f.stage (cores c).core → phase_at f.call f.stage ≡ phase_at f.call stage
+      → (Carries setup t (inner move None None) c → Knows setup (inner move None None ∷ t) c (cores c).table f.call stage)
+      → IsGood setup cores t (inner move None None) (core_at (cores c) f (cores c).made stage)
+  loads_on move stage looks lands same at knows =
+      let e : Step = inner move None None in
+      let after : Core = core_at (cores c) f (cores c).made stage in
+      let still = still_holds move None None (cores c).made stage same in
       let plain : IsPlain setup t e = record {
         begins = λ x. refl;
         ends = λ x. refl;
         flushes = refl;
-        apart = apart;
-        same = load_keeps setup cores t e (core_at (cores c) f (cores c).made stage) still (λ g. refl) is ClockAt;
+        apart = looks.apart;
+        same = load_keeps setup cores t e after still (λ g. refl) looks.kept ClockAt;
       } in
-      let follows : MayFollow setup t e = record { is_core = here; found = is; enters = tt; in_call = in_call; decides = tt; returns = tt } in record {
+      let follows : MayFollow setup t e = record {
+        is_core = here;
+        is_in = lands.is_in;
+        is_named = lands.is_named;
+        found = refl;
+        small = kept_small move None None looks.kept;
+        enters = tt;
+        in_call = in_call;
+        decides = tt;
+        returns = tt;
+      } in
+      let marks = load_marks setup cores t e after still (λ g. refl) looks.kept stands.marks in record {
         follows = follows;
-        within = inner_within w found found None None;
-        marks = load_marks setup cores t e (core_at (cores c) f (cores c).made stage) still (λ g. refl) is stands.marks;
-        words = load_words setup cores t e (core_at (cores c) f (cores c).made stage) still (λ g. refl) is
+        within = inner_within move None None;
+        alone = λ a. tt;
+        disciplined = inner_disciplined move None None looks.of_call (marks_own setup cores t e after (λ w there. ap (λ h. h.marks w) still) stands.marks marks) (λ d m other. looks.kept);
+        near = inner_near move None None looks.of_call;
+        marks = marks;
+        words = load_words setup cores t e after still (λ g. refl) looks.kept
             (λ v. calm_words setup t e (calm_same (state_after setup t) c) plain v (λ g i h. refl) (λ d h. (refl, plain_exit t e refl d))) stands.words;
         draws = (let a = stands.draws in let b = plain.same in omega arith);
         none_removed = stands.none_removed;
         time = plain_time setup t e plain;
         leaves = tt;
-        own = inner_own w found found None None refl plain (cores c).made stage fits (calm_same (state_after setup t) c) core_is.works.made at (knows (carries_own setup t e follows (plain_time setup t e plain) stands.graces refl refl refl));
+        own = inner_own move None None refl plain (cores c).made stage lands.fits (calm_same (state_after setup t) c) core_is.works.made at
+            (knows (carries_own setup setting t stands.legal e follows (plain_time setup t e plain) stands.graces refl refl refl));
       }
 
   -- A decision at a load or at a lost compare, which leaves all as it was but counts the call.
-  pub decides_on : (w : Word) (found : ℕ) (r : Reply) → found ≡ last_left setup t w → ((d : ℕ) → same_word (FlushAt d) w ≡ false)
-      → IsCore (core_at (cores c) f ((cores c).made + calls_counted r) (Exit r)) → holds_at (Exit r) (cores c).core ≡ holds_at f.stage (cores c).core
+  pub decides_on : (move : Move) (r : Reply) → OnlyLooks setup t c f.call move
+      → Lands setup (core_at (cores c) f ((cores c).made + calls_counted r) (Exit r)) (word_of move) → holds_at (Exit r) (cores c).core ≡ holds_at f.stage (cores c).core
       → phase_at f.call f.stage ≡ Open f.call → state_by (state_after setup t) c f.call r ≡ counted (state_after setup t) c → calls_counted r ≡ 1
       → ((x : Thing) → begins (state_after setup t) c f.call r x ≡ false) → ((x : Thing) → ends f.call r x ≡ false) → flushes f.call r ≡ false
-      → MayReply (state_after setup t) c f.call r → IsJustified setup t (inner w found found (Some r) None) f.call r
-      → IsGood setup cores t (inner w found found (Some r) None) (core_at (cores c) f ((cores c).made + calls_counted r) (Exit r))
-  decides_on w found r is apart fits same opens state one none_begins none_ends no_flush permitted justified =
-      let e : Step = inner w found found (Some r) None in
+      → MayReply (state_after setup t) c f.call r → IsJustified setup t (inner move (Some r) None) f.call r
+      → (IsAlone t (inner move (Some r) None) → r ≡ alone (state_after setup t) c f.call)
+      → IsGood setup cores t (inner move (Some r) None) (core_at (cores c) f ((cores c).made + calls_counted r) (Exit r))
+  decides_on move r looks lands same opens state one none_begins none_ends no_flush permitted justified first =
+      let e : Step = inner move (Some r) None in
       let after : Core = core_at (cores c) f ((cores c).made + calls_counted r) (Exit r) in
-      let still = still_holds w found found (Some r) None ((cores c).made + calls_counted r) (Exit r) same in
+      let still = still_holds move (Some r) None ((cores c).made + calls_counted r) (Exit r) same in
       let is_open : phase t c ≡ Open f.call = flight_is.phase ∙ opens in
       let now : state_after setup (e ∷ t) ≡ counted (state_after setup t) c = ap (λ p. state_decided_in p r (state_after setup t) c) is_open ∙ state in
       let calm : IsCalm (state_after setup t) (state_after setup (e ∷ t)) c = subst (λ s. IsCalm (state_after setup t) s c) (sym now) (calm_counted (state_after setup t) c) in
@@ -169,35 +209,42 @@ module _ (setup : Setting) (setting : IsSetting setup) (cores : ℕ → Core) (t
         begins = λ x. ap (λ p. begins_in (Some r) p (state_after setup t) c x) is_open ∙ none_begins x;
         ends = λ x. ap (λ p. ends_in (Some r) p x) is_open ∙ none_ends x;
         flushes = ap (flushes_in (Some r)) is_open ∙ no_flush;
-        apart = apart;
-        same = load_keeps setup cores t e after still calm.frame is ClockAt;
-      } in record {
+        apart = looks.apart;
+        same = load_keeps setup cores t e after still calm.frame looks.kept ClockAt;
+      } in
+      let marks = load_marks setup cores t e after still calm.frame looks.kept stands.marks in record {
         follows = record {
           is_core = here;
-          found = is;
+          is_in = lands.is_in;
+          is_named = lands.is_named;
+          found = refl;
+          small = kept_small move (Some r) None looks.kept;
           enters = tt;
           in_call = in_call;
           decides = record { call = f.call; is_open = is_open; permitted = permitted; justified = justified };
           returns = tt;
         };
-        within = inner_within w found found (Some r) None;
-        marks = load_marks setup cores t e after still calm.frame is stands.marks;
-        words = load_words setup cores t e after still calm.frame is
+        within = inner_within move (Some r) None;
+        alone = λ a. subst (IsFirst setup t e (Some r)) (sym is_open) (first a);
+        disciplined = inner_disciplined move (Some r) None looks.of_call (marks_own setup cores t e after (λ w there. ap (λ h. h.marks w) still) stands.marks marks) (λ d m other. looks.kept);
+        near = inner_near move (Some r) None looks.of_call;
+        marks = marks;
+        words = load_words setup cores t e after still calm.frame looks.kept
             (λ v. calm_words setup t e calm plain v (λ g i h. ap (λ s. s.place g i) now)
             (λ d h. (decided-inside (Some r) (phase t c) (state_after setup t) c d, plain_exit t e refl d))) stands.words;
         draws = (let a = stands.draws in let b = plain.same in let g = counted_rises setup (state_after setup t) (state_after setup (e ∷ t)) c calm in omega arith);
         none_removed = λ g i k h. stands.none_removed g i k (sym (ap (λ s. s.place g i) now) ∙ h);
         time = plain_time setup t e plain;
         leaves = tt;
-        own = inner_own w found found (Some r) None refl plain ((cores c).made + calls_counted r) (Exit r) fits calm (counts now)
+        own = inner_own move (Some r) None refl plain ((cores c).made + calls_counted r) (Exit r) lands.fits calm (counts now)
             (ap (after_decide (Some r)) opens) tt;
       }
     where
-      counts : state_after setup (inner w found found (Some r) None ∷ t) ≡ counted (state_after setup t) c
-          → (cores c).made + calls_counted r ≡ ((state_after setup (inner w found found (Some r) None ∷ t)).core c).counted
+      counts : state_after setup (inner move (Some r) None ∷ t) ≡ counted (state_after setup t) c
+          → (cores c).made + calls_counted r ≡ ((state_after setup (inner move (Some r) None ∷ t)).core c).counted
       counts now =
           let made = core_is.works.made in
-          let g : ((state_after setup (inner w found found (Some r) None ∷ t)).core c).counted ≡ ((counted (state_after setup t) c).core c).counted = ap (λ s. (s.core c).counted) now in
+          let g : ((state_after setup (inner move (Some r) None ∷ t)).core c).counted ≡ ((counted (state_after setup t) c).core c).counted = ap (λ s. (s.core c).counted) now in
           let k : ((counted (state_after setup t) c).core c).counted ≡ ((state_after setup t).core c).counted + 1 =
           ap (λ j. j.counted) (put_same (state_after setup t).core c (record ((state_after setup t).core c) { counted = ((state_after setup t).core c).counted + 1 }) c refl) in
           omega arith

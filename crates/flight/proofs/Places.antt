@@ -1,26 +1,23 @@
 -- What the word of a place of a node is: it carries the mark of a core that is in a call, or says what the place is.
-use Rattle.std.proofs.Common.{◌≡◌, ◌≢◌, ◌⊎◌, inl, inr, ℕ, ◌<◌, true, Option, Some, None, refl, sym, ◌∙◌, ap, subst, IsTrue}
+use Rattle.std.proofs.Common.{◌≡◌, ◌⊎◌, inl, inr, ℕ, ◌<◌, Option, Some, None, refl, sym, ◌∙◌, ap, subst, IsTrue}
 use Rattle.std.specs.Prelude.{IsSome}
-use Rattle.std.proofs.lemmas.Bool.{cases_lt, false≢true}
+use Rattle.std.proofs.lemmas.Bool.{false≢true}
 use Rattle.spk_nums.specs.Setting.{Setting}
 use Rattle.entry_words.specs.declared.entry.Entry.{Entry}
 use Rattle.entry_words.specs.declared.entry.Entry.TheVariants.{Free, Held, Closing, Quiescing}
 use Rattle.entry_words.specs.EntryWord.{entry_of_word}
-use Rattle.word_map.specs.Word.{Word, EntryAt}
+use Rattle.word_map.specs.Word.{EntryAt}
 use Rattle.kernel_rules.specs.State.{Place, Frame, Kernel, Table, Leaf, Pages, Pleaf, PlaceOf}
 use Rattle.kernel_rules.specs.Relies.{is_node}
 use Rattle.kernel_history.specs.Marks.{entry_mark, mark_in_frame}
-use Rattle.kernel_history.specs.Trace.{Trace, Phase, Out, phase, state_after, last_left}
-use Rattle.kernel_history.specs.Stamps.{is_in, stamp}
-use Rattle.kernel_history.proofs.Inside.{inside_is}
-use Rattle.flight.specs.declared.stages.InFlight.{InFlight}
+use Rattle.kernel_history.specs.Trace.{Trace, state_after, last_left}
+use Rattle.kernel_history.specs.Stamps.{stamp}
 use Rattle.flight.specs.View.{Core}
-use Rattle.flight.specs.Holding.{marked_by, settled_by}
+use Rattle.kernel_history.specs.Marking.{marked_by}
+use Rattle.flight.specs.Holding.{settled_by}
 use Rattle.flight.specs.Words.{PlaceIs, IsFrameWord}
-use Rattle.flight.specs.Knows.{FlightIs}
-use Rattle.flight.specs.Stands.{holds_in, held_by, Stands}
+use Rattle.flight.specs.Stands.{held_by, Stands}
 use Rattle.flight.proofs.Sounds.{limits_of}
-use Rattle.flight.proofs.Loads.{phase_in}
 
 -- The word of a place carries the mark of a core.
 pub record IsMarked (setup : Setting) (t : Trace) (f i : ℕ) : Type 0 where
@@ -73,32 +70,3 @@ place_reads setup cores t stands f i node below = by_mark (marked_by setup t (En
       says = closing_by (entry_of_word (last_left setup t (EntryAt f i))) d (sym (node_mark ((state_after setup t).frame f) i (last_left setup t (EntryAt f i)) node) ∙ is);
       mark = is;
     })
-
--- Who marks a word has a call in flight.
-flight_some : (o : Option InFlight) (c : ℕ) (w : Word) → (holds_in o c).marks w ≡ true → IsSome o
-flight_some None c w h = absurd (false≢true h)
-flight_some (Some f) c w h = refl
-
-in_phase : (p : Phase) → p ≢ Out → is_in p ≡ true
-in_phase Out h = absurd (h refl)
-in_phase (Rattle.kernel_history.specs.Trace.Open call) h = refl
-in_phase (Rattle.kernel_history.specs.Trace.Decided call r) h = refl
-
--- A core whose mark a word carries is in a call.
-pub marker_inside : (setup : Setting) (cores : ℕ → Core) (t : Trace) → Stands setup cores t → (w : Word) (d : ℕ) → marked_by setup t w ≡ Some d
-    → ((state_after setup t).core d).inside ≡ true
-marker_inside setup cores t stands w d is = elim (cases_lt d setup.cores) [
-  | inl here ↦ inside_is setup t d ∙ in_phase (phase t d) (by_flight (cores d).flight (stands.each d here).flight some)
-  | inr past ↦ absurd (none_some (cores d).flight (stands.away d past).idle some)
-]
-  where
-    some : IsSome (cores d).flight
-    some = flight_some (cores d).flight (cores d).core w ((stands.marks w d).owned is)
-
-    none_some : (o : Option InFlight) → o ≡ None → IsSome o → ⊥
-    none_some None is some = absurd (false≢true some)
-    none_some (Some f) is some = absurd (cc)
-
-    by_flight : (o : Option InFlight) → FlightIs setup t d (cores d).table o → IsSome o → phase t d ≢ Out
-    by_flight None is some = absurd (false≢true some)
-    by_flight (Some f) is some = λ out. phase_in setup t d (cores d).table f.call f.stage is.knows (sym is.phase ∙ out)

@@ -18,7 +18,8 @@ use Rattle.flight.specs.declared.stages.InFlight.{InFlight}
 use Rattle.flight.specs.View.{Core}
 use Rattle.flight.specs.Stages.{stage_ready, took_end, took_look, took_fill, took_found, decides_at, is_last}
 use Rattle.flight.specs.Steps.{ready_in, told, told_in, took_by, begun}
-use Rattle.flight.specs.Theorems.{IsUndecided, ReadyDecides, decided_in, turned, step_of}
+use Rattle.flight.specs.Made.{decided_in}
+use Rattle.flight.specs.Theorems.{IsUndecided, ReadyDecides}
 
 -- what a look takes at the load of its place
 look_decides : (table : ℕ) (a : ℕ) (look : Look) (node index word : ℕ) (shown : Option Entry)

@@ -5,36 +5,45 @@ use Rattle.supported_calls.specs.Built.{IsBuilt}
 use Rattle.spk_nums.specs.Setting.{Setting, IsSetting}
 use Rattle.spk_nums.specs.declared.calls.Call.{Call}
 use Rattle.spk_nums.specs.declared.calls.Call.TheVariants.{Look, Copy}
+use Rattle.spk_nums.specs.declared.replies.Reply.{Reply}
 use Rattle.spk_nums.specs.declared.replies.Reply.TheVariants as reply
-use Rattle.word_map.specs.Word.{Word, FlushAt, same_word}
-use Rattle.kernel_rules.specs.State.{State}
-use Rattle.kernel_rules.specs.Rules.{RuleMay}
-use Rattle.kernel_rules.specs.CallRelation.{rule_of, are_calls_spent, owed_by, counted}
-use Rattle.kernel_history.specs.Marks.{mark_of}
+use Rattle.word_map.specs.Moves.{Move, word_of}
+use Rattle.kernel_rules.specs.State.{Thing, State}
+use Rattle.kernel_rules.specs.Rules.{RuleMay, Refused}
+use Rattle.kernel_rules.specs.CallRelation.{rule_of, change_of, are_calls_spent, owed_by, counted}
+use Rattle.kernel_rules.specs.Alone.{alone}
 use Rattle.kernel_history.specs.Trace.{Step, Trace, Open, state_after, last_left}
-use Rattle.kernel_history.specs.Justified.{IsOnWay, IsRaceLost}
+use Rattle.kernel_history.specs.Justified.{IsOnWay, IsRaceLost, IsHeldUp}
+use Rattle.kernel_history.specs.Alone.{IsAlone}
+use Rattle.kernel_history.proofs.AloneCalls.{refused_first, nobody_waits}
+use Rattle.kernel_history.proofs.Laws.{not_inside, not_changed}
 use Rattle.flight.specs.declared.stages.InFlight.{InFlight}
 use Rattle.flight.specs.declared.stages.Took.{Took}
 use Rattle.flight.specs.View.{Core}
 use Rattle.flight.specs.Stages.{decide}
 use Rattle.flight.specs.Steps.{landed, told}
-use Rattle.flight.specs.Fits.{IsCore}
-use Rattle.flight.specs.Holding.{marked_by, nothing}
+use Rattle.kernel_history.specs.Marking.{marked_by}
+use Rattle.flight.specs.Holding.{nothing}
 use Rattle.flight.specs.Knows.{phase_at, CoreIs}
 use Rattle.flight.specs.Stands.{holds_at, holds_in, held_by, Stands}
-use Rattle.flight.specs.Theorems.{decided_in, returned_in}
+use Rattle.flight.specs.Made.{decided_in, returned_in}
 use Rattle.flight.proofs.Good.{IsGood}
-use Rattle.flight.proofs.Loads.{step_to, core_is, is_flight, decides_on}
+use Rattle.flight.proofs.Loads.{Lands, OnlyLooks, step_to, core_is, flight_is, is_flight, inner, decides_on}
 use Rattle.flight.proofs.Sounds.{limits_of}
-use Rattle.flight.proofs.Places.{marker_inside}
+use Rattle.flight.proofs.Markers.{marker_inside}
 
 -- The step of core c from which this was taken.
-abbrev pub step_with : ℕ → Word → ℕ → ℕ → Took → Step
-step_with c w found left took = step_to c None w found left (decided_in (told took)) (returned_in (told took))
+abbrev pub step_with : ℕ → Move → ℕ → Took → Step
+step_with c move found took = step_to c None move found (decided_in (told took)) (returned_in (told took))
 
 -- The step from which this was taken is good, where it leaves the core in its ranges.
-abbrev pub GoodTook : Setting → (ℕ → Core) → Trace → ℕ → InFlight → Word → ℕ → ℕ → Took → Type 0
-GoodTook setup cores t c f w found left took = IsCore (landed (cores c) f took) → IsGood setup cores t (step_with c w found left took) (landed (cores c) f took)
+abbrev pub GoodTook : Setting → (ℕ → Core) → Trace → ℕ → InFlight → Move → Took → Type 0
+GoodTook setup cores t c f move took =
+    Lands setup (landed (cores c) f took) (word_of move) → IsGood setup cores t (step_with c move (last_left setup t (word_of move)) took) (landed (cores c) f took)
+
+-- No core waits in a grace period; so it is where a call is alone.
+abbrev pub NobodyWaits : State → Type 0
+NobodyWaits s = (x : Thing) (d : ℕ) → (s.grace x).waits d ≡ false
 
 -- No call that is carried out owes ticks.
 pub built_owes : (s : State) (c : ℕ) (call : Call) → IsBuilt call → owed_by s c call ≡ s
@@ -52,36 +61,57 @@ not_spent setup core t c is room =
 
 module _ (setup : Setting) (setting : IsSetting setup) (cores : ℕ → Core) (t : Trace) (stands : Stands setup cores t) (c : ℕ) (here : c < setup.cores)
     (f : InFlight) (flight : (cores c).flight ≡ Some f) (opens : phase_at f.call f.stage ≡ Open f.call) (holds_none : holds_at f.stage (cores c).core ≡ nothing)
-    (room : (cores c).made < (cores c).limit) (w : Word) (found : ℕ) (is : found ≡ last_left setup t w) (apart : (d : ℕ) → same_word (FlushAt d) w ≡ false) where
+    (room : (cores c).made < (cores c).limit) (move : Move) (looks : OnlyLooks setup t c f.call move) where
   unspent : are_calls_spent (state_after setup t) c ≡ false
   unspent = not_spent setup (cores c) t c (core_is setup setting cores t stands c here f flight) room
 
-  pub refuses_no_slot : RuleMay (state_after setup t) c (rule_of (state_after setup t) c f.call) reply.NoSlot → GoodTook setup cores t c f w found found (decide reply.NoSlot)
-  refuses_no_slot may fits = decides_on setup setting cores t stands c here f flight w found reply.NoSlot is apart fits (sym holds_none) opens refl refl (λ x. refl) (λ x. refl) refl (unspent, may) tt
+  -- where the call is alone, no core waits
+  nobody : (r : Reply) → IsAlone t (inner setup setting cores t stands c here f flight move (Some r) None) → NobodyWaits (state_after setup t)
+  nobody r alone x d = nobody_waits setup t (inner setup setting cores t stands c here f flight move (Some r) None) stands.legal tt alone f.call
+      ((flight_is setup setting cores t stands c here f flight).phase ∙ opens) x d
 
-  pub refuses_empty : RuleMay (state_after setup t) c (rule_of (state_after setup t) c f.call) reply.Empty → GoodTook setup cores t c f w found found (decide reply.Empty)
-  refuses_empty may fits = decides_on setup setting cores t stands c here f flight w found reply.Empty is apart fits (sym holds_none) opens refl refl (λ x. refl) (λ x. refl) refl (unspent, may) tt
+  -- What refuses a call whatever its steps were: the first cause in order, where no core waits.
+  abbrev IsFirstCause : Reply → Type 0
+  IsFirstCause r = NobodyWaits (state_after setup t) → change_of (state_after setup t) c f.call ≡ Refused r
 
-  pub refuses_wrong : RuleMay (state_after setup t) c (rule_of (state_after setup t) c f.call) reply.WrongCap → GoodTook setup cores t c f w found found (decide reply.WrongCap)
-  refuses_wrong may fits = decides_on setup setting cores t stands c here f flight w found reply.WrongCap is apart fits (sym holds_none) opens refl refl (λ x. refl) (λ x. refl) refl (unspent, may) tt
+  first_of : (r : Reply) → IsFirstCause r → IsAlone t (inner setup setting cores t stands c here f flight move (Some r) None) → r ≡ alone (state_after setup t) c f.call
+  first_of r first is_alone = refused_first (state_after setup t) c f.call r unspent (first (nobody r is_alone))
 
-  pub refuses_occupied : RuleMay (state_after setup t) c (rule_of (state_after setup t) c f.call) reply.Occupied → GoodTook setup cores t c f w found found (decide reply.Occupied)
-  refuses_occupied may fits = decides_on setup setting cores t stands c here f flight w found reply.Occupied is apart fits (sym holds_none) opens refl refl (λ x. refl) (λ x. refl) refl (unspent, may) tt
+  pub refuses_no_slot : RuleMay (state_after setup t) c (rule_of (state_after setup t) c f.call) reply.NoSlot → IsFirstCause reply.NoSlot → GoodTook setup cores t c f move (decide reply.NoSlot)
+  refuses_no_slot may first lands = decides_on setup setting cores t stands c here f flight move reply.NoSlot looks lands (sym holds_none) opens refl refl (λ x. refl) (λ x. refl) refl (unspent, may) tt
+      (first_of reply.NoSlot first)
+
+  pub refuses_empty : RuleMay (state_after setup t) c (rule_of (state_after setup t) c f.call) reply.Empty → IsFirstCause reply.Empty → GoodTook setup cores t c f move (decide reply.Empty)
+  refuses_empty may first lands = decides_on setup setting cores t stands c here f flight move reply.Empty looks lands (sym holds_none) opens refl refl (λ x. refl) (λ x. refl) refl (unspent, may) tt
+      (first_of reply.Empty first)
+
+  pub refuses_wrong : RuleMay (state_after setup t) c (rule_of (state_after setup t) c f.call) reply.WrongCap → IsFirstCause reply.WrongCap → GoodTook setup cores t c f move (decide reply.WrongCap)
+  refuses_wrong may first lands = decides_on setup setting cores t stands c here f flight move reply.WrongCap looks lands (sym holds_none) opens refl refl (λ x. refl) (λ x. refl) refl (unspent, may) tt
+      (first_of reply.WrongCap first)
+
+  pub refuses_occupied : RuleMay (state_after setup t) c (rule_of (state_after setup t) c f.call) reply.Occupied → IsFirstCause reply.Occupied → GoodTook setup cores t c f move (decide reply.Occupied)
+  refuses_occupied may first lands = decides_on setup setting cores t stands c here f flight move reply.Occupied looks lands (sym holds_none) opens refl refl (λ x. refl) (λ x. refl) refl (unspent, may) tt
+      (first_of reply.Occupied first)
 
   -- a word that has changed since the call's last step on it
-  pub refuses_raced : IsRaceLost t (step_with c w found found (decide reply.Raced)) (state_after setup t) (rule_of (state_after setup t) c f.call) → GoodTook setup cores t c f w found found (decide reply.Raced)
-  refuses_raced lost fits = decides_on setup setting cores t stands c here f flight w found reply.Raced is apart fits (sym holds_none) opens
+  pub refuses_raced : IsRaceLost t (step_with c move (last_left setup t (word_of move)) (decide reply.Raced)) (state_after setup t) (rule_of (state_after setup t) c f.call) → GoodTook setup cores t c f move (decide reply.Raced)
+  refuses_raced lost lands = decides_on setup setting cores t stands c here f flight move reply.Raced looks lands (sym holds_none) opens
       (ap (λ s. counted s c) (built_owes (state_after setup t) c f.call (is_flight setup setting cores t stands c here f flight).built))
       refl (λ x. refl) (λ x. refl) refl (unspent, tt) lost
+      (λ is_alone. absurd (not_changed setup t (inner setup setting cores t stands c here f flight move (Some reply.Raced) None) refl is_alone lost.own lost.has_read lost.changed))
 
   -- another core's mark
-  pub refuses_busy : (d : ℕ) → marked_by setup t w ≡ Some d → IsOnWay (state_after setup t) c (rule_of (state_after setup t) c f.call) w → GoodTook setup cores t c f w found found (decide (reply.Busy d))
-  refuses_busy d mark on_way fits = decides_on setup setting cores t stands c here f flight w found (reply.Busy d) is apart fits (sym holds_none) opens
+  pub refuses_busy : (d : ℕ) → marked_by setup t (word_of move) ≡ Some d → IsOnWay (state_after setup t) c (rule_of (state_after setup t) c f.call) (word_of move) → GoodTook setup cores t c f move (decide (reply.Busy d))
+  refuses_busy d mark on_way lands = decides_on setup setting cores t stands c here f flight move (reply.Busy d) looks lands (sym holds_none) opens
       (ap (λ s. counted s c) (built_owes (state_after setup t) c f.call (is_flight setup setting cores t stands c here f flight).built))
-      refl (λ x. refl) (λ x. refl) refl (unspent, tt)
-      (record {
-        marked = ap (mark_of (state_after setup t) w) is ∙ mark;
-        other = λ own. false≢true (sym (ap (λ h. h.marks w) (ap (λ (e : ℕ). held_by cores e) own ∙ ap (λ o. holds_in o (cores c).core) flight ∙ holds_none)) ∙ (stands.marks w d).owned mark);
-        is_inside = marker_inside setup cores t stands w d mark;
+      refl (λ x. refl) (λ x. refl) refl (unspent, tt) held
+      (λ is_alone. absurd (not_inside setup t (inner setup setting cores t stands c here f flight move (Some (reply.Busy d)) None) refl is_alone d held.other held.is_inside))
+    where
+      held : IsHeldUp setup t (inner setup setting cores t stands c here f flight move (Some (reply.Busy d)) None) (state_after setup t) (rule_of (state_after setup t) c f.call) d
+      held = record {
+        marked = mark;
+        other = λ own. false≢true (sym (ap (λ h. h.marks (word_of move)) (ap (λ (e : ℕ). held_by cores e) own ∙ ap (λ o. holds_in o (cores c).core) flight ∙ holds_none)) ∙ (stands.marks (word_of move) d).owned mark);
+        is_inside = marker_inside setup cores t stands (word_of move) d mark;
+        has_marked = stands.marked (word_of move) d mark;
         on_way = on_way;
-      })
+      }

@@ -13,7 +13,7 @@ use Rattle.stage_look.specs.declared.look.Look.TheVariants.{AtRoot, AtLeaf, AtEn
 use Rattle.stage_look.specs.declared.look.Found.{Found}
 use Rattle.flight.specs.View.{Core}
 use Rattle.flight.specs.Steps.{ready_of, ready_in, told, took_by, told_in, told_of_step}
-use Rattle.flight.specs.Theorems.{decided_in}
+use Rattle.flight.specs.Made.{decided_in}
 use Rattle.flight.specs.declared.stages.Want.{Want}
 use Rattle.flight.specs.declared.stages.Want.TheVariants.{First, Second, Target}
 use Rattle.flight.specs.declared.stages.InFlight.{InFlight}

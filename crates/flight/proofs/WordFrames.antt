@@ -3,6 +3,7 @@ use Rattle.std.proofs.Common.{◌≡◌, ◌≢◌, inl, inr, ℕ, Bool, true, f
 use Rattle.std.proofs.lemmas.Bool.{cases_eq}
 use Rattle.spk_nums.specs.Setting.{Setting}
 use Rattle.word_map.specs.Word.{Word, EntryAt, FrameAt, CountAt, CoreAt, FlushAt, LiveAt, ClockAt}
+use Rattle.word_map.specs.Moves.{word_of, left_of}
 use Rattle.kernel_rules.specs.State.{Place, Frame, Liveness, PlaceOf, NumberOf, State, put}
 use Rattle.kernel_rules.proofs.Within.{put_same, put_other}
 use Rattle.frame_words.specs.Live.{live_of_word}
@@ -12,7 +13,9 @@ use Rattle.kernel_history.specs.Trace.{Step, Trace, state_after, last_left}
 use Rattle.kernel_history.proofs.Steps.{last_left-here, last_left-there}
 use Rattle.kernel_history.proofs.Names.{cases_word}
 use Rattle.flight.specs.View.{Core}
-use Rattle.flight.specs.Holding.{Holding, marked_by, settled_by, settled, MarkIs}
+use Rattle.kernel_history.specs.Marking.{marked_by}
+use Rattle.kernel_history.specs.Discipline.{MarksOwn}
+use Rattle.flight.specs.Holding.{Holding, settled_by, settled, MarkIs}
 use Rattle.flight.specs.Words.{Times, IsFrameWord, NumberIs, WordIs}
 use Rattle.flight.specs.Stands.{holds, held_by, times_of}
 
@@ -70,6 +73,21 @@ mark_same s s' (FlushAt c) x frames = refl
 mark_same s s' (LiveAt l) x frames = refl
 mark_same s s' ClockAt x frames = refl
 
+-- A word gets the mark of a core by that core's own step on it: a core newly holds none but the word of its step.
+pub marks_own : (setup : Setting) (cores : ℕ → Core) (t : Trace) (e : Step) (after : Core)
+    → ((w : Word) → w ≢ word_of e.move → (holds after).marks w ≡ (holds (cores e.core)).marks w)
+    → ((w : Word) (d : ℕ) → MarkIs setup (held_by cores) t w d) → ((w : Word) (d : ℕ) → MarkIs setup (held_by (put cores e.core after)) (e ∷ t) w d)
+    → MarksOwn setup t e
+marks_own setup cores t e after elsewhere before now w d is = elim (cases_eq d e.core) [
+  | inr other ↦ inl ((before w d).kept (ap (λ k. (holds k).marks w) (sym (put_other cores e.core after d other)) ∙ (now w d).owned is))
+  | inl own ↦ elim (cases_word w (word_of e.move)) [
+    | inl here ↦ inr (sym own, sym here)
+    | inr there ↦ inl ((before w d).kept (
+        ap (λ (c : ℕ). (held_by cores c).marks w) own ∙ sym (elsewhere w there)
+        ∙ ap (λ k. (holds k).marks w) (sym (put_same cores e.core after d own)) ∙ (now w d).owned is))
+  ]
+]
+
 -- A step after which its core holds what it held, and that leaves the frames.
 module _ (setup : Setting) (cores : ℕ → Core) (t : Trace) (e : Step) (after : Core) (still : holds after ≡ holds (cores e.core))
     (frames : (f : ℕ) → (state_after setup (e ∷ t)).frame f ≡ (state_after setup t).frame f) where
@@ -102,9 +120,9 @@ module _ (setup : Setting) (cores : ℕ → Core) (t : Trace) (e : Step) (after 
   }
 
   -- it leaves its word
-  module _ (load : e.left ≡ last_left setup t e.word) where
+  module _ (load : (left_of e.move e.found) ≡ last_left setup t (word_of e.move)) where
     pub load_keeps : (w : Word) → last_left setup (e ∷ t) w ≡ last_left setup t w
-    load_keeps w = elim (cases_word w e.word) [
+    load_keeps w = elim (cases_word w (word_of e.move)) [
       | inl here ↦ last_left-here setup w e t here ∙ load ∙ ap (last_left setup t) (sym here)
       | inr there ↦ last_left-there setup w e t there
     ]
@@ -120,26 +138,26 @@ module _ (setup : Setting) (cores : ℕ → Core) (t : Trace) (e : Step) (after 
         (word_stays (state_after setup t) (state_after setup (e ∷ t)) (times_of setup t) (times_of setup (e ∷ t)) w (settled setup (held_by cores) t w) (same w) (words w))
 
   -- it writes its word, which carried no mark and carries none
-  module _ (was : marked_by setup t e.word ≡ None) (now : mark_of (state_after setup t) e.word e.left ≡ None) where
-    here_mark : (w : Word) → w ≡ e.word → marked_by setup (e ∷ t) w ≡ None
+  module _ (was : marked_by setup t (word_of e.move) ≡ None) (now : mark_of (state_after setup t) (word_of e.move) (left_of e.move e.found) ≡ None) where
+    here_mark : (w : Word) → w ≡ word_of e.move → marked_by setup (e ∷ t) w ≡ None
     here_mark w here =
         mark_same (state_after setup t) (state_after setup (e ∷ t)) w (last_left setup (e ∷ t) w) frames
-        ∙ ap (mark_of (state_after setup t) w) (last_left-here setup w e t here) ∙ ap (λ v. mark_of (state_after setup t) v e.left) here ∙ now
+        ∙ ap (mark_of (state_after setup t) w) (last_left-here setup w e t here) ∙ ap (λ v. mark_of (state_after setup t) v (left_of e.move e.found)) here ∙ now
 
     pub write_marks : ((w : Word) (d : ℕ) → MarkIs setup (held_by cores) t w d) → (w : Word) (d : ℕ) → MarkIs setup held (e ∷ t) w d
-    write_marks marks w d = elim (cases_word w e.word) [
+    write_marks marks w d = elim (cases_word w (word_of e.move)) [
       | inl here ↦ mark_by w d (here_mark w here ∙ sym (ap (marked_by setup t) here ∙ was)) (marks w d)
       | inr there ↦ mark_by w d (marked_on w (last_left-there setup w e t there)) (marks w d)
     ]
 
-    pub write_words : ((w : Word) → w ≢ e.word → SameFor (state_after setup t) (state_after setup (e ∷ t)) (times_of setup t) (times_of setup (e ∷ t)) w)
-        → WordIs (state_after setup (e ∷ t)) (times_of setup (e ∷ t)) e.word e.left
+    pub write_words : ((w : Word) → w ≢ word_of e.move → SameFor (state_after setup t) (state_after setup (e ∷ t)) (times_of setup t) (times_of setup (e ∷ t)) w)
+        → WordIs (state_after setup (e ∷ t)) (times_of setup (e ∷ t)) (word_of e.move) (left_of e.move e.found)
         → ((w : Word) → WordIs (state_after setup t) (times_of setup t) w (settled setup (held_by cores) t w))
         → (w : Word) → WordIs (state_after setup (e ∷ t)) (times_of setup (e ∷ t)) w (settled setup held (e ∷ t) w)
-    write_words same new words w = elim (cases_word w e.word) [
+    write_words same new words w = elim (cases_word w (word_of e.move)) [
       | inl here ↦ subst (WordIs (state_after setup (e ∷ t)) (times_of setup (e ∷ t)) w)
           (sym (ap (λ o. settled_by o held w (last_left setup (e ∷ t) w)) (here_mark w here) ∙ last_left-here setup w e t here))
-          (subst (λ v. WordIs (state_after setup (e ∷ t)) (times_of setup (e ∷ t)) v e.left) (sym here) new)
+          (subst (λ v. WordIs (state_after setup (e ∷ t)) (times_of setup (e ∷ t)) v (left_of e.move e.found)) (sym here) new)
       | inr there ↦ subst (WordIs (state_after setup (e ∷ t)) (times_of setup (e ∷ t)) w) (sym (settled_on w (last_left-there setup w e t there)))
           (word_stays (state_after setup t) (state_after setup (e ∷ t)) (times_of setup t) (times_of setup (e ∷ t)) w (settled setup (held_by cores) t w) (same w there) (words w))
     ]
@@ -147,11 +165,11 @@ module _ (setup : Setting) (cores : ℕ → Core) (t : Trace) (e : Step) (after 
 -- A step by which its core marks its word, or gives it back: the settled word stays, and the frames.
 module _ (setup : Setting) (cores : ℕ → Core) (t : Trace) (e : Step) (after : Core)
     (frames : (f : ℕ) → (state_after setup (e ∷ t)).frame f ≡ (state_after setup t).frame f)
-    (elsewhere : (w : Word) → w ≢ e.word → ((holds after).marks w ≡ (holds (cores e.core)).marks w) × ((holds after).stands w ≡ (holds (cores e.core)).stands w))
-    (now : mark_of (state_after setup t) e.word e.left ≡ (if (holds after).marks e.word then Some e.core else None))
-    (unowned : (d : ℕ) → d ≢ e.core → marked_by setup t e.word ≡ Some d → ⊥)
-    (settles : settled_by (if (holds after).marks e.word then Some e.core else None) (held_by (put cores e.core after)) e.word e.left
-    ≡ settled setup (held_by cores) t e.word) where
+    (elsewhere : (w : Word) → w ≢ word_of e.move → ((holds after).marks w ≡ (holds (cores e.core)).marks w) × ((holds after).stands w ≡ (holds (cores e.core)).stands w))
+    (now : mark_of (state_after setup t) (word_of e.move) (left_of e.move e.found) ≡ (if (holds after).marks (word_of e.move) then Some e.core else None))
+    (unowned : (d : ℕ) → d ≢ e.core → marked_by setup t (word_of e.move) ≡ Some d → ⊥)
+    (settles : settled_by (if (holds after).marks (word_of e.move) then Some e.core else None) (held_by (put cores e.core after)) (word_of e.move) (left_of e.move e.found)
+    ≡ settled setup (held_by cores) t (word_of e.move)) where
   abbrev pub holding : ℕ → Holding
   holding = held_by (put cores e.core after)
 
@@ -161,23 +179,23 @@ module _ (setup : Setting) (cores : ℕ → Core) (t : Trace) (e : Step) (after 
   holding_other : (d : ℕ) → d ≢ e.core → holding d ≡ held_by cores d
   holding_other d other = ap holds (put_other cores e.core after d other)
 
-  there_marked : (w : Word) → w ≢ e.word → marked_by setup (e ∷ t) w ≡ marked_by setup t w
+  there_marked : (w : Word) → w ≢ word_of e.move → marked_by setup (e ∷ t) w ≡ marked_by setup t w
   there_marked w there =
       mark_same (state_after setup t) (state_after setup (e ∷ t)) w (last_left setup (e ∷ t) w) frames
       ∙ ap (mark_of (state_after setup t) w) (last_left-there setup w e t there)
 
-  here_marked : (w : Word) → w ≡ e.word → marked_by setup (e ∷ t) w ≡ (if (holds after).marks e.word then Some e.core else None)
+  here_marked : (w : Word) → w ≡ word_of e.move → marked_by setup (e ∷ t) w ≡ (if (holds after).marks (word_of e.move) then Some e.core else None)
   here_marked w here =
       mark_same (state_after setup t) (state_after setup (e ∷ t)) w (last_left setup (e ∷ t) w) frames
-      ∙ ap (mark_of (state_after setup t) w) (last_left-here setup w e t here) ∙ ap (λ v. mark_of (state_after setup t) v e.left) here ∙ now
+      ∙ ap (mark_of (state_after setup t) w) (last_left-here setup w e t here) ∙ ap (λ v. mark_of (state_after setup t) v (left_of e.move e.found)) here ∙ now
 
-  there_held : (w : Word) (d : ℕ) → w ≢ e.word → (holding d).marks w ≡ (held_by cores d).marks w
+  there_held : (w : Word) (d : ℕ) → w ≢ word_of e.move → (holding d).marks w ≡ (held_by cores d).marks w
   there_held w d there = elim (cases_eq d e.core) [
     | inl own ↦ ap (λ h. h.marks w) (holding_own d own) ∙ (elsewhere w there).0 ∙ ap (λ (c : ℕ). (held_by cores c).marks w) (sym own)
     | inr other ↦ ap (λ h. h.marks w) (holding_other d other)
   ]
 
-  there_stands : (o : Option ℕ) (w : Word) (x : ℕ) → w ≢ e.word → settled_by o holding w x ≡ settled_by o (held_by cores) w x
+  there_stands : (o : Option ℕ) (w : Word) (x : ℕ) → w ≢ word_of e.move → settled_by o holding w x ≡ settled_by o (held_by cores) w x
   there_stands None w x there = refl
   there_stands (Some d) w x there = elim (cases_eq d e.core) [
     | inl own ↦ ap (λ h. h.stands w) (holding_own d own) ∙ (elsewhere w there).1 ∙ ap (λ (c : ℕ). (held_by cores c).stands w) (sym own)
@@ -190,23 +208,23 @@ module _ (setup : Setting) (cores : ℕ → Core) (t : Trace) (e : Step) (after 
   none_some : (x : ℕ) → None ≡ Some x → ⊥
   none_some x h = cc
 
-  owner : (d : ℕ) (b : Bool) → (holds after).marks e.word ≡ b → (if b then Some e.core else None) ≡ Some d → (holding d).marks e.word ≡ true
-  owner d true is h = ap (λ k. k.marks e.word) (holding_own d (sym (some_inj e.core d h))) ∙ is
+  owner : (d : ℕ) (b : Bool) → (holds after).marks (word_of e.move) ≡ b → (if b then Some e.core else None) ≡ Some d → (holding d).marks (word_of e.move) ≡ true
+  owner d true is h = ap (λ k. k.marks (word_of e.move)) (holding_own d (sym (some_inj e.core d h))) ∙ is
   owner d false is h = absurd (none_some d h)
 
-  here_is : (d : ℕ) → MarkIs setup (held_by cores) t e.word d → MarkIs setup holding (e ∷ t) e.word d
+  here_is : (d : ℕ) → MarkIs setup (held_by cores) t (word_of e.move) d → MarkIs setup holding (e ∷ t) (word_of e.move) d
   here_is d is = record {
-    owned = λ h. owner d ((holds after).marks e.word) refl (sym (here_marked e.word refl) ∙ h);
+    owned = λ h. owner d ((holds after).marks (word_of e.move)) refl (sym (here_marked (word_of e.move) refl) ∙ h);
     kept = λ h. elim (cases_eq d e.core) [
-      | inl own ↦ here_marked e.word refl
-          ∙ ap (λ b. if b then Some e.core else None) (ap (λ k. k.marks e.word) (sym (holding_own d own)) ∙ h) ∙ ap (λ (c : ℕ). Some c) (sym own)
-      | inr other ↦ absurd (unowned d other (is.kept (ap (λ k. k.marks e.word) (sym (holding_other d other)) ∙ h)))
+      | inl own ↦ here_marked (word_of e.move) refl
+          ∙ ap (λ b. if b then Some e.core else None) (ap (λ k. k.marks (word_of e.move)) (sym (holding_own d own)) ∙ h) ∙ ap (λ (c : ℕ). Some c) (sym own)
+      | inr other ↦ absurd (unowned d other (is.kept (ap (λ k. k.marks (word_of e.move)) (sym (holding_other d other)) ∙ h)))
     ];
   }
 
   pub hold_marks : ((w : Word) (d : ℕ) → MarkIs setup (held_by cores) t w d) → (w : Word) (d : ℕ) → MarkIs setup holding (e ∷ t) w d
-  hold_marks marks w d = elim (cases_word w e.word) [
-    | inl here ↦ subst (λ v. MarkIs setup holding (e ∷ t) v d) (sym here) (here_is d (marks e.word d))
+  hold_marks marks w d = elim (cases_word w (word_of e.move)) [
+    | inl here ↦ subst (λ v. MarkIs setup holding (e ∷ t) v d) (sym here) (here_is d (marks (word_of e.move) d))
     | inr there ↦ record {
       owned = λ h. there_held w d there ∙ (marks w d).owned (sym (there_marked w there) ∙ h);
       kept = λ h. there_marked w there ∙ (marks w d).kept (sym (there_held w d there) ∙ h);
@@ -214,10 +232,10 @@ module _ (setup : Setting) (cores : ℕ → Core) (t : Trace) (e : Step) (after 
   ]
 
   settled_stays : (w : Word) → settled setup holding (e ∷ t) w ≡ settled setup (held_by cores) t w
-  settled_stays w = elim (cases_word w e.word) [
+  settled_stays w = elim (cases_word w (word_of e.move)) [
     | inl here ↦ subst (λ v. settled setup holding (e ∷ t) v ≡ settled setup (held_by cores) t v) (sym here)
-        (ap (λ o. settled_by o holding e.word (last_left setup (e ∷ t) e.word)) (here_marked e.word refl)
-        ∙ ap (settled_by (if (holds after).marks e.word then Some e.core else None) holding e.word) (last_left-here setup e.word e t refl) ∙ settles)
+        (ap (λ o. settled_by o holding (word_of e.move) (last_left setup (e ∷ t) (word_of e.move))) (here_marked (word_of e.move) refl)
+        ∙ ap (settled_by (if (holds after).marks (word_of e.move) then Some e.core else None) holding (word_of e.move)) (last_left-here setup (word_of e.move) e t refl) ∙ settles)
     | inr there ↦
         ap (λ o. settled_by o holding w (last_left setup (e ∷ t) w)) (there_marked w there)
         ∙ ap (settled_by (marked_by setup t w) holding w) (last_left-there setup w e t there)

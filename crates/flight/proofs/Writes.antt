@@ -1,7 +1,7 @@
 -- The ways in which a core makes a step that writes its word: a decided call writes an entry; a call enters or leaves, and the
 -- core's own word is stored.
 use Rattle.std.proofs.Common.{◌≡◌, ◌≢◌, ℕ, zero, suc, ◌*◌, ◌^◌, ◌<◌, ◌≤◌, Bool, true, false, ◌∷◌, Option, Some, None, arith, refl, sym, ◌∙◌, ap, subst, inl, inr}
-use Rattle.std.proofs.lemmas.Bool.{cases_eq}
+use Rattle.std.proofs.lemmas.Bool.{cases_eq, eq-eqb}
 use Rattle.spk_nums.specs.Bounds.{bound_of}
 use Rattle.spk_nums.specs.Capability.{Capability}
 use Rattle.spk_nums.specs.CallLimits.{InLimits}
@@ -11,11 +11,14 @@ use Rattle.spk_nums.specs.declared.replies.Reply.{Reply}
 use Rattle.frame_words.specs.Core.{core_of_word}
 use Rattle.frame_words.proofs.CoreLemmas.{spelling}
 use Rattle.word_map.specs.Word.{EntryAt, CoreAt}
+use Rattle.word_map.specs.Moves.{Move, StoreOf, word_of, left_of}
 use Rattle.kernel_rules.specs.State.{Quiescing}
 use Rattle.kernel_rules.specs.References.{sum_below}
 use Rattle.kernel_rules.specs.GracePeriods.{returned}
+use Rattle.kernel_rules.specs.Alone.{alone}
 use Rattle.kernel_rules.proofs.Within.{put_same}
 use Rattle.kernel_history.specs.Trace.{Step, Trace, Out, Open, Decided, phase, after_decide, state_after, last_left, steps_in_call}
+use Rattle.kernel_history.specs.Alone.{IsAlone, IsFirst}
 use Rattle.kernel_history.specs.Legal.{MayDecide}
 use Rattle.kernel_history.specs.Marks.{mark_of}
 use Rattle.kernel_history.specs.Stamps.{clock, exit_of}
@@ -28,15 +31,14 @@ use Rattle.flight.specs.declared.stages.InFlight.{InFlight}
 use Rattle.flight.specs.View.{Core}
 use Rattle.flight.specs.Stages.{core_word}
 use Rattle.flight.specs.Steps.{fresh}
-use Rattle.flight.specs.Fits.{IsCore}
-use Rattle.flight.specs.Holding.{marked_by}
+use Rattle.kernel_history.specs.Marking.{marked_by}
 use Rattle.flight.specs.Words.{WordIs}
 use Rattle.flight.specs.Knows.{phase_at, Knows, FlightIs, CoreIs}
 use Rattle.flight.specs.Stands.{holds_at, holds_in, holds, times_of, Stands}
-use Rattle.flight.proofs.WordFrames.{write_marks, write_words}
+use Rattle.flight.proofs.WordFrames.{marks_own, write_marks, write_words}
 use Rattle.flight.proofs.Good.{IsGood}
 use Rattle.flight.proofs.Calm.{IsCalm, calm_returned, calm_own, calm_words, counted_rises, IsPlain, plain_time, plain_exit, plain_flushed}
-use Rattle.flight.proofs.Loads.{step_to, core_at, core_is, flight_is, in_call, inner, inner_within, inner_own, still_holds}
+use Rattle.flight.proofs.Loads.{Lands, IsOfCall, step_to, core_at, core_is, flight_is, in_call, inner, inner_within, inner_disciplined, inner_near, inner_own, still_holds}
 
 -- The clock fits a stamp: each stamp was drawn by a call that was counted.
 
@@ -64,55 +66,74 @@ clock_small setup setting cores t stands =
 pub core_reads : (inside : Bool) (stamp : ℕ) → stamp < 2 ^ 28 → core_of_word (core_word inside stamp) ≡ Some (record { inside = inside; stamp = stamp })
 core_reads inside stamp small = spelling.reads (record { inside = inside; stamp = stamp }) small
 
+pub core_small : (inside : Bool) (stamp : ℕ) → stamp < 2 ^ 28 → core_word inside stamp < 2 ^ 64
+core_small inside stamp small = spelling.small (record { inside = inside; stamp = stamp }) small
+
+none_some : (d : ℕ) → None ≡ Some d → ⊥
+none_some d h = cc
+
 module _ (setup : Setting) (setting : IsSetting setup) (cores : ℕ → Core) (t : Trace) (stands : Stands setup cores t) (c : ℕ) (here : c < setup.cores) where
   -- A decision that writes an entry, which carried no mark and carries none.
   module _ (f : InFlight) (flight : (cores c).flight ≡ Some f) where
-    pub writes_entry : (node index found left made : ℕ) (r : Reply) (stage : Stage) → found ≡ last_left setup t (EntryAt node index)
-        → marked_by setup t (EntryAt node index) ≡ None → mark_of (state_after setup t) (EntryAt node index) left ≡ None
-        → IsCore (core_at (cores c) f made stage) → holds_at stage (cores c).core ≡ holds_at f.stage (cores c).core
+    pub writes_entry : (move : Move) (node index made : ℕ) (r : Reply) (stage : Stage) → word_of move ≡ EntryAt node index
+        → marked_by setup t (EntryAt node index) ≡ None → mark_of (state_after setup t) (EntryAt node index) (left_of move (last_left setup t (EntryAt node index))) ≡ None
+        → left_of move (last_left setup t (EntryAt node index)) < 2 ^ 64 → IsOfCall setup t c f.call move
+        → Lands setup (core_at (cores c) f made stage) (word_of move) → holds_at stage (cores c).core ≡ holds_at f.stage (cores c).core
         → phase_at f.call f.stage ≡ Open f.call → phase_at f.call stage ≡ Decided f.call r
-        → (let e : Step = inner setup setting cores t stands c here f flight (EntryAt node index) found left (Some r) None in
+        → (let e : Step = inner setup setting cores t stands c here f flight move (Some r) None in
         IsCalm (state_after setup t) (state_after setup (e ∷ t)) c → IsPlain setup t e
         → made ≡ ((state_after setup (e ∷ t)).core c).counted
         → ((g i : ℕ) → EntryAt g i ≢ EntryAt node index → (state_after setup (e ∷ t)).place g i ≡ (state_after setup t).place g i)
         → ((g i : ℕ) (k : Capability) → (state_after setup (e ∷ t)).place g i ≢ Quiescing k)
-        → WordIs (state_after setup (e ∷ t)) (times_of setup (e ∷ t)) (EntryAt node index) left
+        → WordIs (state_after setup (e ∷ t)) (times_of setup (e ∷ t)) (EntryAt node index) (left_of move (last_left setup t (EntryAt node index)))
         → MayDecide setup t e (Some r) (phase t c)
+        → (IsAlone t e → r ≡ alone (state_after setup t) c f.call)
         → Knows setup (e ∷ t) c (cores c).table f.call stage
         → IsGood setup cores t e (core_at (cores c) f made stage))
-    writes_entry node index found left made r stage is was now fits same opens closes calm plain counts places removed new may knows =
-        let e : Step = inner setup setting cores t stands c here f flight (EntryAt node index) found left (Some r) None in
+    writes_entry move node index made r stage at was now small of_call lands same opens closes calm plain counts places removed new may first knows =
+        let e : Step = inner setup setting cores t stands c here f flight move (Some r) None in
         let after : Core = core_at (cores c) f made stage in
-        let still = still_holds setup setting cores t stands c here f flight (EntryAt node index) found left (Some r) None made stage same in
+        let still = still_holds setup setting cores t stands c here f flight move (Some r) None made stage same in
+        let unmarked : marked_by setup t (word_of move) ≡ None = ap (marked_by setup t) at ∙ was in
+        let bare : mark_of (state_after setup t) (word_of move) (left_of move (last_left setup t (word_of move))) ≡ None =
+        ap (λ w. mark_of (state_after setup t) w (left_of move (last_left setup t w))) at ∙ now in
+        let marks = write_marks setup cores t e after still calm.frame unmarked bare stands.marks in
         record {
           follows = record {
             is_core = here;
-            found = is;
+            is_in = lands.is_in;
+            is_named = lands.is_named;
+            found = refl;
+            small = subst (λ w. left_of move (last_left setup t w) < 2 ^ 64) (sym at) small;
             enters = tt;
             in_call = in_call setup setting cores t stands c here f flight;
             decides = may;
             returns = tt;
           };
-          within = inner_within setup setting cores t stands c here f flight (EntryAt node index) found left (Some r) None;
-          marks = write_marks setup cores t e after still calm.frame was now stands.marks;
-          words = write_words setup cores t e after still calm.frame was now
-              (λ v there. calm_words setup t e calm plain v (λ g i h. places g i (λ q. there (h ∙ q)))
+          within = inner_within setup setting cores t stands c here f flight move (Some r) None;
+          alone = λ a. subst (IsFirst setup t e (Some r)) (sym ((flight_is setup setting cores t stands c here f flight).phase ∙ opens)) (first a);
+          disciplined = inner_disciplined setup setting cores t stands c here f flight move (Some r) None of_call
+              (marks_own setup cores t e after (λ w there. ap (λ h. h.marks w) still) stands.marks marks) (λ d m other. absurd (none_some d (sym unmarked ∙ m)));
+          near = inner_near setup setting cores t stands c here f flight move (Some r) None of_call;
+          marks = marks;
+          words = write_words setup cores t e after still calm.frame unmarked bare
+              (λ v there. calm_words setup t e calm plain v (λ g i h. places g i (λ q. there (h ∙ q ∙ sym at)))
               (λ d h. (decided-inside (Some r) (phase t c) (state_after setup t) c d, plain_exit t e refl d)))
-              new stands.words;
+              (subst (λ w. WordIs (state_after setup (e ∷ t)) (times_of setup (e ∷ t)) w (left_of move (last_left setup t w))) (sym at) new) stands.words;
           draws = (let a = stands.draws in let b = plain.same in let g = counted_rises setup (state_after setup t) (state_after setup (e ∷ t)) c calm in omega arith);
           none_removed = removed;
           time = plain_time setup t e plain;
           leaves = tt;
-          own = inner_own setup setting cores t stands c here f flight (EntryAt node index) found left (Some r) None refl plain made stage fits calm counts
+          own = inner_own setup setting cores t stands c here f flight move (Some r) None refl plain made stage lands.fits calm counts
               (ap (after_decide (Some r)) opens ∙ sym closes) knows;
         }
 
     -- The call returns: the core's word says that it is outside, with the clock that it has loaded.
-    pub leaves_on : (found : ℕ) (r : Reply) (x : ℕ) → found ≡ last_left setup t (CoreAt c) → f.stage ≡ Leave r x
-        → IsCore (record (cores c) { exit = x; flight = None })
-        → IsGood setup cores t (step_to c None (CoreAt c) found (core_word false x) None (Some r)) (record (cores c) { exit = x; flight = None })
-    leaves_on found r x is at fits =
-        let e : Step = step_to c None (CoreAt c) found (core_word false x) None (Some r) in
+    pub leaves_on : (r : Reply) (x : ℕ) → f.stage ≡ Leave r x
+        → Lands setup (record (cores c) { exit = x; flight = None }) (CoreAt c)
+        → IsGood setup cores t (step_to c None (StoreOf (CoreAt c) (core_word false x)) (last_left setup t (CoreAt c)) None (Some r)) (record (cores c) { exit = x; flight = None })
+    leaves_on r x at lands =
+        let e : Step = step_to c None (StoreOf (CoreAt c) (core_word false x)) (last_left setup t (CoreAt c)) None (Some r) in
         let after : Core = record (cores c) { exit = x; flight = None } in
         let now : CoreIs setup (cores c) t c = core_is setup setting cores t stands c here f flight in
         let in_flight = flight_is setup setting cores t stands c here f flight in
@@ -125,17 +146,25 @@ module _ (setup : Setting) (setting : IsSetting setup) (cores : ℕ → Core) (t
         let small = clock_small setup setting cores t stands in
         let low = leave.low in
         let inside : ((state_after setup (e ∷ t)).core c).inside ≡ false = inside-own setup e t c refl in
+        let marks = write_marks setup cores t e after still calm.frame refl refl stands.marks in
         record {
           follows = record {
             is_core = here;
-            found = is;
+            is_in = lands.is_in;
+            is_named = lands.is_named;
+            found = refl;
+            small = core_small false x (omega arith);
             enters = tt;
             in_call = in_call setup setting cores t stands c here f flight;
             decides = tt;
             returns = record { call = f.call; was_decided = was_decided };
           };
-          within = inner_within setup setting cores t stands c here f flight (CoreAt c) found (core_word false x) None (Some r);
-          marks = write_marks setup cores t e after still calm.frame refl refl stands.marks;
+          within = inner_within setup setting cores t stands c here f flight (StoreOf (CoreAt c) (core_word false x)) None (Some r);
+          alone = λ a. tt;
+          disciplined = inner_disciplined setup setting cores t stands c here f flight (StoreOf (CoreAt c) (core_word false x)) None (Some r) own_word
+              (marks_own setup cores t e after (λ w there. ap (λ h. h.marks w) still) stands.marks marks) (λ d m other. absurd (none_some d m));
+          near = inner_near setup setting cores t stands c here f flight (StoreOf (CoreAt c) (core_word false x)) None (Some r) own_word;
+          marks = marks;
           words = write_words setup cores t e after still calm.frame refl refl
               (λ v there. calm_words setup t e calm plain v (λ g i h. refl)
               (λ d h. elim (cases_eq d c) [
@@ -150,7 +179,7 @@ module _ (setup : Setting) (setting : IsSetting setup) (cores : ℕ → Core) (t
           time = plain_time setup t e plain;
           leaves = record { at = x; knows = leave; stored = now.flushed; no_entry = refl; no_decision = refl };
           own = record {
-            fits = fits;
+            fits = lands.fits;
             number = now.number;
             shape = now.shape;
             limit = now.limit;
@@ -161,22 +190,26 @@ module _ (setup : Setting) (setting : IsSetting setup) (cores : ℕ → Core) (t
           };
         }
       where
+        own_word : IsOfCall setup t c f.call (StoreOf (CoreAt c) (core_word false x))
+        own_word = record { moves = eq-eqb c c refl; near = inl tt }
+
         counts : CoreIs setup (cores c) t c → (cores c).made ≡ ((returned (state_after setup t) c).core c).counted
         counts now = now.works.made ∙ sym (ap (λ k. k.counted) (put_same (state_after setup t).core c _ c refl))
 
   -- A call enters, and may be decided at once: the core's word says that it is inside, with the stamp of its last exit.
-  pub enters_on : (found made : ℕ) (call : Call) (d : Option Reply) (stage : Stage) → found ≡ last_left setup t (CoreAt c) → (cores c).flight ≡ None
-      → InLimits call → IsCore (core_at (cores c) (fresh call) made stage) → holds_at stage (cores c).core ≡ holds_in None (cores c).core
+  pub enters_on : (made : ℕ) (call : Call) (d : Option Reply) (stage : Stage) → (cores c).flight ≡ None
+      → InLimits call → Lands setup (core_at (cores c) (fresh call) made stage) (CoreAt c) → holds_at stage (cores c).core ≡ holds_in None (cores c).core
       → after_decide d (Open call) ≡ phase_at call stage
-      → (let e : Step = step_to c (Some call) (CoreAt c) found (core_word true (cores c).exit) d None in
+      → (let e : Step = step_to c (Some call) (StoreOf (CoreAt c) (core_word true (cores c).exit)) (last_left setup t (CoreAt c)) d None in
       IsCalm (state_after setup t) (state_after setup (e ∷ t)) c → IsPlain setup t e
       → made ≡ ((state_after setup (e ∷ t)).core c).counted
       → ((g i : ℕ) → (state_after setup (e ∷ t)).place g i ≡ (state_after setup t).place g i)
       → MayDecide setup t e d (Open call)
+      → IsFirst setup t e d (Open call)
       → Knows setup (e ∷ t) c (cores c).table call stage
       → IsGood setup cores t e (core_at (cores c) (fresh call) made stage))
-  enters_on found made call d stage is between limits fits same at calm plain counts places may knows =
-      let e : Step = step_to c (Some call) (CoreAt c) found (core_word true (cores c).exit) d None in
+  enters_on made call d stage between limits lands same at calm plain counts places may first knows =
+      let e : Step = step_to c (Some call) (StoreOf (CoreAt c) (core_word true (cores c).exit)) (last_left setup t (CoreAt c)) d None in
       let after : Core = core_at (cores c) (fresh call) made stage in
       let now : CoreIs setup (cores c) t c = stands.each c here in
       let out : phase t c ≡ Out = subst (FlightIs setup t c (cores c).table) between now.flight in
@@ -186,17 +219,37 @@ module _ (setup : Setting) (setting : IsSetting setup) (cores : ℕ → Core) (t
       let small = clock_small setup setting cores t stands in
       let low = (stands.times c).exit in
       let exit = now.exit in
+      let marks = write_marks setup cores t e after still calm.frame refl refl stands.marks in
       record {
-        follows = record { is_core = here; found = is; enters = (out, limits); in_call = not_out; decides = may; returns = tt };
+        follows = record {
+          is_core = here;
+          is_in = lands.is_in;
+          is_named = lands.is_named;
+          found = refl;
+          small = core_small true (cores c).exit (omega arith);
+          enters = (out, limits);
+          in_call = not_out;
+          decides = may;
+          returns = tt;
+        };
         within = record {
           call = call;
           is_of = refl;
-          steps = (let a = fits.flight.steps in
+          steps = (let a = lands.fits.flight.steps in
               let b : steps_in_call (e ∷ t) c ≡ 1 = steps_in_call-own c e t refl in
               let g : bound_of call (cores c).shape.cores ≡ bound_of call setup.cores = ap (λ s. bound_of call s.cores) now.shape in
               omega arith);
         };
-        marks = write_marks setup cores t e after still calm.frame refl refl stands.marks;
+        alone = λ a. first;
+        disciplined = record {
+          call = call;
+          is_of = refl;
+          moves = eq-eqb c c refl;
+          marks = marks_own setup cores t e after (λ w there. ap (λ h. h.marks w) still) stands.marks marks;
+          keeps = λ b m other. absurd (none_some b m);
+        };
+        near = record { call = call; is_of = refl; near = inl tt };
+        marks = marks;
         words = write_words setup cores t e after still calm.frame refl refl
             (λ v there. calm_words setup t e calm plain v (λ g i h. places g i)
             (λ b h. elim (cases_eq b c) [
@@ -211,7 +264,7 @@ module _ (setup : Setting) (setting : IsSetting setup) (cores : ℕ → Core) (t
         time = plain_time setup t e plain;
         leaves = tt;
         own = record {
-          fits = fits;
+          fits = lands.fits;
           number = now.number;
           shape = now.shape;
           limit = now.limit;

@@ -4,8 +4,8 @@
 use Rattle.std.specs.Prelude.{◌≡◌, ℕ, Bool, true, false, Option, Some, None}
 use Rattle.spk_nums.specs.Setting.{Setting}
 use Rattle.word_map.specs.Word.{Word}
-use Rattle.kernel_history.specs.Marks.{mark_of}
-use Rattle.kernel_history.specs.Trace.{Trace, state_after, last_left}
+use Rattle.kernel_history.specs.Marking.{marked_by}
+use Rattle.kernel_history.specs.Trace.{Trace, last_left}
 
 -- What a core holds: the words that carry its mark, and the unmarked word that each of these stands for.
 pub record Holding : Type 0 where
@@ -15,10 +15,6 @@ pub record Holding : Type 0 where
 -- No word is held.
 abbrev pub nothing : Holding
 nothing = record { marks = λ w. false; stands = λ w. 0 }
-
--- The core whose mark a word carries after the trace.
-abbrev pub marked_by : Setting → Trace → Word → Option ℕ
-marked_by setup t w = mark_of (state_after setup t) w (last_left setup t w)
 
 -- A word as it will be when the core that has marked it gives it back.
 abbrev pub settled_by : Option ℕ → (ℕ → Holding) → Word → ℕ → ℕ

@@ -14,7 +14,7 @@ use Rattle.kernel_rules.specs.Access.{Slot, Named, found, root_at, Target, Under
 use Rattle.kernel_rules.specs.Relies.{Relies}
 use Rattle.kernel_history.specs.Graces.{IsLeave}
 use Rattle.kernel_history.specs.BootWords.{shape_of}
-use Rattle.kernel_history.specs.Trace.{Trace, Phase, Out, Open, Decided, phase, state_after, own_left, steps_in_call}
+use Rattle.kernel_history.specs.Trace.{Trace, Phase, Out, Open, Decided, phase, state_after, own_left, own_read, steps_in_call}
 use Rattle.kernel_history.specs.Ways.{root_passed}
 use Rattle.kernel_history.specs.Justified.{HasReached}
 use Rattle.kernel_history.specs.Stamps.{exit_of, flush_of, flush_stored}
@@ -121,13 +121,13 @@ abbrev pub KnowsTarget : Setting → Trace → ℕ → ℕ → Call → Capabili
 KnowsTarget setup t c table (Copy a u b) k look = IsTarget setup t c table a u b k look
 KnowsTarget setup t c table _ k look = ⊥
 
--- The slot of the target is reached, and the call's last step on its entry has left this word there, which says that it is free.
+-- The slot of the target is reached, and the call's last step on its entry has read this word there, which says that it is free.
 -- A quiescing target is scanned and kept here too, once calls remove.
 pub record IsFill (setup : Setting) (t : Trace) (c table a u b : ℕ) (k : Capability) (node index word : ℕ) : Type 0 where
   pub root : Capability
   pub names : HasNames setup t c table a u k root
   pub way : IsReached setup t c (Under (found root) b) (record { node = node; index = index })
-  pub own : own_left t c (EntryAt node index) ≡ Some word
+  pub own : own_read t c (EntryAt node index) ≡ Some word
   pub free : entry_of_word word ≡ Some entry.Free
 
 abbrev pub KnowsFill : Setting → Trace → ℕ → ℕ → Call → ℕ → ℕ → ℕ → Capability → Type 0

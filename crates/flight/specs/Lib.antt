@@ -1,6 +1,8 @@
 pub mod View
 pub mod Stages
 pub mod Steps
+pub mod Made
+pub mod Histories
 pub mod Decided
 pub mod Fits
 pub mod Holding
@@ -8,3 +10,4 @@ pub mod Words
 pub mod Knows
 pub mod Stands
 pub mod Theorems
+pub mod Phases

@@ -8,6 +8,10 @@ use Rattle.kernel_rules.specs.References.{sum_below}
 use Rattle.kernel_history.specs.Trace.{Trace, Out, phase, calls_of, state_after}
 use Rattle.kernel_history.specs.Legal.{IsLegal}
 use Rattle.kernel_history.specs.Bounds.{KeepsBounds}
+use Rattle.kernel_history.specs.Marking.{marked_by, HasMarked}
+use Rattle.kernel_history.specs.Discipline.{KeepsDiscipline}
+use Rattle.kernel_history.specs.Footprint.{KeepsFootprints}
+use Rattle.kernel_history.specs.Alone.{KeepsFirst}
 use Rattle.kernel_history.specs.Stamps.{stamp, clock, exit_of, flush_stored}
 use Rattle.kernel_history.specs.Graces.{GraceIs, TimesAre}
 use Rattle.flight.specs.declared.stages.Stage.{Stage}
@@ -54,11 +58,17 @@ counted_in setup s = sum_below (λ c. (s.core c).counted) setup.cores
 
 -- The cores stand for the trace.
 pub record Stands (setup : Setting) (cores : ℕ → Core) (t : Trace) : Type 0 where
-  -- the trace is a legal history, and its calls keep within their bounds
+  -- the trace is a legal history; its calls keep within their bounds, and are decided in order where they are alone; and its
+  -- steps keep the discipline and their footprints
   pub legal : IsLegal setup t
   pub bounds : KeepsBounds setup.cores t
-  -- each word carries the marks of the cores that hold it, and its settled value says what the state is, kind by kind
+  pub alone : KeepsFirst setup t
+  pub discipline : KeepsDiscipline setup t
+  pub footprints : KeepsFootprints setup t
+  -- each word carries the marks of the cores that hold it, put there in their present calls, and its settled value says what the
+  -- state is, kind by kind
   pub marks : (w : Word) (d : ℕ) → MarkIs setup (held_by cores) t w d
+  pub marked : (w : Word) (d : ℕ) → marked_by setup t w ≡ Some d → HasMarked setup t w d
   pub words : (w : Word) → WordIs (state_after setup t) (times_of setup t) w (settled setup (held_by cores) t w)
   -- a counted call draws at most one stamp; no core has left or flushed later than now; and grace periods go with stamps
   pub draws : clock setup t ≤ 1 + counted_in setup (state_after setup t)

@@ -1,6 +1,7 @@
 //! What is proved of the step machine, as laws: cores that stand for a trace go on standing for it, step by step.
 
-ghost use Rattle.flight.specs.Theorems.{Boots, StepsOn, SaysWords, Represents, ReadyDecides, UnreadyRefuses, DecidesOnce};
+ghost use Rattle.flight.specs.Histories.{MadeHistories};
+ghost use Rattle.flight.specs.Theorems.{Boots, StepsOn, MadeStands, SaysWords, Represents, ReadyDecides, UnreadyRefuses, DecidesOnce};
 
 /// The start stands for no step.
 #[tactic(auto, using(crate::proofs::Boot::boots))]
@@ -12,6 +13,19 @@ pub fn boots()
 #[tactic(auto, using(crate::proofs::Advance::steps_on))]
 pub fn steps_on()
     ensures { StepsOn }
+{}
+
+/// Where the cores are after a trace that is the machine's, they stand for it.
+#[tactic(auto, using(crate::proofs::Made::made_stands))]
+pub fn made_stands()
+    ensures { MadeStands }
+{}
+
+/// Each trace that is the machine's is a legal history: its calls keep within their bounds, each step keeps the discipline of words
+/// and its call's footprint, the words say the state at each moment, and a call made alone answers as in the sequential kernel.
+#[tactic(auto, using(crate::proofs::Made::made_histories))]
+pub fn made_histories()
+    ensures { MadeHistories }
 {}
 
 /// At each moment the words say what the state is.

@@ -8,6 +8,7 @@ mod steps;
 
 pub use core_state::CoreState;
 pub use laws::{
-    boots, decides_once, ready_decides, represents, says_words, steps_on, unready_refuses,
+    boots, decides_once, made_histories, made_stands, ready_decides, represents, says_words,
+    steps_on, unready_refuses,
 };
 pub use stages::{Absorbed, InFlight, Stage, Want};

@@ -1,5 +1,5 @@
 -- A grace period that stands waits for flushes exactly where its thing needs them now.
-use Rattle.std.proofs.Common.{◌≡◌, ◌⊎◌, inl, inr, ℕ, ◌<◌, arith, true, false, refl, sym, ◌∙◌, ap, subst, IsTrue, [], ◌∷◌, Option, Some, None}
+use Rattle.std.proofs.Common.{◌≡◌, ◌⊎◌, inl, inr, ℕ, ◌<◌, arith, Bool, true, false, refl, sym, ◌∙◌, ap, subst, IsTrue, [], ◌∷◌, Option, Some, None}
 use Rattle.std.proofs.lemmas.Bool.{false≢true}
 use Rattle.spk_nums.specs.Setting.{Setting, IsSetting}
 use Rattle.spk_nums.specs.declared.calls.Call.{Call}
@@ -8,16 +8,16 @@ use Rattle.kernel_rules.specs.State.{Thing, PlaceOf, FrameOf, State}
 use Rattle.kernel_rules.specs.GracePeriods.{is_paging, is_translated, needs_flush}
 use Rattle.kernel_rules.specs.CallRelation.{MayReply}
 use Rattle.kernel_rules.specs.Relies.{is_node}
-use Rattle.kernel_rules.proofs.SoundRuns.{opened, open_is}
+use Rattle.kernel_rules.proofs.SoundRuns.{opened}
 use Rattle.kernel_rules.proofs.SoundCalls.{IsOpen}
 use Rattle.kernel_rules.proofs.FrameTurns.{is_typed, TurnsIn, decided_turns}
 use Rattle.kernel_rules.proofs.Releases.{begins_typed, ends_begins}
 use Rattle.kernel_history.specs.Trace.{Step, Trace, Phase, Out, Open, Decided, phase, after_enter, state_after, state_entered, state_decided, state_returned, state_before}
 use Rattle.kernel_history.specs.Stamps.{begins_in, ends_in, begins_at, ends_at, stamp, awaits_flushes}
 use Rattle.kernel_history.specs.Legal.{MayDecide, MayFollow, IsLegal}
-use Rattle.kernel_history.specs.Events.{plain_phase}
 use Rattle.kernel_history.proofs.Steps.{stamp-ends, stamp-kept, awaits-begins, awaits-kept}
-use Rattle.kernel_history.proofs.Events.{entered_events, before_is, entered_phase, entered_run, run_of}
+use Rattle.kernel_history.proofs.Events.{entered_events}
+use Rattle.kernel_history.proofs.Opens.{opens, open_inj}
 use Rattle.kernel_history.proofs.GraceSteps.{cases_bool}
 
 -- What holds of the things of a frame f whose grace periods stand: a place of a node waits for flushes where the node is of page
@@ -47,15 +47,15 @@ record DecidesTurn (o : Option Reply) (p : Phase) (s : State) (c f : ℕ) : Type
   typed : IsTrue (is_typed (s.frame f)) → (ends_in o p (FrameOf f) ≡ true)
       ⊎ (IsTrue (is_typed ((state_decided o p s c).frame f)) × (is_translated ((state_decided o p s c).frame f) ≡ is_translated (s.frame f)))
 
-decision_turns : (o : Option Reply) (p : Phase) (s : State) (c f : ℕ) → DecidesTurn o p s c f
-decision_turns None p s c f = record { node = λ i n. inr refl; typed = λ h. inr (h, refl) }
-decision_turns (Some r) Out s c f = record { node = λ i n. inr refl; typed = λ h. inr (h, refl) }
-decision_turns (Some r) (Open call) s c f =
-    let a : TurnsIn call r f (s.frame f) _ = decided_turns s c call r f in record { node = a.node; typed = a.typed }
-decision_turns (Some r) (Decided call q) s c f = record { node = λ i n. inr refl; typed = λ h. inr (h, refl) }
+decision_turns : (o : Option Reply) (p : Phase) (s : State) (opened_in : ℕ → Bool) (c f : ℕ) → ((call : Call) → p ≡ Open call → IsOpen s opened_in c) → DecidesTurn o p s c f
+decision_turns None p s opened_in c f opens_at = record { node = λ i n. inr refl; typed = λ h. inr (h, refl) }
+decision_turns (Some r) Out s opened_in c f opens_at = record { node = λ i n. inr refl; typed = λ h. inr (h, refl) }
+decision_turns (Some r) (Open call) s opened_in c f opens_at =
+    let a : TurnsIn call r f (s.frame f) _ = decided_turns s opened_in c (opens_at call refl) call r f in record { node = a.node; typed = a.typed }
+decision_turns (Some r) (Decided call q) s opened_in c f opens_at = record { node = λ i n. inr refl; typed = λ h. inr (h, refl) }
 
-step_turns : (setup : Setting) (t : Trace) (e : Step) (f : ℕ) → TurnsAt setup t e f
-step_turns setup t e f = record {
+step_turns : (setup : Setting) → IsSetting setup → (t : Trace) → IsLegal setup t → (e : Step) → MayFollow setup t e → (f : ℕ) → TurnsAt setup t e f
+step_turns setup lim t legal e follows f = record {
   node = λ i n. by_node i (a.node i (subst (λ x. IsTrue (is_node x)) after n));
   typed = λ h. by_typed (a.typed (subst (λ x. IsTrue (is_typed x)) (sym before) h));
 }
@@ -64,7 +64,7 @@ step_turns setup t e f = record {
     middle = state_decided e.decides (after_enter e.enters (phase t e.core)) (state_before setup t e) e.core
 
     a : DecidesTurn e.decides (after_enter e.enters (phase t e.core)) (state_before setup t e) e.core f
-    a = decision_turns e.decides (after_enter e.enters (phase t e.core)) (state_before setup t e) e.core f
+    a = decision_turns e.decides (after_enter e.enters (phase t e.core)) (state_before setup t e) (opened (entered_events t e)) e.core f (opens setup lim t legal e follows)
 
     after : (state_after setup (e ∷ t)).frame f ≡ middle.frame f
     after = returned_frame e.returns middle e.core f
@@ -84,13 +84,6 @@ step_turns setup t e f = record {
     by_typed (inr is) = inr (subst (λ x. IsTrue (is_typed x)) (sym after) is.0, ap is_translated after ∙ is.1 ∙ ap is_translated before)
 
 module _ (setup : Setting) (lim : IsSetting setup) (t : Trace) (legal : IsLegal setup t) (e : Step) (follows : MayFollow setup t e) where
-  open_inj : (k j : Call) → Open j ≡ Open k → k ≡ j
-  open_inj k j same = cc
-
-  opens : (call : Call) → after_enter e.enters (phase t e.core) ≡ Open call → IsOpen (state_before setup t e) (opened (entered_events t e)) e.core
-  opens call is = subst (λ s. IsOpen s (opened (entered_events t e)) e.core) (sym (before_is setup t e))
-      (open_is setup lim (entered_events t e) e.core (entered_run setup t e legal follows (run_of setup t legal)) (entered_phase t e ∙ ap plain_phase is))
-
   -- a grace period that ends at e does not begin there
   no_begin : (x : Thing) → ends_at t e x ≡ true → begins_at setup t e x ≡ false
   no_begin x = by_phase e.decides (after_enter e.enters (phase t e.core)) refl follows.decides
@@ -99,7 +92,7 @@ module _ (setup : Setting) (lim : IsSetting setup) (t : Trace) (legal : IsLegal 
           → begins_in o p (state_before setup t e) e.core x ≡ false
       by_phase None p at may is = refl
       by_phase (Some r) Out at may is = refl
-      by_phase (Some r) (Open call) at may is = ends_begins (state_before setup t e) (opened (entered_events t e)) e.core call r x (opens call at).sound
+      by_phase (Some r) (Open call) at may is = ends_begins (state_before setup t e) (opened (entered_events t e)) e.core call r x (opens setup lim t legal e follows call at)
           (subst (λ k. MayReply (state_before setup t e) e.core k r) (open_inj may.call call may.is_open) may.permitted) is
       by_phase (Some r) (Decided call q) at may is = refl
 
@@ -111,7 +104,7 @@ module _ (setup : Setting) (lim : IsSetting setup) (t : Trace) (legal : IsLegal 
           → IsTrue (is_typed ((state_before setup t e).frame f))
       by_phase None p at is = absurd (false≢true is)
       by_phase (Some r) Out at is = absurd (false≢true is)
-      by_phase (Some r) (Open call) at is = begins_typed (state_before setup t e) (opened (entered_events t e)) e.core (opens call at) call r f is
+      by_phase (Some r) (Open call) at is = begins_typed (state_before setup t e) (opened (entered_events t e)) e.core (opens setup lim t legal e follows call at) call r f is
       by_phase (Some r) (Decided call q) at is = absurd (false≢true is)
 
   awaits_step : (f : ℕ) → AwaitsAre setup t f → AwaitsAre setup (e ∷ t) f
@@ -125,7 +118,7 @@ module _ (setup : Setting) (lim : IsSetting setup) (t : Trace) (legal : IsLegal 
   }
     where
       turns : TurnsAt setup t e f
-      turns = step_turns setup t e f
+      turns = step_turns setup lim t legal e follows f
 
       met : (state_before setup t e).frame f ≡ (state_after setup t).frame f
       met = entered_frame e.enters (state_after setup t) e.core f

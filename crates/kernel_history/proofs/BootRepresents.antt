@@ -11,12 +11,14 @@ use Rattle.entry_words.specs.declared.entry.Entry.TheVariants as entry
 use Rattle.entry_words.specs.EntryWord.{EntryFits, word_of_entry, entry_of_word}
 use Rattle.entry_words.proofs.Spelling as entries
 use Rattle.frame_words.specs.Frame.{FrameFits}
+use Rattle.frame_words.specs.Count.{word_of_count}
 use Rattle.frame_words.specs.Live.{word_of_live, live_of_word}
 use Rattle.frame_words.specs.declared.live_word.LiveWord.TheVariants as live_word
 use Rattle.frame_words.specs.declared.count_word.Hold.TheVariants.{Unheld}
 use Rattle.frame_words.proofs.CompLemmas as comps
 use Rattle.frame_words.proofs.CoreLemmas as core_words
 use Rattle.frame_words.proofs.CountLemmas as counts
+use Rattle.frame_words.proofs.FlushLemmas as flushes
 use Rattle.frame_words.proofs.FrameLemmas as frames
 use Rattle.frame_words.proofs.LiveLemmas as lives
 use Rattle.tcap_words.specs.Stack.{PlaceFits}
@@ -27,10 +29,11 @@ use Rattle.tcap_words.proofs.QualityLemmas as qualities
 use Rattle.tcap_words.proofs.StackLemmas as stacks
 use Rattle.tcap_words.proofs.ThreadLemmas as threads
 use Rattle.kernel_rules.specs.State.{Place, Free, Holds, Quiescing, TcapFields, Blank, Table, Leaf, Pages, Pleaf, Comp, Thread, Tcap, Frame, Untyped, User, Kernel}
-use Rattle.kernel_rules.specs.Start.{start, start_place, start_cap, core_cap, start_frame, start_number, place_with, granted}
+use Rattle.word_map.specs.Word.{Word, EntryAt, FrameAt, CountAt, CoreAt, FlushAt, LiveAt, ClockAt}
+use Rattle.kernel_rules.specs.Start.{start, start_place, start_cap, core_cap, start_comp, start_frame, start_number, place_with, granted}
 use Rattle.kernel_rules.specs.References.{refs}
-use Rattle.kernel_history.specs.ObjectWords.{is_node, frame_value, at_height}
-use Rattle.kernel_history.specs.BootWords.{boot_entry, boot_frame, boot_thread, boot_tcap, boot_live}
+use Rattle.kernel_history.specs.ObjectWords.{is_node, frame_value, comp_word, at_height}
+use Rattle.kernel_history.specs.BootWords.{boot_entry, boot_frame, boot_thread, boot_tcap, boot_live, boot_word}
 use Rattle.kernel_history.specs.FinalWords.{SaysPlace, AreThread, AreTcap, AreFrame, SaysNumber, HoldNothing}
 use Rattle.kernel_history.specs.BootLaws.{BootRepresents, BootRepresentsStart}
 use Rattle.kernel_history.proofs.StartRefs.{refs_most}
@@ -164,6 +167,52 @@ module _ (setup : Setting) (lim : IsSetting setup) where
   numbers l =
       choose (λ x. SaysNumber x (live_of_word (word_of_live (boot_live x)))) (l == 0) _ _
       (λ e. lives.spelling.reads (live_word.Live 1 3) (omega arith, omega arith, omega arith)) (λ e. lives.spelling.reads live_word.Free tt)
+
+  -- each word of the start has 64 bits
+  entry_small : (p : Place) → HasEntry p → word_of_entry (boot_entry p) < 2 ^ 64
+  entry_small Free h = entries.spelling.small entry.Free tt
+  entry_small (Holds k) h = entries.spelling.small (entry.Held k) h
+  entry_small (Quiescing k) h = absurd h
+
+  thread_small : (c i : ℕ) → c < 8 → boot_thread (record { stack = 3 ∷ []; runs_on = Some c }) i < 2 ^ 64
+  thread_small c i h = choose (λ (x : ℕ). x < 2 ^ 64) (i == 0) _ _ (λ e. threads.spelling.small (Running c 1) (h, (omega arith, omega arith)))
+      (λ e. stacks.spelling.small (record { 0 = at_height (3 ∷ []) (i - 1) }) (one_high (i - 1)))
+
+  tcap_small : (q : TcapFields) (i : ℕ) → FitsTcap q → boot_tcap q i < 2 ^ 64
+  tcap_small q i h = choose (λ (x : ℕ). x < 2 ^ 64) (i == 0) _ _ (λ e. heads.spelling.small (record { budget = q.budget; mark = None; version = 0 }) (h.budget, tt, omega arith))
+      (λ e. qualities.spelling.small (record { 0 = slice_get q.qualities (i - 1) }) (h.pairs (i - 1)))
+
+  comp_small : (i : ℕ) → comp_word start_comp i < 2 ^ 64
+  comp_small i =
+      choose (λ (x : ℕ). x < 2 ^ 64) (i == 0) _ _ (λ e. omega arith) λ e.
+      choose (λ (x : ℕ). x < 2 ^ 64) (i == 1) _ _ (λ e. omega arith) λ e.
+      choose (λ (x : ℕ). x < 2 ^ 64) (i == 2) _ _ (λ e. comps.spelling.small (record { number = 0; epoch = 1 }) (omega arith, omega arith, omega arith)) λ e. omega arith
+
+  frame_small : (f i : ℕ) → boot_frame (start_frame setup f) (start_place setup f) i < 2 ^ 64
+  frame_small f i =
+      let P : Frame → Type 0 = λ x. boot_frame x (start_place setup f) i < 2 ^ 64 in
+      let n = lim.most_cores in
+      let node : word_of_entry (boot_entry (start_place setup f i)) < 2 ^ 64 = entry_small (start_place setup f i) (place_fits f i) in
+      choose P (f == 0) _ _ (λ e. node) λ e.
+      choose P (f == 1) _ _ (λ e. node) λ e.
+      choose P (f == 2) _ _ (λ e. node) λ e.
+      choose P (f == 3) _ _ (λ e. comp_small i) λ e.
+      choose P (nat_lt f (4 + setup.cores)) _ _ (λ e. thread_small (f - 4) i (omega (arith, n, ltb-true f (4 + setup.cores) e))) λ e.
+      choose P (nat_lt f (4 + 2 * setup.cores)) _ _ (λ e. tcap_small (granted (slice_get setup.grants (f - 4 - setup.cores))) i (granted_fits _ (grant_fits setup lim (f - 4 - setup.cores)))) λ e. omega arith
+
+  count_small : (f n : ℕ) → n ≤ refs (start setup) f → word_of_count (record { hold = Unheld; count = pos n; stamp = 0 }) < 2 ^ 64
+  count_small f n most = counts.spelling.small (record { hold = Unheld; count = pos n; stamp = 0 }) (tt, (let m = refs_most setup lim f in omega (arith, m, most)), omega arith)
+
+  pub boot_small : (w : Word) → boot_word setup w < 2 ^ 64
+  boot_small (EntryAt f i) = frame_small f i
+  boot_small (FrameAt f) = frames.spelling.small (frame_value (start_frame setup f)) (frame_fits (start_frame setup f))
+  boot_small (CountAt f c) = count_small f (if c == 0 then refs (start setup) f else 0)
+      (choose (λ (x : ℕ). x ≤ refs (start setup) f) (c == 0) (refs (start setup) f) 0 (λ e. omega arith) (λ e. omega arith))
+  boot_small (CoreAt c) = core_words.spelling.small (record { inside = false; stamp = 0 }) (omega arith)
+  boot_small (FlushAt c) = flushes.spelling.small (record { stamp = 0 }) (omega arith)
+  boot_small (LiveAt l) = choose (λ x. word_of_live (boot_live x) < 2 ^ 64) (l == 0) _ _
+      (λ e. lives.spelling.small (live_word.Live 1 3) (omega arith, omega arith, omega arith)) (λ e. lives.spelling.small live_word.Free tt)
+  boot_small ClockAt = omega arith
 
   represents : BootRepresents setup
   represents = record {

@@ -5,6 +5,7 @@ use Rattle.std.proofs.lemmas.Bool.{true≢false, cases_eq, eq-eqb, ne_eqb}
 use Rattle.spk_nums.specs.Setting.{Setting, IsSetting}
 use Rattle.spk_nums.specs.declared.calls.Call.{Call}
 use Rattle.word_map.specs.Word.{Word}
+use Rattle.word_map.specs.Moves.{word_of}
 use Rattle.kernel_rules.specs.State.{Thing, PlaceOf, NumberOf, State}
 use Rattle.kernel_history.specs.Trace.{Step, Trace, Open, phase, state_after, state_entered, own_left, IfNot, WasAt, WasBefore}
 use Rattle.kernel_history.specs.Stamps.{is_in, stamp, clock}
@@ -23,14 +24,14 @@ use Rattle.kernel_history.proofs.Waiting.{Passed, Flushed, still_past, stamp_ris
 pub own_stays : (c : ℕ) (e : Step) (t : Trace) → (c ≡ e.core → e.enters ≡ None) → (w : Word) → IsSome (own_left t c w) → IsSome (own_left (e ∷ t) c w)
 own_stays c e t no_entry w had = elim (cases_eq c e.core) [
   | inr other ↦ ap is_some (own_left-other c e t other w) ∙ had
-  | inl own ↦ elim (cases_word w e.word) [
+  | inl own ↦ elim (cases_word w (word_of e.move)) [
     | inl here ↦ ap is_some (own_left-here c e t own w here)
     | inr there ↦ ap is_some (own_left-there c e t own w there ∙ ap (λ o. cond (is_some o) None (own_left t c w)) (no_entry own)) ∙ had
   ]
 ]
 
 -- And what it left there stands while the call makes no step on that word.
-pub own_apart : (c : ℕ) (e : Step) (t : Trace) → c ≡ e.core → e.enters ≡ None → (w : Word) → w ≢ e.word → own_left (e ∷ t) c w ≡ own_left t c w
+pub own_apart : (c : ℕ) (e : Step) (t : Trace) → c ≡ e.core → e.enters ≡ None → (w : Word) → w ≢ word_of e.move → own_left (e ∷ t) c w ≡ own_left t c w
 own_apart c e t own no_entry w there = own_left-there c e t own w there ∙ ap (λ o. cond (is_some o) None (own_left t c w)) no_entry
 
 -- moments of a call
@@ -76,15 +77,15 @@ pub record Carries (setup : Setting) (t : Trace) (e : Step) (c : ℕ) : Type 0 w
   pub passed : (x : Thing) (s d : ℕ) → s < clock setup t → Passed setup t x s d → Passed setup (e ∷ t) x s d
   pub flushed : (x : Thing) (s d : ℕ) → s < clock setup t → Flushed setup t x s d → Flushed setup (e ∷ t) x s d
 
-carries_by : (setup : Setting) (t : Trace) (e : Step) → MayFollow setup t e → KeepsTime setup t e → ((x : Thing) → GraceIs setup t x)
+carries_by : (setup : Setting) → IsSetting setup → (t : Trace) → IsLegal setup t → (e : Step) → MayFollow setup t e → KeepsTime setup t e → ((x : Thing) → GraceIs setup t x)
     → (c : ℕ) → (c ≡ e.core → e.enters ≡ None) → Stays setup t e c → Carries setup t e c
-carries_by setup t e follows time graces c no_entry stays = record {
+carries_by setup lim t legal e follows time graces c no_entry stays = record {
   own = own_stays c e t no_entry;
   stays = stays;
   was_removed = λ x. was_stays (IsRemoved x) setup t e c no_entry;
   past = still_past setup t e follows time graces;
-  place_rises = λ f i relies. stamp_rises setup t e follows time graces (PlaceOf f i) (node_goes_on setup t e follows f i relies.node);
-  number_rises = λ l. stamp_rises setup t e follows time graces (NumberOf l) (number_goes_on setup t e follows l);
+  place_rises = λ f i relies. stamp_rises setup t e follows time graces (PlaceOf f i) (node_goes_on setup lim t legal e follows f i relies.node);
+  number_rises = λ l. stamp_rises setup t e follows time graces (NumberOf l) (number_goes_on setup lim t legal e follows l);
   passed = passed_on setup t e follows time graces;
   flushed = flushed_on setup t e follows time graces;
 }
@@ -93,13 +94,13 @@ carries_by setup t e follows time graces c no_entry stays = record {
 pub carries_other : (setup : Setting) → IsSetting setup → (t : Trace) → IsLegal setup t → (e : Step) → MayFollow setup t e → KeepsTime setup t e
     → ((x : Thing) → GraceIs setup t x) → (c : ℕ) → c ≢ e.core → (call : Call) → phase t c ≡ Open call → Carries setup t e c
 carries_other setup lim t legal e follows time graces c other call is =
-    carries_by setup t e follows time graces c (λ own. absurd (other own)) (stays_other setup lim t legal e follows c other call is)
+    carries_by setup lim t legal e follows time graces c (λ own. absurd (other own)) (stays_other setup lim t legal e follows c other call is)
 
 -- After an own step without event.
-pub carries_own : (setup : Setting) (t : Trace) (e : Step) → MayFollow setup t e → KeepsTime setup t e → ((x : Thing) → GraceIs setup t x)
+pub carries_own : (setup : Setting) → IsSetting setup → (t : Trace) → IsLegal setup t → (e : Step) → MayFollow setup t e → KeepsTime setup t e → ((x : Thing) → GraceIs setup t x)
     → e.enters ≡ None → e.decides ≡ None → e.returns ≡ None → Carries setup t e e.core
-carries_own setup t e follows time graces no_entry no_decision no_return =
-    carries_by setup t e follows time graces e.core (λ own. no_entry) (stays_plain setup t e e.core no_entry no_decision no_return)
+carries_own setup lim t legal e follows time graces no_entry no_decision no_return =
+    carries_by setup lim t legal e follows time graces e.core (λ own. no_entry) (stays_plain setup t e e.core no_entry no_decision no_return)
 
 -- A core in a call is inside.
 pub open_inside : (setup : Setting) (t : Trace) (c : ℕ) (call : Call) → phase t c ≡ Open call → ((state_after setup t).core c).inside ≡ true

@@ -4,9 +4,9 @@ use Rattle.std.proofs.lemmas.Bool.{cases_eq, eq-eqb, ne_eqb}
 use Rattle.spk_nums.specs.declared.calls.Call.{Call}
 use Rattle.spk_nums.specs.declared.replies.Reply.{Reply}
 use Rattle.spk_nums.specs.Setting.{Setting}
-use Rattle.spk_nums.specs.CallLimits.{InLimits}
 use Rattle.kernel_rules.specs.State.{State}
-use Rattle.kernel_rules.specs.Runs.{Event, Enters, Decides, Returns, after, core_of, phase_by, phase_of, IsRun}
+use Rattle.kernel_rules.specs.CallRelation.{MayReply}
+use Rattle.kernel_rules.specs.Runs.{Event, Enters, Decides, Returns, after, is_decided, core_of, phase_by, phase_of, IsRun}
 use Rattle.kernel_history.specs.Trace.{Step, Trace, Phase, Out, Open, Decided, phase, after_enter, after_decide, after_return, state_after, state_entered, state_decided, state_returned, state_before}
 use Rattle.kernel_history.specs.Events.{with_entry, with_decision, with_return, events_of, plain_phase}
 use Rattle.kernel_history.specs.Legal.{MayEnter, MayDecide, MayReturn, MayFollow, IsLegal}
@@ -60,7 +60,7 @@ apart_phase event events c other = ap (λ b. cond b (phase_by event) (phase_of e
 entry_phase : (o : Option Call) (c : ℕ) (events : List Event) (p : Phase) → phase_of events c ≡ plain_phase p
     → phase_of (with_entry o c events) c ≡ plain_phase (after_enter o p)
 entry_phase None c events p is = is
-entry_phase (Some call) c events p is = same_phase (Enters c) events c refl
+entry_phase (Some call) c events p is = same_phase (Enters c call) events c refl
 
 decision_phase : (o : Option Reply) (p : Phase) (c : ℕ) (events : List Event) → phase_of events c ≡ plain_phase p
     → phase_of (with_decision o p c events) c ≡ plain_phase (after_decide o p)
@@ -76,7 +76,7 @@ return_phase (Some r) c events p is = same_phase (Returns c) events c refl
 
 pub entry_apart : (o : Option Call) (d : ℕ) (events : List Event) (c : ℕ) → c ≢ d → phase_of (with_entry o d events) c ≡ phase_of events c
 entry_apart None d events c other = refl
-entry_apart (Some call) d events c other = apart_phase (Enters d) events c other
+entry_apart (Some call) d events c other = apart_phase (Enters d call) events c other
 
 pub decision_apart : (o : Option Reply) (p : Phase) (d : ℕ) (events : List Event) (c : ℕ) → c ≢ d → phase_of (with_decision o p d events) c ≡ phase_of events c
 decision_apart None p d events c other = refl
@@ -111,60 +111,24 @@ entered_phase t e = entry_phase e.enters e.core (events_of t) (phase t e.core) (
 pub decided_phase : (t : Trace) (e : Step) → phase_of (decided_events t e) e.core ≡ plain_phase (after_decide e.decides (after_enter e.enters (phase t e.core)))
 decided_phase t e = decision_phase e.decides (after_enter e.enters (phase t e.core)) e.core (entered_events t e) (entered_phase t e)
 
--- an open call is within its limits
-
--- The open call of a phase is within its limits.
-abbrev pub OpenWithin : Phase → Type 0
-OpenWithin Out = Unit {0}
-OpenWithin (Open call) = InLimits call
-OpenWithin (Decided call r) = Unit {0}
-
-entered_within : (o : Option Call) (p : Phase) → MayEnter o p → OpenWithin p → OpenWithin (after_enter o p)
-entered_within None p may within = within
-entered_within (Some call) p may within = may.1
-
-decided_within : (o : Option Reply) (p : Phase) → OpenWithin p → OpenWithin (after_decide o p)
-decided_within None p within = within
-decided_within (Some r) Out within = tt
-decided_within (Some r) (Open call) within = tt
-decided_within (Some r) (Decided call q) within = tt
-
-returned_within : (o : Option Reply) (p : Phase) → OpenWithin p → OpenWithin (after_return o p)
-returned_within None p within = within
-returned_within (Some r) p within = tt
-
-pub open_within : (setup : Setting) (t : Trace) → IsLegal setup t → (c : ℕ) → OpenWithin (phase t c)
-open_within setup [] legal c = tt
-open_within setup (e ∷ t) legal c = elim (cases_eq c e.core) [
-  | inl own ↦ subst (λ d. OpenWithin (phase (e ∷ t) d)) (sym own) (subst OpenWithin (sym (phase-own e.core e t refl))
-      (returned_within e.returns (after_decide e.decides (after_enter e.enters (phase t e.core)))
-      (decided_within e.decides (after_enter e.enters (phase t e.core))
-      (entered_within e.enters (phase t e.core) legal.1.enters (open_within setup t legal.0 e.core)))))
-  | inr other ↦ subst OpenWithin (sym (phase-other c e t other)) (open_within setup t legal.0 c)
-]
-
-pub call_within : (setup : Setting) (t : Trace) (e : Step) → IsLegal setup t → MayFollow setup t e → OpenWithin (after_enter e.enters (phase t e.core))
-call_within setup t e legal follows = entered_within e.enters (phase t e.core) follows.enters (open_within setup t legal e.core)
-
 -- the run
 
 entry_run : (setup : Setting) (o : Option Call) (c : ℕ) (events : List Event) (p : Phase) → c < setup.cores → MayEnter o p
     → phase_of events c ≡ plain_phase p → IsRun setup events → IsRun setup (with_entry o c events)
 entry_run setup None c events p core may is run = run
-entry_run setup (Some call) c events p core may is run = (run, (core, is ∙ ap plain_phase may.0))
+entry_run setup (Some call) c events p core may is run = (run, record { is_core = core; is_out = is ∙ ap plain_phase may.0; in_limits = may.1 })
 
-decision_run : (setup : Setting) (t : Trace) (e : Step) (o : Option Reply) (p : Phase) → MayDecide setup t e o p → OpenWithin p
+decision_run : (setup : Setting) (t : Trace) (e : Step) (o : Option Reply) (p : Phase) → MayDecide setup t e o p
     → phase_of (entered_events t e) e.core ≡ plain_phase p → IsRun setup (entered_events t e) → IsRun setup (with_decision o p e.core (entered_events t e))
-decision_run setup t e None p may within is run = run
-decision_run setup t e (Some r) Out may within is run = run
-decision_run setup t e (Some r) (Decided call q) may within is run = run
-decision_run setup t e (Some r) (Open call) may within is run = (
+decision_run setup t e None p may is run = run
+decision_run setup t e (Some r) Out may is run = run
+decision_run setup t e (Some r) (Decided call q) may is run = run
+decision_run setup t e (Some r) (Open call) may is run = (
   run,
   record {
     is_open = is;
-    in_limits = within;
-    permitted = subst (λ s. Rattle.kernel_rules.specs.CallRelation.MayReply s e.core call r) (before_is setup t e)
-        (subst (λ k. Rattle.kernel_rules.specs.CallRelation.MayReply (state_before setup t e) e.core k r) (open_inj call may.call may.is_open) may.permitted);
+    permitted = subst (λ s. MayReply s e.core call r) (before_is setup t e)
+        (subst (λ k. MayReply (state_before setup t e) e.core k r) (open_inj call may.call may.is_open) may.permitted);
   },
 )
   where
@@ -174,14 +138,14 @@ decision_run setup t e (Some r) (Open call) may within is run = (
 return_run : (setup : Setting) (o : Option Reply) (c : ℕ) (events : List Event) (p : Phase) → MayReturn o p
     → phase_of events c ≡ plain_phase p → IsRun setup events → IsRun setup (with_return o c events)
 return_run setup None c events p may is run = run
-return_run setup (Some r) c events p may is run = (run, is ∙ ap plain_phase may.was_decided)
+return_run setup (Some r) c events p may is run = (run, ap is_decided (is ∙ ap plain_phase may.was_decided))
 
 module _ (setup : Setting) (t : Trace) (e : Step) (legal : IsLegal setup t) (follows : MayFollow setup t e) (run : IsRun setup (events_of t)) where
   pub entered_run : IsRun setup (entered_events t e)
   entered_run = entry_run setup e.enters e.core (events_of t) (phase t e.core) follows.is_core follows.enters (phase_is t e.core) run
 
   pub decided_run : IsRun setup (decided_events t e)
-  decided_run = decision_run setup t e e.decides (after_enter e.enters (phase t e.core)) follows.decides (call_within setup t e legal follows) (entered_phase t e) entered_run
+  decided_run = decision_run setup t e e.decides (after_enter e.enters (phase t e.core)) follows.decides (entered_phase t e) entered_run
 
   pub step_run : IsRun setup (events_of (e ∷ t))
   step_run = return_run setup e.returns e.core (decided_events t e) (after_decide e.decides (after_enter e.enters (phase t e.core))) follows.returns (decided_phase t e) decided_run
@@ -190,3 +154,24 @@ module _ (setup : Setting) (t : Trace) (e : Step) (legal : IsLegal setup t) (fol
 pub run_of : (setup : Setting) (t : Trace) → IsLegal setup t → IsRun setup (events_of t)
 run_of setup [] legal = tt
 run_of setup (e ∷ t) legal = step_run setup t e legal.0 legal.1 (run_of setup t legal.0)
+
+-- Phases that are one to the sequential kernel are one.
+pub plain_inj : (p q : Phase) → plain_phase p ≡ plain_phase q → p ≡ q
+plain_inj Out Out is = refl
+plain_inj Out (Open k) is = absurd (cc)
+plain_inj Out (Decided k r) is = absurd (cc)
+plain_inj (Open j) Out is = absurd (cc)
+plain_inj (Open j) (Open k) is = ap Open (inj is)
+  where
+    inj : plain_phase (Open j) ≡ plain_phase (Open k) → j ≡ k
+    inj h = cc
+plain_inj (Open j) (Decided k r) is = absurd (cc)
+plain_inj (Decided j q) Out is = absurd (cc)
+plain_inj (Decided j q) (Open k) is = absurd (cc)
+plain_inj (Decided j q) (Decided k r) is = ap (λ x. Decided x q) (first is) ∙ ap (λ x. Decided k x) (second is)
+  where
+    first : plain_phase (Decided j q) ≡ plain_phase (Decided k r) → j ≡ k
+    first h = cc
+
+    second : plain_phase (Decided j q) ≡ plain_phase (Decided k r) → q ≡ r
+    second h = cc

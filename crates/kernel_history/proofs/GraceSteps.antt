@@ -5,6 +5,7 @@ use Rattle.spk_nums.specs.declared.calls.Call.{Call}
 use Rattle.spk_nums.specs.declared.replies.Reply.{Reply}
 use Rattle.spk_nums.specs.Setting.{Setting}
 use Rattle.word_map.specs.Word.{FlushAt, same_word}
+use Rattle.word_map.specs.Moves.{word_of}
 use Rattle.kernel_rules.specs.State.{Grace, Thing, State}
 use Rattle.kernel_rules.specs.Start.{no_grace}
 use Rattle.kernel_rules.specs.GracePeriods.{new_grace, needs_flush, passed}
@@ -118,7 +119,7 @@ FitsNow setup t x c = FitsAt setup t x c (sets_of ((state_after setup t).grace x
 
 stored_rises : (t : Trace) (e : Step) (c : ℕ) → flush_stored t c ≤ flush_of t c → flush_stored t c ≤ flush_stored (e ∷ t) c
 stored_rises t e c low = elim (cases_eq c e.core) [
-  | inl own ↦ by_word (same_word (FlushAt c) e.word) (flush_stored-own c e t own)
+  | inl own ↦ by_word (same_word (FlushAt c) (word_of e.move)) (flush_stored-own c e t own)
   | inr other ↦ (let k = flush_stored-other c e t other in omega (arith, k))
 ]
   where
@@ -324,7 +325,7 @@ times_on setup t e time leaves c times = record {
     | inr other ↦ (let k = flush_of-other c e t other in let r = time.rises in let l = times.flush in omega (arith, k, r, l))
   ];
   stored = elim (cases_eq c e.core) [
-    | inl own ↦ by_word own (same_word (FlushAt c) e.word) (flush_stored-own c e t own) (rises own)
+    | inl own ↦ by_word own (same_word (FlushAt c) (word_of e.move)) (flush_stored-own c e t own) (rises own)
     | inr other ↦ (let k = flush_of-other c e t other in let j = flush_stored-other c e t other in let l = times.stored in omega (arith, k, j, l))
   ];
 } where

@@ -4,6 +4,7 @@ pub mod Open
 pub mod Idle
 pub mod Replies
 pub mod Events
+pub mod Opens
 pub mod Inside
 pub mod Stays
 pub mod GraceSets
@@ -12,9 +13,13 @@ pub mod Times
 pub mod Waiting
 pub mod Carries
 pub mod Awaits
+pub mod Markings
+pub mod AloneCalls
 pub mod Laws
 pub mod Sums
 pub mod StartRefs
 pub mod Fillings
 pub mod BootRepresents
+pub mod Small
 pub mod SeveralCores
+pub mod Texts

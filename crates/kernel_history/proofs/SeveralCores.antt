@@ -28,13 +28,13 @@ two_cores = record {
 -- Each decision of a list of events, the newest first, is permitted in the state that those before it leave.
 abbrev Permitted : List Event → Type 0
 Permitted [] = Unit {0}
-Permitted (Enters c ∷ events) = Permitted events
+Permitted (Enters c k ∷ events) = Permitted events
 Permitted (Decides c k r ∷ events) = Permitted events × MayReply (after two_cores events) c k r
 Permitted (Returns c ∷ events) = Permitted events
 
 -- A whole call of core c, after these events.
 abbrev whole : ℕ → Call → Reply → List Event → List Event
-whole c k r before = Returns c ∷ Decides c k r ∷ Enters c ∷ before
+whole c k r before = Returns c ∷ Decides c k r ∷ Enters c k ∷ before
 
 abbrev done : Reply
 done = reply.Ok Nothing
@@ -46,7 +46,7 @@ abbrev flags : ℕ → PageFlags
 flags w = record { 0 = w }
 
 -- Both cores are ready to fill a place; the first wins, and the second has lost a race.
-race : Permitted (Returns 1 ∷ Returns 0 ∷ Decides 1 (call.Copy 0 1 20) reply.Raced ∷ Decides 0 (call.Copy 0 1 20) done ∷ Enters 1 ∷ Enters 0 ∷ [])
+race : Permitted (Returns 1 ∷ Returns 0 ∷ Decides 1 (call.Copy 0 1 20) reply.Raced ∷ Decides 0 (call.Copy 0 1 20) done ∷ Enters 1 (call.Copy 0 1 20) ∷ Enters 0 (call.Copy 0 1 20) ∷ [])
 unfolding two_cores
 race = ((tt, (refl, refl)), (refl, tt))
 
@@ -61,7 +61,7 @@ removal_waits : Permitted (
     Returns 1 ∷ Decides 1 (call.Look 0) range
     ∷ whole 0 (call.Copy 0 1 20) (reply.Quiescing 1) (
     whole 0 (call.Remove 1 20) done (
-    Enters 1
+    Enters 1 (call.Look 0)
     ∷ whole 0 (call.Copy 0 1 20) done []))))
 unfolding two_cores
 removal_waits = (((((tt, (refl, refl)), (refl, refl)), (refl, inr (inr (inl (record { is_core = omega arith; other = λ e. omega (arith, e); is_inside = refl; not_passed = refl }))))), (refl, refl)), (refl, refl))
@@ -71,7 +71,7 @@ removal_may_wait : Permitted (
     whole 0 (call.Copy 0 1 20) done (
     Returns 1 ∷ Decides 1 (call.Look 0) range
     ∷ whole 0 (call.Copy 0 1 20) (reply.Quiescing 1) (
-    Enters 1
+    Enters 1 (call.Look 0)
     ∷ whole 0 (call.Remove 1 20) done (whole 0 (call.Copy 0 1 20) done []))))
 unfolding two_cores
 removal_may_wait = (((((tt, (refl, refl)), (refl, refl)), (refl, inr (inr (inl (record { is_core = omega arith; other = λ e. omega (arith, e); is_inside = refl; not_passed = refl }))))), (refl, refl)), (refl, refl))
@@ -81,7 +81,7 @@ still_copies : Permitted (
     whole 1 (call.Look 21) range (
     Returns 1 ∷ Decides 1 (call.Copy 20 1 21) done
     ∷ whole 0 (call.Remove 1 20) done (
-    Enters 1
+    Enters 1 (call.Copy 20 1 21)
     ∷ whole 0 (call.Copy 0 1 20) done [])))
 unfolding two_cores
 still_copies = ((((tt, (refl, refl)), (refl, refl)), (refl, refl)), (refl, refl))
@@ -97,7 +97,7 @@ pinned : Permitted (
     whole 0 (call.Retype 0 9 frame_kind.Untyped) (reply.Referenced 1) (
     Returns 1 ∷ Decides 1 (call.Map 2 0 0 9 (flags 0)) done
     ∷ whole 0 (call.Retype 0 9 frame_kind.Untyped) (reply.Busy 1) (
-    Enters 1
+    Enters 1 (call.Map 2 0 0 9 (flags 0))
     ∷ with_pages)))
 unfolding two_cores sum_below node_refs refs holds_nothing
 pinned = (((((((tt, (refl, refl)), (refl, refl)), (refl, refl)), (refl, refl)), (refl, tt)), (refl, refl)), (refl, inr (inr (inr (inl (refl, refl))))))
@@ -106,7 +106,7 @@ pinned = (((((((tt, (refl, refl)), (refl, refl)), (refl, refl)), (refl, refl)), 
 marked : Permitted (
     Returns 0 ∷ Decides 0 (call.Retype 0 9 frame_kind.Untyped) done
     ∷ whole 1 (call.Map 2 0 0 9 (flags 0)) (reply.Busy 0) (
-    Enters 0
+    Enters 0 (call.Retype 0 9 frame_kind.Untyped)
     ∷ with_pages))
 unfolding two_cores sum_below node_refs refs holds_nothing
 marked = ((((((tt, (refl, refl)), (refl, refl)), (refl, refl)), (refl, refl)), (refl, tt)), (refl, refl))

@@ -10,10 +10,11 @@ use Rattle.kernel_rules.specs.GracePeriods.{entered}
 use Rattle.kernel_rules.specs.References.{named_by}
 use Rattle.kernel_rules.specs.Access.{Slot, Named, Under, usable, reached}
 use Rattle.kernel_rules.specs.Fitting.{IsGood}
-use Rattle.kernel_rules.specs.Runs.{Event, Enters, Decides, Returns, after, phase_of, IsRun, Open as is_open}
+use Rattle.kernel_rules.specs.Runs.{Event, Enters, Decides, Returns, after, is_open, phase_of, IsRun}
+use Rattle.kernel_rules.specs.Runs as plain
 use Rattle.kernel_rules.proofs.Within.{put_same}
 use Rattle.kernel_rules.proofs.Sound.{IsSound}
-use Rattle.kernel_rules.proofs.SoundRuns.{opened, runs_sound, is_open as opens, is_in as is_inside}
+use Rattle.kernel_rules.proofs.SoundRuns.{opened, runs_sound}
 use Rattle.kernel_rules.proofs.SparesRuns.{inside_of}
 use Rattle.kernel_rules.proofs.Facts.{usable_good}
 use Rattle.kernel_rules.specs.Relies.{IsGuarded, Relies}
@@ -39,7 +40,7 @@ pub sound_of : (setup : Setting) → IsSetting setup → (t : Trace) → IsLegal
 sound_of setup lim t legal = subst (λ s. IsSound s (opened (events_of t))) (sym (state_is setup t)) (runs_sound setup lim (events_of t) (run_of setup t legal))
 
 pub opened_is : (t : Trace) (c : ℕ) (call : Call) → phase t c ≡ Open call → opened (events_of t) c ≡ true
-opened_is t c call is = ap opens (phase_is t c ∙ ap plain_phase is)
+opened_is t c call is = ap is_open (phase_is t c ∙ ap plain_phase is)
 
 -- What core c, in an open call, may rely on.
 module _ (setup : Setting) (lim : IsSetting setup) (t : Trace) (legal : IsLegal setup t) (c : ℕ) (call : Call) (is : phase t c ≡ Open call) where
@@ -73,19 +74,19 @@ module _ (setup : Setting) (lim : IsSetting setup) (t : Trace) (legal : IsLegal 
 
 -- Through the events of one step.
 module _ (setup : Setting) (lim : IsSetting setup) (d c : ℕ) (other : c ≢ d) where
-  entry_stay : (o : Option Call) (events : List Event) → IsRun setup (with_entry o d events) → phase_of events c ≡ is_open
+  entry_stay : (o : Option Call) (events : List Event) → IsRun setup (with_entry o d events) → IsTrue (is_open (phase_of events c))
       → Stay (after setup events) (after setup (with_entry o d events)) c
   entry_stay None events run is = stay_same (after setup events) c
-  entry_stay (Some call) events run is = event_stay setup lim (Enters d) events run c other is
+  entry_stay (Some call) events run is = event_stay setup lim (Enters d call) events run c other is
 
-  decision_stay : (o : Option Reply) (p : Phase) (events : List Event) → IsRun setup (with_decision o p d events) → phase_of events c ≡ is_open
+  decision_stay : (o : Option Reply) (p : Phase) (events : List Event) → IsRun setup (with_decision o p d events) → IsTrue (is_open (phase_of events c))
       → Stay (after setup events) (after setup (with_decision o p d events)) c
   decision_stay None p events run is = stay_same (after setup events) c
   decision_stay (Some r) Out events run is = stay_same (after setup events) c
   decision_stay (Some r) (Open call) events run is = event_stay setup lim (Decides d call r) events run c other is
   decision_stay (Some r) (Decided call q) events run is = stay_same (after setup events) c
 
-  return_stay : (o : Option Reply) (events : List Event) → IsRun setup (with_return o d events) → phase_of events c ≡ is_open
+  return_stay : (o : Option Reply) (events : List Event) → IsRun setup (with_return o d events) → IsTrue (is_open (phase_of events c))
       → Stay (after setup events) (after setup (with_return o d events)) c
   return_stay None events run is = stay_same (after setup events) c
   return_stay (Some r) events run is = event_stay setup lim (Returns d) events run c other is
@@ -100,22 +101,22 @@ stays_other setup lim t legal e follows c other call is =
     (entry_stay setup lim e.core c other e.enters (events_of t) (entered_run setup t e legal follows run) opened_at)
     (stay_then (after setup (entered_events t e)) (after setup (decided_events t e)) (after setup (events_of (e ∷ t))) c
     (decision_stay setup lim e.core c other e.decides (after_enter e.enters (phase t e.core)) (entered_events t e) (decided_run setup t e legal follows run)
-    (entry_apart e.enters e.core (events_of t) c other ∙ opened_at))
+    (ap is_open (entry_apart e.enters e.core (events_of t) c other) ∙ opened_at))
     (return_stay setup lim e.core c other e.returns (decided_events t e) (step_run setup t e legal follows run)
-    (decision_apart e.decides (after_enter e.enters (phase t e.core)) e.core (entered_events t e) c other ∙ entry_apart e.enters e.core (events_of t) c other ∙ opened_at)))))
+    (ap is_open (decision_apart e.decides (after_enter e.enters (phase t e.core)) e.core (entered_events t e) c other ∙ entry_apart e.enters e.core (events_of t) c other) ∙ opened_at)))))
   where
     run : IsRun setup (events_of t)
     run = run_of setup t legal
 
-    opened_at : phase_of (events_of t) c ≡ is_open
-    opened_at = phase_is t c ∙ ap plain_phase is
+    opened_at : IsTrue (is_open (phase_of (events_of t) c))
+    opened_at = ap is_open (phase_is t c ∙ ap plain_phase is)
 
 -- And so does what a core in a call, also a decided one, relies on.
 module _ (setup : Setting) (lim : IsSetting setup) (d c : ℕ) (other : c ≢ d) where
   entry_in : (o : Option Call) (events : List Event) → IsRun setup (with_entry o d events) → inside_of events c ≡ true
       → StayIn (after setup events) (after setup (with_entry o d events)) c
   entry_in None events run is = stay_in_same (after setup events) c
-  entry_in (Some call) events run is = event_stay_in setup lim (Enters d) events run c other is
+  entry_in (Some call) events run is = event_stay_in setup lim (Enters d call) events run c other is
 
   decision_in : (o : Option Reply) (p : Phase) (events : List Event) → IsRun setup (with_decision o p d events) → inside_of events c ≡ true
       → StayIn (after setup events) (after setup (with_decision o p d events)) c
@@ -129,7 +130,7 @@ module _ (setup : Setting) (lim : IsSetting setup) (d c : ℕ) (other : c ≢ d)
   return_in None events run is = stay_in_same (after setup events) c
   return_in (Some r) events run is = event_stay_in setup lim (Returns d) events run c other is
 
-plain_in : (p : Phase) → is_inside (plain_phase p) ≡ is_in p
+plain_in : (p : Phase) → plain.is_in (plain_phase p) ≡ is_in p
 plain_in Out = refl
 plain_in (Open call) = refl
 plain_in (Decided call r) = refl
@@ -143,15 +144,15 @@ stays_in_other setup lim t legal e follows c other is =
     (entry_in setup lim e.core c other e.enters (events_of t) (entered_run setup t e legal follows run) inside_at)
     (stay_in_then (after setup (entered_events t e)) (after setup (decided_events t e)) (after setup (events_of (e ∷ t))) c
     (decision_in setup lim e.core c other e.decides (after_enter e.enters (phase t e.core)) (entered_events t e) (decided_run setup t e legal follows run)
-    (ap is_inside (entry_apart e.enters e.core (events_of t) c other) ∙ inside_at))
+    (ap plain.is_in (entry_apart e.enters e.core (events_of t) c other) ∙ inside_at))
     (return_in setup lim e.core c other e.returns (decided_events t e) (step_run setup t e legal follows run)
-    (ap is_inside (decision_apart e.decides (after_enter e.enters (phase t e.core)) e.core (entered_events t e) c other ∙ entry_apart e.enters e.core (events_of t) c other) ∙ inside_at)))))
+    (ap plain.is_in (decision_apart e.decides (after_enter e.enters (phase t e.core)) e.core (entered_events t e) c other ∙ entry_apart e.enters e.core (events_of t) c other) ∙ inside_at)))))
   where
     run : IsRun setup (events_of t)
     run = run_of setup t legal
 
     inside_at : inside_of (events_of t) c ≡ true
-    inside_at = ap is_inside (phase_is t c) ∙ plain_in (phase t c) ∙ is
+    inside_at = ap plain.is_in (phase_is t c) ∙ plain_in (phase t c) ∙ is
 
 -- What is a core's own stays through a step of another core, whether it is in a call or not.
 module _ (setup : Setting) (lim : IsSetting setup) (d c : ℕ) (core : c < setup.cores) (other : c ≢ d) where
@@ -160,7 +161,7 @@ module _ (setup : Setting) (lim : IsSetting setup) (d c : ℕ) (core : c < setup
 
   entry_own : (o : Option Call) (events : List Event) → IsRun setup (with_entry o d events) → OwnStay (after setup events) (after setup (with_entry o d events)) c
   entry_own None events run = own_same (after setup events)
-  entry_own (Some call) events run = event_own setup lim (Enters d) events run c core other
+  entry_own (Some call) events run = event_own setup lim (Enters d call) events run c core other
 
   decision_own : (o : Option Reply) (p : Phase) (events : List Event) → IsRun setup (with_decision o p d events)
       → OwnStay (after setup events) (after setup (with_decision o p d events)) c

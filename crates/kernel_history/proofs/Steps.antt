@@ -4,9 +4,10 @@ use Rattle.std.specs.Prelude.{option_to_list, is_some}
 use Rattle.std.proofs.lemmas.Bool.{eq-eqb, ne_eqb}
 use Rattle.spk_nums.specs.Setting.{Setting}
 use Rattle.word_map.specs.Word.{Word, FlushAt, ClockAt, same_word}
+use Rattle.word_map.specs.Moves.{word_of, left_of}
 use Rattle.kernel_rules.specs.State.{Thing}
 use Rattle.kernel_rules.specs.GracePeriods.{needs_flush}
-use Rattle.kernel_history.specs.Trace.{Step, Trace, phase, after_enter, after_decide, after_return, last_left, calls_of, steps_in_call, own_left, state_before}
+use Rattle.kernel_history.specs.Trace.{Step, Trace, phase, after_enter, after_decide, after_return, last_left, calls_of, steps_in_call, own_left, only_reads, own_read, state_before}
 use Rattle.kernel_history.specs.Stamps.{begins_at, ends_at, flushes_at, stamp, awaits_flushes, clock_seen, exit_after, exit_of, flush_of, flush_stored}
 use Rattle.kernel_history.proofs.Names.{same_word-same, same_word-other}
 
@@ -20,11 +21,17 @@ module _ (c : ℕ) (e : Step) (t : Trace) (own : c ≡ e.core) where
   pub steps_in_call-own : steps_in_call (e ∷ t) c ≡ cond (is_some e.enters) 1 (steps_in_call t c + 1)
   steps_in_call-own = rw (eq-eqb c e.core own)
 
-  pub own_left-here : (w : Word) → w ≡ e.word → own_left (e ∷ t) c w ≡ Some e.left
-  own_left-here w here = rw (eq-eqb c e.core own, same_word-same w e.word here)
+  pub own_left-here : (w : Word) → w ≡ word_of e.move → own_left (e ∷ t) c w ≡ Some (left_of e.move e.found)
+  own_left-here w here = rw (eq-eqb c e.core own, same_word-same w (word_of e.move) here)
 
-  pub own_left-there : (w : Word) → w ≢ e.word → own_left (e ∷ t) c w ≡ cond (is_some e.enters) None (own_left t c w)
-  own_left-there w there = rw (eq-eqb c e.core own, same_word-other w e.word there)
+  pub own_left-there : (w : Word) → w ≢ word_of e.move → own_left (e ∷ t) c w ≡ cond (is_some e.enters) None (own_left t c w)
+  own_left-there w there = rw (eq-eqb c e.core own, same_word-other w (word_of e.move) there)
+
+  pub own_read-here : (w : Word) → w ≡ word_of e.move → own_read (e ∷ t) c w ≡ (cond (only_reads e) (Some e.found) None)
+  own_read-here w here = rw (eq-eqb c e.core own, same_word-same w (word_of e.move) here)
+
+  pub own_read-there : (w : Word) → w ≢ word_of e.move → own_read (e ∷ t) c w ≡ cond (is_some e.enters) None (own_read t c w)
+  own_read-there w there = rw (eq-eqb c e.core own, same_word-other w (word_of e.move) there)
 
 module _ (c : ℕ) (e : Step) (t : Trace) (other : c ≢ e.core) where
   pub phase-other : phase (e ∷ t) c ≡ phase t c
@@ -39,12 +46,15 @@ module _ (c : ℕ) (e : Step) (t : Trace) (other : c ≢ e.core) where
   pub own_left-other : (w : Word) → own_left (e ∷ t) c w ≡ own_left t c w
   own_left-other w = rw (ne_eqb c e.core other)
 
-module _ (setup : Setting) (w : Word) (e : Step) (t : Trace) where
-  pub last_left-here : w ≡ e.word → last_left setup (e ∷ t) w ≡ e.left
-  last_left-here here = rw (same_word-same w e.word here)
+  pub own_read-other : (w : Word) → own_read (e ∷ t) c w ≡ own_read t c w
+  own_read-other w = rw (ne_eqb c e.core other)
 
-  pub last_left-there : w ≢ e.word → last_left setup (e ∷ t) w ≡ last_left setup t w
-  last_left-there there = rw (same_word-other w e.word there)
+module _ (setup : Setting) (w : Word) (e : Step) (t : Trace) where
+  pub last_left-here : w ≡ word_of e.move → last_left setup (e ∷ t) w ≡ (left_of e.move e.found)
+  last_left-here here = rw (same_word-same w (word_of e.move) here)
+
+  pub last_left-there : w ≢ word_of e.move → last_left setup (e ∷ t) w ≡ last_left setup t w
+  last_left-there there = rw (same_word-other w (word_of e.move) there)
 
 -- Stamps: of a thing whose grace period begins, of one whose grace period ends, and of the others.
 module _ (setup : Setting) (e : Step) (t : Trace) (x : Thing) where
@@ -72,7 +82,7 @@ module _ (setup : Setting) (e : Step) (t : Trace) (x : Thing) where
 
 -- What a core has seen of the clock, left with, flushed with and stored.
 module _ (c : ℕ) (e : Step) (t : Trace) (own : c ≡ e.core) where
-  pub clock_seen-own : clock_seen (e ∷ t) c ≡ cond (same_word ClockAt e.word) e.found (clock_seen t c)
+  pub clock_seen-own : clock_seen (e ∷ t) c ≡ cond (same_word ClockAt (word_of e.move)) e.found (clock_seen t c)
   clock_seen-own = rw (eq-eqb c e.core own)
 
   pub exit_of-own : exit_of (e ∷ t) c ≡ exit_after e.returns (clock_seen t c) (exit_of t c)
@@ -81,7 +91,7 @@ module _ (c : ℕ) (e : Step) (t : Trace) (own : c ≡ e.core) where
   pub flush_of-own : flush_of (e ∷ t) c ≡ cond (flushes_at t e) e.found (flush_of t c)
   flush_of-own = rw (eq-eqb c e.core own)
 
-  pub flush_stored-own : flush_stored (e ∷ t) c ≡ cond (same_word (FlushAt c) e.word) (flush_of t c) (flush_stored t c)
+  pub flush_stored-own : flush_stored (e ∷ t) c ≡ cond (same_word (FlushAt c) (word_of e.move)) (flush_of t c) (flush_stored t c)
   flush_stored-own = rw (eq-eqb c e.core own)
 
 module _ (c : ℕ) (e : Step) (t : Trace) (other : c ≢ e.core) where

@@ -3,6 +3,7 @@ use Rattle.std.proofs.Common.{◌≡◌, ◌≢◌, ◌+◌, arith, false, sym, 
 use Rattle.std.proofs.lemmas.Bool.{false≢true}
 use Rattle.spk_nums.specs.Setting.{Setting}
 use Rattle.word_map.specs.Word.{ClockAt}
+use Rattle.word_map.specs.Moves.{word_of, left_of}
 use Rattle.kernel_rules.specs.State.{Thing}
 use Rattle.kernel_history.specs.Trace.{Step, Trace}
 use Rattle.kernel_history.specs.Stamps.{begins_at, flushes_at, clock}
@@ -11,7 +12,7 @@ use Rattle.kernel_history.specs.Graces.{KeepsTime}
 
 module _ (setup : Setting) (t : Trace) (e : Step) where
   -- a step on another word, at which no grace period begins and no flush is decided
-  pub time_apart : ClockAt ≢ e.word → ((x : Thing) → begins_at setup t e x ≡ false) → flushes_at t e ≡ false → KeepsTime setup t e
+  pub time_apart : ClockAt ≢ word_of e.move → ((x : Thing) → begins_at setup t e x ≡ false) → flushes_at t e ≡ false → KeepsTime setup t e
   time_apart apart none calm = record {
     rises = (let k = last_left-there setup ClockAt e t apart in omega (arith, k));
     draws = λ x is. absurd (false≢true (sym (none x) ∙ is));
@@ -19,7 +20,7 @@ module _ (setup : Setting) (t : Trace) (e : Step) where
   }
 
   -- a load of the clock, at which no grace period begins
-  pub time_load : ClockAt ≡ e.word → e.found ≡ clock setup t → e.left ≡ e.found → ((x : Thing) → begins_at setup t e x ≡ false) → KeepsTime setup t e
+  pub time_load : ClockAt ≡ word_of e.move → e.found ≡ clock setup t → left_of e.move e.found ≡ e.found → ((x : Thing) → begins_at setup t e x ≡ false) → KeepsTime setup t e
   time_load at found left none = record {
     rises = (let k = last_left-here setup ClockAt e t at in omega (arith, k, found, left));
     draws = λ x is. absurd (false≢true (sym (none x) ∙ is));
@@ -27,7 +28,7 @@ module _ (setup : Setting) (t : Trace) (e : Step) where
   }
 
   -- a draw of a stamp: the clock is raised
-  pub time_draw : ClockAt ≡ e.word → e.found ≡ clock setup t → e.left ≡ e.found + 1 → KeepsTime setup t e
+  pub time_draw : ClockAt ≡ word_of e.move → e.found ≡ clock setup t → left_of e.move e.found ≡ e.found + 1 → KeepsTime setup t e
   time_draw at found left = record {
     rises = (let k = last_left-here setup ClockAt e t at in omega (arith, k, found, left));
     draws = λ x is. (found, (let k = last_left-here setup ClockAt e t at in omega (arith, k, found, left)));

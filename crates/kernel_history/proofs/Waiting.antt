@@ -1,10 +1,11 @@
 -- What one step makes of those who wait and of stamps, and what a scan may conclude.
 use Rattle.std.proofs.Common.{◌≡◌, ◌≢◌, inl, inr, ℕ, ◌<◌, ◌≤◌, arith, Bool, true, false, cond, refl, sym, ◌∙◌, ap, subst, ◌∷◌, Option, Some, None, IsTrue}
 use Rattle.std.proofs.lemmas.Bool.{false≢true, cases_eq}
-use Rattle.spk_nums.specs.Setting.{Setting}
+use Rattle.spk_nums.specs.Setting.{Setting, IsSetting}
 use Rattle.spk_nums.specs.declared.calls.Call.{Call}
 use Rattle.spk_nums.specs.declared.replies.Reply.{Reply}
 use Rattle.word_map.specs.Word.{ClockAt, same_word}
+use Rattle.word_map.specs.Moves.{word_of}
 use Rattle.kernel_rules.specs.State.{Grace, Thing, PlaceOf, NumberOf, State, put}
 use Rattle.kernel_rules.specs.Start.{no_grace}
 use Rattle.kernel_rules.specs.CallRelation.{MayReply}
@@ -13,7 +14,10 @@ use Rattle.kernel_rules.specs.Relies.{is_node}
 use Rattle.kernel_rules.proofs.Ends.{MayEnd, ends_by_rule}
 use Rattle.kernel_history.specs.Trace.{Step, Trace, Phase, Out, Open, Decided, phase, after_enter, state_after, state_entered, state_before}
 use Rattle.kernel_history.specs.Stamps.{ends_in, begins_at, ends_at, flushes_at, stamp, awaits_flushes, clock, clock_seen, exit_of, flush_of, flush_stored}
-use Rattle.kernel_history.specs.Legal.{MayDecide, MayFollow}
+use Rattle.kernel_rules.proofs.SoundRuns.{opened}
+use Rattle.kernel_history.specs.Legal.{MayDecide, MayFollow, IsLegal}
+use Rattle.kernel_history.proofs.Events.{entered_events}
+use Rattle.kernel_history.proofs.Opens.{opens, open_inj}
 use Rattle.kernel_history.proofs.Steps.{stamp-begins, stamp-ends, stamp-kept, clock_seen-own, clock_seen-other}
 use Rattle.kernel_history.proofs.Inside.{entered-inside}
 use Rattle.kernel_history.specs.Graces.{GraceIs, KeepsTime, IsLeave}
@@ -121,33 +125,31 @@ module _ (setup : Setting) (t : Trace) (e : Step) (follows : MayFollow setup t e
       ]
 
 -- What is known where a step ends a grace period.
-pub ends_known : (setup : Setting) (t : Trace) (e : Step) → MayFollow setup t e → (x : Thing) → ends_at t e x ≡ true → MayEnd (state_before setup t e) e.core x
-ends_known setup t e follows x = by_phase e.decides (after_enter e.enters (phase t e.core)) follows.decides
+pub ends_known : (setup : Setting) → IsSetting setup → (t : Trace) → IsLegal setup t → (e : Step) → MayFollow setup t e → (x : Thing) → ends_at t e x ≡ true
+    → MayEnd (state_before setup t e) e.core x
+ends_known setup lim t legal e follows x = by_phase e.decides (after_enter e.enters (phase t e.core)) refl follows.decides
   where
-    by_phase : (o : Option Reply) (p : Phase) → MayDecide setup t e o p → ends_in o p x ≡ true → MayEnd (state_before setup t e) e.core x
-    by_phase None p may h = absurd (false≢true h)
-    by_phase (Some r) Out may h = absurd (false≢true h)
-    by_phase (Some r) (Open call) may h = ends_by_rule (state_before setup t e) e.core call r x
+    by_phase : (o : Option Reply) (p : Phase) → after_enter e.enters (phase t e.core) ≡ p → MayDecide setup t e o p → ends_in o p x ≡ true → MayEnd (state_before setup t e) e.core x
+    by_phase None p at may h = absurd (false≢true h)
+    by_phase (Some r) Out at may h = absurd (false≢true h)
+    by_phase (Some r) (Open call) at may h = ends_by_rule (state_before setup t e) (opened (entered_events t e)) e.core (opens setup lim t legal e follows call at) call r x
         (subst (λ k. MayReply (state_before setup t e) e.core k r) (open_inj may.call call may.is_open) may.permitted) h
-      where
-        open_inj : (k j : Call) → Open j ≡ Open k → k ≡ j
-        open_inj k j same = cc
-    by_phase (Some r) (Decided call q) may h = absurd (false≢true h)
+    by_phase (Some r) (Decided call q) at may h = absurd (false≢true h)
 
 entered_frame : (o : Option Call) (s : State) (c f : ℕ) → (state_entered o s c).frame f ≡ s.frame f
 entered_frame None s c f = refl
 entered_frame (Some call) s c f = refl
 
 -- The grace period of a place of a node does not end, and that of a liveness number ends never.
-pub node_goes_on : (setup : Setting) (t : Trace) (e : Step) → MayFollow setup t e → (f i : ℕ) → IsTrue (is_node ((state_after setup t).frame f)) → ends_at t e (PlaceOf f i) ≡ false
-node_goes_on setup t e follows f i node = elim (cases_bool (ends_at t e (PlaceOf f i))) [
-  | inl ends ↦ absurd (false≢true (ap is_node (sym (sym (entered_frame e.enters (state_after setup t) e.core f) ∙ ends_known setup t e follows (PlaceOf f i) ends)) ∙ node))
+pub node_goes_on : (setup : Setting) → IsSetting setup → (t : Trace) → IsLegal setup t → (e : Step) → MayFollow setup t e → (f i : ℕ) → IsTrue (is_node ((state_after setup t).frame f)) → ends_at t e (PlaceOf f i) ≡ false
+node_goes_on setup lim t legal e follows f i node = elim (cases_bool (ends_at t e (PlaceOf f i))) [
+  | inl ends ↦ absurd (false≢true (ap is_node (sym (sym (entered_frame e.enters (state_after setup t) e.core f) ∙ ends_known setup lim t legal e follows (PlaceOf f i) ends)) ∙ node))
   | inr kept ↦ kept
 ]
 
-pub number_goes_on : (setup : Setting) (t : Trace) (e : Step) → MayFollow setup t e → (l : ℕ) → ends_at t e (NumberOf l) ≡ false
-number_goes_on setup t e follows l = elim (cases_bool (ends_at t e (NumberOf l))) [
-  | inl ends ↦ absurd (ends_known setup t e follows (NumberOf l) ends)
+pub number_goes_on : (setup : Setting) → IsSetting setup → (t : Trace) → IsLegal setup t → (e : Step) → MayFollow setup t e → (l : ℕ) → ends_at t e (NumberOf l) ≡ false
+number_goes_on setup lim t legal e follows l = elim (cases_bool (ends_at t e (NumberOf l))) [
+  | inl ends ↦ absurd (ends_known setup lim t legal e follows (NumberOf l) ends)
   | inr kept ↦ kept
 ]
 
@@ -221,7 +223,7 @@ module _ (setup : Setting) (t : Trace) (e : Step) (follows : MayFollow setup t e
   }
 
   -- a core that loads the clock may leave
-  pub leave_starts : ClockAt ≡ e.word → e.found ≡ clock setup t → ((x : Thing) → begins_at setup t e x ≡ false) → IsLeave setup (e ∷ t) e.core e.found
+  pub leave_starts : ClockAt ≡ word_of e.move → e.found ≡ clock setup t → ((x : Thing) → begins_at setup t e x ≡ false) → IsLeave setup (e ∷ t) e.core e.found
   leave_starts at found none = record {
     seen = clock_seen-own e.core e t refl ∙ ap (λ b. cond b e.found (clock_seen t e.core)) (ap (same_word ClockAt) (sym at));
     some = (let p = (graces (NumberOf 0)).past in omega (arith, p, found));

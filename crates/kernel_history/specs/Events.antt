@@ -8,7 +8,7 @@ use Rattle.kernel_history.specs.Trace.{Trace, Phase, Out, Open, Decided, phase, 
 -- The events with that of a step that may enter a call.
 abbrev pub with_entry : Option Call → ℕ → List Event → List Event
 with_entry None c events = events
-with_entry (Some call) c events = Enters c ∷ events
+with_entry (Some call) c events = Enters c call ∷ events
 
 -- The events with that of a step that may decide, in this phase.
 abbrev pub with_decision : Option Reply → Phase → ℕ → List Event → List Event
@@ -30,8 +30,8 @@ events_of (e ∷ t) =
     (with_decision e.decides (after_enter e.enters (phase t e.core)) e.core
     (with_entry e.enters e.core (events_of t)))
 
--- The phase of a core, without its call and its reply.
+-- The phase of a core, in the words of the sequential kernel.
 abbrev pub plain_phase : Phase → event_phase
 plain_phase Out = is_out
-plain_phase (Open call) = is_open
-plain_phase (Decided call r) = is_decided
+plain_phase (Open call) = is_open call
+plain_phase (Decided call r) = is_decided call r

@@ -8,6 +8,7 @@ use Rattle.spk_nums.specs.declared.calls.Call.TheVariants.{Retype, Make as make_
 use Rattle.spk_nums.specs.declared.calls.Make.{Make}
 use Rattle.spk_nums.specs.declared.calls.Make.TheVariants.{Comp as make_comp}
 use Rattle.word_map.specs.Word.{Word, EntryAt, FrameAt, CountAt, CoreAt, FlushAt, LiveAt, ClockAt}
+use Rattle.word_map.specs.Moves.{word_of}
 use Rattle.kernel_rules.specs.State.{Frame, Kernel, Comp, State, thread_of, comp_of}
 use Rattle.kernel_rules.specs.References.{named_by, frame_names}
 use Rattle.kernel_rules.specs.Access.{Slot, place_at}
@@ -102,7 +103,7 @@ IsNearIn c call ClockAt s = Unit {0}
 pub record StepsNear (setup : Setting) (t : Trace) (e : Step) : Type 0 where
   pub call : Call
   pub is_of : call_in (after_enter e.enters (phase t e.core)) ≡ Some call
-  pub near : WasBefore (IsNearIn e.core call e.word) setup t e
+  pub near : WasBefore (IsNearIn e.core call (word_of e.move)) setup t e
 
 -- Each step of the trace is in the footprint of its call.
 abbrev pub KeepsFootprints : Setting → Trace → Type 0

@@ -6,6 +6,7 @@ use Rattle.spk_nums.specs.declared.replies.Reply.{Reply}
 use Rattle.spk_nums.specs.declared.replies.Reply.TheVariants as reply
 use Rattle.spk_nums.specs.Setting.{Setting}
 use Rattle.word_map.specs.Word.{Word, EntryAt, FrameAt, CountAt, CoreAt, FlushAt, LiveAt, ClockAt}
+use Rattle.word_map.specs.Moves.{word_of}
 use Rattle.kernel_rules.specs.State.{Place, Free, Holds, Quiescing, Thread, Tcap, Frame, Kernel, Liveness, Unused, Live, Dead, Thing, PlaceOf, FrameOf, NumberOf, State}
 use Rattle.kernel_rules.specs.Access.{Slot}
 use Rattle.kernel_rules.specs.GracePeriods.{same_thing, MayWait, MayBeUnflushed}
@@ -13,12 +14,13 @@ use Rattle.kernel_rules.specs.CallRelation.{rule_of}
 use Rattle.kernel_rules.specs.Rules.{Rule}
 use Rattle.kernel_history.specs.ObjectWords.{is_node}
 use Rattle.kernel_history.specs.Marks.{mark_of}
+use Rattle.kernel_history.specs.Marking.{HasMarked}
 use Rattle.kernel_history.specs.Ways.{ways, wide_ways, target_of, asked_of, waited_in, flushed_in}
-use Rattle.kernel_history.specs.Trace.{Step, Trace, own_left, state_before, WasBefore}
+use Rattle.kernel_history.specs.Trace.{Step, Trace, own_left, only_reads, own_read, state_before, WasBefore}
 
--- What the last step before e of e's own call on e's word had left there.
-abbrev pub own_left_before : Trace → Step → Option ℕ
-own_left_before t e = if is_some e.enters then None else own_left t e.core e.word
+-- What the last step before e of e's own call on e's word has read there, if that step left it as found.
+abbrev pub own_read_before : Trace → Step → Option ℕ
+own_read_before t e = if is_some e.enters then None else own_read t e.core (word_of e.move)
 
 -- The slot is one of these.
 abbrev pub is_slot_in : List Slot → ℕ → ℕ → Bool
@@ -46,13 +48,13 @@ MayLose s c rule (FlushAt d) = ⊥
 MayLose s c rule (LiveAt l) = Unit {0}
 MayLose s c rule ClockAt = ⊥
 
--- The call has lost a race at e: e reads a word for which the call may lose one, on which the call has stepped before, and
--- finds another value than the call's last step there had left.
+-- The call has lost a race at e: e reads a word for which the call may lose one, and leaves it as found; the call's last step on
+-- that word has read it before, and left it as found; and the values differ.
 pub record IsRaceLost (t : Trace) (e : Step) (s : State) (rule : Rule) : Type 0 where
-  pub at : MayLose s e.core rule e.word
-  pub reads : e.left ≡ e.found
+  pub at : MayLose s e.core rule (word_of e.move)
+  pub reads : IsTrue (only_reads e)
   pub own : ℕ
-  pub was_own : own_left_before t e ≡ Some own
+  pub has_read : own_read_before t e ≡ Some own
   pub changed : e.found ≢ own
 
 -- A word that is an entry is one through which a name, the target or the page of the call is reached, where a root entry whose
@@ -61,12 +63,14 @@ abbrev pub IsOnWay : State → ℕ → Rule → Word → Type 0
 IsOnWay s c rule (EntryAt f i) = IsTrue (is_node (s.frame f)) → IsTrue (is_slot_in (wide_ways s c rule) f i)
 IsOnWay s c rule _ = Unit {0}
 
--- The call is held up at e by core d: e found a word with the mark of d, another core, which is in a call.
-pub record IsHeldUp (e : Step) (s : State) (rule : Rule) (d : ℕ) : Type 0 where
-  pub marked : mark_of s e.word e.found ≡ Some d
+-- The call is held up at e by core d: e found a word with the mark of d, another core, which is in a call and has put the mark
+-- there in that call.
+pub record IsHeldUp (setup : Setting) (t : Trace) (e : Step) (s : State) (rule : Rule) (d : ℕ) : Type 0 where
+  pub marked : mark_of s (word_of e.move) e.found ≡ Some d
   pub other : d ≢ e.core
   pub is_inside : IsTrue (s.core d).inside
-  pub on_way : IsOnWay s e.core rule e.word
+  pub has_marked : HasMarked setup t (word_of e.move) d
+  pub on_way : IsOnWay s e.core rule (word_of e.move)
 
 -- A removed place is quiescing, and a killed liveness number is dead; of a frame nothing is asked.
 abbrev pub IsRemovedPlace : Place → Type 0
@@ -108,7 +112,7 @@ HasReached t c slots = All (λ at. IsSome (own_left t c (EntryAt at.node at.inde
 abbrev pub IsJustifiedIn : Setting → Trace → Step → State → Rule → Reply → Type 0
 IsJustifiedIn setup t e s rule (reply.Ok v) = HasReached (e ∷ t) e.core (ways s e.core rule)
 IsJustifiedIn setup t e s rule reply.Raced = IsRaceLost t e s rule
-IsJustifiedIn setup t e s rule (reply.Busy d) = IsHeldUp e s rule d
+IsJustifiedIn setup t e s rule (reply.Busy d) = IsHeldUp setup t e s rule d
 IsJustifiedIn setup t e s rule (reply.Quiescing d) = IsWaiting setup t e s rule d
 IsJustifiedIn setup t e s rule (reply.Unflushed d) = IsUnflushed setup t e s rule d
 IsJustifiedIn setup t e s rule _ = Unit {0}

@@ -1,14 +1,14 @@
 -- Laws of legal traces, each the contract of a function of this crate.
-use Rattle.std.specs.Prelude.{◌≡◌, ◌≢◌, ◌+◌, ◌==◌, ◌&&◌, ◌++◌, ℕ, if◌then◌else◌, [], ◌∷◌, length, Option, Some, None, is_some}
-use Rattle.spk_nums.specs.declared.calls.Call.{Call}
+use Rattle.std.specs.Prelude.{◌≡◌, ◌+◌, ◌==◌, ◌&&◌, ◌++◌, ℕ, if◌then◌else◌, [], ◌∷◌, length, Option, Some, None, is_some}
 use Rattle.spk_nums.specs.declared.replies.Reply.{Reply}
 use Rattle.spk_nums.specs.declared.replies.Reply.TheVariants as reply
 use Rattle.spk_nums.specs.Setting.{Setting}
 use Rattle.kernel_rules.specs.Runs.{after, IsRun}
-use Rattle.kernel_history.specs.Trace.{Step, Trace, Out, phase, state_after, calls_of}
+use Rattle.kernel_history.specs.Trace.{Step, Trace, phase, state_after, calls_of}
 use Rattle.kernel_history.specs.Stamps.{is_in}
-use Rattle.kernel_history.specs.Events.{events_of, plain_phase}
+use Rattle.kernel_history.specs.Events.{events_of}
 use Rattle.kernel_history.specs.Legal.{IsLegal}
+use Rattle.kernel_history.specs.Alone.{IsAlone}
 
 -- The events of the trace are a run of the sequential kernel, and the trace leaves the state that they leave.
 pub record IsRunOfEvents (setup : Setting) (t : Trace) : Type 0 where
@@ -19,10 +19,10 @@ pub record IsRunOfEvents (setup : Setting) (t : Trace) : Type 0 where
 abbrev pub LegalRuns : Type 0
 LegalRuns = (setup : Setting) (t : Trace) → IsLegal setup t → IsRunOfEvents setup t
 
--- Two traces leave the same state, and each core between calls, in an open call or in a decided one alike.
+-- Two traces leave the same state, and each core between calls, in the same open call, or in the same call decided with the same reply.
 pub record LeaveAlike (setup : Setting) (t u : Trace) : Type 0 where
   pub state : state_after setup t ≡ state_after setup u
-  pub phases : (c : ℕ) → plain_phase (phase t c) ≡ plain_phase (phase u c)
+  pub phases : (c : ℕ) → phase t c ≡ phase u c
 
 -- What a trace leaves is determined by its events.
 abbrev pub EventsDetermine : Type 0
@@ -40,21 +40,6 @@ returned_calls (e ∷ t) c = if c == e.core && is_some e.returns then returned_c
 -- In a legal trace a core has entered the calls that have returned, and one more exactly where it is in a call.
 abbrev pub OneCallAtATime : Type 0
 OneCallAtATime = (setup : Setting) (t : Trace) → IsLegal setup t → (c : ℕ) → length (calls_of t c) ≡ returned_calls t c + (if is_in (phase t c) then 1 else 0)
-
--- What is said, unless the step enters a call.
-abbrev pub UnlessEnters : Option Call → Type 0 → Type 0
-UnlessEnters None Said = Said
-UnlessEnters (Some call) Said = Unit {0}
-
--- Since core c entered its call, it alone has stepped.
-abbrev pub IsUndisturbed : Trace → ℕ → Type 0
-IsUndisturbed [] c = Unit {0}
-IsUndisturbed (e ∷ t) c = (e.core ≡ c) × UnlessEnters e.enters (IsUndisturbed t c)
-
--- At the step e no other core is in a call, and none has stepped since e's call was entered.
-pub record IsAlone (t : Trace) (e : Step) : Type 0 where
-  pub others_out : (d : ℕ) → d ≢ e.core → phase t d ≡ Out
-  pub undisturbed : UnlessEnters e.enters (IsUndisturbed t e.core)
 
 -- The step decides none of `raced`, `busy` and `quiescing`.
 abbrev pub IsNotHeldUp : Option Reply → Type 0

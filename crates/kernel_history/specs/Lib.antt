@@ -5,11 +5,14 @@ pub mod Stamps
 pub mod Graces
 pub mod Events
 pub mod Marks
+pub mod Marking
 pub mod Ways
 pub mod Justified
 pub mod Legal
 pub mod Bounds
 pub mod Footprint
+pub mod Discipline
+pub mod Alone
 pub mod Order
 pub mod FinalWords
 pub mod BootLaws
@@ -17,5 +20,4 @@ pub mod Filling
 pub mod Moments
 pub mod Tables
 pub mod Text
-pub mod GivenSteps
 pub mod Laws

@@ -1,5 +1,5 @@
 -- Traces that have the calls of lists, and that follow an order.
-use Rattle.std.specs.Prelude.{◌≡◌, ◌≢◌, ◌⊎◌, ℕ, zero, suc, List, [], ◌∷◌, ◌++◌, length, All, slice_index_or, Option, None, IsSome}
+use Rattle.std.specs.Prelude.{◌≡◌, ◌⊎◌, ℕ, zero, suc, Bool, List, [], ◌∷◌, ◌++◌, length, All, slice_index_or, Option, None, IsSome, IsTrue, IsFalse}
 use Rattle.spk_nums.specs.declared.calls.Call.{Call}
 use Rattle.spk_nums.specs.declared.replies.Reply.{Reply}
 use Rattle.spk_nums.specs.declared.steps.Item.{Item}
@@ -49,44 +49,44 @@ pub record GoesThrough (event : Step → Option Reply) (c : ℕ) (t u : Trace) :
   pub before : HaveNone event steps
   pub ends : IsSome (event last)
 
--- In the whole trace w, which begins with u, the next step of core c after u decides.
-pub record DecidesNext (c : ℕ) (u w : Trace) : Type 0 where
-  pub later : Trace
-  pub step : Step
-  pub others : Trace
-  pub begins : w ≡ later ++ (step ∷ (others ++ u))
-  pub apart : All (λ e. e.core ≢ c) others
-  pub own : step.core ≡ c
-  pub decides : IsSome step.decides
+-- Core c is not ready behind any of these steps, which follow t.
+abbrev pub StaysUnready : (Trace → ℕ → Bool) → ℕ → Trace → Trace → Type 0
+StaysUnready ready c t [] = Unit {0}
+StaysUnready ready c t (e ∷ s) = StaysUnready ready c t s × IsFalse (ready (e ∷ (s ++ t)) c)
 
--- From t to u: steps of core c, none of which decides, up to its step that decides in the whole trace w.
-pub record StopsBefore (w : Trace) (c : ℕ) (t u : Trace) : Type 0 where
+-- From t to u: steps of core c, up to the first behind which it is ready.
+pub record GoesUntilReady (ready : Trace → ℕ → Bool) (c : ℕ) (t u : Trace) : Type 0 where
   pub steps : Trace
-  pub adds : u ≡ steps ++ t
-  pub own : AreOf c steps
-  pub before : HaveNone (λ e. e.decides) steps
-  pub next : DecidesNext c u w
+  pub last : Step
+  pub adds : u ≡ last ∷ (steps ++ t)
+  pub own : AreOf c (last ∷ steps)
+  pub before : StaysUnready ready c t steps
+  pub ends : IsTrue (ready u c)
 
 -- From t to u: nothing where the call of core c is decided, else what is said.
 abbrev pub UnlessDecided : ℕ → Trace → Trace → Type 0 → Type 0
 UnlessDecided c t u Else = (IsDecided (phase t c) × (u ≡ t)) ⊎ ((IsDecided (phase t c) → ⊥) × Else)
 
--- From t to u by an item, of a core that is not idle: one step; until its call is ready, which is either before the
--- deciding step or with it; until its call has decided; until its call has returned.
-abbrev pub Stretch : Trace → How → ℕ → Trace → Trace → Type 0
-Stretch w One c t u = MakesOne c t u
-Stretch w Ready c t u = UnlessDecided c t u (StopsBefore w c t u ⊎ GoesThrough (λ e. e.decides) c t u)
-Stretch w Decide c t u = UnlessDecided c t u (GoesThrough (λ e. e.decides) c t u)
-Stretch w Return c t u = GoesThrough (λ e. e.returns) c t u
+-- From t to u: nothing where core c is ready, else what is said.
+abbrev pub UnlessReady : (Trace → ℕ → Bool) → ℕ → Trace → Trace → Type 0 → Type 0
+UnlessReady ready c t u Else = (IsTrue (ready t c) × (u ≡ t)) ⊎ (IsFalse (ready t c) × Else)
+
+-- From t to u by an item, of a core that is not idle: one step; until its call is ready; until its call has decided; until its
+-- call has returned. A core that is between calls begins its next one.
+abbrev pub Stretch : (Trace → ℕ → Bool) → How → ℕ → Trace → Trace → Type 0
+Stretch ready One c t u = MakesOne c t u
+Stretch ready Ready c t u = UnlessReady ready c t u (GoesUntilReady ready c t u)
+Stretch ready Decide c t u = UnlessDecided c t u (GoesThrough (λ e. e.decides) c t u)
+Stretch ready Return c t u = GoesThrough (λ e. e.returns) c t u
 
 -- From t to u by an item: nothing where the core is idle, else the item's stretch.
-abbrev pub FollowsItem : List (List Call) → Trace → Item → Trace → Trace → Type 0
-FollowsItem lists w item t u = (IsIdle lists t item.core × (u ≡ t)) ⊎ ((IsIdle lists t item.core → ⊥) × Stretch w item.how item.core t u)
+abbrev pub FollowsItem : (Trace → ℕ → Bool) → List (List Call) → Item → Trace → Trace → Type 0
+FollowsItem ready lists item t u = (IsIdle lists t item.core × (u ≡ t)) ⊎ ((IsIdle lists t item.core → ⊥) × Stretch ready item.how item.core t u)
 
 -- From t to u by the items, one after another.
-abbrev pub FollowsItems : List (List Call) → Trace → List Item → Trace → Trace → Type 0
-FollowsItems lists w [] t u = u ≡ t
-FollowsItems lists w (item ∷ items) t u = (m : Trace) × FollowsItem lists w item t m × FollowsItems lists w items m u
+abbrev pub FollowsItems : (Trace → ℕ → Bool) → List (List Call) → List Item → Trace → Trace → Type 0
+FollowsItems ready lists [] t u = u ≡ t
+FollowsItems ready lists (item ∷ items) t u = (m : Trace) × FollowsItem ready lists item t m × FollowsItems ready lists items m u
 
 -- From t to u: steps of core c, to the end of its list.
 pub record RunsOut (lists : List (List Call)) (c : ℕ) (t u : Trace) : Type 0 where
@@ -100,8 +100,9 @@ abbrev pub FollowsCores : List (List Call) → ℕ → Trace → Trace → Type 
 FollowsCores lists zero t u = u ≡ t
 FollowsCores lists (suc n) t u = (m : Trace) × FollowsCores lists n t m × RunsOut lists n m u
 
--- The trace goes by the items of the order, and then each core to the end of its list.
-pub record Follows (lists : List (List Call)) (items : List Item) (w : Trace) : Type 0 where
+-- The trace goes by the items of the order, and then each core to the end of its list. `ready` says of each trace which cores
+-- are ready behind it: their next step is the one at which their call's `ok` is decided, or the call has decided.
+pub record Follows (ready : Trace → ℕ → Bool) (lists : List (List Call)) (items : List Item) (w : Trace) : Type 0 where
   pub ordered : Trace
-  pub by_items : FollowsItems lists w items [] ordered
+  pub by_items : FollowsItems ready lists items [] ordered
   pub by_cores : FollowsCores lists (length lists) ordered w

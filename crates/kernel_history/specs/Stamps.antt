@@ -3,6 +3,7 @@ use Rattle.std.specs.Prelude.{ℕ, Bool, true, false, ◌==◌, ◌&&◌, if◌t
 use Rattle.spk_nums.specs.declared.replies.Reply.{Reply}
 use Rattle.spk_nums.specs.Setting.{Setting}
 use Rattle.word_map.specs.Word.{FlushAt, ClockAt, same_word}
+use Rattle.word_map.specs.Moves.{word_of}
 use Rattle.kernel_rules.specs.State.{Thing, State}
 use Rattle.kernel_rules.specs.GracePeriods.{needs_flush}
 use Rattle.kernel_rules.specs.CallRelation.{begins, ends, flushes}
@@ -63,7 +64,7 @@ clock setup t = last_left setup t ClockAt
 -- What the core's last step on the clock has found; 0 before the first.
 abbrev pub clock_seen : Trace → ℕ → ℕ
 clock_seen [] c = 0
-clock_seen (e ∷ t) c = if c == e.core && same_word ClockAt e.word then e.found else clock_seen t c
+clock_seen (e ∷ t) c = if c == e.core && same_word ClockAt (word_of e.move) then e.found else clock_seen t c
 
 -- The clock that a core has left with, where the step may return.
 abbrev pub exit_after : Option Reply → ℕ → ℕ → ℕ
@@ -83,4 +84,4 @@ flush_of (e ∷ t) c = if c == e.core && flushes_at t e then e.found else flush_
 -- The flush that the core has stored: its last as it steps on its flush word; 0 before the first.
 abbrev pub flush_stored : Trace → ℕ → ℕ
 flush_stored [] c = 0
-flush_stored (e ∷ t) c = if c == e.core && same_word (FlushAt c) e.word then flush_of t c else flush_stored t c
+flush_stored (e ∷ t) c = if c == e.core && same_word (FlushAt c) (word_of e.move) then flush_of t c else flush_stored t c

@@ -5,19 +5,19 @@ use Rattle.spk_nums.specs.declared.replies.Reply.{Reply}
 use Rattle.spk_nums.specs.declared.replies.Decision.{Decision}
 use Rattle.spk_nums.specs.Setting.{Setting}
 use Rattle.word_map.specs.Word.{Word, same_word}
+use Rattle.word_map.specs.Moves.{Move, LoadOf, CompareOf, StoreOf, AddOf, word_of, left_of}
 use Rattle.kernel_rules.specs.State.{State}
 use Rattle.kernel_rules.specs.Start.{start}
 use Rattle.kernel_rules.specs.GracePeriods.{entered, returned}
 use Rattle.kernel_rules.specs.CallRelation.{state_by}
 use Rattle.kernel_history.specs.BootWords.{boot_word}
 
--- An atomic step of a core on a word: the value found, the value left, and the events of the core's call at it:
--- invocation, decision (the linearization point) and response.
+-- An atomic step of a core: its operation on a word, the value found there, and the events of the core's call at it: invocation,
+-- decision (the linearization point) and response. What it leaves in the word is a function of the operation and of what it found.
 pub record Step : Type 0 where
   pub core : ℕ
-  pub word : Word
+  pub move : Move
   pub found : ℕ
-  pub left : ℕ
   pub enters : Option Call
   pub decides : Option Reply
   pub returns : Option Reply
@@ -29,7 +29,7 @@ Trace = List Step
 -- The value last left in the word, or the boot word if none was left.
 abbrev pub last_left : Setting → Trace → Word → ℕ
 last_left setup [] w = boot_word setup w
-last_left setup (e ∷ t) w = if same_word w e.word then e.left else last_left setup t w
+last_left setup (e ∷ t) w = if same_word w (word_of e.move) then (left_of e.move e.found) else last_left setup t w
 
 -- A core is between calls, in a call that is not decided, or in one that is.
 pub data Phase : Type 0 where
@@ -107,8 +107,27 @@ abbrev pub own_left : Trace → ℕ → Word → Option ℕ
 own_left [] c w = None
 own_left (e ∷ t) c w =
     if c == e.core
-    then (if same_word w e.word then Some e.left else (if is_some e.enters then None else own_left t c w))
+    then (if same_word w (word_of e.move) then Some (left_of e.move e.found) else (if is_some e.enters then None else own_left t c w))
     else own_left t c w
+
+-- Whether an operation reads its word: a load or a compare.
+abbrev pub reads : Move → Bool
+reads (LoadOf w) = true
+reads (CompareOf w expected new) = true
+reads (StoreOf w new) = false
+reads (AddOf w by) = false
+
+-- Whether a step has read its word and left it as found.
+abbrev pub only_reads : Step → Bool
+only_reads e = reads e.move && left_of e.move e.found == e.found
+
+-- What the core's last step on the word, in the call that it entered last, has read there, if that step left it as found.
+abbrev pub own_read : Trace → ℕ → Word → Option ℕ
+own_read [] c w = None
+own_read (e ∷ t) c w =
+    if c == e.core
+    then (if same_word w (word_of e.move) then (if only_reads e then Some e.found else None) else (if is_some e.enters then None else own_read t c w))
+    else own_read t c w
 
 -- The decision of a step that may decide.
 abbrev pub decision_at : Option Reply → ℕ → ℕ → List Decision

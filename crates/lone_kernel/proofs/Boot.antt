@@ -14,8 +14,6 @@ use Rattle.flight.specs.View.{Core}
 use Rattle.flight.specs.Fits.{IsCore}
 use Rattle.flight.specs.Steps.{started}
 use Rattle.flight.specs.declared.stages.InFlight.{InFlight}
-use Rattle.flight.specs.Stands.{Stands}
-use Rattle.flight.specs.Theorems.{Boots, SaysWords, boot_cores}
 use Rattle.lone_kernel.specs.declared.seats.Seat.{Seat}
 use Rattle.flight.specs.Decided.{is_decided_at}
 use Rattle.lone_kernel.specs.Machine.{Machine, seat_at, core_at, list_at, fresh_seat, due_at, due_in, IsFit, IsFitSeat, AreLists, AreFresh}
@@ -87,19 +85,13 @@ module _ {V : Type 0} (items : V → List Call) (setup : Setting) (words : List 
     };
   }
 
-  module _ (boots : Boots) (says_words : SaysWords) (setting : IsSetting setup) (none : decisions ≡ [])
+  module _ (none : decisions ≡ [])
       (words_are : (w : Word) → IsIn (shape_of setup) w → word_in (shape_of setup) words w ≡ boot_word setup (shared w)) where
-    cores_are : boot_cores setup ≡ core_at m
-    cores_are = λ i c. sym (core_is c) i
-
-    all : Stands setup (core_at m) []
-    all = subst (λ k. Stands setup k []) cores_are (boots setup setting)
-
     pub stands : StandsFor m []
     stands = record {
-      stands = all;
-      words = λ w is_in is_shared. words_are w is_in ∙ ap (boot_word setup) is_shared;
-      say = says_words setup setting (core_at m) [] all;
+      made = tt;
+      cores = λ c h. core_is c;
+      words = λ w is_in is_named. words_are w is_in ∙ ap (boot_word setup) is_named;
       calls = λ c h. ap (λ s. take s.begun (list_at m c)) (sym (fresh_at c h));
       decisions = none;
     }

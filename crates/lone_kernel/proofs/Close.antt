@@ -19,7 +19,9 @@ use Rattle.kernel_history.specs.FinalWords.{Represent, AreEntries, AreObject, Ar
 use Rattle.kernel_history.specs.Trace.{Trace, state_after, last_left}
 use Rattle.flight.specs.Steps.{end_of}
 use Rattle.flight.proofs.Sounds.{limits_of}
+use Rattle.flight.specs.Made.{cores_after}
 use Rattle.flight.proofs.Final.{represents}
+use Rattle.flight.proofs.Made.{made_stands}
 use Rattle.lone_kernel.specs.declared.seats.Seat.{Seat}
 use Rattle.lone_kernel.specs.Machine.{Machine, core_at, fresh_seat}
 use Rattle.lone_kernel.specs.Stands.{StandsFor}
@@ -85,7 +87,7 @@ same_default (x ∷ xs) (suc k) d e h = same_default xs k d e (omega arith)
 pub closes : (m : Machine) → IsSetting m.setup → length m.seats ≡ m.setup.cores → ((c : ℕ) → c < m.setup.cores → (core_at m c).flight ≡ None) →
     (t : Trace) → StandsFor m t → Represent (word_in (shape_of m.setup) m.words) (end_in (map (λ seat. end_of seat.state) m.seats)) (state_after m.setup t)
 closes m setting count between t stands =
-    like m.setup (state_after m.setup t) (last_left m.setup t) (word_in (shape_of m.setup) m.words) (λ c. end_of (core_at m c)) (end_in (map (λ seat. end_of seat.state) m.seats))
+    like m.setup (state_after m.setup t) (last_left m.setup t) (word_in (shape_of m.setup) m.words) (λ c. end_of (cores_after m.setup t c)) (end_in (map (λ seat. end_of seat.state) m.seats))
     (ap (λ l. l.frames) (limits_of m.setup t)) (ap (λ l. l.cores) (limits_of m.setup t))
-    (λ w is_in is_shared. sym (stands.words w is_in is_shared)) (λ c h. end_at m.setup m.seats c (omega arith))
-    (represents m.setup setting (core_at m) t stands.stands between)
+    (λ w is_in is_shared. sym (stands.words w is_in is_shared)) (λ c h. ap end_of (sym (stands.cores c h)) ∙ end_at m.setup m.seats c (omega arith))
+    (represents m.setup setting (cores_after m.setup t) t (made_stands m.setup setting t stands.made) (λ c h. ap (λ k. k.flight) (sym (stands.cores c h)) ∙ between c h))

@@ -11,7 +11,7 @@ use Rattle.kernel_history.specs.Trace.{decision_at}
 use Rattle.flight.specs.View.{Core}
 use Rattle.flight.specs.Fits.{IsCore, steps_left}
 use Rattle.flight.specs.Steps.{begun, landed, told, took_by, absorbed, told_of_step, absorbed_in, told_in}
-use Rattle.flight.specs.Theorems.{decided_in}
+use Rattle.flight.specs.Made.{decided_in}
 use Rattle.flight.specs.declared.stages.Absorbed.{Absorbed}
 use Rattle.flight.specs.declared.stages.Absorbed.TheVariants.{Going, Decided, Returned}
 use Rattle.flight.specs.declared.stages.InFlight.{InFlight}

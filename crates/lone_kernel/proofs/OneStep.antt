@@ -14,7 +14,7 @@ use Rattle.flight.specs.View.{Core}
 use Rattle.flight.specs.Fits.{IsCore, steps_left}
 use Rattle.flight.specs.Steps.{move_of, absorbed, told_of_step}
 use Rattle.kernel_history.specs.BootWords.{shape_of}
-use Rattle.flight.specs.Theorems.{decided_in}
+use Rattle.flight.specs.Made.{decided_in}
 use Rattle.flight.specs.declared.stages.Absorbed.{Absorbed}
 use Rattle.lone_kernel.specs.declared.seats.Seat.{Seat}
 use Rattle.lone_kernel.specs.declared.seats.Turn.{Turn}

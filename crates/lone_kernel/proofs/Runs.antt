@@ -1,38 +1,28 @@
--- Moves: steps of one core, one after another.
+-- Moves: steps of one core, one after another, until it is there.
 use Rattle.std.proofs.Common.{◌≡◌, ◌≢◌, ◌⊎◌, inl, inr, ℕ, ◌-◌, ◌<◌, ◌≤◌, ◌++◌, [], ◌∷◌, length, get_or, arith, refl, sym, ◌∙◌, ap, subst, true, false, Bool}
-use Rattle.std.specs.Prelude.{Option, Some, None, IsSome, ◌↔◌, option_map}
+use Rattle.std.specs.Prelude.{Option, Some, None, IsSome, IsTrue, IsFalse, option_map}
 use Rattle.std.proofs.lemmas.List.{length-take-le}
 use Rattle.std.proofs.lemmas.List.Elements.{All-cons, All-nil}
 use Rattle.std.proofs.lemmas.Option.{slice_get_cases}
 use Rattle.spk_nums.specs.declared.calls.Call.{Call}
-use Rattle.spk_nums.specs.declared.replies.Reply.{Reply}
-use Rattle.spk_nums.specs.Setting.{Setting}
-use Rattle.kernel_history.specs.Trace.{Step, Trace, Phase, phase, after_enter, after_decide, after_return, decided, calls_of}
-use Rattle.kernel_history.specs.Trace as history
-use Rattle.kernel_history.specs.Legal.{MayFollow}
-use Rattle.kernel_history.specs.Order.{IsIdle, IsDecided, AreOf, HaveNone, UnlessDecided}
-use Rattle.kernel_history.proofs.Steps.{phase-own}
-use Rattle.kernel_history.proofs.Open.{returns_if_out, none_if_in}
+use Rattle.spk_nums.specs.declared.steps.How.{How}
+use Rattle.spk_nums.specs.declared.steps.How.TheVariants.{One, Ready, Decide, Return}
+use Rattle.spk_nums.specs.Setting.{Setting, IsSetting}
+use Rattle.kernel_rules.proofs.Within.{put_same}
+use Rattle.kernel_history.specs.Trace.{Step, Trace, phase, calls_of}
+use Rattle.kernel_history.specs.Order.{IsIdle, IsDecided, AreOf, HaveNone, StaysUnready, Stretch}
 use Rattle.flight.specs.Fits.{left_for}
+use Rattle.flight.specs.View.{Core}
+use Rattle.flight.specs.Steps.{ready_of}
+use Rattle.flight.specs.Decided.{is_decided_in}
+use Rattle.flight.specs.Made.{turned, core_after, cores_after, core_at as core_of_step, IsMadeStep, ready_after}
+use Rattle.flight.specs.Phases.{AreEvents}
+use Rattle.flight.proofs.Phases.{made_events, decided_is_ready}
 use Rattle.flight.specs.declared.stages.InFlight.{InFlight}
-use Rattle.lone_kernel.specs.declared.seats.Turn.TheVariants.{Begins}
-use Rattle.lone_kernel.specs.declared.lone.Moved.{Moved}
-use Rattle.lone_kernel.specs.declared.lone.Moved.TheVariants.{Idle, Went}
-use Rattle.lone_kernel.specs.Machine.{Machine, seat_at, core_at, list_at, IsFinished, IsReady, IsInCall, HasDecided, turn_if}
-use Rattle.lone_kernel.specs.Stands.{StandsFor, GoesOn}
-use Rattle.lone_kernel.specs.Moves.{MovesTo, MovesBy, MakesOneStep, IsNotBoth, RefusedAt, GoesUntilReady, GoesThroughDecision, GoesToReturn, GoesFurther, work_in, work_at, calls_in, calls_left, calls_begun}
-use Rattle.lone_kernel.proofs.Advance.{decided_if, in_call_if, out_if}
-
--- a step of a core that has a turn is made
-pub went : (m m' : Machine) (c : ℕ) (moved : Moved) → ((moved ≡ Idle) ↔ IsFinished m c) → (IsFinished m c → ⊥) → MovesBy moved m m' c (MakesOneStep m m' c) → MakesOneStep m m' c
-went m m' c Idle is begins goes = absurd (begins (is.0 refl))
-went m m' c Went is begins goes = goes
-
-pub stays_on : (m : Machine) (t : Trace) → StandsFor m t → GoesOn m m t t
-stays_on m t stands = record { stands = stands; promised = λ c v p. p }
-
-pub goes_on : {m m' m'' : Machine} {t u v : Trace} → GoesOn m m' t u → GoesOn m' m'' u v → GoesOn m m'' t v
-goes_on first then = record { stands = then.stands; promised = λ c v p. then.promised c v (first.promised c v p) }
+use Rattle.lone_kernel.specs.Machine.{Machine, seat_at, core_at, list_at, IsFinished, IsInCall, HasDecided, IsThere, IsDone, turn_if}
+use Rattle.lone_kernel.specs.Stands.{StandsFor}
+use Rattle.lone_kernel.specs.Moves.{MovesTo, StepsOnce, GoesBy, GoesFurther, work_in, work_at, calls_in, calls_left, calls_begun}
+use Rattle.lone_kernel.proofs.Advance.{phase_is}
 
 pub begins_in_call : (m : Machine) (c : ℕ) → IsInCall m c → IsFinished m c → ⊥
 begins_in_call m c inside none = of_flight (core_at m c).flight inside none where
@@ -40,235 +30,199 @@ begins_in_call m c inside none = of_flight (core_at m c).flight inside none wher
   of_flight None inside none = inside refl
   of_flight (Some f) inside none = cc
 
--- the decision of a core's call is that of the trace
-module _ (m : Machine) (t : Trace) (c : ℕ) (here : c < m.setup.cores) (stands : StandsFor m t) where
-  pub is_decided : HasDecided m c → IsDecided (phase t c)
-  is_decided h = (decided_if m.setup t c _ (core_at m c).flight (stands.stands.each c here).flight).0 h
-
-  pub not_decided : (HasDecided m c → ⊥) → IsDecided (phase t c) → ⊥
-  not_decided un h = un ((decided_if m.setup t c _ (core_at m c).flight (stands.stands.each c here).flight).1 h)
-
-  pub in_call : IsInCall m c → phase t c ≢ history.Out
-  in_call inside = in_call_if m.setup t c _ (core_at m c).flight (stands.stands.each c here).flight inside
-
-  pub is_out : (core_at m c).flight ≡ None → phase t c ≡ history.Out
-  is_out none = out_if m.setup t c _ (core_at m c).flight (stands.stands.each c here).flight none
-
--- a step that decides nothing leaves an open call open
-enters_open : (o : Option Call) (p : Phase) → (IsDecided p → ⊥) → IsDecided (after_enter o p) → ⊥
-enters_open None p un h = un h
-enters_open (Some call) p un h = h
-
-returned_open : (o : Option Reply) (p : Phase) → (IsDecided p → ⊥) → IsDecided (after_return o p) → ⊥
-returned_open None p un h = un h
-returned_open (Some r) p un h = h
-
-decides_open : (o returns : Option Reply) (p : Phase) → o ≡ None → (IsDecided p → ⊥) → IsDecided (after_return returns (after_decide o p)) → ⊥
-decides_open None returns p none un h = returned_open returns p un h
-decides_open (Some r) returns p none un h = absurd (cc)
-
-some_or_none : (o : Option Reply) → (IsSome o) ⊎ (o ≡ None)
-some_or_none None = inr refl
-some_or_none (Some r) = inl refl
-
-module _ (t : Trace) (e : Step) (c : ℕ) (own : e.core ≡ c) (un : IsDecided (phase t c) → ⊥) where
-  pub decides_now : IsDecided (phase (e ∷ t) c) → IsSome e.decides
-  decides_now h = elim (some_or_none e.decides) [
-    | inl some ↦ some
-    | inr none ↦ absurd (decides_open e.decides e.returns (after_enter e.enters (phase t c)) none (enters_open e.enters (phase t c) un) (subst IsDecided (phase-own c e t (sym own)) h))
-  ]
-
-decided_phase : (o : Option Reply) (p : Phase) → p ≢ history.Out → IsSome o → IsDecided (after_decide o p)
-decided_phase None p inside some = absurd (cc)
-decided_phase (Some r) history.Out inside some = absurd (inside refl)
-decided_phase (Some r) (history.Open call) inside some = tt
-decided_phase (Some r) (history.Decided call q) inside some = tt
-
--- a step that decides, and does not return, leaves a decided call
-decides_stays : (o returns : Option Reply) (p : Phase) → IsNotBoth o returns → p ≢ history.Out → IsSome o → IsDecided (after_return returns (after_decide o p))
-decides_stays None returns p apart inside some = absurd (cc)
-decides_stays (Some r) returns p apart inside some = subst (λ x. IsDecided (after_return x (after_decide (Some r) p))) (sym apart) (decided_phase (Some r) p inside some)
-
-module _ (setup : Setting) (t : Trace) (e : Step) (c : ℕ) (own : e.core ≡ c) (follows : MayFollow setup t e) (apart : IsNotBoth e.decides e.returns) where
-  pub undecided_now : (IsDecided (phase (e ∷ t) c) → ⊥) → e.decides ≡ None
-  undecided_now un = elim (some_or_none e.decides) [
-    | inl some ↦ absurd (un (subst IsDecided (ap (phase (e ∷ t)) own) (subst IsDecided (sym (phase-own e.core e t refl)) (decides_stays e.decides e.returns (after_enter e.enters (phase t e.core)) apart follows.in_call some))))
-    | inr none ↦ none
-  ]
-
--- steps of core c, none of which decides
-pub record StaysOpen (m m' : Machine) (c : ℕ) (t : Trace) : Type 0 where
-  pub steps : Trace
-  pub own : AreOf c steps
-  pub undecided : HaveNone (λ e. e.decides) steps
-  pub goes : GoesOn m m' t (steps ++ t)
-
-abbrev pub GoesOpen : Machine → Machine → ℕ → Type 0
-GoesOpen m m' c = (t : Trace) → StandsFor m t → StaysOpen m m' c t
-
--- steps of core c, none of which returns
-pub record StaysInCall (m m' : Machine) (c : ℕ) (t : Trace) : Type 0 where
-  pub steps : Trace
-  pub own : AreOf c steps
-  pub unreturned : HaveNone (λ e. e.returns) steps
-  pub goes : GoesOn m m' t (steps ++ t)
-
-abbrev pub GoesInCall : Machine → Machine → ℕ → Type 0
-GoesInCall m m' c = (t : Trace) → StandsFor m t → StaysInCall m m' c t
-
-pub open_none : (m : Machine) (c : ℕ) → GoesOpen m m c
-open_none m c t stands = record { steps = []; own = All-nil (λ e. e.core ≡ c); undecided = All-nil (λ e. e.decides ≡ None); goes = stays_on m t stands }
-
-pub in_call_none : (m : Machine) (c : ℕ) → GoesInCall m m c
-in_call_none m c t stands = record { steps = []; own = All-nil (λ e. e.core ≡ c); unreturned = All-nil (λ e. e.returns ≡ None); goes = stays_on m t stands }
-
-module _ (m m' m'' : Machine) (c : ℕ) (there : c < m''.setup.cores) (step : MakesOneStep m' m'' c) where
-  -- a step behind which the call is not decided
-  pub open_more : (HasDecided m'' c → ⊥) → GoesOpen m m' c → GoesOpen m m'' c
-  open_more un goes t stands =
-      let g = goes t stands in
-      let s = step (g.steps ++ t) g.goes.stands in
-      let made = s.is in
-      let e = made.step in
-      let on : GoesOn m' m'' (g.steps ++ t) (e ∷ (g.steps ++ t)) = subst (λ u. GoesOn m' m'' (g.steps ++ t) u) made.adds s.goes in
-      let un_now = not_decided m'' (e ∷ (g.steps ++ t)) c there on.stands un in
-      record {
-        steps = e ∷ g.steps;
-        own = All-cons (λ x. x.core ≡ c) e g.steps made.own g.own;
-        undecided = All-cons (λ x. x.decides ≡ None) e g.steps (undecided_now m''.setup (g.steps ++ t) e c made.own on.stands.stands.legal.1 made.apart un_now) g.undecided;
-        goes = goes_on g.goes on;
-      }
-
-  -- a step behind which it is in flight
-  pub in_call_more : IsInCall m'' c → GoesInCall m m' c → GoesInCall m m'' c
-  in_call_more inside goes t stands =
-      let g = goes t stands in
-      let s = step (g.steps ++ t) g.goes.stands in
-      let made = s.is in
-      let e = made.step in
-      let on : GoesOn m' m'' (g.steps ++ t) (e ∷ (g.steps ++ t)) = subst (λ u. GoesOn m' m'' (g.steps ++ t) u) made.adds s.goes in
-      record {
-        steps = e ∷ g.steps;
-        own = All-cons (λ x. x.core ≡ c) e g.steps made.own g.own;
-        unreturned = All-cons (λ x. x.returns ≡ None) e g.steps (none_if_in (g.steps ++ t) e c made.own (in_call m'' (e ∷ (g.steps ++ t)) c there on.stands inside)) g.unreturned;
-        goes = goes_on g.goes on;
-      }
-
 -- a core that is not finished is not idle
-busy_flight : (m : Machine) (t : Trace) (c : ℕ) (o : Option InFlight) → (core_at m c).flight ≡ o → c < m.setup.cores → (turn_if (list_at m c) (seat_at m c).begun o ≡ None → ⊥) →
-    StandsFor m t → IsIdle m.lists t c → ⊥
-busy_flight m t c None is here begins stands idle = elim (slice_get_cases (list_at m c) (seat_at m c).begun).1 [
+busy_flight : (m : Machine) (t : Trace) (c : ℕ) (o : Option InFlight) → IsSetting m.setup → (core_at m c).flight ≡ o → c < m.setup.cores
+    → (turn_if (list_at m c) (seat_at m c).begun o ≡ None → ⊥) → StandsFor m t → IsIdle m.lists t c → ⊥
+busy_flight m t c None setting is here begins stands idle = elim (slice_get_cases (list_at m c) (seat_at m c).begun).1 [
   | inl found ↦
       let within : (seat_at m c).begun < length (list_at m c) = found.1 in
       let n : length (calls_of t c) ≡ (seat_at m c).begun = ap length (stands.calls c here) ∙ length-take-le (seat_at m c).begun (list_at m c) (omega arith) in
       let k : length (calls_of t c) ≡ length (list_at m c) = ap length idle.finished in
       omega arith
-  | inr past ↦ begins (ap (option_map Begins) past.1)
+  | inr past ↦ begins (ap (option_map Rattle.lone_kernel.specs.declared.seats.Turn.TheVariants.Begins) (past.1))
 ]
-busy_flight m t c (Some f) is here begins stands idle = in_call m t c here stands (λ none. let both = sym is ∙ none in absurd (cc)) idle.out
+busy_flight m t c (Some f) setting is here begins stands idle =
+    (phase_is m t c setting here stands).in_call (λ none. let both = sym is ∙ none in absurd (cc)) idle.out
 
-pub busy_if : (m : Machine) (c : ℕ) → c < m.setup.cores → (IsFinished m c → ⊥) → (t : Trace) → StandsFor m t → IsIdle m.lists t c → ⊥
-busy_if m c here begins t stands idle = busy_flight m t c (core_at m c).flight refl here begins stands idle
+pub busy_if : (m : Machine) (c : ℕ) → IsSetting m.setup → c < m.setup.cores → (IsFinished m c → ⊥) → (t : Trace) → StandsFor m t → IsIdle m.lists t c → ⊥
+busy_if m c setting here begins t stands idle = busy_flight m t c (core_at m c).flight setting refl here begins stands idle
 
-module _ (m m' m'' : Machine) (c : ℕ) (here : c < m.setup.cores) (middle : c < m'.setup.cores) (there : c < m''.setup.cores) (step : MakesOneStep m' m'' c)
-    (busy : (t : Trace) → StandsFor m t → IsIdle m.lists t c → ⊥) where
-  -- the step that decides
-  pub decides_at_last : (HasDecided m c → ⊥) → (HasDecided m' c → ⊥) → HasDecided m'' c → GoesOpen m m' c → GoesThroughDecision m m'' c
-  decides_at_last un_first un now goes t stands =
-      let g = goes t stands in
-      let s = step (g.steps ++ t) g.goes.stands in
-      let made = s.is in
-      let e = made.step in
-      let on : GoesOn m' m'' (g.steps ++ t) (e ∷ (g.steps ++ t)) = subst (λ u. GoesOn m' m'' (g.steps ++ t) u) made.adds s.goes in
-      record {
-        busy = busy t stands;
-        after = e ∷ (g.steps ++ t);
-        goes = goes_on g.goes on;
-        is = inr (
-          not_decided m t c here stands un_first,
-          record {
-            steps = g.steps;
-            last = e;
-            adds = refl;
-            own = All-cons (λ x. x.core ≡ c) e g.steps made.own g.own;
-            before = g.undecided;
-            ends = decides_now (g.steps ++ t) e c made.own (not_decided m' (g.steps ++ t) c middle g.goes.stands un) (is_decided m'' (e ∷ (g.steps ++ t)) c there on.stands now);
-          },
-        );
-      }
+-- the steps so far have not come to where the item ends
+abbrev pub NotYet : (Trace → ℕ → Bool) → How → ℕ → Trace → Trace → Type 0
+NotYet ready One c t steps = steps ≡ []
+NotYet ready Ready c t steps = StaysUnready ready c t steps
+NotYet ready Decide c t steps = HaveNone (λ e. e.decides) steps
+NotYet ready Return c t steps = HaveNone (λ e. e.returns) steps
 
-  -- the step that refuses a call before it is ready
-  pub refuses_at_last : (HasDecided m c → ⊥) → (HasDecided m' c → ⊥) → (IsReady m' c → ⊥) → HasDecided m'' c → GoesOpen m m' c → GoesUntilReady m m'' c
-  refuses_at_last un_first un unready now goes t stands =
-      let g = goes t stands in
-      let s = step (g.steps ++ t) g.goes.stands in
-      let made = s.is in
-      let e = made.step in
-      let on : GoesOn m' m'' (g.steps ++ t) (e ∷ (g.steps ++ t)) = subst (λ u. GoesOn m' m'' (g.steps ++ t) u) made.adds s.goes in
-      record {
-        busy = busy t stands;
-        after = e ∷ (g.steps ++ t);
-        goes = goes_on g.goes on;
-        is = inr (
-          not_decided m t c here stands un_first,
-          inr record {
-            through = record {
-              steps = g.steps;
-              last = e;
-              adds = refl;
-              own = All-cons (λ x. x.core ≡ c) e g.steps made.own g.own;
-              before = g.undecided;
-              ends = decides_now (g.steps ++ t) e c made.own (not_decided m' (g.steps ++ t) c middle g.goes.stands un) (is_decided m'' (e ∷ (g.steps ++ t)) c there on.stands now);
-            };
-            refused = refused_of e made.early;
-          },
-        );
-      } where
-        refused_of : (e : Step) → IsReady m' c ⊎ RefusedAt e → RefusedAt e
-        refused_of e (inl ready) = absurd (unready ready)
-        refused_of e (inr refused) = refused
+pub record StaysShort (how : How) (m m' : Machine) (c : ℕ) (t : Trace) : Type 0 where
+  pub steps : Trace
+  pub own : AreOf c steps
+  pub before : NotYet (ready_after m.setup) how c t steps
+  pub stands : StandsFor m' (steps ++ t)
 
-  -- the step that returns
-  pub returns_at_last : (core_at m'' c).flight ≡ None → GoesInCall m m' c → GoesToReturn m m'' c
-  returns_at_last between goes t stands =
-      let g = goes t stands in
-      let s = step (g.steps ++ t) g.goes.stands in
-      let made = s.is in
-      let e = made.step in
-      let on : GoesOn m' m'' (g.steps ++ t) (e ∷ (g.steps ++ t)) = subst (λ u. GoesOn m' m'' (g.steps ++ t) u) made.adds s.goes in
-      record {
-        busy = busy t stands;
-        after = e ∷ (g.steps ++ t);
-        goes = goes_on g.goes on;
-        is = record {
-          steps = g.steps;
-          last = e;
-          adds = refl;
-          own = All-cons (λ x. x.core ≡ c) e g.steps made.own g.own;
-          before = g.unreturned;
-          ends = returns_if_out m''.setup (g.steps ++ t) e c made.own on.stands.stands.legal.1 (is_out m'' (e ∷ (g.steps ++ t)) c there on.stands between);
-        };
-      }
+abbrev pub GoesShort : How → Machine → Machine → ℕ → Type 0
+GoesShort how m m' c = (t : Trace) → StandsFor m t → StaysShort how m m' c t
 
--- a call that is ready ends the move
-pub ready_now : (m m' : Machine) (c : ℕ) → c < m.setup.cores → ((t : Trace) → StandsFor m t → IsIdle m.lists t c → ⊥) → (HasDecided m c → ⊥) → IsReady m' c → GoesOpen m m' c → GoesUntilReady m m' c
-ready_now m m' c here busy un ready goes t stands =
-    let g = goes t stands in
+none_yet : (how : How) (ready : Trace → ℕ → Bool) (c : ℕ) (t : Trace) → NotYet ready how c t []
+none_yet One ready c t = refl
+none_yet Ready ready c t = tt
+none_yet Decide ready c t = All-nil (λ e. e.decides ≡ None)
+none_yet Return ready c t = All-nil (λ e. e.returns ≡ None)
+
+pub short_none : (how : How) (m : Machine) (c : ℕ) → GoesShort how m m c
+short_none how m c t stands = record { steps = []; own = All-nil (λ e. e.core ≡ c); before = none_yet how (ready_after m.setup) c t; stands = stands }
+
+-- a test that does not hold is false
+pub undecided_false : (b : Bool) → (b ≡ true → ⊥) → b ≡ false
+undecided_false true un = absurd (un refl)
+undecided_false false un = refl
+
+-- a call that the item leaves undecided
+abbrev pub StaysOpen : How → Machine → ℕ → Type 0
+StaysOpen One m c = Unit {0}
+StaysOpen Ready m c = HasDecided m c → ⊥
+StaysOpen Decide m c = HasDecided m c → ⊥
+StaysOpen Return m c = Unit {0}
+
+pub open_first : (how : How) (m : Machine) (c : ℕ) → (IsDone how m c → ⊥) → StaysOpen how m c
+open_first One m c undone = tt
+open_first Ready m c undone = λ h. undone (decided_is_ready (core_at m c) h)
+open_first Decide m c undone = undone
+open_first Return m c undone = tt
+
+-- after a step that does not end the item, its call is in flight
+pub inside_after : (how : How) (m m' : Machine) (c : ℕ) → StaysOpen how m c → GoesFurther m m' c → (IsThere how m' c → ⊥) → IsInCall m' c
+inside_after One m m' c un further short = absurd (short tt)
+inside_after Ready m m' c un further short = further.in_call (undecided_false (is_decided_in (core_at m c).flight) un)
+inside_after Decide m m' c un further short = further.in_call (undecided_false (is_decided_in (core_at m c).flight) un)
+inside_after Return m m' c un further short = short
+
+pub open_after : (how : How) (m' : Machine) (c : ℕ) → (IsThere how m' c → ⊥) → StaysOpen how m' c
+open_after One m' c short = tt
+open_after Ready m' c short = λ h. short (decided_is_ready (core_at m' c) h)
+open_after Decide m' c short = short
+open_after Return m' c short = tt
+
+-- the events of a step of core c, by where the machine stands before it and after it
+turned_undecided : (enters : Option Call) (core : Core) → is_decided_in core.flight ≡ false → is_decided_in (turned enters core).flight ≡ false
+turned_undecided None core h = h
+turned_undecided (Some call) core h = refl
+
+pub record AreEventsOf (m' m'' : Machine) (c : ℕ) (e : Step) : Type 0 where
+  pub decides_now : (HasDecided m' c → ⊥) → HasDecided m'' c → IsSome e.decides
+  pub decides_none : IsInCall m'' c → (HasDecided m'' c → ⊥) → e.decides ≡ None
+  pub returns_now : (core_at m'' c).flight ≡ None → IsSome e.returns
+  pub returns_none : IsInCall m'' c → e.returns ≡ None
+
+pub events_are : (m' m'' : Machine) (c : ℕ) (t : Trace) (e : Step) → m''.setup ≡ m'.setup → c < m'.setup.cores → e.core ≡ c
+    → StandsFor m' t → StandsFor m'' (e ∷ t) → AreEventsOf m' m'' c e
+events_are m' m'' c t e same here own stands stands' =
+    let setup = m''.setup in
+    let here' : c < setup.cores = subst (λ s. c < s.cores) (sym same) here in
+    let are : AreEvents (core_of_step setup t e) (core_after (core_of_step setup t e) e.found) e.decides e.returns = made_events setup t e stands'.made.1 in
+    let now : core_at m'' c ≡ core_after (core_of_step setup t e) e.found =
+    stands'.cores c here' ∙ put_same (cores_after setup t) e.core (core_after (core_of_step setup t e) e.found) c (sym own) in
+    let was : core_at m' c ≡ cores_after setup t e.core =
+    stands.cores c here ∙ ap (λ s. cores_after s t c) (sym same) ∙ ap (cores_after setup t) (sym own) in
     record {
-      busy = busy t stands;
-      after = g.steps ++ t;
-      goes = g.goes;
-      is = inr (not_decided m t c here stands un, inl (record { steps = g.steps; adds = refl; own = g.own; before = g.undecided; ready = ready }));
+      decides_now = λ un h. are.decides_now
+          (turned_undecided e.enters (cores_after setup t e.core) (ap (λ k. is_decided_in k.flight) (sym was) ∙ undecided_false (is_decided_in (core_at m' c).flight) un))
+          (ap (λ k. is_decided_in k.flight) (sym now) ∙ h);
+      decides_none = λ inside un. are.decides_none (λ none. inside (ap (λ k. k.flight) now ∙ none))
+          (ap (λ k. is_decided_in k.flight) (sym now) ∙ undecided_false (is_decided_in (core_at m'' c).flight) un);
+      returns_now = λ none. are.returns_now (ap (λ k. k.flight) (sym now) ∙ none);
+      returns_none = λ inside. are.returns_none (λ none. inside (ap (λ k. k.flight) now ∙ none));
     }
 
--- a call that is decided makes no step
-pub nothing_done : (m : Machine) (c : ℕ) (Is : Trace → Trace → Type 0) → c < m.setup.cores → ((t : Trace) → StandsFor m t → IsIdle m.lists t c → ⊥) → HasDecided m c →
-    (t : Trace) → StandsFor m t → MovesTo m m c t (λ u. UnlessDecided c t u (Is t u))
-nothing_done m c Is here busy decided t stands = record {
-  busy = busy t stands;
+ready_is : (m : Machine) (c : ℕ) (t : Trace) (setup : Setting) → setup ≡ m.setup → c < m.setup.cores → StandsFor m t → ready_after setup t c ≡ ready_of (core_at m c)
+ready_is m c t setup same here stands = ap (λ s. ready_after s t c) same ∙ ap ready_of (sym (stands.cores c here))
+
+is_false : (b : Bool) → (b ≡ true → ⊥) → IsFalse b
+is_false true un = absurd (un refl)
+is_false false un = refl
+
+-- one step of core c after others
+module _ (m m' m'' : Machine) (c : ℕ) (middle : m'.setup ≡ m.setup) (last : m''.setup ≡ m'.setup) (here : c < m'.setup.cores) (step : StepsOnce m' m'' c) where
+  here'' : c < m''.setup.cores
+  here'' = subst (λ s. c < s.cores) (sym last) here
+
+  longer : (how : How) (t steps : Trace) (e : Step) → NotYet (ready_after m.setup) how c t steps → (IsThere how m'' c → ⊥) → IsInCall m'' c
+      → AreEventsOf m' m'' c e → StandsFor m'' (e ∷ (steps ++ t)) → NotYet (ready_after m.setup) how c t (e ∷ steps)
+  longer One t steps e before short inside events stands = absurd (short tt)
+  longer Ready t steps e before short inside events stands = (
+    before,
+    is_false _ (λ ready. short (sym (ready_is m'' c (e ∷ (steps ++ t)) m.setup (sym (last ∙ middle)) here'' stands) ∙ ready)),
+  )
+  longer Decide t steps e before short inside events stands = All-cons (λ x. x.decides ≡ None) e steps (events.decides_none inside short) before
+  longer Return t steps e before short inside events stands = All-cons (λ x. x.returns ≡ None) e steps (events.returns_none inside) before
+
+  -- one that does not end the item
+  pub short_more : (how : How) → (IsThere how m'' c → ⊥) → IsInCall m'' c → GoesShort how m m' c → GoesShort how m m'' c
+  short_more how short inside goes t stands =
+      let g = goes t stands in
+      let s = step (g.steps ++ t) g.stands in
+      let e = s.is.step in
+      let on : StandsFor m'' (e ∷ (g.steps ++ t)) = subst (λ u. StandsFor m'' u) s.is.adds s.stands in
+      let events = events_are m' m'' c (g.steps ++ t) e last here s.is.own g.stands on in
+      record {
+        steps = e ∷ g.steps;
+        own = All-cons (λ x. x.core ≡ c) e g.steps s.is.own g.own;
+        before = longer how t g.steps e g.before short inside events on;
+        stands = on;
+      }
+
+  -- the step that ends the item
+  module _ (first : c < m.setup.cores) (setting : IsSetting m.setup) where
+    ends_item : (how : How) (t steps : Trace) (e : Step) → StandsFor m t → (IsDone how m c → ⊥) → StaysOpen how m' c → IsThere how m'' c → AreOf c (e ∷ steps)
+        → NotYet (ready_after m.setup) how c t steps → AreEventsOf m' m'' c e → StandsFor m'' (e ∷ (steps ++ t)) → Stretch (ready_after m.setup) how c t (e ∷ (steps ++ t))
+    ends_item One t steps e before undone open_now there own none events stands =
+        record { step = e; adds = ap (λ s. e ∷ (s ++ t)) none; own = own 0 e (omega arith) }
+    ends_item Ready t steps e before undone open_now there own none events stands = inr (
+      is_false _ (λ ready. undone (sym (ready_is m c t m.setup refl first before) ∙ ready)),
+      record {
+        steps = steps;
+        last = e;
+        adds = refl;
+        own = own;
+        before = none;
+        ends = ready_is m'' c (e ∷ (steps ++ t)) m.setup (sym (last ∙ middle)) here'' stands ∙ there;
+      },
+    )
+    ends_item Decide t steps e before undone open_now there own none events stands = inr (
+      λ decided. undone ((phase_is m t c setting first before).was_decided decided),
+      record { steps = steps; last = e; adds = refl; own = own; before = none; ends = events.decides_now open_now there },
+    )
+    ends_item Return t steps e before undone open_now there own none events stands =
+        record { steps = steps; last = e; adds = refl; own = own; before = none; ends = events.returns_now there }
+
+  pub there_at_last : (how : How) → c < m.setup.cores → IsSetting m.setup → (IsFinished m c → ⊥) → (IsDone how m c → ⊥) → StaysOpen how m' c → IsThere how m'' c
+      → GoesShort how m m' c → GoesBy how m m'' c
+  there_at_last how first setting begins undone open_now there goes t stands =
+      let g = goes t stands in
+      let s = step (g.steps ++ t) g.stands in
+      let e = s.is.step in
+      let on : StandsFor m'' (e ∷ (g.steps ++ t)) = subst (λ u. StandsFor m'' u) s.is.adds s.stands in
+      let events = events_are m' m'' c (g.steps ++ t) e last here s.is.own g.stands on in
+      record {
+        busy = busy_if m c setting first begins t stands;
+        after = e ∷ (g.steps ++ t);
+        stands = on;
+        is = ends_item first setting how t g.steps e stands undone open_now there (All-cons (λ x. x.core ≡ c) e g.steps s.is.own g.own) g.before events on;
+      }
+
+-- an item that is done makes no step
+pub done_stretch : (how : How) (m : Machine) (c : ℕ) (t : Trace) → IsSetting m.setup → c < m.setup.cores → IsDone how m c → StandsFor m t → Stretch (ready_after m.setup) how c t t
+done_stretch One m c t setting here done stands = absurd done
+done_stretch Ready m c t setting here done stands = inl (ready_is m c t m.setup refl here stands ∙ done, refl)
+done_stretch Decide m c t setting here done stands = inl ((phase_is m t c setting here stands).decided done, refl)
+done_stretch Return m c t setting here done stands = absurd done
+
+pub nothing_done : (how : How) (m : Machine) (c : ℕ) → IsSetting m.setup → c < m.setup.cores → (IsFinished m c → ⊥) → IsDone how m c → GoesBy how m m c
+nothing_done how m c setting here begins done t stands = record {
+  busy = busy_if m c setting here begins t stands;
   after = t;
-  goes = stays_on m t stands;
-  is = inl (is_decided m t c here stands decided, refl);
+  stands = stands;
+  is = done_stretch how m c t setting here done stands;
 }
 
 -- what a step leaves to do within its call is less, and a call that returns is one less
@@ -293,11 +247,6 @@ calls_fewer m m' c same none begun within =
     (subst (λ l. calls_in None (length (get_or l c []) - (seat_at m' c).begun) < calls_left m c) (sym same)
     (calls_less (core_at m c).flight (length (list_at m c)) (seat_at m c).begun (seat_at m' c).begun begun
     (subst (λ l. (seat_at m' c).begun ≤ length (get_or l c [])) same within)))
-
--- a test that does not hold is false
-pub undecided_false : (b : Bool) → (b ≡ true → ⊥) → b ≡ false
-undecided_false true un = absurd (un refl)
-undecided_false false un = refl
 
 pub none_of : (o : Option InFlight) → (o ≢ None → ⊥) → o ≡ None
 none_of None un = refl

@@ -1,3 +1,4 @@
 pub mod Machine
 pub mod Stands
 pub mod Moves
+pub mod GivenSteps

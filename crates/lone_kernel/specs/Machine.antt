@@ -4,6 +4,8 @@ use Rattle.supported_calls.specs.Built.{IsBuilt}
 use Rattle.spk_nums.specs.CallLimits.{InLimits}
 use Rattle.spk_nums.specs.declared.calls.Call.{Call}
 use Rattle.spk_nums.specs.declared.replies.Decision.{Decision}
+use Rattle.spk_nums.specs.declared.steps.How.{How}
+use Rattle.spk_nums.specs.declared.steps.How.TheVariants.{One, Ready, Decide, Return}
 use Rattle.spk_nums.specs.Setting.{Setting}
 use Rattle.word_map.specs.Places.{Shape, place_of, size_of}
 use Rattle.word_map.specs.Moves.{word_of, left_of, told_of}
@@ -13,7 +15,7 @@ use Rattle.flight.specs.Fits.{IsCore}
 use Rattle.flight.specs.Steps.{started, move_of, ready_of, absorbed, told_of_step}
 use Rattle.kernel_history.specs.BootWords.{shape_of}
 use Rattle.flight.specs.Decided.{is_decided_at, is_decided_in}
-use Rattle.flight.specs.Theorems.{turned, decided_in, step_at}
+use Rattle.flight.specs.Made.{turned, decided_in, step_of}
 use Rattle.flight.specs.declared.stages.Absorbed.{Absorbed}
 use Rattle.flight.specs.declared.stages.Absorbed.TheVariants.{Going, Decided, Returned}
 use Rattle.flight.specs.declared.stages.InFlight.{InFlight}
@@ -66,10 +68,23 @@ IsInCall m c = (core_at m c).flight ≢ None
 abbrev pub HasDecided : Machine → ℕ → Type 0
 HasDecided m c = is_decided_in (core_at m c).flight ≡ true
 
--- The next step of core c is the one at which its call decides an `ok`: the call is ready, and not decided.
-pub record IsReady (m : Machine) (c : ℕ) : Type 0 where
-  pub ready : ready_of (core_at m c) ≡ true
-  pub undecided : is_decided_in (core_at m c).flight ≡ false
+-- Core c is ready: the next step is the one at which its call's `ok` is decided, or its call has decided.
+abbrev pub IsReady : Machine → ℕ → Type 0
+IsReady m c = ready_of (core_at m c) ≡ true
+
+-- An item of an order that takes core c this far is done: one step always is, once it is made.
+abbrev pub IsThere : How → Machine → ℕ → Type 0
+IsThere One m c = Unit {0}
+IsThere Ready m c = IsReady m c
+IsThere Decide m c = HasDecided m c
+IsThere Return m c = (core_at m c).flight ≡ None
+
+-- An item that takes core c this far is done before it makes a step.
+abbrev pub IsDone : How → Machine → ℕ → Type 0
+IsDone One m c = ⊥
+IsDone Ready m c = IsReady m c
+IsDone Decide m c = HasDecided m c
+IsDone Return m c = ⊥
 
 -- The decision of a call in flight that is still to come, as a number.
 abbrev pub due_at : Bool → ℕ
@@ -164,8 +179,7 @@ stepped m c f = record {
 
 -- That step.
 abbrev pub step_in : Machine → ℕ → Turn → Step
-step_in m c f =
-    step_at c (enters_as f) (move_of (core_in (core_at m c) f)) (found_by m c f) (said_by (core_in (core_at m c) f) (found_by m c f))
+step_in m c f = step_of c (enters_as f) (core_in (core_at m c) f) (found_by m c f)
 
 -- A core may take a turn: it has a call in flight, or none and the turn's call can be run.
 pub record CanBegin (call : Call) (core : Core) : Type 0 where

@@ -16,17 +16,18 @@ ghost use Rattle.kernel_history.specs.FinalWords.{Represent, word_in, end_in};
 ghost use Rattle.flight.specs.Fits.{IsCore, steps_left};
 ghost use Rattle.kernel_history.specs.BootWords.{shape_of};
 ghost use Rattle.flight.specs.Steps.{end_of};
-ghost use Rattle.flight.specs.Theorems.{decided_in};
+ghost use Rattle.flight.specs.Made.{decided_in};
+ghost use Rattle.spk_nums.specs.declared.steps.How.TheVariants.{One, Ready, Decide, Return};
 ghost use Rattle.spk_nums.specs.WordSteps.{left_by, told_by};
 ghost use Rattle.flight.specs.Decided.{is_decided_in};
-ghost use Rattle.lone_kernel.specs.Machine.{IsFitSeat, CanRun, turn_of, begun_by, core_in, said_by, CanTake, MakesTurn, TakesTurn, seat_after, words_after, place_next, decisions_in, IsFinished, IsInCall, HasDecided, IsReady, list_at, seat_at, core_at, AreLists, AreFresh};
+ghost use Rattle.lone_kernel.specs.Machine.{IsFitSeat, CanRun, turn_of, begun_by, core_in, said_by, CanTake, MakesTurn, TakesTurn, seat_after, words_after, place_next, decisions_in, IsFinished, IsInCall, HasDecided, IsReady, IsThere, IsDone, list_at, seat_at, core_at, AreLists, AreFresh};
 ghost use Rattle.lone_kernel.specs.Stands.{StandsFor};
-ghost use Rattle.lone_kernel.specs.Moves.{MovesBy, MakesOneStep, GoesFurther, GoesUntilReady, GoesThroughDecision, GoesToReturn, calls_left};
+ghost use Rattle.lone_kernel.specs.Moves.{MovesBy, StepsOnce, GoesBy, GoesFurther, calls_left};
 
 use crate::seats::{Seat, Turn};
 use flight::{Absorbed, CoreState};
 use kernel_history::boot_words;
-use spk_nums::{Call, CoreEnd, CoreNo, Decision, Memory, Setup, WordOp};
+use spk_nums::{Call, CoreEnd, CoreNo, Decision, How, Memory, Setup, WordOp};
 use std::alloc::{AllocError, Global};
 use std::marker::Model;
 use word_map::{Closed, Layout};
@@ -290,115 +291,127 @@ impl LoneKernel {
         ensures setup { self.new.setup ≡ self.old.setup }
         ensures lists { self.new.lists ≡ self.old.lists }
         ensures idle { (result ≡ Moved.Idle) ↔ IsFinished self.old core }
-        ensures goes { MovesBy result self.old self.new core (MakesOneStep self.old self.new core) }
-        ensures work { (IsFinished self.old core → ⊥) → GoesFurther self.old self.new core }
+        ensures goes { MovesBy result One self.old self.new core }
     {
-        let at = usize::from(core.number());
-        let Some(turn) = turn(&self.lists[at], &self.seats[at]) else {
-            return Moved::Idle;
-        };
-        let absorbed = take(&mut self.seats[at], &turn, &self.layout, &mut self.words);
-        let index = self.seats[at].begun as u32;
-        note(&mut self.decisions, &absorbed, core, index);
-        Moved::Went
+        self.go_on(core, How::One)
     }
 
-    /// Goes on until the core's call is ready: its next step is the one at which it decides an `ok`. A call that is
-    /// refused before ends the move too. A call that is ready, or has decided, makes no step.
+    /// Goes on until the core's call is ready: its next step is the one at which an `ok` is decided, or it has decided. A
+    /// call that is ready makes no step. A core between calls begins its next one; idle comes exactly where it is between
+    /// calls and its list is finished.
     pub fn until_ready(&mut self, core: CoreNo) -> Moved
         requires { core < self.old.setup.cores }
         ensures setup { self.new.setup ≡ self.old.setup }
         ensures lists { self.new.lists ≡ self.old.lists }
         ensures idle { (result ≡ Moved.Idle) ↔ IsFinished self.old core }
-        ensures goes { MovesBy result self.old self.new core (GoesUntilReady self.old self.new core) }
+        ensures goes { MovesBy result Ready self.old self.new core }
     {
-        if self.is_finished(core) {
-            return Moved::Idle;
-        }
-        if !self.has_decided(core) {
-            self.make_ready(core);
-        }
-        Moved::Went
+        self.go_on(core, How::Ready)
     }
 
-    /// Goes on until the core's call has decided. A call that has decided makes no step.
+    /// Goes on until the core's call has decided. A call that has decided makes no step. A core between calls begins its
+    /// next one; idle comes exactly where it is between calls and its list is finished.
     pub fn through_decision(&mut self, core: CoreNo) -> Moved
         requires { core < self.old.setup.cores }
         ensures setup { self.new.setup ≡ self.old.setup }
         ensures lists { self.new.lists ≡ self.old.lists }
         ensures idle { (result ≡ Moved.Idle) ↔ IsFinished self.old core }
-        ensures goes { MovesBy result self.old self.new core (GoesThroughDecision self.old self.new core) }
+        ensures goes { MovesBy result Decide self.old self.new core }
     {
-        if self.is_finished(core) {
-            return Moved::Idle;
-        }
-        if !self.has_decided(core) {
-            self.decide(core);
-        }
-        Moved::Went
+        self.go_on(core, How::Decide)
     }
 
-    /// Goes on until the core's call has returned.
+    /// Goes on until the core's call has returned. A core between calls begins its next one; idle comes exactly where it
+    /// is between calls and its list is finished.
     pub fn to_return(&mut self, core: CoreNo) -> Moved
         requires { core < self.old.setup.cores }
         ensures setup { self.new.setup ≡ self.old.setup }
         ensures lists { self.new.lists ≡ self.old.lists }
         ensures idle { (result ≡ Moved.Idle) ↔ IsFinished self.old core }
-        ensures goes { MovesBy result self.old self.new core (GoesToReturn self.old self.new core) }
+        ensures goes { MovesBy result Return self.old self.new core }
         ensures fewer { (IsFinished self.old core → ⊥) → calls_left self.new core < calls_left self.old core }
     {
+        self.go_on(core, How::Return)
+    }
+
+    /// Takes the core this far, as an item of an order does: the four moves are its cases.
+    pub fn go_on(&mut self, core: CoreNo, how: How) -> Moved
+        requires { core < self.old.setup.cores }
+        ensures setup { self.new.setup ≡ self.old.setup }
+        ensures lists { self.new.lists ≡ self.old.lists }
+        ensures idle { (result ≡ Moved.Idle) ↔ IsFinished self.old core }
+        ensures goes { MovesBy result how self.old self.new core }
+        ensures fewer { how ≡ Return → (IsFinished self.old core → ⊥) → calls_left self.new core < calls_left self.old core }
+    {
+        let _setup = &self.setup;
         if self.is_finished(core) {
             return Moved::Idle;
         }
-        self.finish(core);
+        if !self.is_done(core, how) {
+            self.until(core, how);
+        }
         Moved::Went
     }
 
-    fn make_ready(&mut self, core: CoreNo)
+    // Makes steps of the core until it is there.
+    fn until(&mut self, core: CoreNo, how: How)
         requires here { core < self.old.setup.cores }
         requires begins { IsFinished self.old core → ⊥ }
-        requires undecided { HasDecided self.old core → ⊥ }
+        requires undone { IsDone how self.old core → ⊥ }
         ensures setup { self.new.setup ≡ self.old.setup }
         ensures lists { self.new.lists ≡ self.old.lists }
-        ensures goes { GoesUntilReady self.old self.new core }
+        ensures goes { GoesBy how self.old self.new core }
+        ensures fewer { how ≡ Return → calls_left self.new core < calls_left self.old core }
     {
-        'going: while !self.is_ready(core) {
-            self.step(core);
-            if self.has_decided(core) {
+        let _setup = &self.setup;
+        'going: loop {
+            self.step_once(core);
+            if self.is_there(core, how) {
                 return;
             }
         }
     }
 
-    fn decide(&mut self, core: CoreNo)
+    // Makes one step of a core that has a turn.
+    fn step_once(&mut self, core: CoreNo)
         requires here { core < self.old.setup.cores }
         requires begins { IsFinished self.old core → ⊥ }
-        requires undecided { HasDecided self.old core → ⊥ }
         ensures setup { self.new.setup ≡ self.old.setup }
         ensures lists { self.new.lists ≡ self.old.lists }
-        ensures goes { GoesThroughDecision self.old self.new core }
+        ensures goes { StepsOnce self.old self.new core }
+        ensures work { GoesFurther self.old self.new core }
     {
-        'going: loop {
-            self.step(core);
-            if self.has_decided(core) {
-                return;
-            }
+        let at = usize::from(core.number());
+        let Some(turn) = turn(&self.lists[at], &self.seats[at]) else {
+            unreachable!()
+        };
+        let absorbed = take(&mut self.seats[at], &turn, &self.layout, &mut self.words);
+        let index = self.seats[at].begun as u32;
+        note(&mut self.decisions, &absorbed, core, index);
+    }
+
+    // Whether an item that takes the core this far is done once a step is made.
+    fn is_there(&self, core: CoreNo, how: How) -> bool
+        requires { core < self.now.setup.cores }
+        ensures { IsTrue result ↔ IsThere how self.now core }
+    {
+        match how {
+            How::One => true,
+            How::Ready => self.is_ready(core),
+            How::Decide => self.has_decided(core),
+            How::Return => !self.is_in_call(core),
         }
     }
 
-    fn finish(&mut self, core: CoreNo)
-        requires here { core < self.old.setup.cores }
-        requires begins { IsFinished self.old core → ⊥ }
-        ensures setup { self.new.setup ≡ self.old.setup }
-        ensures lists { self.new.lists ≡ self.old.lists }
-        ensures goes { GoesToReturn self.old self.new core }
-        ensures fewer { calls_left self.new core < calls_left self.old core }
+    // Whether an item that takes the core this far is done before it makes a step.
+    fn is_done(&self, core: CoreNo, how: How) -> bool
+        requires { core < self.now.setup.cores }
+        ensures { IsTrue result ↔ IsDone how self.now core }
     {
-        'going: loop {
-            self.step(core);
-            if !self.is_in_call(core) {
-                return;
-            }
+        match how {
+            How::Ready => self.is_ready(core),
+            How::Decide => self.has_decided(core),
+            _ => false,
         }
     }
 
@@ -429,14 +442,21 @@ impl LoneKernel {
         turn(&self.lists[at], &self.seats[at]).is_none()
     }
 
-    // Whether the next step of the core is the one at which its call decides an `ok`.
+    // Whether the core is ready: its next step is the one at which its call's `ok` is decided, or its call has decided.
     fn is_ready(&self, core: CoreNo) -> bool
         requires { core < self.now.setup.cores }
         ensures { IsTrue result ↔ IsReady self.now core }
     {
         let at = usize::from(core.number());
         let state = &self.seats[at].state;
-        state.in_call() && state.is_ready() && !self.has_decided(core)
+        state.in_call() && state.is_ready()
+    }
+
+    /// Each core's list of calls.
+    pub fn lists(&self) -> &[Vec<Call>]
+        ensures { map (λ v. v.items) result.now ≡ self.now.lists }
+    {
+        &self.lists
     }
 
     /// The decisions, in the order decided.

@@ -4,13 +4,14 @@ use Rattle.spk_nums.specs.declared.steps.Item.{Item}
 use Rattle.kernel_history.specs.Trace.{Trace}
 use Rattle.kernel_history.specs.Order.{AreOf, FollowsItem, FollowsItems, RunsOut, FollowsCores}
 use Rattle.lone_kernel.specs.Machine.{Machine}
-use Rattle.lone_kernel.specs.Stands.{StandsFor, GoesOn, KeepsPromises}
+use Rattle.flight.specs.Made.{ready_after}
+use Rattle.lone_kernel.specs.Stands.{StandsFor}
 
--- Each trace goes on by an item of the order, as far as each core that was ready decides next in the whole trace.
+-- Each trace goes on by an item of the order.
 pub record TakesItem (m m' : Machine) (item : Item) (t : Trace) : Type 0 where
   pub after : Trace
-  pub goes : GoesOn m m' t after
-  pub follows : (w : Trace) → KeepsPromises m' after w → FollowsItem m.lists w item t after
+  pub stands : StandsFor m' after
+  pub follows : FollowsItem (ready_after m.setup) m.lists item t after
 
 abbrev pub GoesByItem : Machine → Machine → Item → Type 0
 GoesByItem m m' item = (t : Trace) → StandsFor m t → TakesItem m m' item t
@@ -18,8 +19,8 @@ GoesByItem m m' item = (t : Trace) → StandsFor m t → TakesItem m m' item t
 -- The same by items, one after another.
 pub record TakesItems (m m' : Machine) (items : List Item) (t : Trace) : Type 0 where
   pub after : Trace
-  pub goes : GoesOn m m' t after
-  pub follows : (w : Trace) → KeepsPromises m' after w → FollowsItems m.lists w items t after
+  pub stands : StandsFor m' after
+  pub follows : FollowsItems (ready_after m.setup) m.lists items t after
 
 abbrev pub GoesByItems : Machine → Machine → List Item → Type 0
 GoesByItems m m' items = (t : Trace) → StandsFor m t → TakesItems m m' items t
@@ -28,7 +29,7 @@ GoesByItems m m' items = (t : Trace) → StandsFor m t → TakesItems m m' items
 pub record GoesAlone (m m' : Machine) (c : ℕ) (t : Trace) : Type 0 where
   pub steps : Trace
   pub own : AreOf c steps
-  pub goes : GoesOn m m' t (steps ++ t)
+  pub stands : StandsFor m' (steps ++ t)
 
 abbrev pub GoesByCore : Machine → Machine → ℕ → Type 0
 GoesByCore m m' c = (t : Trace) → StandsFor m t → GoesAlone m m' c t
@@ -36,7 +37,7 @@ GoesByCore m m' c = (t : Trace) → StandsFor m t → GoesAlone m m' c t
 -- Each trace goes on to the end of core c's list.
 pub record GoesToEnd (m m' : Machine) (c : ℕ) (t : Trace) : Type 0 where
   pub after : Trace
-  pub goes : GoesOn m m' t after
+  pub stands : StandsFor m' after
   pub out : RunsOut m.lists c t after
 
 abbrev pub RunsCoreOut : Machine → Machine → ℕ → Type 0
@@ -45,7 +46,7 @@ RunsCoreOut m m' c = (t : Trace) → StandsFor m t → GoesToEnd m m' c t
 -- Each trace goes on to the ends of the lists of core 0, then core 1 and so on, n in all.
 pub record GoesToEnds (m m' : Machine) (n : ℕ) (t : Trace) : Type 0 where
   pub after : Trace
-  pub goes : GoesOn m m' t after
+  pub stands : StandsFor m' after
   pub out : FollowsCores m.lists n t after
 
 abbrev pub RunsCoresOut : Machine → Machine → ℕ → Type 0

@@ -1,6 +1,6 @@
 -- What an input is: a script that is carried out, a script that is not carried out today, or no script.
 use Rattle.std.specs.Prelude.{◌≡◌, ℕ, List, Some, None, Ok, Err}
-use Rattle.kernel_history.specs.GivenSteps.{GivenSteps}
+use Rattle.lone_kernel.specs.GivenSteps.{GivenSteps}
 use Rattle.script_reader.specs.declared.cause.Cause.{Cause}
 use Rattle.script_reader.specs.Readings.{Meaning, script_of}
 use Rattle.script_reader.specs.Unbuilt.{IsFirstUnbuilt}

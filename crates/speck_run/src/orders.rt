@@ -4,7 +4,7 @@ ghost use Rattle.lone_kernel.specs.Machine.{IsFinished};
 ghost use Rattle.speck_run.specs.Orders.{GoesByItem, GoesByItems, RunsCoreOut, RunsCoresOut};
 
 use lone_kernel::{LoneKernel, Moved};
-use spk_nums::{CoreNo, How, Item, Setup};
+use spk_nums::{CoreNo, Item, Setup};
 
 fn take(kernel: &mut LoneKernel, item: &Item) -> Moved
     requires { item.now.core < kernel.old.setup.cores }
@@ -12,13 +12,7 @@ fn take(kernel: &mut LoneKernel, item: &Item) -> Moved
     ensures lists { kernel.new.lists ≡ kernel.old.lists }
     ensures goes { GoesByItem kernel.old kernel.new item.now }
 {
-    let core = item.core;
-    match item.how {
-        How::One => kernel.step(core),
-        How::Ready => kernel.until_ready(core),
-        How::Decide => kernel.through_decision(core),
-        How::Return => kernel.to_return(core),
-    }
+    kernel.go_on(item.core, item.how)
 }
 
 /// Takes the items of an order, one after another. An item of a core that is between calls and has finished its list does

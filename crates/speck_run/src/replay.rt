@@ -1,25 +1,14 @@
 //! Lists and an order, taken as `replay` does.
 ghost use Rattle.std.specs.Prelude.{◌≡◌, ◌<◌, IfOk, All, map, length, string_bytes};
-ghost use Rattle.kernel_history.specs.GivenSteps.{GivenSteps};
+ghost use Rattle.lone_kernel.specs.GivenSteps.{GivenSteps};
 ghost use Rattle.lone_kernel.specs.Machine.{AreLists};
 
 use crate::orders::{follow, run_rest};
 use crate::text::write_decisions;
 use lone_kernel::LoneKernel;
 use spk_nums::{Call, Item, Memory, Setup};
-use std::alloc::{AllocError, Global};
+use std::alloc::Global;
 use table_report::report;
-
-fn copy_lists(alloc: Global, lists: &[Vec<Call>]) -> Result<Vec<Vec<Call>>, AllocError>
-    ensures { IfOk result (λ copies. map (λ v. v.items) copies.items ≡ map (λ v. v.items) lists.now) }
-{
-    let mut copies = Vec::with_capacity(alloc, lists.len())?;
-    for list in lists {
-        let copy = Vec::from_slice(alloc, list.as_slice())?;
-        copies.push(copy)?;
-    }
-    Ok(copies)
-}
 
 /// Takes the items of the order, then runs each core out, and answers the text of the trace that this makes: its reply
 /// lines, then its tables. There is a list for each core, each of fewer than 2^32 calls that are carried out and within
@@ -35,12 +24,12 @@ pub fn replay(
     requires named { All (λ item. item.core < setup.now.cores) items.now }
     ensures { IfOk result (λ text. GivenSteps setup.now (map (λ v. v.items) lists.items) items.now (string_bytes text)) }
 {
-    let calls = copy_lists(alloc, &lists)?;
+    let _cores = setup.cores();
     let mut kernel = LoneKernel::boot(alloc, setup, lists)?;
     follow(&mut kernel, items);
     run_rest(&mut kernel, setup);
     let mut text = String::new(alloc);
-    write_decisions(alloc, &mut text, &calls, kernel.decisions())?;
+    write_decisions(alloc, &mut text, kernel.lists(), kernel.decisions())?;
     let closed = kernel.close(alloc)?;
     let tables = report(alloc, &closed)?;
     text.push_str(&tables)?;

@@ -17,5 +17,5 @@ loop-item-preserved c =
       setup = s.setup ∙ i.setup;
       lists = s.lists ∙ i.lists;
       goes = subst (λ l. GoesByItems c.args.kernel.now c.take.new.kernel l) (sym items)
-          (items_more c.args.kernel.now c.loop-item.kernel c.take.new.kernel so_far c.item-item.result i.lists i.goes s.goes);
+          (items_more c.args.kernel.now c.loop-item.kernel c.take.new.kernel so_far c.item-item.result i.setup i.lists i.goes s.goes);
     }

@@ -5,7 +5,9 @@ use Rattle.word_map.specs.Places.{Shape}
 use Rattle.kernel_history.specs.Trace.{state_after}
 use Rattle.kernel_history.specs.Tables.{tables_of}
 use Rattle.kernel_history.specs.FinalWords.{Represent, word_in, end_in}
+use Rattle.spk_nums.specs.Setting.{IsSetting}
 use Rattle.flight.proofs.Sounds.{limits_of}
+use Rattle.flight.proofs.Made.{made_histories}
 use Rattle.speck_run.specs.Written.{lines_of}
 use Rattle.speck_run.proofs.Finish.{all_out, run, given}
 use Rattle.speck_run.proofs.replay.replay.Goals as goal
@@ -17,8 +19,8 @@ close-requires c =
     let followed = c.follow.ensures in
     let ran = c.run_rest.ensures in
     let r = run c.args.setup.now lists c.args.items.now c.in_ok-kernel.kernel c.follow.new.kernel c.run_rest.new.kernel booted.setup followed.setup ran.setup booted.lists followed.lists ran.lists
-    (length-map c.args.lists.items (λ v. v.items) ∙ c.requires.one_each) booted.stands followed.goes ran.goes in
-    all_out c.run_rest.new.kernel r.trace r.stands r.idle
+    c.cores.ensures.limits (length-map c.args.lists.items (λ v. v.items) ∙ c.requires.one_each) booted.stands followed.goes ran.goes in
+    all_out c.run_rest.new.kernel r.trace (subst IsSetting (sym (ran.setup ∙ followed.setup ∙ booted.setup)) c.cores.ensures.limits) r.stands r.idle
 
 pub returns : goal.returns
 returns c =
@@ -29,7 +31,7 @@ returns c =
     let ran = c.run_rest.ensures in
     let one_each = length-map c.args.lists.items (λ v. v.items) ∙ c.requires.one_each in
     let r = run c.args.setup.now lists c.args.items.now c.in_ok-kernel.kernel c.follow.new.kernel ended booted.setup followed.setup ran.setup booted.lists followed.lists ran.lists
-    one_each booted.stands followed.goes ran.goes in
+    c.cores.ensures.limits one_each booted.stands followed.goes ran.goes in
     let closed = c.in_ok-closed.closed in
     let done = c.in_ok-closed.ensures in
     let limits = limits_of ended.setup r.trace in
@@ -38,14 +40,14 @@ returns c =
     (ap (λ l. l.cores) limits ∙ sym (ap (λ (s : Shape). s.cores) done.layout))
     (ap (λ l. l.frames) limits ∙ sym (ap (λ (s : Shape). s.frames) done.layout))
     (subst (λ (s : Shape). Represent (word_in s closed.words.items) (end_in closed.ends.items) (state_after ended.setup r.trace)) (sym done.layout) (done.represent r.trace r.stands)) in
-    let same_lists = ap (λ l. map (λ v. v.items) l) c.deref-2.ensures.value ∙ c.in_ok-calls.ensures ∙ ap (λ l. map (λ v. v.items) l) c.deref.ensures.value in
+    let same_lists = c.lists.ensures ∙ ran.lists ∙ followed.lists ∙ booted.lists in
     let is : string_bytes c.push_str.new.self ≡ lines_of lists ended.decisions ++ string_bytes c.in_ok-tables.tables =
     c.in_ok-push_str.ensures.bytes
-    ∙ ap (λ x. x ++ c.deref-3.result.now)
+    ∙ ap (λ x. x ++ c.deref.result.now)
     (c.in_ok-write_decisions.ensures
-    ∙ ap (λ x. x ++ lines_of (map (λ v. v.items) c.deref-2.result.now) c.decisions.result.now) c.new-text.ensures.bytes
+    ∙ ap (λ x. x ++ lines_of (map (λ v. v.items) c.lists.result.now) c.decisions.result.now) c.new-text.ensures.bytes
     ∙ ap (λ l. lines_of l c.decisions.result.now) same_lists
     ∙ ap (lines_of lists) c.decisions.ensures)
-    ∙ ap (λ x. lines_of lists ended.decisions ++ x) c.deref-3.ensures in
+    ∙ ap (λ x. lines_of lists ended.decisions ++ x) c.deref.ensures in
     given c.args.setup.now lists c.args.items.now c.in_ok-kernel.kernel c.follow.new.kernel ended booted.setup followed.setup ran.setup booted.lists followed.lists ran.lists
-    one_each booted.stands followed.goes ran.goes r (string_bytes c.in_ok-tables.tables) (string_bytes c.push_str.new.self) shown is
+    c.cores.ensures.limits one_each booted.stands followed.goes ran.goes made_histories r (string_bytes c.in_ok-tables.tables) (string_bytes c.push_str.new.self) shown is

@@ -1,6 +1,5 @@
 use Rattle.std.proofs.Common.{◌<◌, ◌^◌, sym, subst, map, sum_by, []}
-use Rattle.flight.proofs.Boot.{boots}
-use Rattle.flight.proofs.Final.{says_words}
+use Rattle.flight.proofs.CoreFits.{started_fits}
 use Rattle.lone_kernel.specs.Machine.{AreFresh}
 use Rattle.lone_kernel.proofs.Boot.{fits, stands, few_due}
 use Rattle.lone_kernel.proofs.lone.LoneKernel.boot.Goals as goal
@@ -11,7 +10,7 @@ count_due-room-requires c =
     let limits = c.cores.ensures.limits in
     let fresh = subst (λ l. AreFresh c.args.setup.now (map (λ v. v.items) l) c.in_ok-seats.seats.items) c.deref.ensures.value c.in_ok-seats.ensures in
     let fit = fits (λ v. v.items) c.args.setup.now c.in_ok-words.words.items c.args.lists.items c.in_ok-seats.seats.items [] s.length fresh c.requires.can_run c.requires.one_each
-    (λ n h. ((boots c.args.setup.now limits).each n h).fits) in
+    (λ n h. started_fits n c.args.setup.now limits h) in
     let few = few_due (record { setup = c.args.setup.now; words = c.in_ok-words.words.items; lists = map (λ v. v.items) c.args.lists.items; seats = c.in_ok-seats.seats.items; decisions = [] }) fit limits.most_cores in
     subst (λ l. sum_by (λ seat. seat.due) l < 2 ^ 60) (sym c.deref-2.ensures.value) few
 
@@ -21,4 +20,4 @@ returns-clause-stands c =
     let limits = c.cores.ensures.limits in
     let fresh = subst (λ l. AreFresh c.args.setup.now (map (λ v. v.items) l) c.in_ok-seats.seats.items) c.deref.ensures.value c.in_ok-seats.ensures in
     stands (λ v. v.items) c.args.setup.now c.in_ok-words.words.items c.args.lists.items c.in_ok-seats.seats.items c.in_ok-decisions.decisions.items s.length fresh c.requires.can_run c.requires.one_each
-    (λ n h. ((boots c.args.setup.now limits).each n h).fits) boots says_words limits c.in_ok-decisions.ensures.items s.words
+    (λ n h. started_fits n c.args.setup.now limits h) c.in_ok-decisions.ensures.items s.words

@@ -1,0 +1,64 @@
+-- The rule of each call goes by the call's plan.
+use Rattle.std.proofs.Common.{◌≡◌, ℕ, Option, Some, None, refl}
+use Rattle.std.specs.Prelude.{is_some}
+use Rattle.spk_nums.specs.declared.calls.Make.{Make}
+use Rattle.spk_nums.specs.declared.calls.Make.TheVariants as make
+use Rattle.spk_nums.specs.declared.calls.Call.{Call}
+use Rattle.spk_nums.specs.declared.calls.Call.TheVariants.{Look, Copy, Remove, Grow, Shrink, Retype, Make as make_call, Map, Unmap, Touch, Flush, Gate, Kill, Call as call_gate, Ret, Switch, Tick, Transfer, Delegate, Test}
+use Rattle.spk_nums.specs.declared.translations.Translation.{Translation}
+use Rattle.kernel_rules.specs.State.{State, thread_in, comp_of}
+use Rattle.kernel_rules.specs.Access.{Named}
+use Rattle.kernel_rules.specs.CapabilityCalls.{make_rule}
+use Rattle.kernel_rules.specs.MemoryCalls.{translation_of, touch_by}
+use Rattle.kernel_rules.specs.InvocationCalls.{switch_to}
+use Rattle.kernel_rules.specs.CallRelation.{rule_of}
+use Rattle.spk_nums.specs.declared.kinds.FrameKind.{FrameKind}
+use Rattle.spk_nums.specs.declared.kinds.FrameKind.TheVariants.{Untyped, User, Kernel}
+use Rattle.call_plans.specs.PlanOf.{plan_of_retype, plan_of_make, plan_for}
+use Rattle.call_plans.specs.GoesBy.{OwnPages, own_pages, OnlyDoes, GoesBy}
+
+switch_does : (s : State) (c : ℕ) (h : Named) (q : ℕ) (runs_on : Option ℕ) → OnlyDoes (switch_to s c h q runs_on)
+switch_does s c h q None = tt
+switch_does s c h q (Some e) = tt
+
+touch_goes : (s : State) (c : ℕ) (pages : OwnPages) (v : ℕ) (o : Option Translation) → pages.cached v ≡ is_some o
+    → GoesBy pages (plan_for (Touch v)) (touch_by s c pages.table v o)
+touch_goes s c pages v None is = (refl, refl, is, λ k. tt)
+touch_goes s c pages v (Some t) is = is
+
+retype_goes : (s : State) (c : ℕ) (pages : OwnPages) (r f : ℕ) (k : FrameKind) → GoesBy pages (plan_of_retype k r) (rule_of s c (Retype r f k))
+retype_goes s c pages r f Untyped = (refl, refl, λ k. tt)
+retype_goes s c pages r f User = (refl, refl, λ k. tt)
+retype_goes s c pages r f Kernel = (refl, refl, λ k. tt)
+
+make_goes : (s : State) (pages : OwnPages) (what : Make) (r f t b : ℕ) → GoesBy pages (plan_of_make what r t b) (make_rule s what r f t b)
+make_goes s pages make.Table r f t b = (refl, refl, λ k. (refl, refl, λ l. (refl, λ at. tt)))
+make_goes s pages make.Leaf r f t b = (refl, refl, λ k. (refl, refl, λ l. (refl, λ at. tt)))
+make_goes s pages make.Pages r f t b = (refl, refl, λ k. (refl, refl, λ l. (refl, λ at. tt)))
+make_goes s pages make.Pleaf r f t b = (refl, refl, λ k. (refl, refl, λ l. (refl, λ at. tt)))
+make_goes s pages (make.Thread comp) r f t b = (refl, refl, λ k. (refl, refl, λ l. (refl, refl, λ m. (refl, λ at. tt))))
+make_goes s pages (make.Tcap sched quality) r f t b = (refl, refl, λ k. (refl, refl, λ l. (refl, λ at. tt)))
+make_goes s pages (make.Comp table own_pages live) r f t b =
+    (refl, refl, λ k. (refl, refl, λ l. (refl, refl, λ m. (refl, refl, λ n. (refl, λ at. tt)))))
+
+pub calls_go : (s : State) (c : ℕ) (call : Call) → GoesBy (own_pages s c) (plan_for call) (rule_of s c call)
+calls_go s c (Look a) = (refl, refl, λ k. tt)
+calls_go s c (Copy a t b) = (refl, refl, λ k. (refl, refl, λ l. (refl, λ at. tt)))
+calls_go s c (Remove t b) = (refl, refl, λ k. (refl, λ at held. tt))
+calls_go s c (Grow t i l) = (refl, refl, λ k. (refl, refl, λ m. (refl, λ at. tt)))
+calls_go s c (Shrink t i) = (refl, refl, λ k. (refl, λ at held. tt))
+calls_go s c (Retype r f k) = retype_goes s c (own_pages s c) r f k
+calls_go s c (make_call what r f t b) = make_goes s (own_pages s c) what r f t b
+calls_go s c (Map p v r f w) = (refl, refl, λ k. (refl, refl, λ l. (refl, λ at. tt)))
+calls_go s c (Unmap p v) = (refl, refl, λ k. (refl, λ at held. tt))
+calls_go s c (Touch v) = touch_goes s c (own_pages s c) v (translation_of (s.core c).cached (comp_of s c).pages v) refl
+calls_go s c Flush = tt
+calls_go s c (Gate k t b) = (refl, refl, λ k. (refl, refl, λ l. (refl, λ at. tt)))
+calls_go s c (Kill k) = (refl, refl, λ k. tt)
+calls_go s c (call_gate g) = (refl, refl, λ k. tt)
+calls_go s c Ret = tt
+calls_go s c (Switch h q) = (refl, refl, λ k. (refl, refl, λ l. switch_does s c k l.frame (thread_in (s.frame k.frame)).runs_on))
+calls_go s c (Tick n) = tt
+calls_go s c (Transfer a b m) = (refl, refl, λ k. (refl, refl, λ l. tt))
+calls_go s c (Delegate a b m) = (refl, refl, λ k. (refl, refl, λ l. tt))
+calls_go s c (Test a b) = (refl, refl, λ k. (refl, refl, λ l. tt))

@@ -1,0 +1,4 @@
+pub mod CallsGoBy
+pub mod AfterNames
+pub mod Roots
+pub mod StepsOfPlans

@@ -1,0 +1,66 @@
+-- The most own steps of a call, by its plan: three for entry and exit, those of its look-ups, and those of its act.
+use Rattle.std.specs.Prelude.{ℕ, ◌+◌, ◌*◌, List, length}
+use Rattle.spk_nums.specs.declared.kinds.FrameKind.{FrameKind}
+use Rattle.spk_nums.specs.declared.kinds.FrameKind.TheVariants.{Untyped}
+use Rattle.spk_nums.specs.declared.calls.Make.{Make}
+use Rattle.spk_nums.specs.declared.calls.Make.TheVariants as make
+use Rattle.spk_nums.specs.declared.calls.Call.{Call}
+use Rattle.spk_nums.specs.declared.calls.Call.TheVariants.{Look, Copy, Remove, Grow, Shrink, Retype, Make as make_call, Map, Unmap, Touch, Flush, Gate, Kill, Call as call_gate, Ret, Switch, Tick, Transfer, Delegate, Test}
+use Rattle.call_plans.specs.declared.plans.Name.{Name}
+use Rattle.call_plans.specs.declared.plans.Spot.{Spot}
+use Rattle.call_plans.specs.declared.plans.Spot.TheVariants.{Under, InRoot}
+use Rattle.call_plans.specs.declared.plans.Target.{Target}
+use Rattle.call_plans.specs.declared.plans.Target.TheVariants.{Nowhere, Free, Held, Own}
+
+-- a place under a number is looked up in two steps, an entry of a root in one
+abbrev pub spot_steps : Spot → ℕ
+spot_steps (Under root n) = 2
+spot_steps (InRoot root i) = 1
+
+abbrev pub target_steps : Target → ℕ
+target_steps Nowhere = 0
+target_steps (Free spot) = spot_steps spot
+target_steps (Held spot) = spot_steps spot
+target_steps (Own v) = 2
+
+-- the steps of the look-ups of these names and of this target
+abbrev pub look_steps : List Name → Target → ℕ
+look_steps names target = 2 * length names + target_steps target
+
+-- the steps of acts, on n cores. What is counted: a scan of the other cores (n - 1) or of all flush words (n); two for a count
+-- acquired and one for its commit; each load, compare and store of the act itself
+
+-- a frame word loaded and compared; back to untyped also the counters frozen, summed, scanned for and released, 64 entries
+-- judged, a stamp drawn and the frame word stored
+abbrev pub retype_steps : FrameKind → ℕ → ℕ
+retype_steps Untyped n = 67 + 5 * n
+retype_steps _ n = 2
+
+-- a frame word loaded, marked and stored, the target compared, a scan, the counts, and the stores of the object's words
+abbrev pub make_steps : Make → ℕ → ℕ
+make_steps (make.Thread comp) n = 26 + n
+make_steps (make.Tcap sched quality) n = 15 + n
+make_steps (make.Comp table pages live) n = 17 + 2 * n
+make_steps _ n = 70 + n
+
+abbrev pub act_steps : Call → ℕ → ℕ
+act_steps (Look a) n = 0
+act_steps (Copy a t b) n = 3 + n
+act_steps (Remove t b) n = 6
+act_steps (Grow t i l) n = 3 + 2 * n
+act_steps (Shrink t i) n = 6
+act_steps (Retype r f k) n = retype_steps k n
+act_steps (make_call what r f t b) n = make_steps what n
+act_steps (Map p v r f w) n = 4 + 2 * n
+act_steps (Unmap p v) n = 6
+act_steps (Touch v) n = 0
+act_steps Flush n = 2
+act_steps (Gate k t b) n = 4 + n
+act_steps (Kill k) n = 8
+act_steps (call_gate g) n = 9
+act_steps Ret n = 9
+act_steps (Switch h q) n = 21
+act_steps (Tick m) n = 2
+act_steps (Transfer a b m) n = 21
+act_steps (Delegate a b m) n = 30
+act_steps (Test a b) n = 21

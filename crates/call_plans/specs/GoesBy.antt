@@ -1,0 +1,73 @@
+-- A rule goes by a plan: its names, the kinds that they want, and its target are those of the plan, whatever the names lead to.
+use Rattle.std.specs.Prelude.{◌≡◌, ℕ, Bool, List, [], ◌∷◌, ◌++◌, Option, Some, None, is_some, IsTrue, IsFalse}
+use Rattle.spk_nums.specs.Capability.{Capability}
+use Rattle.spk_nums.specs.declared.kinds.Kind.{Kind}
+use Rattle.kernel_rules.specs.State.{State, comp_of}
+use Rattle.kernel_rules.specs.MemoryCalls.{translation_of}
+use Rattle.kernel_rules.specs.Access.{Slot, Named, not_found, any, only, root, Target as place, Under as under, InRoot as in_root}
+use Rattle.kernel_rules.specs.Rules.{Rule, Name as name_rule, Vacant as vacant_rule, Held as held_rule, Mapped as mapped_rule, Does}
+use Rattle.kernel_rules.specs.CapabilityCalls.{leaf_for}
+use Rattle.call_plans.specs.declared.plans.Nth.{Nth}
+use Rattle.call_plans.specs.declared.plans.Wanted.{Wanted}
+use Rattle.call_plans.specs.declared.plans.Wanted.TheVariants.{Any, Only, Root, LeafOf}
+use Rattle.call_plans.specs.declared.plans.Name.{Name}
+use Rattle.call_plans.specs.declared.plans.Spot.{Spot}
+use Rattle.call_plans.specs.declared.plans.Spot.TheVariants.{Under, InRoot}
+use Rattle.call_plans.specs.declared.plans.Target.{Target}
+use Rattle.call_plans.specs.declared.plans.Target.TheVariants.{Nowhere, Free, Held, Own}
+use Rattle.call_plans.specs.declared.plans.Plan.{Plan}
+use Rattle.call_plans.specs.Plans.{listed, at_place}
+
+-- What an earlier name has led to.
+abbrev pub or_not_found : Option Named → Named
+or_not_found None = not_found
+or_not_found (Some k) = k
+
+abbrev pub earlier : List Named → Nth → Named
+earlier caps i = or_not_found (at_place caps i)
+
+-- The kinds that are wanted, where the earlier names have led to these.
+abbrev pub wants : List Named → Wanted → Kind → Bool
+wants caps Any = any
+wants caps (Only kind) = only kind
+wants caps Root = root
+wants caps (LeafOf i) = leaf_for (earlier caps i)
+
+-- The place of a spot.
+abbrev pub place_of : List Named → Spot → place
+place_of caps (Under i n) = under (earlier caps i) n
+place_of caps (InRoot i e) = in_root (earlier caps i) e
+
+-- A rule with nothing to look up.
+abbrev pub OnlyDoes : Rule → Type 0
+OnlyDoes (Does causes change) = Unit {0}
+OnlyDoes _ = ⊥
+
+-- The caller's own pages: their root, and whether the translation of a page is cached.
+pub record OwnPages : Type 0 where
+  pub table : ℕ
+  pub cached : ℕ → Bool
+
+abbrev pub own_pages : State → ℕ → OwnPages
+own_pages s c = record { table = (comp_of s c).pages; cached = λ v. is_some (translation_of (s.core c).cached (comp_of s c).pages v) }
+
+-- A rule looks up this target and then nothing, where its names have led to these. A page of the caller's own pages is looked up
+-- where its translation is not cached.
+abbrev pub GoesTo : OwnPages → Target → List Named → Rule → Type 0
+GoesTo pages Nowhere caps rule = OnlyDoes rule
+GoesTo pages (Free spot) caps (vacant_rule target rest) = (target ≡ place_of caps spot) × ((at : Slot) → OnlyDoes (rest at))
+GoesTo pages (Held spot) caps (held_rule target rest) = (target ≡ place_of caps spot) × ((at : Slot) (k : Capability) → OnlyDoes (rest at k))
+GoesTo pages (Own v) caps (mapped_rule table n rest) = (table ≡ pages.table) × (n ≡ v) × IsFalse (pages.cached v) × ((k : Capability) → OnlyDoes (rest k))
+GoesTo pages (Own v) caps (Does causes change) = IsTrue (pages.cached v)
+GoesTo pages _ caps _ = ⊥
+
+-- A rule looks up these names in order and then this target, where the names before them have led to these.
+abbrev pub GoesOn : OwnPages → List Name → Target → List Named → Rule → Type 0
+GoesOn pages [] target caps rule = GoesTo pages target caps rule
+GoesOn pages (name ∷ names) target caps (name_rule n wanted rest) =
+    (n ≡ name.number) × (wanted ≡ wants caps name.wanted) × ((k : Named) → GoesOn pages names target (caps ++ k ∷ []) (rest k))
+GoesOn pages (name ∷ names) target caps _ = ⊥
+
+-- A rule goes by a plan.
+abbrev pub GoesBy : OwnPages → Plan → Rule → Type 0
+GoesBy pages plan rule = GoesOn pages (listed plan.names) plan.target [] rule

@@ -1,0 +1,59 @@
+-- Where the cores of the machine stand, and the phases of the trace that has brought them there.
+use Rattle.std.specs.Prelude.{◌≡◌, ◌≢◌, ◌<◌, ◌≤◌, [], ℕ, true, false, Option, None, IsSome}
+use Rattle.spk_nums.specs.Setting.{Setting, IsSetting}
+use Rattle.spk_nums.specs.declared.replies.Reply.{Reply}
+use Rattle.word_map.specs.Word.{Word}
+use Rattle.word_map.specs.Places.{Shape, IsIn, shared}
+use Rattle.word_map.specs.Moves.{word_of}
+use Rattle.kernel_history.specs.Trace.{Step, Trace, Phase, Out, phase, calls_of}
+use Rattle.kernel_history.specs.Order.{IsDecided}
+use Rattle.flight.specs.View.{Core}
+use Rattle.flight.specs.Steps.{move_of, ready_of}
+use Rattle.flight.specs.Fits.{IsCore}
+use Rattle.flight.specs.Decided.{is_decided_in}
+use Rattle.flight.specs.Made.{core_after, cores_after, core_at, IsMade, IsMadeStep}
+
+-- The word is one of the machine's, by the one name of its place.
+pub record IsWord (shape : Shape) (w : Word) : Type 0 where
+  pub is_in : IsIn shape w
+  pub is_named : shared w ≡ w
+
+-- The next step of a core in a call is on a word of its machine.
+abbrev pub MovesAreWords : Type 0
+MovesAreWords = (core : Core) → IsCore core → IsSome core.flight → IsWord core.shape (word_of (move_of core))
+
+-- A core has a call in flight exactly where it is in a call in this phase, and that is decided exactly where it is in the phase.
+pub record IsInPhase (core : Core) (p : Phase) : Type 0 where
+  pub out : core.flight ≡ None → p ≡ Out
+  pub in_call : core.flight ≢ None → p ≢ Out
+  pub decided : is_decided_in core.flight ≡ true → IsDecided p
+  pub was_decided : IsDecided p → is_decided_in core.flight ≡ true
+
+-- After a trace that is the machine's, each core stands in its phase.
+abbrev pub MadePhases : Type 0
+MadePhases = (setup : Setting) → IsSetting setup → (t : Trace) → IsMade setup t → (c : ℕ) → c < setup.cores → IsInPhase (cores_after setup t c) (phase t c)
+
+-- No step of the trace is of this core.
+pub record IsNoneOf (t : Trace) (c : ℕ) : Type 0 where
+  pub out : phase t c ≡ Out
+  pub none : calls_of t c ≡ []
+
+-- In a trace that is the machine's no step is of a core that the machine has not.
+abbrev pub MadeOfItsCores : Type 0
+MadeOfItsCores = (setup : Setting) (t : Trace) → IsMade setup t → (c : ℕ) → setup.cores ≤ c → IsNoneOf t c
+
+-- What the events of a step say of the core before it and after it: an undecided call is decided by the step that decides, and a
+-- call in flight has returned by the step that returns.
+pub record AreEvents (before after : Core) (decides returns : Option Reply) : Type 0 where
+  pub decides_now : is_decided_in before.flight ≡ false → is_decided_in after.flight ≡ true → IsSome decides
+  pub decides_none : after.flight ≢ None → is_decided_in after.flight ≡ false → decides ≡ None
+  pub returns_now : after.flight ≡ None → IsSome returns
+  pub returns_none : after.flight ≢ None → returns ≡ None
+
+-- The events of a step of the machine are those of its core.
+abbrev pub MadeEvents : Type 0
+MadeEvents = (setup : Setting) (t : Trace) (e : Step) → IsMadeStep setup t e → AreEvents (core_at setup t e) (core_after (core_at setup t e) e.found) e.decides e.returns
+
+-- A core whose call is decided is ready.
+abbrev pub DecidedIsReady : Type 0
+DecidedIsReady = (core : Core) → is_decided_in core.flight ≡ true → ready_of core ≡ true

@@ -1,5 +1,0 @@
-use Rattle.std.proofs.Common.{◌≡◌, map, take}
-use Rattle.speck_run.proofs.replay.copy_lists.Given as goal
-
-abbrev pub invariant-loop-list : goal.invariant-loop-list
-invariant-loop-list l = map (λ v. v.items) l.copies.items ≡ map (λ v. v.items) (take l.list-index l.lists)
