@@ -10,5 +10,7 @@ pub mod NodesLaw
 pub mod Lives
 pub mod Gates
 pub mod Threads
+pub mod Flushes
+pub mod CachedLaw
 pub mod Rows
 pub mod TwoCores

@@ -64,7 +64,7 @@ module _ (s : State) (o : ℕ → Bool) (c : ℕ) (h : IsOpen s o c) (w : IsFitt
           w.waiting at.node at.index k c (is ∙ ap Quiescing p.1) h.is node p.0
 
   -- The leaf that a root reaches under a number.
-  leaf_fits : (table : Named) (n : ℕ) (at : Slot) → IsTrue (is_node (s.frame table.frame)) → reached s c (Under table n) ≡ Some at
+  pub leaf_fits : (table : Named) (n : ℕ) (at : Slot) → IsTrue (is_node (s.frame table.frame)) → reached s c (Under table n) ≡ Some at
       → IsTrue (leads_to (s.frame table.frame) (s.frame at.node))
   leaf_fits table n at node e =
       let l = link_of (usable s c (root_slot table.frame n)) (table.found && nat_le n 4095) (n % 64) at e in
@@ -75,12 +75,12 @@ module _ (s : State) (o : ℕ → Bool) (c : ℕ) (h : IsOpen s o c) (w : IsFitt
   table_leaf (Kernel Table) fit _ leads = absurd (false≢true leads)
   table_leaf _ fit y leads = absurd (false≢true fit)
 
-  pages_leaf : (x : Frame) → IsTrue (fits kind.Pages x) → (y : Frame) → IsTrue (leads_to x y) → y ≡ Kernel Pleaf
+  pub pages_leaf : (x : Frame) → IsTrue (fits kind.Pages x) → (y : Frame) → IsTrue (leads_to x y) → y ≡ Kernel Pleaf
   pages_leaf (Kernel Pages) fit (Kernel Pleaf) leads = refl
   pages_leaf (Kernel Pages) fit _ leads = absurd (false≢true leads)
   pages_leaf _ fit y leads = absurd (false≢true fit)
 
-  fit_node : (k : Kind) (x : Frame) → IsTrue (fits k x) → (k ≡ kind.Table → IsTrue (is_node x)) × (k ≡ kind.Pages → IsTrue (is_node x))
+  pub fit_node : (k : Kind) (x : Frame) → IsTrue (fits k x) → (k ≡ kind.Table → IsTrue (is_node x)) × (k ≡ kind.Pages → IsTrue (is_node x))
   fit_node k x fit = ((λ e. table x (subst (λ j. IsTrue (fits j x)) e fit)), (λ e. pages x (subst (λ j. IsTrue (fits j x)) e fit)))
     where
       table : (x : Frame) → IsTrue (fits kind.Table x) → IsTrue (is_node x)
@@ -470,7 +470,7 @@ module _ (s : State) (o : ℕ → Bool) (c : ℕ) (h : IsOpen s o c) (w : IsFitt
   page_of : (x : Frame) (k : Kind) → x ≡ Kernel Pleaf → IsTrue (takes x k) → k ≡ kind.Page
   page_of x k is take = only_is kind.Page k (subst (λ y. IsTrue (takes y k)) is take)
 
-  held_is : (p : Place) (k : Capability) → held_in p ≡ Some k → p ≡ Holds k
+  pub held_is : (p : Place) (k : Capability) → held_in p ≡ Some k → p ≡ Holds k
   held_is Free k e = absurd (none_some k e)
   held_is (Holds j) k e = ap Holds (some_inj j k e)
   held_is (Quiescing j) k e = absurd (none_some k e)

@@ -2,3 +2,4 @@ pub mod Laws
 pub mod Causes
 pub mod Nodes
 pub mod Lives
+pub mod Cached

@@ -4,6 +4,7 @@
 
 ghost use Rattle.kernel_laws.specs.Laws.{TicksKept, RangesHold, CausesStand};
 ghost use Rattle.kernel_laws.specs.Nodes.{NodesHoldWhatFits};
+ghost use Rattle.kernel_laws.specs.Cached.{TranslationsStand};
 ghost use Rattle.kernel_laws.specs.Lives.{LiveNumbersFit, GatesFit, DeadStays, ThreadsRun};
 
 /// In every state that a run reaches, the budgets of all temporal capabilities and the ticks that all cores have spent sum to
@@ -59,4 +60,12 @@ pub fn dead_stays()
 #[tactic(auto, using(crate::proofs::Threads::threads_run))]
 pub fn threads_run()
     ensures { ThreadsRun }
+{}
+
+/// In every state that a run reaches, each translation that a core has cached stands: its root is a page table's, its frame a
+/// user frame, each referenced or of those whose flush by that core is still awaited; and its root entry and its page entry
+/// still hold the link and the mapping, or that core has decided no flush since their removal.
+#[tactic(auto, using(crate::proofs::CachedLaw::translations_stand))]
+pub fn translations_stand()
+    ensures { TranslationsStand }
 {}
