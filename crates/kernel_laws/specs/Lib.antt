@@ -1,1 +1,5 @@
 pub mod Laws
+pub mod Causes
+pub mod Nodes
+pub mod Lives
+pub mod Cached

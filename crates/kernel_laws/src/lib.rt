@@ -2,7 +2,10 @@
 //! of a function. Worked examples of calls, which the checker computes, stand in the proofs.
 #![tactic(auto)]
 
-ghost use Rattle.kernel_laws.specs.Laws.{TicksKept, RangesHold};
+ghost use Rattle.kernel_laws.specs.Laws.{TicksKept, RangesHold, CausesStand};
+ghost use Rattle.kernel_laws.specs.Nodes.{NodesHoldWhatFits};
+ghost use Rattle.kernel_laws.specs.Cached.{TranslationsStand};
+ghost use Rattle.kernel_laws.specs.Lives.{LiveNumbersFit, GatesFit, DeadStays, ThreadsRun};
 
 /// In every state that a run reaches, the budgets of all temporal capabilities and the ticks that all cores have spent sum to
 /// the grants.
@@ -17,4 +20,52 @@ pub fn ticks_kept()
 #[tactic(auto, using(crate::proofs::RangesLaw::ranges_hold))]
 pub fn ranges_hold()
     ensures { RangesHold }
+{}
+
+/// In every state, each reply that the relation permits has its cause. The causes are said by reply, apart from the rules of
+/// calls: a cause about what a name leads to needs that name found.
+#[tactic(auto, using(crate::proofs::Causes::causes_stand))]
+pub fn causes_stand()
+    ensures { CausesStand }
+{}
+
+/// In every state that a run reaches, nodes hold what fits them: roots of capability tables links to leaves, roots of page
+/// tables links to leaves of pages, leaves no links and no pages, and leaves of pages these alone. So does what a core in an
+/// open call may use of a node; and what it finds mapped is a page.
+#[tactic(auto, using(crate::proofs::NodesLaw::nodes_hold_what_fits))]
+pub fn nodes_hold_what_fits()
+    ensures { NodesHoldWhatFits }
+{}
+
+/// In every state that a run reaches, the frame of a live liveness number has a component of that number and epoch.
+#[tactic(auto, using(crate::proofs::Lives::live_numbers_fit))]
+pub fn live_numbers_fit()
+    ensures { LiveNumbersFit }
+{}
+
+/// In every state that a run reaches, a gate that a place holds, or that a core in an open call may use, has the epoch in which
+/// its component was made.
+#[tactic(auto, using(crate::proofs::Gates::gates_fit))]
+pub fn gates_fit()
+    ensures { GatesFit }
+{}
+
+/// A dead epoch never lives again: a liveness number that is dead after an epoch lives later in higher epochs alone.
+#[tactic(auto, using(crate::proofs::Lives::dead_stays))]
+pub fn dead_stays()
+    ensures { DeadStays }
+{}
+
+/// In every state that a run reaches, a thread runs on a core exactly where it is that core's current one.
+#[tactic(auto, using(crate::proofs::Threads::threads_run))]
+pub fn threads_run()
+    ensures { ThreadsRun }
+{}
+
+/// In every state that a run reaches, each translation that a core has cached stands: its root is a page table's, its frame a
+/// user frame, each referenced or of those whose flush by that core is still awaited; and its root entry and its page entry
+/// still hold the link and the mapping, or that core has decided no flush since their removal.
+#[tactic(auto, using(crate::proofs::CachedLaw::translations_stand))]
+pub fn translations_stand()
+    ensures { TranslationsStand }
 {}

@@ -23,7 +23,7 @@ frames_no_place f i [] = refl
 frames_no_place f i (g ∷ fs) = frames_no_place f i fs
 
 -- A choice by a test that fails is the second.
-not_chosen : (b : Bool) (g h : Grace) (c : ℕ) → b ≡ false → IsTrue ((if b then g else h).waits c) → IsTrue (h.waits c)
+pub not_chosen : (b : Bool) (g h : Grace) (c : ℕ) → b ≡ false → IsTrue ((if b then g else h).waits c) → IsTrue (h.waits c)
 not_chosen b g h c e w = subst (λ b. IsTrue ((if b then g else h).waits c)) e w
 
 -- A core that is in a call waits for a frame whose grace period begins, and for the others as before.
@@ -238,7 +238,7 @@ untype_step s o c f below un none bare h = record {
         (subst (λ b. IsTrue ((if b then no_grace else s.grace (FrameOf g)).waits d)) (sym (ne_eqb g f (away d none g w.0))) w.0, still d none fs w.1)
 
 -- A range without a number that passes has none that does.
-find_not : (p : ℕ → Bool) (a n e : ℕ) → find p (range_with_len a n) ≡ None → a ≤ e → e < a + n → p e ≡ false
+pub find_not : (p : ℕ → Bool) (a n e : ℕ) → find p (range_with_len a n) ≡ None → a ≤ e → e < a + n → p e ≡ false
 find_not p a zero e h low high = absurd (omega (arith, low, high))
 find_not p a (suc n) e h low high = tested (find_not p (a + 1) n e) (p a) refl h
   where

@@ -50,7 +50,7 @@ pub record SparesAll (s t : State) (o : ℕ → Bool) (d : ℕ) : Type 0 where
   pub guarded : (c f : ℕ) → c ≢ d → o c ≡ true → IsGuarded s c f → IsGuarded t c f
 
 -- A core that keeps its thread and temporal capability changes no reference.
-core_same_refs : (s : State) (c : ℕ) (k : Core) → k.thread ≡ (s.core c).thread → k.tcap ≡ (s.core c).tcap → (f : ℕ) → refs (with_core s c k) f ≡ refs s f
+pub core_same_refs : (s : State) (c : ℕ) (k : Core) → k.thread ≡ (s.core c).thread → k.tcap ≡ (s.core c).tcap → (f : ℕ) → refs (with_core s c k) f ≡ refs s f
 unfolding refs node_refs
 core_same_refs s c k thread tcap f =
     let a = sum_same (λ d. times f (core_names (s.core d))) (λ d. times f (core_names ((with_core s c k).core d))) s.limits.cores (λ d below.
@@ -66,7 +66,7 @@ same_guarded s t o d same spares c f other q (inl some) = inl (let r = same f in
 same_guarded s t o d same spares c f other q (inr w) = inr (spares.waits c f other q w)
 
 -- A frame to which a reference is released is among the things whose grace periods begin.
-among : (f : ℕ) (things : List Thing) → 0 < times f (released things) → list_any (same_thing (FrameOf f)) things ≡ true
+pub among : (f : ℕ) (things : List Thing) → 0 < times f (released things) → list_any (same_thing (FrameOf f)) things ≡ true
 among f [] some = absurd (omega (arith, some))
 among f (PlaceOf g i ∷ things) some = among f things some
 among f (NumberOf l ∷ things) some = among f things some

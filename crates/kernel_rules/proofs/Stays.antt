@@ -60,7 +60,7 @@ stay_then s t u c a b = record {
 }
 
 -- What is named is referenced.
-object_named : (s : State) (o : ℕ → Bool) (g f : ℕ) → IsSound s o → 1 ≤ times f (frame_names (s.frame g)) → 0 < refs s f
+pub object_named : (s : State) (o : ℕ → Bool) (g f : ℕ) → IsSound s o → 1 ≤ times f (frame_names (s.frame g)) → 0 < refs s f
 object_named s o g f h one = by_refs (refs s f) refl
   where
     none : refs s f ≡ 0 → times f (frame_names (s.frame g)) ≡ 0
@@ -73,7 +73,7 @@ object_named s o g f h one = by_refs (refs s f) refl
     by_refs zero is = absurd (let z = none is in omega (arith, one, z))
     by_refs (suc n) is = omega (arith, is)
 
-place_named : (s : State) (o : ℕ → Bool) (g i f : ℕ) (k : Capability) → IsSound s o → s.place g i ≡ Holds k → 1 ≤ times f (named_by k.kind k.frame) → 0 < refs s f
+pub place_named : (s : State) (o : ℕ → Bool) (g i f : ℕ) (k : Capability) → IsSound s o → s.place g i ≡ Holds k → 1 ≤ times f (named_by k.kind k.frame) → 0 < refs s f
 place_named s o g i f k h at one = by_refs (refs s f) refl
   where
     none : refs s f ≡ 0 → times f (named_by k.kind k.frame) ≡ 0
@@ -113,7 +113,7 @@ node_names kind.Range f n = absurd (false≢true n)
 node_names _ f n = refl
 
 -- A slot that is reached under a number is in the leaf of a link.
-link_of : (u : Option Capability) (b : Bool) (i : ℕ) (at : Slot) → (if b then slot_in (linked u) i else None) ≡ Some at
+pub link_of : (u : Option Capability) (b : Bool) (i : ℕ) (at : Slot) → (if b then slot_in (linked u) i else None) ≡ Some at
     → (j : Capability) × (u ≡ Some j) × IsTrue (only kind.Link j.kind) × (j.frame ≡ at.node)
 link_of u false i at e = absurd (none_some at e)
 link_of None true i at e = absurd (none_some at e)
@@ -202,7 +202,7 @@ module _ (s : State) (o : ℕ → Bool) (c : ℕ) (h : IsSound s o) (q : o c ≡
   pub comp_fixed : IsTrue (is_fixed (s.frame (own_comp s c)))
   comp_fixed = (comp_is (s.frame (own_comp s c)) (comp_fit s o c h below)).1
 
-  fields : IsTrue (fits kind.Table (s.frame (comp_of s c).table)) × IsTrue (fits kind.Pages (s.frame (comp_of s c).pages))
+  pub fields : IsTrue (fits kind.Table (s.frame (comp_of s c).table)) × IsTrue (fits kind.Pages (s.frame (comp_of s c).pages))
   fields = subst (IsObjectGood s) (comp_is (s.frame (own_comp s c)) (comp_fit s o c h below)).0 (h.objects (own_comp s c))
 
   field_names : frame_names (s.frame (own_comp s c)) ≡ (comp_of s c).table ∷ (comp_of s c).pages ∷ []
@@ -230,7 +230,7 @@ module _ (s : State) (o : ℕ → Bool) (c : ℕ) (h : IsSound s o) (q : o c ≡
       subst (Relies s c) l.3 (usable_relies (root_slot table.frame n) l.0 (link_names l.0.kind l.2) l.1)
 
 -- A name that is found: a slot is reached, and what may be used there is of the wanted kind.
-name_parts : (s : State) (c n : ℕ) (wanted : Kind → Bool) (k : Capability) → named s c n wanted ≡ Found k
+pub name_parts : (s : State) (c n : ℕ) (wanted : Kind → Bool) (k : Capability) → named s c n wanted ≡ Found k
     → (at : Slot) × (reached s c (own s c n) ≡ Some at) × (j : Capability) × (usable s c at ≡ Some j) × (of_kind wanted j ≡ Found k)
 name_parts s c n wanted k e =
     let a = then_parts (or_refuse (reached s c (own s c n)) reply.NoSlot) (λ at. and_then (or_refuse (usable s c at) reply.Empty) λ k. of_kind wanted k) k e in

@@ -1,0 +1,429 @@
+-- In every state that a run reaches, what a core has cached stands.
+use Rattle.std.proofs.Common.{◌≡◌, ◌≢◌, ◌⊎◌, inl, inr, ℕ, ◌<◌, ◌≤◌, ◌/◌, ◌%◌, arith, Bool, true, false, refl, sym, ◌∙◌, ap, subst, nat_lt, nat_le, if◌then◌else◌, IsTrue, List, [], ◌∷◌, ◌++◌, length, Option, Some, None}
+use Rattle.std.proofs.lemmas.Bool.{cases_eq, false≢true, ltb-false, eq-eqb, ne_eqb}
+use Rattle.std.specs.List.{AllByRecursion}
+use Rattle.spk_nums.specs.Setting.{Setting, IsSetting}
+use Rattle.spk_nums.specs.CallLimits.{InLimits}
+use Rattle.spk_nums.specs.Capability.{Capability}
+use Rattle.spk_nums.specs.declared.kinds.Kind.TheVariants as kind
+use Rattle.spk_nums.specs.declared.kinds.FrameKind.{FrameKind}
+use Rattle.spk_nums.specs.declared.kinds.FrameKind.TheVariants as frame_kind
+use Rattle.spk_nums.specs.declared.calls.Make.{Make}
+use Rattle.spk_nums.specs.declared.calls.Make.TheVariants as make
+use Rattle.spk_nums.specs.declared.calls.Call.{Call}
+use Rattle.spk_nums.specs.declared.calls.Call.TheVariants.{Look, Copy, Remove, Grow, Shrink, Retype, Make as make_call, Map, Unmap, Touch, Flush, Gate, Kill, Call as call_gate, Ret, Switch, Tick, Transfer, Delegate, Test}
+use Rattle.spk_nums.specs.declared.translations.Translation.{Translation}
+use Rattle.spk_nums.specs.declared.replies.Value.{Value}
+use Rattle.spk_nums.specs.declared.replies.Reply.{Reply}
+use Rattle.spk_nums.specs.declared.replies.Reply.TheVariants as reply
+use Rattle.kernel_rules.specs.State.{Place, Free, Holds, Quiescing, Pages, Pleaf, Frame, User, Kernel, Core, Thing, PlaceOf, FrameOf, NumberOf, State, put, with_core, comp_of, thread_in}
+use Rattle.kernel_rules.specs.References.{named_by, times, refs}
+use Rattle.kernel_rules.specs.Access.{Slot, Named, found, root_at, Under, place_at, held_in, usable_in, usable, linked, slot_in, reached, root_slot}
+use Rattle.kernel_rules.specs.GracePeriods.{is_paging, is_translated, needs_flush, entered, returned}
+use Rattle.kernel_rules.specs.Rules.{Change, Judged, Refused, Found, IsFoundAnd, and_then, or_refuse, unless, mapped}
+use Rattle.kernel_rules.specs.CapabilityCalls.{make_rule}
+use Rattle.kernel_rules.specs.MemoryCalls.{retype_rule, touch_by, translation_of, caching}
+use Rattle.kernel_rules.specs.InvocationCalls.{switch_to}
+use Rattle.kernel_rules.specs.CallRelation.{rule_of, change_of, changed, owed_by, state_by, MayReply, flushes, flushes_by}
+use Rattle.kernel_rules.specs.Fitting.{fits, IsGood}
+use Rattle.kernel_rules.specs.Relies.{IsGuarded}
+use Rattle.kernel_rules.specs.Runs.{Event, Enters, Decides, Returns, after, core_of, is_in, is_open, phase_by, phase_of, IsRun}
+use Rattle.kernel_rules.proofs.Changes.{IfFound}
+use Rattle.kernel_rules.proofs.Within.{put_same, put_other}
+use Rattle.kernel_rules.proofs.AloneLaw.{waits_inside, decided_stays}
+use Rattle.kernel_rules.proofs.Sums.{times_first}
+use Rattle.kernel_rules.proofs.Sound.{only_is, put_all}
+use Rattle.kernel_rules.proofs.SoundCalls.{IsOpen}
+use Rattle.kernel_rules.proofs.SoundRuns.{opened, open_is, open_limits, inside_is, limits_stay}
+use Rattle.kernel_rules.proofs.SparesRuns.{core_same_refs}
+use Rattle.kernel_rules.proofs.Refs.{grace_refs}
+use Rattle.kernel_rules.proofs.Facts.{ChangesFrom, outcome_from, then_parts, or_found, some_inj, none_some, found_inj, refused_found}
+use Rattle.kernel_rules.proofs.Stays.{link_of, fields, pages_relies, usable_guarded, place_named}
+use Rattle.kernel_laws.specs.Cached.{IsStillThere, IsLinkTo, IsMappingOf, IsOrWas, Stands, TranslationsStand}
+use Rattle.kernel_laws.proofs.NodeSteps.{IsFitted}
+use Rattle.kernel_laws.proofs.NodesLaw.{runs_fit, leaf_fits, pages_leaf, fit_node, held_is, mapped_page}
+use Rattle.kernel_laws.proofs.Flushes.{frame_stays, there_stays, place_unflushed, place_holds, IsWaited, decided_waited}
+
+-- All of a list.
+all_map : {A : Type 0} (P Q : A → Type 0) (xs : List A) → ((x : A) → P x → Q x) → AllByRecursion P xs → AllByRecursion Q xs
+all_map P Q [] f h = tt
+all_map P Q (x ∷ xs) f h = (f x h.0, all_map P Q xs f h.1)
+
+all_more : {A : Type 0} (P : A → Type 0) (xs : List A) (x : A) → AllByRecursion P xs → P x → AllByRecursion P (xs ++ x ∷ [])
+all_more P [] x h new = (new, tt)
+all_more P (y ∷ ys) x h new = (h.0, all_more P ys x h.1 new)
+
+-- What a place that links or maps holds.
+link_held : (leaf : ℕ) (p : Place) → IsLinkTo leaf p → (k : Capability) × (p ≡ Holds k)
+link_held leaf Free h = absurd h
+link_held leaf (Holds k) h = (k, refl)
+link_held leaf (Quiescing k) h = absurd h
+
+mapping_held : (t : Translation) (p : Place) → IsMappingOf t p → (k : Capability) × (p ≡ Holds k)
+mapping_held t Free h = absurd h
+mapping_held t (Holds k) h = (k, refl)
+mapping_held t (Quiescing k) h = absurd h
+
+-- A translation that stands for core d stands after a decision, but for d's own flush.
+module _ (s : State) (o : ℕ → Bool) (c : ℕ) (call : Call) (r : Reply) (h : IsOpen s o c) (lim : InLimits call) (may : MayReply s c call r) where
+  or_was : (P : Place → Type 0) (d f i : ℕ) → ((p : Place) → P p → (k : Capability) × (p ≡ Holds k)) → IsTrue (is_paging (s.frame f)) → (flushes call r ≡ true → d ≢ c)
+      → IsOrWas s d P f i → IsOrWas (state_by s c call r) d P f i
+  or_was P d f i holds is other (inr un) = inr (place_unflushed s o c call r h lim may d f i is other un)
+  or_was P d f i holds is other (inl p) =
+      let k = holds (s.place f i) p in
+      elim (place_holds s o c call r h lim may d f i k.0 is k.1) [
+        | inl same ↦ inl (subst P (k.1 ∙ sym same) p)
+        | inr un ↦ inr un
+      ]
+
+  stands_stays : (d : ℕ) (t : Translation) → d < s.limits.cores → (flushes call r ≡ true → d ≢ c) → Stands s d t → Stands (state_by s c call r) d t
+  stands_stays d t below other a =
+      let root : IsTrue (is_translated (s.frame t.pages)) = subst (λ x. IsTrue (is_translated x)) (sym a.root) refl in
+      let leaf : IsTrue (is_translated (s.frame a.leaf)) = subst (λ x. IsTrue (is_translated x)) (sym a.through) refl in
+      let user : IsTrue (is_translated (s.frame t.frame)) = subst (λ x. IsTrue (is_translated x)) (sym a.user) refl in
+      record {
+        leaf = a.leaf;
+        page_small = a.page_small;
+        root = frame_stays s o c call r h lim may d t.pages below root a.root_there ∙ a.root;
+        root_there = there_stays s o c call r h lim may d t.pages below root other a.root_there;
+        through = frame_stays s o c call r h lim may d a.leaf below leaf a.leaf_there ∙ a.through;
+        leaf_there = there_stays s o c call r h lim may d a.leaf below leaf other a.leaf_there;
+        user = frame_stays s o c call r h lim may d t.frame below user a.frame_there ∙ a.user;
+        frame_there = there_stays s o c call r h lim may d t.frame below user other a.frame_there;
+        entry = or_was (IsLinkTo a.leaf) d t.pages (t.page / 64) (link_held a.leaf) (subst (λ x. IsTrue (is_paging x)) (sym a.root) refl) other a.entry;
+        mapping = or_was (IsMappingOf t) d a.leaf (t.page % 64) (mapping_held t) (subst (λ x. IsTrue (is_paging x)) (sym a.through) refl) other a.mapping;
+      }
+
+-- Each core's translations stand.
+abbrev AllStand : State → (ℕ → Core) → Type 0
+AllStand s core = (d : ℕ) → d < s.limits.cores → AllByRecursion (Stands s d) (core d).cached
+
+core_stand : (s : State) (core : ℕ → Core) (c : ℕ) (k : Core) → AllByRecursion (Stands s c) k.cached → AllStand s core → AllStand s (put core c k)
+core_stand s core c k own h d below = put_all (λ d x. AllByRecursion (Stands s d) x.cached) core c k d (λ same. subst (λ n. AllByRecursion (Stands s n) k.cached) (sym same) own) (λ other. h d below)
+
+-- What a change makes of the lists of translations.
+record Caches (s : State) (c : ℕ) (call : Call) (change : Change) : Type 0 where
+  stand : AllStand s change.next.core
+  flushed : flushes_by call ≡ true → (change.next.core c).cached ≡ []
+
+-- What a `touch` finds in the table.
+module _ (s : State) (o : ℕ → Bool) (c : ℕ) (h : IsOpen s o c) (w : IsFitted s o) (u : IsWaited s o) where
+  guarded_there : (f : ℕ) → IsTrue (is_translated (s.frame f)) → IsGuarded s c f → IsStillThere s c f
+  guarded_there f is (inl some) = inl some
+  guarded_there f is (inr wait) = inr (u.unflushed (FrameOf f) c h.is wait is)
+
+  index_of : (l : Option ℕ) (b : Bool) (i : ℕ) (at : Slot) → (if b then slot_in l i else None) ≡ Some at → i ≡ at.index
+  index_of l false i at e = absurd (none_some at e)
+  index_of None true i at e = absurd (none_some at e)
+  index_of (Some leaf) true i at e = ap (λ (x : Slot). x.index) (some_inj record { node = leaf; index = i } at e)
+
+  -- A link that core c may use.
+  entry_of : (f i : ℕ) (j : Capability) (leaf : ℕ) → IsTrue (is_paging (s.frame f)) → usable s c (record { node = f; index = i }) ≡ Some j → j.kind ≡ kind.Link → j.frame ≡ leaf
+      → IsOrWas s c (IsLinkTo leaf) f i
+  entry_of f i j leaf is e link same = by_place (s.place f i) refl e
+    where
+      by_wait : (m : Capability) (b : Bool) → (s.grace (PlaceOf f i)).waits c ≡ b → (if b then Some m else None) ≡ Some j → IsTrue ((s.grace (PlaceOf f i)).waits c)
+      by_wait m true is q = is
+      by_wait m false is q = absurd (none_some j q)
+
+      by_place : (p : Place) → s.place f i ≡ p → usable_in p ((s.grace (PlaceOf f i)).waits c) ≡ Some j → IsOrWas s c (IsLinkTo leaf) f i
+      by_place Free at q = absurd (none_some j q)
+      by_place (Holds m) at q = inl (subst (IsLinkTo leaf) (sym (at ∙ ap Holds (some_inj m j q))) (link, same))
+      by_place (Quiescing m) at q = inr (u.unflushed (PlaceOf f i) c h.is (by_wait m ((s.grace (PlaceOf f i)).waits c) refl q) is)
+
+  user_of : (k : Capability) → k.kind ≡ kind.Page → IsGood s k → s.frame k.frame ≡ User
+  user_of k is good = by_frame (s.frame k.frame) (subst (λ j. IsTrue (fits j (s.frame k.frame))) is good.fit)
+    where
+      by_frame : (x : Frame) → IsTrue (fits kind.Page x) → x ≡ User
+      by_frame User fit = refl
+      by_frame _ fit = absurd (false≢true fit)
+
+  touched : (v : ℕ) (k : Capability) → mapped s c (comp_of s c).pages v ≡ Found k
+      → Stands s c (record { pages = (comp_of s c).pages; page = v; frame = k.frame; flags = record { 0 = k.arg } })
+  touched v k e =
+      let pages : ℕ = (comp_of s c).pages in
+      let a = then_parts (unless (if nat_lt 4095 v then Some reply.NoSlot else None) v)
+      (λ v. and_then (or_refuse (reached s c (Under (root_at pages) v)) reply.Fault) λ at. or_refuse (held_in (place_at s at)) reply.Fault) k e in
+      let b = then_parts (or_refuse (reached s c (Under (root_at pages) a.0)) reply.Fault) (λ at. or_refuse (held_in (place_at s at)) reply.Fault) k a.2 in
+      let small : v ≤ 4095 = by_test (nat_lt 4095 v) refl a.1 in
+      let v_is : v ≡ a.0 = page_is (nat_lt 4095 v) a.1 in
+      let r0 : reached s c (Under (root_at pages) a.0) ≡ Some b.0 = or_found (reached s c (Under (root_at pages) a.0)) reply.Fault b.0 b.1 in
+      let r : reached s c (Under (root_at pages) v) ≡ Some b.0 = ap (λ n. reached s c (Under (root_at pages) n)) v_is ∙ r0 in
+      let l = link_of (usable s c (root_slot pages v)) (nat_le v 4095) (v % 64) b.0 r in
+      let index : v % 64 ≡ b.0.index = index_of (linked (usable s c (root_slot pages v))) (nat_le v 4095) (v % 64) b.0 r in
+      let fit : IsTrue (fits kind.Pages (s.frame pages)) = (fields s o c h.sound h.is).1 in
+      let root : s.frame pages ≡ Kernel Pages = pages_root (s.frame pages) fit in
+      let leaf : s.frame b.0.node ≡ Kernel Pleaf =
+      pages_leaf s o c h w (s.frame pages) fit (s.frame b.0.node) (leaf_fits s o c h w (root_at pages) v b.0 ((fit_node s o c h w kind.Pages (s.frame pages) fit).1 refl) r) in
+      let held : s.place b.0.node b.0.index ≡ Holds k = held_is s o c h w (place_at s b.0) k (or_found (held_in (place_at s b.0)) reply.Fault k b.2) in
+      let page : k.kind ≡ kind.Page = mapped_page s o c h w v k e in
+      let link : l.0.kind ≡ kind.Link = only_is kind.Link l.0.kind l.2 in
+      let user : s.frame k.frame ≡ User = user_of k page (h.sound.held b.0.node b.0.index k held) in
+      record {
+        leaf = b.0.node;
+        page_small = small;
+        root = root;
+        root_there = guarded_there pages (subst (λ x. IsTrue (is_translated x)) (sym root) refl) (pages_relies s o c h.sound h.is).guarded;
+        through = leaf;
+        leaf_there = guarded_there b.0.node (subst (λ x. IsTrue (is_translated x)) (sym leaf) refl)
+            (subst (IsGuarded s c) l.3 (usable_guarded s o c h.sound h.is (root_slot pages v) l.0 (ap (λ j. named_by j l.0.frame) link) l.1));
+        user = user;
+        frame_there = inl (place_named s o b.0.node b.0.index k.frame k h.sound held
+            (subst (λ xs. 1 ≤ times k.frame xs) (sym (ap (λ j. named_by j k.frame) page)) (times_first k.frame [])));
+        entry = entry_of pages (v / 64) l.0 b.0.node (subst (λ x. IsTrue (is_paging x)) (sym root) refl) l.1 link l.3;
+        mapping = inl (subst (λ i. IsMappingOf (record { pages = pages; page = v; frame = k.frame; flags = record { 0 = k.arg } }) (s.place b.0.node i)) (sym index)
+            (subst (IsMappingOf (record { pages = pages; page = v; frame = k.frame; flags = record { 0 = k.arg } })) (sym held) (page, refl, refl)));
+      }
+    where
+      by_test : (t : Bool) → nat_lt 4095 v ≡ t → {n : ℕ} → unless (if t then Some reply.NoSlot else None) v ≡ Found n → v ≤ 4095
+      by_test false is e = ltb-false 4095 v is
+      by_test true is {n = n} e = absurd (refused_found reply.NoSlot n e)
+
+      page_is : (t : Bool) → {n : ℕ} → unless (if t then Some reply.NoSlot else None) v ≡ Found n → v ≡ n
+      page_is false {n = n} e = found_inj v n e
+      page_is true {n = n} e = absurd (refused_found reply.NoSlot n e)
+
+      pages_root : (x : Frame) → IsTrue (fits kind.Pages x) → x ≡ Kernel Pages
+      pages_root (Kernel Pages) fit = refl
+      pages_root _ fit = absurd (false≢true fit)
+
+  -- The rules
+  module _ (all : AllStand s s.core) where
+    stays : (call : Call) (change : Change) → flushes_by call ≡ false → change.next.core ≡ s.core → Caches s c call change
+    stays call change none core = record {
+      stand = subst (AllStand s) (sym core) all;
+      flushed = λ is. absurd (false≢true (sym none ∙ is));
+    }
+
+    own_stays : (d : ℕ) → d ≡ c → AllByRecursion (Stands s d) (s.core d).cached
+    own_stays d same = all d (subst (λ n. n < s.limits.cores) (sym same) (h.sound.inside c h.is).1)
+
+    kept : (call : Call) (change : Change) (k : Core) → flushes_by call ≡ false → k.cached ≡ (s.core c).cached → change.next.core ≡ put s.core c k → Caches s c call change
+    kept call change k none same core = record {
+      stand = subst (AllStand s) (sym core) (core_stand s s.core c k (subst (AllByRecursion (Stands s c)) (sym same) (own_stays c refl)) all);
+      flushed = λ is. absurd (false≢true (sym none ∙ is));
+    }
+
+    make_caches : (what : Make) (r f t b : ℕ) → ChangesFrom (Caches s c (make_call what r f t b)) s c (make_rule s what r f t b)
+    make_caches make.Table r f t b = λ range e table g at v calm. stays _ _ refl refl
+    make_caches make.Leaf r f t b = λ range e table g at v calm. stays _ _ refl refl
+    make_caches make.Pages r f t b = λ range e table g at v calm. stays _ _ refl refl
+    make_caches make.Pleaf r f t b = λ range e table g at v calm. stays _ _ refl refl
+    make_caches (make.Thread comp) r f t b = λ range e table g k j at v calm. stays _ _ refl refl
+    make_caches (make.Tcap sched quality) r f t b = λ range e table g at v calm. stays _ _ refl refl
+    make_caches (make.Comp x p l) r f t b = λ range e table g own_table a own_pages d at v calm. stays _ _ refl refl
+
+    retype_caches : (r f : ℕ) (k : FrameKind) → ChangesFrom (Caches s c (Retype r f k)) s c (retype_rule s r f k)
+    retype_caches r f frame_kind.Untyped = λ range e calm. stays _ _ refl refl
+    retype_caches r f frame_kind.User = λ range e calm. stays _ _ refl refl
+    retype_caches r f frame_kind.Kernel = λ range e calm. stays _ _ refl refl
+
+    longer : (cached : List Translation) (t : Translation) → AllByRecursion (Stands s c) cached → Stands s c t → AllByRecursion (Stands s c) (caching cached t)
+    longer cached t old new = by_room (nat_lt (length cached) 64)
+      where
+        by_room : (b : Bool) → AllByRecursion (Stands s c) (if b then cached ++ t ∷ [] else cached)
+        by_room true = all_more (Stands s c) cached t old new
+        by_room false = old
+
+    touch_caches : (v : ℕ) (t : Option Translation) → ChangesFrom (Caches s c (Touch v)) s c (touch_by s c (comp_of s c).pages v t)
+    touch_caches v None = λ mapping e calm. record {
+      stand = core_stand s s.core c _ (longer (s.core c).cached _ (own_stays c refl) (touched v mapping e)) all;
+      flushed = λ is. absurd (false≢true is);
+    }
+    touch_caches v (Some t) = λ calm. stays (Touch v) _ refl refl
+
+    switch_caches : (a b q : ℕ) (name : Named) (e : Option ℕ) → ChangesFrom (Caches s c (Switch a b)) s c (switch_to s c name q e)
+    switch_caches a b q name None = λ calm. kept (Switch a b) _ (record (s.core c) { thread = name.frame; tcap = q }) refl refl refl
+    switch_caches a b q name (Some e) = λ calm. kept (Switch a b) _ (record (s.core c) { thread = name.frame; tcap = q }) refl refl refl
+
+    rule_caches : (call : Call) → ChangesFrom (Caches s c call) s c (rule_of s c call)
+    rule_caches (Look a) = λ k e calm. stays _ _ refl refl
+    rule_caches (Copy a t b) = λ k e table f at v calm. stays _ _ refl refl
+    rule_caches (Remove t b) = λ table e at k g calm. stays _ _ refl refl
+    rule_caches (Grow t i l) = λ table e leaf f at v calm. stays _ _ refl refl
+    rule_caches (Shrink t i) = λ table e at k g calm. stays _ _ refl refl
+    rule_caches (Retype r f k) = retype_caches r f k
+    rule_caches (make_call what r f t b) = make_caches what r f t b
+    rule_caches (Map p v r f m) = λ pages e range g at x calm. stays _ _ refl refl
+    rule_caches (Unmap p v) = λ pages e at k g calm. stays _ _ refl refl
+    rule_caches (Touch v) = touch_caches v (translation_of (s.core c).cached (comp_of s c).pages v)
+    rule_caches Flush = λ calm. record {
+      stand = core_stand s s.core c (record (s.core c) { cached = [] }) tt all;
+      flushed = λ is. ap (λ (k : Core). k.cached) (put_same s.core c (record (s.core c) { cached = [] }) c refl);
+    }
+    rule_caches (Gate k t b) = λ comp e table f at v calm. stays _ _ refl refl
+    rule_caches (Kill k) = λ comp e calm. stays _ _ refl refl
+    rule_caches (call_gate g) = λ gate e calm. stays _ _ refl refl
+    rule_caches Ret = λ calm. stays _ _ refl refl
+    rule_caches (Switch a b) = λ thread e tcap g. switch_caches a b tcap.frame (found thread) (thread_in (s.frame thread.frame)).runs_on
+    rule_caches (Tick n) = λ calm. kept (Tick n) _ (record (s.core c) { spent = _; owed = _ }) refl refl refl
+    rule_caches (Transfer a b m) = λ j e k f calm. stays _ _ refl refl
+    rule_caches (Delegate a b m) = λ j e k f calm. stays _ _ refl refl
+    rule_caches (Test a b) = λ j e k f calm. stays _ _ refl refl
+
+-- The lists after a decision, of which all stand as they did before it; the flushing core has none.
+record Lists (s t : State) (c : ℕ) (flushes : Bool) : Type 0 where
+  stand : AllStand s t.core
+  flushed : flushes ≡ true → (t.core c).cached ≡ []
+
+found_lists : (s : State) (c : ℕ) (call : Call) (v : Value) (x : Judged Change) → IfFound x (Caches s c call) → IsFoundAnd x (λ k. k.value ≡ v)
+    → Lists s (changed s x) c (flushes_by call)
+found_lists s c call v (Refused r) by ok = absurd ok
+found_lists s c call v (Found change) by ok = record { stand = by.stand; flushed = by.flushed }
+
+-- A core keeps its list.
+same_lists : (s t : State) (c : ℕ) (b : Bool) (k : Core) → c < s.limits.cores → k.cached ≡ (t.core c).cached → Lists s t c b
+    → Lists s (with_core t c k) c b
+same_lists s t c b k below same l = record {
+  stand = core_stand s t.core c k (subst (AllByRecursion (Stands s c)) (sym same) (l.stand c below)) l.stand;
+  flushed = λ is. ap (λ (x : Core). x.cached) (put_same t.core c k c refl) ∙ same ∙ l.flushed is;
+}
+
+none_flushed : (s : State) (c : ℕ) → AllStand s s.core → Lists s s c false
+none_flushed s c all = record { stand = all; flushed = λ is. absurd (false≢true is) }
+
+owed_lists : (s : State) (c : ℕ) (call : Call) → c < s.limits.cores → AllStand s s.core → Lists s (owed_by s c call) c false
+owed_lists s c (Tick n) below all = same_lists s s c false _ below refl (none_flushed s c all)
+owed_lists s c _ below all = none_flushed s c all
+
+decided_lists : (s : State) (o : ℕ → Bool) (c : ℕ) (call : Call) (r : Reply) → IsOpen s o c → MayReply s c call r → IsFitted s o → IsWaited s o → AllStand s s.core
+    → Lists s (state_by s c call r) c (flushes call r)
+decided_lists s o c call (reply.Ok v) h may w u all =
+    same_lists s (changed s (change_of s c call)) c (flushes_by call) _ (h.sound.inside c h.is).1 refl
+    (found_lists s c call v (change_of s c call) (outcome_from (Caches s c call) s c (rule_of s c call) (rule_caches s o c h w u all call)) may.1)
+decided_lists s o c call reply.CallsSpent h may w u all = none_flushed s c all
+decided_lists s o c call reply.Raced h may w u all = same_lists s (owed_by s c call) c false _ (h.sound.inside c h.is).1 refl (owed_lists s c call (h.sound.inside c h.is).1 all)
+decided_lists s o c call (reply.Busy e) h may w u all = same_lists s (owed_by s c call) c false _ (h.sound.inside c h.is).1 refl (owed_lists s c call (h.sound.inside c h.is).1 all)
+decided_lists s o c call _ h may w u all = same_lists s s c false _ (h.sound.inside c h.is).1 refl (none_flushed s c all)
+
+decided_stand : (s : State) (o : ℕ → Bool) (c : ℕ) (call : Call) (r : Reply) → IsOpen s o c → InLimits call → MayReply s c call r → IsFitted s o → IsWaited s o → AllStand s s.core
+    → AllStand (state_by s c call r) (state_by s c call r).core
+decided_stand s o c call r h lim may w u all d below =
+    by_flush (flushes call r) refl (cases_eq d c)
+  where
+    t : State
+    t = state_by s c call r
+
+    lists : Lists s (state_by s c call r) c (flushes call r)
+    lists = decided_lists s o c call r h may w u all
+
+    less : d < s.limits.cores
+    less = subst (λ l. d < l.cores) (decided_stays s c call r).limits below
+
+    moves : (flushes call r ≡ true → d ≢ c) → AllByRecursion (Stands (state_by s c call r) d) ((state_by s c call r).core d).cached
+    moves other = all_map (Stands s d) (Stands (state_by s c call r) d) ((state_by s c call r).core d).cached
+        (λ t. stands_stays s o c call r h lim may d t less other) (lists.stand d less)
+
+    by_flush : (b : Bool) → flushes call r ≡ b → (d ≡ c) ⊎ (d ≢ c) → AllByRecursion (Stands (state_by s c call r) d) ((state_by s c call r).core d).cached
+    by_flush false is same = moves (λ flush. absurd (false≢true (sym is ∙ flush)))
+    by_flush true is (inr other) = moves (λ flush. other)
+    by_flush true is (inl same) = subst (AllByRecursion (Stands (state_by s c call r) d)) (sym (ap (λ n. ((state_by s c call r).core n).cached) same ∙ lists.flushed is)) tt
+
+-- Entries and returns.
+
+-- A state with the same frames and places, references, and who has to flush.
+same_stands : (s u : State) (d : ℕ) (t : Translation) → ((f : ℕ) → u.frame f ≡ s.frame f) → ((f i : ℕ) → u.place f i ≡ s.place f i) → ((f : ℕ) → refs u f ≡ refs s f)
+    → ((x : Thing) → (u.grace x).unflushed d ≡ (s.grace x).unflushed d) → Stands s d t → Stands u d t
+same_stands s u d t frame place count grace a = record {
+  leaf = a.leaf;
+  page_small = a.page_small;
+  root = frame t.pages ∙ a.root;
+  root_there = there t.pages a.root_there;
+  through = frame a.leaf ∙ a.through;
+  leaf_there = there a.leaf a.leaf_there;
+  user = frame t.frame ∙ a.user;
+  frame_there = there t.frame a.frame_there;
+  entry = or_was (IsLinkTo a.leaf) t.pages (t.page / 64) a.entry;
+  mapping = or_was (IsMappingOf t) a.leaf (t.page % 64) a.mapping;
+}
+  where
+    there : (f : ℕ) → IsStillThere s d f → IsStillThere u d f
+    there f (inl some) = inl (let e = count f in omega (arith, some, e))
+    there f (inr un) = inr (grace (FrameOf f) ∙ un)
+
+    or_was : (P : Place → Type 0) (f i : ℕ) → IsOrWas s d P f i → IsOrWas u d P f i
+    or_was P f i (inl p) = inl (subst P (sym (place f i)) p)
+    or_was P f i (inr un) = inr (grace (PlaceOf f i) ∙ un)
+
+moved_stand : (s u : State) (c : ℕ) (k : Core) → u.limits ≡ s.limits → u.core ≡ put s.core c k → k.cached ≡ (s.core c).cached
+    → ((d : ℕ) (t : Translation) → Stands s d t → Stands u d t) → AllStand s s.core → AllStand u u.core
+moved_stand s u c k limits core same stands all d below =
+    let less : d < s.limits.cores = subst (λ l. d < l.cores) limits below in
+    let list : (u.core d).cached ≡ (s.core d).cached = ap (λ (f : ℕ → Core). (f d).cached) core
+    ∙ put_all (λ d x. x.cached ≡ (s.core d).cached) s.core c k d (λ at. same ∙ ap (λ n. (s.core n).cached) (sym at)) (λ other. refl) in
+    subst (AllByRecursion (Stands u d)) (sym list) (all_map (Stands s d) (Stands u d) (s.core d).cached (stands d) (all d less))
+
+entered_stand : (s : State) (c : ℕ) → AllStand s s.core → AllStand (entered s c) (entered s c).core
+entered_stand s c all = moved_stand s (entered s c) c (record (s.core c) { inside = true }) refl refl refl
+    (λ d t. same_stands s (entered s c) d t (λ f. refl) (λ f i. refl) (core_same_refs s c _ refl refl) (λ x. refl)) all
+
+returned_stand : (s : State) (c : ℕ) → AllStand s s.core → AllStand (returned s c) (returned s c).core
+returned_stand s c all = moved_stand s (returned s c) c (record (s.core c) { inside = false }) refl refl refl
+    (λ d t. same_stands s (returned s c) d t (λ f. refl) (λ f i. refl)
+    (λ f. grace_refs (with_core s c (record (s.core c) { inside = false })) (returned s c).grace f ∙ core_same_refs s c (record (s.core c) { inside = false }) refl refl f) (λ x. refl)) all
+
+phase_own : (e : Event) (events : List Event) (c : ℕ) → c ≡ core_of e → phase_of (e ∷ events) c ≡ phase_by e
+phase_own e events c same = ap (λ b. if b then phase_by e else phase_of events c) (eq-eqb c (core_of e) same)
+
+phase_other : (e : Event) (events : List Event) (c : ℕ) → c ≢ core_of e → phase_of (e ∷ events) c ≡ phase_of events c
+phase_other e events c other = ap (λ b. if b then phase_by e else phase_of events c) (ne_eqb c (core_of e) other)
+
+enter_waited : (setting : Setting) (events : List Event) (c : ℕ) (call : Call) → IsRun setting (Enters c call ∷ events) → IsWaited (after setting events) (opened events)
+    → IsWaited (after setting (Enters c call ∷ events)) (opened (Enters c call ∷ events))
+enter_waited setting events c call run old = record {
+  unflushed = λ x d q wait need. elim (cases_eq d c) [
+    | inl same ↦ absurd (false≢true (sym (inside_is setting events run.0 c ∙ ap is_in run.1.is_out)
+        ∙ waits_inside setting events x c (subst (λ d. IsTrue (((after setting events).grace x).waits d)) same wait)))
+    | inr other ↦ old.unflushed x d (sym (ap is_open (phase_other (Enters c call) events d other)) ∙ q) wait (need_of x need)
+  ];
+  bare = old.bare;
+}
+  where
+    need_of : (x : Thing) → IsTrue (needs_flush (after setting (Enters c call ∷ events)) x) → IsTrue (needs_flush (after setting events) x)
+    need_of (PlaceOf f i) n = n
+    need_of (FrameOf f) n = n
+    need_of (NumberOf l) n = n
+
+return_waited : (setting : Setting) (events : List Event) (c : ℕ) → IsWaited (after setting events) (opened events)
+    → IsWaited (after setting (Returns c ∷ events)) (opened (Returns c ∷ events))
+return_waited setting events c old = record {
+  unflushed = λ x d q wait need. elim (cases_eq d c) [
+    | inl same ↦ absurd (false≢true (sym (ap is_open (phase_own (Returns c) events d same)) ∙ q))
+    | inr other ↦ old.unflushed x d (sym (ap is_open (phase_other (Returns c) events d other)) ∙ q)
+        (sym (put_other ((after setting events).grace x).waits c false d other) ∙ wait) (need_of x need)
+  ];
+  bare = λ f d none. put_all (λ d b. b ≡ false) ((after setting events).grace (FrameOf f)).waits c false d (λ same. refl) (λ other. old.bare f d none);
+}
+  where
+    need_of : (x : Thing) → IsTrue (needs_flush (after setting (Returns c ∷ events)) x) → IsTrue (needs_flush (after setting events) x)
+    need_of (PlaceOf f i) n = n
+    need_of (FrameOf f) n = n
+    need_of (NumberOf l) n = n
+
+fewer : (s : State) (o o' : ℕ → Bool) → ((c : ℕ) → o' c ≡ true → o c ≡ true) → IsWaited s o → IsWaited s o'
+fewer s o o' less h = record { unflushed = λ x d q. h.unflushed x d (less d q); bare = h.bare }
+
+runs_waited : (setting : Setting) → IsSetting setting → (events : List Event) → IsRun setting events → IsWaited (after setting events) (opened events)
+runs_waited setting lim [] run = record { unflushed = λ x d q wait. absurd (false≢true wait); bare = λ f d none. refl }
+runs_waited setting lim (Enters c call ∷ events) run = enter_waited setting events c call run (runs_waited setting lim events run.0)
+runs_waited setting lim (Returns c ∷ events) run = return_waited setting events c (runs_waited setting lim events run.0)
+runs_waited setting lim (Decides c call r ∷ events) run =
+    fewer (after setting (Decides c call r ∷ events)) (put (opened events) c false) (opened (Decides c call r ∷ events))
+    (λ d q. elim (cases_eq d c) [
+      | inl same ↦ absurd (false≢true (sym (ap is_open (phase_own (Decides c call r) events d same)) ∙ q))
+      | inr other ↦ put_other (opened events) c false d other ∙ sym (ap is_open (phase_other (Decides c call r) events d other)) ∙ q
+    ])
+    (decided_waited (after setting events) (opened events) c call r (open_is setting lim events c run.0 (ap is_open run.1.is_open))
+    (open_limits setting events c call run.0 run.1.is_open) run.1.permitted (runs_waited setting lim events run.0))
+
+runs_stand : (setting : Setting) → IsSetting setting → (events : List Event) → IsRun setting events → AllStand (after setting events) (after setting events).core
+runs_stand setting lim [] run = λ d below. tt
+runs_stand setting lim (Enters c call ∷ events) run = entered_stand (after setting events) c (runs_stand setting lim events run.0)
+runs_stand setting lim (Returns c ∷ events) run = returned_stand (after setting events) c (runs_stand setting lim events run.0)
+runs_stand setting lim (Decides c call r ∷ events) run =
+    decided_stand (after setting events) (opened events) c call r (open_is setting lim events c run.0 (ap is_open run.1.is_open))
+    (open_limits setting events c call run.0 run.1.is_open) run.1.permitted (runs_fit setting lim events run.0) (runs_waited setting lim events run.0)
+    (runs_stand setting lim events run.0)
+
+pub translations_stand : TranslationsStand
+translations_stand setting lim events run c below = runs_stand setting lim events run c (subst (λ l. c < l.cores) (sym (limits_stay setting events)) below)

@@ -1,0 +1,475 @@
+-- Each reply that the relation permits has its cause.
+use Rattle.std.proofs.Common.{◌≡◌, ◌≢◌, ◌⊎◌, inl, inr, ℕ, zero, suc, ◌+◌, ◌<◌, ◌≤◌, Bool, true, false, not, ◌&&◌, ◌||◌, refl, sym, ◌∙◌, ap, subst, arith, ◌==◌, nat_lt, nat_le, if◌then◌else◌, IsTrue, IsFalse, IsSomeAnd, is_some, List, [], ◌∷◌, length, Option, Some, None}
+use Rattle.std.proofs.lemmas.Bool.{false≢true, true≢false, eqb-true, eqb-false, ltb-true, ltb-false, leb-true, leb-false}
+use Rattle.std.specs.List.{list_any, range_with_len}
+use Rattle.spk_nums.specs.Capability.{Capability}
+use Rattle.spk_nums.specs.declared.kinds.Kind.{Kind}
+use Rattle.spk_nums.specs.declared.kinds.Kind.TheVariants as kind
+use Rattle.spk_nums.specs.declared.kinds.FrameKind.{FrameKind}
+use Rattle.spk_nums.specs.declared.kinds.FrameKind.TheVariants as frame_kind
+use Rattle.spk_nums.specs.declared.kinds.PageFlags.{PageFlags}
+use Rattle.spk_nums.specs.declared.calls.Make.{Make}
+use Rattle.spk_nums.specs.declared.calls.Make.TheVariants as make
+use Rattle.spk_nums.specs.declared.calls.Call.{Call}
+use Rattle.spk_nums.specs.declared.calls.Call.TheVariants.{Look, Copy, Remove, Grow, Shrink, Retype, Make as make_call, Map, Unmap, Touch, Flush, Gate, Kill, Call as call_gate, Ret, Switch, Tick, Transfer, Delegate, Test}
+use Rattle.spk_nums.specs.declared.translations.Translation.{Translation}
+use Rattle.spk_nums.specs.declared.replies.Reply.{Reply}
+use Rattle.spk_nums.specs.declared.replies.Reply.TheVariants as reply
+use Rattle.kernel_rules.specs.State.{Object, Blank, Table, Leaf, Pages, Pleaf, Comp, Thread, Tcap, Frame, Untyped, User, Kernel, Liveness, Live, Thing, FrameOf, NumberOf, State, comp_in, comp_of, thread_in, tcap_in, thread_of}
+use Rattle.kernel_rules.specs.References.{refs}
+use Rattle.kernel_rules.specs.Access.{Slot, Named, found, Target, Under, InRoot, held_in, usable, reached, has_no_slot, any, only, root, own}
+use Rattle.kernel_rules.specs.GracePeriods.{MayWait, MayBeUnflushed}
+use Rattle.kernel_rules.specs.Rules.{Judged, Refused, Found, and_then, or_refuse, of_kind, named, mapped, NameMay, VacantMay, HeldMay, MappedMay, WaitedMay, UnflushedMay, CauseMay, OneMay, RuleMay, IsFoundAnd, name_of}
+use Rattle.kernel_rules.specs.CapabilityCalls.{leaf_for, outside, has_frame, is_frame, is_blank, not_blank, make_node, make_rule, not_taken, epoch_of}
+use Rattle.kernel_rules.specs.MemoryCalls.{is_untyped, is_user, holds_nothing, is_empty, not_retyped, retype_rule, touch_by, translation_of}
+use Rattle.kernel_rules.specs.InvocationCalls.{is_live_in, switch_to}
+use Rattle.kernel_rules.specs.TimeCalls.{are_alike, are_same, is_short}
+use Rattle.kernel_rules.specs.CallRelation.{rule_of}
+use Rattle.kernel_laws.specs.Causes.{OneIs, used_at, as_wanted, leads_as, Name, name, names_of, fills_at, empties_at, LiesOutside, HeldIn, IsDeadIn, BothAre, tcap_named, tcap_of, HasLess, HasCause}
+use Rattle.kernel_laws.specs.Laws.{CausesStand}
+
+-- What a rule finds under a name is what the name leads to.
+module _ (s : State) (c : ℕ) (wanted : Kind → Bool) where
+  by_kind : (k : Capability) (b : Bool) → name_of (if b then Found k else Refused reply.WrongCap) ≡ (if b then found k else Rattle.kernel_rules.specs.Access.not_found)
+  by_kind k true = refl
+  by_kind k false = refl
+
+  by_use : (u : Option Capability) → name_of (and_then (or_refuse u reply.Empty) λ k. of_kind wanted k) ≡ as_wanted wanted u
+  by_use None = refl
+  by_use (Some k) = by_kind k (wanted k.kind)
+
+  by_slot : (o : Option Slot) → name_of (and_then (or_refuse o reply.NoSlot) λ at. and_then (or_refuse (usable s c at) reply.Empty) λ k. of_kind wanted k)
+      ≡ as_wanted wanted (used_at s c o)
+  by_slot None = refl
+  by_slot (Some at) = by_use (usable s c at)
+
+  leads_is : (n : ℕ) → name_of (named s c n wanted) ≡ leads_as s c n wanted
+  leads_is n = by_slot (reached s c (own s c n))
+
+-- One of a list.
+one_map : {A : Type 0} (P Q : A → Type 0) (xs : List A) → ((x : A) → P x → Q x) → OneIs P xs → OneIs Q xs
+one_map P Q [] f h = absurd h
+one_map P Q (x ∷ xs) f (inl h) = inl (f x h)
+one_map P Q (x ∷ xs) f (inr h) = inr (one_map P Q xs f h)
+
+no_one : {A : Type 0} (xs : List A) → OneIs (λ x. ⊥) xs → ⊥
+no_one [] h = h
+no_one (x ∷ xs) (inl h) = h
+no_one (x ∷ xs) (inr h) = no_one xs h
+
+some_and : {A : Type 0} (o : Option A) (x : A) (P : A → Type 0) → o ≡ Some x → P x → IsSomeAnd o P
+some_and o x P e h = subst (λ p. IsSomeAnd p P) (sym e) h
+
+both : (a b : Bool) → IsTrue (a && b) → IsTrue a × IsTrue b
+both true b h = (refl, h)
+both false b h = absurd (false≢true h)
+
+not_is : (b : Bool) → IsTrue (not b) → b ≡ false
+not_is true h = absurd (false≢true h)
+not_is false h = refl
+
+module _ (s : State) (c : ℕ) (call : Call) where
+  -- A cause at a name.
+  other_kind : (wanted : Kind → Bool) (o : Option Slot) → IsSomeAnd o (λ at. IsSomeAnd (usable s c at) λ k. IsFalse (wanted k.kind))
+      → IsSomeAnd (used_at s c o) λ k. IsFalse (wanted k.kind)
+  other_kind wanted None h = absurd h
+  other_kind wanted (Some at) h = h
+
+  name_cause : (r : Reply) → OneIs (λ (n : Name). NameMay s c n.number n.wanted r) (names_of s c call) → HasCause s c call r
+  name_cause reply.NoSlot h = inl h
+  name_cause reply.Empty h = inl h
+  name_cause reply.WrongCap h = one_map (λ (n : Name). NameMay s c n.number n.wanted reply.WrongCap) _ (names_of s c call)
+      (λ n. other_kind n.wanted (reached s c (own s c n.number))) h
+  name_cause _ h = absurd (no_one (names_of s c call) h)
+
+  -- A cause at the place to be filled.
+  fill_cause : (r : Reply) (t : Target) → fills_at s c call ≡ Some t → VacantMay s c t r → HasCause s c call r
+  fill_cause reply.NoSlot t e h = inr (inl (some_and (fills_at s c call) t _ e h))
+  fill_cause reply.Occupied t e h = inl (some_and (fills_at s c call) t _ e h)
+  fill_cause (reply.Quiescing d) t e h = inl (some_and (fills_at s c call) t _ e h)
+  fill_cause (reply.Unflushed d) t e h = inl (some_and (fills_at s c call) t _ e h)
+  fill_cause _ t e h = absurd h
+
+  -- A cause at the place to be emptied.
+  empty_cause : (r : Reply) (t : Target) → empties_at s c call ≡ Some t → HeldMay s c t r → HasCause s c call r
+  empty_cause reply.NoSlot t e h = inr (inr (inl (some_and (empties_at s c call) t _ e h)))
+  empty_cause reply.Empty t e h = inr (some_and (empties_at s c call) t _ e h)
+  empty_cause _ t e h = absurd h
+
+  -- A cause of the call's own.
+  when_cause : (condition : Bool) (q r : Reply) → (IsTrue condition → HasCause s c call q) → IsTrue condition × (r ≡ q) → HasCause s c call r
+  when_cause condition q r f h = subst (HasCause s c call) (sym h.1) (f h.0)
+
+  wait_cause : (x : Thing) (r : Reply) → ((e : ℕ) → MayWait s c x e → HasCause s c call (reply.Quiescing e)) → WaitedMay s c x r → HasCause s c call r
+  wait_cause x (reply.Quiescing e) f h = f e h
+  wait_cause x _ f h = absurd h
+
+  flush_cause : (x : Thing) (r : Reply) → ((e : ℕ) → MayBeUnflushed s x e → HasCause s c call (reply.Unflushed e)) → UnflushedMay s x r → HasCause s c call r
+  flush_cause x (reply.Unflushed e) f h = f e h
+  flush_cause x _ f h = absurd h
+
+-- A name alone, and two names.
+module _ (s : State) (c : ℕ) where
+  look_cause : (a : ℕ) (r : Reply) → RuleMay s c (rule_of s c (Look a)) r → HasCause s c (Look a) r
+  look_cause a r (inl n) = name_cause s c (Look a) r (inl n)
+  look_cause a r (inr h) = absurd h
+
+  copy_cause : (a t b : ℕ) (r : Reply) → RuleMay s c (rule_of s c (Copy a t b)) r → HasCause s c (Copy a t b) r
+  copy_cause a t b r (inl n) = name_cause s c (Copy a t b) r (inl n)
+  copy_cause a t b r (inr (inl n)) = name_cause s c (Copy a t b) r (inr (inl n))
+  copy_cause a t b r (inr (inr (inl v))) =
+      fill_cause s c (Copy a t b) r _ refl (subst (λ (x : Named). VacantMay s c (Under x b) r) (leads_is s c (only kind.Table) t) v)
+  copy_cause a t b r (inr (inr (inr h))) = absurd h
+
+  held_none : {A : Type 0} (x : Judged A) → IsFoundAnd x (λ p. ⊥) → ⊥
+  held_none (Refused r) h = h
+  held_none (Found p) h = h
+
+  remove_cause : (t b : ℕ) (r : Reply) → RuleMay s c (rule_of s c (Remove t b)) r → HasCause s c (Remove t b) r
+  remove_cause t b r (inl n) = name_cause s c (Remove t b) r (inl n)
+  remove_cause t b r (inr (inl v)) =
+      empty_cause s c (Remove t b) r _ refl (subst (λ (x : Named). HeldMay s c (Under x b) r) (leads_is s c (only kind.Table) t) v)
+  remove_cause t b r (inr (inr h)) = absurd (held_none _ h)
+
+  grow_cause : (t i l : ℕ) (r : Reply) → RuleMay s c (rule_of s c (Grow t i l)) r → HasCause s c (Grow t i l) r
+  grow_cause t i l r (inl n) = name_cause s c (Grow t i l) r (inl n)
+  grow_cause t i l r (inr (inl n)) =
+      name_cause s c (Grow t i l) r (inr (inl (subst (λ (x : Named). NameMay s c l (leaf_for x) r) (leads_is s c root t) n)))
+  grow_cause t i l r (inr (inr (inl v))) =
+      fill_cause s c (Grow t i l) r _ refl (subst (λ (x : Named). VacantMay s c (InRoot x i) r) (leads_is s c root t) v)
+  grow_cause t i l r (inr (inr (inr h))) = absurd h
+
+  shrink_cause : (t i : ℕ) (r : Reply) → RuleMay s c (rule_of s c (Shrink t i)) r → HasCause s c (Shrink t i) r
+  shrink_cause t i r (inl n) = name_cause s c (Shrink t i) r (inl n)
+  shrink_cause t i r (inr (inl v)) =
+      empty_cause s c (Shrink t i) r _ refl (subst (λ (x : Named). HeldMay s c (InRoot x i) r) (leads_is s c root t) v)
+  shrink_cause t i r (inr (inr h)) = absurd (held_none _ h)
+
+  unmap_cause : (p v : ℕ) (r : Reply) → RuleMay s c (rule_of s c (Unmap p v)) r → HasCause s c (Unmap p v) r
+  unmap_cause p v r (inl n) = name_cause s c (Unmap p v) r (inl n)
+  unmap_cause p v r (inr (inl h)) =
+      empty_cause s c (Unmap p v) r _ refl (subst (λ (x : Named). HeldMay s c (Under x v) r) (leads_is s c (only kind.Pages) p) h)
+  unmap_cause p v r (inr (inr h)) = absurd (held_none _ h)
+
+  gate_cause : (k t b : ℕ) (r : Reply) → RuleMay s c (rule_of s c (Gate k t b)) r → HasCause s c (Gate k t b) r
+  gate_cause k t b r (inl n) = name_cause s c (Gate k t b) r (inl n)
+  gate_cause k t b r (inr (inl n)) = name_cause s c (Gate k t b) r (inr (inl n))
+  gate_cause k t b r (inr (inr (inl v))) =
+      fill_cause s c (Gate k t b) r _ refl (subst (λ (x : Named). VacantMay s c (Under x b) r) (leads_is s c (only kind.Table) t) v)
+  gate_cause k t b r (inr (inr (inr h))) = absurd h
+
+  -- The frame of a range.
+  lies : (range : Named) (f : ℕ) → IsTrue (range.found && not (has_frame range f)) → LiesOutside range f
+  lies range f h =
+      let p = both range.found (not (has_frame range f)) h in
+      record { found = p.0; outside = by_test (nat_le range.frame f) (nat_lt f (range.frame + range.arg)) refl refl (not_is (has_frame range f) p.1) }
+    where
+      by_test : (a b : Bool) → nat_le range.frame f ≡ a → nat_lt f (range.frame + range.arg) ≡ b → (a && b) ≡ false
+          → (f < range.frame) ⊎ (range.frame + range.arg ≤ f)
+      by_test false b low high e = inl (leb-false range.frame f low)
+      by_test true false low high e = inr (ltb-false f (range.frame + range.arg) high)
+      by_test true true low high e = absurd (true≢false e)
+
+  named_lies : (call : Call) (r f : ℕ) (q : Reply) → (LiesOutside (leads_as s c r (only kind.Range)) f → HasCause s c call reply.OutOfRange)
+      → CauseMay s c (outside (name_of (named s c r (only kind.Range))) f) q → HasCause s c call q
+  named_lies call r f q is h =
+      when_cause s c call _ reply.OutOfRange q
+      (λ (t : IsTrue _). is (subst (λ (x : Named). LiesOutside x f) (leads_is s c (only kind.Range) r) (lies (name_of (named s c r (only kind.Range))) f t))) h
+
+  -- The kind of a frame of the machine.
+  is_machine : (f : ℕ) (b : Bool) → IsTrue (is_frame s f && b) → (f < s.limits.frames) × IsTrue b
+  is_machine f b h = let p = both (is_frame s f) b h in (ltb-true f s.limits.frames p.0, p.1)
+
+  differs : (f : ℕ) (x : Frame) (is : Frame → Bool) → is x ≡ true → IsTrue (is_frame s f && not (is (s.frame f))) → (f < s.limits.frames) × (s.frame f ≢ x)
+  differs f x is at h =
+      let p = is_machine f (not (is (s.frame f))) h in
+      (p.0, λ e. true≢false (sym at ∙ ap is (sym e) ∙ not_is (is (s.frame f)) p.1))
+
+  untyped_is : (x : Frame) → is_untyped x ≡ true → x ≡ Untyped
+  untyped_is Untyped h = refl
+  untyped_is User h = absurd (false≢true h)
+  untyped_is (Kernel k) h = absurd (false≢true h)
+
+  -- `make`.
+  made_own : (what : Make) (r f t b : ℕ) (q : Reply)
+      → CauseMay s c (outside (name_of (named s c r (only kind.Range))) f) q ⊎ CauseMay s c (not_blank s f) q → HasCause s c (make_call what r f t b) q
+  made_own what r f t b q (inl h) = named_lies (make_call what r f t b) r f q (λ l. l) h
+  made_own what r f t b q (inr h) =
+      when_cause s c (make_call what r f t b) _ reply.FrameKind q (λ t. differs f (Kernel Blank) is_blank refl t) h
+
+  made_fill : (what : Make) (r f t b : ℕ) (q : Reply) → VacantMay s c (Under (name_of (named s c t (only kind.Table))) b) q → HasCause s c (make_call what r f t b) q
+  made_fill what r f t b q v =
+      fill_cause s c (make_call what r f t b) q _ refl (subst (λ (x : Named). VacantMay s c (Under x b) q) (leads_is s c (only kind.Table) t) v)
+
+  node_cause : (what : Make) (object : Object) (k : Kind) (r f t b : ℕ) (q : Reply) → RuleMay s c (make_node s object k r f t b) q → HasCause s c (make_call what r f t b) q
+  node_cause what object k r f t b q (inl n) = name_cause s c (make_call what r f t b) q (inl n)
+  node_cause what object k r f t b q (inr (inl n)) = name_cause s c (make_call what r f t b) q (inr (inl n))
+  node_cause what object k r f t b q (inr (inr (inl v))) = made_fill what r f t b q v
+  node_cause what object k r f t b q (inr (inr (inr (inl h)))) = made_own what r f t b q (inl h)
+  node_cause what object k r f t b q (inr (inr (inr (inr (inl h))))) = made_own what r f t b q (inr h)
+  node_cause what object k r f t b q (inr (inr (inr (inr (inr h))))) = absurd h
+
+  thread_cause : (comp r f t b : ℕ) (q : Reply) → RuleMay s c (make_rule s (make.Thread comp) r f t b) q → HasCause s c (make_call (make.Thread comp) r f t b) q
+  thread_cause comp r f t b q (inl n) = name_cause s c (make_call (make.Thread comp) r f t b) q (inl n)
+  thread_cause comp r f t b q (inr (inl n)) = name_cause s c (make_call (make.Thread comp) r f t b) q (inr (inl n))
+  thread_cause comp r f t b q (inr (inr (inl n))) = name_cause s c (make_call (make.Thread comp) r f t b) q (inr (inr (inl n)))
+  thread_cause comp r f t b q (inr (inr (inr (inl v)))) = made_fill (make.Thread comp) r f t b q v
+  thread_cause comp r f t b q (inr (inr (inr (inr (inl h))))) = made_own (make.Thread comp) r f t b q (inl h)
+  thread_cause comp r f t b q (inr (inr (inr (inr (inr (inl h)))))) = made_own (make.Thread comp) r f t b q (inr h)
+  thread_cause comp r f t b q (inr (inr (inr (inr (inr (inr h)))))) = absurd h
+
+  tcap_cause : (sched quality r f t b : ℕ) (q : Reply) → RuleMay s c (make_rule s (make.Tcap sched quality) r f t b) q → HasCause s c (make_call (make.Tcap sched quality) r f t b) q
+  tcap_cause sched quality r f t b q (inl n) = name_cause s c (make_call (make.Tcap sched quality) r f t b) q (inl n)
+  tcap_cause sched quality r f t b q (inr (inl n)) = name_cause s c (make_call (make.Tcap sched quality) r f t b) q (inr (inl n))
+  tcap_cause sched quality r f t b q (inr (inr (inl v))) = made_fill (make.Tcap sched quality) r f t b q v
+  tcap_cause sched quality r f t b q (inr (inr (inr (inl h)))) = made_own (make.Tcap sched quality) r f t b q (inl h)
+  tcap_cause sched quality r f t b q (inr (inr (inr (inr (inl h))))) = made_own (make.Tcap sched quality) r f t b q (inr h)
+  tcap_cause sched quality r f t b q (inr (inr (inr (inr (inr h))))) = absurd h
+
+  number_cause : (x p l r f t b : ℕ) (q : Reply) → OneMay s c (not_taken s l) q → HasCause s c (make_call (make.Comp x p l) r f t b) q
+  number_cause x p l r f t b q (inl h) = when_cause s c (make_call (make.Comp x p l) r f t b) _ reply.Occupied q (λ t. inr t) h
+  number_cause x p l r f t b q (inr (inl h)) = wait_cause s c (make_call (make.Comp x p l) r f t b) (NumberOf l) q (λ e w. inr (inr w)) h
+  number_cause x p l r f t b q (inr (inr (inl h))) =
+      when_cause s c (make_call (make.Comp x p l) r f t b) _ reply.EpochsSpent q (λ t. eqb-true (epoch_of (s.number l)) s.limits.epochs t) h
+  number_cause x p l r f t b q (inr (inr (inr h))) = absurd h
+
+  comp_cause : (x p l r f t b : ℕ) (q : Reply) → RuleMay s c (make_rule s (make.Comp x p l) r f t b) q → HasCause s c (make_call (make.Comp x p l) r f t b) q
+  comp_cause x p l r f t b q (inl n) = name_cause s c (make_call (make.Comp x p l) r f t b) q (inl n)
+  comp_cause x p l r f t b q (inr (inl n)) = name_cause s c (make_call (make.Comp x p l) r f t b) q (inr (inl n))
+  comp_cause x p l r f t b q (inr (inr (inl n))) = name_cause s c (make_call (make.Comp x p l) r f t b) q (inr (inr (inl n)))
+  comp_cause x p l r f t b q (inr (inr (inr (inl n)))) = name_cause s c (make_call (make.Comp x p l) r f t b) q (inr (inr (inr (inl n))))
+  comp_cause x p l r f t b q (inr (inr (inr (inr (inl v))))) = made_fill (make.Comp x p l) r f t b q v
+  comp_cause x p l r f t b q (inr (inr (inr (inr (inr (inl h)))))) = made_own (make.Comp x p l) r f t b q (inl h)
+  comp_cause x p l r f t b q (inr (inr (inr (inr (inr (inr (inl h))))))) = made_own (make.Comp x p l) r f t b q (inr h)
+  comp_cause x p l r f t b q (inr (inr (inr (inr (inr (inr (inr h))))))) = number_cause x p l r f t b q h
+
+  make_cause : (what : Make) (r f t b : ℕ) (q : Reply) → RuleMay s c (make_rule s what r f t b) q → HasCause s c (make_call what r f t b) q
+  make_cause make.Table r f t b q h = node_cause make.Table Table kind.Table r f t b q h
+  make_cause make.Leaf r f t b q h = node_cause make.Leaf Leaf kind.Leaf r f t b q h
+  make_cause make.Pages r f t b q h = node_cause make.Pages Pages kind.Pages r f t b q h
+  make_cause make.Pleaf r f t b q h = node_cause make.Pleaf Pleaf kind.Pleaf r f t b q h
+  make_cause (make.Thread comp) r f t b q h = thread_cause comp r f t b q h
+  make_cause (make.Tcap sched quality) r f t b q h = tcap_cause sched quality r f t b q h
+  make_cause (make.Comp x p l) r f t b q h = comp_cause x p l r f t b q h
+
+  map_cause : (p v r f : ℕ) (w : PageFlags) (q : Reply) → RuleMay s c (rule_of s c (Map p v r f w)) q → HasCause s c (Map p v r f w) q
+  map_cause p v r f w q (inl n) = name_cause s c (Map p v r f w) q (inl n)
+  map_cause p v r f w q (inr (inl n)) = name_cause s c (Map p v r f w) q (inr (inl n))
+  map_cause p v r f w q (inr (inr (inl h))) =
+      fill_cause s c (Map p v r f w) q _ refl (subst (λ (x : Named). VacantMay s c (Under x v) q) (leads_is s c (only kind.Pages) p) h)
+  map_cause p v r f w q (inr (inr (inr (inl h)))) = named_lies (Map p v r f w) r f q (λ l. l) h
+  map_cause p v r f w q (inr (inr (inr (inr (inl h))))) = when_cause s c (Map p v r f w) _ reply.FrameKind q (λ t. differs f User is_user refl t) h
+  map_cause p v r f w q (inr (inr (inr (inr (inr h))))) = absurd h
+
+  -- A retype.
+  any_in : (p : ℕ → Bool) (a n : ℕ) → list_any p (range_with_len a n) ≡ true → (i : ℕ) × (i < a + n) × (p i ≡ true)
+  any_in p a zero h = absurd (false≢true h)
+  any_in p a (suc n) h = tested (any_in p (a + 1) n) (p a) refl h
+    where
+      tested : (list_any p (range_with_len (a + 1) n) ≡ true → (i : ℕ) × (i < (a + 1) + n) × (p i ≡ true))
+          → (t : Bool) → p a ≡ t → (t || list_any p (range_with_len (a + 1) n)) ≡ true → (i : ℕ) × (i < a + suc n) × (p i ≡ true)
+      tested more true is e = (a, omega arith, is)
+      tested more false is e = let m = more e in (m.0, (let l = m.1 in omega (arith, l)), m.2)
+
+  not_not : (b : Bool) → not (not b) ≡ true → b ≡ true
+  not_not true h = refl
+  not_not false h = absurd (false≢true h)
+
+  held_at : (f : ℕ) → IsTrue (not (holds_nothing s f)) → HeldIn s f
+  unfolding holds_nothing
+  held_at f h =
+      let m = any_in (λ i. is_some (held_in (s.place f i))) 0 64 (not_not (list_any (λ i. is_some (held_in (s.place f i))) (range_with_len 0 64)) h) in
+      record { index = m.0; below = (let l = m.1 in omega (arith, l)); held = m.2 }
+
+  not_empty : (f : ℕ) (x : Frame) → s.frame f ≡ x → IsTrue (not (is_empty s f x))
+      → (1 < length (thread_in x).stack) ⊎ ((0 < (tcap_in x).budget) ⊎ HeldIn s f)
+  not_empty f Untyped is h = absurd (false≢true h)
+  not_empty f User is h = absurd (false≢true h)
+  not_empty f (Kernel Blank) is h = absurd (false≢true h)
+  not_empty f (Kernel (Comp k)) is h = absurd (false≢true h)
+  not_empty f (Kernel (Thread t)) is h = inl (leb-false (length t.stack) 1 (not_is (nat_le (length t.stack) 1) h))
+  not_empty f (Kernel (Tcap q)) is h = inr (inl (let n = eqb-false q.budget 0 (not_is (q.budget == 0) h) in omega (arith, n)))
+  not_empty f (Kernel Table) is h = inr (inr (held_at f h))
+  not_empty f (Kernel Leaf) is h = inr (inr (held_at f h))
+  not_empty f (Kernel Pages) is h = inr (inr (held_at f h))
+  not_empty f (Kernel Pleaf) is h = inr (inr (held_at f h))
+
+  retype_own : (r f : ℕ) (k : FrameKind) (q : Reply) → OneMay s c (not_retyped s f k) q → HasCause s c (Retype r f k) q
+  retype_own r f frame_kind.Untyped q (inl h) =
+      when_cause s c (Retype r f frame_kind.Untyped) _ reply.FrameKind q
+      (λ t. let p = is_machine f (is_untyped (s.frame f)) t in (p.0, untyped_is (s.frame f) p.1)) h
+  retype_own r f frame_kind.Untyped q (inr (inl h)) =
+      when_cause s c (Retype r f frame_kind.Untyped) _ (reply.Referenced (refs s f)) q (λ t. (ltb-true 0 (refs s f) t, refl)) h
+  retype_own r f frame_kind.Untyped q (inr (inr (inl h))) = wait_cause s c (Retype r f frame_kind.Untyped) (FrameOf f) q (λ e w. inr (inl w)) h
+  retype_own r f frame_kind.Untyped q (inr (inr (inr (inl h)))) = flush_cause s c (Retype r f frame_kind.Untyped) (FrameOf f) q (λ e w. inr w) h
+  retype_own r f frame_kind.Untyped q (inr (inr (inr (inr (inl h))))) =
+      when_cause s c (Retype r f frame_kind.Untyped) _ reply.NotEmpty q (λ t. not_empty f (s.frame f) refl t) h
+  retype_own r f frame_kind.Untyped q (inr (inr (inr (inr (inr h))))) = absurd h
+  retype_own r f frame_kind.User q (inl h) = when_cause s c (Retype r f frame_kind.User) _ reply.FrameKind q (λ t. differs f Untyped is_untyped refl t) h
+  retype_own r f frame_kind.User q (inr h) = absurd h
+  retype_own r f frame_kind.Kernel q (inl h) = when_cause s c (Retype r f frame_kind.Kernel) _ reply.FrameKind q (λ t. differs f Untyped is_untyped refl t) h
+  retype_own r f frame_kind.Kernel q (inr h) = absurd h
+
+  retype_cause : (r f : ℕ) (k : FrameKind) (q : Reply) → RuleMay s c (retype_rule s r f k) q → HasCause s c (Retype r f k) q
+  retype_cause r f k q (inl n) = name_cause s c (Retype r f k) q (inl n)
+  retype_cause r f k q (inr (inl h)) = named_lies (Retype r f k) r f q (λ l. l) h
+  retype_cause r f k q (inr (inr h)) = retype_own r f k q h
+
+  -- `touch`.
+  page_none : {A : Type 0} (x : Judged A) → IsFoundAnd x (λ p. ⊥) → ⊥
+  page_none (Refused r) h = h
+  page_none (Found p) h = h
+
+  page_cause : (v : ℕ) (q : Reply) → translation_of (s.core c).cached (comp_of s c).pages v ≡ None → MappedMay s c (comp_of s c).pages v q → HasCause s c (Touch v) q
+  page_cause v reply.NoSlot is h = inr (inr (inr (ltb-true 4095 v h)))
+  page_cause v reply.Fault is h = (is, leb-true v 4095 h.0, h.1)
+  page_cause v _ is h = absurd h
+
+  touch_cause : (v : ℕ) (q : Reply) → (t : Option Translation) → translation_of (s.core c).cached (comp_of s c).pages v ≡ t
+      → RuleMay s c (touch_by s c (comp_of s c).pages v t) q → HasCause s c (Touch v) q
+  touch_cause v q None is (inl h) = page_cause v q is h
+  touch_cause v q None is (inr h) = absurd (page_none (mapped s c (comp_of s c).pages v) h)
+  touch_cause v q (Some t) is (inl h) = when_cause s c (Touch v) _ reply.NoSlot q (λ t. inr (inr (inr (ltb-true 4095 v t)))) h
+  touch_cause v q (Some t) is (inr h) = absurd h
+
+  -- Invocations.
+  not_live_in : (x : Liveness) (epoch : ℕ) → is_live_in x epoch ≡ false → (f : ℕ) → x ≢ Live epoch f
+  not_live_in x epoch e f is = true≢false (sym (eq epoch) ∙ ap (λ y. is_live_in y epoch) (sym is) ∙ e)
+    where
+      eq : (n : ℕ) → (n == n) ≡ true
+      eq n = Rattle.std.proofs.lemmas.Bool.eq-eqb n n refl
+
+  dead_in : (name : Named) (epoch : ℕ) → IsTrue (name.found && not (is_live_in (s.number (comp_in (s.frame name.frame)).number) epoch)) → IsDeadIn s name epoch
+  dead_in name epoch h =
+      let p = both name.found (not (is_live_in (s.number (comp_in (s.frame name.frame)).number) epoch)) h in
+      record { found = p.0; dead = not_live_in (s.number (comp_in (s.frame name.frame)).number) epoch (not_is _ p.1) }
+
+  kill_cause : (k : ℕ) (q : Reply) → RuleMay s c (rule_of s c (Kill k)) q → HasCause s c (Kill k) q
+  kill_cause k q (inl n) = name_cause s c (Kill k) q (inl n)
+  kill_cause k q (inr (inl h)) = when_cause s c (Kill k) _ reply.Dead q
+      (λ t. subst (λ (x : Named). IsDeadIn s x (comp_in (s.frame x.frame)).epoch) (leads_is s c (only kind.Comp) k)
+      (dead_in (name_of (named s c k (only kind.Comp))) (comp_in (s.frame (name_of (named s c k (only kind.Comp))).frame)).epoch t)) h
+  kill_cause k q (inr (inr h)) = absurd h
+
+  call_cause : (g : ℕ) (q : Reply) → RuleMay s c (rule_of s c (call_gate g)) q → HasCause s c (call_gate g) q
+  call_cause g q (inl n) = name_cause s c (call_gate g) q (inl n)
+  call_cause g q (inr (inl h)) = when_cause s c (call_gate g) _ reply.Deep q (λ t. leb-true 16 (length (thread_of s c).stack) t) h
+  call_cause g q (inr (inr (inl h))) = when_cause s c (call_gate g) _ reply.Dead q
+      (λ t. subst (λ (x : Named). IsDeadIn s x x.arg) (leads_is s c (only kind.Gate) g)
+      (dead_in (name_of (named s c g (only kind.Gate))) (name_of (named s c g (only kind.Gate))).arg t)) h
+  call_cause g q (inr (inr (inr h))) = absurd h
+
+  ret_cause : (q : Reply) → RuleMay s c (rule_of s c Ret) q → HasCause s c Ret q
+  ret_cause q (inl h) = when_cause s c Ret _ reply.Bottom q (λ t. leb-true (length (thread_of s c).stack) 1 t) h
+  ret_cause q (inr h) = absurd h
+
+  switch_own : (h q : ℕ) (x : Named) (p : ℕ) (r : Reply) → x ≡ leads_as s c h (only kind.Thread) → (e : Option ℕ) → (thread_in (s.frame x.frame)).runs_on ≡ e
+      → RuleMay s c (switch_to s c x p e) r → HasCause s c (Switch h q) r
+  switch_own h q x p r at None is may = absurd may
+  switch_own h q x p r at (Some e) is (inl may) =
+      when_cause s c (Switch h q) _ (reply.Running e) r
+      (λ t. subst (λ (x : Named). IsTrue x.found × ((thread_in (s.frame x.frame)).runs_on ≡ Some e)) at (t, is)) may
+  switch_own h q x p r at (Some e) is (inr may) = absurd may
+
+  switch_cause : (h q : ℕ) (r : Reply) → RuleMay s c (rule_of s c (Switch h q)) r → HasCause s c (Switch h q) r
+  switch_cause h q r (inl n) = name_cause s c (Switch h q) r (inl n)
+  switch_cause h q r (inr (inl n)) = name_cause s c (Switch h q) r (inr (inl n))
+  switch_cause h q r (inr (inr may)) =
+      switch_own h q (name_of (named s c h (only kind.Thread))) (name_of (named s c q (only kind.Tcap))).frame r (leads_is s c (only kind.Thread) h)
+      (thread_in (s.frame (name_of (named s c h (only kind.Thread))).frame)).runs_on refl may
+
+  -- Two temporal capabilities.
+  both_are : (a b : ℕ) (P : ℕ → ℕ → Type 0) → BothAre (name_of (named s c a (only kind.Tcap))) (name_of (named s c b (only kind.Tcap))) P
+      → BothAre (tcap_named s c a) (tcap_named s c b) P
+  both_are a b P h =
+      subst (λ (x : Named). BothAre (tcap_named s c a) x P) (leads_is s c (only kind.Tcap) b)
+      (subst (λ (x : Named). BothAre x (name_of (named s c b (only kind.Tcap))) P) (leads_is s c (only kind.Tcap) a) h)
+
+  two_found : (x y : Named) (b : Bool) (P : ℕ → ℕ → Type 0) → (IsTrue b → P x.frame y.frame) → IsTrue (x.found && (y.found && b)) → BothAre x y P
+  two_found x y b P f h =
+      let p = both x.found (y.found && b) h in
+      let q = both y.found b p.1 in
+      record { first = p.0; second = q.0; both = f q.1 }
+
+  same_cause : (call : Call) (a b : ℕ) (r : Reply) → (BothAre (tcap_named s c a) (tcap_named s c b) (λ f g. f ≡ g) → HasCause s c call reply.Same)
+      → CauseMay s c (are_same (name_of (named s c a (only kind.Tcap))) (name_of (named s c b (only kind.Tcap)))) r → HasCause s c call r
+  same_cause call a b r f h = when_cause s c call _ reply.Same r
+      (λ t. f (both_are a b (λ f g. f ≡ g) (two_found (name_of (named s c a (only kind.Tcap))) (name_of (named s c b (only kind.Tcap))) _ (λ f g. f ≡ g) (eqb-true _ _) t))) h
+
+  short_cause : (call : Call) (a m : ℕ) (r : Reply) → ((n : ℕ) → HasLess s (tcap_named s c a) m n → HasCause s c call (reply.Short n))
+      → CauseMay s c (is_short s (name_of (named s c a (only kind.Tcap))) m) r → HasCause s c call r
+  short_cause call a m r f h = when_cause s c call _ (reply.Short n) r
+      (λ t. f n (subst (λ (x : Named). HasLess s x m n) (leads_is s c (only kind.Tcap) a)
+      (let p = both x.found (nat_lt n m) t in record { found = p.0; is = refl; less = ltb-true n m p.1 }))) h
+    where
+      x : Named
+      x = name_of (named s c a (only kind.Tcap))
+
+      n : ℕ
+      n = (tcap_of s x.frame).budget
+
+  unlike_lists : (xs ys : List (ℕ × ℕ)) → are_alike xs ys ≡ false → xs ≢ ys
+  unlike_lists xs ys e same = true≢false (sym (alike ys) ∙ ap (λ zs. are_alike zs ys) (sym same) ∙ e)
+    where
+      eq : (n : ℕ) → (n == n) ≡ true
+      eq n = Rattle.std.proofs.lemmas.Bool.eq-eqb n n refl
+
+      and : (a b : Bool) → a ≡ true → b ≡ true → (a && b) ≡ true
+      and a b p q = ap (λ x. x && b) p ∙ q
+
+      alike : (xs : List (ℕ × ℕ)) → are_alike xs xs ≡ true
+      alike [] = refl
+      alike (x ∷ xs) = and (x.0 == x.0) (x.1 == x.1 && are_alike xs xs) (eq x.0) (and (x.1 == x.1) (are_alike xs xs) (eq x.1) (alike xs))
+
+  transfer_cause : (a b m : ℕ) (r : Reply) → RuleMay s c (rule_of s c (Transfer a b m)) r → HasCause s c (Transfer a b m) r
+  transfer_cause a b m r (inl n) = name_cause s c (Transfer a b m) r (inl n)
+  transfer_cause a b m r (inr (inl n)) = name_cause s c (Transfer a b m) r (inr (inl n))
+  transfer_cause a b m r (inr (inr (inl h))) = same_cause (Transfer a b m) a b r (λ x. x) h
+  transfer_cause a b m r (inr (inr (inr (inl h)))) = short_cause (Transfer a b m) a m r (λ n x. x) h
+  transfer_cause a b m r (inr (inr (inr (inr (inl h))))) = when_cause s c (Transfer a b m) _ reply.Unlike r
+      (λ t. both_are a b _ (two_found _ _ _ _ (λ t. unlike_lists _ _ (not_is _ t)) t)) h
+  transfer_cause a b m r (inr (inr (inr (inr (inr h))))) = absurd h
+
+  delegate_cause : (a b m : ℕ) (r : Reply) → RuleMay s c (rule_of s c (Delegate a b m)) r → HasCause s c (Delegate a b m) r
+  delegate_cause a b m r (inl n) = name_cause s c (Delegate a b m) r (inl n)
+  delegate_cause a b m r (inr (inl n)) = name_cause s c (Delegate a b m) r (inr (inl n))
+  delegate_cause a b m r (inr (inr (inl h))) = same_cause (Delegate a b m) a b r (λ x. x) h
+  delegate_cause a b m r (inr (inr (inr (inl h)))) = short_cause (Delegate a b m) a m r (λ n x. x) h
+  delegate_cause a b m r (inr (inr (inr (inr (inl h))))) = when_cause s c (Delegate a b m) _ reply.TooMany r
+      (λ t. both_are a b _ (two_found _ _ _ _ (λ t. ltb-true 8 _ t) t)) h
+  delegate_cause a b m r (inr (inr (inr (inr (inr h))))) = absurd h
+
+  test_cause : (a b : ℕ) (r : Reply) → RuleMay s c (rule_of s c (Test a b)) r → HasCause s c (Test a b) r
+  test_cause a b r (inl n) = name_cause s c (Test a b) r (inl n)
+  test_cause a b r (inr (inl n)) = name_cause s c (Test a b) r (inr (inl n))
+  test_cause a b r (inr (inr (inl h))) = same_cause (Test a b) a b r (λ x. x) h
+  test_cause a b r (inr (inr (inr h))) = absurd h
+
+  rule_cause : (call : Call) (r : Reply) → RuleMay s c (rule_of s c call) r → HasCause s c call r
+  rule_cause (Look a) r h = look_cause a r h
+  rule_cause (Copy a t b) r h = copy_cause a t b r h
+  rule_cause (Remove t b) r h = remove_cause t b r h
+  rule_cause (Grow t i l) r h = grow_cause t i l r h
+  rule_cause (Shrink t i) r h = shrink_cause t i r h
+  rule_cause (Retype r f k) q h = retype_cause r f k q h
+  rule_cause (make_call what r f t b) q h = make_cause what r f t b q h
+  rule_cause (Map p v r f w) q h = map_cause p v r f w q h
+  rule_cause (Unmap p v) r h = unmap_cause p v r h
+  rule_cause (Touch v) r h = touch_cause v r (translation_of (s.core c).cached (comp_of s c).pages v) refl h
+  rule_cause Flush r h = absurd h
+  rule_cause (Gate k t b) r h = gate_cause k t b r h
+  rule_cause (Kill k) r h = kill_cause k r h
+  rule_cause (call_gate g) r h = call_cause g r h
+  rule_cause Ret r h = ret_cause r h
+  rule_cause (Switch f q) r h = switch_cause f q r h
+  rule_cause (Tick n) r h = absurd h
+  rule_cause (Transfer a b m) r h = transfer_cause a b m r h
+  rule_cause (Delegate a b m) r h = delegate_cause a b m r h
+  rule_cause (Test a b) r h = test_cause a b r h
+
+pub causes_stand : CausesStand
+causes_stand s c call (reply.Ok v) may = tt
+causes_stand s c call reply.Raced may = tt
+causes_stand s c call (reply.Busy e) may = tt
+causes_stand s c call reply.CallsSpent may = leb-true s.limits.calls (s.core c).counted may
+causes_stand s c call r may = rule_cause s c call r may.1

@@ -1,0 +1,53 @@
+-- Cached translations in the states that runs reach.
+use Rattle.std.specs.Prelude.{◌≡◌, ◌⊎◌, ◌<◌, ◌≤◌, ℕ, ◌/◌, ◌%◌, List, IsTrue}
+use Rattle.std.specs.List.{AllByRecursion}
+use Rattle.spk_nums.specs.Setting.{Setting, IsSetting}
+use Rattle.spk_nums.specs.declared.kinds.Kind.TheVariants as kind
+use Rattle.spk_nums.specs.declared.translations.Translation.{Translation}
+use Rattle.kernel_rules.specs.State.{Place, Free, Holds, Quiescing, Pages, Pleaf, User, Kernel, Thing, PlaceOf, FrameOf, State}
+use Rattle.kernel_rules.specs.References.{refs}
+use Rattle.kernel_rules.specs.Runs.{Event, after, IsRun}
+
+-- Core c has decided no flush since the grace period of a thing began.
+abbrev pub IsUnflushedBy : State → ℕ → Thing → Type 0
+IsUnflushedBy s c x = IsTrue ((s.grace x).unflushed c)
+
+-- A frame is referenced, or core c has decided no flush since its last reference was released.
+abbrev pub IsStillThere : State → ℕ → ℕ → Type 0
+IsStillThere s c f = (0 < refs s f) ⊎ IsUnflushedBy s c (FrameOf f)
+
+-- A place holds a link to a leaf.
+abbrev pub IsLinkTo : ℕ → Place → Type 0
+IsLinkTo leaf Free = ⊥
+IsLinkTo leaf (Holds k) = (k.kind ≡ kind.Link) × (k.frame ≡ leaf)
+IsLinkTo leaf (Quiescing k) = ⊥
+
+-- A place holds the mapping that a translation tells.
+abbrev pub IsMappingOf : Translation → Place → Type 0
+IsMappingOf t Free = ⊥
+IsMappingOf t (Holds k) = (k.kind ≡ kind.Page) × (k.frame ≡ t.frame) × (k.arg ≡ t.flags.0)
+IsMappingOf t (Quiescing k) = ⊥
+
+-- A place is as P says, or core c has decided no flush since its removal.
+abbrev pub IsOrWas : State → ℕ → (Place → Type 0) → ℕ → ℕ → Type 0
+IsOrWas s c P f i = P (s.place f i) ⊎ IsUnflushedBy s c (PlaceOf f i)
+
+-- A translation that core c has cached: its root is a page table's, its frame a user frame, and each is still there; through the
+-- leaf of pages by which it was found, its root entry and its page entry still hold the link and the mapping; or core c has
+-- decided no flush since.
+pub record Stands (s : State) (c : ℕ) (t : Translation) : Type 0 where
+  pub leaf : ℕ
+  pub page_small : t.page ≤ 4095
+  pub root : s.frame t.pages ≡ Kernel Pages
+  pub root_there : IsStillThere s c t.pages
+  pub through : s.frame leaf ≡ Kernel Pleaf
+  pub leaf_there : IsStillThere s c leaf
+  pub user : s.frame t.frame ≡ User
+  pub frame_there : IsStillThere s c t.frame
+  pub entry : IsOrWas s c (IsLinkTo leaf) t.pages (t.page / 64)
+  pub mapping : IsOrWas s c (IsMappingOf t) leaf (t.page % 64)
+
+-- In every state that a run reaches, each translation that a core has cached stands.
+abbrev pub TranslationsStand : Type 0
+TranslationsStand = (setting : Setting) → IsSetting setting → (events : List Event) → IsRun setting events → (c : ℕ) → c < setting.cores
+    → AllByRecursion (Stands (after setting events) c) ((after setting events).core c).cached

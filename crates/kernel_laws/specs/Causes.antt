@@ -1,0 +1,287 @@
+-- The cause of each refusal, by its reply: what must be so where a call is refused with it. Said apart from the rules of calls.
+use Rattle.std.specs.Prelude.{◌≡◌, ◌≢◌, ◌⊎◌, ℕ, ◌+◌, ◌<◌, ◌≤◌, Bool, if◌then◌else◌, List, [], ◌∷◌, length, Option, Some, None, is_some, IsTrue, IsFalse, IsSomeAnd}
+use Rattle.spk_nums.specs.Capability.{Capability}
+use Rattle.spk_nums.specs.Merging.{merged}
+use Rattle.spk_nums.specs.declared.kinds.Kind.{Kind}
+use Rattle.spk_nums.specs.declared.kinds.Kind.TheVariants as kind
+use Rattle.spk_nums.specs.declared.kinds.FrameKind.TheVariants as frame_kind
+use Rattle.spk_nums.specs.declared.calls.Make.{Make}
+use Rattle.spk_nums.specs.declared.calls.Make.TheVariants as make
+use Rattle.spk_nums.specs.declared.calls.Call.{Call}
+use Rattle.spk_nums.specs.declared.calls.Call.TheVariants.{Look, Copy, Remove, Grow, Shrink, Retype, Make as make_call, Map, Unmap, Touch, Gate, Kill, Call as call_gate, Ret, Switch, Transfer, Delegate, Test}
+use Rattle.spk_nums.specs.declared.replies.Reply.{Reply}
+use Rattle.spk_nums.specs.declared.replies.Reply.TheVariants as reply
+use Rattle.kernel_rules.specs.State.{TcapFields, Blank, Untyped, User, Kernel, Live, Thing, PlaceOf, FrameOf, NumberOf, State, comp_in, thread_in, tcap_in, thread_of, comp_of}
+use Rattle.kernel_rules.specs.References.{refs}
+use Rattle.kernel_rules.specs.Access.{Slot, Named, found, not_found, root_at, Target, Under, InRoot, place_at, held_in, usable, reached, has_no_slot, root_slot, holds_link, any, only, root, own}
+use Rattle.kernel_rules.specs.GracePeriods.{MayWait, MayBeUnflushed}
+use Rattle.kernel_rules.specs.CapabilityCalls.{leaf_for, is_live, epoch_of}
+use Rattle.kernel_rules.specs.MemoryCalls.{translation_of}
+
+-- One of a list is P.
+abbrev pub OneIs : {A : Type 0} → (A → Type 0) → List A → Type 0
+OneIs P [] = ⊥
+OneIs P (x ∷ xs) = P x ⊎ OneIs P xs
+
+-- What core c may use at a slot that it reaches.
+abbrev pub used_at : State → ℕ → Option Slot → Option Capability
+used_at s c None = None
+used_at s c (Some at) = usable s c at
+
+-- What number n of core c leads to.
+abbrev pub leads : State → ℕ → ℕ → Option Capability
+leads s c n = used_at s c (reached s c (own s c n))
+
+-- It is found where it leads to a capability of a wanted kind.
+abbrev pub as_wanted : (Kind → Bool) → Option Capability → Named
+as_wanted wanted None = not_found
+as_wanted wanted (Some k) = if wanted k.kind then found k else not_found
+
+abbrev pub leads_as : State → ℕ → ℕ → (Kind → Bool) → Named
+leads_as s c n wanted = as_wanted wanted (leads s c n)
+
+-- A number that a call names, with the kinds that its capability may have.
+pub record Name : Type 0 where
+  pub number : ℕ
+  pub wanted : Kind → Bool
+
+abbrev pub name : ℕ → (Kind → Bool) → Name
+name n wanted = record { number = n; wanted = wanted }
+
+-- The numbers that a call names.
+abbrev pub names_made : Make → List Name
+names_made (make.Thread comp) = name comp (only kind.Comp) ∷ []
+names_made (make.Comp table pages live) = name table (only kind.Table) ∷ name pages (only kind.Pages) ∷ []
+names_made _ = []
+
+abbrev pub names_of : State → ℕ → Call → List Name
+names_of s c (Look a) = name a any ∷ []
+names_of s c (Copy a t b) = name a any ∷ name t (only kind.Table) ∷ []
+names_of s c (Remove t b) = name t (only kind.Table) ∷ []
+names_of s c (Grow t i l) = name t root ∷ name l (leaf_for (leads_as s c t root)) ∷ []
+names_of s c (Shrink t i) = name t root ∷ []
+names_of s c (Retype r f k) = name r (only kind.Range) ∷ []
+names_of s c (make_call what r f t b) = name r (only kind.Range) ∷ name t (only kind.Table) ∷ names_made what
+names_of s c (Map p v r f w) = name p (only kind.Pages) ∷ name r (only kind.Range) ∷ []
+names_of s c (Unmap p v) = name p (only kind.Pages) ∷ []
+names_of s c (Gate k t b) = name k (only kind.Comp) ∷ name t (only kind.Table) ∷ []
+names_of s c (Kill k) = name k (only kind.Comp) ∷ []
+names_of s c (call_gate g) = name g (only kind.Gate) ∷ []
+names_of s c (Switch h q) = name h (only kind.Thread) ∷ name q (only kind.Tcap) ∷ []
+names_of s c (Transfer a b m) = name a (only kind.Tcap) ∷ name b (only kind.Tcap) ∷ []
+names_of s c (Delegate a b m) = name a (only kind.Tcap) ∷ name b (only kind.Tcap) ∷ []
+names_of s c (Test a b) = name a (only kind.Tcap) ∷ name b (only kind.Tcap) ∷ []
+names_of s c _ = []
+
+-- The place that a call fills, in the table or pages that it names.
+abbrev pub fills_at : State → ℕ → Call → Option Target
+fills_at s c (Copy a t b) = Some (Under (leads_as s c t (only kind.Table)) b)
+fills_at s c (Grow t i l) = Some (InRoot (leads_as s c t root) i)
+fills_at s c (make_call what r f t b) = Some (Under (leads_as s c t (only kind.Table)) b)
+fills_at s c (Map p v r f w) = Some (Under (leads_as s c p (only kind.Pages)) v)
+fills_at s c (Gate k t b) = Some (Under (leads_as s c t (only kind.Table)) b)
+fills_at s c _ = None
+
+-- The place that a call empties.
+abbrev pub empties_at : State → ℕ → Call → Option Target
+empties_at s c (Remove t b) = Some (Under (leads_as s c t (only kind.Table)) b)
+empties_at s c (Shrink t i) = Some (InRoot (leads_as s c t root) i)
+empties_at s c (Unmap p v) = Some (Under (leads_as s c p (only kind.Pages)) v)
+empties_at s c _ = None
+
+-- Core c reaches the place, and it holds nothing; or it holds something.
+abbrev pub HoldsNothing : State → ℕ → Target → Type 0
+HoldsNothing s c target = IsSomeAnd (reached s c target) λ at. IsFalse (is_some (held_in (place_at s at)))
+
+abbrev pub HoldsSomething : State → ℕ → Target → Type 0
+HoldsSomething s c target = IsSomeAnd (reached s c target) λ at. IsTrue (is_some (held_in (place_at s at)))
+
+-- `no-slot`: a name, a target or a page has no slot.
+abbrev pub PageTooLarge : Call → Type 0
+PageTooLarge (Touch v) = 4095 < v
+PageTooLarge _ = ⊥
+
+abbrev pub HasNoSlot : State → ℕ → Call → Type 0
+HasNoSlot s c call =
+    OneIs (λ n. IsTrue (has_no_slot s (own s c n.number))) (names_of s c call)
+    ⊎ (IsSomeAnd (fills_at s c call) (λ t. IsTrue (has_no_slot s t))
+    ⊎ (IsSomeAnd (empties_at s c call) (λ t. IsTrue (has_no_slot s t))
+    ⊎ PageTooLarge call))
+
+-- `empty`: the place of a name, or the place to be emptied, is reached and holds nothing.
+abbrev pub IsEmpty : State → ℕ → Call → Type 0
+IsEmpty s c call =
+    OneIs (λ n. HoldsNothing s c (own s c n.number)) (names_of s c call)
+    ⊎ IsSomeAnd (empties_at s c call) (HoldsNothing s c)
+
+-- `wrong-cap`: a name leads to a capability of a kind that is not wanted.
+abbrev pub IsWrong : State → ℕ → Call → Type 0
+IsWrong s c call = OneIs (λ n. IsSomeAnd (leads s c n.number) λ k. IsFalse (n.wanted k.kind)) (names_of s c call)
+
+-- `occupied`: the place to be filled is reached and holds something; or the liveness number of a new component is live.
+abbrev pub NumberIs : (ℕ → Type 0) → Call → Type 0
+NumberIs P (make_call (make.Comp table pages live) r f t b) = P live
+NumberIs P _ = ⊥
+
+abbrev pub IsOccupied : State → ℕ → Call → Type 0
+IsOccupied s c call = IsSomeAnd (fills_at s c call) (HoldsSomething s c) ⊎ NumberIs (λ l. IsTrue (is_live (s.number l))) call
+
+-- `quiescing e` and `unflushed e`: core e may still be in a call that may use what is to be taken again, or may not have flushed
+-- it: the place to be filled, the frame to be untyped; and for `quiescing` the liveness number of a new component.
+abbrev pub UntypedIs : (ℕ → Type 0) → Call → Type 0
+UntypedIs P (Retype r f frame_kind.Untyped) = P f
+UntypedIs P _ = ⊥
+
+abbrev pub PlaceIs : State → ℕ → Call → (Thing → Type 0) → Type 0
+PlaceIs s c call P = IsSomeAnd (fills_at s c call) λ target. IsSomeAnd (reached s c target) λ at. P (PlaceOf at.node at.index)
+
+abbrev pub IsQuiescing : State → ℕ → Call → ℕ → Type 0
+IsQuiescing s c call e =
+    PlaceIs s c call (λ x. MayWait s c x e)
+    ⊎ (UntypedIs (λ f. MayWait s c (FrameOf f) e) call ⊎ NumberIs (λ l. MayWait s c (NumberOf l) e) call)
+
+abbrev pub IsUnflushed : State → ℕ → Call → ℕ → Type 0
+IsUnflushed s c call e = PlaceIs s c call (λ x. MayBeUnflushed s x e) ⊎ UntypedIs (λ f. MayBeUnflushed s (FrameOf f) e) call
+
+-- `out-of-range`: the range is found, and the frame is below its first or past its last.
+pub record LiesOutside (range : Named) (f : ℕ) : Type 0 where
+  pub found : IsTrue range.found
+  pub outside : (f < range.frame) ⊎ (range.frame + range.arg ≤ f)
+
+abbrev pub IsOutside : State → ℕ → Call → Type 0
+IsOutside s c (Retype r f k) = LiesOutside (leads_as s c r (only kind.Range)) f
+IsOutside s c (make_call what r f t b) = LiesOutside (leads_as s c r (only kind.Range)) f
+IsOutside s c (Map p v r f w) = LiesOutside (leads_as s c r (only kind.Range)) f
+IsOutside s c _ = ⊥
+
+-- `frame-kind`: the frame is one of the machine's, and not what the call makes use of; or already untyped.
+abbrev pub IsOtherKind : State → Call → Type 0
+IsOtherKind s (Retype r f frame_kind.Untyped) = (f < s.limits.frames) × (s.frame f ≡ Untyped)
+IsOtherKind s (Retype r f k) = (f < s.limits.frames) × (s.frame f ≢ Untyped)
+IsOtherKind s (make_call what r f t b) = (f < s.limits.frames) × (s.frame f ≢ Kernel Blank)
+IsOtherKind s (Map p v r f w) = (f < s.limits.frames) × (s.frame f ≢ User)
+IsOtherKind s _ = ⊥
+
+-- `referenced n`: the frame to be untyped has references, and n is their number.
+abbrev pub IsReferenced : State → Call → ℕ → Type 0
+IsReferenced s call n = UntypedIs (λ f. (0 < refs s f) × (n ≡ refs s f)) call
+
+-- `not-empty`: the frame to be untyped is a thread deeper than one component, or a temporal capability with budget, or a place
+-- of it holds something.
+pub record HeldIn (s : State) (f : ℕ) : Type 0 where
+  pub index : ℕ
+  pub below : index < 64
+  pub held : IsTrue (is_some (held_in (s.place f index)))
+
+abbrev pub IsNotEmpty : State → Call → Type 0
+IsNotEmpty s call = UntypedIs (λ f. (1 < length (thread_in (s.frame f)).stack) ⊎ ((0 < (tcap_in (s.frame f)).budget) ⊎ HeldIn s f)) call
+
+-- `dead`: the component to be killed, or that of the gate to be called, is found, and its liveness number is not live in its
+-- epoch, or the gate's.
+pub record IsDeadIn (s : State) (name : Named) (epoch : ℕ) : Type 0 where
+  pub found : IsTrue name.found
+  pub dead : (f : ℕ) → s.number (comp_in (s.frame name.frame)).number ≢ Live epoch f
+
+abbrev pub IsDead : State → ℕ → Call → Type 0
+IsDead s c (Kill k) = IsDeadIn s (leads_as s c k (only kind.Comp)) (comp_in (s.frame (leads_as s c k (only kind.Comp)).frame)).epoch
+IsDead s c (call_gate g) = IsDeadIn s (leads_as s c g (only kind.Gate)) (leads_as s c g (only kind.Gate)).arg
+IsDead s c _ = ⊥
+
+-- `deep` and `bottom`: the current thread is in 16 components and calls, or in one and returns.
+abbrev pub IsDeep : State → ℕ → Call → Type 0
+IsDeep s c (call_gate g) = 16 ≤ length (thread_of s c).stack
+IsDeep s c _ = ⊥
+
+abbrev pub IsAtBottom : State → ℕ → Call → Type 0
+IsAtBottom s c Ret = length (thread_of s c).stack ≤ 1
+IsAtBottom s c _ = ⊥
+
+-- `running e`: the thread to be switched to is found, and runs on core e.
+abbrev pub IsRunning : State → ℕ → Call → ℕ → Type 0
+IsRunning s c (Switch h q) e =
+    IsTrue (leads_as s c h (only kind.Thread)).found × ((thread_in (s.frame (leads_as s c h (only kind.Thread)).frame)).runs_on ≡ Some e)
+IsRunning s c _ e = ⊥
+
+-- Both temporal capabilities are found, and P holds of their frames.
+pub record BothAre (a b : Named) (P : ℕ → ℕ → Type 0) : Type 0 where
+  pub first : IsTrue a.found
+  pub second : IsTrue b.found
+  pub both : P a.frame b.frame
+
+-- The temporal capability that number n leads to, and the one of a frame.
+abbrev pub tcap_named : State → ℕ → ℕ → Named
+tcap_named s c n = leads_as s c n (only kind.Tcap)
+
+abbrev pub tcap_of : State → ℕ → TcapFields
+tcap_of s f = tcap_in (s.frame f)
+
+-- `same`: both names lead to one temporal capability.
+abbrev pub AreSame : State → ℕ → Call → Type 0
+AreSame s c (Transfer a b m) = BothAre (tcap_named s c a) (tcap_named s c b) (λ f g. f ≡ g)
+AreSame s c (Delegate a b m) = BothAre (tcap_named s c a) (tcap_named s c b) (λ f g. f ≡ g)
+AreSame s c (Test a b) = BothAre (tcap_named s c a) (tcap_named s c b) (λ f g. f ≡ g)
+AreSame s c _ = ⊥
+
+-- `short n`: the first is found; its budget is n, and less than the amount.
+pub record HasLess (s : State) (a : Named) (m n : ℕ) : Type 0 where
+  pub found : IsTrue a.found
+  pub is : n ≡ (tcap_of s a.frame).budget
+  pub less : n < m
+
+abbrev pub IsShort : State → ℕ → Call → ℕ → Type 0
+IsShort s c (Transfer a b m) n = HasLess s (tcap_named s c a) m n
+IsShort s c (Delegate a b m) n = HasLess s (tcap_named s c a) m n
+IsShort s c _ n = ⊥
+
+-- `unlike`: the two lists of a transfer differ. `too-many`: the merged list of a delegation has more than 8 schedulers.
+abbrev pub AreUnlike : State → ℕ → Call → Type 0
+AreUnlike s c (Transfer a b m) =
+    BothAre (tcap_named s c a) (tcap_named s c b) (λ f g. (tcap_of s f).qualities ≢ (tcap_of s g).qualities)
+AreUnlike s c _ = ⊥
+
+abbrev pub AreTooMany : State → ℕ → Call → Type 0
+AreTooMany s c (Delegate a b m) =
+    BothAre (tcap_named s c a) (tcap_named s c b) (λ f g. 8 < length (merged (tcap_of s f).qualities (tcap_of s g).qualities))
+AreTooMany s c _ = ⊥
+
+-- `fault`: the page is not cached; its root entry holds no link, or its place is reached and holds nothing.
+abbrev pub HasNoPage : State → ℕ → ℕ → ℕ → Type 0
+HasNoPage s c pages v =
+    (translation_of (s.core c).cached pages v ≡ None)
+    × (v ≤ 4095)
+    × (IsFalse (holds_link (place_at s (root_slot pages v))) ⊎ HoldsNothing s c (Under (root_at pages) v))
+
+abbrev pub IsFault : State → ℕ → Call → Type 0
+IsFault s c (Touch v) = HasNoPage s c (comp_of s c).pages v
+IsFault s c _ = ⊥
+
+-- `epochs-spent`: the last epoch of a new component's liveness number is the limit.
+abbrev pub AreEpochsSpent : State → Call → Type 0
+AreEpochsSpent s call = NumberIs (λ l. epoch_of (s.number l) ≡ s.limits.epochs) call
+
+-- The cause of a refusal. Of `raced` and `busy` the steps of the call tell; an `ok` has none.
+abbrev pub HasCause : State → ℕ → Call → Reply → Type 0
+HasCause s c call reply.NoSlot = HasNoSlot s c call
+HasCause s c call reply.Empty = IsEmpty s c call
+HasCause s c call reply.WrongCap = IsWrong s c call
+HasCause s c call reply.Occupied = IsOccupied s c call
+HasCause s c call (reply.Quiescing e) = IsQuiescing s c call e
+HasCause s c call (reply.Unflushed e) = IsUnflushed s c call e
+HasCause s c call reply.FrameKind = IsOtherKind s call
+HasCause s c call reply.OutOfRange = IsOutside s c call
+HasCause s c call (reply.Referenced n) = IsReferenced s call n
+HasCause s c call reply.NotEmpty = IsNotEmpty s call
+HasCause s c call reply.Dead = IsDead s c call
+HasCause s c call reply.Deep = IsDeep s c call
+HasCause s c call reply.Bottom = IsAtBottom s c call
+HasCause s c call (reply.Running e) = IsRunning s c call e
+HasCause s c call (reply.Short n) = IsShort s c call n
+HasCause s c call reply.Unlike = AreUnlike s c call
+HasCause s c call reply.TooMany = AreTooMany s c call
+HasCause s c call reply.Same = AreSame s c call
+HasCause s c call reply.EpochsSpent = AreEpochsSpent s call
+HasCause s c call reply.Fault = IsFault s c call
+HasCause s c call reply.CallsSpent = s.limits.calls ≤ (s.core c).counted
+HasCause s c call reply.Raced = Unit {0}
+HasCause s c call (reply.Busy e) = Unit {0}
+HasCause s c call (reply.Ok v) = Unit {0}
