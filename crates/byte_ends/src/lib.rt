@@ -1,11 +1,11 @@
 //! Sources and sinks of bytes.
 //!
 //! Contracts see what a source has left and what a sink holds, where it tells that, and a count
-//! of faults that never falls. A read or a write fails only where the count rose in that call; a
-//! count that stands at its last value counts as risen.
+//! of faults that never falls. A read or a write that fails raises the count, and one that goes well
+//! leaves it as it was; a count that stands at its last value counts as risen.
 #![tactic(auto)]
 
-ghost use Rattle.std.specs.Prelude.{◌≡◌, ℕ, ◌≤◌, List, [], length, take, Option, IfOk, OnErr};
+ghost use Rattle.std.specs.Prelude.{◌≡◌, ℕ, ◌≤◌, List, [], length, take, Option, IfOk, OnOk, OnErr};
 ghost use Rattle.byte_ends.specs.Ends.{HasRisen, Takes, Adds};
 
 mod memory;
@@ -34,6 +34,7 @@ pub trait Source {
         ensures fits { IfOk result (λ k. k ≤ length buf.old) }
         ensures taken { IfOk result (λ k. Takes k (left self.old) (left self.new) buf.old buf.new) }
         ensures kept { OnErr result (left self.new ≡ left self.old) }
+        ensures steady { OnOk result (faults self.new ≡ faults self.old) }
         ensures failed { OnErr result (HasRisen (faults self.old) (faults self.new)) }
         ensures count { faults self.old ≤ faults self.new };
 }
@@ -53,6 +54,7 @@ pub trait Sink {
         ensures goes { IfOk result (λ k. k ≡ 0 → piece.now ≡ []) }
         ensures added { IfOk result (λ k. Adds (take k piece.now) (held self.old) (held self.new)) }
         ensures kept { OnErr result (held self.new ≡ held self.old) }
+        ensures steady { OnOk result (faults self.new ≡ faults self.old) }
         ensures failed { OnErr result (HasRisen (faults self.old) (faults self.new)) }
         ensures count { faults self.old ≤ faults self.new };
 }

@@ -55,7 +55,7 @@ step_to c enters move found decides returns = record {
 abbrev pub core_at : Core → InFlight → ℕ → Stage → Core
 core_at core f made stage = record core { made = made; flight = Some (went f stage) }
 
--- The core behind a step is in its ranges, and the word of the step is one of the machine, by the one name of its place.
+-- The core after a step is in its ranges, and the word of the step is one of the machine, by the one name of its place.
 pub record Lands (setup : Setting) (core : Core) (w : Word) : Type 0 where
   pub fits : IsCore core
   pub is_in : IsIn (shape_of setup) w

@@ -59,7 +59,7 @@ step_at c enters move found said = record {
 abbrev pub step_of : ℕ → Option Call → Core → ℕ → Step
 step_of c enters core found = step_at c enters (move_of core) found (told_of_step core (told_of (move_of core) found))
 
--- The core behind it.
+-- The core after it.
 abbrev pub core_after : Core → ℕ → Core
 core_after core found = absorbed core (told_of (move_of core) found)
 

@@ -55,7 +55,7 @@ entered_waits : (o : Option Call) (s : State) (c d : ℕ) (x : Thing) → ((stat
 entered_waits None s c d x = refl
 entered_waits (Some call) s c d x = refl
 
--- A step behind which its core's call is open neither decides nor returns.
+-- A step after which its core's call is open neither decides nor returns.
 stays_open : (d q : Option Reply) (p : Phase) (call : Call) → after_return q (after_decide d p) ≡ Open call → (d ≡ None) × (q ≡ None) × (p ≡ Open call)
 stays_open None None p call is = (refl, refl, is)
 stays_open (Some r) None Out call is = absurd (cc)

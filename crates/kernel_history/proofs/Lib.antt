@@ -16,6 +16,7 @@ pub mod Awaits
 pub mod Markings
 pub mod AloneCalls
 pub mod Laws
+pub mod Races
 pub mod Sums
 pub mod StartRefs
 pub mod Fillings

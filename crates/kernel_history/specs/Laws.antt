@@ -1,10 +1,12 @@
 -- Laws of legal traces, each the contract of a function of this crate.
-use Rattle.std.specs.Prelude.{◌≡◌, ◌+◌, ◌==◌, ◌&&◌, ◌++◌, ℕ, if◌then◌else◌, [], ◌∷◌, length, Option, Some, None, is_some}
+use Rattle.std.specs.Prelude.{◌≡◌, ◌≢◌, ◌⊎◌, ◌||◌, ◌+◌, ◌==◌, ◌&&◌, ◌++◌, ℕ, if◌then◌else◌, [], ◌∷◌, length, Option, Some, None, is_some}
 use Rattle.spk_nums.specs.declared.replies.Reply.{Reply}
 use Rattle.spk_nums.specs.declared.replies.Reply.TheVariants as reply
 use Rattle.spk_nums.specs.Setting.{Setting}
+use Rattle.word_map.specs.Word.{Word, same_word}
+use Rattle.word_map.specs.Moves.{word_of, left_of}
 use Rattle.kernel_rules.specs.Runs.{after, IsRun}
-use Rattle.kernel_history.specs.Trace.{Step, Trace, phase, state_after, calls_of}
+use Rattle.kernel_history.specs.Trace.{Step, Trace, phase, state_after, calls_of, IfNot}
 use Rattle.kernel_history.specs.Stamps.{is_in}
 use Rattle.kernel_history.specs.Events.{events_of}
 use Rattle.kernel_history.specs.Legal.{IsLegal}
@@ -52,3 +54,18 @@ IsNotHeldUp (Some r) = Unit {0}
 -- A call that is alone loses no race, is held up by no core and waits for none.
 abbrev pub AloneGoesOn : Type 0
 AloneGoesOn = (setup : Setting) (t : Trace) (e : Step) → IsLegal setup (e ∷ t) → IsAlone t e → IsNotHeldUp e.decides
+
+-- The step e, of another core than c on this word, has changed the word.
+pub record ChangesWord (c : ℕ) (e : Step) (w : Word) : Type 0 where
+  pub other : e.core ≢ c
+  pub here : word_of e.move ≡ w
+  pub changed : left_of e.move e.found ≢ e.found
+
+-- Since core c's last step on the word, in the call that it entered last, another core has changed the word.
+abbrev pub WasChanged : Trace → ℕ → Word → Type 0
+WasChanged [] c w = ⊥
+WasChanged (e ∷ t) c w = ChangesWord c e w ⊎ IfNot (c == e.core && (same_word w (word_of e.move) || is_some e.enters)) (WasChanged t c w)
+
+-- A call is answered `raced` only where another core has changed the word that it read, since it read it.
+abbrev pub RacedByAnother : Type 0
+RacedByAnother = (setup : Setting) (t : Trace) (e : Step) → IsLegal setup (e ∷ t) → e.decides ≡ Some reply.Raced → WasChanged t e.core (word_of e.move)

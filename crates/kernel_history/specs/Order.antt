@@ -49,12 +49,12 @@ pub record GoesThrough (event : Step → Option Reply) (c : ℕ) (t u : Trace) :
   pub before : HaveNone event steps
   pub ends : IsSome (event last)
 
--- Core c is not ready behind any of these steps, which follow t.
+-- Core c is not ready after any of these steps, which follow t.
 abbrev pub StaysUnready : (Trace → ℕ → Bool) → ℕ → Trace → Trace → Type 0
 StaysUnready ready c t [] = Unit {0}
 StaysUnready ready c t (e ∷ s) = StaysUnready ready c t s × IsFalse (ready (e ∷ (s ++ t)) c)
 
--- From t to u: steps of core c, up to the first behind which it is ready.
+-- From t to u: steps of core c, up to the first after which it is ready.
 pub record GoesUntilReady (ready : Trace → ℕ → Bool) (c : ℕ) (t u : Trace) : Type 0 where
   pub steps : Trace
   pub last : Step
@@ -101,7 +101,7 @@ FollowsCores lists zero t u = u ≡ t
 FollowsCores lists (suc n) t u = (m : Trace) × FollowsCores lists n t m × RunsOut lists n m u
 
 -- The trace goes by the items of the order, and then each core to the end of its list. `ready` says of each trace which cores
--- are ready behind it: their next step is the one at which their call's `ok` is decided, or the call has decided.
+-- are ready after it: their next step is the one at which their call's `ok` is decided, or the call has decided.
 pub record Follows (ready : Trace → ℕ → Bool) (lists : List (List Call)) (items : List Item) (w : Trace) : Type 0 where
   pub ordered : Trace
   pub by_items : FollowsItems ready lists items [] ordered

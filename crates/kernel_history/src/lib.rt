@@ -6,7 +6,7 @@
 mod boot;
 
 ghost use Rattle.kernel_history.specs.BootLaws.{BootRepresentsStart};
-ghost use Rattle.kernel_history.specs.Laws.{LegalRuns, EventsDetermine, LegalUpTo, OneCallAtATime, AloneGoesOn};
+ghost use Rattle.kernel_history.specs.Laws.{LegalRuns, EventsDetermine, LegalUpTo, OneCallAtATime, AloneGoesOn, RacedByAnother};
 
 pub use boot::boot_words;
 pub use spk_nums;
@@ -25,8 +25,8 @@ pub fn legal_runs()
     ensures { LegalRuns }
 {}
 
-/// What a trace leaves is determined by its events: the state, and of each core whether it is between calls, in an open call or
-/// in a decided one.
+/// What a trace leaves is determined by its events: the state, and of each core whether it is between calls, or else its call,
+/// and the reply where that is decided.
 #[tactic(auto, using(crate::proofs::Laws::events_determine))]
 pub fn events_determine()
     ensures { EventsDetermine }
@@ -50,4 +50,10 @@ pub fn one_call_at_a_time()
 #[tactic(auto, using(crate::proofs::Laws::alone_goes_on))]
 pub fn alone_goes_on()
     ensures { AloneGoesOn }
+{}
+
+/// In a legal trace a call is answered `raced` only where another core has changed the word that it read, since it read it.
+#[tactic(auto, using(crate::proofs::Races::raced_by_another))]
+pub fn raced_by_another()
+    ensures { RacedByAnother }
 {}

@@ -1,6 +1,7 @@
 -- What is due is the status that the input has.
-use Rattle.std.proofs.Common.{◌≡◌, ◌⊎◌, ℕ, List, [], ◌∷◌, Option, Some, None, Result, Err, refl, sym, ap, subst, ◌∙◌, arith, inl, inr}
-use Rattle.std.specs.Prelude.{◌≤◌, length, codes}
+use Rattle.std.proofs.Common.{◌≡◌, ◌⊎◌, ℕ, List, [], ◌∷◌, Option, Some, None, Result, Err, Bool, refl, sym, ap, subst, ◌∙◌, arith, inl, inr, eqb}
+use Rattle.std.specs.Prelude.{◌≤◌, if◌then◌else◌, length, codes}
+use lib.Pointwise.{pointwise}
 use Rattle.byte_ends.specs.Ends.{HasRisen, Adds}
 use Rattle.script_tokens.specs.Words.{words_of}
 use Rattle.script_reader.specs.Readings.{Row, Meaning, First_fault, rows_of, script_of}
@@ -10,8 +11,8 @@ use Rattle.speck_run.specs.declared.words.Command.TheVariants.{Replay, Print}
 use Rattle.speck_run.specs.declared.top.Status.{Status}
 use Rattle.speck_run.specs.declared.top.Status.TheVariants.{Done, Words, Script, ReadFault, WriteFault, Memory, TooLong, NotBuilt}
 use Rattle.speck_run.specs.Ends.{GivesAll}
-use Rattle.speck_run.specs.Script.{IsTaken, IsLeft, IsAnswer}
-use Rattle.speck_run.specs.Top.{Asked, Asks, IsDue, IsDueOf, IsDone, InputAnswers, CarriesOut, IsStatusOf, Answers, IsAccepted, Writes}
+use Rattle.speck_run.specs.Script.{IsTaken, IsLeft, IsAnswer, IsMade}
+use Rattle.speck_run.specs.Top.{CommandLine, texts_of, Asked, Asks, IsDue, IsDueOf, IsDone, InputMakes, CarriesOut, IsStatusOf, Answers, IsAccepted, Writes}
 
 -- There is one first line that is not carried out, or none.
 first_same : (rows : List Row) (a b : Option ℕ) → IsFirstUnbuiltOf rows a → IsFirstUnbuiltOf rows b → a ≡ b
@@ -27,32 +28,36 @@ Reading = Result Meaning First_fault
 same_fault : (f g : First_fault) (r : Reading) → r ≡ Err f → r ≡ Err g → f ≡ g
 same_fault f g r p q = cc
 
--- The words are those of one command.
-other_word : codes "replay" ∷ [] ≡ codes "print" ∷ [] → ⊥
-other_word e = cc
+-- The words are those of one command: the one that their text tells.
+is_word : List (List ℕ) → List ℕ → Bool
+is_word texts word = pointwise (λ x y. pointwise eqb x y) texts (word ∷ [])
 
-pub asks_same : (words : List (List ℕ)) (a b : Command) → Asks words a → Asks words b → a ≡ b
-asks_same words Replay Replay p q = refl
-asks_same words Replay Print p q = absurd (other_word (sym p ∙ q))
-asks_same words Print Replay p q = absurd (other_word (sym q ∙ p))
-asks_same words Print Print p q = refl
+told : List (List ℕ) → Option Command
+told texts = if is_word texts (codes "replay") then Some Replay else if is_word texts (codes "print") then Some Print else None
+
+asks_told : (words : CommandLine) (command : Command) → Asks words command → told (texts_of words) ≡ Some command
+unfolding told is_word
+asks_told words Replay p = ap told p
+asks_told words Print p = ap told p
+
+some_same : (a b : Command) → Some a ≡ Some b → a ≡ b
+some_same a b e = cc
+
+pub asks_same : (words : CommandLine) (a b : Command) → Asks words a → Asks words b → a ≡ b
+asks_same words a b p q = some_same a b (sym (asks_told words a p) ∙ asks_told words b q)
 
 -- An input that a command takes is a script, and no line of it is left.
 taken_fault : (command : Command) (bytes : List ℕ) (f : First_fault) → IsTaken command bytes → script_of bytes ≡ Err f → ⊥
-taken_fault Replay bytes f p q = let e = sym q ∙ p.is_script in cc
-taken_fault Print bytes f p q = let e = sym q ∙ p.is_script in cc
+taken_fault c bytes f p q = let e = sym q ∙ p.is_script in cc
 
 taken_left : (command : Command) (bytes : List ℕ) (line : ℕ) → IsTaken command bytes → IsLeft command bytes line → ⊥
-taken_left Replay bytes line p q = let e = first_same (rows_of (words_of bytes)) None (Some line) p.built q.first in cc
-taken_left Print bytes line p q = q
+taken_left c bytes line p q = let e = first_same (rows_of (words_of bytes)) None (Some line) (p.supported q.calls) q.first in cc
 
 left_fault : (command : Command) (bytes : List ℕ) (line : ℕ) (f : First_fault) → IsLeft command bytes line → script_of bytes ≡ Err f → ⊥
-left_fault Replay bytes line f p q = let e = sym q ∙ p.is_script in cc
-left_fault Print bytes line f p q = p
+left_fault c bytes line f p q = let e = sym q ∙ p.is_script in cc
 
 left_same : (command : Command) (bytes : List ℕ) (line line' : ℕ) → IsLeft command bytes line → IsLeft command bytes line' → NotBuilt line ≡ NotBuilt line'
-left_same Replay bytes line line' p q = let e = first_same (rows_of (words_of bytes)) (Some line) (Some line') p.first q.first in cc
-left_same Print bytes line line' p q = absurd p
+left_same c bytes line line' p q = let e = first_same (rows_of (words_of bytes)) (Some line) (Some line') p.first q.first in cc
 
 -- An input has one status under a command.
 status_same : (command : Command) (bytes : List ℕ) (s s' : Status) → IsStatusOf command bytes s → IsStatusOf command bytes s' → s ≡ s'
@@ -94,12 +99,12 @@ status_same c bytes (NotBuilt line) TooLong p q = absurd (omega (arith, p.0, q))
 status_same c bytes (NotBuilt line) (NotBuilt line') p q = left_same c bytes line line' p.1 q.1
 
 -- What is due for an input that was read to its end is due.
-pub due_input : (words : List (List ℕ)) (left left' : Option (List ℕ)) (f f' : ℕ) (command : Command) (bytes : List ℕ) (s : Status) (text : List ℕ) → Asks words command →
+pub due_input : (words : CommandLine) (left left' : Option (List ℕ)) (f f' : ℕ) (command : Command) (bytes : List ℕ) (s : Status) (text : List ℕ) → Asks words command →
     GivesAll bytes left left' → length bytes ≤ 1048576 → IsDueOf command bytes s text → IsDue (record { words = words; left = left; left' = left'; faults = f; faults' = f' }) s text
 due_input words left left' f f' command bytes Done text asks input small d = record {
   command = command;
   asks = asks;
-  answers = record { bytes = bytes; input = input; small = small; answer = d };
+  makes = record { bytes = bytes; input = input; small = small; made = d };
 }
 due_input words left left' f f' command bytes Words text asks input small d = absurd d
 due_input words left left' f f' command bytes (Script line cause) text asks input small d = (
@@ -111,34 +116,36 @@ due_input words left left' f f' command bytes ReadFault text asks input small d 
 due_input words left left' f f' command bytes WriteFault text asks input small d = absurd d
 due_input words left left' f f' command bytes Memory text asks input small d = absurd d
 due_input words left left' f f' command bytes TooLong text asks input small d = absurd d
-due_input words left left' f f' Replay bytes (NotBuilt line) text asks input small d = (asks, record { bytes = bytes; input = input; small = small; unbuilt = d.0 }, d.1)
-due_input words left left' f f' Print bytes (NotBuilt line) text asks input small d = absurd d.0
+due_input words left left' f f' command bytes (NotBuilt line) text asks input small d = (
+  record { command = command; asks = asks; bytes = bytes; input = input; small = small; leaves = d.0 },
+  d.1,
+)
 
 -- What a command makes of an input, it makes of one that it takes.
-answer_taken : (command : Command) (bytes text : List ℕ) → IsAnswer command bytes text → IsTaken command bytes
-answer_taken Replay bytes text d = record { script = d.script; is_script = d.is_script; built = d.built }
-answer_taken Print bytes text d = record { script = d.script; is_script = d.is_script }
+made_taken : (command : Command) (bytes text : List ℕ) → IsMade command (IsAnswer command) bytes text → IsTaken command bytes
+made_taken c bytes text d = record { script = d.script; is_script = d.is_script; supported = d.supported }
 
-module _ (words : List (List ℕ)) (command : Command) (asks : Asks words command) where
+module _ (words : CommandLine) (command : Command) (asks : Asks words command) where
   -- With the command that the words are.
-  pub answers_as : (left left' : Option (List ℕ)) (f f' : ℕ) (text : List ℕ) → IsDone (record { words = words; left = left; left' = left'; faults = f; faults' = f' }) text → InputAnswers command left left' text
-  answers_as left left' f f' text d = subst (λ (c : Command). InputAnswers c left left' text) (asks_same words d.command command d.asks asks) d.answers
+  makes_as : (left left' : Option (List ℕ)) (f f' : ℕ) (text : List ℕ) → IsDone (record { words = words; left = left; left' = left'; faults = f; faults' = f' }) text →
+      InputMakes command (IsAnswer command) left left' text
+  makes_as left left' f f' text d = subst (λ (c : Command). InputMakes c (IsAnswer c) left left' text) (asks_same words d.command command d.asks asks) d.makes
 
   -- What is due for an input that the source tells.
   status_due : (left : List ℕ) (left' : Option (List ℕ)) (f f' : ℕ) (s : Status) (text : List ℕ) →
       IsDue (record { words = words; left = Some left; left' = left'; faults = f; faults' = f' }) s text → IsStatusOf command left s ⊎ (s ≡ ReadFault)
   status_due left left' f f' Done text d =
-      let a = answers_as (Some left) left' f f' text d in
-      inl (subst (λ (l : List ℕ). IsStatusOf command l Done) a.input.all (a.small, answer_taken command a.bytes text a.answer))
+      let a = makes_as (Some left) left' f f' text d in
+      inl (subst (λ (l : List ℕ). IsStatusOf command l Done) a.input.all (a.small, made_taken command a.bytes text a.made))
   status_due left left' f f' Words text d = absurd (d.0 (record { command = command; asks = asks }))
   status_due left left' f f' (Script line cause) text (i, d, t) = inl (subst (λ (l : List ℕ). IsStatusOf command l (Script line cause)) d.input.all (d.small, d.fault))
   status_due left left' f f' ReadFault text d = inr refl
   status_due left left' f f' WriteFault text d = absurd d
   status_due left left' f f' Memory text d = absurd d
   status_due left left' f f' TooLong text (i, d, t) = inl (omega (arith, d.there))
-  status_due left left' f f' (NotBuilt line) text (i, d, t) =
-      inl (subst (λ (c : Command). IsStatusOf c left (NotBuilt line)) (asks_same words Replay command i asks)
-      (subst (λ (l : List ℕ). IsStatusOf Replay l (NotBuilt line)) d.input.all (d.small, d.unbuilt)))
+  status_due left left' f f' (NotBuilt line) text (d, t) =
+      inl (subst (λ (c : Command). IsStatusOf c left (NotBuilt line)) (asks_same words d.command command d.asks asks)
+      (subst (λ (l : List ℕ). IsStatusOf d.command l (NotBuilt line)) d.input.all (d.small, d.leaves)))
 
   answers_of : (left : List ℕ) (s : Status) → IsStatusOf command left s ⊎ (s ≡ ReadFault) → Answers command (Some left) s
   answers_of left s (inl p) = λ due h. inl (status_same command left s due p h)
@@ -161,10 +168,11 @@ module _ (words : List (List ℕ)) (command : Command) (asks : Asks words comman
 
   -- The text of a call that is done, and that the sink has taken.
   pub carried_out : (left left' : Option (List ℕ)) (f f' : ℕ) (s : Status) (text : List ℕ) (held held' : Option (List ℕ)) →
-      IsDue (record { words = words; left = left; left' = left'; faults = f; faults' = f' }) s text → s ≡ Done → Adds text held held' → CarriesOut command left left' held held'
+      IsDue (record { words = words; left = left; left' = left'; faults = f; faults' = f' }) s text → s ≡ Done → Adds text held held' →
+      CarriesOut command (IsAnswer command) left left' held held'
   carried_out left left' f f' s text held held' d e written = record {
     text = text;
-    answers = answers_as left left' f f' text (subst (λ (due : Status). IsDue (record { words = words; left = left; left' = left'; faults = f; faults' = f' }) due text) e d);
+    makes = makes_as left left' f f' text (subst (λ (due : Status). IsDue (record { words = words; left = left; left' = left'; faults = f; faults' = f' }) due text) e d);
     written = written;
   }
 
@@ -181,4 +189,4 @@ writes_due a held held' ReadFault text d w = subst (λ (t : List ℕ). Adds t he
 writes_due a held held' WriteFault text d w = absurd d
 writes_due a held held' Memory text d w = absurd d
 writes_due a held held' TooLong text d w = subst (λ (t : List ℕ). Adds t held held') d.2 w
-writes_due a held held' (NotBuilt line) text d w = subst (λ (t : List ℕ). Adds t held held') d.2 w
+writes_due a held held' (NotBuilt line) text d w = subst (λ (t : List ℕ). Adds t held held') d.1 w

@@ -1,42 +1,46 @@
 -- What the top call answers and writes, and why.
-use Rattle.std.specs.Prelude.{◌≡◌, ◌⊎◌, ◌++◌, ℕ, ◌<◌, ◌≤◌, List, [], ◌∷◌, length, Option, Some, None, codes}
+use Rattle.std.specs.Prelude.{◌≡◌, ◌⊎◌, ◌++◌, ℕ, ◌<◌, ◌≤◌, List, [], ◌∷◌, length, map, Option, Some, None, String, string_bytes, codes}
 use Rattle.std.specs.Fmt.{decimal}
+use Rattle.std.specs.Global.{Global, Vec}
 use Rattle.byte_ends.specs.Ends.{HasRisen, Adds}
 use Rattle.script_reader.specs.declared.cause.Cause.{Cause}
 use Rattle.script_reader.specs.Causes.{cause_text}
+use Rattle.script_reader.specs.Readings.{Meaning}
 use Rattle.speck_run.specs.declared.words.Command.{Command}
 use Rattle.speck_run.specs.declared.words.Command.TheVariants.{Replay, Print}
 use Rattle.speck_run.specs.declared.top.Status.{Status}
 use Rattle.speck_run.specs.declared.top.Status.TheVariants.{Done, Words, Script, ReadFault, WriteFault, Memory, TooLong, NotBuilt}
 use Rattle.speck_run.specs.Ends.{Gives, GivesAll, AddsFront}
-use Rattle.speck_run.specs.Script.{IsFirstFault, IsUnbuilt, IsAnswer, IsTaken, IsLeft}
+use Rattle.speck_run.specs.Script.{IsFirstFault, IsAnswer, IsTaken, IsLeft, IsMade}
 
--- The word of a command.
-abbrev pub command_word : Command → List ℕ
-command_word Replay = codes "replay"
-command_word Print = codes "print"
+-- A command line: the words after the program's name.
+abbrev pub CommandLine : Type 0
+CommandLine = Vec (String Global)
 
--- The words are the word of the command alone.
-abbrev pub Asks : List (List ℕ) → Command → Type 0
-Asks words command = words ≡ command_word command ∷ []
+abbrev pub texts_of : CommandLine → List (List ℕ)
+texts_of words = map (λ word. string_bytes word) words.items
 
--- The words are that of a command alone.
-pub record IsCommand (words : List (List ℕ)) : Type 0 where
+-- The words ask for the command.
+abbrev pub Asks : CommandLine → Command → Type 0
+Asks words Replay = texts_of words ≡ codes "replay" ∷ []
+Asks words Print = texts_of words ≡ codes "print" ∷ []
+
+-- The words ask for some command.
+pub record IsCommand (words : CommandLine) : Type 0 where
   pub command : Command
   pub asks : Asks words command
 
--- The command that the words are, or none where they are that of no command.
-abbrev pub IsCommandOf : List (List ℕ) → Option Command → Type 0
+-- The command for which the words ask, or none where they ask for no command.
+abbrev pub IsCommandOf : CommandLine → Option Command → Type 0
 IsCommandOf words (Some command) = Asks words command
 IsCommandOf words None = IsCommand words → ⊥
 
--- The source has given its input to the end, at most 1,048,576 bytes; the command takes it, and the text is what it makes
--- of it.
-pub record InputAnswers (command : Command) (left left' : Option (List ℕ)) (text : List ℕ) : Type 0 where
+-- The source has given its input to the end, at most 1,048,576 bytes; the command takes it, and the text is this of it.
+pub record InputMakes (command : Command) (Is : Meaning → List ℕ → Type 0) (left left' : Option (List ℕ)) (text : List ℕ) : Type 0 where
   pub bytes : List ℕ
   pub input : GivesAll bytes left left'
   pub small : length bytes ≤ 1048576
-  pub answer : IsAnswer command bytes text
+  pub made : IsMade command Is bytes text
 
 -- The source has given its input to the end, at most 1,048,576 bytes; it is no script, and this is its first fault.
 pub record InputFaults (left left' : Option (List ℕ)) (line : ℕ) (cause : Cause) : Type 0 where
@@ -45,18 +49,20 @@ pub record InputFaults (left left' : Option (List ℕ)) (line : ℕ) (cause : Ca
   pub small : length bytes ≤ 1048576
   pub fault : IsFirstFault bytes line cause
 
--- The source has given its input to the end, at most 1,048,576 bytes; it is a script, and this is the first of its lines that
--- is not carried out today.
-pub record InputUnbuilt (left left' : Option (List ℕ)) (line : ℕ) : Type 0 where
+-- The words ask for a command that leaves the input, which the source has given to the end, at most 1,048,576 bytes: this
+-- line of it is the first that is not supported today.
+pub record InputLeft (words : CommandLine) (left left' : Option (List ℕ)) (line : ℕ) : Type 0 where
+  pub command : Command
+  pub asks : Asks words command
   pub bytes : List ℕ
   pub input : GivesAll bytes left left'
   pub small : length bytes ≤ 1048576
-  pub unbuilt : IsUnbuilt bytes line
+  pub leaves : IsLeft command bytes line
 
--- The command takes the input, and the sink has taken the whole text that it makes of it.
-pub record CarriesOut (command : Command) (left left' held held' : Option (List ℕ)) : Type 0 where
+-- The command takes the input, and the sink has taken a whole text, which is this of the script that the input is.
+pub record CarriesOut (command : Command) (Is : Meaning → List ℕ → Type 0) (left left' held held' : Option (List ℕ)) : Type 0 where
   pub text : List ℕ
-  pub answers : InputAnswers command left left' text
+  pub makes : InputMakes command Is left left' text
   pub written : Adds text held held'
 
 -- The line that is written for a status, or the text for `Done`.
@@ -77,17 +83,17 @@ not_built_line line = codes "line " ++ (decimal line ++ codes ": not built yet\n
 
 -- What a call was asked and what its source gave.
 pub record Asked : Type 0 where
-  pub words : List (List ℕ)
+  pub words : CommandLine
   pub left : Option (List ℕ)
   pub left' : Option (List ℕ)
   pub faults : ℕ
   pub faults' : ℕ
 
--- The words are a command, and the text is what it makes of the input.
+-- The words ask for a command, and the text is what it makes of the input.
 pub record IsDone (a : Asked) (text : List ℕ) : Type 0 where
   pub command : Command
   pub asks : Asks a.words command
-  pub answers : InputAnswers command a.left a.left' text
+  pub makes : InputMakes command (IsAnswer command) a.left a.left' text
 
 -- The status is due and the text is due with it: the cause of the status stands, and the text is its line or what the
 -- command makes of the input. Words are judged first, then reading, then the script.
@@ -97,14 +103,14 @@ IsDue a Words text = (IsCommand a.words → ⊥) × (text ≡ words_line)
 IsDue a ReadFault text = IsCommand a.words × HasRisen a.faults a.faults' × (text ≡ read_line)
 IsDue a TooLong text = IsCommand a.words × Gives 1048577 a.left a.left' × (text ≡ long_line)
 IsDue a (Script line cause) text = IsCommand a.words × InputFaults a.left a.left' line cause × (text ≡ script_line line cause)
-IsDue a (NotBuilt line) text = Asks a.words Replay × InputUnbuilt a.left a.left' line × (text ≡ not_built_line line)
+IsDue a (NotBuilt line) text = InputLeft a.words a.left a.left' line × (text ≡ not_built_line line)
 IsDue a WriteFault text = ⊥
 IsDue a Memory text = ⊥
 
 -- What is due under a command for an input that was read to its end: what the command makes of it, or the line of its first
--- fault, or that of the first line that is not carried out today.
+-- fault, or that of the first line that is not supported today.
 abbrev pub IsDueOf : Command → List ℕ → Status → List ℕ → Type 0
-IsDueOf command bytes Done text = IsAnswer command bytes text
+IsDueOf command bytes Done text = IsMade command (IsAnswer command) bytes text
 IsDueOf command bytes (Script line cause) text = IsFirstFault bytes line cause × (text ≡ script_line line cause)
 IsDueOf command bytes (NotBuilt line) text = IsLeft command bytes line × (text ≡ not_built_line line)
 IsDueOf command bytes _ text = ⊥
@@ -128,7 +134,7 @@ Writes a held held' WriteFault = WritesFront a held held'
 Writes a held held' Memory = held' ≡ held
 
 -- The status that an input has under a command where nothing fails: it is too long; or it is no script, and has a first
--- fault; or it is a script with a line that is not carried out today, which `replay` leaves; or the command takes it.
+-- fault; or it is a script that the command leaves; or the command takes it.
 abbrev pub IsStatusOf : Command → List ℕ → Status → Type 0
 IsStatusOf command bytes TooLong = 1048576 < length bytes
 IsStatusOf command bytes (Script line cause) = (length bytes ≤ 1048576) × IsFirstFault bytes line cause
@@ -136,18 +142,18 @@ IsStatusOf command bytes (NotBuilt line) = (length bytes ≤ 1048576) × IsLeft 
 IsStatusOf command bytes Done = (length bytes ≤ 1048576) × IsTaken command bytes
 IsStatusOf command bytes _ = ⊥
 
--- The status is this one, unless a read or a write has failed or memory was wanting.
+-- The status is this one, unless a write has failed or memory has run out.
+abbrev pub IsUnlessUnwritten : Status → Status → Type 0
+IsUnlessUnwritten due status = (status ≡ due) ⊎ ((status ≡ WriteFault) ⊎ (status ≡ Memory))
+
+-- The status is this one, unless a read or a write has failed or memory has run out.
 abbrev pub IsUnlessFault : Status → Status → Type 0
-IsUnlessFault due status = (status ≡ due) ⊎ ((status ≡ ReadFault) ⊎ ((status ≡ WriteFault) ⊎ (status ≡ Memory)))
+IsUnlessFault due status = (status ≡ due) ⊎ IsUnlessUnwritten ReadFault status
 
 -- The status is that of the input under the command, where the source tells it, unless something has failed.
 abbrev pub Answers : Command → Option (List ℕ) → Status → Type 0
 Answers command None status = Unit {0}
 Answers command (Some left) status = (due : Status) → IsStatusOf command left due → IsUnlessFault due status
-
--- The status for other words, unless a write has failed or memory was wanting.
-abbrev pub AnswersWords : Status → Type 0
-AnswersWords status = (status ≡ Words) ⊎ ((status ≡ WriteFault) ⊎ (status ≡ Memory))
 
 -- The source tells at most 1,048,576 bytes that the command takes.
 abbrev pub IsAccepted : Command → Option (List ℕ) → Type 0
@@ -157,7 +163,7 @@ IsAccepted command (Some left) = (length left ≤ 1048576) × IsTaken command le
 -- The text is written and the status stands, or the sink has failed and holds the text's front.
 abbrev pub Finishes : Status → List ℕ → ℕ → ℕ → Option (List ℕ) → Option (List ℕ) → Status → Type 0
 Finishes due text faults faults' held held' status =
-    ((status ≡ due) × Adds text held held') ⊎ ((status ≡ WriteFault) × HasRisen faults faults' × AddsFront text held held')
+    ((status ≡ due) × (faults' ≡ faults) × Adds text held held') ⊎ ((status ≡ WriteFault) × HasRisen faults faults' × AddsFront text held held')
 
 -- The number with which the program ends.
 abbrev pub status_number : Status → ℕ

@@ -1,6 +1,6 @@
 //! Reads a source to its end, and writes a text to a sink.
 
-ghost use Rattle.std.specs.Prelude.{◌≡◌, ℕ, ◌≤◌, length, IfOk, OnOk, OnErr, IsErrOf};
+ghost use Rattle.std.specs.Prelude.{◌≡◌, ◌⊎◌, ℕ, ◌≤◌, length, IfOk, OnOk, OnErr, IsErrOf};
 ghost use Rattle.byte_ends.specs.Ends.{HasRisen, Adds};
 ghost use Rattle.speck_run.specs.Ends.{GivesAll, Gives, GivesAtMost, AddsFront};
 ghost use Rattle.speck_run.specs.declared.ends.ReadError.TheVariants as errors;
@@ -34,7 +34,7 @@ impl From<AllocError> for ReadError {
 }
 
 /// Reads all the bytes that are left. At most one byte past the limit is taken. Each turn takes at
-/// least one byte or ends.
+/// least one byte or ends. A read that fails ends the reading: it is not tried again.
 pub fn read_all<S: Source>(alloc: Global, source: &mut S) -> Result<Vec<u8>, ReadError>
     ensures all { IfOk result (λ bytes. GivesAll bytes.items (S.left source.old) (S.left source.new)) }
     ensures small { IfOk result (λ bytes. length bytes.items ≤ 1048576) }
@@ -42,6 +42,7 @@ pub fn read_all<S: Source>(alloc: Global, source: &mut S) -> Result<Vec<u8>, Rea
     ensures long { IsErrOf result errors.TooLong → Gives 1048577 (S.left source.old) (S.left source.new) }
     ensures most { GivesAtMost 1048577 (S.left source.old) (S.left source.new) }
     ensures count { S.faults source.old ≤ S.faults source.new }
+    ensures steady { IsErrOf result errors.Failed ⊎ (S.faults source.new ≡ S.faults source.old) }
 {
     let mut bytes: Vec<u8> = Vec::new(alloc);
     let mut buf = [0u8; CHUNK];
@@ -59,12 +60,13 @@ pub fn read_all<S: Source>(alloc: Global, source: &mut S) -> Result<Vec<u8>, Rea
 }
 
 /// Writes the text, piece by piece. Each turn writes at least one byte or ends. A write that fails
-/// leaves the text's front in the sink.
+/// ends the writing, and leaves the text's front in the sink: it is not tried again.
 pub fn write_all<K: Sink>(sink: &mut K, text: &[u8]) -> Result<(), Failed>
     ensures all { OnOk result (Adds text.now (K.held sink.old) (K.held sink.new)) }
     ensures front { AddsFront text.now (K.held sink.old) (K.held sink.new) }
     ensures failed { OnErr result (HasRisen (K.faults sink.old) (K.faults sink.new)) }
     ensures count { K.faults sink.old ≤ K.faults sink.new }
+    ensures steady { OnOk result (K.faults sink.new ≡ K.faults sink.old) }
 {
     let mut at = 0;
     'writing: while at < text.len() {

@@ -1,11 +1,13 @@
 //! The top call: words, then reading, then the script, then writing.
 
-ghost use Rattle.std.specs.Prelude.{◌≡◌, ℕ, ◌≤◌, ◌⊎◌, ◌↔◌, IsTrue, IfOk, map, length, string_bytes};
+ghost use Rattle.std.specs.Prelude.{◌≡◌, ℕ, ◌<◌, ◌≤◌, ◌⊎◌, ◌↔◌, IsTrue, IfOk, map, length, string_bytes};
 ghost use Rattle.byte_ends.specs.Ends.{HasRisen, Adds};
+ghost use Rattle.lone_kernel.specs.GivenSteps.{GivenSteps};
+ghost use Rattle.script_printer.specs.Printing.{printed};
 ghost use Rattle.speck_run.specs.declared.words.Command.{Command};
 ghost use Rattle.speck_run.specs.declared.words.Command.TheVariants as commands;
 ghost use Rattle.speck_run.specs.Ends.{Gives, GivesAll, GivesAtMost};
-ghost use Rattle.speck_run.specs.Top.{Asks, IsCommand, IsDue, IsDueOf, InputFaults, InputUnbuilt, CarriesOut, Writes, Answers, AnswersWords, IsAccepted, Finishes, script_line, not_built_line, status_number};
+ghost use Rattle.speck_run.specs.Top.{Asks, IsCommand, IsDue, IsDueOf, InputFaults, InputLeft, CarriesOut, Writes, Answers, IsUnlessUnwritten, IsAccepted, Finishes, script_line, not_built_line, status_number};
 
 use crate::ends::{ReadError, read_all, write_all};
 use crate::replay::replay;
@@ -29,7 +31,7 @@ pub enum Status {
     ReadFault,
     /// The sink failed.
     WriteFault,
-    /// Memory was wanting.
+    /// Memory has run out.
     Memory,
     /// The source gave more than 1,048,576 bytes.
     TooLong,
@@ -131,14 +133,15 @@ fn judge_input(alloc: Global, command: Command, bytes: &[u8]) -> Result<Answer, 
 // What is due: words are judged first, then reading, then the script.
 fn judge<S: Source>(alloc: Global, words: &Vec<String>, source: &mut S) -> Result<Answer, Memory>
     ensures due { IfOk result (λ answer. IsDue record {
-      words = map string_bytes words.now.items;
+      words = words.now;
       left = S.left source.old;
       left' = S.left source.new;
       faults = S.faults source.old;
       faults' = S.faults source.new;
     } answer.status (string_bytes answer.text)) }
     ensures most { GivesAtMost 1048577 (S.left source.old) (S.left source.new) }
-    ensures unread { (IsCommand (map string_bytes words.now.items) → ⊥) → source.new ≡ source.old }
+    ensures unread { (IsCommand words.now → ⊥) → source.new ≡ source.old }
+    ensures steady { IfOk result (λ answer. (answer.status ≡ Status.ReadFault) ⊎ (S.faults source.new ≡ S.faults source.old)) }
 {
     let Some(command) = command_of(words) else {
         return line(alloc, Status::Words, "words not understood\n");
@@ -174,55 +177,57 @@ fn finish<K: Sink>(sink: &mut K, answer: &Answer) -> Status
 /// Under `print` each script is written in its printed form, and the status is `Done`.
 /// Each of the other statuses writes its line in place of the text. A sink that fails is
 /// `WriteFault`, and holds a prefix of what was due. `Memory` may come in place of any status, and
-/// has written nothing.
+/// has written nothing. No read and no write that failed is tried again.
 pub fn speck<S: Source, K: Sink>(
     alloc: Global,
     words: &Vec<String>,
     source: &mut S,
     sink: &mut K,
 ) -> Status
-    // What is written is the text of given steps under `replay`, and the printed form under `print`.
-    ensures given { (command : Command) → Asks (map string_bytes words.now.items) command
-        → result ≡ Status.Done
-        → CarriesOut command (S.left source.old) (S.left source.new) (K.held sink.old) (K.held sink.new) }
-    ensures done { result ≡ Status.Done → IsCommand (map string_bytes words.now.items) }
+    // What each command has written where it is done.
+    ensures replay { Asks words.now commands.Replay → result ≡ Status.Done
+        → CarriesOut commands.Replay (λ script text. GivenSteps script.setup script.lists script.order text)
+        (S.left source.old) (S.left source.new) (K.held sink.old) (K.held sink.new) }
+    ensures print { Asks words.now commands.Print → result ≡ Status.Done
+        → CarriesOut commands.Print (λ script text. text ≡ printed script)
+        (S.left source.old) (S.left source.new) (K.held sink.old) (K.held sink.new) }
+    ensures done { result ≡ Status.Done → IsCommand words.now }
 
     // Words are judged first: for others nothing is read.
-    ensures words { result ≡ Status.Words → IsCommand (map string_bytes words.now.items) → ⊥ }
-    ensures other_words { (IsCommand (map string_bytes words.now.items) → ⊥) → AnswersWords result }
-    ensures unread { (IsCommand (map string_bytes words.now.items) → ⊥) → source.new ≡ source.old }
+    ensures words { result ≡ Status.Words → IsCommand words.now → ⊥ }
+    ensures other_words { (IsCommand words.now → ⊥) → IsUnlessUnwritten Status.Words result }
+    ensures unread { (IsCommand words.now → ⊥) → source.new ≡ source.old }
 
     // Then reading, then the script.
-    ensures answers { (command : Command) → Asks (map string_bytes words.now.items) command
-        → Answers command (S.left source.old) result }
+    ensures answers { (command : Command) → Asks words.now command → Answers command (S.left source.old) result }
     ensures script { (line : ℕ) (cause : Cause) → result ≡ Status.Script line cause
-        → IsCommand (map string_bytes words.now.items)
-        × InputFaults (S.left source.old) (S.left source.new) line cause }
-    // Only `replay` is answered so.
+        → IsCommand words.now × InputFaults (S.left source.old) (S.left source.new) line cause }
     ensures not_built { (line : ℕ) → result ≡ Status.NotBuilt line
-        → Asks (map string_bytes words.now.items) commands.Replay
-        × InputUnbuilt (S.left source.old) (S.left source.new) line }
+        → InputLeft words.now (S.left source.old) (S.left source.new) line }
     ensures long { result ≡ Status.TooLong
-        → IsCommand (map string_bytes words.now.items)
-        × Gives 1048577 (S.left source.old) (S.left source.new) }
+        → IsCommand words.now × Gives 1048577 (S.left source.old) (S.left source.new) }
     ensures most { GivesAtMost 1048577 (S.left source.old) (S.left source.new) }
+
+    // A read fault comes where the source has failed, and where it has failed nothing else is told.
     ensures read { result ≡ Status.ReadFault
-        → IsCommand (map string_bytes words.now.items)
-        × HasRisen (S.faults source.old) (S.faults source.new) }
+        → IsCommand words.now × HasRisen (S.faults source.old) (S.faults source.new) }
+    ensures failed_read { S.faults source.old < S.faults source.new → IsUnlessUnwritten Status.ReadFault result }
     ensures sure_source { ((s : S) → S.faults s ≡ 0) → result ≡ Status.ReadFault → ⊥ }
 
     // Then writing.
     ensures writes { Writes record {
-      words = map string_bytes words.now.items;
+      words = words.now;
       left = S.left source.old;
       left' = S.left source.new;
       faults = S.faults source.old;
       faults' = S.faults source.new;
     } (K.held sink.old) (K.held sink.new) result }
-    ensures write { result ≡ Status.WriteFault
-        → HasRisen (K.faults sink.old) (K.faults sink.new) }
+
+    // A write fault comes where the sink has failed, and there alone.
+    ensures write { result ≡ Status.WriteFault → HasRisen (K.faults sink.old) (K.faults sink.new) }
+    ensures failed_write { K.faults sink.old < K.faults sink.new → result ≡ Status.WriteFault }
     ensures sure_sink { ((k : K) → K.faults k ≡ 0) → result ≡ Status.WriteFault → ⊥ }
-    ensures complete { (command : Command) → Asks (map string_bytes words.now.items) command
+    ensures complete { (command : Command) → Asks words.now command
         → IsAccepted command (S.left source.old)
         → (HasRisen (S.faults source.old) (S.faults source.new) → ⊥)
         → (HasRisen (K.faults sink.old) (K.faults sink.new) → ⊥)

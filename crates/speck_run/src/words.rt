@@ -1,7 +1,7 @@
 //! The commands, and the words by which they are asked.
 
-ghost use Rattle.std.specs.Prelude.{◌≡◌, [], ◌∷◌, ◌↔◌, IsTrue, map, string_bytes};
-ghost use Rattle.speck_run.specs.Top.{IsCommandOf};
+ghost use Rattle.std.specs.Prelude.{◌≡◌, [], ◌∷◌, ◌↔◌, IsTrue};
+ghost use Rattle.speck_run.specs.Top.{IsCommandOf, texts_of};
 
 /// A command of the program.
 #[derive(Clone, Copy, Debug, PartialEq, Eq)]
@@ -14,7 +14,7 @@ pub enum Command {
 
 // Whether the words are this one alone.
 fn is_alone(words: &Vec<String>, name: &str) -> bool
-    ensures { IsTrue result ↔ (map string_bytes words.now.items ≡ name.now ∷ []) }
+    ensures { IsTrue result ↔ (texts_of words.now ≡ name.now ∷ []) }
 {
     match words.as_slice() {
         [word] => word.as_str() == name,
@@ -24,7 +24,7 @@ fn is_alone(words: &Vec<String>, name: &str) -> bool
 
 /// The command whose word the words are, alone; none for other words.
 pub fn command_of(words: &Vec<String>) -> Option<Command>
-    ensures { IsCommandOf (map string_bytes words.now.items) result }
+    ensures { IsCommandOf words.now result }
 {
     if is_alone(words, "replay") {
         return Some(Command::Replay);

@@ -19,7 +19,7 @@ reading-preserved g c =
     let i = c.reading.invariant in
     let b : length c.reading.buf ≡ 16384 = i.buf in
     let e = c.in-Ok.ensures in
-    let same = c.read.auto.buf in
+    let kept = c.read.auto.buf in
     let m = c.min-room.ensures in
     let n = c.len-in-reading.ensures in
     let k = c.len.ensures in
@@ -27,14 +27,14 @@ reading-preserved g c =
     let fits : c.in-Ok.taken ≤ length c.read.new.buf = let f = e.fits in omega arith in
     let piece = take-append-le c.in-Ok.taken c.read.new.buf (drop c.min-room.result c.reading.buf) fits in
     let len = c.in_ok-extend_from_slice.ensures.len in
-    let rose = e.count in
-    let had = i.count in
+    let same = e.steady in
+    let had = i.steady in
     record {
       size = omega (arith, length-take c.in-Ok.taken (c.read.new.buf ++ drop c.min-room.result c.reading.buf), len, e.fits, length-take c.min-room.result c.reading.buf);
       buf = omega (arith, length-append c.read.new.buf (drop c.min-room.result c.reading.buf), length-take c.min-room.result c.reading.buf, length-drop c.min-room.result c.reading.buf);
       reads = subst (λ x. Reads x (g.S.Source.left c.args.source.now) (g.S.Source.left c.read.new.self)) (sym c.in_ok-extend_from_slice.ensures.items)
           (reads_more c.reading.bytes.items _ _ _ _ _ _ _ i.reads e.taken piece);
-      count = omega arith;
+      steady = omega arith;
     }
 
 pub returns-in_err-extend_from_slice-clause-most : goal.returns-in_err-extend_from_slice-clause-most

@@ -8,7 +8,7 @@ invariant-reading g l = record {
   size : vec_len l.bytes ≤ 1048577;
   buf : length l.buf ≡ 16384;
   reads : Reads l.bytes.items (g.S.Source.left l.initial.source) (g.S.Source.left l.source);
-  count : g.S.Source.faults l.initial.source ≤ g.S.Source.faults l.source;
+  steady : g.S.Source.faults l.source ≡ g.S.Source.faults l.initial.source;
 }
 
 abbrev pub decreases-reading : goal.decreases-reading

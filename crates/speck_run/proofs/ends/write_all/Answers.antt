@@ -8,10 +8,10 @@ writing-preserved g c =
     let e = c.in_ok-written.ensures in
     let within = i.within in
     let f = e.fits in
-    let n = i.count in
-    let m = e.count in
+    let n = i.steady in
+    let m = e.steady in
     record {
       within = omega (arith, f, length-take (length c.args.text.now - c.writing.at) (drop c.writing.at c.args.text.now), length-drop c.writing.at c.args.text.now);
       adds = adds_piece c.writing.at c.in_ok-written.written c.args.text.now _ _ _ _ within refl i.adds e.added;
-      count = omega arith;
+      steady = omega arith;
     }

@@ -1,4 +1,4 @@
-use Rattle.std.proofs.Common.{◌-◌, ◌≤◌, length}
+use Rattle.std.proofs.Common.{◌≡◌, ◌-◌, ◌≤◌, length}
 use Rattle.speck_run.specs.Ends.{AddsFirst}
 use Rattle.speck_run.proofs.ends.write_all.Given as goal
 
@@ -7,7 +7,7 @@ abbrev pub invariant-writing : goal.invariant-writing
 invariant-writing g l = record {
   within : l.at ≤ length l.text;
   adds : AddsFirst l.at l.text (g.K.Sink.held l.initial.sink) (g.K.Sink.held l.sink);
-  count : g.K.Sink.faults l.initial.sink ≤ g.K.Sink.faults l.sink;
+  steady : g.K.Sink.faults l.sink ≡ g.K.Sink.faults l.initial.sink;
 }
 
 abbrev pub decreases-writing : goal.decreases-writing

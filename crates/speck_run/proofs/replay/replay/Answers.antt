@@ -19,8 +19,8 @@ close-requires c =
     let followed = c.follow.ensures in
     let ran = c.run_rest.ensures in
     let r = run c.args.setup.now lists c.args.items.now c.in_ok-kernel.kernel c.follow.new.kernel c.run_rest.new.kernel booted.setup followed.setup ran.setup booted.lists followed.lists ran.lists
-    c.cores.ensures.limits (length-map c.args.lists.items (λ v. v.items) ∙ c.requires.one_each) booted.stands followed.goes ran.goes in
-    all_out c.run_rest.new.kernel r.trace (subst IsSetting (sym (ran.setup ∙ followed.setup ∙ booted.setup)) c.cores.ensures.limits) r.stands r.idle
+    c.cores-cores.ensures.limits (length-map c.args.lists.items (λ v. v.items) ∙ c.requires.one_each) booted.stands followed.goes ran.goes in
+    all_out c.run_rest.new.kernel r.trace (subst IsSetting (sym (ran.setup ∙ followed.setup ∙ booted.setup)) c.cores-cores.ensures.limits) r.stands r.idle
 
 pub returns : goal.returns
 returns c =
@@ -31,7 +31,7 @@ returns c =
     let ran = c.run_rest.ensures in
     let one_each = length-map c.args.lists.items (λ v. v.items) ∙ c.requires.one_each in
     let r = run c.args.setup.now lists c.args.items.now c.in_ok-kernel.kernel c.follow.new.kernel ended booted.setup followed.setup ran.setup booted.lists followed.lists ran.lists
-    c.cores.ensures.limits one_each booted.stands followed.goes ran.goes in
+    c.cores-cores.ensures.limits one_each booted.stands followed.goes ran.goes in
     let closed = c.in_ok-closed.closed in
     let done = c.in_ok-closed.ensures in
     let limits = limits_of ended.setup r.trace in
@@ -50,4 +50,4 @@ returns c =
     ∙ ap (lines_of lists) c.decisions.ensures)
     ∙ ap (λ x. lines_of lists ended.decisions ++ x) c.deref.ensures in
     given c.args.setup.now lists c.args.items.now c.in_ok-kernel.kernel c.follow.new.kernel ended booted.setup followed.setup ran.setup booted.lists followed.lists ran.lists
-    c.cores.ensures.limits one_each booted.stands followed.goes ran.goes made_histories r (string_bytes c.in_ok-tables.tables) (string_bytes c.push_str.new.self) shown is
+    c.cores-cores.ensures.limits one_each booted.stands followed.goes ran.goes made_histories r (string_bytes c.in_ok-tables.tables) (string_bytes c.push_str.new.self) shown is

@@ -1,13 +1,20 @@
-use Rattle.std.proofs.Common.{◌∙◌, sym, subst, inl, inr, map}
-use Rattle.std.specs.Prelude.{string_bytes}
+use Rattle.std.proofs.Common.{◌∙◌, sym, subst, inl, inr}
+use Rattle.speck_run.specs.declared.words.Command.TheVariants as commands
 use Rattle.speck_run.specs.Top.{Asked, Answers, Writes}
 use Rattle.speck_run.proofs.Due.{answers_due, answers_fault, carried_out, completes, writes_due}
 use Rattle.speck_run.proofs.top.speck.Goals as goal
 
-pub returns-in-Ok-clause-given : goal.returns-in-Ok-clause-given
-returns-in-Ok-clause-given g c command asks done =
+pub returns-in-Ok-clause-replay : goal.returns-in-Ok-clause-replay
+returns-in-Ok-clause-replay g c asks done =
     elim c.finish.ensures [
-      | inl p ↦ carried_out (map (λ w. string_bytes w) c.args.words.now.items) command asks (g.S.Source.left c.args.source.now) _ _ _ c.in-Ok.answer.status _ _ _ c.in-Ok.ensures.due (sym p.0 ∙ done) p.1
+      | inl p ↦ carried_out c.args.words.now commands.Replay asks (g.S.Source.left c.args.source.now) _ _ _ c.in-Ok.answer.status _ _ _ c.in-Ok.ensures.due (sym p.0 ∙ done) p.2
+      | inr p ↦ let wrong = sym p.0 ∙ done in cc
+    ]
+
+pub returns-in-Ok-clause-print : goal.returns-in-Ok-clause-print
+returns-in-Ok-clause-print g c asks done =
+    elim c.finish.ensures [
+      | inl p ↦ carried_out c.args.words.now commands.Print asks (g.S.Source.left c.args.source.now) _ _ _ c.in-Ok.answer.status _ _ _ c.in-Ok.ensures.due (sym p.0 ∙ done) p.2
       | inr p ↦ let wrong = sym p.0 ∙ done in cc
     ]
 
@@ -15,21 +22,21 @@ pub returns-in-Ok-clause-answers : goal.returns-in-Ok-clause-answers
 returns-in-Ok-clause-answers g c command asks =
     let left = g.S.Source.left c.args.source.now in
     elim c.finish.ensures [
-      | inl p ↦ subst (Answers command left) (sym p.0) (answers_due (map (λ w. string_bytes w) c.args.words.now.items) command asks left _ _ _ c.in-Ok.answer.status _ c.in-Ok.ensures.due)
+      | inl p ↦ subst (Answers command left) (sym p.0) (answers_due c.args.words.now command asks left _ _ _ c.in-Ok.answer.status _ c.in-Ok.ensures.due)
       | inr p ↦ answers_fault command left c.finish.result (inl p.0)
     ]
 
 pub returns-in-Ok-clause-complete : goal.returns-in-Ok-clause-complete
 returns-in-Ok-clause-complete g c command asks accepted sure_source sure_sink =
     elim c.finish.ensures [
-      | inl p ↦ inl (p.0 ∙ completes (map (λ w. string_bytes w) c.args.words.now.items) command asks (g.S.Source.left c.args.source.now) _ _ _ c.in-Ok.answer.status _ c.in-Ok.ensures.due accepted sure_source)
+      | inl p ↦ inl (p.0 ∙ completes c.args.words.now command asks (g.S.Source.left c.args.source.now) _ _ _ c.in-Ok.answer.status _ c.in-Ok.ensures.due accepted sure_source)
       | inr p ↦ absurd (sure_sink p.1)
     ]
 
 pub returns-in-Ok-clause-writes : goal.returns-in-Ok-clause-writes
 returns-in-Ok-clause-writes g c =
     let asked : Asked = record {
-      words = map (λ w. string_bytes w) c.args.words.now.items;
+      words = c.args.words.now;
       left = g.S.Source.left c.args.source.now;
       left' = g.S.Source.left c.judge.new.source;
       faults = g.S.Source.faults c.args.source.now;
@@ -38,6 +45,6 @@ returns-in-Ok-clause-writes g c =
     let held = g.K.Sink.held c.args.sink.now in
     let held' = g.K.Sink.held c.finish.new.sink in
     elim c.finish.ensures [
-      | inl p ↦ subst (Writes asked held held') (sym p.0) (writes_due asked held held' c.in-Ok.answer.status _ c.in-Ok.ensures.due p.1)
+      | inl p ↦ subst (Writes asked held held') (sym p.0) (writes_due asked held held' c.in-Ok.answer.status _ c.in-Ok.ensures.due p.2)
       | inr p ↦ subst (Writes asked held held') (sym p.0) (record { status = c.in-Ok.answer.status; text = _; due = c.in-Ok.ensures.due; front = p.2 })
     ]
