@@ -12,5 +12,7 @@ pub mod Gates
 pub mod Threads
 pub mod Flushes
 pub mod CachedLaw
+pub mod Spending
+pub mod Looking
 pub mod Rows
 pub mod TwoCores

@@ -1,12 +1,14 @@
 -- Laws of the sequential kernel, each the contract of a function of this crate.
-use Rattle.std.specs.Prelude.{ℕ, ◌≡◌, List, sum_by}
+use Rattle.std.specs.Prelude.{ℕ, ◌≡◌, ◌+◌, ◌==◌, if◌then◌else◌, List, [], ◌∷◌, sum_by}
 use Rattle.spk_nums.specs.Setting.{Setting, IsSetting}
 use Rattle.spk_nums.specs.declared.calls.Call.{Call}
+use Rattle.spk_nums.specs.declared.calls.Call.TheVariants.{Tick}
 use Rattle.spk_nums.specs.declared.replies.Reply.{Reply}
+use Rattle.spk_nums.specs.declared.replies.Reply.TheVariants as reply
 use Rattle.kernel_rules.specs.State.{State}
 use Rattle.kernel_rules.specs.CallRelation.{MayReply}
 use Rattle.kernel_laws.specs.Causes.{HasCause}
-use Rattle.kernel_rules.specs.Runs.{Event, after, IsRun}
+use Rattle.kernel_rules.specs.Runs.{Event, Enters, Decides, Returns, after, IsRun}
 use Rattle.kernel_rules.specs.Laws.{ticks}
 use Rattle.kernel_rules.specs.Ranges.{InRanges}
 
@@ -26,3 +28,28 @@ RangesHold = (setting : Setting) → IsSetting setting → (events : List Event)
 -- In every state, each reply that the relation permits has its cause.
 abbrev pub CausesStand : Type 0
 CausesStand = (s : State) (c : ℕ) (call : Call) (r : Reply) → MayReply s c call r → HasCause s c call r
+
+-- The ticks that a call charges, and those that its decision counts: none where it is answered `calls-spent`.
+abbrev pub ticks_of : Call → ℕ
+ticks_of (Tick n) = n
+ticks_of _ = 0
+
+abbrev pub ticks_counted : Call → Reply → ℕ
+ticks_counted call reply.CallsSpent = 0
+ticks_counted call _ = ticks_of call
+
+-- The ticks that an event counts of core c.
+abbrev pub ticks_by : Event → ℕ → ℕ
+ticks_by (Enters d call) c = 0
+ticks_by (Decides d call r) c = if c == d then ticks_counted call r else 0
+ticks_by (Returns d) c = 0
+
+-- The sum of core c's decided ticks.
+abbrev pub decided_ticks : List Event → ℕ → ℕ
+decided_ticks [] c = 0
+decided_ticks (e ∷ events) c = ticks_by e c + decided_ticks events c
+
+-- In every state that a run reaches, what a core has spent and what it owes sum to its decided ticks.
+abbrev pub SpendingSums : Type 0
+SpendingSums = (setting : Setting) (events : List Event) → IsRun setting events → (c : ℕ)
+    → ((after setting events).core c).spent + ((after setting events).core c).owed ≡ decided_ticks events c

@@ -3,3 +3,4 @@ pub mod Causes
 pub mod Nodes
 pub mod Lives
 pub mod Cached
+pub mod Looking

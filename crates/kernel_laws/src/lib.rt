@@ -2,9 +2,10 @@
 //! of a function. Worked examples of calls, which the checker computes, stand in the proofs.
 #![tactic(auto)]
 
-ghost use Rattle.kernel_laws.specs.Laws.{TicksKept, RangesHold, CausesStand};
+ghost use Rattle.kernel_laws.specs.Laws.{TicksKept, RangesHold, CausesStand, SpendingSums};
 ghost use Rattle.kernel_laws.specs.Nodes.{NodesHoldWhatFits};
 ghost use Rattle.kernel_laws.specs.Cached.{TranslationsStand};
+ghost use Rattle.kernel_laws.specs.Looking.{FoundStays};
 ghost use Rattle.kernel_laws.specs.Lives.{LiveNumbersFit, GatesFit, DeadStays, ThreadsRun};
 
 /// In every state that a run reaches, the budgets of all temporal capabilities and the ticks that all cores have spent sum to
@@ -68,4 +69,17 @@ pub fn threads_run()
 #[tactic(auto, using(crate::proofs::CachedLaw::translations_stand))]
 pub fn translations_stand()
     ensures { TranslationsStand }
+{}
+
+/// In every state that a run reaches, what a core has spent and what it owes sum to the ticks of its decided `tick` calls, but for
+/// those answered `calls-spent`.
+#[tactic(auto, using(crate::proofs::Spending::spending_sums))]
+pub fn spending_sums()
+    ensures { SpendingSums }
+{}
+
+/// In a run, whatever other cores do: what a core in an open call has found stays found, it still reaches and may use what it did
+/// through the nodes of its look-ups, and no other core retypes such a node.
+pub fn found_stays()
+    ensures { FoundStays }
 {}

@@ -1,0 +1,52 @@
+-- What a core in an open call has found, and the nodes through which it looks, while other cores go on.
+use Rattle.std.specs.Prelude.{◌≡◌, ◌≢◌, ◌⊎◌, ℕ, Bool, true, false, List, [], ◌∷◌, ◌++◌, Some, IsTrue}
+use Rattle.spk_nums.specs.Setting.{Setting, IsSetting}
+use Rattle.spk_nums.specs.Capability.{Capability}
+use Rattle.spk_nums.specs.declared.kinds.Kind.{Kind}
+use Rattle.spk_nums.specs.declared.kinds.Kind.TheVariants as kind
+use Rattle.kernel_rules.specs.State.{State, comp_of}
+use Rattle.kernel_rules.specs.Access.{Slot, Named, Under, usable, reached}
+use Rattle.kernel_rules.specs.Rules.{Found, named}
+use Rattle.kernel_rules.specs.Relies.{is_node}
+use Rattle.kernel_rules.specs.Runs.{Event, after, core_of, is_open, phase_of, IsRun}
+
+-- Whether capabilities of a kind name nodes.
+abbrev pub names_nodes : Kind → Bool
+names_nodes kind.Table = true
+names_nodes kind.Leaf = true
+names_nodes kind.Pages = true
+names_nodes kind.Pleaf = true
+names_nodes kind.Link = true
+names_nodes _ = false
+
+-- Core c may look through a node: a root of the component that it works in, or one named by a capability or link that it may use.
+pub record IsNamedBy (s : State) (c f : ℕ) : Type 0 where
+  pub at : Slot
+  pub cap : Capability
+  pub may : usable s c at ≡ Some cap
+  pub kind : IsTrue (names_nodes cap.kind)
+  pub frame : cap.frame ≡ f
+
+abbrev pub LooksThrough : State → ℕ → ℕ → Type 0
+LooksThrough s c f = (f ≡ (comp_of s c).table) ⊎ ((f ≡ (comp_of s c).pages) ⊎ IsNamedBy s c f)
+
+-- From s to t, core c has what it had found: its component, what its names lead to, what it may use and reach through nodes; and
+-- these nodes are the same.
+pub record FindsStill (s t : State) (c : ℕ) : Type 0 where
+  pub comp : comp_of t c ≡ comp_of s c
+  pub names : (n : ℕ) (wanted : Kind → Bool) (k : Capability) → named s c n wanted ≡ Found k → named t c n wanted ≡ Found k
+  pub uses : (at : Slot) (k : Capability) → LooksThrough s c at.node → usable s c at ≡ Some k → usable t c at ≡ Some k
+  pub reaches : (root : Named) (n : ℕ) (at : Slot) → LooksThrough s c root.frame → reached s c (Under root n) ≡ Some at
+      → reached t c (Under root n) ≡ Some at
+  pub nodes : (f : ℕ) → LooksThrough s c f → IsTrue (is_node (s.frame f)) × (t.frame f ≡ s.frame f)
+
+-- The events are all of other cores.
+abbrev pub AreOfOthers : ℕ → List Event → Type 0
+AreOfOthers c [] = Unit {0}
+AreOfOthers c (e ∷ events) = (c ≢ core_of e) × AreOfOthers c events
+
+-- In a run, what a core in an open call has found stays found, and no other core retypes a node through which it looks, whatever
+-- other cores do.
+abbrev pub FoundStays : Type 0
+FoundStays = (setting : Setting) → IsSetting setting → (later earlier : List Event) → IsRun setting (later ++ earlier)
+    → (c : ℕ) → AreOfOthers c later → IsTrue (is_open (phase_of earlier c)) → FindsStill (after setting earlier) (after setting (later ++ earlier)) c
