@@ -2,17 +2,10 @@ pub mod Ticks
 pub mod TicksLaw
 pub mod Lists
 pub mod Shapes
-pub mod Kept
 pub mod RangesLaw
 pub mod Causes
 pub mod NodeSteps
 pub mod NodesLaw
-pub mod Lives
-pub mod Gates
-pub mod Threads
-pub mod Flushes
-pub mod CachedLaw
 pub mod Spending
-pub mod Looking
 pub mod Rows
 pub mod TwoCores

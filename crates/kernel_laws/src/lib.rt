@@ -4,9 +4,6 @@
 
 ghost use Rattle.kernel_laws.specs.Laws.{TicksKept, RangesHold, CausesStand, SpendingSums};
 ghost use Rattle.kernel_laws.specs.Nodes.{NodesHoldWhatFits};
-ghost use Rattle.kernel_laws.specs.Cached.{TranslationsStand};
-ghost use Rattle.kernel_laws.specs.Looking.{FoundStays};
-ghost use Rattle.kernel_laws.specs.Lives.{LiveNumbersFit, GatesFit, DeadStays, ThreadsRun};
 
 /// In every state that a run reaches, the budgets of all temporal capabilities and the ticks that all cores have spent sum to
 /// the grants.
@@ -38,48 +35,9 @@ pub fn nodes_hold_what_fits()
     ensures { NodesHoldWhatFits }
 {}
 
-/// In every state that a run reaches, the frame of a live liveness number has a component of that number and epoch.
-#[tactic(auto, using(crate::proofs::Lives::live_numbers_fit))]
-pub fn live_numbers_fit()
-    ensures { LiveNumbersFit }
-{}
-
-/// In every state that a run reaches, a gate that a place holds, or that a core in an open call may use, has the epoch in which
-/// its component was made.
-#[tactic(auto, using(crate::proofs::Gates::gates_fit))]
-pub fn gates_fit()
-    ensures { GatesFit }
-{}
-
-/// A dead epoch never lives again: a liveness number that is dead after an epoch lives later in higher epochs alone.
-#[tactic(auto, using(crate::proofs::Lives::dead_stays))]
-pub fn dead_stays()
-    ensures { DeadStays }
-{}
-
-/// In every state that a run reaches, a thread runs on a core exactly where it is that core's current one.
-#[tactic(auto, using(crate::proofs::Threads::threads_run))]
-pub fn threads_run()
-    ensures { ThreadsRun }
-{}
-
-/// In every state that a run reaches, each translation that a core has cached stands: its root is a page table's, its frame a
-/// user frame, each referenced or of those whose flush by that core is still awaited; and its root entry and its page entry
-/// still hold the link and the mapping, or that core has decided no flush since their removal.
-#[tactic(auto, using(crate::proofs::CachedLaw::translations_stand))]
-pub fn translations_stand()
-    ensures { TranslationsStand }
-{}
-
 /// In every state that a run reaches, what a core has spent and what it owes sum to the ticks of its decided `tick` calls, but for
 /// those answered `calls-spent`.
 #[tactic(auto, using(crate::proofs::Spending::spending_sums))]
 pub fn spending_sums()
     ensures { SpendingSums }
-{}
-
-/// In a run, whatever other cores do: what a core in an open call has found stays found, it still reaches and may use what it did
-/// through the nodes of its look-ups, and no other core retypes such a node.
-pub fn found_stays()
-    ensures { FoundStays }
 {}

@@ -33,9 +33,9 @@ use Rattle.kernel_rules.proofs.GraceChanges.{grace_by, grace_is, flushed_by}
 use Rattle.kernel_rules.proofs.FrameTurns.{is_typed, TurnsIn, decided_turns}
 use Rattle.kernel_rules.proofs.Releases.{begins_typed, ends_begins}
 use Rattle.kernel_rules.proofs.Ends.{ends_by_rule}
-use Rattle.kernel_laws.specs.Cached.{IsUnflushedBy, IsStillThere}
-use Rattle.kernel_laws.proofs.Kept.{is_kept, Kept, decided_kept}
-use Rattle.kernel_laws.proofs.Gates.{waited}
+use Rattle.state_laws.specs.Cached.{IsUnflushedBy, IsStillThere}
+use Rattle.state_laws.proofs.Kept.{is_kept, Kept, decided_kept}
+use Rattle.state_laws.proofs.Gates.{waited}
 
 -- Where no core is found that has not flushed a thing, none has not.
 none_unflushed : (s : State) (x : Thing) → flushes_of s x ≡ None → (d : ℕ) → d < s.limits.cores → (s.grace x).unflushed d ≡ false

@@ -10,7 +10,7 @@ use Rattle.kernel_rules.specs.Runs.{Event, after, core_of, is_open, phase_by, ph
 use Rattle.kernel_rules.proofs.SoundCalls.{IsOpen}
 use Rattle.kernel_rules.proofs.SoundRuns.{opened, open_is}
 use Rattle.kernel_rules.proofs.Stays.{Stay, stay_same, stay_then, names_node, usable_relies, table_relies, pages_relies, event_stay}
-use Rattle.kernel_laws.specs.Looking.{names_nodes, LooksThrough, AreOfOthers, FoundStays}
+use Rattle.state_laws.specs.Looking.{names_nodes, LooksThrough, AreOfOthers, FoundStays}
 
 -- A core stays open through events of others.
 open_still : (later earlier : List Event) (c : ℕ) → AreOfOthers c later → phase_of (later ++ earlier) c ≡ phase_of earlier c

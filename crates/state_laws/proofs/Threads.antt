@@ -32,7 +32,7 @@ use Rattle.kernel_rules.proofs.SoundCalls.{IsOpen}
 use Rattle.kernel_rules.proofs.SoundRuns.{opened, open_is}
 use Rattle.kernel_rules.proofs.SparesRuns.{runs_of}
 use Rattle.kernel_rules.proofs.Facts.{ChangesFrom, outcome_from, some_inj, none_some}
-use Rattle.kernel_laws.specs.Lives.{ThreadsRun}
+use Rattle.state_laws.specs.Lives.{ThreadsRun}
 
 -- The core on which the thread of a frame runs, if it has one that runs.
 abbrev pub runs_at : Frame → Option ℕ

@@ -33,8 +33,8 @@ use Rattle.kernel_rules.proofs.SoundCalls.{IsOpen}
 use Rattle.kernel_rules.proofs.SoundRuns.{opened, open_is}
 use Rattle.kernel_rules.proofs.Facts.{ChangesFrom, outcome_from, none_parts, when_not, not_not}
 use Rattle.kernel_rules.proofs.Ends.{ends_by_rule}
-use Rattle.kernel_laws.specs.Lives.{IsCompOf, LiveNumbersFit, DeadStays}
-use Rattle.kernel_laws.proofs.Kept.{is_kept, decided_kept}
+use Rattle.state_laws.specs.Lives.{IsCompOf, LiveNumbersFit, DeadStays}
+use Rattle.state_laws.proofs.Kept.{is_kept, decided_kept}
 
 -- An epoch e of a liveness number is past: the number is dead after e or later, or lives in a later one.
 abbrev pub IsPast : ℕ → Liveness → Type 0

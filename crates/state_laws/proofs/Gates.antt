@@ -40,9 +40,9 @@ use Rattle.kernel_rules.proofs.Facts.{ChangesFrom, outcome_from, some_inj, none_
 use Rattle.kernel_rules.proofs.GraceChanges.{grace_by, grace_is, flushed_by}
 use Rattle.kernel_rules.proofs.Ends.{ends_by_rule}
 use Rattle.kernel_rules.proofs.Stays.{name_parts, place_named}
-use Rattle.kernel_laws.specs.Lives.{IsOfEpoch, GatesFit}
-use Rattle.kernel_laws.proofs.Kept.{is_kept, Kept, decided_kept}
-use Rattle.kernel_laws.proofs.Lives.{comp_kept}
+use Rattle.state_laws.specs.Lives.{IsOfEpoch, GatesFit}
+use Rattle.state_laws.proofs.Kept.{is_kept, Kept, decided_kept}
+use Rattle.state_laws.proofs.Lives.{comp_kept}
 
 -- The gates that places hold, and those that open cores may still use, have their component's epoch.
 pub record AreGates (s : State) (o : ℕ → Bool) : Type 0 where

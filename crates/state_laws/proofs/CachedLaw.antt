@@ -39,10 +39,10 @@ use Rattle.kernel_rules.proofs.SparesRuns.{core_same_refs}
 use Rattle.kernel_rules.proofs.Refs.{grace_refs}
 use Rattle.kernel_rules.proofs.Facts.{ChangesFrom, outcome_from, then_parts, or_found, some_inj, none_some, found_inj, refused_found}
 use Rattle.kernel_rules.proofs.Stays.{link_of, fields, pages_relies, usable_guarded, place_named}
-use Rattle.kernel_laws.specs.Cached.{IsStillThere, IsLinkTo, IsMappingOf, IsOrWas, Stands, TranslationsStand}
+use Rattle.state_laws.specs.Cached.{IsStillThere, IsLinkTo, IsMappingOf, IsOrWas, Stands, TranslationsStand}
 use Rattle.kernel_laws.proofs.NodeSteps.{IsFitted}
 use Rattle.kernel_laws.proofs.NodesLaw.{runs_fit, leaf_fits, pages_leaf, fit_node, held_is, mapped_page}
-use Rattle.kernel_laws.proofs.Flushes.{frame_stays, there_stays, place_unflushed, place_holds, IsWaited, decided_waited}
+use Rattle.state_laws.proofs.Flushes.{frame_stays, there_stays, place_unflushed, place_holds, IsWaited, decided_waited}
 
 -- All of a list.
 all_map : {A : Type 0} (P Q : A → Type 0) (xs : List A) → ((x : A) → P x → Q x) → AllByRecursion P xs → AllByRecursion Q xs

@@ -1,5 +1,0 @@
-use Rattle.kernel_laws.proofs.Looking.{found_stays}
-use Rattle.kernel_laws.proofs.found_stays.Goals as goal
-
-pub returns : goal.returns
-returns c = found_stays

@@ -1,0 +1,46 @@
+//! Laws of the states that runs of the sequential kernel reach, which no other crate needs: liveness numbers, gates and threads,
+//! cached translations, and what an open call has found. Each is the contract of a function.
+#![tactic(auto)]
+
+ghost use Rattle.state_laws.specs.Lives.{LiveNumbersFit, GatesFit, DeadStays, ThreadsRun};
+ghost use Rattle.state_laws.specs.Cached.{TranslationsStand};
+ghost use Rattle.state_laws.specs.Looking.{FoundStays};
+
+/// In every state that a run reaches, the frame of a live liveness number has a component of that number and epoch.
+#[tactic(auto, using(crate::proofs::Lives::live_numbers_fit))]
+pub fn live_numbers_fit()
+    ensures { LiveNumbersFit }
+{}
+
+/// In every state that a run reaches, a gate that a place holds, or that a core in an open call may use, has the epoch in which
+/// its component was made.
+#[tactic(auto, using(crate::proofs::Gates::gates_fit))]
+pub fn gates_fit()
+    ensures { GatesFit }
+{}
+
+/// A dead epoch never lives again: a liveness number that is dead after an epoch lives later in higher epochs alone.
+#[tactic(auto, using(crate::proofs::Lives::dead_stays))]
+pub fn dead_stays()
+    ensures { DeadStays }
+{}
+
+/// In every state that a run reaches, a thread runs on a core exactly where it is that core's current one.
+#[tactic(auto, using(crate::proofs::Threads::threads_run))]
+pub fn threads_run()
+    ensures { ThreadsRun }
+{}
+
+/// In every state that a run reaches, each translation that a core has cached stands: its root is a page table's, its frame a
+/// user frame, each referenced or of those whose flush by that core is still awaited; and its root entry and its page entry
+/// still hold the link and the mapping, or that core has decided no flush since their removal.
+#[tactic(auto, using(crate::proofs::CachedLaw::translations_stand))]
+pub fn translations_stand()
+    ensures { TranslationsStand }
+{}
+
+/// In a run, whatever other cores do: what a core in an open call has found stays found, it still reaches and may use what it did
+/// through the nodes of its look-ups, and no other core retypes such a node.
+pub fn found_stays()
+    ensures { FoundStays }
+{}
