@@ -1,0 +1,157 @@
+//! Committing a count.
+//!
+//! A call that has acquired a count commits it behind its decision: with the change that the decision made to the
+//! references, and with its stamp where a reference was released. After a refusal it commits the change 0.
+
+ghost use Rattle.std.specs.Prelude.{◌≡◌, ◌<◌, ℕ, ℤ, pos, None};
+ghost use Rattle.spk_nums.specs.declared.steps.StageEnd.TheVariants.{Done};
+ghost use Rattle.frame_words.specs.Count.{NumberFits, word_of_count};
+ghost use Rattle.word_map.specs.Word.{CountAt};
+ghost use Rattle.word_map.specs.Places.{size_of};
+ghost use Rattle.word_map.specs.Moves.{op_of, place_in, StoreOf};
+ghost use Rattle.stage_pins.specs.Counts.{unheld, changed, later};
+ghost use Rattle.stage_pins.specs.Acquire.{pinned_at};
+ghost use Rattle.stage_pins.specs.Commit.{SettleFits, settled_word, settle_move};
+
+use crate::pin::Pinned;
+use frame_words::{CountWord, Hold};
+use spk_nums::{StageEnd, Stamp, WordOp};
+use word_map::Layout;
+
+/// The commit of an acquired count, before its one step.
+#[derive(Clone, Copy, PartialEq, Eq, Debug)]
+pub struct Settle {
+    /// The acquired count.
+    pub pin: Pinned,
+    /// By how much the call has changed the references that the core counts.
+    pub change: i32,
+    /// The stamp that the call has drawn, where it released a reference.
+    pub stamp: Option<Stamp>,
+}
+
+impl Settle {
+    /// The commit of an acquired count with this change, and with a stamp where a reference was released.
+    #[inline]
+    pub fn new(pin: Pinned, change: i32, stamp: Option<Stamp>) -> Settle
+        ensures { result ≡ record { pin = pin; change = change; stamp = stamp } }
+    {
+        Settle { pin, change, stamp }
+    }
+
+    /// The step: the store of the count word, held by no core. A count that would leave its field stays at the
+    /// field's end, and a stamp is never replaced by an earlier one. The frame and the core are below the layout's.
+    #[inline]
+    pub fn next(&self, layout: &Layout) -> WordOp
+        requires { SettleFits layout.now self.now }
+        ensures step { result ≡ op_of layout.now (settle_move self.now) }
+        ensures below { place_in result < size_of layout.now }
+    {
+        let word = self.word();
+        WordOp::Store {
+            at: layout.count_at(self.pin.frame, self.pin.core),
+            word: word.pack(),
+        }
+    }
+
+    /// Takes the step, a store: the count is committed, whatever is found.
+    #[inline]
+    pub fn take(&mut self, _layout: &Layout, _found: u64) -> StageEnd<()>
+        ensures end { result ≡ Done tt }
+        ensures after { self.new ≡ self.old }
+    {
+        StageEnd::Done(())
+    }
+
+    // The word that is committed.
+    #[inline]
+    fn word(&self) -> CountWord
+        requires { NumberFits self.now.pin.word.count }
+        ensures word { result ≡ settled_word self.now }
+        ensures range { NumberFits result.count }
+    {
+        CountWord {
+            hold: Hold::Unheld,
+            count: changed(self.pin.word.count, self.change),
+            stamp: later(self.pin.word.stamp, self.stamp),
+        }
+    }
+}
+
+// A count after a change; it stays within its field.
+#[inline]
+fn changed(count: i32, change: i32) -> i32
+    ensures value { result ≡ changed count change }
+    ensures range { NumberFits result }
+{
+    let sum = i64::from(count) + i64::from(change);
+    if sum < -(1 << 30) {
+        -(1 << 30)
+    } else if sum < 1 << 30 {
+        sum as i32
+    } else {
+        (1 << 30) - 1
+    }
+}
+
+// The later of a word's stamp and one that was drawn, if one was.
+#[inline]
+fn later(stamp: Stamp, drawn: Option<Stamp>) -> Stamp
+    ensures { result ≡ later stamp drawn }
+{
+    match drawn {
+        None => stamp,
+        Some(drawn) => {
+            if stamp.number() < drawn.number() {
+                drawn
+            } else {
+                stamp
+            }
+        }
+    }
+}
+
+/// With no change and no stamp a commit gives back the word that was found.
+pub fn gives_back_what_it_found()
+    ensures { (frame core stamp : ℕ) (count : ℤ) → NumberFits count → settle_move (record { pin = pinned_at frame core count stamp; change = pos 0; stamp = None }) ≡ StoreOf (CountAt frame core) (word_of_count (unheld count stamp)) }
+{}
+
+#[cfg(test)]
+mod tests {
+    use super::*;
+    use spk_nums::{CoreNo, FrameNo};
+
+    // A count that core 1 has acquired, and its place on a machine of two cores and eight frames.
+    fn pinned(count: i32) -> Pinned
+        requires { NumberFits count }
+        ensures { result ≡ record { frame = 3; core = 1; word = unheld count 5 } }
+    {
+        let word = CountWord {
+            hold: Hold::Unheld,
+            count,
+            stamp: Stamp::new(5),
+        };
+        Pinned {
+            frame: FrameNo::new(3),
+            core: CoreNo::new(1),
+            word,
+        }
+    }
+
+    #[test]
+    fn commits_the_change_and_the_later_stamp(rt: HostRuntime) {
+        let rows = [
+            (2, 1, None, 0x0400_0000_3000_0005),
+            (2, -3, Some(Stamp::new(9)), 0x03ff_ffff_f000_0009),
+            (2, 0, Some(Stamp::new(4)), 0x0400_0000_2000_0005),
+            (0x3fff_ffff, 1, None, 0x07ff_ffff_f000_0005),
+            (-0x4000_0000, -1, None, 0x0000_0000_0000_0005),
+        ];
+        if let Some(layout) = Layout::new(2, 8) {
+            for (count, change, stamp, word) in rows {
+                let mut settle = Settle::new(pinned(count), change, stamp);
+                assert_eq!(rt; settle.next(&layout), WordOp::Store { at: 526, word });
+                assert_eq!(rt; settle.take(&layout, word), StageEnd::Done(()));
+            }
+        }
+    }
+}
