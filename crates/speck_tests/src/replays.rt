@@ -499,14 +499,44 @@ fn faults_have_their_statuses(rt: HostRuntime) -> Result<(), Fail> {
         read_fails: 1,
         ..AMPLE
     };
+    // These ends would go on after their one failure.
+    let second_read = Ends {
+        read_most: 10,
+        read_fails: 2,
+        ..AMPLE
+    };
+    let first_write = Ends {
+        write_fails: 1,
+        ..AMPLE
+    };
     let rows = [
-        (second_write, Status::WriteFault, FRONT),
-        (full, Status::WriteFault, "frame 0 ta"),
-        (first_read, Status::ReadFault, "read failed\n"),
+        (
+            "the second write fails",
+            second_write,
+            Status::WriteFault,
+            FRONT,
+        ),
+        ("the sink is full", full, Status::WriteFault, "frame 0 ta"),
+        ("the first write fails", first_write, Status::WriteFault, ""),
+        (
+            "the first read fails",
+            first_read,
+            Status::ReadFault,
+            "read failed\n",
+        ),
+        (
+            "the second read fails",
+            second_read,
+            Status::ReadFault,
+            "read failed\n",
+        ),
     ];
     assert_eq!(rt; FRONT.len(), 100);
-    for (ends, status, text) in rows {
-        assert!(rt; answers(alloc, &["replay"], ALONE.as_bytes(), &ends, status, text)?);
+    for (what, ends, status, text) in rows {
+        assert!(rt;
+            answers(alloc, &["replay"], ALONE.as_bytes(), &ends, status, text)?,
+            "{what}"
+        );
     }
     Ok(())
 }
