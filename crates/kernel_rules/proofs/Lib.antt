@@ -19,4 +19,5 @@ pub mod SparesRuns
 pub mod Stays
 pub mod Ends
 pub mod FrameTurns
+pub mod Examples
 pub mod Releases

@@ -45,7 +45,7 @@ pub record LimitsFit (l : state.Limits) : Type 0 where
   pub some_epoch : 1 ≤ l.epochs
   pub most_epochs : l.epochs < 2 ^ 16
 
--- Each place, frame, liveness number, core and thing of the machine has its key.
+-- Each place, frame, liveness number, core and thing of the machine has its key. Nothing is said of further keys.
 pub record IsWhole (t : Maps) : Type 0 where
   pub fits : LimitsFit t.limits
   pub places : HasKeys (64 * t.limits.frames) t.places
@@ -95,7 +95,8 @@ grace_in t (state.PlaceOf f i) = grace_or_none (at_place t.place_graces f i)
 grace_in t (state.FrameOf f) = grace_or_none (at t.frame_graces f)
 grace_in t (state.NumberOf l) = grace_or_none (at t.number_graces l)
 
--- The state that the maps stand for. Past the machine's frames and cores it has nothing.
+-- The state that the maps stand for, with nothing at a key that does not stand. What it has past the machine's frames and cores
+-- is that of no machine: two states are compared by what the machine has (`SameState`).
 unfoldable pub state_of : Maps → state.State
 state_of t = record {
   place = λ f i. place_or_free (at_place t.places f i);
