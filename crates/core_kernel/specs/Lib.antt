@@ -6,3 +6,4 @@ pub mod Turns
 pub mod Calls
 pub mod Runs
 pub mod Whole
+pub mod TakenSteps
