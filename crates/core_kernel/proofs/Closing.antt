@@ -181,8 +181,8 @@ module _ (setup : Setting) (table : TableValue CoreRun) (booted : IsBooted setup
                 (ap (λ l. l.frames) (limits_of setup (trace_of setup t))) (ap (λ l. l.cores) (limits_of setup (trace_of setup t)))
                 (λ w is_in is_shared. sym (end.word (place_of (shape_of setup) w) ∙ a.words w (record { is_in = is_in; is_named = is_shared })))
                 (λ c h. sym (
-                  ap (λ l. end_in l c) ends_are ∙ ap (λ o. unwrap_or o no_end) (slice_get-map (λ (p : CoreRun). end_of p.state) programs c ∙ ap (option_map (λ (p : CoreRun). end_of p.state)) (program_at c h).1)
-                  ∙ ap end_of (state c h)
+                ap (λ l. end_in l c) ends_are ∙ ap (λ o. unwrap_or o no_end) (slice_get-map (λ (p : CoreRun). end_of p.state) programs c ∙ ap (option_map (λ (p : CoreRun). end_of p.state)) (program_at c h).1)
+                ∙ ap end_of (state c h)
                 ))
                 (represents setup booted.setting cores (trace_of setup t) (made_stands setup booted.setting (trace_of setup t) a.made) between);
             word_count = end.word_count ∙ booted.start.size;

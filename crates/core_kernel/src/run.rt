@@ -42,12 +42,7 @@ fn run<G: Gate>(kernel: &Kernel, gate: &G, runner: &mut Runner)
 
 // Runs them all, one half and the other at once.
 #[tactic(auto, using(crate::proofs::Zips::all_zip_parts))]
-fn run_all<R: Threads + Sync, G: Gate>(
-    rt: &R,
-    kernel: &Kernel,
-    gate: &G,
-    runners: &mut [Runner],
-)
+fn run_all<R: Threads + Sync, G: Gate>(rt: &R, kernel: &Kernel, gate: &G, runners: &mut [Runner])
     requires { All (λ r. IsWaiting kernel.now r) runners.old }
     ensures { AllZip (MakesCalls (G.is_free gate.now)) runners.old runners.new }
 {
