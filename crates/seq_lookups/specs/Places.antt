@@ -1,6 +1,5 @@
 -- Slots and targets of the plain kernel, as those of the definitions.
-use Rattle.std.specs.Prelude.{◌≡◌, ◌<◌, ℕ, refl}
-use Rattle.kernel_rules.specs.Access.{Slot, Target, Under, InRoot, root_at}
+use Rattle.kernel_rules.specs.Access.{Target, Under, InRoot, root_at}
 use Rattle.seq_lookups.specs.declared.slots.Target.{Target as Asked}
 use Rattle.seq_lookups.specs.declared.slots.Target.TheVariants as asked
 

@@ -1,6 +1,6 @@
 //! Beginning grace periods, and the changes of places that several calls share.
 
-ghost use Rattle.std.specs.Prelude.{◌≡◌, ◌<◌, ℕ, [], ◌∷◌};
+ghost use Rattle.std.specs.Prelude.{◌≡◌, ◌<◌, ◌≤◌, ℕ, [], ◌∷◌};
 ghost use Rattle.kernel_rules.specs.GracePeriods.{begun, needs_flush, is_translated, is_paging, new_grace};
 ghost use Rattle.kernel_rules.specs.Rules.{Found, fills, removes};
 ghost use Rattle.kernel_rules.specs.CallRelation.{changed};
@@ -28,7 +28,8 @@ fn all_or_none(all: bool) -> CoreSet
 
 /// The cores of the machine that are in a call.
 fn inside(k: &SeqKernel) -> CoreSet
-    ensures { (core : ℕ) → core < (state_of k.now).limits.cores → has_core result core ≡ ((state_of k.now).core core).inside }
+    ensures inside { (core : ℕ) → core < (state_of k.now).limits.cores → has_core result core ≡ ((state_of k.now).core core).inside }
+    ensures most { (state_of k.now).limits.cores ≤ 8 }
 {
     let mut set = CoreSet::empty();
     'each: for number in 0..k.cores() {
@@ -62,19 +63,19 @@ fn is_translated(frame: Frame) -> bool
 }
 
 /// Whether a thing's grace period also waits for the flushes of all cores.
-fn needs_flush(k: &SeqKernel, thing: Thing) -> bool
-    ensures { result ≡ needs_flush (state_of k.now) (thing_of thing) }
+fn needs_flush(k: &SeqKernel, thing: &Thing) -> bool
+    ensures { result ≡ needs_flush (state_of k.now) (thing_of thing.now) }
 {
     match thing {
-        Thing::PlaceOf { node, .. } => is_paging(k.frame(node)),
-        Thing::FrameOf(frame) => is_translated(k.frame(frame)),
+        Thing::PlaceOf { node, .. } => is_paging(k.frame(*node)),
+        Thing::FrameOf(frame) => is_translated(k.frame(*frame)),
         Thing::NumberOf(_) => false,
     }
 }
 
 /// The grace period of a thing as it begins now.
-fn new_grace(k: &SeqKernel, thing: Thing) -> Grace
-    ensures { SameGrace (state_of k.now).limits.cores (grace_of result) (new_grace (state_of k.now) (thing_of thing)) }
+fn new_grace(k: &SeqKernel, thing: &Thing) -> Grace
+    ensures { SameGrace (state_of k.now).limits.cores (grace_of result) (new_grace (state_of k.now) (thing_of thing.now)) }
 {
     let flushes = all_or_none(needs_flush(k, thing));
     Grace {
@@ -90,7 +91,7 @@ pub fn begin(k: &mut SeqKernel, thing: Thing)
     requires { HasIndex (thing_of thing) }
     ensures { Represents k.new (begun (state_of k.old) (thing_of thing ∷ []) (state_of k.old)) }
 {
-    let grace = new_grace(k, thing);
+    let grace = new_grace(k, &thing);
     k.set_grace(thing, grace);
 }
 

@@ -1,6 +1,6 @@
 //! The cores for which a thing may not be taken again.
 
-ghost use Rattle.std.specs.Prelude.{◌≡◌, ◌<◌, Some};
+ghost use Rattle.std.specs.Prelude.{◌≡◌, ◌≤◌};
 ghost use Rattle.kernel_rules.specs.GracePeriods.{lowest, other_waiting, quiescing_by, unflushed_by};
 ghost use Rattle.kernel_rules.specs.Rules.{waits_of, flushes_of};
 ghost use Rattle.spk_nums.specs.CoreSets.{has_core};
@@ -13,7 +13,8 @@ use spk_nums::{CoreNo, CoreSet, Reply};
 
 /// The lowest core of the machine in a set.
 fn lowest(k: &SeqKernel, set: CoreSet) -> Option<CoreNo>
-    ensures { result ≡ lowest (state_of k.now) (has_core set) }
+    ensures first { result ≡ lowest (state_of k.now) (has_core set) }
+    ensures most { (state_of k.now).limits.cores ≤ 8 }
 {
     'each: for number in 0..k.cores() {
         let core = CoreNo::new(number);
