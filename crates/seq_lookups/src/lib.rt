@@ -21,7 +21,7 @@ mod slots;
 mod waiting;
 
 pub use changes::{begin, fill, remove};
-pub use names::{Wanted, held, mapped, named, vacant};
+pub use names::{Wanted, frame_in, held, mapped, named, vacant};
 pub use objects::{comp_at, comp_of, tcap_at, thread_at, thread_of};
 pub use slots::{Slot, Target, reached, usable};
 pub use waiting::{flushes_of, waits_of};

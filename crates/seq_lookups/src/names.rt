@@ -1,6 +1,6 @@
 //! What a call names, and the targets that it asks for.
 
-ghost use Rattle.std.specs.Prelude.{◌≡◌, ◌<◌};
+ghost use Rattle.std.specs.Prelude.{◌≡◌, ◌<◌, ◌≤◌, ◌+◌, IfOk};
 ghost use Rattle.kernel_rules.specs.Access.{held_in};
 ghost use Rattle.kernel_rules.specs.Rules.{named, vacant, not_vacant, held, mapped, of_kind};
 ghost use Rattle.seq_state.specs.Parts.{place_of, thing_of};
@@ -12,7 +12,7 @@ use crate::objects::comp_of;
 use crate::slots::{Slot, Target, place_at, reached, usable};
 use crate::waiting::{flushes_of, waits_of};
 use seq_state::{Place, SeqKernel, Thing};
-use spk_nums::{Cap, CapId, CoreNo, FrameNo, Kind, PageNo, Reply};
+use spk_nums::{Cap, CapId, CoreNo, FrameArg, FrameNo, Kind, PageNo, Reply};
 
 /// The kinds of capability that a name may lead to.
 #[derive(Clone, Copy, PartialEq, Eq, Debug)]
@@ -90,6 +90,25 @@ pub fn named(k: &SeqKernel, core: CoreNo, name: CapId, wanted: Wanted) -> Result
     }
 }
 
+/// The frame of a range: `out-of-range` where the range does not have it. Of a range that ends past the machine's frames
+/// nothing is said.
+pub fn frame_in(k: &SeqKernel, range: &Cap, frame: FrameArg) -> Result<FrameNo, Reply>
+    ensures refusal { range.now.frame + range.now.arg ≤ (state_of k.now).limits.frames → judged result ≡ unless (refusal_of (state_of k.now) 0 (outside (found range.now) frame)) frame }
+    ensures frame { IfOk result (λ f. (f ≡ frame) × (f < (state_of k.now).limits.frames)) }
+{
+    let number = frame.number();
+    let first = range.frame().number();
+    if first <= number && u32::from(number) < u32::from(first) + range.arg() {
+        if number < k.frames() {
+            Ok(FrameNo::new(number))
+        } else {
+            Err(Reply::FrameKind)
+        }
+    } else {
+        Err(Reply::OutOfRange)
+    }
+}
+
 /// Why a core may not fill a place.
 fn not_vacant(k: &SeqKernel, core: CoreNo, at: Slot, place: Place) -> Option<Reply>
     ensures { result ≡ not_vacant (state_of k.now) core (PlaceOf at.node at.index) (place_of place) }
@@ -164,6 +183,7 @@ pub fn mapped(k: &SeqKernel, core: CoreNo, root: FrameNo, page: PageNo) -> Resul
 }
 
 ghost use Rattle.kernel_rules.specs.State.{PlaceOf};
-ghost use Rattle.kernel_rules.specs.Access.{only, usable, reached};
-ghost use Rattle.kernel_rules.specs.Rules.{and_then, or_refuse};
+ghost use Rattle.kernel_rules.specs.Access.{found, only, usable, reached};
+ghost use Rattle.kernel_rules.specs.Rules.{and_then, or_refuse, unless, refusal_of};
+ghost use Rattle.kernel_rules.specs.CapabilityCalls.{outside};
 ghost use Rattle.spk_nums.specs.declared.replies.Reply.TheVariants.{Empty};

@@ -107,13 +107,7 @@ fn usable_in(place: Place, waits: bool) -> Option<Cap>
     match place {
         Place::Free => None,
         Place::Holds(cap) => Some(cap),
-        Place::Quiescing(cap) => {
-            if waits {
-                Some(cap)
-            } else {
-                None
-            }
-        }
+        Place::Quiescing(cap) => { if waits { Some(cap) } else { None } }
     }
 }
 
