@@ -1,5 +1,5 @@
 -- What a `make` comes to, by what it found.
-use Rattle.std.proofs.Common.{◌≡◌, ℕ, ◌+◌, refl, sym, ◌∙◌, ap, List, [], ◌∷◌, Option, None, Some}
+use Rattle.std.proofs.Common.{◌≡◌, ℕ, ◌+◌, refl, sym, List, [], ◌∷◌, Option, None, Some}
 use Rattle.spk_nums.specs.Capability.{Capability}
 use Rattle.spk_nums.specs.declared.kinds.Kind.{Kind}
 use Rattle.spk_nums.specs.declared.kinds.Kind.TheVariants as kind
@@ -7,7 +7,7 @@ use Rattle.spk_nums.specs.declared.replies.Reply.{Reply}
 use Rattle.kernel_rules.specs.State.{Holds, Object, Thread, Tcap, Kernel, CompFields, State, with_frame}
 use Rattle.kernel_rules.specs.Start.{plain_cap}
 use Rattle.kernel_rules.specs.Access.{Slot, Under, found, only}
-use Rattle.kernel_rules.specs.Rules.{Change, Cause, Judged, Refused, Found, unless, and_then, first_of, named, vacant, refusal_of, first_cause, outcome}
+use Rattle.kernel_rules.specs.Rules.{Cause, Refused, Found, unless, first_of, named, vacant, refusal_of, first_cause, outcome}
 use Rattle.kernel_rules.specs.CapabilityCalls.{outside, not_blank, not_taken, cleared, makes, makes_comp, make_node, make_thread, make_tcap, make_comp, epoch_of}
 use Rattle.seq_state.specs.Representation.{SameState}
 use Rattle.seq_state.proofs.Same.{same_then, same_place, same_frame}
