@@ -61,6 +61,6 @@ delegated s t1 t2 a b m l A B apart first second one two =
     })
 
 -- A list that is there exactly where a fact holds, where it holds.
-pub there : {A : Type 0} {P : Type 0} (o : Option A) (other x : A) → SomeIff o P x → P → unwrap_or o other ≡ x
-there (Some y) other x h holds = ?
-there None other x h holds = ?
+pub there : {A P : Type 0} (o : Option A) (other x : A) → SomeIff o P x → P → unwrap_or o other ≡ x
+there (Some y) other x h holds = grind (h, holds)
+there None other x h holds = grind (h, holds)
