@@ -1,5 +1,5 @@
 -- A delegation writes the temporal capability that it gives to at once, with its new budget and its new list.
-use Rattle.std.proofs.Common.{◌≡◌, ◌≢◌, ℕ, ◌+◌, ◌-◌, ◌==◌, Bool, true, false, if◌then◌else◌, refl, sym, ap, ◌∙◌, List}
+use Rattle.std.proofs.Common.{arith, ◌≡◌, ◌≢◌, ℕ, ◌+◌, ◌-◌, ◌==◌, Bool, true, false, if◌then◌else◌, refl, sym, ap, ◌∙◌, List}
 use Rattle.std.specs.Prelude.{SomeIff, Option, Some, None, unwrap_or}
 use Rattle.std.proofs.lemmas.Bool.{ne_eqb, eq-eqb}
 use Rattle.kernel_rules.specs.State.{put, TcapFields, Object, Blank, Table, Leaf, Pages, Pleaf, Comp, Thread, Tcap, Frame, Untyped, User, Kernel, State, with_frame, tcap_in}
@@ -62,5 +62,5 @@ delegated s t1 t2 a b m l A B apart first second one two =
 
 -- A list that is there exactly where a fact holds, where it holds.
 pub there : {A P : Type 0} (o : Option A) (other x : A) → SomeIff o P x → P → unwrap_or o other ≡ x
-there (Some y) other x h holds = grind (h, holds)
-there None other x h holds = grind (h, holds)
+there (Some y) other x h holds = grind (arith, h, holds)
+there None other x h holds = grind (arith, h, holds)

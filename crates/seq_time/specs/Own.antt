@@ -2,15 +2,15 @@
 use Rattle.spk_nums.specs.declared.calls.Call.{Call}
 use Rattle.spk_nums.specs.declared.calls.Call.TheVariants.{Gate, Kill, Call as call_gate, Ret, Switch, Tick, Transfer, Delegate, Test}
 
--- A call of invocation or of time.
-abbrev pub IsTimed : Call → Type 0
-IsTimed (Gate c t b) = Unit {0}
-IsTimed (Kill c) = Unit {0}
-IsTimed (call_gate g) = Unit {0}
-IsTimed Ret = Unit {0}
-IsTimed (Switch h q) = Unit {0}
-IsTimed (Tick n) = Unit {0}
-IsTimed (Transfer a b m) = Unit {0}
-IsTimed (Delegate a b m) = Unit {0}
-IsTimed (Test a b) = Unit {0}
-IsTimed _ = ⊥
+-- A call that makes a gate, kills, calls, returns or switches, that charges or moves ticks, or that tests preemption.
+abbrev pub IsTimeCall : Call → Type 0
+IsTimeCall (Gate c t b) = Unit {0}
+IsTimeCall (Kill c) = Unit {0}
+IsTimeCall (call_gate g) = Unit {0}
+IsTimeCall Ret = Unit {0}
+IsTimeCall (Switch h q) = Unit {0}
+IsTimeCall (Tick n) = Unit {0}
+IsTimeCall (Transfer a b m) = Unit {0}
+IsTimeCall (Delegate a b m) = Unit {0}
+IsTimeCall (Test a b) = Unit {0}
+IsTimeCall call = ⊥

@@ -19,7 +19,7 @@ use seq_state::{Frame, Object, SeqKernel, TcapFields};
 use spk_nums::{Cap, CapId, CoreNo, FrameNo, Kind, Qualities, Reply, Value};
 
 /// A frame with another temporal capability in place of its own; a frame without one stays.
-pub fn with_tcap(frame: Frame, tcap: TcapFields) -> Frame
+pub(crate) fn with_tcap(frame: Frame, tcap: TcapFields) -> Frame
     ensures { frame_of result ≡ with_tcap (frame_of frame) (tcap_fields_of tcap) }
 {
     match frame {
@@ -159,15 +159,21 @@ fn move_ticks(k: &mut SeqKernel, a: FrameNo, b: FrameNo, amount: u32)
 }
 
 /// `transfer A B M` names temporal capabilities A and B with equal lists, and moves M ticks from A to B.
-pub fn transfer(k: &mut SeqKernel, core: CoreNo, a: CapId, b: CapId, amount: u32) -> Reply
+pub(crate) fn transfer(
+    k: &mut SeqKernel,
+    core: CoreNo,
+    a: CapId,
+    b: CapId,
+    amount: u32,
+) -> Result<Value, Reply>
     requires { core < (state_of k.old).limits.cores }
-    ensures { BudgetsFit (state_of k.old) → IsCarriedOut (state_of k.old) (outcome (state_of k.old) core (transfer_rule (state_of k.old) a b amount)) result k.new }
+    ensures { BudgetsFit (state_of k.old) → IsCarriedOut (state_of k.old) (outcome (state_of k.old) core (transfer_rule (state_of k.old) a b amount)) (answered result) k.new }
 {
     match to_transfer(k, core, a, b, amount) {
-        Err(refusal) => refusal,
+        Err(refusal) => Err(refusal),
         Ok(pair) => {
             move_ticks(k, pair.0.frame(), pair.1.frame(), amount);
-            Reply::Ok(Value::Nothing)
+            Ok(Value::Nothing)
         }
     }
 }
@@ -194,35 +200,37 @@ fn delegate_ticks(k: &mut SeqKernel, a: FrameNo, b: FrameNo, amount: u32)
 }
 
 /// `delegate A B M` names temporal capabilities A and B, moves M ticks from A to B, and gives B the merged list.
-pub fn delegate(k: &mut SeqKernel, core: CoreNo, a: CapId, b: CapId, amount: u32) -> Reply
+pub(crate) fn delegate(
+    k: &mut SeqKernel,
+    core: CoreNo,
+    a: CapId,
+    b: CapId,
+    amount: u32,
+) -> Result<Value, Reply>
     requires { core < (state_of k.old).limits.cores }
-    ensures { BudgetsFit (state_of k.old) → IsCarriedOut (state_of k.old) (outcome (state_of k.old) core (delegate_rule (state_of k.old) a b amount)) result k.new }
+    ensures { BudgetsFit (state_of k.old) → IsCarriedOut (state_of k.old) (outcome (state_of k.old) core (delegate_rule (state_of k.old) a b amount)) (answered result) k.new }
 {
     match to_delegate(k, core, a, b, amount) {
-        Err(refusal) => refusal,
+        Err(refusal) => Err(refusal),
         Ok(pair) => {
             delegate_ticks(k, pair.0.frame(), pair.1.frame(), amount);
-            Reply::Ok(Value::Nothing)
+            Ok(Value::Nothing)
         }
     }
 }
 
 /// `test A B` names temporal capabilities A and B, and answers whether A preempts B.
-pub fn test(k: &SeqKernel, core: CoreNo, a: CapId, b: CapId) -> Reply
+pub(crate) fn test(k: &SeqKernel, core: CoreNo, a: CapId, b: CapId) -> Result<Value, Reply>
     requires { core < (state_of k.now).limits.cores }
-    ensures { IsCarriedOut (state_of k.now) (outcome (state_of k.now) core (test_rule (state_of k.now) a b)) result k.now }
+    ensures { IsCarriedOut (state_of k.now) (outcome (state_of k.now) core (test_rule (state_of k.now) a b)) (answered result) k.now }
 {
     match to_test(k, core, a, b) {
-        Err(refusal) => refusal,
+        Err(refusal) => Err(refusal),
         Ok(pair) => {
             let one = tcap_at(k, pair.0.frame());
             let other = tcap_at(k, pair.1.frame());
-            Reply::Ok(preemption(preempts(
-                one.budget,
-                &one.qualities,
-                other.budget,
-                &other.qualities,
-            )))
+            let wins = preempts(one.budget, &one.qualities, other.budget, &other.qualities);
+            Ok(preemption(wins))
         }
     }
 }

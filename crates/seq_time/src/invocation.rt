@@ -109,7 +109,7 @@ fn set_stack(k: &mut SeqKernel, core: CoreNo, stack: Stack)
 }
 
 /// `call`: enters the component of a named gate, which is live in the gate's epoch, at a depth below 16.
-pub(crate) fn call(k: &mut SeqKernel, core: CoreNo, g: CapId) -> Result<Value, Reply>
+pub(crate) fn enter(k: &mut SeqKernel, core: CoreNo, g: CapId) -> Result<Value, Reply>
     requires { core < (state_of k.old).limits.cores }
     ensures { IsCarriedOut (state_of k.old) (change_of (state_of k.old) core (call_gate g)) (answered result) k.new }
 {

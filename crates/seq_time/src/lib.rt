@@ -9,5 +9,9 @@
 
 mod budgets;
 mod invocation;
+mod one;
+mod switching;
 mod ticks;
+
+pub use one::step;
 

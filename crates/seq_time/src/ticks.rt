@@ -11,7 +11,7 @@ ghost use Rattle.seq_lookups.specs.Ranges.{TicksFit};
 use crate::budgets::with_tcap;
 use seq_lookups::tcap_at;
 use seq_state::{Core, SeqKernel, TcapFields};
-use spk_nums::{CoreNo, FrameNo, Reply, Value};
+use spk_nums::{CoreNo, FrameNo, Value};
 
 /// Gives a temporal capability another budget.
 fn set_budget(k: &mut SeqKernel, frame: FrameNo, budget: u32)
@@ -60,14 +60,15 @@ fn charge(k: &mut SeqKernel, core: CoreNo, due: u64, charged: u32)
 }
 
 /// `tick N` charges the N ticks and those owed to the current temporal capability, and answers how many it charged.
-pub fn tick(k: &mut SeqKernel, core: CoreNo, ticks: u32) -> Reply
+pub(crate) fn tick(k: &mut SeqKernel, core: CoreNo, ticks: u32) -> Value
     requires { core < (state_of k.old).limits.cores }
-    ensures { TicksFit (state_of k.old) core ticks → IsCarriedOut (state_of k.old) (outcome (state_of k.old) core (tick_rule (state_of k.old) core ticks)) result k.new }
+    ensures { TicksFit (state_of k.old) core ticks → IsCarriedOut (state_of k.old) (outcome (state_of k.old) core (tick_rule (state_of k.old) core ticks)) (Ok result) k.new }
 {
     let due = u64::from(ticks).saturating_add(k.core(core).owed);
     let charged = charged(k, core, due);
     charge(k, core, due, charged);
-    Reply::Ok(Value::Amount(charged))
+    Value::Amount(charged)
 }
 
 ghost use Rattle.kernel_rules.specs.TimeCalls.{charges};
+ghost use Rattle.spk_nums.specs.declared.replies.Reply.TheVariants.{Ok};
