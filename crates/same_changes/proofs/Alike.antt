@@ -23,10 +23,11 @@ SameCause s (WaitedFor x) (WaitedFor y) = (x ≡ y) × IsThing s.limits y
 SameCause s (Unflushed x) (Unflushed y) = (x ≡ y) × IsThing s.limits y
 SameCause s _ _ = ⊥
 
-abbrev pub SameCauses : State → List Cause → List Cause → Type 0
-SameCauses s [] [] = Unit {0}
-SameCauses s (x ∷ xs) (y ∷ ys) = SameCause s x y × SameCauses s xs ys
-SameCauses s _ _ = ⊥
+-- Two lists of causes are one in step, as far as none stands.
+abbrev pub SameCauses : State → ℕ → List Cause → List Cause → Type 0
+SameCauses s c [] [] = Unit {0}
+SameCauses s c (x ∷ xs) (y ∷ ys) = SameCause s x y × (refusal_of s c y ≡ None → SameCauses s c xs ys)
+SameCauses s c _ _ = ⊥
 
 -- Two rules are one in step: what they name, where they look, their causes, and their changes where no cause stands.
 abbrev pub SameRule : State → ℕ → Rule → Rule → Type 0
@@ -35,7 +36,7 @@ SameRule s c (Vacant x rest) (Vacant y other) = (x ≡ y) × RootGood s y × ((a
 SameRule s c (Held x rest) (Held y other) = (x ≡ y) × RootGood s y × ((at : Slot) (k : Capability) → held s c y ≡ Found (at, k) → SameRule s c (rest at k) (other at k))
 SameRule s c (Mapped a v rest) (Mapped b w other) =
     (a ≡ b) × (v ≡ w) × (is_node (s.frame b) ≡ true) × ((k : Capability) → mapped s c b w ≡ Found k → SameRule s c (rest k) (other k))
-SameRule s c (Does xs a) (Does ys b) = SameCauses s xs ys × (first_cause s c ys ≡ None → SameChange a b)
+SameRule s c (Does xs a) (Does ys b) = SameCauses s c xs ys × (first_cause s c ys ≡ None → SameChange a b)
 SameRule s c _ _ = ⊥
 
 -- ---- causes
@@ -57,9 +58,16 @@ refusal_same w (WaitedFor x) (Unflushed y) h = absurd h
 refusal_same w (Unflushed x) (When b r) h = absurd h
 refusal_same w (Unflushed x) (WaitedFor y) h = absurd h
 
-causes_same : {t s : State} {o : ℕ → Bool} {c : ℕ} → Twins t s o c → (xs ys : List Cause) → SameCauses s xs ys → first_cause t c xs ≡ first_cause s c ys
+-- What comes behind a refusal is the same, as far as there is none.
+behind : (r p q : Option Reply) → (r ≡ None → p ≡ q) → first_of r p ≡ first_of r q
+behind None p q same = same refl
+behind (Some r) p q same = refl
+
+causes_same : {t s : State} {o : ℕ → Bool} {c : ℕ} → Twins t s o c → (xs ys : List Cause) → SameCauses s c xs ys → first_cause t c xs ≡ first_cause s c ys
 causes_same w [] [] h = refl
-causes_same w (x ∷ xs) (y ∷ ys) h = λ i. first_of (refusal_same w x y h.0 i) (causes_same w xs ys h.1 i)
+causes_same {t} {s} {o} {c} w (x ∷ xs) (y ∷ ys) h =
+    ap (λ r. first_of r (first_cause t c xs)) (refusal_same w x y h.0)
+    ∙ behind (refusal_of s c y) (first_cause t c xs) (first_cause s c ys) (λ calm. causes_same w xs ys (h.1 calm))
 causes_same w [] (y ∷ ys) h = absurd h
 causes_same w (x ∷ xs) [] h = absurd h
 

@@ -1,3 +1,6 @@
 pub mod Reaching
 pub mod Alike
 pub mod TimeRules
+pub mod CapabilityRules
+pub mod MemoryRules
+pub mod EveryCall

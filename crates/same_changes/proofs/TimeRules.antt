@@ -76,7 +76,7 @@ kill_same {t} {s} {o} {c} w k = (refl, refl, λ comp is.
     let number = alive_same w comp.frame fit in
     let fields = comp_in (s.frame comp.frame) in
     subst (λ x. SameRule s c (Rattle.kernel_rules.specs.InvocationCalls.kill_comp t (found comp) (comp_in x)) (Rattle.kernel_rules.specs.InvocationCalls.kill_comp s (found comp) fields)) (sym frame)
-    (((ap (λ n. not (is_live_in n fields.epoch)) number, λ on. refl), tt), λ none. kills_same w fields number))
+    (((ap (λ n. not (is_live_in n fields.epoch)) number, λ on. refl), λ calm. tt), λ none. kills_same w fields number))
 
 -- ---- calling and returning
 
@@ -93,7 +93,7 @@ call_same {t} {s} {o} {c} w g = (refl, refl, λ gate is.
     let number : t.number (comp_in (t.frame gate.frame)).number ≡ s.number (comp_in (s.frame gate.frame)).number =
         ap (λ x. t.number (comp_in x).number) frame ∙ alive_same w gate.frame fit in
     (((ap (λ (k : ThreadFields). nat_le 16 (length k.stack)) (thread_same w), λ on. refl),
-      ((ap (λ n. not (is_live_in n gate.arg)) number, λ on. refl), tt)),
+      λ calm. ((ap (λ n. not (is_live_in n gate.arg)) number, λ on. refl), λ calm. tt)),
      λ none. record {
        value = refl;
        next = stack_same w _ _ (ap (λ (k : ThreadFields). gate.frame ∷ k.stack) (thread_same w));
@@ -102,7 +102,7 @@ call_same {t} {s} {o} {c} w g = (refl, refl, λ gate is.
 
 pub ret_same : {t s : State} {o : ℕ → Bool} {c : ℕ} → Twins t s o c → SameRule s c (ret_rule t c) (ret_rule s c)
 ret_same {t} {s} {o} {c} w =
-    (((ap (λ (k : ThreadFields). nat_le (length k.stack) 1) (thread_same w), λ on. refl), tt),
+    (((ap (λ (k : ThreadFields). nat_le (length k.stack) 1) (thread_same w), λ on. refl), λ calm. tt),
      λ none. record {
        value = refl;
        next = stack_same w _ _ (ap (λ (k : ThreadFields). drop 1 k.stack) (thread_same w));
@@ -136,7 +136,7 @@ switch_same {t} {s} {o} {c} w h q = (refl, refl, λ thread is. (refl, refl, λ t
     by_core : (thread tcap : Capability) → thread.frame < s.limits.frames → (e : Option ℕ)
         → SameRule s c (switch_to t c (found thread) tcap.frame e) (switch_to s c (found thread) tcap.frame e)
     by_core thread tcap below None = (tt, λ none. switches_same w thread.frame tcap.frame below)
-    by_core thread tcap below (Some e) = (((refl, λ on. refl), tt), λ none. switches_same w thread.frame tcap.frame below)
+    by_core thread tcap below (Some e) = (((refl, λ on. refl), λ calm. tt), λ none. switches_same w thread.frame tcap.frame below)
 
 -- ---- ticks
 
@@ -182,8 +182,8 @@ pub transfer_same : {t s : State} {o : ℕ → Bool} {c : ℕ} → Twins t s o c
 transfer_same {t} {s} {o} {c} w a b m = (refl, refl, λ x is. (refl, refl, λ y is_other.
     let one : tcap_at t x.frame ≡ tcap_at s x.frame = ap tcap_in (named_frame w a kind.Tcap x refl is) in
     let other : tcap_at t y.frame ≡ tcap_at s y.frame = ap tcap_in (named_frame w b kind.Tcap y refl is_other) in
-    (((refl, λ on. refl), ((ap (λ (q : TcapFields). nat_lt q.budget m) one, λ on. ap (λ (q : TcapFields). reply.Short q.budget) one),
-      (((λ i. not (are_alike (one i).qualities (other i).qualities)), λ on. refl), tt))),
+    (((refl, λ on. refl), λ calm. ((ap (λ (q : TcapFields). nat_lt q.budget m) one, λ on. ap (λ (q : TcapFields). reply.Short q.budget) one),
+      λ calm. (((λ i. not (are_alike (one i).qualities (other i).qualities)), λ on. refl), λ calm. tt))),
      λ none. record { value = refl; next = moved_same t s x.frame y.frame m (named_below w a kind.Tcap x refl is) (named_below w b kind.Tcap y refl is_other) w.same; begins = refl })))
 
 pub delegate_same : {t s : State} {o : ℕ → Bool} {c : ℕ} → Twins t s o c → (a b m : ℕ) → SameRule s c (delegate_rule t a b m) (delegate_rule s a b m)
@@ -193,12 +193,12 @@ delegate_same {t} {s} {o} {c} w a b m = (refl, refl, λ x is. (refl, refl, λ y 
     let list : merged_list t x.frame y.frame ≡ merged_list s x.frame y.frame = λ i. merged (one i).qualities (other i).qualities in
     let below = named_below w a kind.Tcap x refl is in
     let under = named_below w b kind.Tcap y refl is_other in
-    (((refl, λ on. refl), ((ap (λ (q : TcapFields). nat_lt q.budget m) one, λ on. ap (λ (q : TcapFields). reply.Short q.budget) one),
-      ((ap (λ l. nat_lt 8 (length l)) list, λ on. refl), tt))),
+    (((refl, λ on. refl), λ calm. ((ap (λ (q : TcapFields). nat_lt q.budget m) one, λ on. ap (λ (q : TcapFields). reply.Short q.budget) one),
+      λ calm. ((ap (λ l. nat_lt 8 (length l)) list, λ on. refl), λ calm. tt))),
      λ none. record { value = refl; next = list_same _ _ y.frame _ _ under list (moved_same t s x.frame y.frame m below under w.same); begins = refl })))
 
 pub test_same : {t s : State} {o : ℕ → Bool} {c : ℕ} → Twins t s o c → (a b : ℕ) → SameRule s c (test_rule t a b) (test_rule s a b)
 test_same {t} {s} {o} {c} w a b = (refl, refl, λ x is. (refl, refl, λ y is_other.
     let one : tcap_at t x.frame ≡ tcap_at s x.frame = ap tcap_in (named_frame w a kind.Tcap x refl is) in
     let other : tcap_at t y.frame ≡ tcap_at s y.frame = ap tcap_in (named_frame w b kind.Tcap y refl is_other) in
-    (((refl, λ on. refl), tt), λ none. record { value = λ i. preemption (preempts (one i) (other i)); next = w.same; begins = refl })))
+    (((refl, λ on. refl), λ calm. tt), λ none. record { value = λ i. preemption (preempts (one i) (other i)); next = w.same; begins = refl })))

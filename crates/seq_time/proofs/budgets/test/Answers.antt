@@ -22,7 +22,7 @@ returns-in-Ok c =
     let other : tcap_at s p.1.frame ≡ record { budget = c.tcap_at-other.result.budget; qualities = c.tcap_at-other.result.qualities } =
     sym (c.tcap_at-other.ensures ∙ ap (tcap_at s) c.frame-in-Ok.ensures) in
     let value : preemption (preempts (tcap_at s p.0.frame) (tcap_at s p.1.frame)) ≡ c.preemption.result =
-    (λ i. preemption (preempts (one i) (other i))) ∙ ap preemption (sym c.preempts.ensures) ∙ sym c.preemption.ensures in
+    (λ i. preemption (preempts (one i) (other i))) ∙ ap preemption (sym c.preempts-wins.ensures) ∙ sym c.preemption.ensures in
     let carried = pair_done s c.args.k.now c.args.core c.args.a c.args.b against_test
     (λ x y. answers s (preemption (preempts (tcap_at s x.frame) (tcap_at s y.frame)))) p.0 p.1 c.in-Ok.ensures (same_by s s refl) in
     subst (λ v. IsCarriedOut s (outcome s c.args.core (test_rule s c.args.a c.args.b)) (reply.Ok v) c.args.k.now) value carried
