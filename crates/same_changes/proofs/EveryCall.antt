@@ -1,17 +1,19 @@
 -- Every call comes to the same in two states that are one for the machine, one of them reached.
-use Rattle.std.proofs.Common.{◌≡◌, ℕ, ap, List}
+use Rattle.std.proofs.Common.{◌≡◌, ℕ, ◌≤◌, sym, ap, subst, List}
 use Rattle.spk_nums.specs.Setting.{Setting, IsSetting}
 use Rattle.spk_nums.specs.CallLimits.{InLimits}
 use Rattle.spk_nums.specs.declared.calls.Call.{Call}
 use Rattle.spk_nums.specs.declared.calls.Call.TheVariants.{Look, Copy, Remove, Grow, Shrink, Retype, Make as make_call, Map, Unmap, Touch, Flush, Gate, Kill, Call as call_gate, Ret, Switch, Tick, Transfer, Delegate, Test}
-use Rattle.kernel_rules.specs.State.{State}
+use Rattle.kernel_rules.specs.State.{Limits, State}
 use Rattle.kernel_rules.specs.CallRelation.{rule_of, change_of}
 use Rattle.kernel_rules.specs.Runs.{Event, after, Open, is_open, phase_of, IsRun}
-use Rattle.kernel_rules.proofs.SoundRuns.{opened, open_limits, runs_sound}
+use Rattle.kernel_rules.proofs.SoundRuns.{opened, limits_stay, open_limits, runs_sound}
+use Rattle.kernel_laws.proofs.NodesLaw.{nodes_hold_what_fits}
 use Rattle.kernel_laws.proofs.RangesLaw.{ranges_hold}
 use Rattle.seq_state.specs.Representation.{SameState}
-use Rattle.same_changes.specs.Same.{SameOutcome, SameChanges}
+use Rattle.same_changes.specs.Same.{SameOutcome, SameChanges, StaysInRange}
 use Rattle.same_changes.proofs.Reaching.{Twins}
+use Rattle.same_changes.proofs.InRange.{in_range}
 use Rattle.same_changes.proofs.Alike.{SameRule, outcome_same}
 use Rattle.same_changes.proofs.CapabilityRules.{look_same, copy_same, remove_same, grow_same, shrink_same, make_same}
 use Rattle.same_changes.proofs.MemoryRules.{retype_same, map_same, unmap_same, touch_same, flush_same}
@@ -53,3 +55,10 @@ pub changes_same : SameChanges
 changes_same setting is events run c call opens t same =
     let w = twins setting is events run c call opens t same in
     outcome_same w (rule_of t c call) (rule_of (after setting events) c call) (rule_same w call (open_limits setting events c call run opens))
+
+pub stays_in_range : StaysInRange
+stays_in_range setting is events run c call opens t same =
+    in_range (twins setting is events run c call opens t same)
+    (subst (λ (l : Limits). l.calls ≤ 4194304) (sym (limits_stay setting events)) is.most_calls)
+    (λ v k. (nodes_hold_what_fits setting is events run).pages c v k (ap is_open opens))
+    call (open_limits setting events c call run opens)

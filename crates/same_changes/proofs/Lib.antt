@@ -4,3 +4,4 @@ pub mod TimeRules
 pub mod CapabilityRules
 pub mod MemoryRules
 pub mod EveryCall
+pub mod InRange

@@ -28,7 +28,7 @@ named_below : {t s : State} {o : ℕ → Bool} {c : ℕ} → Twins t s o c → (
     → k.frame < s.limits.frames
 named_below {s = s} {o = o} {c = c} w n j k some is = fit_below s o j k.frame w.sound some (named_fit s o c n j k w.sound w.is_open is)
 
-named_frame : {t s : State} {o : ℕ → Bool} {c : ℕ} → Twins t s o c → (n : ℕ) (j : Kind) (k : Capability) → is_some_kind j ≡ true → named s c n (only j) ≡ Found k
+pub named_frame : {t s : State} {o : ℕ → Bool} {c : ℕ} → Twins t s o c → (n : ℕ) (j : Kind) (k : Capability) → is_some_kind j ≡ true → named s c n (only j) ≡ Found k
     → t.frame k.frame ≡ s.frame k.frame
 named_frame w n j k some is = w.same.frame k.frame (named_below w n j k some is)
 

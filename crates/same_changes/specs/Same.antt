@@ -7,6 +7,7 @@ use Rattle.kernel_rules.specs.Rules.{Change, Judged, Refused, Found}
 use Rattle.kernel_rules.specs.CallRelation.{change_of}
 use Rattle.kernel_rules.specs.Runs.{Event, after, Open, phase_of, IsRun}
 use Rattle.seq_state.specs.Representation.{SameState}
+use Rattle.seq_lookups.specs.Ranges.{IsInRange}
 
 -- Two changes answer one value, begin the grace periods of the same things, and leave states that are one for the machine.
 pub record SameChange (x y : Change) : Type 0 where
@@ -27,3 +28,9 @@ SameChanges = (setting : Setting) → IsSetting setting → (events : List Event
     → (c : ℕ) (call : Call) → phase_of events c ≡ Open call
     → (t : State) → SameState t (after setting events)
     → SameOutcome (change_of t c call) (change_of (after setting events) c call)
+
+-- In every such state, what the call finds is in the range of the plain kernel's words.
+abbrev pub StaysInRange : Type 0
+StaysInRange = (setting : Setting) → IsSetting setting → (events : List Event) → IsRun setting events
+    → (c : ℕ) (call : Call) → phase_of events c ≡ Open call
+    → (t : State) → SameState t (after setting events) → IsInRange t c call

@@ -5,10 +5,15 @@
 //! are the same.
 #![tactic(auto)]
 
-ghost use Rattle.same_changes.specs.Same.{SameChanges};
+ghost use Rattle.same_changes.specs.Same.{SameChanges, StaysInRange};
 
 /// In every state that a run reaches, and in every state that is one with it for all that the machine has, an open call comes
 /// to the same: one reply, and one change.
 pub fn same_changes()
     ensures { SameChanges }
+{}
+
+/// In every such state, what an open call finds is in the range of the plain kernel's words.
+pub fn stays_in_range()
+    ensures { StaysInRange }
 {}

@@ -33,9 +33,11 @@ PageFound s c v = WhereFound (mapped s c (comp_of s c).pages v) λ k. k.kind ≡
 abbrev pub HasEpoch : State → ℕ → ℕ → Type 0
 HasEpoch s c comp = WhereFound (named s c comp (only kind.Comp)) λ k. 1 ≤ (comp_in (s.frame k.frame)).epoch
 
--- The budgets of two temporal capabilities sum to less than 2^32.
-abbrev pub BudgetsFit : State → Type 0
-BudgetsFit s = (f g : ℕ) → f ≢ g → budget_at s f + budget_at s g < 2 ^ 32
+-- The budgets of two temporal capabilities that core c names sum to less than 2^32, where they are not one.
+abbrev pub BudgetsFit : State → ℕ → ℕ → ℕ → Type 0
+BudgetsFit s c a b =
+    WhereFound (named s c a (only kind.Tcap)) λ x. WhereFound (named s c b (only kind.Tcap)) λ y.
+    x.frame ≢ y.frame → budget_at s x.frame + budget_at s y.frame < 2 ^ 32
 
 -- The ticks that core c owes with n more, and those that it has spent with its current budget, sum to less than 2^64.
 pub record TicksFit (s : State) (c n : ℕ) : Type 0 where
@@ -50,6 +52,6 @@ IsInRange s c (Map p v r f w) = RangeEnds s c r
 IsInRange s c (Touch v) = PageFound s c v
 IsInRange s c (Gate k t b) = HasEpoch s c k
 IsInRange s c (Tick n) = TicksFit s c n
-IsInRange s c (Transfer a b m) = BudgetsFit s
-IsInRange s c (Delegate a b m) = BudgetsFit s
+IsInRange s c (Transfer a b m) = BudgetsFit s c a b
+IsInRange s c (Delegate a b m) = BudgetsFit s c a b
 IsInRange s c call = Unit {0}

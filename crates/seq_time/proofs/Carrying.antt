@@ -10,6 +10,8 @@ use Rattle.kernel_rules.specs.State.{State}
 use Rattle.kernel_rules.specs.Access.{Named, found, only}
 use Rattle.kernel_rules.specs.Rules.{Change, Cause, When, Rule, Name, Does, Judged, Refused, Found, and_then, unless, named, first_of, first_cause, outcome}
 use Rattle.kernel_rules.specs.CallRelation.{changed}
+use Rattle.kernel_rules.proofs.Facts.{then_parts}
+use Rattle.seq_lookups.proofs.Outcomes.{where_found}
 use Rattle.kernel_rules.specs.Alone.{reply_in}
 use Rattle.kernel_rules.specs.TimeCalls.{are_same, is_short, are_unlike, are_many, merged_list, tcap_at}
 use Rattle.seq_state.specs.Maps.{Maps, state_of}
@@ -128,9 +130,27 @@ against_delegation s m x y = are_same x y ∷ is_short s x m ∷ are_many s x y 
 abbrev pub against_test : Named → Named → List Cause
 against_test x y = are_same x y ∷ []
 
+-- A pair that is found was named.
+pub pair_named : (s : State) (c a b : ℕ) (causes : Capability → Capability → List Cause) (p : Capability × Capability) → tcaps_named s c a b causes ≡ Found p
+    → (Found p.0 ≡ named s c a (only kind.Tcap)) × (Found p.1 ≡ named s c b (only kind.Tcap))
+pair_named s c a b causes p h =
+    let one = then_parts (named s c a (only kind.Tcap)) _ p h in
+    let two = then_parts (named s c b (only kind.Tcap)) _ p one.2 in
+    let same : (one.0, two.0) ≡ p = unless_is (first_cause s c (causes one.0 two.0)) (one.0, two.0) p two.2 in
+    (sym (one.1 ∙ ap (λ (q : Capability × Capability). Found q.0) same), sym (two.1 ∙ ap (λ (q : Capability × Capability). Found q.1) same))
+  where
+    unless_is : (o : Option Reply) (x p : Capability × Capability) → unless o x ≡ Found p → x ≡ p
+    unless_is None x p h = cc
+    unless_is (Some r) x p h = absurd (cc)
+
 -- Where the budgets fit, the amount joins the other's budget.
-pub joins : (s : State) (a b m : ℕ) → BudgetsFit s → MayMove s a b m → (tcap_at s b).budget + m < 2 ^ 32
-joins s a b m fits may = omega (arith, fits a b may.apart, may.enough)
+pub joins : (s : State) (c a b m : ℕ) (causes : Capability → Capability → List Cause) (p : Capability × Capability) → tcaps_named s c a b causes ≡ Found p
+    → BudgetsFit s c a b → MayMove s p.0.frame p.1.frame m → (tcap_at s p.1.frame).budget + m < 2 ^ 32
+joins s c a b m causes p h fits may =
+    let named = pair_named s c a b causes p h in
+    let one = where_found (Rattle.kernel_rules.specs.Rules.named s c a (only kind.Tcap)) _ p.0 named.0 fits in
+    let both = where_found (Rattle.kernel_rules.specs.Rules.named s c b (only kind.Tcap)) _ p.1 named.1 one in
+    omega (arith, both may.apart, may.enough)
 
 -- Against a delegation that is carried out no cause stands: the merged list has at most 8 schedulers.
 pub few : (s : State) (c m : ℕ) (x y : Capability) → first_cause s c (against_delegation s m (found x) (found y)) ≡ None

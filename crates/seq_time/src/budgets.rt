@@ -167,7 +167,7 @@ pub(crate) fn transfer(
     amount: u32,
 ) -> Result<Value, Reply>
     requires { core < (state_of k.old).limits.cores }
-    ensures { BudgetsFit (state_of k.old) → IsCarriedOut (state_of k.old) (outcome (state_of k.old) core (transfer_rule (state_of k.old) a b amount)) (answered result) k.new }
+    ensures { BudgetsFit (state_of k.old) core a b → IsCarriedOut (state_of k.old) (outcome (state_of k.old) core (transfer_rule (state_of k.old) a b amount)) (answered result) k.new }
 {
     match to_transfer(k, core, a, b, amount) {
         Err(refusal) => Err(refusal),
@@ -208,7 +208,7 @@ pub(crate) fn delegate(
     amount: u32,
 ) -> Result<Value, Reply>
     requires { core < (state_of k.old).limits.cores }
-    ensures { BudgetsFit (state_of k.old) → IsCarriedOut (state_of k.old) (outcome (state_of k.old) core (delegate_rule (state_of k.old) a b amount)) (answered result) k.new }
+    ensures { BudgetsFit (state_of k.old) core a b → IsCarriedOut (state_of k.old) (outcome (state_of k.old) core (delegate_rule (state_of k.old) a b amount)) (answered result) k.new }
 {
     match to_delegate(k, core, a, b, amount) {
         Err(refusal) => Err(refusal),

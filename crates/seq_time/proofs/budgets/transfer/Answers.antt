@@ -18,4 +18,4 @@ returns-in-Ok c = λ fits.
     let may = may_move s c.args.core c.args.amount p.0 p.1 (are_unlike s (found p.0) (found p.1) ∷ [])
     (no_cause s c.args.core c.args.a c.args.b (λ x y. against_transfer s c.args.amount (found x) (found y)) p (sym c.in-Ok.ensures)) in
     pair_done s c.move_ticks.new.k c.args.core c.args.a c.args.b (against_transfer s c.args.amount) (λ x y. leaves (moved s x.frame y.frame c.args.amount)) p.0 p.1 c.in-Ok.ensures
-    (rw (c.frame.ensures, c.frame-in-Ok.ensures) at c.move_ticks.ensures may.apart (joins s p.0.frame p.1.frame c.args.amount fits may))
+    (rw (c.frame.ensures, c.frame-in-Ok.ensures) at c.move_ticks.ensures may.apart (joins s c.args.core c.args.a c.args.b c.args.amount (λ x y. against_transfer s c.args.amount (found x) (found y)) p (sym c.in-Ok.ensures) fits may))
