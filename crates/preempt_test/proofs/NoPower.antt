@@ -15,7 +15,8 @@ record Parts (p : ℕ × ℕ) (xs ys : List (ℕ × ℕ)) : Type 0 where
   list : is_better xs ys ≡ true
 
 -- a fact of what a test chooses, whichever way it goes
-on_test : {A : Type 0} (P : A → Type 0) {G : Type 0} (b : Bool) (x y : A) → P (if b then x else y) → (b ≡ true → P x → G) → (b ≡ false → P y → G) → G
+on_test : {A : Type 0} (P : A → Type 0) {G : Type 0} (b : Bool) (x y : A) → P (if b then x else y) → (b ≡ true → P x → G)
+    → (b ≡ false → P y → G) → G
 on_test P true x y h on off = on refl h
 on_test P false x y h on off = off refl h
 
@@ -30,7 +31,8 @@ parts p (x ∷ xs) ys h =
     let other : is_smaller x.1 (number_of ys p.0) ≡ true = less_smaller x.1 (max p.1 x.1) (number_of ys p.0) (omega arith) two.0 in
     record {
       pair = mine;
-      list = and_from (is_smaller x.1 (number_of ys x.0)) (is_better xs ys) (subst (λ s. is_smaller x.1 (number_of ys s) ≡ true) is other) two.1;
+      list = and_from (is_smaller x.1 (number_of ys x.0)) (is_better xs ys) (subst (λ s. is_smaller x.1 (number_of ys s) ≡ true) is other)
+          two.1;
     })
     (λ differ rest. on_test (λ l. is_better l ys ≡ true) (nat_lt p.0 x.0) _ _ rest
     (λ before all.
@@ -56,7 +58,8 @@ both (x ∷ a) b ys h =
 -- the test of preemption, as the test of the lists
 by_budgets : (none other : Bool) (a b ys : List (ℕ × ℕ))
     → (if none then false else if other then true else is_better (merged a b) ys) ≡ true
-    → ((if none then false else if other then true else is_better a ys) ≡ true) × ((if none then false else if other then true else is_better b ys) ≡ true)
+    → ((if none then false else if other then true else is_better a ys) ≡ true)
+        × ((if none then false else if other then true else is_better b ys) ≡ true)
 by_budgets true other a b ys h = absurd (cc)
 by_budgets false true a b ys h = (refl, refl)
 by_budgets false false a b ys h = let two = both a b ys h in (two.first, two.second)

@@ -20,10 +20,12 @@ at_end [] (suc i) h = refl
 at_end (y ∷ xs) zero h = absurd (cc)
 at_end (y ∷ xs) (suc i) h = at_end xs i h
 
-pub found_here : (xs : List (ℕ × ℕ)) (i sched : ℕ) (x : ℕ × ℕ) → slice_get xs i ≡ Some x → x.0 ≡ sched → number_of (drop i xs) sched ≡ Some x.1
+pub found_here : (xs : List (ℕ × ℕ)) (i sched : ℕ) (x : ℕ × ℕ) → slice_get xs i ≡ Some x → x.0 ≡ sched → number_of (drop i xs) sched
+    ≡ Some x.1
 found_here xs i sched x h is = ap (λ l. number_of l sched) (at_pair xs i x h) ∙ rw (eq-eqb x.0 sched is)
 
-pub passed_here : (xs : List (ℕ × ℕ)) (i sched : ℕ) (x : ℕ × ℕ) → slice_get xs i ≡ Some x → x.0 ≢ sched → number_of (drop i xs) sched ≡ number_of (drop (i + 1) xs) sched
+pub passed_here : (xs : List (ℕ × ℕ)) (i sched : ℕ) (x : ℕ × ℕ) → slice_get xs i ≡ Some x → x.0 ≢ sched → number_of (drop i xs) sched
+    ≡ number_of (drop (i + 1) xs) sched
 passed_here xs i sched x h other = ap (λ l. number_of l sched) (at_pair xs i x h) ∙ rw (ne_eqb x.0 sched other)
 
 -- the first of the pairs that are left is judged, then the others

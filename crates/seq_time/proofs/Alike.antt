@@ -17,7 +17,8 @@ alike_equal (x ∷ xs) (y ∷ ys) h =
 
 alike_own : (xs : List (ℕ × ℕ)) → are_alike xs xs ≡ true
 alike_own [] = refl
-alike_own (x ∷ xs) = and_from (x.0 == x.0) (x.1 == x.1 && are_alike xs xs) (eq-eqb x.0 x.0 refl) (and_from (x.1 == x.1) (are_alike xs xs) (eq-eqb x.1 x.1 refl) (alike_own xs))
+alike_own (x ∷ xs) = and_from (x.0 == x.0) (x.1 == x.1 && are_alike xs xs) (eq-eqb x.0 x.0 refl)
+    (and_from (x.1 == x.1) (are_alike xs xs) (eq-eqb x.1 x.1 refl) (alike_own xs))
 
 by_truth : (b d : Bool) → (b ≡ true → d ≡ true) → (d ≡ true → b ≡ true) → b ≡ d
 by_truth true true p q = refl
@@ -27,4 +28,5 @@ by_truth false true p q = q refl
 
 -- A test of equality is the test of the definitions.
 pub alike : (xs ys : List (ℕ × ℕ)) (b : Bool) → (IsTrue b ↔ (xs ≡ ys)) → b ≡ are_alike xs ys
-alike xs ys b h = by_truth b (are_alike xs ys) (λ yes. ap (are_alike xs) (sym (h.0 yes)) ∙ alike_own xs) (λ same. h.1 (alike_equal xs ys same))
+alike xs ys b h = by_truth b (are_alike xs ys) (λ yes. ap (are_alike xs) (sym (h.0 yes)) ∙ alike_own xs)
+    (λ same. h.1 (alike_equal xs ys same))

@@ -23,7 +23,8 @@ use Rattle.seq_time.specs.Pairs.{tcaps_named}
 
 -- A refused call leaves the kernel as it was.
 pub refused : (k : Maps) (o : Judged Change) (r : Reply) → o ≡ Refused r → IsCarriedOut (state_of k) o r k
-refused k o r is = subst (λ o. IsCarriedOut (state_of k) o r k) (sym is) (record { reply = refl; state = same_by (state_of k) (state_of k) refl })
+refused k o r is = subst (λ o. IsCarriedOut (state_of k) o r k) (sym is)
+    (record { reply = refl; state = same_by (state_of k) (state_of k) refl })
 
 -- A call that is carried out makes its change.
 pub done : (s : State) (k : Maps) (o : Judged Change) (change : Change) → o ≡ Found change → Represents k (changed s (Found change))
@@ -63,22 +64,26 @@ pair_outcome s c a b causes change =
     same_after (named s c a (only kind.Tcap)) _ _ (λ x.
         same_after (named s c b (only kind.Tcap)) _ _ (second x)
         ∙ then_changed (named s c b (only kind.Tcap)) (λ y. unless (first_cause s c (causes (found x) (found y))) (x, y)) changes)
-    ∙ then_changed (named s c a (only kind.Tcap)) (λ x. and_then (named s c b (only kind.Tcap)) λ y. unless (first_cause s c (causes (found x) (found y))) (x, y)) changes
+    ∙ then_changed (named s c a (only kind.Tcap))
+        (λ x. and_then (named s c b (only kind.Tcap)) λ y. unless (first_cause s c (causes (found x) (found y))) (x, y)) changes
 
 -- Against a pair that was found no cause stands.
 pub no_cause : (s : State) (c a b : ℕ) (causes : Capability → Capability → List Cause) (p : Capability × Capability)
     → tcaps_named s c a b causes ≡ Found p → first_cause s c (causes p.0 p.1) ≡ None
 no_cause s c a b causes p h = first (named s c a (only kind.Tcap)) h
   where
-    third : (x y : Capability) (o : Option Reply) → o ≡ first_cause s c (causes x y) → unless o (x, y) ≡ Found p → first_cause s c (causes p.0 p.1) ≡ None
+    third : (x y : Capability) (o : Option Reply) → o ≡ first_cause s c (causes x y) → unless o (x, y) ≡ Found p
+        → first_cause s c (causes p.0 p.1) ≡ None
     third x y None is h =
         let one : (x, y) ≡ p = cc in
         subst (λ (q : Capability × Capability). first_cause s c (causes q.0 q.1) ≡ None) one (sym is)
     third x y (Some r) is h = absurd (cc)
-    second : (x : Capability) (o : Judged Capability) → and_then o (λ y. unless (first_cause s c (causes x y)) (x, y)) ≡ Found p → first_cause s c (causes p.0 p.1) ≡ None
+    second : (x : Capability) (o : Judged Capability) → and_then o (λ y. unless (first_cause s c (causes x y)) (x, y)) ≡ Found p
+        → first_cause s c (causes p.0 p.1) ≡ None
     second x (Refused r) h = absurd (cc)
     second x (Found y) h = third x y (first_cause s c (causes x y)) refl h
-    first : (o : Judged Capability) → and_then o (λ x. and_then (named s c b (only kind.Tcap)) λ y. unless (first_cause s c (causes x y)) (x, y)) ≡ Found p
+    first : (o : Judged Capability) → and_then o
+        (λ x. and_then (named s c b (only kind.Tcap)) λ y. unless (first_cause s c (causes x y)) (x, y)) ≡ Found p
         → first_cause s c (causes p.0 p.1) ≡ None
     first (Refused r) h = absurd (cc)
     first (Found x) h = second x (named s c b (only kind.Tcap)) h
@@ -101,7 +106,8 @@ may_move s c m x y causes h = tested (x.frame == y.frame) (nat_lt (tcap_at s x.f
         → MayMove s x.frame y.frame m
     tested true short one less h = absurd (cc)
     tested false true one less h = absurd (cc)
-    tested false false one less h = record { apart = λ e. absurd (differs (sym (eq-eqb x.frame y.frame e) ∙ one)); enough = grind (arith, nat_tests, less) }
+    tested false false one less h = record { apart = λ e. absurd (differs (sym (eq-eqb x.frame y.frame e) ∙ one)); enough = grind
+        (arith, nat_tests, less) }
 
 -- A pair that is refused.
 pub pair_refused : (k : Maps) (c a b : ℕ) (causes : Named → Named → List Cause) (change : Named → Named → Change) (r : Reply)
@@ -112,7 +118,8 @@ pair_refused k c a b causes change r is =
     (pair_outcome (state_of k) c a b causes change ∙ ap (λ o. change_by o (λ p. change (found p.0) (found p.1))) (sym is))
 
 -- A pair that is found, and what is made of it.
-pub pair_done : (s : State) (k : Maps) (c a b : ℕ) (causes : Named → Named → List Cause) (change : Named → Named → Change) (x y : Capability)
+pub pair_done : (s : State) (k : Maps) (c a b : ℕ) (causes : Named → Named → List Cause) (change : Named → Named → Change)
+    (x y : Capability)
     → Found (x, y) ≡ tcaps_named s c a b (λ x y. causes (found x) (found y))
     → Represents k (changed s (Found (change (found x) (found y))))
     → IsCarriedOut s (outcome s c (of_pair a b causes change)) (reply.Ok (change (found x) (found y)).value) k
@@ -131,7 +138,8 @@ abbrev pub against_test : Named → Named → List Cause
 against_test x y = are_same x y ∷ []
 
 -- A pair that is found was named.
-pub pair_named : (s : State) (c a b : ℕ) (causes : Capability → Capability → List Cause) (p : Capability × Capability) → tcaps_named s c a b causes ≡ Found p
+pub pair_named : (s : State) (c a b : ℕ) (causes : Capability → Capability → List Cause) (p : Capability × Capability)
+    → tcaps_named s c a b causes ≡ Found p
     → (Found p.0 ≡ named s c a (only kind.Tcap)) × (Found p.1 ≡ named s c b (only kind.Tcap))
 pair_named s c a b causes p h =
     let one = then_parts (named s c a (only kind.Tcap)) _ p h in
@@ -144,7 +152,8 @@ pair_named s c a b causes p h =
     unless_is (Some r) x p h = absurd (cc)
 
 -- Where the budgets fit, the amount joins the other's budget.
-pub joins : (s : State) (c a b m : ℕ) (causes : Capability → Capability → List Cause) (p : Capability × Capability) → tcaps_named s c a b causes ≡ Found p
+pub joins : (s : State) (c a b m : ℕ) (causes : Capability → Capability → List Cause) (p : Capability × Capability)
+    → tcaps_named s c a b causes ≡ Found p
     → BudgetsFit s c a b → MayMove s p.0.frame p.1.frame m → (tcap_at s p.1.frame).budget + m < 2 ^ 32
 joins s c a b m causes p h fits may =
     let named = pair_named s c a b causes p h in
@@ -155,11 +164,13 @@ joins s c a b m causes p h fits may =
 -- Against a delegation that is carried out no cause stands: the merged list has at most 8 schedulers.
 pub few : (s : State) (c m : ℕ) (x y : Capability) → first_cause s c (against_delegation s m (found x) (found y)) ≡ None
     → length (merged_list s x.frame y.frame) ≤ 8
-few s c m x y h = tested (x.frame == y.frame) (nat_lt (tcap_at s x.frame).budget m) (nat_lt 8 (length (merged_list s x.frame y.frame))) refl h
+few s c m x y h = tested (x.frame == y.frame) (nat_lt (tcap_at s x.frame).budget m) (nat_lt 8 (length (merged_list s x.frame y.frame)))
+    refl h
   where
     tested : (same short many : Bool) → nat_lt 8 (length (merged_list s x.frame y.frame)) ≡ many
         → first_of (if same then Some reply.Same else None)
-          (first_of (if short then Some (reply.Short (tcap_at s x.frame).budget) else None) (first_of (if many then Some reply.TooMany else None) None)) ≡ None
+          (first_of (if short then Some (reply.Short (tcap_at s x.frame).budget) else None)
+              (first_of (if many then Some reply.TooMany else None) None)) ≡ None
         → length (merged_list s x.frame y.frame) ≤ 8
     tested true short many is h = absurd (cc)
     tested false true many is h = absurd (cc)

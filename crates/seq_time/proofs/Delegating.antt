@@ -9,7 +9,8 @@ use Rattle.seq_state.proofs.Same.{same_grace_by, same_then, same_frame}
 
 -- A budget and then a list, in an object.
 again_in : (x : Object) (n : ℕ) (l : List (ℕ × ℕ))
-    → with_tcap (with_tcap (Kernel x) (record (tcap_in (Kernel x)) { budget = n })) (record (tcap_in (with_tcap (Kernel x) (record (tcap_in (Kernel x)) { budget = n }))) { qualities = l })
+    → with_tcap (with_tcap (Kernel x) (record (tcap_in (Kernel x)) { budget = n }))
+        (record (tcap_in (with_tcap (Kernel x) (record (tcap_in (Kernel x)) { budget = n }))) { qualities = l })
     ≡ with_tcap (Kernel x) (record { budget = n; qualities = l })
 again_in Blank n l = refl
 again_in Table n l = refl
@@ -22,7 +23,8 @@ again_in (Tcap q) n l = refl
 
 -- A budget and then a list, in a frame.
 again : (x : Frame) (n : ℕ) (l : List (ℕ × ℕ))
-    → with_tcap (with_tcap x (record (tcap_in x) { budget = n })) (record (tcap_in (with_tcap x (record (tcap_in x) { budget = n }))) { qualities = l })
+    → with_tcap (with_tcap x (record (tcap_in x) { budget = n }))
+        (record (tcap_in (with_tcap x (record (tcap_in x) { budget = n }))) { qualities = l })
     ≡ with_tcap x (record { budget = n; qualities = l })
 again Untyped n l = refl
 again User n l = refl
@@ -47,14 +49,16 @@ delegated s t1 t2 a b m l A B apart first second one two =
     let kept : put s.frame a A' b ≡ s.frame b = ap (λ t. if t then A' else s.frame b) (ne_eqb b a other) in
     let budget : Frame → Frame = λ x. with_tcap x (record (tcap_in x) { budget = n }) in
     let list : Frame → Frame = λ x. with_tcap x (record (tcap_in x) { qualities = l }) in
-    let here : (moved s a b m).frame b ≡ budget (s.frame b) = ap (λ t. if t then budget (put s.frame a A' b) else put s.frame a A' b) (eq-eqb b b refl) ∙ ap budget kept in
+    let here : (moved s a b m).frame b ≡ budget (s.frame b) = ap (λ t. if t then budget (put s.frame a A' b) else put s.frame a A' b)
+        (eq-eqb b b refl) ∙ ap budget kept in
     let last : list ((moved s a b m).frame b) ≡ B = ap list here ∙ again (s.frame b) n l ∙ sym second in
     same_then t2 (with_frame (with_frame s a A) b B) (with_qualities (moved s a b m) b l)
     (same_then t2 (with_frame t1 b B) (with_frame (with_frame s a A) b B) two (same_frame t1 (with_frame s a A) b B one))
     (record {
       limits = refl;
       place = λ f i _ _. refl;
-      frame = λ g _. ap (λ x. put (put s.frame a x) b B g) first ∙ sym (twice (put s.frame a A') b g (budget (put s.frame a A' b)) B) ∙ ap (λ x. put (moved s a b m).frame b x g) (sym last);
+      frame = λ g _. ap (λ x. put (put s.frame a x) b B g) first ∙ sym (twice (put s.frame a A') b g (budget (put s.frame a A' b)) B)
+          ∙ ap (λ x. put (moved s a b m).frame b x g) (sym last);
       number = λ i _. refl;
       core = λ c _. refl;
       grace = λ x _. same_grace_by s.limits.cores (s.grace x) (s.grace x) refl;
