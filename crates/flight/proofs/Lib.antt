@@ -24,3 +24,6 @@ pub mod Made
 pub mod Turns
 pub mod Phases
 pub mod Unready
+pub mod ByPlace
+pub mod AfterStep
+pub mod Alike

@@ -154,6 +154,22 @@ impl CoreState {
         &self.layout
     }
 
+    /// The core's number.
+    #[inline]
+    pub fn core(&self) -> CoreNo
+        ensures { result ≡ self.now.core }
+    {
+        self.core
+    }
+
+    /// How many calls the core has counted: those decided, but for those answered `calls-spent`.
+    #[inline]
+    pub fn made(&self) -> u32
+        ensures { result ≡ self.now.made }
+    {
+        self.made
+    }
+
     /// Whether a call is in flight.
     #[inline]
     pub fn in_call(&self) -> bool

@@ -1,9 +1,10 @@
 -- The boot words represent the start state.
-use Rattle.std.proofs.Common.{◌≡◌, inl, inr, ℕ, ◌+◌, ◌-◌, ◌*◌, ◌^◌, ◌<◌, ◌≤◌, Bool, true, false, refl, sym, subst, arith, ◌==◌, nat_lt, if◌then◌else◌, [], ◌∷◌, length, Option, Some, None, pos}
+use Rattle.std.proofs.Common.{◌≡◌, inl, inr, ℕ, ◌+◌, ◌-◌, ◌*◌, ◌^◌, ◌<◌, ◌≤◌, Bool, true, false, refl, sym, ◌∙◌, ap, subst, arith, ◌==◌, nat_lt, if◌then◌else◌, [], ◌∷◌, length, Option, Some, None, pos, ◌+ℤ◌}
 use Rattle.std.specs.List.{slice_get}
 use Rattle.std.proofs.lemmas.Bool.{cases_eq, ne_eqb, ltb-true, true≢false}
+use Rattle.std.proofs.lemmas.Int.{ints}
 use Rattle.std.proofs.lemmas.Option.{slice_get_past, slice_get_within, get_or_from_slice_get}
-use Rattle.std.proofs.lemmas.List.Elements.{All-get_or}
+use Rattle.std.proofs.lemmas.List.Elements.{All-get_or, All-nil, All-cons}
 use Rattle.spk_nums.specs.Capability.{Capability}
 use Rattle.spk_nums.specs.Setting.{Setting, IsSetting, GrantFits}
 use Rattle.spk_nums.specs.declared.grants.Grant.{Grant}
@@ -35,6 +36,7 @@ use Rattle.kernel_rules.specs.References.{refs}
 use Rattle.kernel_history.specs.ObjectWords.{is_node, frame_value, comp_word, at_height}
 use Rattle.kernel_history.specs.BootWords.{boot_entry, boot_frame, boot_thread, boot_tcap, boot_live, boot_word}
 use Rattle.kernel_history.specs.FinalWords.{SaysPlace, AreThread, AreTcap, AreFrame, SaysNumber, HoldNothing}
+use Rattle.kernel_history.specs.Counts.{count_at, IsUnheld, count_in}
 use Rattle.kernel_history.specs.BootLaws.{BootRepresents, BootRepresentsStart}
 use Rattle.kernel_history.proofs.StartRefs.{refs_most}
 
@@ -214,6 +216,9 @@ module _ (setup : Setting) (lim : IsSetting setup) where
       (λ e. lives.spelling.small (live_word.Live 1 3) (omega arith, omega arith, omega arith)) (λ e. lives.spelling.small live_word.Free tt)
   boot_small ClockAt = omega arith
 
+  count_reads : (f : ℕ) → count_at (boot_word setup) f 0 ≡ Some (record { hold = Unheld; count = pos (refs (start setup) f); stamp = 0 })
+  count_reads f = counts.spelling.reads (record { hold = Unheld; count = pos (refs (start setup) f); stamp = 0 }) (tt, (let m = refs_most setup lim f in omega (arith, m)), omega arith)
+
   represents : BootRepresents setup
   represents = record {
     parts = record {
@@ -225,10 +230,8 @@ module _ (setup : Setting) (lim : IsSetting setup) where
       ends = λ c h. refl;
     };
     counts = λ f h. record {
-      count = pos (refs (start setup) f);
-      stamp = 0;
-      says = counts.spelling.reads (record { hold = Unheld; count = pos (refs (start setup) f); stamp = 0 }) (tt, (let m = refs_most setup lim f in omega (arith, m)), omega arith);
-      sum = refl;
+      unheld = All-cons (λ c. IsUnheld (count_at (boot_word setup) f c)) 0 [] (subst IsUnheld (sym (count_reads f)) refl) (All-nil (λ c. IsUnheld (count_at (boot_word setup) f c)));
+      sum = ap (λ o. count_in o +ℤ pos 0) (count_reads f) ∙ omega (arith, ints);
     };
   }
 

@@ -1,15 +1,13 @@
 -- When words and core ends represent a state in which no core is in a call.
-use Rattle.std.specs.Prelude.{◌≡◌, ◌<◌, ◌≤◌, ◌+◌, ℕ, false, [], List, length, Option, Some, None, unwrap_or, slice_index, slice_get, ℤ, pos}
+use Rattle.std.specs.Prelude.{◌≡◌, ◌<◌, ◌≤◌, ◌+◌, ℕ, false, [], List, length, Option, Some, None, unwrap_or, slice_index, slice_get}
 use Rattle.spk_nums.specs.declared.translations.CoreEnd.{CoreEnd}
 use Rattle.entry_words.specs.declared.entry.Entry.{Entry}
 use Rattle.entry_words.specs.declared.entry.Entry.TheVariants as entry
 use Rattle.entry_words.specs.EntryWord.{entry_of_word}
 use Rattle.frame_words.specs.Comp.{comp_of_word}
 use Rattle.frame_words.specs.Frame.{frame_of_word}
-use Rattle.frame_words.specs.Count.{count_of_word}
 use Rattle.frame_words.specs.Core.{core_of_word}
 use Rattle.frame_words.specs.Live.{live_of_word}
-use Rattle.frame_words.specs.declared.count_word.Hold.TheVariants.{Unheld}
 use Rattle.frame_words.specs.declared.core_word.CoreWord.{CoreWord}
 use Rattle.frame_words.specs.declared.live_word.LiveWord.{LiveWord}
 use Rattle.frame_words.specs.declared.live_word.LiveWord.TheVariants as live_word
@@ -17,10 +15,9 @@ use Rattle.tcap_words.specs.Head.{head_of_word}
 use Rattle.tcap_words.specs.Quality.{quality_of_word}
 use Rattle.tcap_words.specs.Stack.{stack_of_word}
 use Rattle.tcap_words.specs.Thread.{thread_of_word}
-use Rattle.word_map.specs.Word.{Word, EntryAt, FrameAt, CountAt, CoreAt, LiveAt}
-use Rattle.word_map.specs.Places.{Shape, place_of, counter_of}
+use Rattle.word_map.specs.Word.{Word, EntryAt, FrameAt, CoreAt, LiveAt}
+use Rattle.word_map.specs.Places.{Shape, place_of}
 use Rattle.kernel_rules.specs.State.{Place, Free, Holds, Quiescing, CompFields, ThreadFields, TcapFields, Object, Blank, Table, Leaf, Pages, Pleaf, Comp, Thread, Tcap, Frame, Untyped, User, Kernel, Liveness, Unused, Live, Dead, State, first_of_stack, thread_of}
-use Rattle.kernel_rules.specs.References.{refs}
 use Rattle.kernel_rules.specs.Access.{held_in}
 use Rattle.kernel_history.specs.ObjectWords.{is_node, frame_value, thread_value, at_height}
 
@@ -111,17 +108,6 @@ pub record Represent (word : Word → ℕ) (end : ℕ → CoreEnd) (s : State) :
   pub numbers : (l : ℕ) → l < 64 → SaysNumber (s.number l) (live_of_word (word (LiveAt l)))
   pub cores : (c : ℕ) → c < s.limits.cores → SaysOut (core_of_word (word (CoreAt c)))
   pub ends : (c : ℕ) → c < s.limits.cores → end c ≡ end_of s c
-
--- The count words of a frame are held by no core, and the counts sum to the references to it.
-pub record Counts (word : Word → ℕ) (s : State) (f : ℕ) : Type 0 where
-  pub count : ℤ
-  pub stamp : ℕ
-  pub says : count_of_word (word (CountAt f (counter_of 0))) ≡ Some (record { hold = Unheld; count = count; stamp = stamp })
-  pub sum : count ≡ pos (refs s f)
-
--- The count words represent the state's references.
-abbrev pub RepresentCounts : (Word → ℕ) → State → Type 0
-RepresentCounts word s = (f : ℕ) → f < s.limits.frames → Counts word s f
 
 -- The word of this name in a list by places.
 abbrev pub word_in : Shape → List ℕ → Word → ℕ

@@ -15,6 +15,7 @@ pub mod Discipline
 pub mod Alone
 pub mod Order
 pub mod FinalWords
+pub mod Counts
 pub mod BootLaws
 pub mod Filling
 pub mod Moments

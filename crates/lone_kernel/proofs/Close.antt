@@ -1,74 +1,18 @@
 -- The words and ends that a machine leaves represent the state that its traces leave.
-use Rattle.std.proofs.Common.{◌≡◌, ℕ, ◌+◌, ◌<◌, List, [], ◌∷◌, length, get_or, map, None, arith, refl, sym, ◌∙◌, ap, subst, zero, suc}
+use Rattle.std.proofs.Common.{◌≡◌, ℕ, ◌<◌, List, [], ◌∷◌, length, get_or, map, None, arith, refl, sym, ◌∙◌, ap, zero, suc}
 use Rattle.spk_nums.specs.Setting.{Setting, IsSetting}
-use Rattle.spk_nums.specs.declared.translations.CoreEnd.{CoreEnd}
-use Rattle.word_map.specs.Word.{Word, EntryAt, FrameAt, CoreAt, LiveAt}
-use Rattle.word_map.specs.Places.{IsIn, shared}
-use Rattle.entry_words.specs.EntryWord.{entry_of_word}
-use Rattle.frame_words.specs.Comp.{comp_of_word}
-use Rattle.frame_words.specs.Frame.{frame_of_word}
-use Rattle.frame_words.specs.Live.{live_of_word}
-use Rattle.frame_words.specs.Core.{core_of_word}
-use Rattle.tcap_words.specs.Thread.{thread_of_word}
-use Rattle.tcap_words.specs.Stack.{stack_of_word}
-use Rattle.tcap_words.specs.Head.{head_of_word}
-use Rattle.tcap_words.specs.Quality.{quality_of_word}
-use Rattle.kernel_rules.specs.State.{Place, Object, Blank, Table, Leaf, Pages, Pleaf, Comp, Thread, Tcap, Frame, Untyped, User, Kernel, State}
 use Rattle.kernel_history.specs.BootWords.{shape_of}
-use Rattle.kernel_history.specs.FinalWords.{Represent, AreEntries, AreObject, AreFrame, SaysPlace, SaysNumber, SaysOut, word_in, end_in}
+use Rattle.kernel_history.specs.FinalWords.{Represent, word_in, end_in}
 use Rattle.kernel_history.specs.Trace.{Trace, state_after, last_left}
 use Rattle.flight.specs.Steps.{end_of}
 use Rattle.flight.proofs.Sounds.{limits_of}
 use Rattle.flight.specs.Made.{cores_after}
 use Rattle.flight.proofs.Final.{represents}
 use Rattle.flight.proofs.Made.{made_stands}
+use Rattle.flight.proofs.Alike.{like}
 use Rattle.lone_kernel.specs.declared.seats.Seat.{Seat}
 use Rattle.lone_kernel.specs.Machine.{Machine, core_at, fresh_seat}
 use Rattle.lone_kernel.specs.Stands.{StandsFor}
-
--- words that are alike say alike
-module _ (word word' : ℕ → ℕ) (alike : (i : ℕ) → i < 64 → word i ≡ word' i) where
-  like_entries : (place : ℕ → Place) → AreEntries place word → AreEntries place word'
-  like_entries place are i h = subst (λ (w : ℕ). SaysPlace (place i) (entry_of_word w)) (alike i h) (are i h)
-
-  like_object : (object : Object) (place : ℕ → Place) → AreObject object place word → AreObject object place word'
-  like_object Blank place are = tt
-  like_object Table place are = like_entries place are
-  like_object Leaf place are = like_entries place are
-  like_object Pages place are = like_entries place are
-  like_object Pleaf place are = like_entries place are
-  like_object (Comp k) place are = record {
-    table = sym (alike 0 (omega arith)) ∙ are.table;
-    pages = sym (alike 1 (omega arith)) ∙ are.pages;
-    live = ap (λ (w : ℕ). comp_of_word w) (sym (alike 2 (omega arith))) ∙ are.live;
-  }
-  like_object (Thread t) place are = record {
-    runs = ap (λ (w : ℕ). thread_of_word w) (sym (alike 0 (omega arith))) ∙ are.runs;
-    stack = λ h low. ap (λ (w : ℕ). stack_of_word w) (sym (alike (1 + h) (omega arith))) ∙ are.stack h low;
-  }
-  like_object (Tcap q) place are = record {
-    version = are.version;
-    head = ap (λ (w : ℕ). head_of_word w) (sym (alike 0 (omega arith))) ∙ are.head;
-    list = λ j low. ap (λ (w : ℕ). quality_of_word w) (sym (alike (1 + j) (omega arith))) ∙ are.list j low;
-    most = are.most;
-  }
-
-  like_frame : (frame : Frame) (place : ℕ → Place) → AreFrame frame place word → AreFrame frame place word'
-  like_frame Untyped place are = tt
-  like_frame User place are = tt
-  like_frame (Kernel object) place are = like_object object place are
-
--- the words of a machine of a setup, and the ends of its cores
-pub like : (setup : Setting) (s : State) (word word' : Word → ℕ) (end end' : ℕ → CoreEnd) → s.limits.frames ≡ setup.frames → s.limits.cores ≡ setup.cores →
-    ((w : Word) → IsIn (shape_of setup) w → shared w ≡ w → word w ≡ word' w) → ((c : ℕ) → c < setup.cores → end c ≡ end' c) → Represent word end s → Represent word' end' s
-like setup s word word' end end' frames cores alike ends is = record {
-  objects = λ f h. like_frame (λ i. word (EntryAt f i)) (λ i. word' (EntryAt f i)) (λ i low. alike (EntryAt f i) (omega arith, low) refl) (s.frame f) (s.place f) (is.objects f h);
-  bare = is.bare;
-  kinds = λ f h. ap (λ (w : ℕ). frame_of_word w) (sym (alike (FrameAt f) (omega arith) refl)) ∙ is.kinds f h;
-  numbers = λ l h. subst (λ (w : ℕ). SaysNumber (s.number l) (live_of_word w)) (alike (LiveAt l) h refl) (is.numbers l h);
-  cores = λ c h. subst (λ (w : ℕ). SaysOut (core_of_word w)) (alike (CoreAt c) (omega arith) refl) (is.cores c h);
-  ends = λ c h. sym (ends c (omega arith)) ∙ is.ends c h;
-}
 
 -- the end of core c in the list of all
 end_at : (setup : Setting) (seats : List Seat) (c : ℕ) → c < length seats → end_of (get_or seats c (fresh_seat setup c [])).state ≡ end_in (map (λ seat. end_of seat.state) seats) c
@@ -77,12 +21,6 @@ end_at setup seats c h = of_list seats c h (fresh_seat setup c []) where
   of_list [] c h d = absurd (omega arith)
   of_list (s ∷ seats) zero h d = refl
   of_list (s ∷ seats) (suc c) h d = of_list seats c (omega arith) d
-
--- an element that is there needs no default
-pub same_default : {X : Type 0} (xs : List X) (k : ℕ) (d e : X) → k < length xs → get_or xs k d ≡ get_or xs k e
-same_default [] k d e h = absurd (omega arith)
-same_default (x ∷ xs) zero d e h = refl
-same_default (x ∷ xs) (suc k) d e h = same_default xs k d e (omega arith)
 
 pub closes : (m : Machine) → IsSetting m.setup → length m.seats ≡ m.setup.cores → ((c : ℕ) → c < m.setup.cores → (core_at m c).flight ≡ None) →
     (t : Trace) → StandsFor m t → Represent (word_in (shape_of m.setup) m.words) (end_in (map (λ seat. end_of seat.state) m.seats)) (state_after m.setup t)

@@ -11,6 +11,7 @@ use Rattle.word_map.specs.Moves.{Move, LoadOf, CompareOf, StoreOf, AddOf, word_o
 use Rattle.spk_nums.specs.WordSteps.{place_in}
 use Rattle.kernel_history.specs.Trace.{decision_at}
 use Rattle.flight.specs.View.{Core}
+use Rattle.flight.proofs.ByPlace.{place_is, left_is, told_is}
 use Rattle.flight.specs.Fits.{IsCore, steps_left}
 use Rattle.flight.specs.Steps.{move_of, absorbed, told_of_step}
 use Rattle.kernel_history.specs.BootWords.{shape_of}
@@ -20,25 +21,6 @@ use Rattle.lone_kernel.specs.declared.seats.Seat.{Seat}
 use Rattle.lone_kernel.specs.declared.seats.Turn.{Turn}
 use Rattle.spk_nums.specs.WordSteps.{left_by, told_by}
 use Rattle.lone_kernel.specs.Machine.{Machine, fresh_seat, seat_at, core_at, list_at, turn_of, turn_at, IsFit, IsFitSeat, CanRun, core_in, begun_by, decisions_in, place_next, words_after, said_by, seat_after, found_by, stepped, MakesTurn, TakesTurn}
-
--- a step by its place is the step by its word's name
-place_is : (shape : Shape) (m : Move) → place_in (op_of shape m) ≡ place_of shape (word_of m)
-place_is shape (LoadOf w) = refl
-place_is shape (CompareOf w expected new) = refl
-place_is shape (StoreOf w new) = refl
-place_is shape (AddOf w by) = refl
-
-left_is : (shape : Shape) (m : Move) (found : ℕ) → left_by (op_of shape m) found ≡ left_of m found
-left_is shape (LoadOf w) found = refl
-left_is shape (CompareOf w expected new) found = refl
-left_is shape (StoreOf w new) found = refl
-left_is shape (AddOf w by) found = refl
-
-told_is : (shape : Shape) (m : Move) (found : ℕ) → told_by (op_of shape m) found ≡ told_of m found
-told_is shape (LoadOf w) found = refl
-told_is shape (CompareOf w expected new) found = refl
-told_is shape (StoreOf w new) found = refl
-told_is shape (AddOf w by) found = refl
 
 pub makes_turn : (shape : Shape) (seat seat' : Seat) (before after : List ℕ) (said : Absorbed) (op : WordOp) (found told due : ℕ) →
     op ≡ op_of shape (move_of seat.state) → found ≡ get_or before (place_in op) 0 → after ≡ slice_set before (place_in op) (left_by op found) →

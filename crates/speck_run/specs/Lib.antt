@@ -2,4 +2,5 @@ pub mod Orders
 pub mod Written
 pub mod Ends
 pub mod Script
+pub mod Plain
 pub mod Top

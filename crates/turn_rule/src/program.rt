@@ -10,7 +10,7 @@ pub trait CoreProgram: Drop {
 
     ghost use Rattle.std.specs.Prelude.{◌≡◌, ◌<◌, IsNone, IsSome, IfSome};
     ghost use Rattle.turn_rule.specs.Steps.{Steps};
-ghost use Rattle.spk_nums.specs.WordSteps.{place_in};
+    ghost use Rattle.spk_nums.specs.WordSteps.{place_in};
 
     // How the program goes on: its next step, what a word and a call make of it, which calls are fit, and its words.
     ghost steps: { Steps Self Self.Call };

@@ -5,7 +5,8 @@ use Rattle.kernel_history.specs.FinalWords.{Represent, word_in, end_in}
 use Rattle.kernel_history.specs.Trace.{state_after}
 use Rattle.flight.specs.Steps.{end_of}
 use Rattle.lone_kernel.specs.Machine.{fresh_seat, IsFit}
-use Rattle.lone_kernel.proofs.Close.{same_default, closes}
+use Rattle.flight.proofs.Alike.{same_default}
+use Rattle.lone_kernel.proofs.Close.{closes}
 use Rattle.lone_kernel.proofs.lone.LoneKernel.close.Goals as goal
 
 pub ends_of-requires : goal.ends_of-requires

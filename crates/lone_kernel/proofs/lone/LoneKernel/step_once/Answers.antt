@@ -171,4 +171,3 @@ pub take-absorbed-requires-clause-machine : goal.take-absorbed-requires-clause-m
 take-absorbed-requires-clause-machine c =
     let i = (goal.at.take-absorbed-requires-clause-machine c).In-Some in
     i.self.invariant.1 ∙ sym (fit_lent i c.index_mut.result.now c.index_mut.ensures.value).shape
-

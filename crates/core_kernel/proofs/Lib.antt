@@ -1,0 +1,10 @@
+pub mod Lists
+pub mod Balance
+pub mod Along
+pub mod Turns
+pub mod Seats
+pub mod Closing
+pub mod Zips
+pub mod Lanes
+pub mod Numbered
+pub mod Wholes

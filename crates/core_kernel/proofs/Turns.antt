@@ -1,0 +1,135 @@
+-- A turn of a seat as steps of the kernel.
+use Rattle.std.proofs.Common.{◌≡◌, ◌≢◌, ◌⊎◌, inl, inr, ℕ, ◌+◌, ◌<◌, List, [], ◌∷◌, ◌++◌, length, Option, Some, None, IsSome, IsSomeAnd, MatchOption, option_to_list, refl, sym, ◌∙◌, ap, subst, arith, append_assoc, eq-eqb}
+use Rattle.spk_nums.specs.declared.calls.Call.{Call}
+use Rattle.spk_nums.specs.declared.replies.Reply.{Reply}
+use Rattle.spk_nums.specs.declared.steps.WordOp.{WordOp}
+use Rattle.spk_nums.specs.Setting.{Setting, IsSetting}
+use Rattle.kernel_history.specs.Trace.{Step, Trace, calls_of}
+use Rattle.kernel_history.proofs.Steps.{calls_of-own}
+use Rattle.turn_rule.specs.declared.view.Entry.{Entry}
+use Rattle.turn_rule.specs.declared.view.Start.{Start}
+use Rattle.spk_nums.specs.WordSteps as table
+use Rattle.turn_rule.specs.Trace.{entry, called, program_after, IsSound}
+use Rattle.turn_rule.proofs.Traces.{program_stays}
+use Rattle.turn_rule.specs.Seats.{SeatValue, MakesStep, FollowsTrace}
+use Rattle.flight.specs.View.{Core}
+use Rattle.flight.specs.Fits.{IsCore, steps_left}
+use Rattle.flight.specs.Made.{returned_in}
+use Rattle.flight.specs.Steps.{move_of, absorbed, told_of_step}
+use Rattle.word_map.specs.Moves.{told_of}
+use Rattle.flight.specs.declared.stages.InFlight.{InFlight}
+use Rattle.flight.proofs.AfterStep.{absorbed_returns}
+use Rattle.flight.proofs.CoreFits.{absorbed_fewer}
+use Rattle.core_kernel.specs.declared.core_run.CoreRun.{CoreRun}
+use Rattle.core_kernel.specs.Running.{answered, running}
+use Rattle.core_kernel.specs.Seen.{core_by, step_by, trace_of}
+use Rattle.core_kernel.specs.Replies.{AreOfOthers, EndsWith}
+use Rattle.core_kernel.specs.Kernel.{IsBooted}
+use Rattle.core_kernel.specs.Turns.{HasReturned, GoesOn}
+use Rattle.core_kernel.proofs.Along.{along, EntryIs, entry_is}
+use Rattle.core_kernel.proofs.Lists.{calls_of-append, calls_of-others, steps_since, trace_of-append, others_since}
+
+some_and : {A : Type 0} (o : Option A) (x : A) (F : A → Type 0) → o ≡ Some x → F x → IsSomeAnd o F
+some_and o x F is h = subst (λ p. IsSomeAnd p F) (sym is) h
+
+pub the_some : {A : Type 0} (o : Option A) (N : Type 0) (F : A → Type 0) → IsSome o → MatchOption o N F → (a : A) × (o ≡ Some a) × F a
+the_some None N F s f = absurd (cc)
+the_some (Some a) N F s f = (a, refl, f)
+
+pub the_some_and : {A : Type 0} (o : Option A) (F : A → Type 0) → IsSomeAnd o F → (a : A) × (o ≡ Some a) × F a
+the_some_and None F f = absurd f
+the_some_and (Some a) F f = (a, refl, f)
+
+the_same : {A : Type 0} (x y : A) (o : Option A) → o ≡ Some x → o ≡ Some y → x ≡ y
+the_same x y o i j = cc
+
+-- a core whose step leaves it between calls keeps the reply that the step returns
+returns_kept : (p : CoreRun) (core : Core) (last : Option Reply) (n : ℕ) → p ≡ record { state = absorbed core n; last = answered last (returned_in (told_of_step core n)) } → IsSome core.flight → p.state.flight ≡ None
+    → (r : Reply) × (p.last ≡ Some r) × (returned_in (told_of_step core n) ≡ Some r)
+returns_kept p core last n is some none =
+    let r = absorbed_returns core n some (ap (λ q. q.state.flight) (sym is) ∙ none) in
+    (r.0, ap (λ q. q.last) is ∙ ap (answered last) r.1, r.1)
+
+module _ (setup : Setting) (seat : SeatValue CoreRun Call) (call : Option Call) (op : WordOp) (made : SeatValue CoreRun Call)
+    (booted : IsBooted setup seat.table) (before : FollowsTrace running seat) (next : running.next (called running seat.program call) ≡ Some op)
+    (m : MakesStep running seat call op made) (follows : FollowsTrace running made) where
+  abbrev c : ℕ
+  c = seat.core
+
+  abbrev e : Entry Call
+  e = entry c op m.found call
+
+  abbrev older : List (Entry Call)
+  older = m.others ++ seat.seen
+
+  abbrev start : Start CoreRun
+  start = seat.table.start
+
+  sound : IsSound running start (e ∷ older)
+  sound = subst (λ (z : Start CoreRun × List (Entry Call)). IsSound running z.0 z.1) (λ i. (ap (λ t. t.start) m.table i, m.seen i)) follows.sound
+
+  same_program : sound.1.program ≡ seat.program
+  same_program = the_same sound.1.program seat.program (program_after running start older c) sound.1.runs (program_stays running start c m.others seat.seen m.apart ∙ before.runs)
+
+  is : EntryIs setup older e seat.program
+  is = subst (EntryIs setup older e) same_program
+      (entry_is setup booted.setting start booted.start older e sound.1 (along setup booted.setting start booted.start older sound.0))
+
+  abbrev core : Core
+  core = core_by setup (trace_of setup older) e
+
+  abbrev step : Step
+  step = step_by setup (trace_of setup older) e
+
+  abbrev since : Trace
+  since = step ∷ steps_since setup m.others seat.seen
+
+  begins : trace_of setup made.seen ≡ since ++ trace_of setup seat.seen
+  begins = ap (trace_of setup) m.seen ∙ ap (λ l. step ∷ l) (trace_of-append setup m.others seat.seen)
+
+  calls : calls_of since c ≡ option_to_list call
+  calls = calls_of-own c step (steps_since setup m.others seat.seen) refl
+      ∙ ap (λ l. l ++ option_to_list call) (calls_of-others c (steps_since setup m.others seat.seen) (others_since setup c m.others seat.seen m.apart))
+
+  abbrev kept : Option Reply
+  kept = (called running seat.program call).last
+
+  program_is : made.program ≡ record { state = absorbed core (told_of (move_of core) m.found); last = answered kept (returned_in (told_of_step core (told_of (move_of core) m.found))) }
+  program_is = m.program ∙ ap (λ (z : Core × ℕ). record { state = absorbed z.0 z.1; last = answered kept (returned_in (told_of_step z.0 z.1)) }) (λ i. (is.core i, is.told op next i))
+
+  returned : HasReturned setup made
+  returned none =
+      let r = returns_kept made.program core kept (told_of (move_of core) m.found) program_is is.in_call none in
+      some_and made.program.last r.0 (λ r. EndsWith made.core r (trace_of setup made.seen)) r.1 record {
+        step = step;
+        older = trace_of setup older;
+        whole = ap (trace_of setup) m.seen;
+        own = sym m.core;
+        returns = r.2;
+      }
+
+  pub goes : GoesOn setup seat (option_to_list call) made
+  goes = record { since = since; begins = begins; calls = calls; core = m.core; table = m.table; follows = follows; returned = returned }
+
+  -- and leaves the call fewer steps
+  pub fewer : steps_left made.program.state < steps_left (called running seat.program call).state
+  fewer =
+      let f = some_of core.flight is.in_call in
+      let less = absorbed_fewer core f.0 (told_of (move_of core) m.found) f.1 is.fits in
+      subst (λ (z : Core × Core). steps_left z.0 < steps_left z.1) (λ i. (ap (λ q. q.state) (sym program_is) i, sym is.core i)) less
+    where
+      some_of : (o : Option InFlight) → IsSome o → (f : InFlight) × (o ≡ Some f)
+      some_of None some = absurd (cc)
+      some_of (Some f) some = (f, refl)
+
+-- a seat that goes on twice
+pub goes_further : (setup : Setting) (u v w : SeatValue CoreRun Call) (xs ys : List Call) → GoesOn setup u xs v → GoesOn setup v ys w → GoesOn setup u (xs ++ ys) w
+goes_further setup u v w xs ys a b = record {
+  since = b.since ++ a.since;
+  begins = b.begins ∙ ap (λ l. b.since ++ l) a.begins ∙ sym (append_assoc b.since a.since (trace_of setup u.seen));
+  calls = calls_of-append u.core b.since a.since ∙ ap (λ l. l ++ calls_of b.since u.core) a.calls ∙ ap (λ l. xs ++ l) (ap (calls_of b.since) (sym a.core) ∙ b.calls);
+  core = b.core ∙ a.core;
+  table = b.table ∙ a.table;
+  follows = b.follows;
+  returned = b.returned;
+}

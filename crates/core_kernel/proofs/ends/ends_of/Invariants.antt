@@ -1,0 +1,6 @@
+use Rattle.std.proofs.Common.{◌≡◌, map, take}
+use Rattle.flight.specs.Steps.{end_of}
+use Rattle.core_kernel.proofs.ends.ends_of.Given as goal
+
+abbrev pub invariant-loop-program : goal.invariant-loop-program
+invariant-loop-program l = l.ends.items ≡ map (λ p. end_of p.state) (take l.program-index l.programs)

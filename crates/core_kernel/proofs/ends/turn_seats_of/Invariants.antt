@@ -1,0 +1,5 @@
+use Rattle.core_kernel.specs.Turns.{AreWrapped}
+use Rattle.core_kernel.proofs.ends.turn_seats_of.Given as goal
+
+abbrev pub invariant-loop-one : goal.invariant-loop-one
+invariant-loop-one l = AreWrapped l.setup l.turn_seats.items l.yielded

@@ -1,0 +1,9 @@
+pub mod Running
+pub mod Seen
+pub mod Replies
+pub mod Kernel
+pub mod Turns
+pub mod Calls
+pub mod Runs
+pub mod Whole
+pub mod TakenSteps

@@ -1,0 +1,36 @@
+-- What the turns of a seat of the table are as steps of the kernel.
+use Rattle.std.specs.Prelude.{◌≡◌, ℕ, ◌<◌, List, ◌++◌, length, map, slice_get, All, Some, None, IsSomeAnd}
+use Rattle.spk_nums.specs.declared.calls.Call.{Call}
+use Rattle.spk_nums.specs.Setting.{Setting}
+use Rattle.kernel_history.specs.Trace.{Trace, calls_of}
+use Rattle.turn_rule.specs.Seats.{SeatValue, FollowsTrace}
+use Rattle.flight.specs.Steps.{started}
+use Rattle.core_kernel.specs.declared.core_run.CoreRun.{CoreRun}
+use Rattle.core_kernel.specs.Running.{running, run_of}
+use Rattle.core_kernel.specs.Seen.{trace_of}
+use Rattle.core_kernel.specs.Replies.{EndsWith}
+use Rattle.core_kernel.specs.Kernel.{CoreSeatValue, IsSeat, seat_value}
+
+-- Where the core is between calls, its newest step has just returned the reply that is kept.
+abbrev pub HasReturned : Setting → SeatValue CoreRun Call → Type 0
+HasReturned setup s = s.program.state.flight ≡ None → IsSomeAnd s.program.last (λ r. EndsWith s.core r (trace_of setup s.seen))
+
+-- The seat's trace goes on by steps in which its core begins these calls.
+pub record GoesOn (setup : Setting) (seat : SeatValue CoreRun Call) (entered : List Call) (on : SeatValue CoreRun Call) : Type 0 where
+  pub since : Trace
+  pub begins : trace_of setup on.seen ≡ since ++ trace_of setup seat.seen
+  pub calls : calls_of since seat.core ≡ entered
+  pub core : on.core ≡ seat.core
+  pub table : on.table ≡ seat.table
+  pub follows : FollowsTrace running on
+  pub returned : HasReturned setup on
+
+-- The first n cores at the start.
+pub record ArePrograms (setup : Setting) (n : ℕ) (programs : List CoreRun) : Type 0 where
+  pub count : length programs ≡ n
+  pub each : (c : ℕ) → c < n → slice_get programs c ≡ Some (run_of (started c setup) None)
+
+-- The seats of a table, and the same ones as seats of its kernel.
+pub record AreWrapped (setup : Setting) (turn_seats : List (SeatValue CoreRun Call)) (seats : List CoreSeatValue) : Type 0 where
+  pub same : map (seat_value setup) turn_seats ≡ seats
+  pub each : All (IsSeat setup) turn_seats

@@ -1,0 +1,60 @@
+//! The program that a core runs at the shared table.
+
+ghost use Rattle.std.specs.Prelude.{◌≡◌, ◌<◌, None};
+ghost use Rattle.flight.specs.Steps.{started};
+ghost use Rattle.core_kernel.specs.Running.{run_of};
+
+use flight::{Absorbed, CoreState};
+use spk_nums::{Call, CoreNo, Reply, Setup, WordOp};
+use turn_rule::CoreProgram;
+
+/// A core's state, and the reply of the call that it has made last.
+#[derive(Drop)]
+pub struct CoreRun {
+    pub(crate) state: CoreState,
+    pub(crate) last: Option<Reply>,
+}
+
+impl CoreRun {
+    // A core of a machine that has just booted. It is below the setup's cores.
+    pub(crate) fn start(core: CoreNo, setup: &Setup) -> CoreRun
+        requires { core < setup.now.cores }
+        ensures { result ≡ run_of (started core setup.now) None }
+    {
+        CoreRun {
+            state: CoreState::start(core, setup),
+            last: None,
+        }
+    }
+}
+
+impl CoreProgram for CoreRun {
+    type Call = Call;
+
+    ghost use Rattle.core_kernel.specs.Running.{running};
+
+    ghost steps = { running };
+
+    #[inline]
+    fn begin(&mut self, call: Call) {
+        self.state.begin(call);
+    }
+
+    #[inline]
+    fn next_op(&self) -> Option<WordOp> {
+        if self.state.in_call() {
+            Some(self.state.next_op(self.state.layout()))
+        } else {
+            None
+        }
+    }
+
+    #[inline]
+    fn absorb(&mut self, found: u64) {
+        match self.state.absorb(found) {
+            Absorbed::Going => {}
+            Absorbed::Decided(_) => {}
+            Absorbed::Returned(reply) => self.last = Some(reply),
+        }
+    }
+}

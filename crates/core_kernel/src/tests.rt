@@ -1,0 +1,154 @@
+//! Tests of what no clause says: that the calls succeed, and what they answer.
+
+ghost use Rattle.std.specs.Prelude.{◌≡◌, ◌<◌, IfOk, All, length};
+ghost use Rattle.core_kernel.specs.Calls.{Extends};
+ghost use Rattle.core_kernel.specs.Running.{CanCall};
+ghost use Rattle.core_kernel.specs.Whole.{IsList};
+
+use crate::gate::{FreeGate, Gate};
+use crate::kernel::Kernel;
+use crate::seat::CoreSeat;
+use crate::threads::cross_threads;
+use crate::whole::run_whole;
+use spk_nums::{
+    Call, Cap, CapId, CoreNo, FrameNo, Grant, Grants, Kind, Memory, Reply, Setup, Value,
+};
+use std::alloc::Global;
+
+fn look(a: u16) -> Call
+    requires { a < 64 }
+    ensures { CanCall result }
+{
+    Call::Look { a: CapId::new(a) }
+}
+
+fn copy(a: u16, b: u16) -> Call
+    requires source { a < 64 }
+    requires target { b < 64 }
+    ensures { CanCall result }
+{
+    Call::Copy {
+        a: CapId::new(a),
+        t: CapId::new(1),
+        b: CapId::new(b),
+    }
+}
+
+fn list(alloc: Global, first: Call, second: Call) -> Result<Vec<Call>, Memory>
+    requires first { CanCall first }
+    requires second { CanCall second }
+    ensures { IfOk result (λ v. IsList v.items) }
+{
+    match Vec::from_array(alloc, [first, second]) {
+        Ok(list) => Ok(list),
+        Err(_) => Err(Memory),
+    }
+}
+
+// A machine of two cores and 32 frames.
+fn setup() -> Result<Setup, Memory>
+    ensures { IfOk result (λ s. s.cores ≡ 2) }
+{
+    let mut grants = Grants::empty();
+    for _ in 0..2 {
+        let _added = grants.add(Grant {
+            budget: 100,
+            sched: 0,
+            quality: 1,
+        });
+    }
+    match Setup::new(2, 32, grants, 9, 1) {
+        Some(setup) => Ok(setup),
+        None => Err(Memory),
+    }
+}
+
+// Each core looks and copies, in entries of its own.
+fn two_lists(alloc: Global) -> Result<Vec<Vec<Call>>, Memory>
+    ensures count { IfOk result (λ v. length v.items ≡ 2) }
+    ensures lists { IfOk result (λ v. All (λ list. IsList list.items) v.items) }
+{
+    let first = list(alloc, look(0), copy(0, 20))?;
+    let second = list(alloc, look(1), copy(1, 21))?;
+    match Vec::from_array(alloc, [first, second]) {
+        Ok(lists) => Ok(lists),
+        Err(_) => Err(Memory),
+    }
+}
+
+// A gate that lets no call go on.
+struct Shut;
+
+impl Gate for Shut {
+    ghost use Rattle.std.specs.Prelude.{false};
+
+    ghost is_free = { λ _. false };
+
+    fn may_go(&self, _core: CoreNo, _made: u32) -> bool {
+        false
+    }
+}
+
+// The first seat tells the second one what it has seen.
+fn tell(kernel: &Kernel, first: &mut CoreSeat, second: &mut CoreSeat)
+    requires first { first.old.kernel ≡ kernel.now }
+    requires second { second.old.kernel ≡ kernel.now }
+    ensures same { first.new ≡ first.old }
+    ensures kernel { second.new.kernel ≡ second.old.kernel }
+    ensures told { Extends first.old.seen second.new.seen }
+{
+    let note = kernel.note(first);
+    kernel.meet(second, note);
+}
+
+#[test]
+fn two_cores_make_their_lists_at_once(rt: HostRuntime) -> Result<(), Memory> {
+    cross_threads();
+    let setup = setup()?;
+    let lists = two_lists(rt.alloc())?;
+    let Some(ran) = run_whole(&rt, rt.alloc(), &setup, &lists, &FreeGate)? else {
+        return Err(Memory);
+    };
+    let range = Value::Cap(Cap::new(Kind::Range, FrameNo::new(8), 24));
+    let table = Value::Cap(Cap::new(Kind::Table, FrameNo::new(0), 0));
+    let wanted = [
+        (0, 1, Reply::Ok(range)),
+        (0, 2, Reply::Ok(Value::Nothing)),
+        (1, 1, Reply::Ok(table)),
+        (1, 2, Reply::Ok(Value::Nothing)),
+    ];
+    assert_eq!(rt; ran.decisions.len(), wanted.len());
+    for (decision, (core, index, reply)) in ran.decisions.iter().zip(wanted.iter()) {
+        assert_eq!(rt; decision.core.number(), *core);
+        assert_eq!(rt; decision.index, *index);
+        assert_eq!(rt; decision.reply, *reply);
+    }
+    Ok(())
+}
+
+#[test]
+fn a_shut_gate_stops_a_run(rt: HostRuntime) -> Result<(), Memory> {
+    let setup = setup()?;
+    let lists = two_lists(rt.alloc())?;
+    let ran = run_whole(&rt, rt.alloc(), &setup, &lists, &Shut)?;
+    assert!(rt; ran.is_none());
+    Ok(())
+}
+
+#[test]
+fn a_core_learns_of_the_calls_of_another(rt: HostRuntime) -> Result<(), Memory> {
+    let setup = setup()?;
+    let (kernel, mut seats) = Kernel::boot(rt.alloc(), &setup)?;
+    let (first, second) = seats.as_mut_slice().split_at_mut(1);
+    let copied = kernel.call(&mut first[0], copy(0, 20));
+    assert_eq!(rt; copied, Reply::Ok(Value::Nothing));
+    tell(&kernel, &mut first[0], &mut second[0]);
+    let range = Value::Cap(Cap::new(Kind::Range, FrameNo::new(8), 24));
+    let looked = kernel.call(&mut second[0], look(20));
+    assert_eq!(rt; looked, Reply::Ok(range));
+    assert_eq!(rt; first[0].front().calls, 1);
+    assert_eq!(rt; second[0].front().core, CoreNo::new(1));
+    let closed = kernel.finish(rt.alloc(), seats)?;
+    assert_eq!(rt; closed.words[84], closed.words[64]);
+    Ok(())
+}

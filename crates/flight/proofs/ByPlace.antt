@@ -1,0 +1,30 @@
+-- A step by the place of its word is the step by the word's name, and words of different names have different places.
+use Rattle.std.proofs.Common.{◌≡◌, ◌≢◌, ℕ, refl, sym, ◌∙◌}
+use Rattle.spk_nums.specs.WordSteps.{place_in, left_by, told_by}
+use Rattle.word_map.specs.Word.{Word}
+use Rattle.word_map.specs.Places.{Shape, IsShape, place_of}
+use Rattle.word_map.specs.Moves.{Move, LoadOf, CompareOf, StoreOf, AddOf, word_of, op_of, left_of, told_of}
+use Rattle.word_map.proofs.PlaceLemmas.{has_places}
+use Rattle.flight.specs.Phases.{IsWord}
+
+pub place_is : (shape : Shape) (m : Move) → place_in (op_of shape m) ≡ place_of shape (word_of m)
+place_is shape (LoadOf w) = refl
+place_is shape (CompareOf w expected new) = refl
+place_is shape (StoreOf w new) = refl
+place_is shape (AddOf w by) = refl
+
+pub left_is : (shape : Shape) (m : Move) (found : ℕ) → left_by (op_of shape m) found ≡ left_of m found
+left_is shape (LoadOf w) found = refl
+left_is shape (CompareOf w expected new) found = refl
+left_is shape (StoreOf w new) found = refl
+left_is shape (AddOf w by) found = refl
+
+pub told_is : (shape : Shape) (m : Move) (found : ℕ) → told_by (op_of shape m) found ≡ told_of m found
+told_is shape (LoadOf w) found = refl
+told_is shape (CompareOf w expected new) found = refl
+told_is shape (StoreOf w new) found = refl
+told_is shape (AddOf w by) found = refl
+
+-- different words have different places
+pub apart_places : (shape : Shape) (w u : Word) → IsShape shape → IsWord shape w → IsWord shape u → w ≢ u → place_of shape w ≢ place_of shape u
+apart_places shape w u is h k other same = other (sym h.is_named ∙ (has_places shape is).distinct w u h.is_in k.is_in same ∙ k.is_named)
