@@ -1,0 +1,4 @@
+pub mod Clocks
+pub mod Scan
+pub mod Removal
+pub mod Flushing

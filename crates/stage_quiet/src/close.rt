@@ -1,0 +1,243 @@
+//! Removing what stands at a place.
+//!
+//! **Three steps.** A compare puts the core's mark in the place of the entry; an add draws a stamp from the clock, and
+//! decides the removal; a store leaves the entry that quiesces since that stamp. The draw must come behind the mark:
+//! between them no core can find the entry and enter it into a call that the stamp takes for a later one.
+
+ghost use Rattle.std.specs.Prelude.{◌≡◌, ◌<◌, ◌≤◌, ◌==◌};
+ghost use Rattle.entry_words.specs.EntryWord.{word_of_entry};
+ghost use Rattle.entry_words.specs.declared.entry.Entry.TheVariants.{Closing, Quiescing};
+ghost use Rattle.word_map.specs.Places.{size_of};
+ghost use Rattle.word_map.specs.Moves.{op_of, place_in};
+ghost use Rattle.stage_quiet.specs.Clocks.{drawn_stamp};
+ghost use Rattle.stage_quiet.specs.Removal.{CloseFits, close_move, close_compared, close_end, close_after};
+
+use entry_words::Entry;
+use spk_nums::{CoreNo, EntryNo, FrameNo, Reply, StageEnd, Stamp, Value, WordOp};
+use word_map::Layout;
+
+/// The removal of what stands at a place, between two of its steps.
+#[derive(Clone, Copy, PartialEq, Eq, Debug)]
+pub enum Close {
+    /// Before the compare of the entry, which was found to be this word.
+    AtCompare {
+        node: FrameNo,
+        entry: EntryNo,
+        word: u64,
+        core: CoreNo,
+    },
+    /// Before the draw of the stamp.
+    AtDraw {
+        node: FrameNo,
+        entry: EntryNo,
+    },
+    /// Before the store of the entry that quiesces since this stamp, at least 1.
+    AtStore {
+        node: FrameNo,
+        entry: EntryNo,
+        stamp: Stamp,
+    },
+}
+
+impl Close {
+    /// The removal by a core of the word found at an entry of a node.
+    #[inline]
+    pub fn new(node: FrameNo, entry: EntryNo, word: u64, core: CoreNo) -> Close
+        ensures { result ≡ Close.AtCompare node entry word core }
+    {
+        Close::AtCompare {
+            node,
+            entry,
+            word,
+            core,
+        }
+    }
+
+    /// The next step. The node is below the layout's frames, and the entry below 64.
+    #[inline]
+    pub fn next(&self, layout: &Layout) -> WordOp
+        requires { CloseFits layout.now self.now }
+        ensures step { result ≡ op_of layout.now (close_move self.now) }
+        ensures below { place_in result < size_of layout.now }
+    {
+        match *self {
+            Close::AtCompare {
+                node,
+                entry,
+                word,
+                core,
+            } => WordOp::Compare {
+                at: layout.entry_at(node, entry),
+                expected: word,
+                word: closing_word(core),
+            },
+            Close::AtDraw { node: _, entry: _ } => WordOp::Add {
+                at: layout.clock_at(),
+                by: 1,
+            },
+            Close::AtStore { node, entry, stamp } => WordOp::Store {
+                at: layout.entry_at(node, entry),
+                word: quiescing_word(stamp),
+            },
+        }
+    }
+
+    /// Takes the word that the step found. The compare is refused with `raced` where it finds another word than the
+    /// entry's; the draw decides the removal with the clock found as its stamp; the store is done with that stamp. The
+    /// node is below the layout's frames, and the entry below 64, and both stay so.
+    #[inline]
+    pub fn take(&mut self, layout: &Layout, found: u64) -> StageEnd<Stamp>
+        requires { CloseFits layout.now self.old }
+        ensures end { result ≡ close_end self.old found }
+        ensures after { self.new ≡ close_after self.old found }
+        ensures fits { CloseFits layout.now self.new }
+    {
+        let end = self.end(found);
+        *self = self.after(found);
+        end
+    }
+
+    // What the step leads to that finds this word.
+    #[inline]
+    fn end(&self, found: u64) -> StageEnd<Stamp>
+        ensures { result ≡ close_end self.now found }
+    {
+        match *self {
+            Close::AtCompare {
+                node: _,
+                entry: _,
+                word,
+                core: _,
+            } => compared(found == word),
+            Close::AtDraw { node: _, entry: _ } => StageEnd::Decided(Reply::Ok(Value::Nothing)),
+            Close::AtStore {
+                node: _,
+                entry: _,
+                stamp,
+            } => StageEnd::Done(stamp),
+        }
+    }
+
+    // Where the removal stands behind a step that finds this word.
+    #[inline]
+    fn after(&self, found: u64) -> Close
+        ensures { result ≡ close_after self.now found }
+    {
+        match *self {
+            Close::AtCompare {
+                node,
+                entry,
+                word,
+                core: _,
+            } => {
+                if found == word {
+                    Close::AtDraw { node, entry }
+                } else {
+                    *self
+                }
+            }
+            Close::AtDraw { node, entry } => Close::AtStore {
+                node,
+                entry,
+                stamp: drawn(found),
+            },
+            Close::AtStore {
+                node: _,
+                entry: _,
+                stamp: _,
+            } => *self,
+        }
+    }
+}
+
+// What the compare leads to, where it did or did not find the entry.
+#[inline]
+fn compared(same: bool) -> StageEnd<Stamp>
+    ensures { result ≡ close_compared same }
+{
+    if same {
+        StageEnd::Going
+    } else {
+        StageEnd::Refuse(Reply::Raced)
+    }
+}
+
+// The stamp that is drawn from a clock, at least 1.
+#[inline]
+fn drawn(clock: u64) -> Stamp
+    ensures { result ≡ drawn_stamp clock }
+{
+    if clock == 0 {
+        Stamp::new(1)
+    } else if clock < 1 << 28 {
+        Stamp::new(clock as u32)
+    } else {
+        Stamp::new((1 << 28) - 1)
+    }
+}
+
+// The word of an entry that a core is removing.
+#[inline]
+fn closing_word(core: CoreNo) -> u64
+    ensures { result ≡ word_of_entry (Closing core) }
+{
+    let entry = Entry::Closing { by: core };
+    entry.pack()
+}
+
+// The word of an entry that quiesces since a stamp, at least 1.
+#[inline]
+fn quiescing_word(stamp: Stamp) -> u64
+    requires { 1 ≤ stamp }
+    ensures { result ≡ word_of_entry (Quiescing stamp) }
+{
+    let entry = Entry::Quiescing { stamp };
+    entry.pack()
+}
+
+#[cfg(test)]
+mod tests {
+    use super::*;
+
+    // The entry of a table, the mark of core 1, and the entry that quiesces since the stamp 5.
+    const TABLE_0: u64 = 5;
+
+    const CLOSING: u64 = 6;
+
+    const QUIESCING: u64 = 0x5_0000_0003;
+
+    #[test]
+    fn closes_draws_and_stores(rt: HostRuntime) {
+        if let Some(layout) = Layout::new(1, 8) {
+            let mut close = Close::new(FrameNo::new(1), EntryNo::new(6), TABLE_0, CoreNo::new(1));
+            let compare = WordOp::Compare {
+                at: 70,
+                expected: TABLE_0,
+                word: CLOSING,
+            };
+            assert_eq!(rt; close.next(&layout), compare);
+            let mut lost = close;
+            assert_eq!(rt; lost.take(&layout, 0), StageEnd::Refuse(Reply::Raced));
+            assert_eq!(rt; close.take(&layout, TABLE_0), StageEnd::Going);
+            assert_eq!(rt; close.next(&layout), WordOp::Add { at: 594, by: 1 });
+            let ok = StageEnd::Decided(Reply::Ok(Value::Nothing));
+            assert_eq!(rt; close.take(&layout, 5), ok);
+            let store = WordOp::Store {
+                at: 70,
+                word: QUIESCING,
+            };
+            assert_eq!(rt; close.next(&layout), store);
+            assert_eq!(rt;
+                close.take(&layout, QUIESCING),
+                StageEnd::Done(Stamp::new(5))
+            );
+        }
+    }
+
+    #[test]
+    fn keeps_a_drawn_stamp_in_its_range(rt: HostRuntime) {
+        for (clock, stamp) in [(0, 1), (7, 7), (1 << 40, 0xfff_ffff)] {
+            assert_eq!(rt; drawn(clock), Stamp::new(stamp), "at {clock}");
+        }
+    }
+}
