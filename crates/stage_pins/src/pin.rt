@@ -11,7 +11,8 @@ ghost use Rattle.std.specs.Prelude.{◌≡◌, ◌<◌, ℕ, Some};
 ghost use Rattle.spk_nums.specs.declared.steps.StageEnd.TheVariants.{Going};
 ghost use Rattle.frame_words.specs.Count.{NumberFits, word_of_count};
 ghost use Rattle.word_map.specs.Places.{size_of};
-ghost use Rattle.word_map.specs.Moves.{op_of, place_in};
+ghost use Rattle.spk_nums.specs.WordSteps.{place_in};
+ghost use Rattle.word_map.specs.Moves.{op_of};
 ghost use Rattle.stage_pins.specs.Counts.{unheld, acquired};
 ghost use Rattle.stage_pins.specs.Acquire.{PinCounts, PinFits, expected_by, pin_move, end_by_hold, load_end, pinned_at, compare_end, pin_end, after_hold, after_load, pin_after, EndFits};
 

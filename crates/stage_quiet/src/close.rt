@@ -8,7 +8,8 @@ ghost use Rattle.std.specs.Prelude.{◌≡◌, ◌<◌, ◌≤◌, ◌==◌};
 ghost use Rattle.entry_words.specs.EntryWord.{word_of_entry};
 ghost use Rattle.entry_words.specs.declared.entry.Entry.TheVariants.{Closing, Quiescing};
 ghost use Rattle.word_map.specs.Places.{size_of};
-ghost use Rattle.word_map.specs.Moves.{op_of, place_in};
+ghost use Rattle.spk_nums.specs.WordSteps.{place_in};
+ghost use Rattle.word_map.specs.Moves.{op_of};
 ghost use Rattle.stage_quiet.specs.Clocks.{drawn_stamp};
 ghost use Rattle.stage_quiet.specs.Removal.{CloseFits, close_move, close_compared, close_end, close_after};
 

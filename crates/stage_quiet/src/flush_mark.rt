@@ -6,7 +6,8 @@
 ghost use Rattle.std.specs.Prelude.{◌≡◌, ◌<◌};
 ghost use Rattle.frame_words.specs.Flush.{word_of_flush};
 ghost use Rattle.word_map.specs.Places.{size_of};
-ghost use Rattle.word_map.specs.Moves.{op_of, place_in};
+ghost use Rattle.spk_nums.specs.WordSteps.{place_in};
+ghost use Rattle.word_map.specs.Moves.{op_of};
 ghost use Rattle.stage_quiet.specs.Clocks.{stamp_of_clock};
 ghost use Rattle.stage_quiet.specs.Flushing.{FlushMarkFits, flush_move, flush_end, flush_after};
 
