@@ -10,13 +10,14 @@ use Rattle.kernel_rules.specs.Runs.{Event, after, core_of, is_open, phase_by, ph
 use Rattle.kernel_rules.proofs.SoundCalls.{IsOpen}
 use Rattle.kernel_rules.proofs.SoundRuns.{opened, open_is}
 use Rattle.kernel_rules.proofs.Stays.{Stay, stay_same, stay_then, names_node, usable_relies, table_relies, pages_relies, event_stay}
+use Rattle.state_laws.proofs.Phases.{phase_other}
 use Rattle.state_laws.specs.Looking.{names_nodes, LooksThrough, AreOfOthers, FoundStays}
 
 -- A core stays open through events of others.
 open_still : (later earlier : List Event) (c : ℕ) → AreOfOthers c later → phase_of (later ++ earlier) c ≡ phase_of earlier c
 open_still [] earlier c others = refl
 open_still (e ∷ later) earlier c others =
-    ap (λ b. if b then phase_by e else phase_of (later ++ earlier) c) (ne_eqb c (core_of e) others.0) ∙ open_still later earlier c others.1
+    phase_other e (later ++ earlier) c others.0 ∙ open_still later earlier c others.1
 
 stays : (setting : Setting) → IsSetting setting → (later earlier : List Event) → IsRun setting (later ++ earlier) → (c : ℕ)
     → AreOfOthers c later
