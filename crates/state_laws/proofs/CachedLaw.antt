@@ -1,6 +1,6 @@
 -- In every state that a run reaches, what a core has cached stands.
 use Rattle.std.proofs.Common.{◌≡◌, ◌≢◌, ◌⊎◌, inl, inr, ℕ, ◌<◌, ◌≤◌, ◌/◌, ◌%◌, arith, Bool, true, false, refl, sym, ◌∙◌, ap, subst, nat_lt, nat_le, if◌then◌else◌, IsTrue, List, [], ◌∷◌, ◌++◌, length, Option, Some, None}
-use Rattle.std.proofs.lemmas.Bool.{cases_eq, false≢true, ltb-false, eq-eqb, ne_eqb}
+use Rattle.std.proofs.lemmas.Bool.{cases_eq, false≢true, ltb-false}
 use Rattle.std.specs.List.{AllByRecursion}
 use Rattle.spk_nums.specs.Setting.{Setting, IsSetting}
 use Rattle.spk_nums.specs.CallLimits.{InLimits}
@@ -27,7 +27,7 @@ use Rattle.kernel_rules.specs.InvocationCalls.{switch_to}
 use Rattle.kernel_rules.specs.CallRelation.{rule_of, change_of, changed, owed_by, state_by, MayReply, flushes, flushes_by}
 use Rattle.kernel_rules.specs.Fitting.{fits, IsGood}
 use Rattle.kernel_rules.specs.Relies.{IsGuarded}
-use Rattle.kernel_rules.specs.Runs.{Event, Enters, Decides, Returns, after, core_of, is_in, is_open, phase_by, phase_of, IsRun}
+use Rattle.kernel_rules.specs.Runs.{Event, Enters, Decides, Returns, after, is_in, is_open, IsRun}
 use Rattle.kernel_rules.proofs.Changes.{IfFound}
 use Rattle.kernel_rules.proofs.Within.{put_same, put_other}
 use Rattle.kernel_rules.proofs.AloneLaw.{waits_inside, decided_stays}

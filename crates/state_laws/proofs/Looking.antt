@@ -1,12 +1,12 @@
 -- What a core in an open call has found stays found while other cores go on.
-use Rattle.std.proofs.Common.{◌≡◌, inl, inr, ℕ, Bool, refl, sym, ◌∙◌, ap, subst, if◌then◌else◌, IsTrue, List, [], ◌∷◌, ◌++◌}
-use Rattle.std.proofs.lemmas.Bool.{false≢true, ne_eqb}
+use Rattle.std.proofs.Common.{◌≡◌, inl, inr, ℕ, Bool, refl, sym, ◌∙◌, ap, subst, IsTrue, List, [], ◌∷◌, ◌++◌}
+use Rattle.std.proofs.lemmas.Bool.{false≢true}
 use Rattle.spk_nums.specs.Setting.{Setting, IsSetting}
 use Rattle.spk_nums.specs.declared.kinds.Kind.{Kind}
 use Rattle.spk_nums.specs.declared.kinds.Kind.TheVariants as kind
 use Rattle.kernel_rules.specs.State.{Table, Leaf, Pages, Pleaf, Frame, Kernel, State}
 use Rattle.kernel_rules.specs.Relies.{is_node, is_fixed, Relies}
-use Rattle.kernel_rules.specs.Runs.{Event, after, core_of, is_open, phase_by, phase_of, IsRun}
+use Rattle.kernel_rules.specs.Runs.{Event, after, is_open, phase_of, IsRun}
 use Rattle.kernel_rules.proofs.SoundCalls.{IsOpen}
 use Rattle.kernel_rules.proofs.SoundRuns.{opened, open_is}
 use Rattle.kernel_rules.proofs.Stays.{Stay, stay_same, stay_then, names_node, usable_relies, table_relies, pages_relies, event_stay}

@@ -1,5 +1,5 @@
 -- The phase of a core after one more event, by whether the event is its own.
-use Rattle.std.proofs.Common.{◌≡◌, ◌≢◌, ℕ, ◌==◌, if◌then◌else◌, List, ◌∷◌, ap}
+use Rattle.std.proofs.Common.{◌≡◌, ◌≢◌, ℕ, if◌then◌else◌, List, ◌∷◌, ap}
 use Rattle.std.proofs.lemmas.Bool.{eq-eqb, ne_eqb}
 use Rattle.kernel_rules.specs.Runs.{Event, core_of, phase_by, phase_of}
 
