@@ -2,5 +2,4 @@ pub mod Orders
 pub mod Written
 pub mod Ends
 pub mod Script
-pub mod Plain
 pub mod Top
