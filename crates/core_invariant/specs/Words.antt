@@ -1,0 +1,108 @@
+-- What the settled words say of the state, kind by kind.
+use Rattle.std.specs.Prelude.{◌≡◌, ◌<◌, ◌≤◌, ℕ, zero, suc, ℤ, length, slice_get, Option, Some, None}
+use Rattle.entry_words.specs.declared.entry.Entry.{Entry}
+use Rattle.entry_words.specs.declared.entry.Entry.TheVariants as entry
+use Rattle.entry_words.specs.EntryWord.{entry_of_word}
+use Rattle.frame_words.specs.Comp.{comp_of_word}
+use Rattle.frame_words.specs.Frame.{frame_of_word}
+use Rattle.frame_words.specs.Count.{count_of_word}
+use Rattle.frame_words.specs.Core.{core_of_word}
+use Rattle.frame_words.specs.Flush.{flush_of_word}
+use Rattle.frame_words.specs.Live.{live_of_word}
+use Rattle.frame_words.specs.declared.count_word.CountWord.{CountWord}
+use Rattle.frame_words.specs.declared.count_word.Hold.TheVariants.{Unheld}
+use Rattle.frame_words.specs.declared.live_word.LiveWord.{LiveWord}
+use Rattle.frame_words.specs.declared.live_word.LiveWord.TheVariants as live_word
+use Rattle.tcap_words.specs.Head.{head_of_word}
+use Rattle.tcap_words.specs.Quality.{quality_of_word}
+use Rattle.tcap_words.specs.Stack.{stack_of_word}
+use Rattle.tcap_words.specs.Thread.{thread_of_word}
+use Rattle.tcap_words.specs.declared.head_word.HeadWord.{HeadWord}
+use Rattle.word_map.specs.Word.{Word, EntryAt, FrameAt, CountAt, CoreAt, FlushAt, LiveAt, ClockAt}
+use Rattle.kernel_rules.specs.State.{Place, Free, Holds, Quiescing, CompFields, ThreadFields, TcapFields, Object, Blank, Table, Leaf, Pages, Pleaf, Comp, Thread, Tcap, Frame, Untyped, User, Kernel, Liveness, Unused, Live, Dead, Thing, PlaceOf, NumberOf, State}
+use Rattle.kernel_history.specs.ObjectWords.{frame_value, thread_value, at_height}
+use Rattle.stage_look.specs.Shown.{CapNames}
+
+-- The stamps that words carry: that of the grace period of a thing, and those of a core's last exit and last flush.
+pub record Times : Type 0 where
+  pub stamp : Thing → ℕ
+  pub exit : ℕ → ℕ
+  pub flush : ℕ → ℕ
+
+-- The word of a place that is quiescing carries the stamp of its grace period.
+pub record QuiescingSince (stamp : ℕ) (shown : Option Entry) : Type 0 where
+  pub drawn : 1 ≤ stamp
+  pub says : shown ≡ Some (entry.Quiescing stamp)
+
+-- The word of a place says that it is free, what it holds, or since when it is quiescing. What it holds names frames of the machine.
+abbrev pub PlaceIs : ℕ → Place → ℕ → Option Entry → Type 0
+PlaceIs frames Free stamp shown = shown ≡ Some entry.Free
+PlaceIs frames (Holds k) stamp shown = (shown ≡ Some (entry.Held k)) × CapNames frames k
+PlaceIs frames (Quiescing k) stamp shown = QuiescingSince stamp shown
+
+-- The word i of a component: the frame of its table, that of its pages, and its liveness number with its epoch.
+abbrev pub IsCompWord : CompFields → ℕ → ℕ → Type 0
+IsCompWord k zero x = x ≡ k.table
+IsCompWord k (suc zero) x = x ≡ k.pages
+IsCompWord k (suc (suc zero)) x = comp_of_word x ≡ Some (record { number = k.number; epoch = k.epoch })
+IsCompWord k (suc (suc (suc i))) x = Unit {0}
+
+-- The word i of a thread: where it runs with its depth, then its stack from the bottom on.
+abbrev pub IsThreadWord : ThreadFields → ℕ → ℕ → Type 0
+IsThreadWord t zero x = thread_of_word x ≡ Some (thread_value t.runs_on (length t.stack))
+IsThreadWord t (suc h) x = h < 16 → stack_of_word x ≡ Some (record { 0 = at_height t.stack h })
+
+-- The head of a temporal capability: its budget, in some version. Its list has at most 8 pairs.
+pub record HeadIs (q : TcapFields) (shown : Option HeadWord) : Type 0 where
+  pub version : ℕ
+  pub says : shown ≡ Some (record { budget = q.budget; mark = None; version = version })
+  pub most : length q.qualities ≤ 8
+
+-- The word i of a temporal capability: its head, then its list.
+abbrev pub IsTcapWord : TcapFields → ℕ → ℕ → Type 0
+IsTcapWord q zero x = HeadIs q (head_of_word x)
+IsTcapWord q (suc j) x = j < 8 → quality_of_word x ≡ Some (record { 0 = slice_get q.qualities j })
+
+-- The word i of an object, where its place i is this, with the stamp of that place.
+abbrev pub IsObjectWord : ℕ → Object → Place → ℕ → ℕ → ℕ → Type 0
+IsObjectWord frames Blank place stamp i x = Unit {0}
+IsObjectWord frames Table place stamp i x = i < 64 → PlaceIs frames place stamp (entry_of_word x)
+IsObjectWord frames Leaf place stamp i x = i < 64 → PlaceIs frames place stamp (entry_of_word x)
+IsObjectWord frames Pages place stamp i x = i < 64 → PlaceIs frames place stamp (entry_of_word x)
+IsObjectWord frames Pleaf place stamp i x = i < 64 → PlaceIs frames place stamp (entry_of_word x)
+IsObjectWord frames (Comp k) place stamp i x = IsCompWord k i x
+IsObjectWord frames (Thread t) place stamp i x = IsThreadWord t i x
+IsObjectWord frames (Tcap q) place stamp i x = IsTcapWord q i x
+
+-- The word i of a frame; of a frame without an object nothing is said.
+abbrev pub IsFrameWord : ℕ → Frame → Place → ℕ → ℕ → ℕ → Type 0
+IsFrameWord frames Untyped place stamp i x = Unit {0}
+IsFrameWord frames User place stamp i x = Unit {0}
+IsFrameWord frames (Kernel object) place stamp i x = IsObjectWord frames object place stamp i x
+
+-- The word of a count. Calls do not count references yet, so nothing is said of the count and its stamp.
+pub record SaysCount (shown : Option CountWord) : Type 0 where
+  pub count : ℤ
+  pub stamp : ℕ
+  pub says : shown ≡ Some (record { hold = Unheld; count = count; stamp = stamp })
+
+-- The word of a number that is dead carries the stamp of its grace period.
+pub record DeadSince (epoch stamp : ℕ) (shown : Option LiveWord) : Type 0 where
+  pub drawn : 1 ≤ stamp
+  pub says : shown ≡ Some (live_word.Dead epoch stamp)
+
+-- The word of a liveness number.
+abbrev pub NumberIs : Liveness → ℕ → Option LiveWord → Type 0
+NumberIs Unused stamp shown = shown ≡ Some live_word.Free
+NumberIs (Live epoch f) stamp shown = shown ≡ Some (live_word.Live epoch f)
+NumberIs (Dead epoch) stamp shown = DeadSince epoch stamp shown
+
+-- The settled word of this name says what the state is.
+abbrev pub WordIs : State → Times → Word → ℕ → Type 0
+WordIs s times (EntryAt f i) x = IsFrameWord s.limits.frames (s.frame f) (s.place f i) (times.stamp (PlaceOf f i)) i x
+WordIs s times (FrameAt f) x = frame_of_word x ≡ Some (frame_value (s.frame f))
+WordIs s times (CountAt f c) x = SaysCount (count_of_word x)
+WordIs s times (CoreAt c) x = core_of_word x ≡ Some (record { inside = (s.core c).inside; stamp = times.exit c })
+WordIs s times (FlushAt c) x = flush_of_word x ≡ Some (record { stamp = times.flush c })
+WordIs s times (LiveAt l) x = NumberIs (s.number l) (times.stamp (NumberOf l)) (live_of_word x)
+WordIs s times ClockAt x = Unit {0}
