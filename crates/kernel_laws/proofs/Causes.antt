@@ -30,7 +30,8 @@ use Rattle.kernel_laws.specs.Laws.{CausesStand}
 
 -- What a rule finds under a name is what the name leads to.
 module _ (s : State) (c : ℕ) (wanted : Kind → Bool) where
-  by_kind : (k : Capability) (b : Bool) → name_of (if b then Found k else Refused reply.WrongCap) ≡ (if b then found k else Rattle.kernel_rules.specs.Access.not_found)
+  by_kind : (k : Capability) (b : Bool)
+      → name_of (if b then Found k else Refused reply.WrongCap) ≡ (if b then found k else Rattle.kernel_rules.specs.Access.not_found)
   by_kind k true = refl
   by_kind k false = refl
 
@@ -38,7 +39,8 @@ module _ (s : State) (c : ℕ) (wanted : Kind → Bool) where
   by_use None = refl
   by_use (Some k) = by_kind k (wanted k.kind)
 
-  by_slot : (o : Option Slot) → name_of (and_then (or_refuse o reply.NoSlot) λ at. and_then (or_refuse (usable s c at) reply.Empty) λ k. of_kind wanted k)
+  by_slot : (o : Option Slot)
+      → name_of (and_then (or_refuse o reply.NoSlot) λ at. and_then (or_refuse (usable s c at) reply.Empty) λ k. of_kind wanted k)
       ≡ as_wanted wanted (used_at s c o)
   by_slot None = refl
   by_slot (Some at) = by_use (usable s c at)
@@ -97,14 +99,17 @@ module _ (s : State) (c : ℕ) (call : Call) where
   empty_cause _ t e h = absurd h
 
   -- A cause of the call's own.
-  when_cause : (condition : Bool) (q r : Reply) → (IsTrue condition → HasCause s c call q) → IsTrue condition × (r ≡ q) → HasCause s c call r
+  when_cause : (condition : Bool) (q r : Reply) → (IsTrue condition → HasCause s c call q) → IsTrue condition × (r ≡ q)
+      → HasCause s c call r
   when_cause condition q r f h = subst (HasCause s c call) (sym h.1) (f h.0)
 
-  wait_cause : (x : Thing) (r : Reply) → ((e : ℕ) → MayWait s c x e → HasCause s c call (reply.Quiescing e)) → WaitedMay s c x r → HasCause s c call r
+  wait_cause : (x : Thing) (r : Reply) → ((e : ℕ) → MayWait s c x e → HasCause s c call (reply.Quiescing e)) → WaitedMay s c x r
+      → HasCause s c call r
   wait_cause x (reply.Quiescing e) f h = f e h
   wait_cause x _ f h = absurd h
 
-  flush_cause : (x : Thing) (r : Reply) → ((e : ℕ) → MayBeUnflushed s x e → HasCause s c call (reply.Unflushed e)) → UnflushedMay s x r → HasCause s c call r
+  flush_cause : (x : Thing) (r : Reply) → ((e : ℕ) → MayBeUnflushed s x e → HasCause s c call (reply.Unflushed e)) → UnflushedMay s x r
+      → HasCause s c call r
   flush_cause x (reply.Unflushed e) f h = f e h
   flush_cause x _ f h = absurd h
 
@@ -180,7 +185,8 @@ module _ (s : State) (c : ℕ) where
   is_machine : (f : ℕ) (b : Bool) → IsTrue (is_frame s f && b) → (f < s.limits.frames) × IsTrue b
   is_machine f b h = let p = both (is_frame s f) b h in (ltb-true f s.limits.frames p.0, p.1)
 
-  differs : (f : ℕ) (x : Frame) (is : Frame → Bool) → is x ≡ true → IsTrue (is_frame s f && not (is (s.frame f))) → (f < s.limits.frames) × (s.frame f ≢ x)
+  differs : (f : ℕ) (x : Frame) (is : Frame → Bool) → is x ≡ true → IsTrue (is_frame s f && not (is (s.frame f)))
+      → (f < s.limits.frames) × (s.frame f ≢ x)
   differs f x is at h =
       let p = is_machine f (not (is (s.frame f))) h in
       (p.0, λ e. true≢false (sym at ∙ ap is (sym e) ∙ not_is (is (s.frame f)) p.1))
@@ -197,11 +203,13 @@ module _ (s : State) (c : ℕ) where
   made_own what r f t b q (inr h) =
       when_cause s c (make_call what r f t b) _ reply.FrameKind q (λ t. differs f (Kernel Blank) is_blank refl t) h
 
-  made_fill : (what : Make) (r f t b : ℕ) (q : Reply) → VacantMay s c (Under (name_of (named s c t (only kind.Table))) b) q → HasCause s c (make_call what r f t b) q
+  made_fill : (what : Make) (r f t b : ℕ) (q : Reply) → VacantMay s c (Under (name_of (named s c t (only kind.Table))) b) q
+      → HasCause s c (make_call what r f t b) q
   made_fill what r f t b q v =
       fill_cause s c (make_call what r f t b) q _ refl (subst (λ (x : Named). VacantMay s c (Under x b) q) (leads_is s c (only kind.Table) t) v)
 
-  node_cause : (what : Make) (object : Object) (k : Kind) (r f t b : ℕ) (q : Reply) → RuleMay s c (make_node s object k r f t b) q → HasCause s c (make_call what r f t b) q
+  node_cause : (what : Make) (object : Object) (k : Kind) (r f t b : ℕ) (q : Reply) → RuleMay s c (make_node s object k r f t b) q
+      → HasCause s c (make_call what r f t b) q
   node_cause what object k r f t b q (inl n) = name_cause s c (make_call what r f t b) q (inl n)
   node_cause what object k r f t b q (inr (inl n)) = name_cause s c (make_call what r f t b) q (inr (inl n))
   node_cause what object k r f t b q (inr (inr (inl v))) = made_fill what r f t b q v
@@ -209,7 +217,8 @@ module _ (s : State) (c : ℕ) where
   node_cause what object k r f t b q (inr (inr (inr (inr (inl h))))) = made_own what r f t b q (inr h)
   node_cause what object k r f t b q (inr (inr (inr (inr (inr h))))) = absurd h
 
-  thread_cause : (comp r f t b : ℕ) (q : Reply) → RuleMay s c (make_rule s (make.Thread comp) r f t b) q → HasCause s c (make_call (make.Thread comp) r f t b) q
+  thread_cause : (comp r f t b : ℕ) (q : Reply) → RuleMay s c (make_rule s (make.Thread comp) r f t b) q
+      → HasCause s c (make_call (make.Thread comp) r f t b) q
   thread_cause comp r f t b q (inl n) = name_cause s c (make_call (make.Thread comp) r f t b) q (inl n)
   thread_cause comp r f t b q (inr (inl n)) = name_cause s c (make_call (make.Thread comp) r f t b) q (inr (inl n))
   thread_cause comp r f t b q (inr (inr (inl n))) = name_cause s c (make_call (make.Thread comp) r f t b) q (inr (inr (inl n)))
@@ -218,7 +227,8 @@ module _ (s : State) (c : ℕ) where
   thread_cause comp r f t b q (inr (inr (inr (inr (inr (inl h)))))) = made_own (make.Thread comp) r f t b q (inr h)
   thread_cause comp r f t b q (inr (inr (inr (inr (inr (inr h)))))) = absurd h
 
-  tcap_cause : (sched quality r f t b : ℕ) (q : Reply) → RuleMay s c (make_rule s (make.Tcap sched quality) r f t b) q → HasCause s c (make_call (make.Tcap sched quality) r f t b) q
+  tcap_cause : (sched quality r f t b : ℕ) (q : Reply) → RuleMay s c (make_rule s (make.Tcap sched quality) r f t b) q
+      → HasCause s c (make_call (make.Tcap sched quality) r f t b) q
   tcap_cause sched quality r f t b q (inl n) = name_cause s c (make_call (make.Tcap sched quality) r f t b) q (inl n)
   tcap_cause sched quality r f t b q (inr (inl n)) = name_cause s c (make_call (make.Tcap sched quality) r f t b) q (inr (inl n))
   tcap_cause sched quality r f t b q (inr (inr (inl v))) = made_fill (make.Tcap sched quality) r f t b q v
@@ -233,7 +243,8 @@ module _ (s : State) (c : ℕ) where
       when_cause s c (make_call (make.Comp x p l) r f t b) _ reply.EpochsSpent q (λ t. eqb-true (epoch_of (s.number l)) s.limits.epochs t) h
   number_cause x p l r f t b q (inr (inr (inr h))) = absurd h
 
-  comp_cause : (x p l r f t b : ℕ) (q : Reply) → RuleMay s c (make_rule s (make.Comp x p l) r f t b) q → HasCause s c (make_call (make.Comp x p l) r f t b) q
+  comp_cause : (x p l r f t b : ℕ) (q : Reply) → RuleMay s c (make_rule s (make.Comp x p l) r f t b) q
+      → HasCause s c (make_call (make.Comp x p l) r f t b) q
   comp_cause x p l r f t b q (inl n) = name_cause s c (make_call (make.Comp x p l) r f t b) q (inl n)
   comp_cause x p l r f t b q (inr (inl n)) = name_cause s c (make_call (make.Comp x p l) r f t b) q (inr (inl n))
   comp_cause x p l r f t b q (inr (inr (inl n))) = name_cause s c (make_call (make.Comp x p l) r f t b) q (inr (inr (inl n)))
@@ -258,7 +269,8 @@ module _ (s : State) (c : ℕ) where
   map_cause p v r f w q (inr (inr (inl h))) =
       fill_cause s c (Map p v r f w) q _ refl (subst (λ (x : Named). VacantMay s c (Under x v) q) (leads_is s c (only kind.Pages) p) h)
   map_cause p v r f w q (inr (inr (inr (inl h)))) = named_lies (Map p v r f w) r f q (λ l. l) h
-  map_cause p v r f w q (inr (inr (inr (inr (inl h))))) = when_cause s c (Map p v r f w) _ reply.FrameKind q (λ t. differs f User is_user refl t) h
+  map_cause p v r f w q (inr (inr (inr (inr (inl h))))) =
+      when_cause s c (Map p v r f w) _ reply.FrameKind q (λ t. differs f User is_user refl t) h
   map_cause p v r f w q (inr (inr (inr (inr (inr h))))) = absurd h
 
   -- A retype.
@@ -300,14 +312,18 @@ module _ (s : State) (c : ℕ) where
       (λ t. let p = is_machine f (is_untyped (s.frame f)) t in (p.0, untyped_is (s.frame f) p.1)) h
   retype_own r f frame_kind.Untyped q (inr (inl h)) =
       when_cause s c (Retype r f frame_kind.Untyped) _ (reply.Referenced (refs s f)) q (λ t. (ltb-true 0 (refs s f) t, refl)) h
-  retype_own r f frame_kind.Untyped q (inr (inr (inl h))) = wait_cause s c (Retype r f frame_kind.Untyped) (FrameOf f) q (λ e w. inr (inl w)) h
-  retype_own r f frame_kind.Untyped q (inr (inr (inr (inl h)))) = flush_cause s c (Retype r f frame_kind.Untyped) (FrameOf f) q (λ e w. inr w) h
+  retype_own r f frame_kind.Untyped q (inr (inr (inl h))) =
+      wait_cause s c (Retype r f frame_kind.Untyped) (FrameOf f) q (λ e w. inr (inl w)) h
+  retype_own r f frame_kind.Untyped q (inr (inr (inr (inl h)))) =
+      flush_cause s c (Retype r f frame_kind.Untyped) (FrameOf f) q (λ e w. inr w) h
   retype_own r f frame_kind.Untyped q (inr (inr (inr (inr (inl h))))) =
       when_cause s c (Retype r f frame_kind.Untyped) _ reply.NotEmpty q (λ t. not_empty f (s.frame f) refl t) h
   retype_own r f frame_kind.Untyped q (inr (inr (inr (inr (inr h))))) = absurd h
-  retype_own r f frame_kind.User q (inl h) = when_cause s c (Retype r f frame_kind.User) _ reply.FrameKind q (λ t. differs f Untyped is_untyped refl t) h
+  retype_own r f frame_kind.User q (inl h) =
+      when_cause s c (Retype r f frame_kind.User) _ reply.FrameKind q (λ t. differs f Untyped is_untyped refl t) h
   retype_own r f frame_kind.User q (inr h) = absurd h
-  retype_own r f frame_kind.Kernel q (inl h) = when_cause s c (Retype r f frame_kind.Kernel) _ reply.FrameKind q (λ t. differs f Untyped is_untyped refl t) h
+  retype_own r f frame_kind.Kernel q (inl h) =
+      when_cause s c (Retype r f frame_kind.Kernel) _ reply.FrameKind q (λ t. differs f Untyped is_untyped refl t) h
   retype_own r f frame_kind.Kernel q (inr h) = absurd h
 
   retype_cause : (r f : ℕ) (k : FrameKind) (q : Reply) → RuleMay s c (retype_rule s r f k) q → HasCause s c (Retype r f k) q
@@ -320,7 +336,8 @@ module _ (s : State) (c : ℕ) where
   page_none (Refused r) h = h
   page_none (Found p) h = h
 
-  page_cause : (v : ℕ) (q : Reply) → translation_of (s.core c).cached (comp_of s c).pages v ≡ None → MappedMay s c (comp_of s c).pages v q → HasCause s c (Touch v) q
+  page_cause : (v : ℕ) (q : Reply) → translation_of (s.core c).cached (comp_of s c).pages v ≡ None → MappedMay s c (comp_of s c).pages v q
+      → HasCause s c (Touch v) q
   page_cause v reply.NoSlot is h = inr (inr (inr (ltb-true 4095 v h)))
   page_cause v reply.Fault is h = (is, leb-true v 4095 h.0, h.1)
   page_cause v _ is h = absurd h
@@ -339,7 +356,8 @@ module _ (s : State) (c : ℕ) where
       eq : (n : ℕ) → (n == n) ≡ true
       eq n = Rattle.std.proofs.lemmas.Bool.eq-eqb n n refl
 
-  dead_in : (name : Named) (epoch : ℕ) → IsTrue (name.found && not (is_live_in (s.number (comp_in (s.frame name.frame)).number) epoch)) → IsDeadIn s name epoch
+  dead_in : (name : Named) (epoch : ℕ) → IsTrue (name.found && not (is_live_in (s.number (comp_in (s.frame name.frame)).number) epoch))
+      → IsDeadIn s name epoch
   dead_in name epoch h =
       let p = both name.found (not (is_live_in (s.number (comp_in (s.frame name.frame)).number) epoch)) h in
       record { found = p.0; dead = not_live_in (s.number (comp_in (s.frame name.frame)).number) epoch (not_is _ p.1) }
@@ -363,7 +381,8 @@ module _ (s : State) (c : ℕ) where
   ret_cause q (inl h) = when_cause s c Ret _ reply.Bottom q (λ t. leb-true (length (thread_of s c).stack) 1 t) h
   ret_cause q (inr h) = absurd h
 
-  switch_own : (h q : ℕ) (x : Named) (p : ℕ) (r : Reply) → x ≡ leads_as s c h (only kind.Thread) → (e : Option ℕ) → (thread_in (s.frame x.frame)).runs_on ≡ e
+  switch_own : (h q : ℕ) (x : Named) (p : ℕ) (r : Reply) → x ≡ leads_as s c h (only kind.Thread) → (e : Option ℕ)
+      → (thread_in (s.frame x.frame)).runs_on ≡ e
       → RuleMay s c (switch_to s c x p e) r → HasCause s c (Switch h q) r
   switch_own h q x p r at None is may = absurd may
   switch_own h q x p r at (Some e) is (inl may) =
@@ -385,13 +404,15 @@ module _ (s : State) (c : ℕ) where
       subst (λ (x : Named). BothAre (tcap_named s c a) x P) (leads_is s c (only kind.Tcap) b)
       (subst (λ (x : Named). BothAre x (name_of (named s c b (only kind.Tcap))) P) (leads_is s c (only kind.Tcap) a) h)
 
-  two_found : (x y : Named) (b : Bool) (P : ℕ → ℕ → Type 0) → (IsTrue b → P x.frame y.frame) → IsTrue (x.found && (y.found && b)) → BothAre x y P
+  two_found : (x y : Named) (b : Bool) (P : ℕ → ℕ → Type 0) → (IsTrue b → P x.frame y.frame) → IsTrue (x.found && (y.found && b))
+      → BothAre x y P
   two_found x y b P f h =
       let p = both x.found (y.found && b) h in
       let q = both y.found b p.1 in
       record { first = p.0; second = q.0; both = f q.1 }
 
-  same_cause : (call : Call) (a b : ℕ) (r : Reply) → (BothAre (tcap_named s c a) (tcap_named s c b) (λ f g. f ≡ g) → HasCause s c call reply.Same)
+  same_cause : (call : Call) (a b : ℕ) (r : Reply)
+      → (BothAre (tcap_named s c a) (tcap_named s c b) (λ f g. f ≡ g) → HasCause s c call reply.Same)
       → CauseMay s c (are_same (name_of (named s c a (only kind.Tcap))) (name_of (named s c b (only kind.Tcap)))) r → HasCause s c call r
   same_cause call a b r f h = when_cause s c call _ reply.Same r
       (λ t. f (both_are a b (λ f g. f ≡ g) (two_found (name_of (named s c a (only kind.Tcap))) (name_of (named s c b (only kind.Tcap))) _ (λ f g. f ≡ g) (eqb-true _ _) t))) h

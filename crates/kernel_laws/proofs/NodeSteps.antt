@@ -102,7 +102,8 @@ fill_fits s o g j k fits h = record {
       (λ same at e. subst (λ (n : Capability). FitsNode (s.frame f) n.kind (s.frame n.frame)) (holds_inj k m e)
       (subst (λ n. FitsNode (s.frame n) k.kind (s.frame k.frame)) (sym same) fits))
       (h.held f i m);
-  waiting = λ f i m c. place_all (λ f i x. x ≡ Quiescing m → o c ≡ true → IsTrue (is_node (s.frame f)) → IsTrue ((s.grace (PlaceOf f i)).waits c) → FitsNode (s.frame f) m.kind (s.frame m.frame)) s g j (Holds k) f i
+  waiting =
+      λ f i m c. place_all (λ f i x. x ≡ Quiescing m → o c ≡ true → IsTrue (is_node (s.frame f)) → IsTrue ((s.grace (PlaceOf f i)).waits c) → FitsNode (s.frame f) m.kind (s.frame m.frame)) s g j (Holds k) f i
       (λ same at e q n w. absurd (holds_quiescing k m e)) (h.waiting f i m c);
 }
 
@@ -112,7 +113,8 @@ pub remove_fits : (s : State) (o : ℕ → Bool) (g j : ℕ) (k : Capability) �
 remove_fits s o g j k at h = record {
   held = λ f i m. place_all (λ f i x. x ≡ Holds m → FitsNode (s.frame f) m.kind (s.frame m.frame)) s g j (Quiescing k) f i
       (λ same is e. absurd (quiescing_holds k m e)) (h.held f i m);
-  waiting = λ f i m c. place_all (λ f i x. x ≡ Quiescing m → o c ≡ true → IsTrue (is_node (s.frame f)) → IsTrue ((new.grace (PlaceOf f i)).waits c) → FitsNode (s.frame f) m.kind (s.frame m.frame)) s g j (Quiescing k) f i
+  waiting =
+      λ f i m c. place_all (λ f i x. x ≡ Quiescing m → o c ≡ true → IsTrue (is_node (s.frame f)) → IsTrue ((new.grace (PlaceOf f i)).waits c) → FitsNode (s.frame f) m.kind (s.frame m.frame)) s g j (Quiescing k) f i
       (λ same is e q n w. subst (λ (n : Capability). FitsNode (s.frame f) n.kind (s.frame n.frame)) (quiescing_inj k m e)
       (subst (λ n. FitsNode (s.frame n) k.kind (s.frame k.frame)) (sym same) (h.held g j k at)))
       (λ e q n w. h.waiting f i m c e q n (elsewhere f i c m e w));
@@ -134,13 +136,15 @@ remove_fits s o g j k at h = record {
         let p = both (f == g) (i == j) is in
         absurd (holds_quiescing k m (sym at ∙ ap (λ n. s.place n j) (sym (eqb-true f g p.0)) ∙ ap (s.place f) (sym (eqb-true i j p.1)) ∙ e))
 
-    elsewhere : (f i c : ℕ) (m : Capability) → s.place f i ≡ Quiescing m → IsTrue ((new.grace (PlaceOf f i)).waits c) → IsTrue ((s.grace (PlaceOf f i)).waits c)
+    elsewhere : (f i c : ℕ) (m : Capability) → s.place f i ≡ Quiescing m → IsTrue ((new.grace (PlaceOf f i)).waits c)
+        → IsTrue ((s.grace (PlaceOf f i)).waits c)
     elsewhere f i c m e w = not_chosen (list_any (same_thing (PlaceOf f i)) things) (new_grace s (PlaceOf f i)) (s.grace (PlaceOf f i)) c
         (or_from (f == g && i == j) (list_any (same_thing (PlaceOf f i)) (frames_of (place_names (Holds k))))
         (this f i m e (f == g && i == j) refl) (frames_no_place f i (place_names (Holds k)))) w
 
 -- The places of a frame that is no node are freed, and it has an object: it may be a node.
-pub object_fits : (s : State) (o : ℕ → Bool) (f : ℕ) (y : Frame) → is_node (s.frame f) ≡ false → IsFitted s o → IsFitted (with_frame (cleared s f) f y) o
+pub object_fits : (s : State) (o : ℕ → Bool) (f : ℕ) (y : Frame) → is_node (s.frame f) ≡ false → IsFitted s o
+    → IsFitted (with_frame (cleared s f) f y) o
 object_fits s o f y none h = record {
   held = λ g i k p. fits g k (h.held g i k (was_held g i k p));
   waiting = λ g i k c p q n w. let old = was_quiescing g i k p in
@@ -149,16 +153,19 @@ object_fits s o f y none h = record {
 }
   where
     was_held : (g i : ℕ) (k : Capability) → put s.place f (λ i. Free) g i ≡ Holds k → s.place g i ≡ Holds k
-    was_held g i k = put_all (λ g r. r i ≡ Holds k → s.place g i ≡ Holds k) s.place f (λ i. Free) g (λ same e. absurd (free_holds k e)) (λ other e. e)
+    was_held g i k =
+        put_all (λ g r. r i ≡ Holds k → s.place g i ≡ Holds k) s.place f (λ i. Free) g (λ same e. absurd (free_holds k e)) (λ other e. e)
 
     was_quiescing : (g i : ℕ) (k : Capability) → put s.place f (λ i. Free) g i ≡ Quiescing k → (g ≢ f) × (s.place g i ≡ Quiescing k)
     was_quiescing g i k = put_all (λ g r. r i ≡ Quiescing k → (g ≢ f) × (s.place g i ≡ Quiescing k)) s.place f (λ i. Free) g
         (λ same e. absurd (free_quiescing k e)) (λ other e. (other, e))
 
-    kept : (g i c : ℕ) → g ≢ f → IsTrue ((if g == f then no_grace else s.grace (PlaceOf g i)).waits c) → IsTrue ((s.grace (PlaceOf g i)).waits c)
+    kept : (g i c : ℕ) → g ≢ f → IsTrue ((if g == f then no_grace else s.grace (PlaceOf g i)).waits c)
+        → IsTrue ((s.grace (PlaceOf g i)).waits c)
     kept g i c other w = subst (λ b. IsTrue ((if b then no_grace else s.grace (PlaceOf g i)).waits c)) (ne_eqb g f other) w
 
-    fits : (g : ℕ) (k : Capability) → FitsNode (s.frame g) k.kind (s.frame k.frame) → FitsNode (put s.frame f y g) k.kind (put s.frame f y k.frame)
+    fits : (g : ℕ) (k : Capability) → FitsNode (s.frame g) k.kind (s.frame k.frame)
+        → FitsNode (put s.frame f y g) k.kind (put s.frame f y k.frame)
     fits g k a =
         let other : g ≢ f = λ same. false≢true (sym none ∙ ap (λ n. is_node (s.frame n)) (sym same) ∙ takes_node (s.frame g) k.kind a.kind) in
         let e : put s.frame f y g ≡ s.frame g = put_other s.frame f y g other in
@@ -183,7 +190,8 @@ root_links Untyped k y h none = absurd (false≢true h)
 root_links User k y h none = absurd (false≢true h)
 
 -- A frame that nothing names, for which no other core waits, and which holds nothing, becomes untyped by the call of core c.
-pub untype_fits : (s : State) (o : ℕ → Bool) (c f : ℕ) → IsUnnamed s f → NoneWaits s c f → ((i : ℕ) (k : Capability) → s.place f i ≡ Holds k → ⊥)
+pub untype_fits : (s : State) (o : ℕ → Bool) (c f : ℕ) → IsUnnamed s f → NoneWaits s c f
+    → ((i : ℕ) (k : Capability) → s.place f i ≡ Holds k → ⊥)
     → IsSound s o → IsFitted s o → IsFitted (untyped s f) (put o c false)
 untype_fits s o c f un none bare sound h = record {
   held = λ g i k p.
@@ -212,7 +220,8 @@ untype_fits s o c f un none bare sound h = record {
         let e : times f (f ∷ []) ≡ 0 = ap (λ n. times f (n ∷ [])) (sym same) ∙ ap (λ j. times f (named_by j k.frame)) (sym link) ∙ zero in
         omega (arith, one, e)
 
-    waits_link : (k : Capability) (d : ℕ) → k.kind ≡ kind.Link → k.frame ≡ f → WaitsForAll s d (named_by k.kind k.frame) → IsTrue ((s.grace (FrameOf f)).waits d)
+    waits_link : (k : Capability) (d : ℕ) → k.kind ≡ kind.Link → k.frame ≡ f → WaitsForAll s d (named_by k.kind k.frame)
+        → IsTrue ((s.grace (FrameOf f)).waits d)
     waits_link k d link same a =
         let l : WaitsForAll s d (k.frame ∷ []) = subst (λ j. WaitsForAll s d (named_by j k.frame)) link a in
         subst (λ n. IsTrue ((s.grace (FrameOf n)).waits d)) same l.0

@@ -48,7 +48,8 @@ use Rattle.kernel_laws.proofs.NodeSteps.{IsFitted, fewer, IsAlike, alike_same, a
 
 module _ (s : State) (o : ℕ → Bool) (c : ℕ) (h : IsOpen s o c) (w : IsFitted s o) where
   -- What core c may use of a node fits it.
-  usable_fits : (at : Slot) (k : Capability) → IsTrue (is_node (s.frame at.node)) → usable s c at ≡ Some k → FitsNode (s.frame at.node) k.kind (s.frame k.frame)
+  usable_fits : (at : Slot) (k : Capability) → IsTrue (is_node (s.frame at.node)) → usable s c at ≡ Some k
+      → FitsNode (s.frame at.node) k.kind (s.frame k.frame)
   usable_fits at k node e = by_place (place_at s at) refl e
     where
       by_wait : (j : Capability) (b : Bool) → (if b then Some j else None) ≡ Some k → (b ≡ true) × (j ≡ k)
@@ -92,13 +93,15 @@ module _ (s : State) (o : ℕ → Bool) (c : ℕ) (h : IsOpen s o c) (w : IsFitt
       pages _ h = absurd (false≢true h)
 
   -- The slot under a table is in a leaf, and one under pages in a leaf of pages.
-  in_leaf : (t b : ℕ) (table : Capability) (at : Slot) → named s c t (only kind.Table) ≡ Found table → reached s c (Under (found table) b) ≡ Some at
+  in_leaf : (t b : ℕ) (table : Capability) (at : Slot) → named s c t (only kind.Table) ≡ Found table
+      → reached s c (Under (found table) b) ≡ Some at
       → s.frame at.node ≡ Kernel Leaf
   in_leaf t b table at e r =
       let fit = named_fit s o c t kind.Table table h.sound h.is e in
       table_leaf (s.frame table.frame) fit (s.frame at.node) (leaf_fits (found table) b at ((fit_node kind.Table (s.frame table.frame) fit).0 refl) r)
 
-  in_pleaf : (p v : ℕ) (pages : Capability) (at : Slot) → named s c p (only kind.Pages) ≡ Found pages → reached s c (Under (found pages) v) ≡ Some at
+  in_pleaf : (p v : ℕ) (pages : Capability) (at : Slot) → named s c p (only kind.Pages) ≡ Found pages
+      → reached s c (Under (found pages) v) ≡ Some at
       → s.frame at.node ≡ Kernel Pleaf
   in_pleaf p v pages at e r =
       let fit = named_fit s o c p kind.Pages pages h.sound h.is e in
@@ -119,7 +122,8 @@ module _ (s : State) (o : ℕ → Bool) (c : ℕ) (h : IsOpen s o c) (w : IsFitt
       wanted_is j true q = found_inj j k q
       wanted_is j false q = absurd (refused_found reply.WrongCap k q)
 
-  in_leaf_fits : (at : Slot) (k : Kind) (y : Frame) → s.frame at.node ≡ Kernel Leaf → IsTrue (takes (Kernel Leaf) k) → FitsNode (s.frame at.node) k y
+  in_leaf_fits : (at : Slot) (k : Kind) (y : Frame) → s.frame at.node ≡ Kernel Leaf → IsTrue (takes (Kernel Leaf) k)
+      → FitsNode (s.frame at.node) k y
   in_leaf_fits at k y is take = subst (λ x. FitsNode x k y) (sym is) (record { kind = take; leaf = refl })
 
   -- The changes
@@ -162,7 +166,8 @@ module _ (s : State) (o : ℕ → Bool) (c : ℕ) (h : IsOpen s o c) (w : IsFitt
 
   -- One frame is put that is alike.
   put_alike : (t : State) (f : ℕ) (y : Frame) → IsAlike (t.frame f) y → (g : ℕ) → IsAlike (t.frame g) (put t.frame f y g)
-  put_alike t f y a g = put_all (λ g x. IsAlike (t.frame g) x) t.frame f y g (λ at. subst (λ n. IsAlike (t.frame n) y) (sym at) a) (λ other. alike_same (t.frame g))
+  put_alike t f y a g =
+      put_all (λ g x. IsAlike (t.frame g) x) t.frame f y g (λ at. subst (λ n. IsAlike (t.frame n) y) (sym at) a) (λ other. alike_same (t.frame g))
 
   thread_alike : (x : Frame) (t : ThreadFields) → IsAlike x (with_thread x t)
   thread_alike (Kernel (Thread u)) t = alike_none (Kernel (Thread u)) (Kernel (Thread t)) refl refl
@@ -198,7 +203,8 @@ module _ (s : State) (o : ℕ → Bool) (c : ℕ) (h : IsOpen s o c) (w : IsFitt
   blank_none : (f : ℕ) → s.frame f ≡ Kernel Blank → is_node (s.frame f) ≡ false
   blank_none f blank = ap is_node blank
 
-  made_fits : (f : ℕ) (object : Object) (k : Kind) (at : Slot) → s.frame f ≡ Kernel Blank → s.frame at.node ≡ Kernel Leaf → IsTrue (takes (Kernel Leaf) k)
+  made_fits : (f : ℕ) (object : Object) (k : Kind) (at : Slot) → s.frame f ≡ Kernel Blank → s.frame at.node ≡ Kernel Leaf
+      → IsTrue (takes (Kernel Leaf) k)
       → IsFitted (with_frame (cleared s f) f (Kernel object)) o → Keeps (makes (cleared s f) f object k at)
   made_fits f object k at blank leaf take fitted =
       plain (makes (cleared s f) f object k at).next (fill_fits (with_frame (cleared s f) f (Kernel object)) o at.node at.index (plain_cap k f)
@@ -207,13 +213,15 @@ module _ (s : State) (o : ℕ → Bool) (c : ℕ) (h : IsOpen s o c) (w : IsFitt
       apart : at.node ≢ f
       apart e = false≢true (sym (blank_none f blank) ∙ ap (λ n. is_node (s.frame n)) (sym e) ∙ ap is_node leaf)
 
-  node_keeps : (object : Object) (k : Kind) → IsTrue (takes (Kernel Leaf) k) → (r f t b : ℕ) → ChangesFrom Keeps s c (make_node s object k r f t b)
+  node_keeps : (object : Object) (k : Kind) → IsTrue (takes (Kernel Leaf) k) → (r f t b : ℕ)
+      → ChangesFrom Keeps s c (make_node s object k r f t b)
   node_keeps object k take r f t b = λ range e table g at v calm.
       let blank = (blank_by s o c r f range [] h e calm).1 in
       made_fits f object k at blank (in_leaf t b table at g (vacant_facts s c (Under (found table) b) at v).0) take
       (object_fits s o f (Kernel object) (blank_none f blank) w)
 
-  object_keeps : (f : ℕ) (object : Object) (k : Kind) (at : Slot) → is_node (Kernel object) ≡ false → s.frame f ≡ Kernel Blank → s.frame at.node ≡ Kernel Leaf
+  object_keeps : (f : ℕ) (object : Object) (k : Kind) (at : Slot) → is_node (Kernel object) ≡ false → s.frame f ≡ Kernel Blank
+      → s.frame at.node ≡ Kernel Leaf
       → IsTrue (takes (Kernel Leaf) k) → IsFitted (makes s f object k at).next o
   object_keeps f object k at none blank leaf take =
       fill_fits (with_frame s f (Kernel object)) o at.node at.index (plain_cap k f)
@@ -269,7 +277,8 @@ module _ (s : State) (o : ℕ → Bool) (c : ℕ) (h : IsOpen s o c) (w : IsFitt
       (λ g i d q. not_chosen (list_any (same_thing (PlaceOf g i)) (frames_of (frame_names (s.frame f)))) _ _ d (frames_no_place g i (frame_names (s.frame f))) q) fitted
 
   touch_keeps : (pages v : ℕ) (t : Option Translation) → ChangesFrom Keeps s c (touch_by s c pages v t)
-  touch_keeps pages v None = λ mapping e calm. framed (with_core s c _) [] (λ g i. refl) (λ g i. refl) (λ g. alike_same (s.frame g)) (λ g i d q. q)
+  touch_keeps pages v None =
+      λ mapping e calm. framed (with_core s c _) [] (λ g i. refl) (λ g i. refl) (λ g. alike_same (s.frame g)) (λ g i d q. q)
   touch_keeps pages v (Some t) = λ calm. same
 
   switch_keeps : (j : Capability) (q : ℕ) (e : Option ℕ) → ChangesFrom Keeps s c (switch_to s c (found j) q e)
@@ -311,7 +320,8 @@ module _ (s : State) (o : ℕ → Bool) (c : ℕ) (h : IsOpen s o c) (w : IsFitt
           by_test true q = ap (λ (x : Slot). x.node) (some_inj record { node = table.frame; index = i } at q)
           by_test false q = absurd (none_some at q)
 
-      grown : (t l : ℕ) (table leaf : Capability) (at : Slot) → named s c t root ≡ Found table → named s c l (only (leaf_of table.kind)) ≡ Found leaf
+      grown : (t l : ℕ) (table leaf : Capability) (at : Slot) → named s c t root ≡ Found table
+          → named s c l (only (leaf_of table.kind)) ≡ Found leaf
           → reached s c (InRoot (found table) i) ≡ Some at → Keeps (fills s at (plain_cap kind.Link leaf.frame))
       grown t l table leaf at e f r =
           let a : IsGood s table × IsTrue (root table.kind) = named_good s o c t root table h.sound h.is e in
@@ -342,7 +352,8 @@ module _ (s : State) (o : ℕ → Bool) (c : ℕ) (h : IsOpen s o c) (w : IsFitt
   rule_keeps (Switch f q) = λ thread e tcap g. switch_keeps thread tcap.frame (thread_in (s.frame thread.frame)).runs_on
   rule_keeps (Tick n) = λ calm.
       framed _ [] (λ g i. refl) (λ g i. refl) (put_alike s (s.core c).tcap _ (tcap_alike (s.frame (s.core c).tcap) _)) (λ g i d q. q)
-  rule_keeps (Transfer a b m) = λ j e k f calm. framed (moved s j.frame k.frame m) [] (λ g i. refl) (λ g i. refl) (moved_alike j.frame k.frame m) (λ g i d q. q)
+  rule_keeps (Transfer a b m) =
+      λ j e k f calm. framed (moved s j.frame k.frame m) [] (λ g i. refl) (λ g i. refl) (moved_alike j.frame k.frame m) (λ g i d q. q)
   rule_keeps (Delegate a b m) = λ j e k f calm.
       let next : State = moved s j.frame k.frame m in
       framed _ [] (λ g i. refl) (λ g i. refl)
@@ -354,7 +365,8 @@ module _ (s : State) (o : ℕ → Bool) (c : ℕ) (h : IsOpen s o c) (w : IsFitt
 -- A state with the same places, frames and grace periods of places.
 same_fits : (s t : State) (o : ℕ → Bool) → ((f i : ℕ) → t.place f i ≡ s.place f i) → ((f : ℕ) → t.frame f ≡ s.frame f)
     → ((f i c : ℕ) → IsTrue ((t.grace (PlaceOf f i)).waits c) → IsTrue ((s.grace (PlaceOf f i)).waits c)) → IsFitted s o → IsFitted t o
-same_fits s t o place frame waits h = alike_step s t o place (λ f. subst (IsAlike (s.frame f)) (sym (frame f)) (alike_same (s.frame f))) waits h
+same_fits s t o place frame waits h =
+    alike_step s t o place (λ f. subst (IsAlike (s.frame f)) (sym (frame f)) (alike_same (s.frame f))) waits h
 
 owed_fits : (s : State) (o : ℕ → Bool) (c : ℕ) (call : Call) → IsFitted s o → IsFitted (owed_by s c call) o
 owed_fits s o c (Tick n) h = record { held = h.held; waiting = h.waiting }
@@ -369,18 +381,22 @@ shut s o c h = fewer s o (put o c false) (λ d q. elim (cases_eq d c) [
   | inr other ↦ sym (put_other o c false d other) ∙ q
 ]) h
 
-changed_fits : (s : State) (o : ℕ → Bool) (c : ℕ) (v : Value) (x : Judged Change) → IfFound x (λ k. IsFitted (begun s k.begins k.next) (put o c false))
+changed_fits : (s : State) (o : ℕ → Bool) (c : ℕ) (v : Value) (x : Judged Change)
+    → IfFound x (λ k. IsFitted (begun s k.begins k.next) (put o c false))
     → IsFoundAnd x (λ k. k.value ≡ v) → IsFitted (changed s x) (put o c false)
 changed_fits s o c v (Refused r) keeps ok = absurd ok
 changed_fits s o c v (Found change) keeps ok = keeps
 
-decided_fits : (s : State) (o : ℕ → Bool) (c : ℕ) (call : Call) (r : Reply) → IsOpen s o c → MayReply s c call r → IsFitted s o → IsFitted (state_by s c call r) (put o c false)
+decided_fits : (s : State) (o : ℕ → Bool) (c : ℕ) (call : Call) (r : Reply) → IsOpen s o c → MayReply s c call r → IsFitted s o
+    → IsFitted (state_by s c call r) (put o c false)
 decided_fits s o c call (reply.Ok v) h may w = counted_fits (changed s (change_of s c call)) (put o c false) c
     (changed_fits s o c v (change_of s c call)
     (outcome_from (λ k. IsFitted (begun s k.begins k.next) (put o c false)) s c (rule_of s c call) (rule_keeps s o c h w call)) may.1)
 decided_fits s o c call reply.CallsSpent h may w = shut s o c w
-decided_fits s o c call reply.Raced h may w = counted_fits (owed_by s c call) (put o c false) c (shut (owed_by s c call) o c (owed_fits s o c call w))
-decided_fits s o c call (reply.Busy e) h may w = counted_fits (owed_by s c call) (put o c false) c (shut (owed_by s c call) o c (owed_fits s o c call w))
+decided_fits s o c call reply.Raced h may w =
+    counted_fits (owed_by s c call) (put o c false) c (shut (owed_by s c call) o c (owed_fits s o c call w))
+decided_fits s o c call (reply.Busy e) h may w =
+    counted_fits (owed_by s c call) (put o c false) c (shut (owed_by s c call) o c (owed_fits s o c call w))
 decided_fits s o c call _ h may w = counted_fits s (put o c false) c (shut s o c w)
 
 phase_own : (e : Event) (events : List Event) (c : ℕ) → c ≡ core_of e → phase_of (e ∷ events) c ≡ phase_by e
@@ -415,7 +431,8 @@ placed (Some j) k t e = subst (λ (n : Capability). IsTrue (takes (Kernel Leaf) 
 start_fits : (setting : Setting) → IsFitted (start setting) (opened [])
 start_fits setting = record { held = held; waiting = λ f i k c p q. absurd (false≢true q) }
   where
-    held : (f i : ℕ) (k : Capability) → (start setting).place f i ≡ Holds k → FitsNode ((start setting).frame f) k.kind ((start setting).frame k.frame)
+    held : (f i : ℕ) (k : Capability) → (start setting).place f i ≡ Holds k
+        → FitsNode ((start setting).frame f) k.kind ((start setting).frame k.frame)
     held f i k =
         choose P (f == 0) _ _
         (λ is. choose P (i == 0) _ _
@@ -430,7 +447,8 @@ start_fits setting = record { held = held; waiting = λ f i k c p q. absurd (fal
         P : Place → Type 0
         P p = p ≡ Holds k → FitsNode (start_frame setting f) k.kind (start_frame setting k.frame)
 
-enter_fits : (setting : Setting) (events : List Event) (c : ℕ) (call : Call) → IsRun setting (Enters c call ∷ events) → IsFitted (after setting events) (opened events)
+enter_fits : (setting : Setting) (events : List Event) (c : ℕ) (call : Call) → IsRun setting (Enters c call ∷ events)
+    → IsFitted (after setting events) (opened events)
     → IsFitted (after setting (Enters c call ∷ events)) (opened (Enters c call ∷ events))
 enter_fits setting events c call run old = record {
   held = old.held;
@@ -452,7 +470,8 @@ return_fits setting events c old = record {
   ];
 }
 
-pub runs_fit : (setting : Setting) → IsSetting setting → (events : List Event) → IsRun setting events → IsFitted (after setting events) (opened events)
+pub runs_fit : (setting : Setting) → IsSetting setting → (events : List Event) → IsRun setting events
+    → IsFitted (after setting events) (opened events)
 runs_fit setting lim [] run = start_fits setting
 runs_fit setting lim (Enters c call ∷ events) run = enter_fits setting events c call run (runs_fit setting lim events run.0)
 runs_fit setting lim (Returns c ∷ events) run = return_fits setting events c (runs_fit setting lim events run.0)

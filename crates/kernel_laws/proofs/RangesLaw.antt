@@ -32,11 +32,13 @@ use Rattle.kernel_laws.proofs.Shapes.{ListInRange, FrameShape, CoreShape, Shaped
 -- the shape
 
 -- Another core, with as many ticks, calls and translations, or one call more for at most 1,000,000 ticks more.
-core_shape : (s : State) (c : ℕ) (k : Core) → CoreShape s.limits.calls k → ((d : ℕ) → CoreShape s.limits.calls (s.core d)) → (d : ℕ) → CoreShape s.limits.calls (put s.core c k d)
+core_shape : (s : State) (c : ℕ) (k : Core) → CoreShape s.limits.calls k → ((d : ℕ) → CoreShape s.limits.calls (s.core d)) → (d : ℕ)
+    → CoreShape s.limits.calls (put s.core c k d)
 core_shape s c k new h d = put_all (λ d k. CoreShape s.limits.calls k) s.core c k d (λ same. new) (λ other. h d)
 
 -- A call that is counted and whose calls were not spent.
-counted_shape : (calls : ℕ) (k m : Core) → nat_le calls k.counted ≡ false → Grows k m → CoreShape calls k → CoreShape calls (record m { counted = m.counted + 1 })
+counted_shape : (calls : ℕ) (k m : Core) → nat_le calls k.counted ≡ false → Grows k m → CoreShape calls k
+    → CoreShape calls (record m { counted = m.counted + 1 })
 counted_shape calls k m more grows h =
     let less : k.counted < calls = leb-false calls k.counted more in
     let a = grows.counted in
@@ -44,7 +46,8 @@ counted_shape calls k m more grows h =
     let d = h.owed in
     record { counted = omega (arith, less, a); owed = omega (arith, a, b, d); cached = grows.cached }
 
-limited : (s t : State) → t.limits ≡ s.limits → ((f : ℕ) → FrameShape s.limits.epochs (t.frame f)) → ((l : ℕ) → NumberInRange s.limits.epochs (t.number l))
+limited : (s t : State) → t.limits ≡ s.limits → ((f : ℕ) → FrameShape s.limits.epochs (t.frame f))
+    → ((l : ℕ) → NumberInRange s.limits.epochs (t.number l))
     → ((c : ℕ) → CoreShape s.limits.calls (t.core c)) → Shaped t
 limited s t e frames numbers cores = record {
   frames = λ f. subst (λ (l : Limits). FrameShape l.epochs (t.frame f)) (sym e) (frames f);
@@ -61,7 +64,8 @@ found_shape s c v (Found change) more h by ok e = limited s (counted (changed s 
     (λ other. subst (CoreShape s.limits.calls) (sym (by.others d other)) (h.cores d)))
 
 -- A refused call is counted, and owes at most its own ticks more.
-refused_shape : (s : State) (c : ℕ) (k : Core) → nat_le s.limits.calls (s.core c).counted ≡ false → Grows (s.core c) k → Shaped s → Shaped (with_core s c (record k { counted = k.counted + 1 }))
+refused_shape : (s : State) (c : ℕ) (k : Core) → nat_le s.limits.calls (s.core c).counted ≡ false → Grows (s.core c) k → Shaped s
+    → Shaped (with_core s c (record k { counted = k.counted + 1 }))
 refused_shape s c k more grows h = record {
   frames = h.frames;
   numbers = h.numbers;
@@ -71,7 +75,8 @@ refused_shape s c k more grows h = record {
 stays : (s : State) (c : ℕ) → Shaped s → Grows (s.core c) (s.core c)
 stays s c h = record { counted = refl; owed = omega arith; cached = (h.cores c).cached }
 
-twice : (s : State) (c : ℕ) (k : Core) → Shaped (with_core s c (record k { counted = k.counted + 1 })) → Shaped (counted (with_core s c k) c)
+twice : (s : State) (c : ℕ) (k : Core) → Shaped (with_core s c (record k { counted = k.counted + 1 }))
+    → Shaped (counted (with_core s c k) c)
 twice s c k h = record {
   frames = h.frames;
   numbers = h.numbers;
@@ -81,13 +86,15 @@ twice s c k h = record {
       (λ other. subst (CoreShape s.limits.calls) (put_other s.core c (record k { counted = k.counted + 1 }) d other ∙ sym (put_other s.core c k d other)) (h.cores d));
 }
 
-owed_shape : (s : State) (c : ℕ) (call : Call) → InLimits call → nat_le s.limits.calls (s.core c).counted ≡ false → Shaped s → Shaped (counted (owed_by s c call) c)
+owed_shape : (s : State) (c : ℕ) (call : Call) → InLimits call → nat_le s.limits.calls (s.core c).counted ≡ false → Shaped s
+    → Shaped (counted (owed_by s c call) c)
 owed_shape s c (Tick n) lim more h =
     twice s c (record (s.core c) { owed = (s.core c).owed + n })
     (refused_shape s c (record (s.core c) { owed = (s.core c).owed + n }) more (record { counted = refl; owed = omega (arith, lim); cached = (h.cores c).cached }) h)
 owed_shape s c _ lim more h = refused_shape s c (s.core c) more (stays s c h) h
 
-decided_shape : (s : State) (o : ℕ → Bool) (c : ℕ) (call : Call) (r : Reply) → IsOpen s o c → InLimits call → MayReply s c call r → Shaped s → Shaped (state_by s c call r)
+decided_shape : (s : State) (o : ℕ → Bool) (c : ℕ) (call : Call) (r : Reply) → IsOpen s o c → InLimits call → MayReply s c call r
+    → Shaped s → Shaped (state_by s c call r)
 decided_shape s o c call (reply.Ok v) turn lim may h = found_shape s c v (change_of s c call) may.0 h
     (outcome_from (ShapedBy s c) s c (rule_of s c call) (rule_shape s o c turn h call lim)) may.1 (decided_stays s c call (reply.Ok v)).limits
 decided_shape s o c call reply.CallsSpent turn lim may h = h
@@ -139,9 +146,11 @@ entered_shape s c b h = record {
 pub runs_shape : (setting : Setting) → IsSetting setting → (events : List Event) → IsRun setting events → Shaped (after setting events)
 runs_shape setting lim [] run = start_shape setting lim
 runs_shape setting lim (Enters c call ∷ events) run = entered_shape (after setting events) c true (runs_shape setting lim events run.0)
-runs_shape setting lim (Returns c ∷ events) run = returned_shape (entered_shape (after setting events) c false (runs_shape setting lim events run.0))
+runs_shape setting lim (Returns c ∷ events) run =
+    returned_shape (entered_shape (after setting events) c false (runs_shape setting lim events run.0))
   where
-    returned_shape : Shaped (with_core (after setting events) c (record ((after setting events).core c) { inside = false })) → Shaped (after setting (Returns c ∷ events))
+    returned_shape : Shaped (with_core (after setting events) c (record ((after setting events).core c) { inside = false }))
+        → Shaped (after setting (Returns c ∷ events))
     returned_shape h = record { frames = h.frames; numbers = h.numbers; cores = h.cores }
 runs_shape setting lim (Decides c call r ∷ events) run =
     decided_shape (after setting events) (opened events) c call r (open_is setting lim events c run.0 (ap is_open run.1.is_open))
@@ -172,9 +181,11 @@ sum_two f (suc n) i j apart less low = elim (cases_eq i n) [
 -- The grants of at most 8 cores, each at most 500,000,000 ticks.
 grants_from : (gs : List Grant) (a : ℕ) → All GrantFits gs → fold (λ a g. a + g.budget) a gs ≤ a + 500000000 * length gs
 grants_from [] a fits = omega arith
-grants_from (g ∷ gs) a fits = let p = grants_from gs (a + g.budget) (all_rest GrantFits g gs fits) in let q = (all_first GrantFits g gs fits).0 in omega (arith, p, q)
+grants_from (g ∷ gs) a fits =
+    let p = grants_from gs (a + g.budget) (all_rest GrantFits g gs fits) in let q = (all_first GrantFits g gs fits).0 in omega (arith, p, q)
 
-few_ticks : (setting : Setting) → IsSetting setting → (events : List Event) → IsRun setting events → ticks (after setting events) ≤ 4000000000
+few_ticks : (setting : Setting) → IsSetting setting → (events : List Event) → IsRun setting events
+    → ticks (after setting events) ≤ 4000000000
 few_ticks setting lim events run =
     let a = ticks_kept setting lim events run in
     let b = grants_from setting.grants 0 lim.grants_fit in

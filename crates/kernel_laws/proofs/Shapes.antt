@@ -70,7 +70,8 @@ stays : (calls : ℕ) (k : Core) → CoreShape calls k → Grows k k
 stays calls k h = record { counted = refl; owed = omega arith; cached = h.cached }
 
 -- Frames, numbers and cores that stay.
-same : (s : State) (c : ℕ) (change : Change) → Shaped s → change.next.frame ≡ s.frame → change.next.number ≡ s.number → change.next.core ≡ s.core → ShapedBy s c change
+same : (s : State) (c : ℕ) (change : Change) → Shaped s → change.next.frame ≡ s.frame → change.next.number ≡ s.number
+    → change.next.core ≡ s.core → ShapedBy s c change
 same s c change h frame number core = record {
   frames = λ f. subst (λ (g : ℕ → Frame). FrameShape s.limits.epochs (g f)) (sym frame) (h.frames f);
   numbers = λ l. subst (λ (g : ℕ → Liveness). NumberInRange s.limits.epochs (g l)) (sym number) (h.numbers l);
@@ -79,7 +80,8 @@ same s c change h frame number core = record {
 }
 
 -- One frame is put.
-frame_put : (s : State) (e f : ℕ) (y : Frame) → ((g : ℕ) → FrameShape e (s.frame g)) → FrameShape e y → (g : ℕ) → FrameShape e (put s.frame f y g)
+frame_put : (s : State) (e f : ℕ) (y : Frame) → ((g : ℕ) → FrameShape e (s.frame g)) → FrameShape e y → (g : ℕ)
+    → FrameShape e (put s.frame f y g)
 frame_put s e f y h new g = put_all (λ g x. FrameShape e x) s.frame f y g (λ same. new) (λ other. h g)
 
 -- A frame is put, and numbers and cores stay.
@@ -93,7 +95,8 @@ framed s c change h frames number core = record {
 }
 
 -- Core c alone changes.
-cored : (s : State) (c : ℕ) (change : Change) (k : Core) → Shaped s → ((f : ℕ) → FrameShape s.limits.epochs (change.next.frame f)) → change.next.number ≡ s.number
+cored : (s : State) (c : ℕ) (change : Change) (k : Core) → Shaped s → ((f : ℕ) → FrameShape s.limits.epochs (change.next.frame f))
+    → change.next.number ≡ s.number
     → change.next.core ≡ put s.core c k → Grows (s.core c) k → ShapedBy s c change
 cored s c change k h frames number core grows = record {
   frames = frames;
@@ -103,7 +106,8 @@ cored s c change k h frames number core grows = record {
 }
 
 -- Frames by what they have.
-thread_shape : (e : ℕ) (x : Frame) (t : ThreadFields) → FrameShape e x → (ThreadInRange (thread_in x) → ThreadInRange t) → FrameShape e (with_thread x t)
+thread_shape : (e : ℕ) (x : Frame) (t : ThreadFields) → FrameShape e x → (ThreadInRange (thread_in x) → ThreadInRange t)
+    → FrameShape e (with_thread x t)
 thread_shape e (Kernel (Thread u)) t h new = new h
 thread_shape e Untyped t h new = h
 thread_shape e User t h new = h
@@ -115,7 +119,8 @@ thread_shape e (Kernel Pleaf) t h new = h
 thread_shape e (Kernel (Comp k)) t h new = h
 thread_shape e (Kernel (Tcap q)) t h new = h
 
-tcap_shape : (e : ℕ) (x : Frame) (q : TcapFields) → FrameShape e x → (ListInRange (tcap_in x).qualities → ListInRange q.qualities) → FrameShape e (with_tcap x q)
+tcap_shape : (e : ℕ) (x : Frame) (q : TcapFields) → FrameShape e x → (ListInRange (tcap_in x).qualities → ListInRange q.qualities)
+    → FrameShape e (with_tcap x q)
 tcap_shape e (Kernel (Tcap p)) q h new = new h
 tcap_shape e Untyped q h new = h
 tcap_shape e User q h new = h
@@ -136,7 +141,8 @@ moved_shape s e a b m h =
     frame_put first e b _ (budget_shape s e a ((tcap_at s a).budget - m) h)
     (tcap_shape e (first.frame b) (record (tcap_at first b) { budget = (tcap_at s b).budget + m }) (budget_shape s e a ((tcap_at s a).budget - m) h b) (λ l. l))
 
-running_shape : (s : State) (e f : ℕ) (core : Option ℕ) → ((g : ℕ) → FrameShape e (s.frame g)) → (g : ℕ) → FrameShape e ((running s f core).frame g)
+running_shape : (s : State) (e f : ℕ) (core : Option ℕ) → ((g : ℕ) → FrameShape e (s.frame g)) → (g : ℕ)
+    → FrameShape e ((running s f core).frame g)
 running_shape s e f core h = frame_put s e f _ h
     (thread_shape e (s.frame f) (record (thread_in (s.frame f)) { runs_on = core }) (h f) (λ t. record { least = t.least; most = t.most }))
 
@@ -147,7 +153,8 @@ stack_shape s e c stack h new = frame_put s e (s.core c).thread _ h
     (λ t. let n = new t in record { least = n.0; most = n.1 }))
 
 -- `make`.
-comp_shape : (s : State) (c l : ℕ) → Shaped s → first_cause s c (not_taken s l) ≡ None → EpochInRange s.limits.epochs (epoch_of (s.number l) + 1)
+comp_shape : (s : State) (c l : ℕ) → Shaped s → first_cause s c (not_taken s l) ≡ None
+    → EpochInRange s.limits.epochs (epoch_of (s.number l) + 1)
 comp_shape s c l h calm =
     let live : Cause = When (is_live (s.number l)) reply.Occupied in
     let spent : Cause = When (epoch_of (s.number l) == s.limits.epochs) reply.EpochsSpent in
@@ -163,11 +170,16 @@ comp_shape s c l h calm =
     below (Live e f) r = r.most
     below (Dead e) r = r.most
 
-make_shape : (s : State) (c : ℕ) → Shaped s → (what : Make) (r f t b : ℕ) → InLimits (make_call what r f t b) → ChangesFrom (ShapedBy s c) s c (make_rule s what r f t b)
-make_shape s c h make.Table r f t b lim = λ range e table g at v calm. framed s c _ h (frame_put s s.limits.epochs f (Kernel Table) h.frames tt) refl refl
-make_shape s c h make.Leaf r f t b lim = λ range e table g at v calm. framed s c _ h (frame_put s s.limits.epochs f (Kernel Leaf) h.frames tt) refl refl
-make_shape s c h make.Pages r f t b lim = λ range e table g at v calm. framed s c _ h (frame_put s s.limits.epochs f (Kernel Pages) h.frames tt) refl refl
-make_shape s c h make.Pleaf r f t b lim = λ range e table g at v calm. framed s c _ h (frame_put s s.limits.epochs f (Kernel Pleaf) h.frames tt) refl refl
+make_shape : (s : State) (c : ℕ) → Shaped s → (what : Make) (r f t b : ℕ) → InLimits (make_call what r f t b)
+    → ChangesFrom (ShapedBy s c) s c (make_rule s what r f t b)
+make_shape s c h make.Table r f t b lim =
+    λ range e table g at v calm. framed s c _ h (frame_put s s.limits.epochs f (Kernel Table) h.frames tt) refl refl
+make_shape s c h make.Leaf r f t b lim =
+    λ range e table g at v calm. framed s c _ h (frame_put s s.limits.epochs f (Kernel Leaf) h.frames tt) refl refl
+make_shape s c h make.Pages r f t b lim =
+    λ range e table g at v calm. framed s c _ h (frame_put s s.limits.epochs f (Kernel Pages) h.frames tt) refl refl
+make_shape s c h make.Pleaf r f t b lim =
+    λ range e table g at v calm. framed s c _ h (frame_put s s.limits.epochs f (Kernel Pleaf) h.frames tt) refl refl
 make_shape s c h (make.Thread comp) r f t b lim = λ range e table g k j at v calm.
     framed s c _ h (frame_put s s.limits.epochs f _ h.frames (record { least = omega arith; most = omega arith })) refl refl
 make_shape s c h (make.Tcap sched quality) r f t b lim = λ range e table g at v calm.
@@ -186,7 +198,8 @@ make_shape s c h (make.Comp x p l) r f t b lim = λ range e table g own_table a 
 retype_shape : (s : State) (c : ℕ) → Shaped s → (r f : ℕ) (k : FrameKind) → ChangesFrom (ShapedBy s c) s c (retype_rule s r f k)
 retype_shape s c h r f frame_kind.Untyped = λ range e calm. framed s c _ h (frame_put s s.limits.epochs f Untyped h.frames tt) refl refl
 retype_shape s c h r f frame_kind.User = λ range e calm. framed s c _ h (frame_put s s.limits.epochs f User h.frames tt) refl refl
-retype_shape s c h r f frame_kind.Kernel = λ range e calm. framed s c _ h (frame_put s s.limits.epochs f (Kernel Blank) h.frames tt) refl refl
+retype_shape s c h r f frame_kind.Kernel =
+    λ range e calm. framed s c _ h (frame_put s s.limits.epochs f (Kernel Blank) h.frames tt) refl refl
 
 -- A list of translations keeps at most 64.
 caching_short : (cached : List Translation) (t : Translation) → length cached ≤ 64 → length (caching cached t) ≤ 64
@@ -199,7 +212,8 @@ caching_short cached t h = tested (nat_lt (length cached) 64) refl
         let n : length (cached ++ t ∷ []) ≡ length cached + 1 = length-append cached (t ∷ []) in
         omega (arith, less, n)
 
-touch_shape : (s : State) (c : ℕ) → Shaped s → (pages v : ℕ) (t : Option Translation) → ChangesFrom (ShapedBy s c) s c (touch_by s c pages v t)
+touch_shape : (s : State) (c : ℕ) → Shaped s → (pages v : ℕ) (t : Option Translation)
+    → ChangesFrom (ShapedBy s c) s c (touch_by s c pages v t)
 touch_shape s c h pages v None = λ mapping e calm.
     cored s c _ _ h h.frames refl refl (record { counted = refl; owed = omega arith; cached = caching_short (s.core c).cached _ (h.cores c).cached })
 touch_shape s c h pages v (Some t) = λ calm. same s c _ h refl refl refl
@@ -241,7 +255,8 @@ ret_shape s c h = λ calm.
     dropped [] more most = absurd (omega (arith, more))
     dropped (f ∷ fs) more most = (omega (arith, more), omega (arith, most))
 
-switch_shape : (s : State) (c : ℕ) → Shaped s → (q : ℕ) (name : Named) (e : Option ℕ) → ChangesFrom (ShapedBy s c) s c (switch_to s c name q e)
+switch_shape : (s : State) (c : ℕ) → Shaped s → (q : ℕ) (name : Named) (e : Option ℕ)
+    → ChangesFrom (ShapedBy s c) s c (switch_to s c name q e)
 switch_shape s c h q name None = λ calm.
     cored s c _ (record (s.core c) { thread = name.frame; tcap = q }) h
     (running_shape (running s (s.core c).thread None) s.limits.epochs name.frame (Some c) (running_shape s s.limits.epochs (s.core c).thread None h.frames)) refl refl
@@ -264,7 +279,8 @@ list_shape : (e : ℕ) (x : Frame) → IsTrue (fits kind.Tcap x) → FrameShape 
 list_shape e (Kernel (Tcap q)) fit h = h
 list_shape e _ fit h = absurd (false≢true fit)
 
-delegate_shape : (s : State) (o : ℕ → Bool) (c : ℕ) → IsOpen s o c → Shaped s → (a b m : ℕ) → ChangesFrom (ShapedBy s c) s c (rule_of s c (Delegate a b m))
+delegate_shape : (s : State) (o : ℕ → Bool) (c : ℕ) → IsOpen s o c → Shaped s → (a b m : ℕ)
+    → ChangesFrom (ShapedBy s c) s c (rule_of s c (Delegate a b m))
 delegate_shape s o c turn h a b m = λ j e k f calm.
     let next : State = moved s j.frame k.frame m in
     let first : ListInRange (tcap_at s j.frame).qualities = list_shape s.limits.epochs (s.frame j.frame) (named_fit s o c a kind.Tcap j turn.sound turn.is e) (h.frames j.frame) in
@@ -279,7 +295,8 @@ delegate_shape s o c turn h a b m = λ j e k f calm.
     (λ l. record { least = merged_some (tcap_at s j.frame).qualities (tcap_at s k.frame).qualities first.least; most = few; pairs = merged_list_is (tcap_at s j.frame).qualities (tcap_at s k.frame).qualities first.pairs second.pairs }))) refl refl
 
 -- Every call that is carried out.
-pub rule_shape : (s : State) (o : ℕ → Bool) (c : ℕ) → IsOpen s o c → Shaped s → (call : Call) → InLimits call → ChangesFrom (ShapedBy s c) s c (rule_of s c call)
+pub rule_shape : (s : State) (o : ℕ → Bool) (c : ℕ) → IsOpen s o c → Shaped s → (call : Call) → InLimits call
+    → ChangesFrom (ShapedBy s c) s c (rule_of s c call)
 rule_shape s o c turn h (Look a) lim = λ k e calm. same s c _ h refl refl refl
 rule_shape s o c turn h (Copy a t b) lim = λ k e table f at g calm. same s c _ h refl refl refl
 rule_shape s o c turn h (Remove t b) lim = λ table e at k g calm. same s c _ h refl refl refl
@@ -290,13 +307,16 @@ rule_shape s o c turn h (make_call what r f t b) lim = make_shape s c h what r f
 rule_shape s o c turn h (Map p v r f w) lim = λ pages e range g at u calm. same s c _ h refl refl refl
 rule_shape s o c turn h (Unmap p v) lim = λ pages e at k g calm. same s c _ h refl refl refl
 rule_shape s o c turn h (Touch v) lim = touch_shape s c h (comp_of s c).pages v (translation_of (s.core c).cached (comp_of s c).pages v)
-rule_shape s o c turn h Flush lim = λ calm. cored s c _ _ h h.frames refl refl (record { counted = refl; owed = omega arith; cached = omega arith })
+rule_shape s o c turn h Flush lim =
+    λ calm. cored s c _ _ h h.frames refl refl (record { counted = refl; owed = omega arith; cached = omega arith })
 rule_shape s o c turn h (Gate k t b) lim = λ comp e table f at g calm. same s c _ h refl refl refl
 rule_shape s o c turn h (Kill k) lim = kill_shape s c h k
 rule_shape s o c turn h (call_gate g) lim = call_shape s c h g
 rule_shape s o c turn h Ret lim = ret_shape s c h
-rule_shape s o c turn h (Switch f q) lim = λ thread e tcap g. switch_shape s c h tcap.frame (found thread) (thread_in (s.frame thread.frame)).runs_on
+rule_shape s o c turn h (Switch f q) lim =
+    λ thread e tcap g. switch_shape s c h tcap.frame (found thread) (thread_in (s.frame thread.frame)).runs_on
 rule_shape s o c turn h (Tick n) lim = tick_shape s c h n lim
-rule_shape s o c turn h (Transfer a b m) lim = λ j e k f calm. framed s c _ h (moved_shape s s.limits.epochs j.frame k.frame m h.frames) refl refl
+rule_shape s o c turn h (Transfer a b m) lim =
+    λ j e k f calm. framed s c _ h (moved_shape s s.limits.epochs j.frame k.frame m h.frames) refl refl
 rule_shape s o c turn h (Delegate a b m) lim = delegate_shape s o c turn h a b m
 rule_shape s o c turn h (Test a b) lim = λ j e k f calm. same s c _ h refl refl refl

@@ -40,7 +40,8 @@ same s c call core none is = record {
   others = λ d other. ap (λ (f : ℕ → Core). due (f d)) is;
 }
 
-own : (s : State) (c : ℕ) (call : Call) (core : ℕ → Core) (k : Core) → due k ≡ due (s.core c) + ticks_of call → core ≡ put s.core c k → Charges s c call core
+own : (s : State) (c : ℕ) (call : Call) (core : ℕ → Core) (k : Core) → due k ≡ due (s.core c) + ticks_of call → core ≡ put s.core c k
+    → Charges s c call core
 own s c call core k sum is = record {
   own = ap (λ (f : ℕ → Core). due (f c)) is ∙ ap due (put_same s.core c k c refl) ∙ sum;
   others = λ d other. ap (λ (f : ℕ → Core). due (f d)) is ∙ ap due (put_other s.core c k d other);
@@ -106,12 +107,14 @@ rule_due s c (Delegate a b m) = λ a b. same s c _ _ refl refl
 rule_due s c (Test a b) = λ a b. same s c _ _ refl refl
 
 -- A decision: the counted ticks of a call by its reply.
-found_due : (s : State) (c : ℕ) (call : Call) (v : Value) (x : Judged Change) → IfFound x (By s c call) → IsFoundAnd x (λ k. k.value ≡ v) → Charges s c call (changed s x).core
+found_due : (s : State) (c : ℕ) (call : Call) (v : Value) (x : Judged Change) → IfFound x (By s c call) → IsFoundAnd x (λ k. k.value ≡ v)
+    → Charges s c call (changed s x).core
 found_due s c call v (Refused r) by ok = absurd ok
 found_due s c call v (Found change) by ok = by
 
 -- A core is counted.
-counted_due : (s t : State) (c : ℕ) (call : Call) (k : Core) → due k ≡ due (t.core c) → Charges s c call t.core → Charges s c call (put t.core c k)
+counted_due : (s t : State) (c : ℕ) (call : Call) (k : Core) → due k ≡ due (t.core c) → Charges s c call t.core
+    → Charges s c call (put t.core c k)
 counted_due s t c call k e by = record {
   own = ap due (put_same t.core c k c refl) ∙ e ∙ by.own;
   others = λ d other. ap due (put_other t.core c k d other) ∙ by.others d other;
@@ -136,7 +139,8 @@ counts s c call t by =
     let k = counted_due s t c call (record (t.core c) { counted = (t.core c).counted + 1 }) refl by in
     record { own = k.own; others = k.others }
 
-decided_due : (s : State) (c : ℕ) (call : Call) (r : Reply) → MayReply s c call r → Counts s c (ticks_counted call r) (state_by s c call r).core
+decided_due : (s : State) (c : ℕ) (call : Call) (r : Reply) → MayReply s c call r
+    → Counts s c (ticks_counted call r) (state_by s c call r).core
 decided_due s c call (reply.Ok v) may =
     counts s c call (changed s (change_of s c call)) (found_due s c call v (change_of s c call) (outcome_all (By s c call) s c (rule_of s c call) (rule_due s c call)) may.1)
 decided_due s c call reply.CallsSpent may = record { own = omega arith; others = λ d other. refl }

@@ -186,7 +186,7 @@ switch_plain : (s : State) (c : ℕ) (h : Named) (q : ℕ) (e : Option ℕ) → 
 switch_plain s c h q None = tt
 switch_plain s c h q (Some e) = (tt, tt)
 
-rule_plain : (s : State) (c : ℕ) (call : Call) → HasPlain (rule_of s c call)
+pub rule_plain : (s : State) (c : ℕ) (call : Call) → HasPlain (rule_of s c call)
 rule_plain s c (Look a) = λ k. tt
 rule_plain s c (Copy a t b) = λ k table. (refl, λ at. tt)
 rule_plain s c (Remove t b) = λ table. (refl, λ at k. tt)

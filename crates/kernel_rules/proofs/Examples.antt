@@ -1,9 +1,8 @@
 -- Worked examples, which the checker computes, of what is easily forgotten: what an invocation may be refused with where its name
 -- leads to no gate, and what waits for flushes.
-use Rattle.std.proofs.Common.{◌≡◌, ◌⊎◌, inl, inr, refl, Bool, true, false, IsTrue}
+use Rattle.std.proofs.Common.{◌≡◌, ◌⊎◌, inl, inr, refl, Bool, false, IsTrue}
 use Rattle.std.proofs.lemmas.Bool.{false≢true}
-use Rattle.std.specs.Prelude.{ℕ, zero, suc, ◌+◌, List, [], ◌∷◌, Option, None}
-use Rattle.spk_nums.specs.Setting.{Setting}
+use Rattle.std.specs.Prelude.{List, [], ◌∷◌, None}
 use Rattle.spk_nums.specs.declared.kinds.FrameKind.TheVariants as frame_kind
 use Rattle.spk_nums.specs.declared.calls.Make.TheVariants as make
 use Rattle.spk_nums.specs.declared.calls.Call.{Call}
@@ -11,7 +10,7 @@ use Rattle.spk_nums.specs.declared.calls.Call.TheVariants as call
 use Rattle.spk_nums.specs.declared.replies.Value.TheVariants.{Nothing}
 use Rattle.spk_nums.specs.declared.replies.Reply.{Reply}
 use Rattle.spk_nums.specs.declared.replies.Reply.TheVariants as reply
-use Rattle.kernel_rules.specs.State.{Pages, Thread, Frame, Kernel, State}
+use Rattle.kernel_rules.specs.State.{Pages, Thread, Kernel, State}
 use Rattle.kernel_rules.specs.Start.{start}
 use Rattle.kernel_rules.specs.References.{sum_below, node_refs, refs}
 use Rattle.kernel_rules.specs.GracePeriods.{entered}
@@ -21,7 +20,8 @@ use Rattle.kernel_rules.specs.Alone.{plain_replies, plain_steps}
 
 -- One core with 100 ticks, and 32 frames, of which 6 is the first that is untyped.
 abbrev one_core : State
-one_core = start (record { cores = 1; frames = 32; grants = record { budget = 100; sched = 0; quality = 1 } ∷ []; calls = 4194304; epochs = 65535 })
+one_core =
+    start (record { cores = 1; frames = 32; grants = record { budget = 100; sched = 0; quality = 1 } ∷ []; calls = 4194304; epochs = 65535 })
 
 abbrev done : Reply
 done = reply.Ok Nothing
@@ -73,7 +73,8 @@ beyond_no_kind may = by_cause may.1
     by_range : reply.FrameKind ≡ reply.OutOfRange → ⊥
     by_range e = cc
 
-    by_cause : {A B C D : Type 0} → ⊥ ⊎ ((A × (reply.FrameKind ≡ reply.OutOfRange)) ⊎ ((IsTrue false × B) ⊎ ((IsTrue false × C) ⊎ (⊥ ⊎ (⊥ ⊎ ((IsTrue false × D) ⊎ ⊥)))))) → ⊥
+    by_cause : {A B C D : Type 0}
+        → ⊥ ⊎ ((A × (reply.FrameKind ≡ reply.OutOfRange)) ⊎ ((IsTrue false × B) ⊎ ((IsTrue false × C) ⊎ (⊥ ⊎ (⊥ ⊎ ((IsTrue false × D) ⊎ ⊥)))))) → ⊥
     by_cause (inl x) = x
     by_cause (inr (inl x)) = by_range x.1
     by_cause (inr (inr (inl x))) = false≢true x.0

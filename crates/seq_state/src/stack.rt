@@ -31,6 +31,16 @@ impl Model for Stack {
 }
 
 impl Stack {
+    /// The stack of no component.
+    pub fn empty() -> Stack
+        ensures { result ≡ [] }
+    {
+        Stack {
+            cells: [FrameNo::new(0); 16],
+            len: 0,
+        }
+    }
+
     /// The stack of one component.
     pub fn one(frame: FrameNo) -> Stack
         ensures { result ≡ frame ∷ [] }

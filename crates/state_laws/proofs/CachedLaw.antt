@@ -66,7 +66,8 @@ mapping_held t (Quiescing k) h = absurd h
 
 -- A translation that stands for core d stands after a decision, but for d's own flush.
 module _ (s : State) (o : ℕ → Bool) (c : ℕ) (call : Call) (r : Reply) (h : IsOpen s o c) (lim : InLimits call) (may : MayReply s c call r) where
-  or_was : (P : Place → Type 0) (d f i : ℕ) → ((p : Place) → P p → (k : Capability) × (p ≡ Holds k)) → IsTrue (is_paging (s.frame f)) → (flushes call r ≡ true → d ≢ c)
+  or_was : (P : Place → Type 0) (d f i : ℕ) → ((p : Place) → P p → (k : Capability) × (p ≡ Holds k)) → IsTrue (is_paging (s.frame f))
+      → (flushes call r ≡ true → d ≢ c)
       → IsOrWas s d P f i → IsOrWas (state_by s c call r) d P f i
   or_was P d f i holds is other (inr un) = inr (place_unflushed s o c call r h lim may d f i is other un)
   or_was P d f i holds is other (inl p) =
@@ -76,7 +77,8 @@ module _ (s : State) (o : ℕ → Bool) (c : ℕ) (call : Call) (r : Reply) (h :
         | inr un ↦ inr un
       ]
 
-  stands_stays : (d : ℕ) (t : Translation) → d < s.limits.cores → (flushes call r ≡ true → d ≢ c) → Stands s d t → Stands (state_by s c call r) d t
+  stands_stays : (d : ℕ) (t : Translation) → d < s.limits.cores → (flushes call r ≡ true → d ≢ c) → Stands s d t
+      → Stands (state_by s c call r) d t
   stands_stays d t below other a =
       let root : IsTrue (is_translated (s.frame t.pages)) = subst (λ x. IsTrue (is_translated x)) (sym a.root) refl in
       let leaf : IsTrue (is_translated (s.frame a.leaf)) = subst (λ x. IsTrue (is_translated x)) (sym a.through) refl in
@@ -98,8 +100,10 @@ module _ (s : State) (o : ℕ → Bool) (c : ℕ) (call : Call) (r : Reply) (h :
 abbrev AllStand : State → (ℕ → Core) → Type 0
 AllStand s core = (d : ℕ) → d < s.limits.cores → AllByRecursion (Stands s d) (core d).cached
 
-core_stand : (s : State) (core : ℕ → Core) (c : ℕ) (k : Core) → AllByRecursion (Stands s c) k.cached → AllStand s core → AllStand s (put core c k)
-core_stand s core c k own h d below = put_all (λ d x. AllByRecursion (Stands s d) x.cached) core c k d (λ same. subst (λ n. AllByRecursion (Stands s n) k.cached) (sym same) own) (λ other. h d below)
+core_stand : (s : State) (core : ℕ → Core) (c : ℕ) (k : Core) → AllByRecursion (Stands s c) k.cached → AllStand s core
+    → AllStand s (put core c k)
+core_stand s core c k own h d below =
+    put_all (λ d x. AllByRecursion (Stands s d) x.cached) core c k d (λ same. subst (λ n. AllByRecursion (Stands s n) k.cached) (sym same) own) (λ other. h d below)
 
 -- What a change makes of the lists of translations.
 record Caches (s : State) (c : ℕ) (call : Call) (change : Change) : Type 0 where
@@ -118,11 +122,13 @@ module _ (s : State) (o : ℕ → Bool) (c : ℕ) (h : IsOpen s o c) (w : IsFitt
   index_of (Some leaf) true i at e = ap (λ (x : Slot). x.index) (some_inj record { node = leaf; index = i } at e)
 
   -- A link that core c may use.
-  entry_of : (f i : ℕ) (j : Capability) (leaf : ℕ) → IsTrue (is_paging (s.frame f)) → usable s c (record { node = f; index = i }) ≡ Some j → j.kind ≡ kind.Link → j.frame ≡ leaf
+  entry_of : (f i : ℕ) (j : Capability) (leaf : ℕ) → IsTrue (is_paging (s.frame f)) → usable s c (record { node = f; index = i }) ≡ Some j
+      → j.kind ≡ kind.Link → j.frame ≡ leaf
       → IsOrWas s c (IsLinkTo leaf) f i
   entry_of f i j leaf is e link same = by_place (s.place f i) refl e
     where
-      by_wait : (m : Capability) (b : Bool) → (s.grace (PlaceOf f i)).waits c ≡ b → (if b then Some m else None) ≡ Some j → IsTrue ((s.grace (PlaceOf f i)).waits c)
+      by_wait : (m : Capability) (b : Bool) → (s.grace (PlaceOf f i)).waits c ≡ b → (if b then Some m else None) ≡ Some j
+          → IsTrue ((s.grace (PlaceOf f i)).waits c)
       by_wait m true is q = is
       by_wait m false is q = absurd (none_some j q)
 
@@ -171,7 +177,8 @@ module _ (s : State) (o : ℕ → Bool) (c : ℕ) (h : IsOpen s o c) (w : IsFitt
         frame_there = inl (place_named s o b.0.node b.0.index k.frame k h.sound held
             (subst (λ xs. 1 ≤ times k.frame xs) (sym (ap (λ j. named_by j k.frame) page)) (times_first k.frame [])));
         entry = entry_of pages (v / 64) l.0 b.0.node (subst (λ x. IsTrue (is_paging x)) (sym root) refl) l.1 link l.3;
-        mapping = inl (subst (λ i. IsMappingOf (record { pages = pages; page = v; frame = k.frame; flags = record { 0 = k.arg } }) (s.place b.0.node i)) (sym index)
+        mapping =
+            inl (subst (λ i. IsMappingOf (record { pages = pages; page = v; frame = k.frame; flags = record { 0 = k.arg } }) (s.place b.0.node i)) (sym index)
             (subst (IsMappingOf (record { pages = pages; page = v; frame = k.frame; flags = record { 0 = k.arg } })) (sym held) (page, refl, refl)));
       }
     where
@@ -198,7 +205,8 @@ module _ (s : State) (o : ℕ → Bool) (c : ℕ) (h : IsOpen s o c) (w : IsFitt
     own_stays : (d : ℕ) → d ≡ c → AllByRecursion (Stands s d) (s.core d).cached
     own_stays d same = all d (subst (λ n. n < s.limits.cores) (sym same) (h.sound.inside c h.is).1)
 
-    kept : (call : Call) (change : Change) (k : Core) → flushes_by call ≡ false → k.cached ≡ (s.core c).cached → change.next.core ≡ put s.core c k → Caches s c call change
+    kept : (call : Call) (change : Change) (k : Core) → flushes_by call ≡ false → k.cached ≡ (s.core c).cached
+        → change.next.core ≡ put s.core c k → Caches s c call change
     kept call change k none same core = record {
       stand = subst (AllStand s) (sym core) (core_stand s s.core c k (subst (AllByRecursion (Stands s c)) (sym same) (own_stays c refl)) all);
       flushed = λ is. absurd (false≢true (sym none ∙ is));
@@ -218,7 +226,8 @@ module _ (s : State) (o : ℕ → Bool) (c : ℕ) (h : IsOpen s o c) (w : IsFitt
     retype_caches r f frame_kind.User = λ range e calm. stays _ _ refl refl
     retype_caches r f frame_kind.Kernel = λ range e calm. stays _ _ refl refl
 
-    longer : (cached : List Translation) (t : Translation) → AllByRecursion (Stands s c) cached → Stands s c t → AllByRecursion (Stands s c) (caching cached t)
+    longer : (cached : List Translation) (t : Translation) → AllByRecursion (Stands s c) cached → Stands s c t
+        → AllByRecursion (Stands s c) (caching cached t)
     longer cached t old new = by_room (nat_lt (length cached) 64)
       where
         by_room : (b : Bool) → AllByRecursion (Stands s c) (if b then cached ++ t ∷ [] else cached)
@@ -266,7 +275,8 @@ record Lists (s t : State) (c : ℕ) (flushes : Bool) : Type 0 where
   stand : AllStand s t.core
   flushed : flushes ≡ true → (t.core c).cached ≡ []
 
-found_lists : (s : State) (c : ℕ) (call : Call) (v : Value) (x : Judged Change) → IfFound x (Caches s c call) → IsFoundAnd x (λ k. k.value ≡ v)
+found_lists : (s : State) (c : ℕ) (call : Call) (v : Value) (x : Judged Change) → IfFound x (Caches s c call)
+    → IsFoundAnd x (λ k. k.value ≡ v)
     → Lists s (changed s x) c (flushes_by call)
 found_lists s c call v (Refused r) by ok = absurd ok
 found_lists s c call v (Found change) by ok = record { stand = by.stand; flushed = by.flushed }
@@ -286,17 +296,21 @@ owed_lists : (s : State) (c : ℕ) (call : Call) → c < s.limits.cores → AllS
 owed_lists s c (Tick n) below all = same_lists s s c false _ below refl (none_flushed s c all)
 owed_lists s c _ below all = none_flushed s c all
 
-decided_lists : (s : State) (o : ℕ → Bool) (c : ℕ) (call : Call) (r : Reply) → IsOpen s o c → MayReply s c call r → IsFitted s o → IsWaited s o → AllStand s s.core
+decided_lists : (s : State) (o : ℕ → Bool) (c : ℕ) (call : Call) (r : Reply) → IsOpen s o c → MayReply s c call r → IsFitted s o
+    → IsWaited s o → AllStand s s.core
     → Lists s (state_by s c call r) c (flushes call r)
 decided_lists s o c call (reply.Ok v) h may w u all =
     same_lists s (changed s (change_of s c call)) c (flushes_by call) _ (h.sound.inside c h.is).1 refl
     (found_lists s c call v (change_of s c call) (outcome_from (Caches s c call) s c (rule_of s c call) (rule_caches s o c h w u all call)) may.1)
 decided_lists s o c call reply.CallsSpent h may w u all = none_flushed s c all
-decided_lists s o c call reply.Raced h may w u all = same_lists s (owed_by s c call) c false _ (h.sound.inside c h.is).1 refl (owed_lists s c call (h.sound.inside c h.is).1 all)
-decided_lists s o c call (reply.Busy e) h may w u all = same_lists s (owed_by s c call) c false _ (h.sound.inside c h.is).1 refl (owed_lists s c call (h.sound.inside c h.is).1 all)
+decided_lists s o c call reply.Raced h may w u all =
+    same_lists s (owed_by s c call) c false _ (h.sound.inside c h.is).1 refl (owed_lists s c call (h.sound.inside c h.is).1 all)
+decided_lists s o c call (reply.Busy e) h may w u all =
+    same_lists s (owed_by s c call) c false _ (h.sound.inside c h.is).1 refl (owed_lists s c call (h.sound.inside c h.is).1 all)
 decided_lists s o c call _ h may w u all = same_lists s s c false _ (h.sound.inside c h.is).1 refl (none_flushed s c all)
 
-decided_stand : (s : State) (o : ℕ → Bool) (c : ℕ) (call : Call) (r : Reply) → IsOpen s o c → InLimits call → MayReply s c call r → IsFitted s o → IsWaited s o → AllStand s s.core
+decided_stand : (s : State) (o : ℕ → Bool) (c : ℕ) (call : Call) (r : Reply) → IsOpen s o c → InLimits call → MayReply s c call r
+    → IsFitted s o → IsWaited s o → AllStand s s.core
     → AllStand (state_by s c call r) (state_by s c call r).core
 decided_stand s o c call r h lim may w u all d below =
     by_flush (flushes call r) refl (cases_eq d c)
@@ -314,15 +328,18 @@ decided_stand s o c call r h lim may w u all d below =
     moves other = all_map (Stands s d) (Stands (state_by s c call r) d) ((state_by s c call r).core d).cached
         (λ t. stands_stays s o c call r h lim may d t less other) (lists.stand d less)
 
-    by_flush : (b : Bool) → flushes call r ≡ b → (d ≡ c) ⊎ (d ≢ c) → AllByRecursion (Stands (state_by s c call r) d) ((state_by s c call r).core d).cached
+    by_flush : (b : Bool) → flushes call r ≡ b → (d ≡ c) ⊎ (d ≢ c)
+        → AllByRecursion (Stands (state_by s c call r) d) ((state_by s c call r).core d).cached
     by_flush false is same = moves (λ flush. absurd (false≢true (sym is ∙ flush)))
     by_flush true is (inr other) = moves (λ flush. other)
-    by_flush true is (inl same) = subst (AllByRecursion (Stands (state_by s c call r) d)) (sym (ap (λ n. ((state_by s c call r).core n).cached) same ∙ lists.flushed is)) tt
+    by_flush true is (inl same) =
+        subst (AllByRecursion (Stands (state_by s c call r) d)) (sym (ap (λ n. ((state_by s c call r).core n).cached) same ∙ lists.flushed is)) tt
 
 -- Entries and returns.
 
 -- A state with the same frames and places, references, and who has to flush.
-same_stands : (s u : State) (d : ℕ) (t : Translation) → ((f : ℕ) → u.frame f ≡ s.frame f) → ((f i : ℕ) → u.place f i ≡ s.place f i) → ((f : ℕ) → refs u f ≡ refs s f)
+same_stands : (s u : State) (d : ℕ) (t : Translation) → ((f : ℕ) → u.frame f ≡ s.frame f) → ((f i : ℕ) → u.place f i ≡ s.place f i)
+    → ((f : ℕ) → refs u f ≡ refs s f)
     → ((x : Thing) → (u.grace x).unflushed d ≡ (s.grace x).unflushed d) → Stands s d t → Stands u d t
 same_stands s u d t frame place count grace a = record {
   leaf = a.leaf;
@@ -368,7 +385,8 @@ phase_own e events c same = ap (λ b. if b then phase_by e else phase_of events 
 phase_other : (e : Event) (events : List Event) (c : ℕ) → c ≢ core_of e → phase_of (e ∷ events) c ≡ phase_of events c
 phase_other e events c other = ap (λ b. if b then phase_by e else phase_of events c) (ne_eqb c (core_of e) other)
 
-enter_waited : (setting : Setting) (events : List Event) (c : ℕ) (call : Call) → IsRun setting (Enters c call ∷ events) → IsWaited (after setting events) (opened events)
+enter_waited : (setting : Setting) (events : List Event) (c : ℕ) (call : Call) → IsRun setting (Enters c call ∷ events)
+    → IsWaited (after setting events) (opened events)
     → IsWaited (after setting (Enters c call ∷ events)) (opened (Enters c call ∷ events))
 enter_waited setting events c call run old = record {
   unflushed = λ x d q wait need. elim (cases_eq d c) [
@@ -403,7 +421,8 @@ return_waited setting events c old = record {
 fewer : (s : State) (o o' : ℕ → Bool) → ((c : ℕ) → o' c ≡ true → o c ≡ true) → IsWaited s o → IsWaited s o'
 fewer s o o' less h = record { unflushed = λ x d q. h.unflushed x d (less d q); bare = h.bare }
 
-runs_waited : (setting : Setting) → IsSetting setting → (events : List Event) → IsRun setting events → IsWaited (after setting events) (opened events)
+runs_waited : (setting : Setting) → IsSetting setting → (events : List Event) → IsRun setting events
+    → IsWaited (after setting events) (opened events)
 runs_waited setting lim [] run = record { unflushed = λ x d q wait. absurd (false≢true wait); bare = λ f d none. refl }
 runs_waited setting lim (Enters c call ∷ events) run = enter_waited setting events c call run (runs_waited setting lim events run.0)
 runs_waited setting lim (Returns c ∷ events) run = return_waited setting events c (runs_waited setting lim events run.0)
@@ -416,7 +435,8 @@ runs_waited setting lim (Decides c call r ∷ events) run =
     (decided_waited (after setting events) (opened events) c call r (open_is setting lim events c run.0 (ap is_open run.1.is_open))
     (open_limits setting events c call run.0 run.1.is_open) run.1.permitted (runs_waited setting lim events run.0))
 
-runs_stand : (setting : Setting) → IsSetting setting → (events : List Event) → IsRun setting events → AllStand (after setting events) (after setting events).core
+runs_stand : (setting : Setting) → IsSetting setting → (events : List Event) → IsRun setting events
+    → AllStand (after setting events) (after setting events).core
 runs_stand setting lim [] run = λ d below. tt
 runs_stand setting lim (Enters c call ∷ events) run = entered_stand (after setting events) c (runs_stand setting lim events run.0)
 runs_stand setting lim (Returns c ∷ events) run = returned_stand (after setting events) c (runs_stand setting lim events run.0)
@@ -426,4 +446,5 @@ runs_stand setting lim (Decides c call r ∷ events) run =
     (runs_stand setting lim events run.0)
 
 pub translations_stand : TranslationsStand
-translations_stand setting lim events run c below = runs_stand setting lim events run c (subst (λ l. c < l.cores) (sym (limits_stay setting events)) below)
+translations_stand setting lim events run c below =
+    runs_stand setting lim events run c (subst (λ l. c < l.cores) (sym (limits_stay setting events)) below)

@@ -39,7 +39,8 @@ use Rattle.state_laws.proofs.Gates.{waited}
 
 -- Where no core is found that has not flushed a thing, none has not.
 none_unflushed : (s : State) (x : Thing) → flushes_of s x ≡ None → (d : ℕ) → d < s.limits.cores → (s.grace x).unflushed d ≡ false
-none_unflushed s x h d below = find_not (s.grace x).unflushed 0 s.limits.cores d (not_found (lowest s (s.grace x).unflushed) h) (omega arith) (omega (arith, below))
+none_unflushed s x h d below =
+    find_not (s.grace x).unflushed 0 s.limits.cores d (not_found (lowest s (s.grace x).unflushed) h) (omega arith) (omega (arith, below))
   where
     not_found : (w : Option ℕ) → unflushed_by w ≡ None → w ≡ None
     not_found None e = refl
@@ -56,7 +57,8 @@ found_fact : {A P : Type 0} (x : Judged A) (Q : A → Type 0) → IfFound x (λ 
 found_fact (Refused r) Q fact ok = absurd ok
 found_fact (Found a) Q fact ok = fact
 
-retype_flushed : (s : State) (d r f : ℕ) → ChangesFrom (λ change. AreFlushed s (FrameOf f)) s d (rule_of s d (Retype r f frame_kind.Untyped))
+retype_flushed : (s : State) (d r f : ℕ)
+    → ChangesFrom (λ change. AreFlushed s (FrameOf f)) s d (rule_of s d (Retype r f frame_kind.Untyped))
 unfolding AreFlushed
 retype_flushed s d r f = λ range e calm.
     let held : Cause = When (not (is_empty s f (s.frame f))) reply.NotEmpty in
@@ -68,7 +70,8 @@ retype_flushed s d r f = λ range e calm.
     let p4 = none_parts (flushes_of s (FrameOf f)) (first_cause s d (held ∷ [])) p3.1 in
     none_unflushed s (FrameOf f) p4.0
 
-frame_ends : (s : State) (d : ℕ) (call : Call) (r : Reply) (f : ℕ) → MayReply s d call r → ends call r (FrameOf f) ≡ true → AreFlushed s (FrameOf f)
+frame_ends : (s : State) (d : ℕ) (call : Call) (r : Reply) (f : ℕ) → MayReply s d call r → ends call r (FrameOf f) ≡ true
+    → AreFlushed s (FrameOf f)
 frame_ends s d call (reply.Ok v) f may is = by_call call may is
   where
     by_call : (call : Call) → MayReply s d call (reply.Ok v) → ends_by call (FrameOf f) ≡ true → AreFlushed s (FrameOf f)
@@ -85,7 +88,8 @@ frame_ends s d call (reply.Ok v) f may is = by_call call may is
 frame_ends s d call _ f may is = absurd (false≢true is)
 
 -- A frame that is referenced is referenced after a decision, or its grace period has begun.
-found_refs : (s : State) (c : ℕ) (v : Value) (x : Judged Change) → IfFound x (RefsBy s) → IsFoundAnd x (λ k. k.value ≡ v) → (f : ℕ) → 0 < refs s f
+found_refs : (s : State) (c : ℕ) (v : Value) (x : Judged Change) → IfFound x (RefsBy s) → IsFoundAnd x (λ k. k.value ≡ v) → (f : ℕ)
+    → 0 < refs s f
     → (0 < refs (counted (changed s x) c) f) ⊎ (begins_in x (FrameOf f) ≡ true)
 found_refs s c v (Refused r) by ok f some = absurd ok
 found_refs s c v (Found change) by ok f some = by_number (refs (counted (changed s (Found change)) c) f) refl
@@ -103,13 +107,16 @@ owed_refs : (s : State) (c : ℕ) (call : Call) (f : ℕ) → refs (owed_by s c 
 owed_refs s c (Tick n) f = core_same_refs s c _ refl refl f
 owed_refs s c _ f = refl
 
-decided_refs : (s : State) (o : ℕ → Bool) (c : ℕ) (call : Call) (r : Reply) → IsOpen s o c → InLimits call → MayReply s c call r → (f : ℕ) → 0 < refs s f
+decided_refs : (s : State) (o : ℕ → Bool) (c : ℕ) (call : Call) (r : Reply) → IsOpen s o c → InLimits call → MayReply s c call r → (f : ℕ)
+    → 0 < refs s f
     → (0 < refs (state_by s c call r) f) ⊎ (begins s c call r (FrameOf f) ≡ true)
 decided_refs s o c call (reply.Ok v) h lim may f some =
     found_refs s c v (change_of s c call) (outcome_from (RefsBy s) s c (rule_of s c call) (rule_refs s o c h call lim)) may.1 f some
 decided_refs s o c call reply.CallsSpent h lim may f some = inl some
-decided_refs s o c call reply.Raced h lim may f some = let a = counted_refs (owed_by s c call) c f in let b = owed_refs s c call f in inl (omega (arith, some, a, b))
-decided_refs s o c call (reply.Busy e) h lim may f some = let a = counted_refs (owed_by s c call) c f in let b = owed_refs s c call f in inl (omega (arith, some, a, b))
+decided_refs s o c call reply.Raced h lim may f some =
+    let a = counted_refs (owed_by s c call) c f in let b = owed_refs s c call f in inl (omega (arith, some, a, b))
+decided_refs s o c call (reply.Busy e) h lim may f some =
+    let a = counted_refs (owed_by s c call) c f in let b = owed_refs s c call f in inl (omega (arith, some, a, b))
 decided_refs s o c call _ h lim may f some = let a = counted_refs s c f in inl (omega (arith, some, a))
 
 -- The unflushed after a decision.
@@ -128,7 +135,8 @@ module _ (s : State) (o : ℕ → Bool) (c : ℕ) (call : Call) (r : Reply) (h :
       ∙ ap (λ b. (cond b (new_grace s x) (cond (ends call r x) no_grace (cond (flushes call r) (flushed_by c (s.grace x)) (s.grace x)))).unflushed d) is ∙ need
 
   -- What core d has not flushed, it has not flushed after another core's decision that does not end the grace period.
-  kept_unflushed : (x : Thing) (d : ℕ) → begins s c call r x ≡ false → ends call r x ≡ false → (flushes call r ≡ true → d ≢ c) → IsUnflushedBy s d x
+  kept_unflushed : (x : Thing) (d : ℕ) → begins s c call r x ≡ false → ends call r x ≡ false → (flushes call r ≡ true → d ≢ c)
+      → IsUnflushedBy s d x
       → IsUnflushedBy (state_by s c call r) d x
   kept_unflushed x d not not_end other un =
       ap (λ (g : Grace). g.unflushed d) (grace_at x)
@@ -140,7 +148,8 @@ module _ (s : State) (o : ℕ → Bool) (c : ℕ) (call : Call) (r : Reply) (h :
       by_flush false is = un
       by_flush true is = put_other (s.grace x).unflushed c false d (other is) ∙ un
 
-  pub unflushed_stays : (x : Thing) (d : ℕ) → IsTrue (needs_flush s x) → (ends call r x ≡ true → ⊥) → (flushes call r ≡ true → d ≢ c) → IsUnflushedBy s d x
+  pub unflushed_stays : (x : Thing) (d : ℕ) → IsTrue (needs_flush s x) → (ends call r x ≡ true → ⊥) → (flushes call r ≡ true → d ≢ c)
+      → IsUnflushedBy s d x
       → IsUnflushedBy (state_by s c call r) d x
   unflushed_stays x d need not_end other un = elim (cases (begins s c call r x)) [
     | inl is ↦ begun_unflushed x d is need
@@ -165,13 +174,15 @@ module _ (s : State) (o : ℕ → Bool) (c : ℕ) (call : Call) (r : Reply) (h :
   not_ended d f below (inl some) is = let zero = (ends_by_rule s o c h call r (FrameOf f) may is).0 in omega (arith, some, zero)
   not_ended d f below (inr un) is = false≢true (sym (frame_ends s c call r f may is d below) ∙ un)
 
-  pub frame_stays : (d f : ℕ) → d < s.limits.cores → IsTrue (is_translated (s.frame f)) → IsStillThere s d f → (state_by s c call r).frame f ≡ s.frame f
+  pub frame_stays : (d f : ℕ) → d < s.limits.cores → IsTrue (is_translated (s.frame f)) → IsStillThere s d f
+      → (state_by s c call r).frame f ≡ s.frame f
   frame_stays d f below is there = elim (kept.frame f (translated_kept (s.frame f) is)) [
     | inl same ↦ same
     | inr ends ↦ absurd (not_ended d f below there ends)
   ]
 
-  pub there_stays : (d f : ℕ) → d < s.limits.cores → IsTrue (is_translated (s.frame f)) → (flushes call r ≡ true → d ≢ c) → IsStillThere s d f → IsStillThere (state_by s c call r) d f
+  pub there_stays : (d f : ℕ) → d < s.limits.cores → IsTrue (is_translated (s.frame f)) → (flushes call r ≡ true → d ≢ c)
+      → IsStillThere s d f → IsStillThere (state_by s c call r) d f
   there_stays d f below is other (inl some) = elim (decided_refs s o c call r h lim may f some) [
     | inl more ↦ inl more
     | inr begins ↦ inr (begun_unflushed (FrameOf f) d begins is)
@@ -182,7 +193,8 @@ module _ (s : State) (o : ℕ → Bool) (c : ℕ) (call : Call) (r : Reply) (h :
   paging_ends : (f i : ℕ) → IsTrue (is_paging (s.frame f)) → ends call r (PlaceOf f i) ≡ true → ⊥
   paging_ends f i is ends = false≢true (ap is_paging (sym (ends_by_rule s o c h call r (PlaceOf f i) may ends)) ∙ is)
 
-  pub place_unflushed : (d f i : ℕ) → IsTrue (is_paging (s.frame f)) → (flushes call r ≡ true → d ≢ c) → IsUnflushedBy s d (PlaceOf f i) → IsUnflushedBy (state_by s c call r) d (PlaceOf f i)
+  pub place_unflushed : (d f i : ℕ) → IsTrue (is_paging (s.frame f)) → (flushes call r ≡ true → d ≢ c) → IsUnflushedBy s d (PlaceOf f i)
+      → IsUnflushedBy (state_by s c call r) d (PlaceOf f i)
   place_unflushed d f i is other un = unflushed_stays (PlaceOf f i) d is (paging_ends f i is) other un
 
   pub place_holds : (d f i : ℕ) (k : Capability) → IsTrue (is_paging (s.frame f)) → s.place f i ≡ Holds k
@@ -212,7 +224,8 @@ module _ (s : State) (o : ℕ → Bool) (c : ℕ) (call : Call) (r : Reply) (h :
   paging_node _ n = absurd (false≢true n)
 
   -- What needs a flush after the decision needed one before, where its grace period is not ended, and somebody waits for it.
-  needed : (x : Thing) (d : ℕ) → ends call r x ≡ false → (begins s c call r x ≡ true) ⊎ IsTrue ((s.grace x).waits d) → IsTrue (needs_flush (state_by s c call r) x) → IsTrue (needs_flush s x)
+  needed : (x : Thing) (d : ℕ) → ends call r x ≡ false → (begins s c call r x ≡ true) ⊎ IsTrue ((s.grace x).waits d)
+      → IsTrue (needs_flush (state_by s c call r) x) → IsTrue (needs_flush s x)
   needed (PlaceOf f i) d not why need = elim ((turns f).node i (paging_node _ need)) [
     | inl ends ↦ absurd (false≢true (sym not ∙ ends))
     | inr same ↦ subst (λ x. IsTrue (is_paging x)) same need
@@ -236,7 +249,8 @@ module _ (s : State) (o : ℕ → Bool) (c : ℕ) (call : Call) (r : Reply) (h :
       ap (λ b. (cond b (new_grace s x) (cond (ends call r x) no_grace (cond (flushes call r) (flushed_by c (s.grace x)) (s.grace x)))).waits d) not
       ∙ ap (λ b. (cond b no_grace (cond (flushes call r) (flushed_by c (s.grace x)) (s.grace x))).waits d) is
 
-  kept_waits : (x : Thing) (d : ℕ) → o d ≡ true → d ≢ c → begins s c call r x ≡ false → IsTrue ((grace_by s c call r x).waits d) → IsTrue (needs_flush (state_by s c call r) x)
+  kept_waits : (x : Thing) (d : ℕ) → o d ≡ true → d ≢ c → begins s c call r x ≡ false → IsTrue ((grace_by s c call r x).waits d)
+      → IsTrue (needs_flush (state_by s c call r) x)
       → IsUnflushedBy (state_by s c call r) d x
   kept_waits x d q other not wait need = elim (two (ends call r x)) [
     | inl ends ↦ absurd (false≢true (sym (no_wait x d not ends) ∙ wait))

@@ -47,9 +47,11 @@ use Rattle.state_laws.proofs.Lives.{comp_kept}
 -- The gates that places hold, and those that open cores may still use, have their component's epoch.
 pub record AreGates (s : State) (o : ℕ → Bool) : Type 0 where
   pub held : (f i : ℕ) (k : Capability) → s.place f i ≡ Holds k → IsOfEpoch s k
-  pub waiting : (f i : ℕ) (k : Capability) (c : ℕ) → s.place f i ≡ Quiescing k → o c ≡ true → IsTrue ((s.grace (PlaceOf f i)).waits c) → IsOfEpoch s k
+  pub waiting : (f i : ℕ) (k : Capability) (c : ℕ) → s.place f i ≡ Quiescing k → o c ≡ true → IsTrue ((s.grace (PlaceOf f i)).waits c)
+      → IsOfEpoch s k
 
-usable_gate : (s : State) (o : ℕ → Bool) (c : ℕ) (at : Slot) (k : Capability) → AreGates s o → o c ≡ true → usable s c at ≡ Some k → IsOfEpoch s k
+usable_gate : (s : State) (o : ℕ → Bool) (c : ℕ) (at : Slot) (k : Capability) → AreGates s o → o c ≡ true → usable s c at ≡ Some k
+    → IsOfEpoch s k
 usable_gate s o c at k w q e = by_place (place_at s at) refl e
   where
     by_wait : (j : Capability) (b : Bool) → (if b then Some j else None) ≡ Some k → (b ≡ true) × (j ≡ k)
@@ -73,7 +75,8 @@ record NewGates (s : State) (change : Change) : Type 0 where
 stays : (s : State) (change : Change) → ((f i : ℕ) → change.next.place f i ≡ s.place f i) → NewGates s change
 stays s change place = record { gate = λ f i k e. inl (sym (place f i) ∙ e) }
 
-filled : (s t : State) (change : Change) (at : Slot) (k : Capability) → ((f i : ℕ) (j : Capability) → t.place f i ≡ Holds j → s.place f i ≡ Holds j)
+filled : (s t : State) (change : Change) (at : Slot) (k : Capability)
+    → ((f i : ℕ) (j : Capability) → t.place f i ≡ Holds j → s.place f i ≡ Holds j)
     → ((f i : ℕ) → change.next.place f i ≡ put t.place at.node (put (t.place at.node) at.index (Holds k)) f i) → IsOfEpoch change.next k → NewGates s change
 filled s t change at k old next epoch = record {
   gate = λ f i j e. place_all (λ f i p. p ≡ Holds j → (s.place f i ≡ Holds j) ⊎ IsOfEpoch change.next j) t at.node at.index (Holds k) f i
@@ -81,20 +84,24 @@ filled s t change at k old next epoch = record {
 }
 
 -- A place is filled with what is no gate.
-other : (s t : State) (change : Change) (at : Slot) (k : Capability) → ((f i : ℕ) (j : Capability) → t.place f i ≡ Holds j → s.place f i ≡ Holds j)
+other : (s t : State) (change : Change) (at : Slot) (k : Capability)
+    → ((f i : ℕ) (j : Capability) → t.place f i ≡ Holds j → s.place f i ≡ Holds j)
     → ((f i : ℕ) → change.next.place f i ≡ put t.place at.node (put (t.place at.node) at.index (Holds k)) f i) → only kind.Gate k.kind ≡ false → NewGates s change
 other s t change at k old next none = filled s t change at k old next (no_gate change.next k none)
 
 removed : (s : State) (at : Slot) (k : Capability) → NewGates s (removes s at k)
 removed s at k = record {
-  gate = λ f i j. place_all (λ f i p. p ≡ Holds j → (s.place f i ≡ Holds j) ⊎ IsOfEpoch (removes s at k).next j) s at.node at.index (Quiescing k) f i
+  gate =
+      λ f i j. place_all (λ f i p. p ≡ Holds j → (s.place f i ≡ Holds j) ⊎ IsOfEpoch (removes s at k).next j) s at.node at.index (Quiescing k) f i
       (λ same index q. absurd (quiescing_holds k j q)) (λ q. inl q);
 }
 
 was_held : (s : State) (f g i : ℕ) (k : Capability) → put s.place f (λ i. Free) g i ≡ Holds k → s.place g i ≡ Holds k
-was_held s f g i k = put_all (λ g r. r i ≡ Holds k → s.place g i ≡ Holds k) s.place f (λ i. Free) g (λ same e. absurd (free_holds k e)) (λ other e. e)
+was_held s f g i k =
+    put_all (λ g r. r i ≡ Holds k → s.place g i ≡ Holds k) s.place f (λ i. Free) g (λ same e. absurd (free_holds k e)) (λ other e. e)
 
-made : (s t : State) (f : ℕ) (object : Object) (k : Kind) (at : Slot) → ((f i : ℕ) (j : Capability) → t.place f i ≡ Holds j → s.place f i ≡ Holds j)
+made : (s t : State) (f : ℕ) (object : Object) (k : Kind) (at : Slot)
+    → ((f i : ℕ) (j : Capability) → t.place f i ≡ Holds j → s.place f i ≡ Holds j)
     → only kind.Gate k ≡ false → NewGates s (makes t f object k at)
 made s t f object k at old none = other s t (makes t f object k at) at (plain_cap k f) old (λ g i. refl) none
 
@@ -133,7 +140,8 @@ module _ (s : State) (o : ℕ → Bool) (c : ℕ) (h : IsOpen s o c) (w : AreGat
 
   rule_gates : (call : Call) → ChangesFrom (NewGates s) s c (rule_of s c call)
   rule_gates (Look a) = λ k e calm. stays s _ (λ f i. refl)
-  rule_gates (Copy a t b) = λ k e table f at v calm. filled s s (fills s at k) at k (λ f i j e. e) (λ f i. refl) (named_gate a (λ k. true) k e)
+  rule_gates (Copy a t b) =
+      λ k e table f at v calm. filled s s (fills s at k) at k (λ f i j e. e) (λ f i. refl) (named_gate a (λ k. true) k e)
   rule_gates (Remove t b) = λ table e at k g calm. removed s at k
   rule_gates (Grow t i l) = λ table e leaf f at v calm.
       other s s _ at (plain_cap kind.Link leaf.frame) (λ f i j e. e) (λ f i. refl) refl
@@ -159,7 +167,8 @@ module _ (s : State) (o : ℕ → Bool) (c : ℕ) (h : IsOpen s o c) (w : AreGat
 abbrev DecidedGates : State → State → Type 0
 DecidedGates s t = (f i : ℕ) (k : Capability) → t.place f i ≡ Holds k → (s.place f i ≡ Holds k) ⊎ IsOfEpoch t k
 
-found_gates : (s : State) (v : Value) (x : Judged Change) → IfFound x (NewGates s) → IsFoundAnd x (λ k. k.value ≡ v) → DecidedGates s (changed s x)
+found_gates : (s : State) (v : Value) (x : Judged Change) → IfFound x (NewGates s) → IsFoundAnd x (λ k. k.value ≡ v)
+    → DecidedGates s (changed s x)
 found_gates s v (Refused r) by ok = absurd ok
 found_gates s v (Found change) by ok = by.gate
 
@@ -167,15 +176,18 @@ owed_gates : (s : State) (c : ℕ) (call : Call) → DecidedGates s (owed_by s c
 owed_gates s c (Tick n) = λ f i k e. inl e
 owed_gates s c _ = λ f i k e. inl e
 
-decided_new : (s : State) (o : ℕ → Bool) (c : ℕ) (call : Call) (r : Reply) → IsOpen s o c → MayReply s c call r → AreGates s o → DecidedGates s (state_by s c call r)
-decided_new s o c call (reply.Ok v) h may w = found_gates s v (change_of s c call) (outcome_from (NewGates s) s c (rule_of s c call) (rule_gates s o c h w call)) may.1
+decided_new : (s : State) (o : ℕ → Bool) (c : ℕ) (call : Call) (r : Reply) → IsOpen s o c → MayReply s c call r → AreGates s o
+    → DecidedGates s (state_by s c call r)
+decided_new s o c call (reply.Ok v) h may w =
+    found_gates s v (change_of s c call) (outcome_from (NewGates s) s c (rule_of s c call) (rule_gates s o c h w call)) may.1
 decided_new s o c call reply.CallsSpent h may w = λ f i k e. inl e
 decided_new s o c call reply.Raced h may w = owed_gates s c call
 decided_new s o c call (reply.Busy e) h may w = owed_gates s c call
 decided_new s o c call _ h may w = λ f i k e. inl e
 
 -- Who waits for a thing whose grace period has not just begun, waited before.
-pub waited : (s : State) (c : ℕ) (call : Call) (r : Reply) (x : Thing) (d : ℕ) → begins s c call r x ≡ false → IsTrue ((grace_by s c call r x).waits d) → IsTrue ((s.grace x).waits d)
+pub waited : (s : State) (c : ℕ) (call : Call) (r : Reply) (x : Thing) (d : ℕ) → begins s c call r x ≡ false
+    → IsTrue ((grace_by s c call r x).waits d) → IsTrue ((s.grace x).waits d)
 waited s c call r x d not w =
     by_end (ends call r x) (subst (λ b. IsTrue ((cond b (new_grace s x) (cond (ends call r x) no_grace (cond (flushes call r) (flushed_by c (s.grace x)) (s.grace x)))).waits d)) not w)
   where
@@ -183,7 +195,8 @@ waited s c call r x d not w =
     by_flush true w = w
     by_flush false w = w
 
-    by_end : (b : Bool) → IsTrue ((cond b no_grace (cond (flushes call r) (flushed_by c (s.grace x)) (s.grace x))).waits d) → IsTrue ((s.grace x).waits d)
+    by_end : (b : Bool) → IsTrue ((cond b no_grace (cond (flushes call r) (flushed_by c (s.grace x)) (s.grace x))).waits d)
+        → IsTrue ((s.grace x).waits d)
     by_end true w = absurd (false≢true w)
     by_end false w = by_flush (flushes call r) w
 
@@ -192,7 +205,8 @@ module _ (s : State) (o : ℕ → Bool) (c : ℕ) (call : Call) (r : Reply) (h :
   kept = decided_kept s o c call r h may
 
   gate_frame : (k : Capability) → k.kind ≡ kind.Gate → IsGood s k → IsTrue (is_kept (s.frame k.frame))
-  gate_frame k is good = comp_kept (s.frame k.frame) (gate_comp (s.frame k.frame) (subst (λ j. IsTrue (fits j (s.frame k.frame))) is good.fit))
+  gate_frame k is good =
+      comp_kept (s.frame k.frame) (gate_comp (s.frame k.frame) (subst (λ j. IsTrue (fits j (s.frame k.frame))) is good.fit))
 
   gate_named : (k : Capability) → k.kind ≡ kind.Gate → named_by k.kind k.frame ≡ k.frame ∷ []
   gate_named k is = ap (λ j. named_by j k.frame) is
@@ -208,7 +222,8 @@ module _ (s : State) (o : ℕ → Bool) (c : ℕ) (call : Call) (r : Reply) (h :
   ]
 
   -- So does one that an open core may still use.
-  waiting_epoch : (f i : ℕ) (k : Capability) (d : ℕ) → s.place f i ≡ Quiescing k → o d ≡ true → d ≢ c → IsTrue ((s.grace (PlaceOf f i)).waits d) → IsOfEpoch (state_by s c call r) k
+  waiting_epoch : (f i : ℕ) (k : Capability) (d : ℕ) → s.place f i ≡ Quiescing k → o d ≡ true → d ≢ c
+      → IsTrue ((s.grace (PlaceOf f i)).waits d) → IsOfEpoch (state_by s c call r) k
   waiting_epoch f i k d at q other wait is =
       let a = h.sound.waiting f i k d at q wait in
       elim (kept.frame k.frame (gate_frame k is a.0)) [
@@ -243,7 +258,8 @@ module _ (s : State) (o : ℕ → Bool) (c : ℕ) (call : Call) (r : Reply) (h :
         ];
   }
     where
-      new : (f i : ℕ) (k : Capability) → (state_by s c call r).place f i ≡ Holds k → (s.place f i ≡ Holds k) ⊎ IsOfEpoch (state_by s c call r) k
+      new : (f i : ℕ) (k : Capability) → (state_by s c call r).place f i ≡ Holds k
+          → (s.place f i ≡ Holds k) ⊎ IsOfEpoch (state_by s c call r) k
       new = decided_new s o c call r h may w
 
 -- The start has no gate.
@@ -283,7 +299,8 @@ phase_own e events c same = ap (λ b. if b then phase_by e else phase_of events 
 phase_other : (e : Event) (events : List Event) (c : ℕ) → c ≢ core_of e → phase_of (e ∷ events) c ≡ phase_of events c
 phase_other e events c other = ap (λ b. if b then phase_by e else phase_of events c) (ne_eqb c (core_of e) other)
 
-enter_gates : (setting : Setting) (events : List Event) (c : ℕ) (call : Call) → IsRun setting (Enters c call ∷ events) → AreGates (after setting events) (opened events)
+enter_gates : (setting : Setting) (events : List Event) (c : ℕ) (call : Call) → IsRun setting (Enters c call ∷ events)
+    → AreGates (after setting events) (opened events)
     → AreGates (after setting (Enters c call ∷ events)) (opened (Enters c call ∷ events))
 enter_gates setting events c call run old = record {
   held = old.held;
@@ -308,7 +325,8 @@ return_gates setting events c old = record {
 fewer : (s : State) (o o' : ℕ → Bool) → ((c : ℕ) → o' c ≡ true → o c ≡ true) → AreGates s o → AreGates s o'
 fewer s o o' less h = record { held = h.held; waiting = λ f i k c p q. h.waiting f i k c p (less c q) }
 
-runs_gates : (setting : Setting) → IsSetting setting → (events : List Event) → IsRun setting events → AreGates (after setting events) (opened events)
+runs_gates : (setting : Setting) → IsSetting setting → (events : List Event) → IsRun setting events
+    → AreGates (after setting events) (opened events)
 runs_gates setting lim [] run = start_gates setting
 runs_gates setting lim (Enters c call ∷ events) run = enter_gates setting events c call run (runs_gates setting lim events run.0)
 runs_gates setting lim (Returns c ∷ events) run = return_gates setting events c (runs_gates setting lim events run.0)

@@ -56,11 +56,13 @@ pub record Keeps (s : State) (call : Call) (change : Change) : Type 0 where
 abbrev BeginsNone : Change → Type 0
 BeginsNone change = (f i : ℕ) → list_any (same_thing (PlaceOf f i)) change.begins ≡ false
 
-none_removed : (change : Change) → BeginsNone change → {P : Type 0} → (f i : ℕ) → list_any (same_thing (PlaceOf f i)) change.begins ≡ true → P
+none_removed : (change : Change) → BeginsNone change → {P : Type 0} → (f i : ℕ) → list_any (same_thing (PlaceOf f i)) change.begins ≡ true
+    → P
 none_removed change none f i e = absurd (false≢true (sym (none f i) ∙ e))
 
 -- Places stay.
-placed : (s : State) (call : Call) (change : Change) → BeginsNone change → ((f : ℕ) → IsTrue (is_kept (s.frame f)) → (change.next.frame f ≡ s.frame f) ⊎ (ends_by call (FrameOf f) ≡ true))
+placed : (s : State) (call : Call) (change : Change) → BeginsNone change
+    → ((f : ℕ) → IsTrue (is_kept (s.frame f)) → (change.next.frame f ≡ s.frame f) ⊎ (ends_by call (FrameOf f) ≡ true))
     → ((f i : ℕ) → change.next.place f i ≡ s.place f i) → Keeps s call change
 placed s call change none frame place = record {
   removed = λ f i. none_removed change none f i;
@@ -69,11 +71,13 @@ placed s call change none frame place = record {
   quiescing = λ f i k e. inl (sym (place f i) ∙ e);
 }
 
-same : (s : State) (call : Call) (change : Change) → BeginsNone change → ((f : ℕ) → change.next.frame f ≡ s.frame f) → ((f i : ℕ) → change.next.place f i ≡ s.place f i) → Keeps s call change
+same : (s : State) (call : Call) (change : Change) → BeginsNone change → ((f : ℕ) → change.next.frame f ≡ s.frame f)
+    → ((f i : ℕ) → change.next.place f i ≡ s.place f i) → Keeps s call change
 same s call change none frame place = placed s call change none (λ f kept. inl (frame f)) place
 
 -- A frame is put that was not kept, or keeps its frame.
-put_kept : (s : State) (g : ℕ) (y : Frame) → (IsTrue (is_kept (s.frame g)) → y ≡ s.frame g) → (f : ℕ) → IsTrue (is_kept (s.frame f)) → put s.frame g y f ≡ s.frame f
+put_kept : (s : State) (g : ℕ) (y : Frame) → (IsTrue (is_kept (s.frame g)) → y ≡ s.frame g) → (f : ℕ) → IsTrue (is_kept (s.frame f))
+    → put s.frame g y f ≡ s.frame f
 put_kept s g y h f = put_all (λ f x. IsTrue (is_kept (s.frame f)) → x ≡ s.frame f) s.frame g y f
     (λ at kept. h (subst (λ n. IsTrue (is_kept (s.frame n))) at kept) ∙ ap s.frame (sym at)) (λ other kept. refl)
 
@@ -105,11 +109,13 @@ tcap_kept (Kernel (Comp k)) q h = refl
 tcap_kept (Kernel (Thread t)) q h = refl
 
 -- One change of frames after another.
-then_kept : (s t u : State) → ((f : ℕ) → IsTrue (is_kept (s.frame f)) → t.frame f ≡ s.frame f) → ((f : ℕ) → IsTrue (is_kept (t.frame f)) → u.frame f ≡ t.frame f)
+then_kept : (s t u : State) → ((f : ℕ) → IsTrue (is_kept (s.frame f)) → t.frame f ≡ s.frame f)
+    → ((f : ℕ) → IsTrue (is_kept (t.frame f)) → u.frame f ≡ t.frame f)
     → (f : ℕ) → IsTrue (is_kept (s.frame f)) → u.frame f ≡ s.frame f
 then_kept s t u a b f kept = b f (subst (λ x. IsTrue (is_kept x)) (sym (a f kept)) kept) ∙ a f kept
 
-thread_put : (s : State) (g : ℕ) (t : ThreadFields) (f : ℕ) → IsTrue (is_kept (s.frame f)) → put s.frame g (with_thread (s.frame g) t) f ≡ s.frame f
+thread_put : (s : State) (g : ℕ) (t : ThreadFields) (f : ℕ) → IsTrue (is_kept (s.frame f))
+    → put s.frame g (with_thread (s.frame g) t) f ≡ s.frame f
 thread_put s g t = put_kept s g _ (thread_kept (s.frame g) t)
 
 budget_put : (s : State) (g n f : ℕ) → IsTrue (is_kept (s.frame f)) → (with_budget s g n).frame f ≡ s.frame f
@@ -128,27 +134,32 @@ not_held (Holds j) k e q = some_none j e
     some_none j e = cc
 not_held (Quiescing j) k e q = cc
 
-filled : (s t : State) (call : Call) (change : Change) (at : Slot) (k : Capability) → BeginsNone change → ((f i : ℕ) → t.place f i ≡ s.place f i ⊎ ((t.place f i ≡ Free) × (ends_by call (PlaceOf f i) ≡ true)))
+filled : (s t : State) (call : Call) (change : Change) (at : Slot) (k : Capability) → BeginsNone change
+    → ((f i : ℕ) → t.place f i ≡ s.place f i ⊎ ((t.place f i ≡ Free) × (ends_by call (PlaceOf f i) ≡ true)))
     → held_in (place_at s at) ≡ None → ((f i : ℕ) → change.next.place f i ≡ put t.place at.node (put (t.place at.node) at.index (Holds k)) f i)
     → ((f : ℕ) → IsTrue (is_kept (s.frame f)) → change.next.frame f ≡ s.frame f) → Keeps s call change
 filled s t call change at k apart place none next frame = record {
   removed = λ f i. none_removed change apart f i;
   frame = λ f kept. inl (frame f kept);
-  holds = λ f i j e. subst (λ p. (p ≡ Holds j) ⊎ ((list_any (same_thing (PlaceOf f i)) change.begins ≡ true) ⊎ (ends_by call (PlaceOf f i) ≡ true))) (sym (next f i))
+  holds =
+      λ f i j e. subst (λ p. (p ≡ Holds j) ⊎ ((list_any (same_thing (PlaceOf f i)) change.begins ≡ true) ⊎ (ends_by call (PlaceOf f i) ≡ true))) (sym (next f i))
       (place_all (λ f i p. s.place f i ≡ Holds j → (p ≡ Holds j) ⊎ ((list_any (same_thing (PlaceOf f i)) change.begins ≡ true) ⊎ (ends_by call (PlaceOf f i) ≡ true)))
       t at.node at.index (Holds k) f i
       (λ same index e. absurd (not_held (s.place f i) j (ap (λ n. held_in (s.place n i)) same ∙ ap (λ n. held_in (s.place at.node n)) index ∙ none) e))
       (λ e. old f i j e (place f i)) e);
-  quiescing = λ f i j e. place_all (λ f i p. p ≡ Quiescing j → (s.place f i ≡ Quiescing j) ⊎ (s.place f i ≡ Holds j)) t at.node at.index (Holds k) f i
+  quiescing =
+      λ f i j e. place_all (λ f i p. p ≡ Quiescing j → (s.place f i ≡ Quiescing j) ⊎ (s.place f i ≡ Holds j)) t at.node at.index (Holds k) f i
       (λ same index q. absurd (holds_quiescing k j q)) (λ q. was f i j q (place f i)) (sym (next f i) ∙ e);
 }
   where
-    old : (f i : ℕ) (j : Capability) → s.place f i ≡ Holds j → (t.place f i ≡ s.place f i) ⊎ ((t.place f i ≡ Free) × (ends_by call (PlaceOf f i) ≡ true))
+    old : (f i : ℕ) (j : Capability) → s.place f i ≡ Holds j
+        → (t.place f i ≡ s.place f i) ⊎ ((t.place f i ≡ Free) × (ends_by call (PlaceOf f i) ≡ true))
         → (t.place f i ≡ Holds j) ⊎ ((list_any (same_thing (PlaceOf f i)) change.begins ≡ true) ⊎ (ends_by call (PlaceOf f i) ≡ true))
     old f i j e (inl p) = inl (p ∙ e)
     old f i j e (inr p) = inr (inr p.1)
 
-    was : (f i : ℕ) (j : Capability) → t.place f i ≡ Quiescing j → (t.place f i ≡ s.place f i) ⊎ ((t.place f i ≡ Free) × (ends_by call (PlaceOf f i) ≡ true))
+    was : (f i : ℕ) (j : Capability) → t.place f i ≡ Quiescing j
+        → (t.place f i ≡ s.place f i) ⊎ ((t.place f i ≡ Free) × (ends_by call (PlaceOf f i) ≡ true))
         → (s.place f i ≡ Quiescing j) ⊎ (s.place f i ≡ Holds j)
     was f i j e (inl p) = inl (sym p ∙ e)
     was f i j e (inr p) = absurd (free_quiescing j (sym p.0 ∙ e))
@@ -159,7 +170,8 @@ module _ (s : State) (o : ℕ → Bool) (c : ℕ) (h : IsOpen s o c) where
       filled s s call (fills s at k) at k (λ f i. refl) (λ f i. inl refl) (vacant_facts s c target at v).1 (λ f i. refl) (λ f kept. refl)
 
   -- A removal.
-  remove_keeps : (call : Call) (target : Target) (at : Slot) (k : Capability) → held s c target ≡ Found (at, k) → Keeps s call (removes s at k)
+  remove_keeps : (call : Call) (target : Target) (at : Slot) (k : Capability) → held s c target ≡ Found (at, k)
+      → Keeps s call (removes s at k)
   remove_keeps call target at k e = record {
     removed = λ f i b. by_place f i (f == at.node && i == at.index) refl b;
     frame = λ f kept. inl refl;
@@ -167,7 +179,8 @@ module _ (s : State) (o : ℕ → Bool) (c : ℕ) (h : IsOpen s o c) where
         ⊎ ((list_any (same_thing (PlaceOf f i)) (removes s at k).begins ≡ true) ⊎ (ends_by call (PlaceOf f i) ≡ true))) s at.node at.index (Quiescing k) f i
         (λ same index q. inr (inl (or_left (f == at.node && i == at.index) (list_any (same_thing (PlaceOf f i)) (frames_of (place_names (Holds k))))
         (and (f == at.node) (i == at.index) (eq-eqb f at.node same) (eq-eqb i at.index index))))) (λ q. inl q) is;
-    quiescing = λ f i j. place_all (λ f i p. p ≡ Quiescing j → (s.place f i ≡ Quiescing j) ⊎ (s.place f i ≡ Holds j)) s at.node at.index (Quiescing k) f i
+    quiescing =
+        λ f i j. place_all (λ f i p. p ≡ Quiescing j → (s.place f i ≡ Quiescing j) ⊎ (s.place f i ≡ Holds j)) s at.node at.index (Quiescing k) f i
         (λ same index q. inr (ap (λ n. s.place n i) same ∙ ap (s.place at.node) index ∙ (held_facts s c target at k e).1 ∙ ap Holds (quiescing_inj k j q))) (λ q. inl q);
   }
     where
@@ -178,7 +191,8 @@ module _ (s : State) (o : ℕ → Bool) (c : ℕ) (h : IsOpen s o c) where
       both true b e = (refl, e)
       both false b e = absurd (false≢true e)
 
-      by_place : (f i : ℕ) (t : Bool) → (f == at.node && i == at.index) ≡ t → (t || list_any (same_thing (PlaceOf f i)) (frames_of (place_names (Holds k)))) ≡ true
+      by_place : (f i : ℕ) (t : Bool) → (f == at.node && i == at.index) ≡ t
+          → (t || list_any (same_thing (PlaceOf f i)) (frames_of (place_names (Holds k)))) ≡ true
           → IsTrue (is_some (held_in (s.place f i)))
       by_place f i true is b =
           let p = both (f == at.node) (i == at.index) is in
@@ -189,15 +203,18 @@ module _ (s : State) (o : ℕ → Bool) (c : ℕ) (h : IsOpen s o c) where
   -- `make`.
   cleared_place : (call : Call) (f : ℕ) → ((i : ℕ) → ends_by call (PlaceOf f i) ≡ true) → (g i : ℕ)
       → (put s.place f (λ i. Free) g i ≡ s.place g i) ⊎ ((put s.place f (λ i. Free) g i ≡ Free) × (ends_by call (PlaceOf g i) ≡ true))
-  cleared_place call f ends g i = put_all (λ g r. (r i ≡ s.place g i) ⊎ ((r i ≡ Free) × (ends_by call (PlaceOf g i) ≡ true))) s.place f (λ i. Free) g
+  cleared_place call f ends g i =
+      put_all (λ g r. (r i ≡ s.place g i) ⊎ ((r i ≡ Free) × (ends_by call (PlaceOf g i) ≡ true))) s.place f (λ i. Free) g
       (λ at. inr (refl, subst (λ n. ends_by call (PlaceOf n i) ≡ true) (sym at) (ends i))) (λ other. inl refl)
 
-  node_keeps : (call : Call) (object : Object) (k : Kind) (r f t b : ℕ) → ((i : ℕ) → ends_by call (PlaceOf f i) ≡ true) → ChangesFrom (Keeps s call) s c (make_node s object k r f t b)
+  node_keeps : (call : Call) (object : Object) (k : Kind) (r f t b : ℕ) → ((i : ℕ) → ends_by call (PlaceOf f i) ≡ true)
+      → ChangesFrom (Keeps s call) s c (make_node s object k r f t b)
   node_keeps call object k r f t b ends = λ range e table g at v calm.
       filled s (cleared s f) call (makes (cleared s f) f object k at) at (plain_cap k f) (λ g i. refl) (cleared_place call f ends) (vacant_facts s c (Under (found table) b) at v).1 (λ g i. refl)
       (put_kept s f (Kernel object) (blank_kept s f (Kernel object) (blank_by s o c r f range [] h e calm).1))
 
-  object_keeps : (call : Call) (f : ℕ) (object : Object) (k : Kind) (target : Target) (at : Slot) → vacant s c target ≡ Found at → s.frame f ≡ Kernel Blank → Keeps s call (makes s f object k at)
+  object_keeps : (call : Call) (f : ℕ) (object : Object) (k : Kind) (target : Target) (at : Slot) → vacant s c target ≡ Found at
+      → s.frame f ≡ Kernel Blank → Keeps s call (makes s f object k at)
   object_keeps call f object k target at v blank =
       filled s s call (makes s f object k at) at (plain_cap k f) (λ g i. refl) (λ f i. inl refl) (vacant_facts s c target at v).1 (λ g i. refl)
       (put_kept s f (Kernel object) (blank_kept s f (Kernel object) blank))
@@ -243,8 +260,10 @@ module _ (s : State) (o : ℕ → Bool) (c : ℕ) (h : IsOpen s o c) where
           (thread_put s (s.core c).thread _) (thread_put (running s (s.core c).thread None) j.frame _)
 
       by_core : (e : Option ℕ) → ChangesFrom (Keeps s (Switch a b)) s c (switch_to s c (found j) q e)
-      by_core None = λ calm. placed s (Switch a b) _ (λ f i. frames_no_place f i ((s.core c).thread ∷ (if q == (s.core c).tcap then [] else (s.core c).tcap ∷ []))) (λ f kept. inl (frames f kept)) (λ f i. refl)
-      by_core (Some e) = λ calm. placed s (Switch a b) _ (λ f i. frames_no_place f i ((s.core c).thread ∷ (if q == (s.core c).tcap then [] else (s.core c).tcap ∷ []))) (λ f kept. inl (frames f kept)) (λ f i. refl)
+      by_core None =
+          λ calm. placed s (Switch a b) _ (λ f i. frames_no_place f i ((s.core c).thread ∷ (if q == (s.core c).tcap then [] else (s.core c).tcap ∷ []))) (λ f kept. inl (frames f kept)) (λ f i. refl)
+      by_core (Some e) =
+          λ calm. placed s (Switch a b) _ (λ f i. frames_no_place f i ((s.core c).thread ∷ (if q == (s.core c).tcap then [] else (s.core c).tcap ∷ []))) (λ f kept. inl (frames f kept)) (λ f i. refl)
 
   rule_keeps : (call : Call) → ChangesFrom (Keeps s call) s c (rule_of s c call)
   rule_keeps (Look a) = λ k e calm. same s (Look a) _ (λ f i. refl) (λ f. refl) (λ f i. refl)
@@ -259,12 +278,16 @@ module _ (s : State) (o : ℕ → Bool) (c : ℕ) (h : IsOpen s o c) where
   rule_keeps (Touch v) = touch_keeps (comp_of s c).pages v (translation_of (s.core c).cached (comp_of s c).pages v)
   rule_keeps Flush = λ calm. same s Flush _ (λ f i. refl) (λ f. refl) (λ f i. refl)
   rule_keeps (Gate k t b) = λ comp e table f at v calm. fill_keeps (Gate k t b) (Under (found table) b) at _ v
-  rule_keeps (Kill k) = λ comp e calm. same s (Kill k) _ (λ f i. frames_no_place f i (number_names (s.number (comp_in (s.frame comp.frame)).number))) (λ f. refl) (λ f i. refl)
-  rule_keeps (call_gate g) = λ gate e calm. placed s (call_gate g) _ (λ f i. refl) (λ f kept. inl (thread_put s (s.core c).thread _ f kept)) (λ f i. refl)
-  rule_keeps Ret = λ calm. placed s Ret _ (λ f i. frames_no_place f i (take 1 (thread_of s c).stack)) (λ f kept. inl (thread_put s (s.core c).thread _ f kept)) (λ f i. refl)
+  rule_keeps (Kill k) =
+      λ comp e calm. same s (Kill k) _ (λ f i. frames_no_place f i (number_names (s.number (comp_in (s.frame comp.frame)).number))) (λ f. refl) (λ f i. refl)
+  rule_keeps (call_gate g) =
+      λ gate e calm. placed s (call_gate g) _ (λ f i. refl) (λ f kept. inl (thread_put s (s.core c).thread _ f kept)) (λ f i. refl)
+  rule_keeps Ret =
+      λ calm. placed s Ret _ (λ f i. frames_no_place f i (take 1 (thread_of s c).stack)) (λ f kept. inl (thread_put s (s.core c).thread _ f kept)) (λ f i. refl)
   rule_keeps (Switch a b) = λ thread e tcap g. switch_keeps a b thread tcap.frame (thread_in (s.frame thread.frame)).runs_on
   rule_keeps (Tick n) = λ calm. placed s (Tick n) _ (λ f i. refl) (λ f kept. inl (budget_put s (s.core c).tcap _ f kept)) (λ f i. refl)
-  rule_keeps (Transfer a b m) = λ j e k f calm. placed s (Transfer a b m) _ (λ f i. refl) (λ f kept. inl (moved_put s j.frame k.frame m f kept)) (λ f i. refl)
+  rule_keeps (Transfer a b m) =
+      λ j e k f calm. placed s (Transfer a b m) _ (λ f i. refl) (λ f kept. inl (moved_put s j.frame k.frame m f kept)) (λ f i. refl)
   rule_keeps (Delegate a b m) = λ j e k f calm.
       let next : State = moved s j.frame k.frame m in
       placed s (Delegate a b m) _ (λ f i. refl) (λ f kept. inl (then_kept s next (with_qualities next k.frame (merged_list s j.frame k.frame)) (moved_put s j.frame k.frame m) (put_kept next k.frame _ (tcap_kept (next.frame k.frame) _)) f kept)) (λ f i. refl)
@@ -275,20 +298,25 @@ pub record Kept (s : State) (c : ℕ) (call : Call) (r : Reply) : Type 0 where
   pub frame : (f : ℕ) → IsTrue (is_kept (s.frame f)) → ((state_by s c call r).frame f ≡ s.frame f) ⊎ (ends call r (FrameOf f) ≡ true)
   pub holds : (f i : ℕ) (k : Capability) → s.place f i ≡ Holds k → ((state_by s c call r).place f i ≡ Holds k)
       ⊎ ((begins s c call r (PlaceOf f i) ≡ true) ⊎ (ends call r (PlaceOf f i) ≡ true))
-  pub quiescing : (f i : ℕ) (k : Capability) → (state_by s c call r).place f i ≡ Quiescing k → (s.place f i ≡ Quiescing k) ⊎ (s.place f i ≡ Holds k)
+  pub quiescing : (f i : ℕ) (k : Capability) → (state_by s c call r).place f i ≡ Quiescing k
+      → (s.place f i ≡ Quiescing k) ⊎ (s.place f i ≡ Holds k)
   pub removed : (f i : ℕ) → begins s c call r (PlaceOf f i) ≡ true → IsTrue (is_some (held_in (s.place f i)))
 
 record FoundKept (s : State) (call : Call) (x : Judged Change) : Type 0 where
   frame : (f : ℕ) → IsTrue (is_kept (s.frame f)) → ((changed s x).frame f ≡ s.frame f) ⊎ (ends_by call (FrameOf f) ≡ true)
-  holds : (f i : ℕ) (k : Capability) → s.place f i ≡ Holds k → ((changed s x).place f i ≡ Holds k) ⊎ ((begins_in x (PlaceOf f i) ≡ true) ⊎ (ends_by call (PlaceOf f i) ≡ true))
+  holds : (f i : ℕ) (k : Capability) → s.place f i ≡ Holds k
+      → ((changed s x).place f i ≡ Holds k) ⊎ ((begins_in x (PlaceOf f i) ≡ true) ⊎ (ends_by call (PlaceOf f i) ≡ true))
   quiescing : (f i : ℕ) (k : Capability) → (changed s x).place f i ≡ Quiescing k → (s.place f i ≡ Quiescing k) ⊎ (s.place f i ≡ Holds k)
   removed : (f i : ℕ) → begins_in x (PlaceOf f i) ≡ true → IsTrue (is_some (held_in (s.place f i)))
 
-found_kept : (s : State) (call : Call) (v : Value) (x : Judged Change) → IfFound x (Keeps s call) → IsFoundAnd x (λ k. k.value ≡ v) → FoundKept s call x
+found_kept : (s : State) (call : Call) (v : Value) (x : Judged Change) → IfFound x (Keeps s call) → IsFoundAnd x (λ k. k.value ≡ v)
+    → FoundKept s call x
 found_kept s call v (Refused r) keeps ok = absurd ok
-found_kept s call v (Found change) keeps ok = record { frame = keeps.frame; holds = keeps.holds; quiescing = keeps.quiescing; removed = keeps.removed }
+found_kept s call v (Found change) keeps ok =
+    record { frame = keeps.frame; holds = keeps.holds; quiescing = keeps.quiescing; removed = keeps.removed }
 
-refused_kept : (s : State) (c : ℕ) (call : Call) (r : Reply) → ((f : ℕ) → (state_by s c call r).frame f ≡ s.frame f) → ((f i : ℕ) → (state_by s c call r).place f i ≡ s.place f i)
+refused_kept : (s : State) (c : ℕ) (call : Call) (r : Reply) → ((f : ℕ) → (state_by s c call r).frame f ≡ s.frame f)
+    → ((f i : ℕ) → (state_by s c call r).place f i ≡ s.place f i)
     → ((x : Thing) → begins s c call r x ≡ false) → Kept s c call r
 refused_kept s c call r frame place none = record {
   removed = λ f i b. absurd (false≢true (sym (none (PlaceOf f i)) ∙ b));

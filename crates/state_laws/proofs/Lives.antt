@@ -88,13 +88,15 @@ make_numbers s c (make.Comp x p n) r f t b = λ range e table g own_table a own_
     let live : Cause = When (is_live (s.number n)) reply.Occupied in
     let dead : is_live (s.number n) ≡ false = when_not (is_live (s.number n)) reply.Occupied (none_parts (refusal_of s c live) _ m.1).0 in
     record {
-      live = λ l e g. put_all (λ l x. x ≡ Live e g → (s.number l ≡ Live e g) ⊎ IsCompOf (put s.frame f (Kernel (Comp comp)) g) l e) s.number n (Live comp.epoch f) l
+      live =
+          λ l e g. put_all (λ l x. x ≡ Live e g → (s.number l ≡ Live e g) ⊎ IsCompOf (put s.frame f (Kernel (Comp comp)) g) l e) s.number n (Live comp.epoch f) l
           (λ same is. inr (made comp l e g same (live_inj comp.epoch e f g is))) (λ other is. inl is);
       past = λ l e old. put_all (λ l x. IsPast e (s.number l) → IsPast e x) s.number n (Live comp.epoch f) l
           (λ same past. later e (s.number n) f dead (subst (λ m. IsPast e (s.number m)) same past)) (λ other past. past) old;
     }
   where
-    made : (comp : CompFields) (l e g : ℕ) → l ≡ comp.number → (comp.epoch ≡ e) × (f ≡ g) → IsCompOf (put s.frame f (Kernel (Comp comp)) g) l e
+    made : (comp : CompFields) (l e g : ℕ) → l ≡ comp.number → (comp.epoch ≡ e) × (f ≡ g)
+        → IsCompOf (put s.frame f (Kernel (Comp comp)) g) l e
     made comp l e g same is = subst (λ x. IsCompOf x l e) (sym (put_same s.frame f (Kernel (Comp comp)) g (sym is.1)))
         (record { comp = refl; number = sym same; epoch = is.0 })
 
@@ -105,7 +107,8 @@ kill_numbers s c k = λ comp e calm.
     let is : is_live_in (s.number fields.number) fields.epoch ≡ true =
     not_not (is_live_in (s.number fields.number) fields.epoch) (when_not (not (is_live_in (s.number fields.number) fields.epoch)) reply.Dead p.0) in
     record {
-      live = λ l e g. put_all (λ l x. x ≡ Live e g → (s.number l ≡ Live e g) ⊎ IsCompOf (s.frame g) l e) s.number fields.number (Dead fields.epoch) l
+      live =
+          λ l e g. put_all (λ l x. x ≡ Live e g → (s.number l ≡ Live e g) ⊎ IsCompOf (s.frame g) l e) s.number fields.number (Dead fields.epoch) l
           (λ same q. absurd (dead_live fields.epoch e g q)) (λ other q. inl q);
       past = λ l e old. put_all (λ l x. IsPast e (s.number l) → IsPast e x) s.number fields.number (Dead fields.epoch) l
           (λ same past. killed e fields.epoch (s.number fields.number) is (subst (λ m. IsPast e (s.number m)) same past)) (λ other past. past) old;
@@ -151,7 +154,8 @@ pub record DecidedNumbers (s t : State) : Type 0 where
   pub live : (l e f : ℕ) → t.number l ≡ Live e f → (s.number l ≡ Live e f) ⊎ IsCompOf (t.frame f) l e
   pub past : (l e : ℕ) → IsPast e (s.number l) → IsPast e (t.number l)
 
-found_numbers : (s : State) (v : Value) (x : Judged Change) → IfFound x (Numbers s) → IsFoundAnd x (λ k. k.value ≡ v) → DecidedNumbers s (changed s x)
+found_numbers : (s : State) (v : Value) (x : Judged Change) → IfFound x (Numbers s) → IsFoundAnd x (λ k. k.value ≡ v)
+    → DecidedNumbers s (changed s x)
 found_numbers s v (Refused r) by ok = absurd ok
 found_numbers s v (Found change) by ok = record { live = by.live; past = by.past }
 
@@ -186,7 +190,8 @@ number_named s o l e f h is zero =
 LivesAre : State → Type 0
 LivesAre s = (l e f : ℕ) → s.number l ≡ Live e f → IsCompOf (s.frame f) l e
 
-decided_lives : (s : State) (o : ℕ → Bool) (c : ℕ) (call : Call) (r : Reply) → IsOpen s o c → MayReply s c call r → LivesAre s → LivesAre (state_by s c call r)
+decided_lives : (s : State) (o : ℕ → Bool) (c : ℕ) (call : Call) (r : Reply) → IsOpen s o c → MayReply s c call r → LivesAre s
+    → LivesAre (state_by s c call r)
 unfolding LivesAre
 decided_lives s o c call r h may lives l e f is = elim ((decided_numbers s c call r may).live l e f is) [
   | inr new ↦ new
@@ -224,7 +229,8 @@ unfolding LivesAre
 live_numbers_fit setting lim events run = runs_lives setting lim events run
 
 -- A past epoch stays past.
-past_stays : (setting : Setting) (later earlier : List Event) → IsRun setting (later ++ earlier) → (l e : ℕ) → IsPast e ((after setting earlier).number l)
+past_stays : (setting : Setting) (later earlier : List Event) → IsRun setting (later ++ earlier) → (l e : ℕ)
+    → IsPast e ((after setting earlier).number l)
     → IsPast e ((after setting (later ++ earlier)).number l)
 past_stays setting [] earlier run l e past = past
 past_stays setting (Enters c call ∷ later) earlier run l e past = past_stays setting later earlier run.0 l e past

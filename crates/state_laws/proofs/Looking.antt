@@ -18,7 +18,8 @@ open_still [] earlier c others = refl
 open_still (e ∷ later) earlier c others =
     ap (λ b. if b then phase_by e else phase_of (later ++ earlier) c) (ne_eqb c (core_of e) others.0) ∙ open_still later earlier c others.1
 
-stays : (setting : Setting) → IsSetting setting → (later earlier : List Event) → IsRun setting (later ++ earlier) → (c : ℕ) → AreOfOthers c later
+stays : (setting : Setting) → IsSetting setting → (later earlier : List Event) → IsRun setting (later ++ earlier) → (c : ℕ)
+    → AreOfOthers c later
     → IsTrue (is_open (phase_of earlier c)) → Stay (after setting earlier) (after setting (later ++ earlier)) c
 stays setting lim [] earlier run c others is = stay_same (after setting earlier) c
 stays setting lim (e ∷ later) earlier run c others is =
@@ -45,7 +46,8 @@ node_fixed _ h = absurd (false≢true h)
 relies : (s : State) (o : ℕ → Bool) (c f : ℕ) → IsOpen s o c → LooksThrough s c f → Relies s c f
 relies s o c f h (inl is) = subst (Relies s c) (sym is) (table_relies s o c h.sound h.is)
 relies s o c f h (inr (inl is)) = subst (Relies s c) (sym is) (pages_relies s o c h.sound h.is)
-relies s o c f h (inr (inr n)) = subst (Relies s c) n.frame (usable_relies s o c h.sound h.is n.at n.cap (node_kind n.cap.kind n.kind) n.may)
+relies s o c f h (inr (inr n)) =
+    subst (Relies s c) n.frame (usable_relies s o c h.sound h.is n.at n.cap (node_kind n.cap.kind n.kind) n.may)
 
 pub found_stays : FoundStays
 found_stays setting lim later earlier run c others is = record {

@@ -43,7 +43,8 @@ abbrev pub RunBack : ℕ → (ℕ → Frame) → (ℕ → Core) → Type 0
 RunBack cores frame core = (f d : ℕ) → runs_at (frame f) ≡ Some d → (d < cores) × ((core d).thread ≡ f)
 
 -- A frame is put whose thread runs nowhere, or where the old one does.
-put_back : (s : State) (n g : ℕ) (y : Frame) → ((d : ℕ) → runs_at y ≡ Some d → runs_at (s.frame g) ≡ Some d) → RunBack n s.frame s.core → RunBack n (put s.frame g y) s.core
+put_back : (s : State) (n g : ℕ) (y : Frame) → ((d : ℕ) → runs_at y ≡ Some d → runs_at (s.frame g) ≡ Some d) → RunBack n s.frame s.core
+    → RunBack n (put s.frame g y) s.core
 put_back s n g y back h f d = put_all (λ f x. runs_at x ≡ Some d → (d < n) × ((s.core d).thread ≡ f)) s.frame g y f
     (λ same e. h f d (ap (λ m. runs_at (s.frame m)) same ∙ back d e)) (λ other. h f d)
 
@@ -85,7 +86,8 @@ moved_back : (s : State) (n a b m : ℕ) → RunBack n s.frame s.core → RunBac
 moved_back s n a b m h = tcap_back (with_budget s a ((tcap_at s a).budget - m)) n b _ (tcap_back s n a _ h)
 
 -- A core keeps its thread.
-core_back : (s : State) (n c : ℕ) (k : Core) (frame : ℕ → Frame) → k.thread ≡ (s.core c).thread → RunBack n frame s.core → RunBack n frame (put s.core c k)
+core_back : (s : State) (n c : ℕ) (k : Core) (frame : ℕ → Frame) → k.thread ≡ (s.core c).thread → RunBack n frame s.core
+    → RunBack n frame (put s.core c k)
 core_back s n c k frame thread h f d e =
     let p = h f d e in
     (p.0, put_all (λ d x. (s.core d).thread ≡ f → x.thread ≡ f) s.core c k d (λ same q. thread ∙ ap (λ m. (s.core m).thread) (sym same) ∙ q) (λ other q. q) p.1)
@@ -101,7 +103,8 @@ module _ (s : State) (o : ℕ → Bool) (c : ℕ) (h : IsOpen s o c) (w : RunBac
   make_back make.Pleaf r f t b = λ range e table g at v calm. record { run = idle_back s s.limits.cores f (Kernel Pleaf) refl w }
   make_back (make.Thread comp) r f t b = λ range e table g k j at v calm. record { run = idle_back s s.limits.cores f _ refl w }
   make_back (make.Tcap sched quality) r f t b = λ range e table g at v calm. record { run = idle_back s s.limits.cores f _ refl w }
-  make_back (make.Comp x p l) r f t b = λ range e table g own_table a own_pages d at v calm. record { run = idle_back s s.limits.cores f _ refl w }
+  make_back (make.Comp x p l) r f t b =
+      λ range e table g own_table a own_pages d at v calm. record { run = idle_back s s.limits.cores f _ refl w }
 
   retype_back : (r f : ℕ) (k : FrameKind) → ChangesFrom (Back s) s c (retype_rule s r f k)
   retype_back r f frame_kind.Untyped = λ range e calm. record { run = idle_back s s.limits.cores f Untyped refl w }
@@ -113,7 +116,8 @@ module _ (s : State) (o : ℕ → Bool) (c : ℕ) (h : IsOpen s o c) (w : RunBac
   touch_back pages v (Some t) = λ calm. record { run = w }
 
   -- Core c goes on as a thread that runs nowhere.
-  switched : (g q : ℕ) → RunBack s.limits.cores (running (running s (s.core c).thread None) g (Some c)).frame (put s.core c (record (s.core c) { thread = g; tcap = q }))
+  switched : (g q : ℕ)
+      → RunBack s.limits.cores (running (running s (s.core c).thread None) g (Some c)).frame (put s.core c (record (s.core c) { thread = g; tcap = q }))
   switched g q f d e = elim (cases_eq f g) [
     | inl same ↦
         let is : Some c ≡ Some d = (thread_at (idle.frame g) _ d (ap runs_at (sym (put_same idle.frame g _ f same)) ∙ e)) in
@@ -131,7 +135,8 @@ module _ (s : State) (o : ℕ → Bool) (c : ℕ) (h : IsOpen s o c) (w : RunBac
       core_is : c ≡ d → ((put s.core c (record (s.core c) { thread = g; tcap = q })) d).thread ≡ g
       core_is same = ap (λ (x : Core). x.thread) (put_same s.core c (record (s.core c) { thread = g; tcap = q }) d (sym same))
 
-      by_old : f ≢ g → runs_at (idle.frame f) ≡ Some d → (d < s.limits.cores) × (((put s.core c (record (s.core c) { thread = g; tcap = q })) d).thread ≡ f)
+      by_old : f ≢ g → runs_at (idle.frame f) ≡ Some d
+          → (d < s.limits.cores) × (((put s.core c (record (s.core c) { thread = g; tcap = q })) d).thread ≡ f)
       by_old other e = elim (cases_eq f (s.core c).thread) [
         | inl old ↦ absurd (none_some d (thread_at (s.frame (s.core c).thread) (record (thread_of s c) { runs_on = None }) d (ap runs_at (sym (put_same s.frame (s.core c).thread _ f old)) ∙ e)))
         | inr apart ↦
@@ -144,8 +149,10 @@ module _ (s : State) (o : ℕ → Bool) (c : ℕ) (h : IsOpen s o c) (w : RunBac
   switch_back j q None = λ calm. record { run = switched j.frame q }
   switch_back j q (Some e) = λ calm. record { run = switched j.frame q }
 
-  stack_back : (stack : List ℕ) → RunBack s.limits.cores (put s.frame (s.core c).thread (with_thread (s.frame (s.core c).thread) (record (thread_of s c) { stack = stack }))) s.core
-  stack_back stack = put_back s s.limits.cores (s.core c).thread _ (λ d e. thread_at (s.frame (s.core c).thread) (record (thread_of s c) { stack = stack }) d e) w
+  stack_back : (stack : List ℕ)
+      → RunBack s.limits.cores (put s.frame (s.core c).thread (with_thread (s.frame (s.core c).thread) (record (thread_of s c) { stack = stack }))) s.core
+  stack_back stack =
+      put_back s s.limits.cores (s.core c).thread _ (λ d e. thread_at (s.frame (s.core c).thread) (record (thread_of s c) { stack = stack }) d e) w
 
   charged : (spent owed : ℕ) → RunBack s.limits.cores (with_budget s (s.core c).tcap ((tcap_at s (s.core c).tcap).budget - spent)).frame
       (put s.core c (record (s.core c) { spent = (s.core c).spent + spent; owed = owed }))
@@ -171,24 +178,29 @@ module _ (s : State) (o : ℕ → Bool) (c : ℕ) (h : IsOpen s o c) (w : RunBac
   rule_back (call_gate g) = λ gate e calm. record { run = stack_back (gate.frame ∷ (thread_of s c).stack) }
   rule_back Ret = λ calm. record { run = stack_back _ }
   rule_back (Switch a b) = λ thread e tcap g. switch_back thread tcap.frame (thread_in (s.frame thread.frame)).runs_on
-  rule_back (Tick m) = λ calm. record { run = charged (charge s c (m + (s.core c).owed)) ((m + (s.core c).owed) - charge s c (m + (s.core c).owed)) }
+  rule_back (Tick m) =
+      λ calm. record { run = charged (charge s c (m + (s.core c).owed)) ((m + (s.core c).owed) - charge s c (m + (s.core c).owed)) }
   rule_back (Transfer a b m) = λ j e k f calm. record { run = moved_back s s.limits.cores j.frame k.frame m w }
-  rule_back (Delegate a b m) = λ j e k f calm. record { run = tcap_back (moved s j.frame k.frame m) s.limits.cores k.frame _ (moved_back s s.limits.cores j.frame k.frame m w) }
+  rule_back (Delegate a b m) =
+      λ j e k f calm. record { run = tcap_back (moved s j.frame k.frame m) s.limits.cores k.frame _ (moved_back s s.limits.cores j.frame k.frame m w) }
   rule_back (Test a b) = λ j e k f calm. record { run = w }
 
 -- A decision.
-found_back : (s : State) (v : Value) (x : Judged Change) → IfFound x (Back s) → IsFoundAnd x (λ k. k.value ≡ v) → RunBack s.limits.cores (changed s x).frame (changed s x).core
+found_back : (s : State) (v : Value) (x : Judged Change) → IfFound x (Back s) → IsFoundAnd x (λ k. k.value ≡ v)
+    → RunBack s.limits.cores (changed s x).frame (changed s x).core
 found_back s v (Refused r) by ok = absurd ok
 found_back s v (Found change) by ok = by.run
 
 counted_back : (t : State) (n c : ℕ) → RunBack n t.frame t.core → RunBack n (counted t c).frame (counted t c).core
 counted_back t n c h = core_back t n c _ t.frame refl h
 
-owed_back : (s : State) (c : ℕ) (call : Call) (n : ℕ) → RunBack n s.frame s.core → RunBack n (owed_by s c call).frame (owed_by s c call).core
+owed_back : (s : State) (c : ℕ) (call : Call) (n : ℕ) → RunBack n s.frame s.core
+    → RunBack n (owed_by s c call).frame (owed_by s c call).core
 owed_back s c (Tick m) n h = core_back s n c _ s.frame refl h
 owed_back s c _ n h = h
 
-decided_back : (s : State) (o : ℕ → Bool) (c : ℕ) (call : Call) (r : Reply) → IsOpen s o c → MayReply s c call r → RunBack s.limits.cores s.frame s.core
+decided_back : (s : State) (o : ℕ → Bool) (c : ℕ) (call : Call) (r : Reply) → IsOpen s o c → MayReply s c call r
+    → RunBack s.limits.cores s.frame s.core
     → RunBack s.limits.cores (state_by s c call r).frame (state_by s c call r).core
 decided_back s o c call (reply.Ok v) h may w =
     counted_back (changed s (change_of s c call)) s.limits.cores c
@@ -221,10 +233,13 @@ start_back setting f d =
     past : 4 ≤ f → f - 4 ≡ d → f < 4 + setting.cores → (d < setting.cores) × (4 + d ≡ f)
     past low same high = (omega (arith, low, same, high), omega (arith, low, same))
 
-runs_back : (setting : Setting) → IsSetting setting → (events : List Event) → IsRun setting events → RunBack (after setting events).limits.cores (after setting events).frame (after setting events).core
+runs_back : (setting : Setting) → IsSetting setting → (events : List Event) → IsRun setting events
+    → RunBack (after setting events).limits.cores (after setting events).frame (after setting events).core
 runs_back setting lim [] run = start_back setting
-runs_back setting lim (Enters c call ∷ events) run = core_back (after setting events) (after setting events).limits.cores c _ (after setting events).frame refl (runs_back setting lim events run.0)
-runs_back setting lim (Returns c ∷ events) run = core_back (after setting events) (after setting events).limits.cores c _ (after setting events).frame refl (runs_back setting lim events run.0)
+runs_back setting lim (Enters c call ∷ events) run =
+    core_back (after setting events) (after setting events).limits.cores c _ (after setting events).frame refl (runs_back setting lim events run.0)
+runs_back setting lim (Returns c ∷ events) run =
+    core_back (after setting events) (after setting events).limits.cores c _ (after setting events).frame refl (runs_back setting lim events run.0)
 runs_back setting lim (Decides c call r ∷ events) run =
     subst (λ n. RunBack n (after setting (Decides c call r ∷ events)).frame (after setting (Decides c call r ∷ events)).core)
     (ap (λ l. l.cores) (sym (decided_stays (after setting events) c call r).limits))

@@ -19,8 +19,9 @@ use Rattle.kernel_history.specs.FinalWords.{SaysPlace, AreEntries, AreFrame, Say
 use Rattle.kernel_history.specs.Tables.{lines_below, frame_line, object_word, entry_line, object_lines, frame_lines, number_line, core_lines, total_line, tables_of}
 use Rattle.kernel_history.proofs.Sums.{sum_same}
 use Rattle.table_report.specs.Counting.{AreCounts}
-use Rattle.table_report.specs.Shown.{place_shown, place_in, number_shown, frame_shown, words_of, frame_at, place_at, number_at, core_at, core_shown, shown, frames_text, numbers_text, cores_text, tables_shown}
-use Rattle.table_report.proofs.Lines.{lines_same}
+use Rattle.table_lines.specs.Ends.{core_shown}
+use Rattle.table_report.specs.Shown.{place_shown, place_in, number_shown, frame_shown, words_of, frame_at, place_at, number_at, core_at, shown, frames_text, numbers_text, cores_text, tables_shown}
+use Rattle.table_lines.proofs.Lines.{lines_same}
 use Rattle.table_report.proofs.ShownObjects.{told, frame_is}
 
 -- What the tables say of a frame does not hang on where its thread runs.

@@ -1,6 +1,5 @@
 pub mod Lines
 pub mod Adding
-pub mod Putting
 pub mod Tallies
 pub mod ShownObjects
 pub mod Determined

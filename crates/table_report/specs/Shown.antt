@@ -28,6 +28,7 @@ use Rattle.kernel_rules.specs.Start.{no_grace}
 use Rattle.kernel_rules.specs.References.{refs}
 use Rattle.kernel_rules.specs.Laws.{ticks}
 use Rattle.kernel_history.specs.ObjectWords.{is_node}
+use Rattle.table_lines.specs.Ends.{core_shown}
 use Rattle.kernel_history.specs.FinalWords.{word_in, end_in}
 use Rattle.kernel_history.specs.Tables.{lines_below, frame_lines, number_line, core_lines, total_line}
 
@@ -103,10 +104,6 @@ number_shown (Some live_word.Free) = Unused
 number_shown (Some (live_word.Live epoch frame)) = Live epoch frame
 number_shown (Some (live_word.Closing epoch by)) = Unused
 number_shown (Some (live_word.Dead epoch stamp)) = Dead epoch
-
--- What the end of a core shows.
-abbrev pub core_shown : CoreEnd → Core
-core_shown e = record { inside = false; thread = e.thread; tcap = e.tcap; cached = e.cached; spent = e.spent; owed = e.owed; counted = 0 }
 
 -- The words of a frame's object.
 abbrev pub words_of : Shape → List ℕ → ℕ → ℕ → ℕ

@@ -30,17 +30,6 @@ fn object_name(object: Obj) -> &'static str
     }
 }
 
-fn push_line(
-    text: &mut String,
-    frame: FrameNo,
-    name: &'static str,
-    refs: u64,
-) -> Result<(), AllocError>
-    ensures { OnOk result (string_bytes text.new ≡ string_bytes text.old ++ frame_line frame name.now refs) }
-{
-    write!(text, "frame {frame} {name} refs {refs}\n")
-}
-
 fn push_object(
     text: &mut String,
     layout: &Layout,
@@ -76,7 +65,7 @@ fn push_kernel(
     requires frame_in { frame < layout.now.frames }
     ensures { OnOk result (string_bytes text.new ≡ string_bytes text.old ++ (frame_line frame (object_word (object_shown object (words_of layout.now words.now frame))) refs ++ object_lines (object_shown object (words_of layout.now words.now frame)) (λ i. place_in (is_node_object (object_shown object (words_of layout.now words.now frame))) (words_of layout.now words.now frame i)))) }
 {
-    push_line(text, frame, object_name(object), refs)?;
+    table_lines::push_frame(text, frame, object_name(object), refs)?;
     push_object(text, layout, words, frame, object)
 }
 
@@ -96,7 +85,7 @@ fn push_frame(
         None => Ok(()),
         Some(word) => match word.kind {
             FrameKind::Untyped => Ok(()),
-            FrameKind::User => push_line(text, frame, "user", refs),
+            FrameKind::User => table_lines::push_frame(text, frame, "user", refs),
             FrameKind::Kernel => push_kernel(text, layout, words, frame, word.object, refs),
         },
     }

@@ -9,7 +9,6 @@ mod frames;
 mod names;
 mod objects;
 mod rest;
-mod sorting;
 mod whole;
 mod words;
 

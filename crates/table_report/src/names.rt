@@ -8,7 +8,8 @@ ghost use Rattle.kernel_rules.specs.State.{Kernel};
 ghost use Rattle.kernel_rules.specs.References.{sum_below, times, named_by, place_names, frame_names, number_names, core_names, refs};
 ghost use Rattle.word_map.specs.Places.{size_of};
 ghost use Rattle.kernel_history.specs.ObjectWords.{is_node, is_node_object};
-ghost use Rattle.table_report.specs.Shown.{place_shown, stacked, stack_shown, object_shown, number_shown, core_shown, words_of, frame_at, place_at, number_at, core_at, frame_shown, shown};
+ghost use Rattle.table_lines.specs.Ends.{core_shown};
+ghost use Rattle.table_report.specs.Shown.{place_shown, stacked, stack_shown, object_shown, number_shown, words_of, frame_at, place_at, number_at, core_at, frame_shown, shown};
 ghost use Rattle.table_report.specs.Counting.{Adds};
 ghost use Rattle.frame_words.specs.Frame.{frame_of_word};
 

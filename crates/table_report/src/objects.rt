@@ -15,6 +15,7 @@ use crate::words::{entry_word, held};
 use frame_words::CompWord;
 use spk_nums::FrameNo;
 use std::alloc::AllocError;
+use table_lines::{push_budget, push_stack_end, push_stack_start};
 use tcap_words::{HeadWord, QualityWord, StackWord};
 use word_map::Layout;
 
@@ -23,7 +24,7 @@ fn push_entry(text: &mut String, index: u16, word: u64) -> Result<(), AllocError
     ensures { OnOk result (string_bytes text.new ≡ string_bytes text.old ++ entry_line index (place_shown (entry_of_word word))) }
 {
     match held(word) {
-        Some(cap) => write!(text, "  {index} {cap}\n"),
+        Some(cap) => table_lines::push_entry(text, index, &cap),
         None => Ok(()),
     }
 }
@@ -45,18 +46,6 @@ pub fn push_node(
     Ok(())
 }
 
-fn push_fields(
-    text: &mut String,
-    table: u64,
-    pages: u64,
-    number: u8,
-    epoch: u16,
-) -> Result<(), AllocError>
-    ensures { OnOk result (string_bytes text.new ≡ string_bytes text.old ++ comp_line (record { table = table; pages = pages; number = number; epoch = epoch })) }
-{
-    write!(text, "  fields {table} {pages} {number} {epoch}\n")
-}
-
 /// Appends the line of a component.
 pub fn push_comp(
     text: &mut String,
@@ -71,8 +60,8 @@ pub fn push_comp(
     let table = entry_word(layout, words, frame, 0);
     let pages = entry_word(layout, words, frame, 1);
     match CompWord::unpack(entry_word(layout, words, frame, 2)) {
-        Some(comp) => push_fields(text, table, pages, comp.number, comp.epoch),
-        None => push_fields(text, table, pages, 0, 0),
+        Some(comp) => table_lines::push_comp(text, table, pages, comp.number, comp.epoch),
+        None => table_lines::push_comp(text, table, pages, 0, 0),
     }
 }
 
@@ -80,7 +69,7 @@ fn push_stacked(text: &mut String, word: u64) -> Result<(), AllocError>
     ensures { OnOk result (string_bytes text.new ≡ string_bytes text.old ++ flat_map number (stacked (stack_of_word word))) }
 {
     match StackWord::unpack(word) {
-        Some(StackWord(Some(frame))) => write!(text, " {frame}"),
+        Some(StackWord(Some(frame))) => table_lines::push_stacked(text, frame),
         Some(StackWord(None)) => Ok(()),
         None => Ok(()),
     }
@@ -113,9 +102,9 @@ pub fn push_thread(
     requires frame_in { frame < layout.now.frames }
     ensures { OnOk result (string_bytes text.new ≡ string_bytes text.old ++ thread_line (record { stack = stack_shown (words_of layout.now words.now frame) 16; runs_on = None })) }
 {
-    text.push_str("  stack")?;
+    push_stack_start(text)?;
     push_stack(text, layout, words, frame)?;
-    text.push_str("\n")
+    push_stack_end(text)
 }
 
 fn push_quality(text: &mut String, word: u64) -> Result<(), AllocError>
@@ -123,7 +112,7 @@ fn push_quality(text: &mut String, word: u64) -> Result<(), AllocError>
 {
     match QualityWord::unpack(word) {
         Some(QualityWord(Some((scheduler, quality)))) => {
-            write!(text, "  quality {scheduler} {quality}\n")
+            table_lines::push_quality(text, scheduler, quality)
         }
         Some(QualityWord(None)) => Ok(()),
         None => Ok(()),
@@ -168,6 +157,6 @@ pub fn push_tcap(
     ensures { OnOk result (string_bytes text.new ≡ string_bytes text.old ++ tcap_lines (record { budget = budget_shown (head_of_word (words_of layout.now words.now frame 0)); qualities = qualities_shown (words_of layout.now words.now frame) 8 })) }
 {
     let budget = budget(entry_word(layout, words, frame, 0));
-    write!(text, "  budget {budget}\n")?;
+    push_budget(text, budget)?;
     push_qualities(text, layout, words, frame)
 }

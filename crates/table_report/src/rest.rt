@@ -6,23 +6,22 @@ ghost use Rattle.frame_words.specs.Live.{live_of_word};
 ghost use Rattle.kernel_rules.specs.References.{sum_below};
 ghost use Rattle.word_map.specs.Places.{size_of};
 ghost use Rattle.kernel_history.specs.Tables.{number, number_line, translation_line, core_lines, total_line};
-ghost use Rattle.table_report.specs.Shown.{number_shown, numbers_text, core_shown, core_at, cores_text};
+ghost use Rattle.table_lines.specs.Ends.{core_shown};
+ghost use Rattle.table_report.specs.Shown.{number_shown, numbers_text, core_at, cores_text};
 
-use crate::sorting::ascending;
 use crate::words::live_word;
 use frame_words::LiveWord;
-use spk_nums::{CoreEnd, Translation};
+use spk_nums::CoreEnd;
 use std::alloc::{AllocError, Global};
+use table_lines::{push_core, push_dead, push_live};
 use word_map::Layout;
 
-fn push_live(text: &mut String, number: u8, live: &LiveWord) -> Result<(), AllocError>
+fn push_word(text: &mut String, number: u8, live: &LiveWord) -> Result<(), AllocError>
     ensures { OnOk result (string_bytes text.new ≡ string_bytes text.old ++ number_line number (number_shown (Some live.now))) }
 {
     match live {
-        LiveWord::Live { epoch, frame } => {
-            write!(text, "live {number} epoch {epoch} frame {frame}\n")
-        }
-        LiveWord::Dead { epoch, stamp: _ } => write!(text, "dead {number} epoch {epoch}\n"),
+        LiveWord::Live { epoch, frame } => push_live(text, number, *epoch, *frame),
+        LiveWord::Dead { epoch, stamp: _ } => push_dead(text, number, *epoch),
         LiveWord::Free => Ok(()),
         LiveWord::Closing { epoch: _, by: _ } => Ok(()),
     }
@@ -33,7 +32,7 @@ fn push_number(text: &mut String, number: u8, word: u64) -> Result<(), AllocErro
     ensures { OnOk result (string_bytes text.new ≡ string_bytes text.old ++ number_line number (number_shown (live_of_word word))) }
 {
     match LiveWord::unpack(word) {
-        Some(live) => push_live(text, number, &live),
+        Some(live) => push_word(text, number, &live),
         None => Ok(()),
     }
 }
@@ -47,53 +46,6 @@ pub fn push_numbers(text: &mut String, layout: &Layout, words: &[u64]) -> Result
         push_number(text, number, live_word(layout, words, number))?;
     }
     Ok(())
-}
-
-fn push_translation(text: &mut String, item: &Translation) -> Result<(), AllocError>
-    ensures { OnOk result (string_bytes text.new ≡ string_bytes text.old ++ translation_line item.now) }
-{
-    let pages = item.pages;
-    let page = item.page;
-    let frame = item.frame;
-    let flags = item.flags.number();
-    write!(text, "  cached {pages} {page} {frame} {flags}\n")
-}
-
-fn push_translations(text: &mut String, items: &[Translation]) -> Result<(), AllocError>
-    ensures { OnOk result (string_bytes text.new ≡ string_bytes text.old ++ flat_map translation_line items.now) }
-{
-    for item in items {
-        push_translation(text, item)?;
-    }
-    Ok(())
-}
-
-// Appends the first half of a core's line.
-fn push_names(text: &mut String, core: usize, end: &CoreEnd) -> Result<(), AllocError>
-    ensures { OnOk result (string_bytes text.new ≡ string_bytes text.old ++ (codes "core" ++ (number core ++ (codes " thread" ++ (number end.now.thread ++ (codes " tcap" ++ number end.now.tcap)))))) }
-{
-    let thread = end.thread;
-    let tcap = end.tcap;
-    write!(text, "core {core} thread {thread} tcap {tcap}")
-}
-
-// Appends the second half of a core's line.
-fn push_times(text: &mut String, end: &CoreEnd) -> Result<(), AllocError>
-    ensures { OnOk result (string_bytes text.new ≡ string_bytes text.old ++ (codes " comp" ++ (number end.now.comp ++ (codes " spent" ++ (number end.now.spent ++ (codes " owed" ++ (number end.now.owed ++ codes "\n"))))))) }
-{
-    let comp = end.comp;
-    let spent = end.spent;
-    let owed = end.owed;
-    write!(text, " comp {comp} spent {spent} owed {owed}\n")
-}
-
-fn push_core(alloc: Global, text: &mut String, core: usize, end: &CoreEnd) -> Result<(), AllocError>
-    ensures { OnOk result (string_bytes text.new ≡ string_bytes text.old ++ core_lines core (core_shown end.now) end.now.comp) }
-{
-    let sorted = ascending(alloc, &end.cached)?;
-    push_names(text, core, end)?;
-    push_times(text, end)?;
-    push_translations(text, &sorted)
 }
 
 /// Appends the lines of all cores.
@@ -117,11 +69,4 @@ pub fn spent(ends: &[CoreEnd]) -> u128
         sum += u128::from(ends[core].spent);
     }
     sum
-}
-
-/// Appends the line of all ticks.
-pub fn push_total(text: &mut String, total: u128) -> Result<(), AllocError>
-    ensures { OnOk result (string_bytes text.new ≡ string_bytes text.old ++ total_line total) }
-{
-    write!(text, "total {total}\n")
 }

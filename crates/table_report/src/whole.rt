@@ -9,9 +9,10 @@ ghost use Rattle.table_report.specs.Shown.{tables_shown};
 
 use crate::counting::references;
 use crate::frames::{budgets, push_frames};
-use crate::rest::{push_cores, push_numbers, push_total, spent};
+use crate::rest::{push_cores, push_numbers, spent};
 use spk_nums::{CoreEnd, Memory};
 use std::alloc::{AllocError, Global};
+use table_lines::push_total;
 use word_map::{Closed, Layout};
 
 fn tables(

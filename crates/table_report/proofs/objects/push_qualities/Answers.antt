@@ -1,4 +1,5 @@
-use Rattle.table_report.proofs.Lines.{begins, goes_on, qualities_text, qualities_begins}
+use Rattle.table_lines.proofs.Lines.{begins, goes_on}
+use Rattle.table_report.proofs.Lines.{qualities_text, qualities_begins}
 use Rattle.table_report.proofs.objects.push_qualities.Goals as goal
 
 pub pairs-init : goal.pairs-init

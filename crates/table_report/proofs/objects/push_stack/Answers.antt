@@ -1,4 +1,5 @@
-use Rattle.table_report.proofs.Lines.{begins, goes_on, stack_text, stack_begins}
+use Rattle.table_lines.proofs.Lines.{begins, goes_on}
+use Rattle.table_report.proofs.Lines.{stack_text, stack_begins}
 use Rattle.table_report.proofs.objects.push_stack.Goals as goal
 
 pub heights-init : goal.heights-init

@@ -1,6 +1,7 @@
 use Rattle.std.proofs.Common.{sym, ap, arith, ◌≡◌}
 use Rattle.kernel_history.proofs.Sums.{sum_none, sum_more}
-use Rattle.table_report.specs.Shown.{core_shown, core_at}
+use Rattle.table_lines.specs.Ends.{core_shown}
+use Rattle.table_report.specs.Shown.{core_at}
 use Rattle.table_report.proofs.Lines.{ends_read}
 use Rattle.table_report.proofs.rest.spent.Goals as goal
 

@@ -1,0 +1,115 @@
+//! One call, entered, decided and returned from.
+
+ghost use Rattle.std.specs.Prelude.{◌≡◌, ◌<◌, ◌≤◌, IsOk, IfOk};
+ghost use Rattle.spk_nums.specs.CallLimits.{InLimits};
+ghost use Rattle.kernel_rules.specs.GracePeriods.{returned};
+ghost use Rattle.kernel_rules.specs.CallRelation.{change_of, are_calls_spent, counted};
+ghost use Rattle.seq_state.specs.Maps.{state_of};
+ghost use Rattle.seq_state.specs.Representation.{Represents};
+ghost use Rattle.seq_lookups.specs.Carried.{IsCarriedOut};
+ghost use Rattle.seq_lookups.specs.Ranges.{IsInRange};
+ghost use Rattle.plain_kernel.specs.Step.{StepsExactly};
+
+use seq_state::{Core, SeqKernel};
+use spk_nums::{Call, CoreNo, Memory, Reply};
+use std::alloc::Global;
+
+/// The family of a call.
+enum Family {
+    Caps,
+    Memory,
+    Time,
+}
+
+/// The family that a call is of.
+fn family_of(call: &Call) -> Family
+    ensures { IsOf result call.now }
+{
+    match call {
+        Call::Look { .. }
+        | Call::Copy { .. }
+        | Call::Remove { .. }
+        | Call::Grow { .. }
+        | Call::Shrink { .. }
+        | Call::Make { .. } => Family::Caps,
+        Call::Retype { .. }
+        | Call::Map { .. }
+        | Call::Unmap { .. }
+        | Call::Touch { .. }
+        | Call::Flush => Family::Memory,
+        _ => Family::Time,
+    }
+}
+
+/// Decides a call by its family.
+fn decide(alloc: Global, k: &mut SeqKernel, core: CoreNo, call: &Call) -> Result<Reply, Memory>
+    requires limits { InLimits call.now }
+    requires core { core < (state_of k.old).limits.cores }
+    ensures answers { IsOk result }
+    ensures exact { IsInRange (state_of k.old) core call.now → IfOk result (λ r. IsCarriedOut (state_of k.old) (change_of (state_of k.old) core call.now) r k.new) }
+{
+    match family_of(call) {
+        Family::Caps => seq_caps::step(alloc, k, core, call),
+        Family::Memory => seq_memory::step(alloc, k, core, call),
+        Family::Time => seq_time::step(alloc, k, core, call),
+    }
+}
+
+/// Whether a core has made as many calls as its limit.
+fn are_spent(k: &SeqKernel, core: CoreNo) -> bool
+    requires { core < (state_of k.now).limits.cores }
+    ensures value { result ≡ are_calls_spent (state_of k.now) core }
+    ensures limit { (state_of k.now).limits.calls ≤ 4194304 }
+{
+    k.calls() <= k.core(core).counted
+}
+
+/// Counts one more call of a core.
+fn count(k: &mut SeqKernel, core: CoreNo)
+    requires { core < (state_of k.old).limits.cores }
+    ensures value { ((state_of k.old).core core).counted < 4194304 → state_of k.new ≡ counted (state_of k.old) core }
+    ensures limits { (state_of k.new).limits ≡ (state_of k.old).limits }
+{
+    let now = *k.core(core);
+    let next = Core {
+        counted: now.counted.saturating_add(1),
+        ..now
+    };
+    k.set_core(core, next);
+}
+
+/// Counts the call of a core, and returns from it. Of a core that the machine does not have nothing is counted.
+fn finish(k: &mut SeqKernel, core: CoreNo)
+    ensures { core < (state_of k.old).limits.cores → ((state_of k.old).core core).counted < 4194304 → Represents k.new (returned (counted (state_of k.old) core) core) }
+{
+    if core.number() < k.cores() {
+        count(k, core);
+        k.leave(core);
+    }
+}
+
+/// Makes a call of a core of the machine that is in no call, its numbers within their limits: enters it, decides it, counts it
+/// and returns. The reply is `calls-spent`, not counted, exactly where the core has made as many calls as its limit; else it is
+/// the first refusal in order, or `ok` with its value. A refused call changes nothing but the count. No memory is taken.
+pub fn plain_step(
+    alloc: Global,
+    k: &mut SeqKernel,
+    core: CoreNo,
+    call: &Call,
+) -> Result<Reply, Memory>
+    requires limits { InLimits call.now }
+    requires core { core < (state_of k.old).limits.cores }
+    ensures answers { IsOk result }
+    ensures exact { IfOk result (λ r. StepsExactly k.old core call.now r k.new) }
+{
+    k.enter(core);
+    if are_spent(k, core) {
+        k.leave(core);
+        return Ok(Reply::CallsSpent);
+    }
+    let reply = decide(alloc, k, core, call)?;
+    finish(k, core);
+    Ok(reply)
+}
+
+ghost use Rattle.plain_kernel.specs.Families.{IsOf};

@@ -1,0 +1,110 @@
+-- What an open call finds is in range, in every state that is one for the machine with a reached one.
+use Rattle.std.proofs.Common.{◌≡◌, ◌≢◌, ℕ, ◌+◌, ◌<◌, ◌≤◌, ◌^◌, refl, sym, ◌∙◌, ap, subst, arith, true, IsTrue, List}
+use Rattle.std.proofs.lemmas.Bool.{false≢true}
+use Rattle.spk_nums.specs.Setting.{Setting, IsSetting}
+use Rattle.spk_nums.specs.Capability.{Capability}
+use Rattle.spk_nums.specs.declared.kinds.Kind.{Kind}
+use Rattle.spk_nums.specs.declared.kinds.Kind.TheVariants as kind
+use Rattle.spk_nums.specs.CallLimits.{InLimits, MakeInLimits}
+use Rattle.spk_nums.specs.declared.calls.Make.{Make}
+use Rattle.spk_nums.specs.declared.calls.Make.TheVariants as make
+use Rattle.spk_nums.specs.declared.calls.Call.{Call}
+use Rattle.spk_nums.specs.declared.calls.Call.TheVariants.{Look, Copy, Remove, Grow, Shrink, Retype, Make as make_call, Map, Unmap, Touch, Flush, Gate, Kill, Call as call_gate, Ret, Switch, Tick, Transfer, Delegate, Test}
+use Rattle.kernel_rules.specs.State.{CompFields, Comp, Frame, Kernel, Liveness, Unused, Live, Dead, Core, Limits, State, comp_in, tcap_in, comp_of}
+use Rattle.kernel_rules.specs.Access.{only}
+use Rattle.kernel_rules.specs.Rules.{Judged, Refused, Found, named, mapped}
+use Rattle.kernel_rules.specs.CapabilityCalls.{epoch_of}
+use Rattle.kernel_rules.specs.Fitting.{fits, EndsWithin}
+use Rattle.kernel_rules.specs.Ranges.{NumberInRange, FrameInRange, budget_at}
+use Rattle.kernel_rules.proofs.Sound.{only_is}
+use Rattle.kernel_rules.proofs.Facts.{named_good, named_fit}
+use Rattle.seq_lookups.specs.Ranges.{WhereFound, RangeEnds, EpochFits, PageFound, HasEpoch, BudgetsFit, TicksFit, IsInRange}
+use Rattle.same_changes.proofs.Reaching.{Twins, core_same, core_below, tcap_frame_same, comp_same, named_same, mapped_same, pages_good}
+use Rattle.same_changes.proofs.TimeRules.{named_frame}
+
+-- What holds of what is found, wherever it is found.
+wherever : {A : Type 0} (j : Judged A) (P : A → Type 0) → ((x : A) → j ≡ Found x → P x) → WhereFound j P
+wherever (Refused r) P h = tt
+wherever (Found x) P h = h x refl
+
+range_ends : {t s : State} {o : ℕ → _} {c : ℕ} → Twins t s o c → (r : ℕ) → RangeEnds t c r
+range_ends {t} {s} {o} {c} w r = wherever (named t c r (only kind.Range)) _ (λ k is.
+    let good = named_good s o c r (only kind.Range) k w.sound w.is_open (sym (named_same w r (only kind.Range)) ∙ is) in
+    let ends = subst (λ j. EndsWithin j k.frame k.arg s.limits.frames) (only_is kind.Range k.kind good.1) good.0.within in
+    subst (λ (l : Limits). k.frame + k.arg ≤ l.frames) (sym w.same.limits) ends)
+
+epoch_most : (epochs : ℕ) (n : Liveness) → NumberInRange epochs n → epoch_of n ≤ epochs
+epoch_most epochs Unused h = omega arith
+epoch_most epochs (Live e f) h = h.most
+epoch_most epochs (Dead e) h = h.most
+
+epoch_fits : {t s : State} {o : ℕ → _} {c : ℕ} → Twins t s o c → (what : Make) → MakeInLimits what → EpochFits t what
+epoch_fits {t} {s} w (make.Comp table pages live) small =
+    let number = w.same.number live small in
+    let most = epoch_most s.limits.epochs (s.number live) (w.ranges.numbers live) in
+    subst (λ (l : Limits). epoch_of (t.number live) ≤ l.epochs) (sym w.same.limits) (subst (λ n. epoch_of n ≤ s.limits.epochs) (sym number) most)
+epoch_fits w make.Table small = tt
+epoch_fits w make.Leaf small = tt
+epoch_fits w make.Pages small = tt
+epoch_fits w make.Pleaf small = tt
+epoch_fits w (make.Thread comp) small = tt
+epoch_fits w (make.Tcap sched quality) small = tt
+
+comp_epoch : (epochs : ℕ) (x : Frame) → IsTrue (fits kind.Comp x) → FrameInRange epochs x → 1 ≤ (comp_in x).epoch
+comp_epoch epochs (Kernel (Comp k)) fit range = range.epoch.least
+comp_epoch epochs _ fit range = absurd (false≢true fit)
+
+has_epoch : {t s : State} {o : ℕ → _} {c : ℕ} → Twins t s o c → (n : ℕ) → HasEpoch t c n
+has_epoch {t} {s} {o} {c} w n = wherever (named t c n (only kind.Comp)) _ (λ k is.
+    let there = sym (named_same w n (only kind.Comp)) ∙ is in
+    subst (λ x. 1 ≤ (comp_in x).epoch) (sym (named_frame w n kind.Comp k refl there))
+    (comp_epoch s.limits.epochs (s.frame k.frame) (named_fit s o c n kind.Comp k w.sound w.is_open there) (w.ranges.frames k.frame)))
+
+budgets_fit : {t s : State} {o : ℕ → _} {c : ℕ} → Twins t s o c → (a b : ℕ) → BudgetsFit t c a b
+budgets_fit {t} {s} {o} {c} w a b = wherever (named t c a (only kind.Tcap)) _ (λ x is. wherever (named t c b (only kind.Tcap)) _ (λ y is_other apart.
+    let one = ap (λ f. (tcap_in f).budget) (named_frame w a kind.Tcap x refl (sym (named_same w a (only kind.Tcap)) ∙ is)) in
+    let other = ap (λ f. (tcap_in f).budget) (named_frame w b kind.Tcap y refl (sym (named_same w b (only kind.Tcap)) ∙ is_other)) in
+    omega (arith, one, other, w.ranges.budgets x.frame y.frame apart)))
+
+ticks_fit : {t s : State} {o : ℕ → _} {c : ℕ} → Twins t s o c → s.limits.calls ≤ 4194304 → (n : ℕ) → n ≤ 1000000 → TicksFit t c n
+ticks_fit {t} {s} {o} {c} w calls n small =
+    let range = w.ranges.cores c (core_below w) in
+    let core = core_same w in
+    let owed = ap (λ (k : Core). k.owed) core in
+    let spent = ap (λ (k : Core). k.spent) core in
+    let budget = ap (λ f. (tcap_in f).budget) (tcap_frame_same w) in
+    record {
+      owed = omega (arith, owed, range.owed, range.counted, calls, small);
+      spent = omega (arith, spent, budget, w.ranges.spending (s.core c).tcap c (core_below w));
+    }
+
+-- What is mapped is a page, where it is so in the reached state.
+page_found : {t s : State} {o : ℕ → _} {c : ℕ} → Twins t s o c → ((v : ℕ) (k : Capability) → mapped s c (comp_of s c).pages v ≡ Found k → k.kind ≡ kind.Page)
+    → (v : ℕ) → PageFound t c v
+page_found {t} {s} {o} {c} w pages v = wherever (mapped t c (comp_of t c).pages v) _ (λ k is.
+    let there = sym (ap (λ (m : CompFields). mapped t c m.pages v) (comp_same w) ∙ mapped_same w (comp_of s c).pages v (pages_good w)) ∙ is in
+    pages v k there)
+
+pub in_range : {t s : State} {o : ℕ → _} {c : ℕ} → Twins t s o c → s.limits.calls ≤ 4194304
+    → ((v : ℕ) (k : Capability) → mapped s c (comp_of s c).pages v ≡ Found k → k.kind ≡ kind.Page)
+    → (call : Call) → InLimits call → IsInRange t c call
+in_range w calls pages (make_call what range frame x b) fits = (range_ends w range, epoch_fits w what fits)
+in_range w calls pages (Retype r f k) fits = range_ends w r
+in_range w calls pages (Map p v r f flags) fits = range_ends w r
+in_range w calls pages (Touch v) fits = page_found w pages v
+in_range w calls pages (Gate k x b) fits = has_epoch w k
+in_range w calls pages (Tick n) fits = ticks_fit w calls n fits
+in_range w calls pages (Transfer a b m) fits = budgets_fit w a b
+in_range w calls pages (Delegate a b m) fits = budgets_fit w a b
+in_range w calls pages (Look a) fits = tt
+in_range w calls pages (Copy a x b) fits = tt
+in_range w calls pages (Remove x b) fits = tt
+in_range w calls pages (Grow x i l) fits = tt
+in_range w calls pages (Shrink x i) fits = tt
+in_range w calls pages (Unmap p v) fits = tt
+in_range w calls pages Flush fits = tt
+in_range w calls pages (Kill k) fits = tt
+in_range w calls pages (call_gate g) fits = tt
+in_range w calls pages Ret fits = tt
+in_range w calls pages (Switch h q) fits = tt
+in_range w calls pages (Test a b) fits = tt

@@ -1,0 +1,19 @@
+//! Calls come to the same in states that are one for all that the machine has.
+//!
+//! The plain kernel's maps have no more than the machine has, and a state of the definitions has more: what is past the
+//! machine's frames and cores. An open call looks at none of that in a state that a run reaches, so its reply and its change
+//! are the same.
+#![tactic(auto)]
+
+ghost use Rattle.same_changes.specs.Same.{SameChanges, StaysInRange};
+
+/// In every state that a run reaches, and in every state that is one with it for all that the machine has, an open call comes
+/// to the same: one reply, and one change.
+pub fn same_changes()
+    ensures { SameChanges }
+{}
+
+/// In every such state, what an open call finds is in the range of the plain kernel's words.
+pub fn stays_in_range()
+    ensures { StaysInRange }
+{}

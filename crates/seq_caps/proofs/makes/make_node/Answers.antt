@@ -1,0 +1,45 @@
+use Rattle.std.proofs.Common.{◌≡◌, refl, ◌∙◌, ap, arith, []}
+use Rattle.std.proofs.lemmas.Grind.{common_steps}
+use Rattle.spk_nums.specs.Capability.{Capability}
+use Rattle.kernel_rules.specs.Rules.{vacant, first_cause}
+use Rattle.kernel_rules.specs.CapabilityCalls.{cleared, makes}
+use Rattle.seq_state.specs.Parts.{object_of}
+use Rattle.seq_state.specs.Maps.{state_of}
+use Rattle.seq_lookups.specs.Judged.{answered}
+use Rattle.seq_lookups.specs.Places.{target_of}
+use Rattle.seq_lookups.proofs.Outcomes.{refused, carried}
+use Rattle.seq_caps.proofs.Ranged.{ends_within}
+use Rattle.seq_caps.proofs.Making.{blank_causes, node_refused, node_found, found_is, put_after}
+use Rattle.seq_caps.proofs.makes.make_node.Goals as goal
+
+pub returns-in_err-frame : goal.returns-in_err-frame
+returns-in_err-frame c = λ ends.
+    let fits = ends_within (state_of c.args.k.now) c.args.core c.args.r c.in_ok-range.range c.in_ok-range.ensures ends in
+    let o = node_refused (state_of c.args.k.now) c.args.core (object_of c.args.object) c.args.kind c.args.r c.args.f c.args.t c.args.b
+    c.in_ok-range.range c.in_ok-table.table c.in_ok-at.at c.in_err-frame.field-0.0
+    (record {
+      has_range = c.in_ok-range.ensures;
+      has_table = c.in_ok-table.ensures;
+      has_place = c.in_ok-at.ensures ∙ ap (λ x. vacant (state_of c.args.k.now) c.args.core (target_of x)) c.in_table.ensures;
+    })
+    (c.in_err-frame.ensures.refusal fits) in
+    let r_is : answered c.from_residual-in_err-frame.result ≡ c.in_err-frame.field-0.0 = grind (arith, common_steps) in
+    rw r_is (refused c.args.k.now _ c.in_err-frame.field-0.0 o)
+
+pub returns : goal.returns
+returns c = λ ends.
+    let fits = ends_within (state_of c.args.k.now) c.args.core c.args.r c.in_ok-range.range c.in_ok-range.ensures ends in
+    let e = c.in_ok-frame.ensures.refusal fits in
+    let o = node_found (state_of c.args.k.now) c.args.core (object_of c.args.object) c.args.kind c.args.r c.args.f c.args.t c.args.b
+    c.in_ok-range.range c.in_ok-table.table c.in_ok-at.at c.in_ok-frame.frame
+    (record {
+      has_range = c.in_ok-range.ensures;
+      has_table = c.in_ok-table.ensures;
+      has_place = c.in_ok-at.ensures ∙ ap (λ x. vacant (state_of c.args.k.now) c.args.core (target_of x)) c.in_table.ensures;
+    })
+    e in
+    let frame_is = found_is (first_cause (state_of c.args.k.now) c.args.core (blank_causes (state_of c.args.k.now) c.in_ok-range.range c.args.f [])) c.args.f c.in_ok-frame.frame e in
+    carried (state_of c.args.k.now) _ (makes (cleared (state_of c.args.k.now) c.args.f) c.args.f (object_of c.args.object) c.args.kind c.in_ok-at.at) _ c.put.new.k o refl
+    (put_after (cleared (state_of c.args.k.now) c.args.f) (state_of c.clear.new.k) (state_of c.put.new.k) c.in_ok-frame.frame c.args.f
+    (object_of c.args.object) (object_of c.args.object) c.plain_cap.result.kind c.args.kind c.in_ok-at.at frame_is refl
+    (ap (λ (k : Capability). k.kind) c.plain_cap.ensures) (rw (← frame_is) c.clear.ensures) c.put.ensures)

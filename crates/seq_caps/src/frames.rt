@@ -1,0 +1,113 @@
+//! The blank frame and the liveness number that a `make` takes, and what becomes of them.
+
+ghost use Rattle.std.specs.Prelude.{◌≡◌, ◌<◌, ◌≤◌, ◌+◌, IfOk};
+ghost use Rattle.spk_nums.specs.Limits.{least_arg, end_of_arg};
+ghost use Rattle.kernel_rules.specs.Access.{found};
+ghost use Rattle.kernel_rules.specs.Rules.{unless, first_cause};
+ghost use Rattle.kernel_rules.specs.CapabilityCalls.{outside, not_blank, cleared, makes, epoch_of, not_taken};
+ghost use Rattle.seq_state.specs.Parts.{object_of};
+ghost use Rattle.seq_state.specs.Maps.{state_of};
+ghost use Rattle.seq_state.specs.Representation.{Represents};
+ghost use Rattle.seq_lookups.specs.Judged.{judged};
+
+use seq_lookups::{Slot, frame_in, waits_of};
+use seq_state::{Frame, Grace, Liveness, Object, Place, SeqKernel, Thing};
+use spk_nums::{Cap, CoreNo, EntryNo, FrameArg, FrameNo, Kind, Reply};
+
+/// Whether a frame is a blank kernel frame.
+fn is_blank(frame: Frame) -> bool
+    ensures { result ≡ is_blank (frame_of frame) }
+{
+    match frame {
+        Frame::Kernel(Object::Blank) => true,
+        _ => false,
+    }
+}
+
+/// The blank frame of a range: `out-of-range` where the range does not have it, `frame-kind` where it is not blank.
+pub(crate) fn blank_in(k: &SeqKernel, range: &Cap, frame: FrameArg) -> Result<FrameNo, Reply>
+    ensures refusal { range.now.frame + range.now.arg ≤ (state_of k.now).limits.frames → judged result ≡ unless (first_cause (state_of k.now) 0 (outside (found range.now) frame ∷ not_blank (state_of k.now) frame ∷ [])) frame }
+    ensures frame { IfOk result (λ f. (f ≡ frame) × (f < (state_of k.now).limits.frames)) }
+{
+    let found = frame_in(k, range, frame)?;
+    if is_blank(k.frame(found)) {
+        Ok(found)
+    } else {
+        Err(Reply::FrameKind)
+    }
+}
+
+/// Every place of a node is free, without a grace period, whatever stood in its frame before.
+pub(crate) fn clear(k: &mut SeqKernel, frame: FrameNo)
+    ensures { Represents k.new (cleared (state_of k.old) frame) }
+{
+    'each: for number in 0..64 {
+        let index = EntryNo::new(number);
+        k.set_place(frame, index, Place::Free);
+        k.set_grace(Thing::PlaceOf { node: frame, index }, Grace::none());
+    }
+}
+
+/// The frame holds the object, and the place its capability.
+pub(crate) fn put(k: &mut SeqKernel, frame: FrameNo, object: Object, cap: Cap, at: Slot)
+    requires { cap ≡ plain_cap cap.kind frame }
+    ensures { Represents k.new (makes (state_of k.old) frame (object_of object) cap.kind at).next }
+{
+    k.set_frame(frame, Frame::Kernel(object));
+    k.set_place(at.node(), at.index(), Place::Holds(cap));
+}
+
+/// A capability to a frame, of a kind without a number.
+pub(crate) fn plain_cap(kind: Kind, frame: FrameNo) -> Cap
+    requires least { least_arg kind ≡ 0 }
+    requires end { 0 < end_of_arg kind }
+    ensures { result ≡ plain_cap kind frame }
+{
+    Cap::new(kind, frame, 0)
+}
+
+/// Whether a liveness number is live.
+fn is_live(number: &Liveness) -> bool
+    ensures { result ≡ is_live (number_of number.now) }
+{
+    match number {
+        Liveness::Live { .. } => true,
+        _ => false,
+    }
+}
+
+/// The last epoch of a liveness number: 0 where it was never used.
+fn epoch_of(number: &Liveness) -> u16
+    ensures { result ≡ epoch_of (number_of number.now) }
+{
+    match number {
+        Liveness::Unused => 0,
+        Liveness::Live { epoch, .. } => *epoch,
+        Liveness::Dead { epoch } => *epoch,
+    }
+}
+
+/// The next epoch of a liveness number that may be taken: `occupied` where it is live, `quiescing` where another core waits
+/// for it, `epochs-spent` where it has had its last epoch.
+pub(crate) fn next_epoch(k: &SeqKernel, core: CoreNo, live: u8) -> Result<u16, Reply>
+    ensures { epoch_of ((state_of k.now).number live) ≤ (state_of k.now).limits.epochs → judged result ≡ unless (first_cause (state_of k.now) core (not_taken (state_of k.now) live)) (epoch_of ((state_of k.now).number live) + 1) }
+{
+    let number = k.number(live);
+    if is_live(&number) {
+        return Err(Reply::Occupied);
+    }
+    if let Some(refusal) = waits_of(k, core, Thing::NumberOf(live)) {
+        return Err(refusal);
+    }
+    let epoch = epoch_of(&number);
+    if epoch < k.epochs() {
+        Ok(epoch + 1)
+    } else {
+        Err(Reply::EpochsSpent)
+    }
+}
+
+ghost use Rattle.std.specs.Prelude.{[], ◌∷◌};
+ghost use Rattle.kernel_rules.specs.Start.{plain_cap};
+ghost use Rattle.kernel_rules.specs.CapabilityCalls.{is_blank, is_live};
+ghost use Rattle.seq_state.specs.Parts.{frame_of, number_of};

@@ -1,0 +1,57 @@
+-- What a call finds in the state, within the ranges of the plain kernel's words. It holds in every state that a run reaches.
+use Rattle.std.specs.Prelude.{◌≡◌, ◌≢◌, ◌<◌, ◌≤◌, ◌+◌, ◌^◌, ℕ}
+use Rattle.spk_nums.specs.declared.kinds.Kind.TheVariants as kind
+use Rattle.spk_nums.specs.declared.calls.Make.{Make}
+use Rattle.spk_nums.specs.declared.calls.Make.TheVariants as make
+use Rattle.spk_nums.specs.declared.calls.Call.{Call}
+use Rattle.spk_nums.specs.declared.calls.Call.TheVariants.{Retype, Make as make_call, Map, Touch, Gate, Tick, Transfer, Delegate}
+use Rattle.kernel_rules.specs.State.{State, comp_in, comp_of}
+use Rattle.kernel_rules.specs.Access.{only}
+use Rattle.kernel_rules.specs.Rules.{Judged, Refused, Found, named, mapped}
+use Rattle.kernel_rules.specs.CapabilityCalls.{epoch_of}
+use Rattle.kernel_rules.specs.Ranges.{budget_at}
+
+-- P holds of what is found, if anything is.
+abbrev pub WhereFound : {A : Type 0} → Judged A → (A → Type 0) → Type 0
+WhereFound (Refused r) P = Unit {0}
+WhereFound (Found x) P = P x
+
+-- A range that core c names ends within the machine's frames.
+abbrev pub RangeEnds : State → ℕ → ℕ → Type 0
+RangeEnds s c r = WhereFound (named s c r (only kind.Range)) λ k. k.frame + k.arg ≤ s.limits.frames
+
+-- The last epoch of the liveness number that a `make` takes is within the limit.
+abbrev pub EpochFits : State → Make → Type 0
+EpochFits s (make.Comp table pages live) = epoch_of (s.number live) ≤ s.limits.epochs
+EpochFits s what = Unit {0}
+
+-- What core c finds mapped in the pages of its component is a page.
+abbrev pub PageFound : State → ℕ → ℕ → Type 0
+PageFound s c v = WhereFound (mapped s c (comp_of s c).pages v) λ k. k.kind ≡ kind.Page
+
+-- A component that core c names was made in an epoch, which counts from 1.
+abbrev pub HasEpoch : State → ℕ → ℕ → Type 0
+HasEpoch s c comp = WhereFound (named s c comp (only kind.Comp)) λ k. 1 ≤ (comp_in (s.frame k.frame)).epoch
+
+-- The budgets of two temporal capabilities that core c names sum to less than 2^32, where they are not one.
+abbrev pub BudgetsFit : State → ℕ → ℕ → ℕ → Type 0
+BudgetsFit s c a b =
+    WhereFound (named s c a (only kind.Tcap)) λ x. WhereFound (named s c b (only kind.Tcap)) λ y.
+    x.frame ≢ y.frame → budget_at s x.frame + budget_at s y.frame < 2 ^ 32
+
+-- The ticks that core c owes with n more, and those that it has spent with its current budget, sum to less than 2^64.
+pub record TicksFit (s : State) (c n : ℕ) : Type 0 where
+  pub owed : n + (s.core c).owed < 2 ^ 64
+  pub spent : (s.core c).spent + budget_at s (s.core c).tcap < 2 ^ 64
+
+-- What a call of core c finds is in range.
+abbrev pub IsInRange : State → ℕ → Call → Type 0
+IsInRange s c (make_call what range frame table slot) = RangeEnds s c range × EpochFits s what
+IsInRange s c (Retype r f k) = RangeEnds s c r
+IsInRange s c (Map p v r f w) = RangeEnds s c r
+IsInRange s c (Touch v) = PageFound s c v
+IsInRange s c (Gate k t b) = HasEpoch s c k
+IsInRange s c (Tick n) = TicksFit s c n
+IsInRange s c (Transfer a b m) = BudgetsFit s c a b
+IsInRange s c (Delegate a b m) = BudgetsFit s c a b
+IsInRange s c call = Unit {0}

@@ -1,0 +1,189 @@
+//! What a call names, and the targets that it asks for.
+
+ghost use Rattle.std.specs.Prelude.{◌≡◌, ◌<◌, ◌≤◌, ◌+◌, IfOk};
+ghost use Rattle.kernel_rules.specs.Access.{held_in};
+ghost use Rattle.kernel_rules.specs.Rules.{named, vacant, not_vacant, held, mapped, of_kind};
+ghost use Rattle.seq_state.specs.Parts.{place_of, thing_of};
+ghost use Rattle.seq_state.specs.Maps.{state_of};
+ghost use Rattle.seq_lookups.specs.Judged.{judged, wants};
+ghost use Rattle.seq_lookups.specs.Places.{target_of};
+
+use crate::objects::comp_of;
+use crate::slots::{Slot, Target, place_at, reached, usable};
+use crate::waiting::{flushes_of, waits_of};
+use seq_state::{Place, SeqKernel, Thing};
+use spk_nums::{Cap, CapId, CoreNo, FrameArg, FrameNo, Kind, PageNo, Reply};
+
+/// The kinds of capability that a name may lead to.
+#[derive(Clone, Copy, PartialEq, Eq, Debug)]
+pub enum Wanted {
+    /// Any.
+    Any,
+    /// This one.
+    Only(Kind),
+    /// The root of a table of capabilities or of pages.
+    Root,
+}
+
+/// Whether a kind is this one.
+fn is_only(wanted: Kind, kind: Kind) -> bool
+    ensures { result ≡ only wanted kind }
+{
+    wanted == kind
+}
+
+/// Whether a kind is wanted.
+fn is_wanted(wanted: Wanted, kind: Kind) -> bool
+    ensures { result ≡ wants wanted kind }
+{
+    match wanted {
+        Wanted::Any => true,
+        Wanted::Only(one) => is_only(one, kind),
+        Wanted::Root => is_only(Kind::Table, kind) || is_only(Kind::Pages, kind),
+    }
+}
+
+/// The capability, where its kind is wanted.
+fn of_kind(wanted: Wanted, cap: Cap) -> Result<Cap, Reply>
+    ensures { judged result ≡ of_kind (wants wanted) cap }
+{
+    if is_wanted(wanted, cap.kind()) {
+        Ok(cap)
+    } else {
+        Err(Reply::WrongCap)
+    }
+}
+
+/// The slot that a target leads to, or the refusal where there is none.
+fn slot_or(k: &SeqKernel, core: CoreNo, target: Target, refusal: Reply) -> Result<Slot, Reply>
+    ensures { judged result ≡ or_refuse (reached (state_of k.now) core (target_of target)) refusal }
+{
+    match reached(k, core, target) {
+        Some(at) => Ok(at),
+        None => Err(refusal),
+    }
+}
+
+/// What a core may use at a slot, of a wanted kind.
+fn named_at(k: &SeqKernel, core: CoreNo, at: Slot, wanted: Wanted) -> Result<Cap, Reply>
+    ensures { judged result ≡ and_then (or_refuse (usable (state_of k.now) core at) Empty) (of_kind (wants wanted)) }
+{
+    match usable(k, core, at) {
+        Some(cap) => of_kind(wanted, cap),
+        None => Err(Reply::Empty),
+    }
+}
+
+/// The capability that a core names: `no-slot` where it reaches no slot under the number in the table of the component that
+/// it works in, `empty` where it may use nothing there, `wrong-cap` where the kind is not wanted.
+pub fn named(k: &SeqKernel, core: CoreNo, name: CapId, wanted: Wanted) -> Result<Cap, Reply>
+    requires { core < (state_of k.now).limits.cores }
+    ensures { judged result ≡ named (state_of k.now) core name (wants wanted) }
+{
+    let target = Target::Under {
+        root: comp_of(k, core).table,
+        number: name.number(),
+    };
+    match slot_or(k, core, target, Reply::NoSlot) {
+        Ok(at) => named_at(k, core, at, wanted),
+        Err(refusal) => Err(refusal),
+    }
+}
+
+/// The frame of a range: `out-of-range` where the range does not have it. Of a range that ends past the machine's frames
+/// nothing is said.
+pub fn frame_in(k: &SeqKernel, range: &Cap, frame: FrameArg) -> Result<FrameNo, Reply>
+    ensures refusal { range.now.frame + range.now.arg ≤ (state_of k.now).limits.frames → judged result ≡ unless (refusal_of (state_of k.now) 0 (outside (found range.now) frame)) frame }
+    ensures frame { IfOk result (λ f. (f ≡ frame) × (f < (state_of k.now).limits.frames)) }
+{
+    let number = frame.number();
+    let first = range.frame().number();
+    if first <= number && u32::from(number) < u32::from(first) + range.arg() {
+        if number < k.frames() {
+            Ok(FrameNo::new(number))
+        } else {
+            Err(Reply::FrameKind)
+        }
+    } else {
+        Err(Reply::OutOfRange)
+    }
+}
+
+/// Why a core may not fill a place.
+fn not_vacant(k: &SeqKernel, core: CoreNo, at: Slot, place: Place) -> Option<Reply>
+    ensures { result ≡ not_vacant (state_of k.now) core (PlaceOf at.node at.index) (place_of place) }
+{
+    match place {
+        Place::Free => None,
+        Place::Holds(_) => Some(Reply::Occupied),
+        Place::Quiescing(_) => match waits_of(k, core, at.thing()) {
+            Some(refusal) => Some(refusal),
+            None => flushes_of(k, at.thing()),
+        },
+    }
+}
+
+/// The target that a core may fill: `no-slot` where it reaches none, `occupied` where it is held, `quiescing` where another
+/// core waits in its grace period, `unflushed` where a core has not flushed since.
+pub fn vacant(k: &SeqKernel, core: CoreNo, target: Target) -> Result<Slot, Reply>
+    ensures { judged result ≡ vacant (state_of k.now) core (target_of target) }
+{
+    match slot_or(k, core, target, Reply::NoSlot) {
+        Ok(at) => match not_vacant(k, core, at, place_at(k, at)) {
+            None => Ok(at),
+            Some(refusal) => Err(refusal),
+        },
+        Err(refusal) => Err(refusal),
+    }
+}
+
+/// What a place holds.
+fn held_in(place: Place) -> Option<Cap>
+    ensures { result ≡ held_in (place_of place) }
+{
+    match place {
+        Place::Free => None,
+        Place::Holds(cap) => Some(cap),
+        Place::Quiescing(_) => None,
+    }
+}
+
+/// The target that a core reaches, with what it holds: `no-slot` where it reaches none, `empty` where it holds nothing.
+pub fn held(k: &SeqKernel, core: CoreNo, target: Target) -> Result<(Slot, Cap), Reply>
+    ensures { judged result ≡ held (state_of k.now) core (target_of target) }
+{
+    match slot_or(k, core, target, Reply::NoSlot) {
+        Ok(at) => match held_in(place_at(k, at)) {
+            Some(cap) => Ok((at, cap)),
+            None => Err(Reply::Empty),
+        },
+        Err(refusal) => Err(refusal),
+    }
+}
+
+/// The mapping of a page by its root: `no-slot` where the page is past 4,095, `fault` where the core reaches no slot or the
+/// slot holds nothing.
+pub fn mapped(k: &SeqKernel, core: CoreNo, root: FrameNo, page: PageNo) -> Result<Cap, Reply>
+    ensures { judged result ≡ mapped (state_of k.now) core root page }
+{
+    if page.number() > 4095 {
+        return Err(Reply::NoSlot);
+    }
+    let target = Target::Under {
+        root,
+        number: page.number(),
+    };
+    match slot_or(k, core, target, Reply::Fault) {
+        Ok(at) => match held_in(place_at(k, at)) {
+            Some(cap) => Ok(cap),
+            None => Err(Reply::Fault),
+        },
+        Err(refusal) => Err(refusal),
+    }
+}
+
+ghost use Rattle.kernel_rules.specs.State.{PlaceOf};
+ghost use Rattle.kernel_rules.specs.Access.{found, only, usable, reached};
+ghost use Rattle.kernel_rules.specs.Rules.{and_then, or_refuse, unless, refusal_of};
+ghost use Rattle.kernel_rules.specs.CapabilityCalls.{outside};
+ghost use Rattle.spk_nums.specs.declared.replies.Reply.TheVariants.{Empty};

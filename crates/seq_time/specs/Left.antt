@@ -1,0 +1,13 @@
+-- What becomes of threads as a core goes on as another, and what it leaves.
+use Rattle.std.specs.Prelude.{ℕ, ◌==◌, if◌then◌else◌, List, [], ◌∷◌, Option}
+use Rattle.kernel_rules.specs.State.{Frame, Thing, thread_in}
+use Rattle.kernel_rules.specs.InvocationCalls.{with_thread}
+use Rattle.kernel_rules.specs.Rules.{frames_of}
+
+-- The old thread, and the old temporal capability unless it stays: the things whose grace periods begin.
+abbrev pub left_by : ℕ → ℕ → ℕ → List Thing
+left_by thread tcap next = frames_of (thread ∷ (if next == tcap then [] else tcap ∷ []))
+
+-- A frame whose thread runs on a core, or is idle.
+abbrev pub run_by : Frame → Option ℕ → Frame
+run_by x core = with_thread x (record (thread_in x) { runs_on = core })

@@ -1,0 +1,74 @@
+//! Charging ticks.
+
+ghost use Rattle.std.specs.Prelude.{◌≡◌, ◌<◌, ◌≤◌, ◌+◌, ◌^◌};
+ghost use Rattle.kernel_rules.specs.Rules.{outcome};
+ghost use Rattle.kernel_rules.specs.TimeCalls.{charge, with_budget, tick_rule, tcap_at};
+ghost use Rattle.seq_state.specs.Maps.{state_of};
+ghost use Rattle.seq_state.specs.Representation.{Represents};
+ghost use Rattle.seq_lookups.specs.Carried.{IsCarriedOut};
+ghost use Rattle.seq_lookups.specs.Ranges.{TicksFit};
+
+use crate::budgets::with_tcap;
+use seq_lookups::tcap_at;
+use seq_state::{Core, SeqKernel, TcapFields};
+use spk_nums::{CoreNo, FrameNo, Value};
+
+/// Gives a temporal capability another budget.
+fn set_budget(k: &mut SeqKernel, frame: FrameNo, budget: u32)
+    ensures { Represents k.new (with_budget (state_of k.old) frame budget) }
+{
+    let tcap = TcapFields {
+        budget,
+        ..tcap_at(k, frame)
+    };
+    let value = with_tcap(k.frame(frame), tcap);
+    k.set_frame(frame, value);
+}
+
+/// The ticks that are charged of those due: as far as the current temporal capability has budget.
+fn charged(k: &SeqKernel, core: CoreNo, due: u64) -> u32
+    requires { core < (state_of k.now).limits.cores }
+    ensures value { result ≡ charge (state_of k.now) core due }
+    ensures most { result ≤ (tcap_at (state_of k.now) ((state_of k.now).core core).tcap).budget }
+    ensures due { result ≤ due }
+{
+    let budget = tcap_at(k, k.core(core).tcap).budget;
+    if due < u64::from(budget) {
+        due as u32
+    } else {
+        budget
+    }
+}
+
+/// Charges so many of the ticks that are due: they leave the current temporal capability's budget and are spent, and the rest
+/// stays owed.
+fn charge(k: &mut SeqKernel, core: CoreNo, due: u64, charged: u32)
+    requires core { core < (state_of k.old).limits.cores }
+    requires budget { charged ≤ (tcap_at (state_of k.old) ((state_of k.old).core core).tcap).budget }
+    requires due { charged ≤ due }
+    ensures { ((state_of k.old).core core).spent + charged < 2 ^ 64 → Represents k.new (charges (state_of k.old) core due charged).next }
+{
+    let now = *k.core(core);
+    let budget = tcap_at(k, now.tcap).budget - charged;
+    let next = Core {
+        spent: now.spent.saturating_add(u64::from(charged)),
+        owed: due - u64::from(charged),
+        ..now
+    };
+    set_budget(k, now.tcap, budget);
+    k.set_core(core, next);
+}
+
+/// `tick N` charges the N ticks and those owed to the current temporal capability, and answers how many it charged.
+pub(crate) fn tick(k: &mut SeqKernel, core: CoreNo, ticks: u32) -> Value
+    requires { core < (state_of k.old).limits.cores }
+    ensures { TicksFit (state_of k.old) core ticks → IsCarriedOut (state_of k.old) (outcome (state_of k.old) core (tick_rule (state_of k.old) core ticks)) (Ok result) k.new }
+{
+    let due = u64::from(ticks).saturating_add(k.core(core).owed);
+    let charged = charged(k, core, due);
+    charge(k, core, due, charged);
+    Value::Amount(charged)
+}
+
+ghost use Rattle.kernel_rules.specs.TimeCalls.{charges};
+ghost use Rattle.spk_nums.specs.declared.replies.Reply.TheVariants.{Ok};

@@ -1,0 +1,8 @@
+-- A core as its end shows it.
+use Rattle.std.specs.Prelude.{false}
+use Rattle.spk_nums.specs.declared.translations.CoreEnd.{CoreEnd}
+use Rattle.kernel_rules.specs.State.{Core}
+
+-- What the end of a core shows.
+abbrev pub core_shown : CoreEnd → Core
+core_shown e = record { inside = false; thread = e.thread; tcap = e.tcap; cached = e.cached; spent = e.spent; owed = e.owed; counted = 0 }

@@ -1,8 +1,0 @@
-use Rattle.std.proofs.Common.{◌≡◌, ◌++◌, take}
-use Rattle.std.specs.Prelude.{string_bytes}
-use Rattle.std.specs.List.{flat_map}
-use Rattle.kernel_history.specs.Tables.{translation_line}
-use Rattle.table_report.proofs.rest.push_translations.Given as goal
-
-abbrev pub invariant-loop-item : goal.invariant-loop-item
-invariant-loop-item l = string_bytes l.text ≡ string_bytes l.initial.text ++ flat_map translation_line (take l.item-index l.items)
