@@ -100,6 +100,22 @@ impl CoreState {
         &self.own.layout
     }
 
+    /// The core's number.
+    #[inline]
+    pub fn core(&self) -> CoreNo
+        ensures { result ≡ self.now.own.core }
+    {
+        self.own.core
+    }
+
+    /// How many calls the core has counted: those decided, but for those answered `calls-spent`.
+    #[inline]
+    pub fn made(&self) -> u32
+        ensures { result ≡ self.now.own.made }
+    {
+        self.own.made
+    }
+
     /// Whether the core is in a call.
     #[inline]
     pub fn in_call(&self) -> bool

@@ -48,7 +48,8 @@ use Rattle.core_invariant.proofs.Calm.{calm_entered, calm_counted, calm_then}
 use Rattle.core_invariant.proofs.Loads.{Lands, step_to}
 use Rattle.core_invariant.proofs.Writes.{clock_small, core_small, enters_on}
 use Rattle.flight.specs.Made.{MayBegin}
-use Rattle.flight.proofs.FirstCauses.{next_refused}
+use Rattle.plan_ways.specs.Laws.{NextRefused}
+use Rattle.plan_ways.proofs.Ways.{next_first}
 use Rattle.flight.proofs.Findings.{past_slot, past_unreached, named_no_slot}
 
 module _ (setup : Setting) (setting : IsSetting setup) (cores : ℕ → Core) (t : Trace) (stands : Stands setup cores t) (c : ℕ) (here : c < setup.cores)
@@ -151,8 +152,8 @@ module _ (setup : Setting) (setting : IsSetting setup) (cores : ℕ → Core) (t
         (subst (λ x. NextMay (entered s c) c (own_pages (entered s c) c) x reply.NoSlot) (sym next) (past_slot (entered s c) (root_at (comp_of (entered s c) c).table) n past))
 
     first_cause : nat_le n 4095 ≡ false → change_of (entered s c) c call ≡ Refused reply.NoSlot
-    first_cause past = next_refused (entered s c) c (own_pages (entered s c) c) (plan_for call) (rule_of (entered s c) c call) [] (calls_go (entered s c) c call) tt reply.NoSlot
-        (subst (λ x. Rattle.flight.proofs.FirstCauses.NextRefused (entered s c) c x reply.NoSlot) (sym next)
+    first_cause past = next_first (entered s c) c (own_pages (entered s c) c) (plan_for call) (rule_of (entered s c) c call) [] (calls_go (entered s c) c call) tt reply.NoSlot
+        (subst (λ x. NextRefused (entered s c) c (own_pages (entered s c) c) x reply.NoSlot) (sym next)
         (named_no_slot (entered s c) c n wanted (past_unreached (entered s c) c (root_at (comp_of (entered s c) c).table) n past)))
 
     enters_within : is_spent (cores c).own ≡ false → (within : Bool) → nat_le n 4095 ≡ within → GoodEntry (landed (fresh call) (looks_under within (cores c).own.table n))

@@ -1,6 +1,5 @@
 pub mod CoreFits
 pub mod Spelling
-pub mod FirstCauses
 pub mod Findings
 pub mod Acts
 pub mod Entries
