@@ -1,22 +1,4 @@
--- A call in flight is in its phase, and a core whose mark a word carries is in a call.
-use Rattle.std.proofs.Common.{◌≡◌, ◌≢◌, inl, inr, ℕ, true, Option, Some, None, refl, sym, ◌∙◌}
-use Rattle.std.specs.Prelude.{IsSome}
-use Rattle.std.proofs.lemmas.Bool.{cases_lt, false≢true}
-use Rattle.spk_nums.specs.Setting.{Setting}
-use Rattle.word_map.specs.Word.{Word}
-use Rattle.kernel_history.specs.Bounds.{call_in}
-use Rattle.kernel_history.specs.Marking.{marked_by}
-use Rattle.kernel_history.specs.Trace.{Trace, Phase, Out, phase, state_after}
-use Rattle.kernel_history.specs.Stamps.{is_in}
-use Rattle.kernel_history.proofs.Inside.{inside_is}
-use Rattle.call_steps.specs.declared.stages.Stage.{Stage}
-use Rattle.call_steps.specs.declared.stages.Stage.TheVariants.{Enter, Undecided, Decided, Leave}
-use Rattle.call_steps.specs.declared.stages.ActiveCall.{ActiveCall}
-use Rattle.call_steps.specs.View.{Core}
-use Rattle.core_invariant.specs.Knows.{phase_at, KnowsAt, Knows, CallIs}
-use Rattle.core_invariant.specs.Stands.{holds_in, Stands}
-
--- A call in flight is in its phase, and a core whose mark a word carries is in a call.
+-- A call is in its phase, and a core whose mark a word carries is in a call.
 use Rattle.std.proofs.Common.{◌≡◌, ◌≢◌, inl, inr, ℕ, true, Option, Some, None, refl, sym, ◌∙◌}
 use Rattle.std.specs.Prelude.{IsSome}
 use Rattle.std.proofs.lemmas.Bool.{cases_lt, false≢true}
