@@ -1,0 +1,4 @@
+pub mod Lookups
+pub mod Findings
+pub mod Next
+pub mod ByPlan
