@@ -167,9 +167,6 @@ module _ (s : State) (c a : ℕ) (k : Capability) (is : named s c a any ≡ Foun
   look_answers : IsFoundAnd (outcome s c (look_rule s a)) (λ change. change.value ≡ Cap k)
   look_answers = subst (λ x. IsFoundAnd x (λ change. change.value ≡ Cap k)) (sym look_change) refl
 
-pub probe : true ≡ true
-probe = refl
-
 module _ (setup : Setting) (setting : IsSetting setup) (cores : ℕ → Core) (t : Trace) (stands : Stands setup cores t) (c : ℕ) (here : c < setup.cores)
     (a : ActiveCall) (active : (cores c).active ≡ Some a) (look : Look) (stage_is : a.stage ≡ Undecided (Lookup look))
     (has : KnowsUndecided setup t c (cores c).own.table a (Lookup look)) where
@@ -375,7 +372,7 @@ module _ (setup : Setting) (setting : IsSetting setup) (cores : ℕ → Core) (t
         answers_it lands =
             let e2 : Step = step_to c None (LoadOf (EntryAt at.node at.index)) (last_left setup t (EntryAt at.node at.index)) (Some (reply.Ok (Cap k))) None in
             let permitted : MayReply s c (look_call n) (reply.Ok (Cap k)) =
-                (not_spent setup (cores c) t c (core_is setup setting cores t stands c here a active) room, look_answers s c n k name_is) in
+            (not_spent setup (cores c) t c (core_is setup setting cores t stands c here a active) room, look_answers s c n k name_is) in
             decides_on setup setting cores t stands c here a active (LoadOf (EntryAt at.node at.index)) (reply.Ok (Cap k)) (k ∷ []) looks lands (sym holds_none) opens
             (subst (λ x. state_by s c x (reply.Ok (Cap k)) ≡ counted s c) (sym is) (look_state s c n k name_is)) refl
             (λ x. subst (λ y. begins s c y (reply.Ok (Cap k)) x ≡ false) (sym is) (look_begins s c n k name_is x))
@@ -447,13 +444,13 @@ module _ (setup : Setting) (setting : IsSetting setup) (cores : ℕ → Core) (t
         (λ h. may_here reply.NoSlot (subst (λ x. IsTrue (has_no_slot s x)) (own_target name.number) h))
         (λ none. first_here reply.NoSlot (named_no_slot s c name.number wanted_of (ap (reached s c) (sym (own_target name.number)) ∙ none)))
         (λ g i h. way (own s c name.number) (subst (λ x. NextPlace s c x (own s c name.number)) (sym next) refl) g i
-            (subst (λ x. is_slot_in (wide_way_to s x) g i ≡ true) (own_target name.number) h))
+        (subst (λ x. is_slot_in (wide_way_to s x) g i ≡ true) (own_target name.number) h))
         (λ e look2 carries up. record {
-            names = names_on setup setting t e stands.legal c a.call is_open carries table a.plan a.found has.names;
-            knows = subst (λ x. LooksFor setup (e ∷ t) c table x look2) (sym next) up;
+          names = names_on setup setting t e stands.legal c a.call is_open carries table a.plan a.found has.names;
+          knows = subst (λ x. LooksFor setup (e ∷ t) c table x look2) (sym next) up;
         })
         (λ at v arrives reads shows only. subst (λ x. GoodTook setup cores t c (LoadOf (EntryAt at.node at.index)) (took_found table a x (found_at at.node at.index (last_left setup t (EntryAt at.node at.index)) v)))
-            (sym next) (name_good at arrives only v shows))
+        (sym next) (name_good at arrives only v shows))
         room look stage_is looks
 
   -- A target that is to be free is looked up.
@@ -485,24 +482,24 @@ module _ (setup : Setting) (setting : IsSetting setup) (cores : ℕ → Core) (t
     fills_next : (at : Slot) → Arrives setup t c target at → entry_of_word (last_left setup t (EntryAt at.node at.index)) ≡ Some entry.Free
         → OnlyLooks setup t c a.call (LoadOf (EntryAt at.node at.index))
         → GoodTook setup cores t c (LoadOf (EntryAt at.node at.index))
-          (landed a (fills_at begins_with.k (found_at at.node at.index (last_left setup t (EntryAt at.node at.index)) entry.Free)))
+        (landed a (fills_at begins_with.k (found_at at.node at.index (last_left setup t (EntryAt at.node at.index)) entry.Free)))
     fills_next at arrives reads looks lands =
         let word = last_left setup t (EntryAt at.node at.index) in
         let e : Step = arriving setup t c target at word arrives in
         loads_on setup setting cores t stands c here a active (LoadOf (EntryAt at.node at.index)) a.found
         (Undecided (Act (fill_act (record { node = at.node; entry = at.index; word = word; cap = begins_with.k })))) looks lands (sym holds_none) opens
         (λ carries. record {
-            names = names_on setup setting t e stands.legal c a.call is_open carries table a.plan a.found has.names;
-            knows = record {
-                target = target;
-                next = next_free;
-                way = reached_now setup t c target at word arrives;
-                own = own_read-here c e t refl (EntryAt at.node at.index) refl ∙ ap (λ b. if b then Some word else None) (eq-eqb word word refl);
-                free = reads;
-                fits = first_fits;
-                puts = λ p node index same. begins_with.act p ∙ ap (λ (f : Fill). Goes (Act (fill_act f)))
-                    (λ i. record { node = node i; entry = index i; word = same i; cap = begins_with.k });
-            };
+          names = names_on setup setting t e stands.legal c a.call is_open carries table a.plan a.found has.names;
+          knows = record {
+            target = target;
+            next = next_free;
+            way = reached_now setup t c target at word arrives;
+            own = own_read-here c e t refl (EntryAt at.node at.index) refl ∙ ap (λ b. if b then Some word else None) (eq-eqb word word refl);
+            free = reads;
+            fits = first_fits;
+            puts = λ p node index same. begins_with.act p ∙ ap (λ (f : Fill). Goes (Act (fill_act f)))
+                (λ i. record { node = node i; entry = index i; word = same i; cap = begins_with.k });
+          };
         })
 
     free_at : (at : Slot) (v : Entry) → Arrives setup t c target at → entry_of_word (last_left setup t (EntryAt at.node at.index)) ≡ Some v → Shows setup.frames (place_at s at) v
@@ -525,11 +522,11 @@ module _ (setup : Setting) (setting : IsSetting setup) (cores : ℕ → Core) (t
       (λ h. may_free spot to none reply.NoSlot h) (λ out. first_free spot to none reply.NoSlot (vacant_no_slot s c (target spot to none) out))
       (λ g j h. way (target spot to none) (subst (λ x. NextPlace s c x (target spot to none)) (sym next) refl) g j h)
       (λ e look2 carries up. record {
-          names = names_on setup setting t e stands.legal c a.call is_open carries table a.plan a.found has.names;
-          knows = subst (λ x. LooksFor setup (e ∷ t) c table x look2) (sym next) up;
+        names = names_on setup setting t e stands.legal c a.call is_open carries table a.plan a.found has.names;
+        knows = subst (λ x. LooksFor setup (e ∷ t) c table x look2) (sym next) up;
       })
       (λ at v arrives reads shows only. subst (λ x. GoodTook setup cores t c (LoadOf (EntryAt at.node at.index)) (took_found table a x (found_at at.node at.index (last_left setup t (EntryAt at.node at.index)) v)))
-          (sym next) (free_at spot to none at v arrives reads shows only))
+      (sym next) (free_at spot to none at v arrives reads shows only))
       room look stage_is looks
   free_step (spot_of.InRoot i x) to none looks =
       let spot = spot_of.InRoot i x in
@@ -538,11 +535,11 @@ module _ (setup : Setting) (setting : IsSetting setup) (cores : ℕ → Core) (t
       (λ h. may_free spot to none reply.NoSlot h) (λ out. first_free spot to none reply.NoSlot (vacant_no_slot s c (target spot to none) out))
       (λ g j h. way (target spot to none) (subst (λ y. NextPlace s c y (target spot to none)) (sym next) refl) g j h)
       (λ e look2 carries up. record {
-          names = names_on setup setting t e stands.legal c a.call is_open carries table a.plan a.found has.names;
-          knows = subst (λ y. LooksFor setup (e ∷ t) c table y look2) (sym next) up;
+        names = names_on setup setting t e stands.legal c a.call is_open carries table a.plan a.found has.names;
+        knows = subst (λ y. LooksFor setup (e ∷ t) c table y look2) (sym next) up;
       })
       (λ at v arrives reads shows only. subst (λ y. GoodTook setup cores t c (LoadOf (EntryAt at.node at.index)) (took_found table a y (found_at at.node at.index (last_left setup t (EntryAt at.node at.index)) v)))
-          (sym next) (free_at spot to none at v arrives reads shows only))
+      (sym next) (free_at spot to none at v arrives reads shows only))
       room look stage_is looks
 
   pub lookup_good : GoodTook setup cores t c (look_move look) (took_look table a look (last_left setup t (word_of (look_move look))) (shown_in setup.frames (last_left setup t (word_of (look_move look)))))

@@ -53,9 +53,9 @@ module _ (setup : Setting) (setting : IsSetting setup) (t : Trace) (legal : IsLe
   spot_by plan ks spot (Some name) is wants leads none =
       let led : Led (MayUse (state_after setup t) c) name (at_place ks (root_of spot)) = nth_led (MayUse (state_after setup t) c) plan.names ks (root_of spot) name leads none is in
       let root_is = earlier_is ks (root_of spot) led.k led.is in (
-          subst (Relies (state_after setup t) c) (sym (ap (λ (x : Named). x.frame) root_is))
-          (relies_usable setup setting t legal c call is_open led.leads.at led.k (root_names led.k.kind (wants led.caps led.k.kind led.leads.kind)) led.leads.usable),
-          ap (λ (x : Named). x.found) root_is,
+        subst (Relies (state_after setup t) c) (sym (ap (λ (x : Named). x.frame) root_is))
+            (relies_usable setup setting t legal c call is_open led.leads.at led.k (root_names led.k.kind (wants led.caps led.k.kind led.leads.kind)) led.leads.usable),
+        ap (λ (x : Named). x.found) root_is,
       )
 
   pub spot_relies : (plan : Plan) (ks : List Capability) (spot : Spot) → RootIs plan.names spot → Leads (MayUse (state_after setup t) c) plan.names [] ks → names_after plan.names ks ≡ []
