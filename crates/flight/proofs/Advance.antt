@@ -33,7 +33,7 @@ use Rattle.flight.specs.Made.{MayBegin, step_at, step_of, core_after}
 use Rattle.flight.specs.Theorems.{found_by, StepsOn}
 use Rattle.flight.proofs.CoreFits.{begun_fits, after_fits}
 use Rattle.flight.proofs.Spelling.{stage_word}
-use Rattle.flight.proofs.Acts.{work_good}
+use Rattle.work_invariant.proofs.Work.{work_good}
 use Rattle.flight.proofs.Entries.{enter_good}
 
 module _ (setup : Setting) (setting : IsSetting setup) (cores : ℕ → Core) (t : Trace) (stands : Stands setup cores t) (c : ℕ) (here : c < setup.cores) where

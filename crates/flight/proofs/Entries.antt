@@ -50,7 +50,7 @@ use Rattle.core_invariant.proofs.Writes.{clock_small, core_small, enters_on}
 use Rattle.flight.specs.Made.{MayBegin}
 use Rattle.plan_ways.specs.Laws.{NextRefused}
 use Rattle.plan_ways.proofs.Ways.{next_first}
-use Rattle.flight.proofs.Findings.{past_slot, past_unreached, named_no_slot}
+use Rattle.work_invariant.proofs.Findings.{past_slot, past_unreached, named_no_slot}
 
 module _ (setup : Setting) (setting : IsSetting setup) (cores : ℕ → Core) (t : Trace) (stands : Stands setup cores t) (c : ℕ) (here : c < setup.cores)
     (call : Call) (may : MayBegin call (cores c)) where

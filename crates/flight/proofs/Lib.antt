@@ -1,7 +1,5 @@
 pub mod CoreFits
 pub mod Spelling
-pub mod Findings
-pub mod Acts
 pub mod Entries
 pub mod Boot
 pub mod Advance

@@ -22,6 +22,7 @@ use Rattle.core_invariant.specs.Knows.{IsReached, HasFound, own_in}
 use Rattle.core_invariant.proofs.Carries.{own_kept}
 use Rattle.core_invariant.proofs.Loads.{step_to}
 use Rattle.core_invariant.proofs.Refusals.{NobodyWaits}
+use Rattle.work_invariant.proofs.Lookups.{Arrives, use_removed}
 
 -- the target of an own name
 pub own_is : (s : State) (c table n : ℕ) → table ≡ (comp_of s c).table → own_in table n ≡ own s c n
@@ -87,9 +88,6 @@ past_unreached s c table n past = by_found table.found
 pub use_free : (s : State) (c : ℕ) (at : Slot) → place_at s at ≡ Vacant → usable s c at ≡ None
 use_free s c at is = ap (λ p. usable_in p ((s.grace (PlaceOf at.node at.index)).waits c)) is
 
-use_removed : (p : Rattle.kernel_rules.specs.State.Place) (k : Capability) (waits : Bool) → p ≡ Removed k → waits ≡ false → usable_in p waits ≡ None
-use_removed p k waits is not = ap (λ q. usable_in q waits) is ∙ ap (λ b. usable_in (Removed k) b) not
-
 pub use_removed_at : (s : State) (c : ℕ) (at : Slot) (k : Capability) → place_at s at ≡ Removed k → NobodyWaits s → usable s c at ≡ None
 use_removed_at s c at k is nobody = use_removed (place_at s at) k ((s.grace (PlaceOf at.node at.index)).waits c) is (nobody (PlaceOf at.node at.index) c)
 
@@ -103,3 +101,29 @@ found_named setup t c table n wanted k is has =
 pub way_gone : (setup : Setting) (t : Trace) (d : Trace) (c : ℕ) (target : Target) (at : Slot) → reached (state_after setup t) c target ≡ Some at
     → HasReached d c (root_passed target ++ at ∷ []) → HasReached d c (way_to (state_after setup t) c target)
 way_gone setup t d c target at is had = subst (λ o. HasReached d c (root_passed target ++ option_to_list o)) (sym is) had
+
+-- The call has gone the whole way with the step that arrives.
+pub gone_with : (setup : Setting) (t : Trace) (c : ℕ) (target : Target) (at : Slot) (e : Step) → c ≡ e.core → EntryAt at.node at.index ≡ word_of e.move
+    → ((w : Rattle.word_map.specs.Word.Word) → IsSome (own_left t c w) → IsSome (own_left (e ∷ t) c w)) → Arrives setup t c target at
+    → HasReached (e ∷ t) c (root_passed target ++ at ∷ [])
+gone_with setup t c target at e own word stays arrives =
+    All-append (λ (x : Slot). IsSome (own_left (e ∷ t) c (EntryAt x.node x.index))) (root_passed target) (at ∷ [])
+    (λ k d h. stays _ (arrives.passed k d h))
+    (All-cons (λ (x : Slot). IsSome (own_left (e ∷ t) c (EntryAt x.node x.index))) at []
+    (ap is_some (own_left-here c e t own (EntryAt at.node at.index) word)) (All-nil (λ (x : Slot). IsSome (own_left (e ∷ t) c (EntryAt x.node x.index)))))
+
+-- The undecided load at which it arrives.
+module _ (setup : Setting) (t : Trace) (c : ℕ) (target : Target) (at : Slot) (found : ℕ) (arrives : Arrives setup t c target at) where
+  abbrev pub arriving : Step
+  arriving = step_to c None (LoadOf (EntryAt at.node at.index)) found None None
+
+  pub reached_now : IsReached setup (arriving ∷ t) c target at
+  reached_now = record {
+    relies = arrives.relies;
+    reached = arrives.reached;
+    stepped = gone_with setup t c target at arriving refl refl (own_kept t arriving c refl refl) arrives;
+  }
+
+  pub found_now : (wanted : Kind → Bool) (k : Capability) → place_at (state_after setup t) at ≡ Holds k → wanted k.kind ≡ true → EntryFits (Held k)
+      → HasFound setup (arriving ∷ t) c target wanted k
+  found_now wanted k holds kind fits = record { at = at; way = reached_now; usable = use_held (state_after setup t) c at k holds; kind = kind; fits = fits }
