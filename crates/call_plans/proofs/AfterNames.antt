@@ -10,7 +10,6 @@ use Rattle.call_plans.specs.declared.plans.Name.{Name}
 use Rattle.call_plans.specs.declared.plans.Target.{Target}
 use Rattle.call_plans.specs.declared.plans.Target.TheVariants.{Nowhere, Free, Held, Own}
 use Rattle.call_plans.specs.declared.plans.Plan.{Plan}
-use Rattle.call_plans.specs.Plans.{listed}
 use Rattle.call_plans.specs.GoesBy.{OwnPages, GoesBy, GoesOn, wants}
 use Rattle.call_plans.specs.After.{rule_after, with_found, names_after, Leads, LeadsIn, Next, NextName, NextFree, NextHeld, NextOwn, NextNothing, next_target, next_in, next_of, NextMay}
 use Rattle.call_plans.specs.Laws.{LeftGoesBy, OutcomeIsLeft, LeftMayRefuse, NextMayRefuse, NextLeads, LeadsMore}
@@ -127,24 +126,24 @@ first_may s c pages (NextHeld target) _ r is may = absurd is
 
 -- the laws
 pub left_goes : LeftGoesBy
-left_goes s c pages plan rule ks goes leads = goes_left (LeadsIn s c) pages (listed plan.names) plan.target [] rule ks goes leads
+left_goes s c pages plan rule ks goes leads = goes_left (LeadsIn s c) pages plan.names plan.target [] rule ks goes leads
 
 pub outcome_left : OutcomeIsLeft
 outcome_left s c pages plan rule ks goes leads =
     before (LeadsIn s c) (λ x. outcome s c x ≡ outcome s c (rule_after rule ks))
     (λ n wanted rest k is h. ap (λ x. and_then x λ k. outcome s c (rest (found k))) is ∙ h)
-    pages (listed plan.names) plan.target [] rule ks goes leads refl
+    pages plan.names plan.target [] rule ks goes leads refl
 
 pub left_may : LeftMayRefuse
 left_may s c pages plan rule ks goes leads r may =
     before (LeadsIn s c) (λ x. RuleMay s c x r)
     (λ n wanted rest k is h. inr (subst (λ x. RuleMay s c (rest (name_of x)) r) (sym is) h))
-    pages (listed plan.names) plan.target [] rule ks goes leads may
+    pages plan.names plan.target [] rule ks goes leads may
 
-pub left_begins : (s : State) (c : ℕ) (pages : OwnPages) (plan : Plan) (rule : Rule) (ks : List Capability) → GoesBy pages plan rule → Leads (LeadsIn s c) (listed plan.names) [] ks
+pub left_begins : (s : State) (c : ℕ) (pages : OwnPages) (plan : Plan) (rule : Rule) (ks : List Capability) → GoesBy pages plan rule → Leads (LeadsIn s c) plan.names [] ks
     → Begins pages (next_of plan ks) (rule_after rule ks)
 left_begins s c pages plan rule ks goes leads =
-    begins pages (names_after (listed plan.names) ks) plan.target (with_found [] ks) (rule_after rule ks) (left_goes s c pages plan rule ks goes leads)
+    begins pages (names_after plan.names ks) plan.target (with_found [] ks) (rule_after rule ks) (left_goes s c pages plan rule ks goes leads)
 
 pub next_may : NextMayRefuse
 next_may s c pages plan rule ks goes leads r may =
@@ -153,4 +152,4 @@ next_may s c pages plan rule ks goes leads r may =
 
 pub leads_more : LeadsMore
 leads_more s c plan ks k leads next =
-    one_more (LeadsIn s c) (listed plan.names) plan.target [] ks k leads (same_next s c (next_of plan ks) k next)
+    one_more (LeadsIn s c) plan.names plan.target [] ks k leads (same_next s c (next_of plan ks) k next)

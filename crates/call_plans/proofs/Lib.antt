@@ -2,3 +2,5 @@ pub mod CallsGoBy
 pub mod AfterNames
 pub mod Roots
 pub mod StepsOfPlans
+pub mod RootedTargets
+pub mod FewNames

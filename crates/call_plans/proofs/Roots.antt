@@ -1,15 +1,18 @@
 -- After all names, the name at a place has led to the capability at that place.
-use Rattle.std.proofs.Common.{◌≡◌, ℕ, Bool, List, [], ◌∷◌, ◌++◌, Option, Some, refl, sym, ◌∙◌, ap, subst, map}
+use Rattle.std.proofs.Common.{◌≡◌, ℕ, suc, ◌+◌, ◌<◌, ◌≤◌, length, nat_lt, if◌then◌else◌, slice_get, arith, true, ◌==◌, Bool, List, [], ◌∷◌, ◌++◌, Option, Some, refl, sym, ◌∙◌, ap, subst, map}
 use Rattle.std.specs.Prelude.{option_map}
 use Rattle.std.proofs.lemmas.List.{append_assoc, append-nil}
+use Rattle.std.proofs.lemmas.Bool.{lt-ltb}
 use Rattle.kernel_rules.proofs.Facts.{some_inj, none_some, some_none}
 use Rattle.spk_nums.specs.Capability.{Capability}
 use Rattle.spk_nums.specs.declared.kinds.Kind.{Kind}
-use Rattle.kernel_rules.specs.Access.{Named, found}
+use Rattle.kernel_rules.specs.Access.{Named, kind_number, found}
 use Rattle.call_plans.specs.declared.plans.Nth.{Nth}
 use Rattle.call_plans.specs.declared.plans.Nth.TheVariants.{First, Second, Third, Fourth}
+use Rattle.kernel_rules.specs.CapabilityCalls.{leaf_of, leaf_for}
+use Rattle.call_plans.specs.declared.plans.Wanted.TheVariants.{LeafOf}
 use Rattle.call_plans.specs.declared.plans.Name.{Name}
-use Rattle.call_plans.specs.Plans.{head, tail, at_place}
+use Rattle.call_plans.specs.Plans.{head, tail, index_of, at_place, pushed}
 use Rattle.call_plans.specs.GoesBy.{wants, or_not_found, earlier}
 use Rattle.call_plans.specs.After.{with_found, names_after, Leads}
 
@@ -40,6 +43,23 @@ earlier_found ks i = ap (λ l. or_not_found (at_place l i)) (with_is [] ks) ∙ 
 pub earlier_is : (ks : List Capability) (i : Nth) (k : Capability) → at_place ks i ≡ Some k → earlier (with_found [] ks) i ≡ found k
 earlier_is ks i k is = earlier_found ks i ∙ ap (λ o. or_not_found (option_map found o)) is
 
+left_none : (name : Name) (names : List Name) → name ∷ names ≡ [] → ⊥
+left_none name names e = some_none name (ap head e)
+
+-- The names that lead, and those that are left, are as many as the names.
+pub count_led : (P : ℕ → (Kind → Bool) → Capability → Type 0) (names : List Name) (caps : List Named) (ks : List Capability)
+    → Leads P names caps ks → length ks + length (names_after names ks) ≡ length names
+count_led P names caps [] leads = omega arith
+count_led P [] caps (k ∷ ks) leads = absurd leads
+count_led P (name ∷ names) caps (k ∷ ks) leads = let rest = count_led P names (caps ++ found k ∷ []) ks leads.1 in omega arith
+
+-- One name more is led: it is no longer left.
+pub after_more : (names rest : List Name) (name : Name) (ks : List Capability) (k : Capability) → names_after names ks ≡ name ∷ rest
+    → names_after names (ks ++ k ∷ []) ≡ rest
+after_more names rest name [] k is = ap (λ xs. names_after xs (k ∷ [])) is
+after_more [] rest name (j ∷ ks) k is = absurd (left_none name rest (sym is))
+after_more (n ∷ names) rest name (j ∷ ks) k is = after_more names rest name ks k is
+
 -- This name has led to the capability.
 pub record Led (P : ℕ → (Kind → Bool) → Capability → Type 0) (name : Name) (o : Option Capability) : Type 0 where
   pub k : Capability
@@ -52,9 +72,6 @@ record AllLead (P : ℕ → (Kind → Bool) → Capability → Type 0) (names : 
   caps : List Named
   leads : Leads P names caps ks
   none : names_after names ks ≡ []
-
-left_none : (name : Name) (names : List Name) → name ∷ names ≡ [] → ⊥
-left_none name names e = some_none name (ap head e)
 
 first_led : (P : ℕ → (Kind → Bool) → Capability → Type 0) (names : List Name) (ks : List Capability) (name : Name) → AllLead P names ks → head names ≡ Some name → Led P name (head ks)
 first_led P [] ks name all is = absurd (none_some name is)
@@ -78,3 +95,38 @@ nth_led P names ks Third name leads none is =
 nth_led P names ks Fourth name leads none is =
     first_led P (tail (tail (tail names))) (tail (tail (tail ks))) name
     (tails_lead P (tail (tail names)) (tail (tail ks)) (tails_lead P (tail names) (tail ks) (tails_lead P names ks (record { caps = []; leads = leads; none = none })))) is
+
+-- what stands at a place, and after those that have led, by its index
+pub at_is : {A : Type 0} (xs : List A) (i : Nth) → slice_get xs (index_of i) ≡ at_place xs i
+at_is [] First = refl
+at_is [] Second = refl
+at_is [] Third = refl
+at_is [] Fourth = refl
+at_is (a ∷ xs) First = refl
+at_is (a ∷ []) Second = refl
+at_is (a ∷ []) Third = refl
+at_is (a ∷ []) Fourth = refl
+at_is (a ∷ b ∷ xs) Second = refl
+at_is (a ∷ b ∷ []) Third = refl
+at_is (a ∷ b ∷ []) Fourth = refl
+at_is (a ∷ b ∷ c ∷ xs) Third = refl
+at_is (a ∷ b ∷ c ∷ []) Fourth = refl
+at_is (a ∷ b ∷ c ∷ d ∷ xs) Fourth = refl
+
+pub next_is : (names : List Name) (ks : List Capability) → slice_get names (length ks) ≡ head (names_after names ks)
+next_is [] [] = refl
+next_is (name ∷ names) [] = refl
+next_is [] (k ∷ ks) = refl
+next_is (name ∷ names) (k ∷ ks) = next_is names ks
+
+if_true : {A : Type 0} (x y : A) (b : Bool) → b ≡ true → (if b then x else y) ≡ x
+if_true x y b is = rw is refl
+
+-- These and one more, where there are fewer than four.
+pub pushed_one : {A : Type 0} (xs : List A) (x : A) → length xs < 4 → pushed xs x ≡ xs ++ x ∷ []
+pushed_one xs x few = if_true _ _ (nat_lt (length xs) 4) (lt-ltb (length xs) 4 few)
+
+-- the leaf that an earlier name's root takes is wanted
+pub wants_leaf : (ks : List Capability) (i : Nth) (k : Capability) (kind : Kind) → at_place ks i ≡ Some k
+    → (kind_number kind == kind_number (leaf_of k.kind)) ≡ wants (with_found [] ks) (LeafOf i) kind
+wants_leaf ks i k kind is = sym (ap (λ (n : Named). leaf_for n kind) (earlier_is ks i k is))

@@ -10,7 +10,7 @@ use Rattle.call_plans.specs.declared.plans.Name.{Name}
 use Rattle.call_plans.specs.declared.plans.Target.{Target}
 use Rattle.call_plans.specs.declared.plans.Target.TheVariants.{Nowhere, Free, Held, Own}
 use Rattle.call_plans.specs.declared.plans.Plan.{Plan}
-use Rattle.call_plans.specs.Plans.{listed, head}
+use Rattle.call_plans.specs.Plans.{head}
 use Rattle.call_plans.specs.GoesBy.{OwnPages, wants, place_of}
 
 -- The rule after its first names, which have led to these capabilities.
@@ -64,7 +64,7 @@ next_in caps names target = next_by caps (head names) target
 
 -- What a call with this plan looks up next, where its names have led to these.
 abbrev pub next_of : Plan → List Capability → Next
-next_of plan ks = next_in (with_found [] ks) (names_after (listed plan.names) ks) plan.target
+next_of plan ks = next_in (with_found [] ks) (names_after plan.names ks) plan.target
 
 -- How the next look-up of core c may be refused: a page of its own pages only where its translation is not cached.
 abbrev pub NextMay : State → ℕ → OwnPages → Next → Reply → Type 0

@@ -1,21 +1,10 @@
--- The capabilities found as a list, and what the next look-up says.
-use Rattle.std.specs.Prelude.{List, [], ◌∷◌}
-use Rattle.spk_nums.specs.Capability.{Capability}
+-- What the next look-up says.
+use Rattle.std.specs.Prelude.{List}
 use Rattle.kernel_rules.specs.Access.{Named}
 use Rattle.call_plans.specs.declared.plans.Next.{Next}
 use Rattle.call_plans.specs.declared.plans.Next.TheVariants.{Name, Free, Held, Own, Nothing}
-use Rattle.call_plans.specs.declared.found.Caps.{Caps}
-use Rattle.call_plans.specs.declared.found.Caps.TheVariants.{Zero, One, Two, Three, Four}
 use Rattle.call_plans.specs.GoesBy.{wants, place_of}
 use Rattle.call_plans.specs.After.{Next as next, NextName, NextFree, NextHeld, NextOwn, NextNothing}
-
--- the capabilities, the first first
-abbrev pub capabilities : Caps → List Capability
-capabilities Zero = []
-capabilities (One a) = a ∷ []
-capabilities (Two a b) = a ∷ b ∷ []
-capabilities (Three a b c) = a ∷ b ∷ c ∷ []
-capabilities (Four a b c d) = a ∷ b ∷ c ∷ d ∷ []
 
 -- what the next look-up says, where the names have led to these
 abbrev pub said : List Named → Next → next

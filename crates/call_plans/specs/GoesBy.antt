@@ -16,7 +16,7 @@ use Rattle.call_plans.specs.declared.plans.Spot.TheVariants.{Under, InRoot}
 use Rattle.call_plans.specs.declared.plans.Target.{Target}
 use Rattle.call_plans.specs.declared.plans.Target.TheVariants.{Nowhere, Free, Held, Own}
 use Rattle.call_plans.specs.declared.plans.Plan.{Plan}
-use Rattle.call_plans.specs.Plans.{listed, at_place}
+use Rattle.call_plans.specs.Plans.{at_place}
 
 -- What an earlier name has led to.
 abbrev pub or_not_found : Option Named → Named
@@ -70,4 +70,4 @@ GoesOn pages (name ∷ names) target caps _ = ⊥
 
 -- A rule goes by a plan.
 abbrev pub GoesBy : OwnPages → Plan → Rule → Type 0
-GoesBy pages plan rule = GoesOn pages (listed plan.names) plan.target [] rule
+GoesBy pages plan rule = GoesOn pages plan.names plan.target [] rule

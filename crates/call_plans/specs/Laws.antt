@@ -8,7 +8,6 @@ use Rattle.kernel_rules.specs.Rules.{Rule, outcome, RuleMay}
 use Rattle.kernel_rules.specs.CallRelation.{rule_of}
 use Rattle.call_plans.specs.declared.plans.Plan.{Plan}
 use Rattle.spk_nums.specs.Bounds.{bound_of}
-use Rattle.call_plans.specs.Plans.{listed}
 use Rattle.call_plans.specs.Bounds.{look_steps, act_steps}
 use Rattle.call_plans.specs.PlanOf.{plan_for}
 use Rattle.call_plans.specs.GoesBy.{OwnPages, own_pages, GoesBy, GoesOn}
@@ -23,13 +22,13 @@ abbrev pub AfterNames : (State → ℕ → OwnPages → Plan → Rule → List C
 AfterNames P =
     (s : State) (c : ℕ) (pages : OwnPages) (plan : Plan) (rule : Rule) (ks : List Capability)
     → GoesBy pages plan rule
-    → Leads (LeadsIn s c) (listed plan.names) [] ks
+    → Leads (LeadsIn s c) plan.names [] ks
     → P s c pages plan rule ks
 
 -- What is left of the rule goes by what is left of the plan.
 abbrev pub LeftGoesBy : Type 0
 LeftGoesBy = AfterNames λ s c pages plan rule ks.
-    GoesOn pages (names_after (listed plan.names) ks) plan.target (with_found [] ks) (rule_after rule ks)
+    GoesOn pages (names_after plan.names ks) plan.target (with_found [] ks) (rule_after rule ks)
 
 -- What comes out of the rule comes out of what is left of it.
 abbrev pub OutcomeIsLeft : Type 0
@@ -51,10 +50,10 @@ NextLeads s c _ k = ⊥
 abbrev pub LeadsMore : Type 0
 LeadsMore =
     (s : State) (c : ℕ) (plan : Plan) (ks : List Capability) (k : Capability)
-    → Leads (LeadsIn s c) (listed plan.names) [] ks
+    → Leads (LeadsIn s c) plan.names [] ks
     → NextLeads s c (next_of plan ks) k
-    → Leads (LeadsIn s c) (listed plan.names) [] (ks ++ k ∷ [])
+    → Leads (LeadsIn s c) plan.names [] (ks ++ k ∷ [])
 
 -- The bound of each call is three steps for entry and exit, those of its plan's look-ups, and those of its act.
 abbrev pub BoundIsByPlan : Type 0
-BoundIsByPlan = (call : Call) (n : ℕ) → bound_of call n ≡ 3 + look_steps (listed (plan_for call).names) (plan_for call).target + act_steps call n
+BoundIsByPlan = (call : Call) (n : ℕ) → bound_of call n ≡ 3 + look_steps (plan_for call).names (plan_for call).target + act_steps call n

@@ -1,3 +1,5 @@
+pub mod NameCells
+pub mod CapCells
 pub mod Plans
 pub mod PlanOf
 pub mod GoesBy

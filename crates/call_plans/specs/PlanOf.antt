@@ -1,5 +1,5 @@
 -- The plan of each call.
-use Rattle.std.specs.Prelude.{ℕ}
+use Rattle.std.specs.Prelude.{ℕ, List, [], ◌∷◌}
 use Rattle.spk_nums.specs.declared.kinds.FrameKind.{FrameKind}
 use Rattle.spk_nums.specs.declared.kinds.FrameKind.TheVariants.{Untyped}
 use Rattle.spk_nums.specs.declared.kinds.Kind.{Kind}
@@ -12,8 +12,6 @@ use Rattle.call_plans.specs.declared.plans.Nth.{Nth}
 use Rattle.call_plans.specs.declared.plans.Nth.TheVariants.{First, Second}
 use Rattle.call_plans.specs.declared.plans.Wanted.TheVariants.{Any, Only, Root, LeafOf}
 use Rattle.call_plans.specs.declared.plans.Name.{Name}
-use Rattle.call_plans.specs.declared.plans.Names.{Names}
-use Rattle.call_plans.specs.declared.plans.Names.TheVariants.{Zero, One, Two, Three, Four}
 use Rattle.call_plans.specs.declared.plans.Spot.{Spot}
 use Rattle.call_plans.specs.declared.plans.Spot.TheVariants.{Under, InRoot}
 use Rattle.call_plans.specs.declared.plans.Target.TheVariants.{Nowhere, Free, Held, Own}
@@ -36,53 +34,53 @@ abbrev pub a_leaf : ℕ → Name
 a_leaf n = record { number = n; wanted = LeafOf First }
 
 -- a call with these names that fills the free place of this number in the table to which a name leads, acquiring so many counts
-abbrev pub fills : Names → Nth → ℕ → ℕ → Plan
+abbrev pub fills : List Name → Nth → ℕ → ℕ → Plan
 fills names root n pins = record { names = names; target = Free (Under root n); pins = pins; decides = at.Target }
 
 -- a call with one name and a target to be held, whose removal acquires the count of what is held and draws a stamp
 abbrev pub removes : Name → Spot → Plan
-removes name spot = record { names = One name; target = Held spot; pins = 1; decides = at.Draw }
+removes name spot = record { names = name ∷ []; target = Held spot; pins = 1; decides = at.Draw }
 
 -- a call with these names and no target
-abbrev pub names_alone : Names → ℕ → Decides → Plan
+abbrev pub names_alone : List Name → ℕ → Decides → Plan
 names_alone names pins decides = record { names = names; target = Nowhere; pins = pins; decides = decides }
 
 -- a call on two temporal capabilities
 abbrev pub on_two_tcaps : ℕ → ℕ → Decides → Plan
-on_two_tcaps a b decides = names_alone (Two (of_kind kind.Tcap a) (of_kind kind.Tcap b)) 0 decides
+on_two_tcaps a b decides = names_alone (of_kind kind.Tcap a ∷ of_kind kind.Tcap b ∷ []) 0 decides
 
 -- the plan of a `retype`: back to untyped it acquires the counts of the object's own references
 abbrev pub plan_of_retype : FrameKind → ℕ → Plan
-plan_of_retype Untyped r = names_alone (One (of_kind kind.Range r)) 2 at.Draw
-plan_of_retype _ r = names_alone (One (of_kind kind.Range r)) 0 at.FrameWord
+plan_of_retype Untyped r = names_alone (of_kind kind.Range r ∷ []) 2 at.Draw
+plan_of_retype _ r = names_alone (of_kind kind.Range r ∷ []) 0 at.FrameWord
 
 -- the plan of a `make`: it acquires the count of the frame, and those of what the object is to refer to
 abbrev pub plan_of_make : Make → ℕ → ℕ → ℕ → Plan
-plan_of_make (make.Thread comp) r t b = fills (Three (of_kind kind.Range r) (of_kind kind.Table t) (of_kind kind.Comp comp)) Second b 2
+plan_of_make (make.Thread comp) r t b = fills (of_kind kind.Range r ∷ of_kind kind.Table t ∷ of_kind kind.Comp comp ∷ []) Second b 2
 plan_of_make (make.Comp table pages live) r t b =
-    fills (Four (of_kind kind.Range r) (of_kind kind.Table t) (of_kind kind.Table table) (of_kind kind.Pages pages)) Second b 3
-plan_of_make what r t b = fills (Two (of_kind kind.Range r) (of_kind kind.Table t)) Second b 1
+    fills (of_kind kind.Range r ∷ of_kind kind.Table t ∷ of_kind kind.Table table ∷ of_kind kind.Pages pages ∷ []) Second b 3
+plan_of_make what r t b = fills (of_kind kind.Range r ∷ of_kind kind.Table t ∷ []) Second b 1
 
 -- the plan of a call
 abbrev pub plan_for : Call → Plan
-plan_for (Look a) = names_alone (One (any_cap a)) 0 at.LeafEntry
-plan_for (Copy a t b) = fills (Two (any_cap a) (of_kind kind.Table t)) Second b 1
+plan_for (Look a) = names_alone (any_cap a ∷ []) 0 at.LeafEntry
+plan_for (Copy a t b) = fills (any_cap a ∷ of_kind kind.Table t ∷ []) Second b 1
 plan_for (Remove t b) = removes (of_kind kind.Table t) (Under First b)
 plan_for (Grow t i l) =
-    record { names = Two (a_root t) (a_leaf l); target = Free (InRoot First i); pins = 1; decides = at.Target }
+    record { names = a_root t ∷ a_leaf l ∷ []; target = Free (InRoot First i); pins = 1; decides = at.Target }
 plan_for (Shrink t i) = removes (a_root t) (InRoot First i)
 plan_for (Retype r f k) = plan_of_retype k r
 plan_for (make_call what r f t b) = plan_of_make what r t b
-plan_for (Map p v r f w) = fills (Two (of_kind kind.Pages p) (of_kind kind.Range r)) First v 1
+plan_for (Map p v r f w) = fills (of_kind kind.Pages p ∷ of_kind kind.Range r ∷ []) First v 1
 plan_for (Unmap p v) = removes (of_kind kind.Pages p) (Under First v)
-plan_for (Touch v) = record { names = Zero; target = Own v; pins = 0; decides = at.Translation }
-plan_for Flush = names_alone Zero 0 at.Clock
-plan_for (Gate k t b) = fills (Two (of_kind kind.Comp k) (of_kind kind.Table t)) Second b 1
-plan_for (Kill k) = names_alone (One (of_kind kind.Comp k)) 1 at.Draw
-plan_for (call_gate g) = names_alone (One (of_kind kind.Gate g)) 1 at.LiveWord
-plan_for Ret = names_alone Zero 1 at.Draw
-plan_for (Switch h q) = names_alone (Two (of_kind kind.Thread h) (of_kind kind.Tcap q)) 4 at.Draw
-plan_for (Tick n) = names_alone Zero 0 at.Head
+plan_for (Touch v) = record { names = []; target = Own v; pins = 0; decides = at.Translation }
+plan_for Flush = names_alone [] 0 at.Clock
+plan_for (Gate k t b) = fills (of_kind kind.Comp k ∷ of_kind kind.Table t ∷ []) Second b 1
+plan_for (Kill k) = names_alone (of_kind kind.Comp k ∷ []) 1 at.Draw
+plan_for (call_gate g) = names_alone (of_kind kind.Gate g ∷ []) 1 at.LiveWord
+plan_for Ret = names_alone [] 1 at.Draw
+plan_for (Switch h q) = names_alone (of_kind kind.Thread h ∷ of_kind kind.Tcap q ∷ []) 4 at.Draw
+plan_for (Tick n) = names_alone [] 0 at.Head
 plan_for (Transfer a b m) = on_two_tcaps a b at.HeadB
 plan_for (Delegate a b m) = on_two_tcaps a b at.HeadB
 plan_for (Test a b) = on_two_tcaps a b at.HeadBAgain

@@ -1,24 +1,13 @@
--- The names of a plan as a list, and where its target is.
-use Rattle.std.specs.Prelude.{List, [], ◌∷◌, Option, Some, None}
+-- What stands at a place of a list of names, and where a target is.
+use Rattle.std.specs.Prelude.{ℕ, List, [], ◌∷◌, ◌++◌, length, nat_lt, if◌then◌else◌, Option, Some, None}
 use Rattle.call_plans.specs.declared.plans.Nth.{Nth}
 use Rattle.call_plans.specs.declared.plans.Nth.TheVariants.{First, Second, Third, Fourth}
-use Rattle.call_plans.specs.declared.plans.Name.{Name}
-use Rattle.call_plans.specs.declared.plans.Names.{Names}
-use Rattle.call_plans.specs.declared.plans.Names.TheVariants.{Zero, One, Two, Three, Four}
 use Rattle.call_plans.specs.declared.plans.Spot.{Spot}
 use Rattle.call_plans.specs.declared.plans.Spot.TheVariants.{Under, InRoot}
 use Rattle.call_plans.specs.declared.plans.Target.{Target}
 use Rattle.call_plans.specs.declared.plans.Target.TheVariants.{Nowhere, Free, Held, Own}
 use Rattle.call_plans.specs.declared.plans.TargetKind.{TargetKind}
 use Rattle.call_plans.specs.declared.plans.TargetKind.TheVariants as target_kind
-
--- the names, the first first
-abbrev pub listed : Names → List Name
-listed Zero = []
-listed (One a) = a ∷ []
-listed (Two a b) = a ∷ b ∷ []
-listed (Three a b c) = a ∷ b ∷ c ∷ []
-listed (Four a b c d) = a ∷ b ∷ c ∷ d ∷ []
 
 -- the first of a list, if it has one, and the list after it
 abbrev pub head : {A : Type 0} → List A → Option A
@@ -29,12 +18,23 @@ abbrev pub tail : {A : Type 0} → List A → List A
 tail [] = []
 tail (x ∷ xs) = xs
 
+-- a place counted from 0
+abbrev pub index_of : Nth → ℕ
+index_of First = 0
+index_of Second = 1
+index_of Third = 2
+index_of Fourth = 3
+
 -- what stands at this place of a list
 abbrev pub at_place : {A : Type 0} → List A → Nth → Option A
 at_place xs First = head xs
 at_place xs Second = head (tail xs)
 at_place xs Third = head (tail (tail xs))
 at_place xs Fourth = head (tail (tail (tail xs)))
+
+-- a list with one item more; four stay as they are
+abbrev pub pushed : {A : Type 0} → List A → A → List A
+pushed xs x = if nat_lt (length xs) 4 then xs ++ x ∷ [] else xs
 
 -- a place under a number, or a root entry
 abbrev pub kind_of_spot : Spot → TargetKind

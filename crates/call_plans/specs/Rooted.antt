@@ -10,7 +10,7 @@ use Rattle.call_plans.specs.declared.plans.Spot.{Spot}
 use Rattle.call_plans.specs.declared.plans.Spot.TheVariants.{Under, InRoot}
 use Rattle.call_plans.specs.declared.plans.Target.{Target}
 use Rattle.call_plans.specs.declared.plans.Target.TheVariants.{Nowhere, Free, Held, Own}
-use Rattle.call_plans.specs.Plans.{listed, at_place}
+use Rattle.call_plans.specs.Plans.{at_place}
 use Rattle.call_plans.specs.PlanOf.{plan_for}
 use Rattle.call_plans.specs.GoesBy.{wants}
 
@@ -35,4 +35,4 @@ IsRooted names (Own v) = Unit {0}
 
 -- The target of each call is in a table to whose root one of its names is to lead.
 abbrev pub AreRooted : Type 0
-AreRooted = (call : Call) → IsRooted (listed (plan_for call).names) (plan_for call).target
+AreRooted = (call : Call) → IsRooted (plan_for call).names (plan_for call).target

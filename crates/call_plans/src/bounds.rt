@@ -2,7 +2,6 @@
 
 ghost use Rattle.std.specs.Prelude.{◌≡◌, ◌≤◌};
 ghost use Rattle.spk_nums.specs.Bounds.{bound_of};
-ghost use Rattle.call_plans.specs.Plans.{listed};
 ghost use Rattle.call_plans.specs.Bounds.{spot_steps, target_steps, look_steps, retype_steps, make_steps, act_steps};
 
 use crate::calls::plan_of;
@@ -21,7 +20,7 @@ pub fn bound(call: &Call, cores: u8) -> u32
 
 /// The steps of the look-ups of a plan: two a name, and those of its target; at most 10.
 pub fn look_steps(plan: &Plan) -> u32
-    ensures exact { result ≡ look_steps (listed plan.now.names) plan.now.target }
+    ensures exact { result ≡ look_steps plan.now.names plan.now.target }
     ensures most { result ≤ 10 }
 {
     2 * u32::from(plan.names.count()) + target_steps(plan.target)

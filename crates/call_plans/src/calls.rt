@@ -18,16 +18,16 @@ pub fn plan_of(call: &Call) -> Plan
     ensures goes { (s : State) (c : ℕ) → GoesBy (own_pages s c) result (rule_of s c call.now) }
 {
     match *call {
-        Call::Look { a } => names_alone(Names::One(any_cap(a)), 0, Decides::LeafEntry),
+        Call::Look { a } => names_alone(Names::one(any_cap(a)), 0, Decides::LeafEntry),
         Call::Copy { a, t, b } => fills(
-            Names::Two(any_cap(a), of_kind(Kind::Table, t)),
+            Names::two(any_cap(a), of_kind(Kind::Table, t)),
             Nth::Second,
             b.number(),
             1,
         ),
         Call::Remove { t, b } => removes(of_kind(Kind::Table, t), under_first(b.number())),
         Call::Grow { t, i, l } => Plan {
-            names: Names::Two(a_root(t), a_leaf(l)),
+            names: Names::two(a_root(t), a_leaf(l)),
             target: Target::Free {
                 spot: Spot::InRoot {
                     root: Nth::First,
@@ -59,34 +59,34 @@ pub fn plan_of(call: &Call) -> Plan
             f: _,
             w: _,
         } => fills(
-            Names::Two(of_kind(Kind::Pages, p), of_kind(Kind::Range, r)),
+            Names::two(of_kind(Kind::Pages, p), of_kind(Kind::Range, r)),
             Nth::First,
             v.number(),
             1,
         ),
         Call::Unmap { p, v } => removes(of_kind(Kind::Pages, p), under_first(v.number())),
         Call::Touch { v } => Plan {
-            names: Names::Zero,
+            names: Names::none(),
             target: Target::Own { page: v },
             pins: 0,
             decides: Decides::Translation,
         },
-        Call::Flush => names_alone(Names::Zero, 0, Decides::Clock),
+        Call::Flush => names_alone(Names::none(), 0, Decides::Clock),
         Call::Gate { c, t, b } => fills(
-            Names::Two(of_kind(Kind::Comp, c), of_kind(Kind::Table, t)),
+            Names::two(of_kind(Kind::Comp, c), of_kind(Kind::Table, t)),
             Nth::Second,
             b.number(),
             1,
         ),
-        Call::Kill { c } => names_alone(Names::One(of_kind(Kind::Comp, c)), 1, Decides::Draw),
-        Call::Call { g } => names_alone(Names::One(of_kind(Kind::Gate, g)), 1, Decides::LiveWord),
-        Call::Ret => names_alone(Names::Zero, 1, Decides::Draw),
+        Call::Kill { c } => names_alone(Names::one(of_kind(Kind::Comp, c)), 1, Decides::Draw),
+        Call::Call { g } => names_alone(Names::one(of_kind(Kind::Gate, g)), 1, Decides::LiveWord),
+        Call::Ret => names_alone(Names::none(), 1, Decides::Draw),
         Call::Switch { h, q } => names_alone(
-            Names::Two(of_kind(Kind::Thread, h), of_kind(Kind::Tcap, q)),
+            Names::two(of_kind(Kind::Thread, h), of_kind(Kind::Tcap, q)),
             4,
             Decides::Draw,
         ),
-        Call::Tick { n: _ } => names_alone(Names::Zero, 0, Decides::Head),
+        Call::Tick { n: _ } => names_alone(Names::none(), 0, Decides::Head),
         Call::Transfer { a, b, m: _ } => on_two_tcaps(a, b, Decides::HeadB),
         Call::Delegate { a, b, m: _ } => on_two_tcaps(a, b, Decides::HeadB),
         Call::Test { a, b } => on_two_tcaps(a, b, Decides::HeadBAgain),
@@ -97,7 +97,7 @@ pub fn plan_of(call: &Call) -> Plan
 fn plan_of_retype(kind: FrameKind, range: CapId) -> Plan
     ensures { result ≡ plan_of_retype kind range }
 {
-    let names = Names::One(of_kind(Kind::Range, range));
+    let names = Names::one(of_kind(Kind::Range, range));
     match kind {
         FrameKind::Untyped => names_alone(names, 2, Decides::Draw),
         FrameKind::User | FrameKind::Kernel => names_alone(names, 0, Decides::FrameWord),
@@ -112,7 +112,7 @@ fn plan_of_make(what: Make, range: CapId, table: CapId, slot: CapId) -> Plan
     let t = of_kind(Kind::Table, table);
     match what {
         Make::Thread { comp } => fills(
-            Names::Three(r, t, of_kind(Kind::Comp, comp)),
+            Names::three(r, t, of_kind(Kind::Comp, comp)),
             Nth::Second,
             slot.number(),
             2,
@@ -122,7 +122,7 @@ fn plan_of_make(what: Make, range: CapId, table: CapId, slot: CapId) -> Plan
             pages,
             live: _,
         } => fills(
-            Names::Four(
+            Names::four(
                 r,
                 t,
                 of_kind(Kind::Table, table),
@@ -132,7 +132,7 @@ fn plan_of_make(what: Make, range: CapId, table: CapId, slot: CapId) -> Plan
             slot.number(),
             3,
         ),
-        _ => fills(Names::Two(r, t), Nth::Second, slot.number(), 1),
+        _ => fills(Names::two(r, t), Nth::Second, slot.number(), 1),
     }
 }
 
@@ -205,7 +205,7 @@ fn removes(name: Name, spot: Spot) -> Plan
     ensures { result ≡ removes name spot }
 {
     Plan {
-        names: Names::One(name),
+        names: Names::one(name),
         target: Target::Held { spot },
         pins: 1,
         decides: Decides::Draw,
@@ -229,7 +229,7 @@ fn on_two_tcaps(a: CapId, b: CapId, decides: Decides) -> Plan
     ensures { result ≡ on_two_tcaps a b decides }
 {
     names_alone(
-        Names::Two(of_kind(Kind::Tcap, a), of_kind(Kind::Tcap, b)),
+        Names::two(of_kind(Kind::Tcap, a), of_kind(Kind::Tcap, b)),
         0,
         decides,
     )

@@ -1,72 +1,99 @@
 //! The capabilities to which the first names of a call have led.
 
-ghost use Rattle.std.specs.Prelude.{◌≡◌, ◌<◌, ◌++◌, ◌∷◌, [], length};
+ghost use Rattle.std.specs.Prelude.{◌≡◌, ◌≤◌, [], length, slice_get};
 ghost use Rattle.kernel_rules.specs.Access.{kind_number};
 ghost use Rattle.kernel_rules.specs.CapabilityCalls.{leaf_of};
-ghost use Rattle.call_plans.specs.Plans.{listed, head, at_place};
+ghost use Rattle.call_plans.specs.Plans.{at_place, pushed};
 ghost use Rattle.call_plans.specs.GoesBy.{wants};
-ghost use Rattle.call_plans.specs.After.{with_found, names_after, next_of};
-ghost use Rattle.call_plans.specs.Found.{capabilities, said};
+ghost use Rattle.call_plans.specs.After.{with_found, next_of};
+ghost use Rattle.call_plans.specs.Found.{said};
 
-use crate::plans::{Name, Names, Next, Nth, Plan, Target, Wanted};
-use spk_nums::{Cap, Kind};
+use crate::plans::{Next, Nth, Plan, Target, Wanted};
+use spk_nums::{Cap, FrameNo, Kind};
+use std::marker::Model;
 
-/// The capabilities, at most four, the first name's first.
+/// The capabilities, at most four, the first name's first; contracts see their list.
 #[derive(Clone, Copy, PartialEq, Eq, Debug)]
-pub enum Caps {
-    Zero,
-    One(Cap),
-    Two(Cap, Cap),
-    Three(Cap, Cap, Cap),
-    Four(Cap, Cap, Cap, Cap),
+pub struct Caps {
+    cells: [Cap; 4],
+    len: u8,
+}
+
+impl Model for Caps {
+    ghost use Rattle.std.specs.Prelude.{List};
+    ghost use Rattle.spk_nums.specs.Capability.{Capability};
+
+    ghost Value = { List Capability };
+
+    ghost use Rattle.call_plans.specs.CapCells.{caps_of, AreCaps, cap_cells, cap_cells-back};
+
+    ghost view = { caps_of };
+
+    ghost invariant = { AreCaps };
+
+    ghost inverse = { cap_cells };
+
+    ghost inverse_ok = { cap_cells-back };
 }
 
 impl Caps {
-    /// The capability to which this name has led, if it has.
+    /// No capability.
     #[inline]
-    pub fn get(&self, at: Nth) -> Option<Cap>
-        ensures { result ≡ at_place (capabilities self.now) at }
+    pub fn none() -> Caps
+        ensures { result ≡ [] }
     {
-        match at {
-            Nth::First => match *self {
-                Caps::Zero => None,
-                Caps::One(a) | Caps::Two(a, _) | Caps::Three(a, _, _) | Caps::Four(a, _, _, _) => {
-                    Some(a)
-                }
-            },
-            Nth::Second => match *self {
-                Caps::Two(_, b) | Caps::Three(_, b, _) | Caps::Four(_, b, _, _) => Some(b),
-                _ => None,
-            },
-            Nth::Third => match *self {
-                Caps::Three(_, _, c) | Caps::Four(_, _, c, _) => Some(c),
-                _ => None,
-            },
-            Nth::Fourth => match *self {
-                Caps::Four(_, _, _, d) => Some(d),
-                _ => None,
-            },
+        Caps {
+            cells: [Cap::new(Kind::Range, FrameNo::new(0), 0); 4],
+            len: 0,
         }
     }
 
-    /// These and one more, where there are fewer than four.
+    /// How many there are, at most 4.
     #[inline]
-    pub fn with(self, cap: Cap) -> Caps
-        requires { length (capabilities self) < 4 }
-        ensures { capabilities result ≡ capabilities self ++ cap ∷ [] }
+    pub fn count(&self) -> u8
+        ensures count { result ≡ length self.now }
+        ensures most { length self.now ≤ 4 }
     {
-        match self {
-            Caps::Zero => Caps::One(cap),
-            Caps::One(a) => Caps::Two(a, cap),
-            Caps::Two(a, b) => Caps::Three(a, b, cap),
-            Caps::Three(a, b, c) => Caps::Four(a, b, c, cap),
-            Caps::Four(_, _, _, _) => self,
+        self.len
+    }
+
+    // The capability in a cell that is used.
+    #[inline]
+    fn cell(&self, at: usize) -> Option<Cap>
+        ensures { result ≡ slice_get self.now at }
+    {
+        if at < usize::from(self.len) {
+            Some(self.cells[at])
+        } else {
+            None
+        }
+    }
+
+    /// The capability to which this name has led, if it has.
+    #[inline]
+    #[tactic(auto, using(crate::proofs::Roots::at_is))]
+    pub fn get(&self, at: Nth) -> Option<Cap>
+        ensures { result ≡ at_place self.now at }
+    {
+        self.cell(at.index())
+    }
+
+    /// Appends one; four stay as they are.
+    #[inline]
+    pub fn push(&mut self, cap: Cap)
+        ensures { self.new ≡ pushed self.old cap }
+    {
+        if self.len < 4 {
+            self.cells[usize::from(self.len)] = cap;
+            self.len += 1;
         }
     }
 
     /// Whether a capability of this kind is wanted, where the earlier names have led to these.
+    #[inline]
+    #[tactic(auto, using(crate::proofs::Roots::wants_leaf))]
     pub fn is_wanted(&self, wanted: Wanted, kind: Kind) -> bool
-        ensures { result ≡ wants (with_found [] (capabilities self.now)) wanted kind }
+        ensures { result ≡ wants (with_found [] self.now) wanted kind }
     {
         match wanted {
             Wanted::Any => true,
@@ -81,6 +108,7 @@ impl Caps {
 }
 
 /// The number of a kind, in their order.
+#[inline]
 fn kind_number(kind: Kind) -> u8
     ensures { result ≡ kind_number kind }
 {
@@ -100,6 +128,7 @@ fn kind_number(kind: Kind) -> u8
 }
 
 /// The kind of the leaf that a root takes.
+#[inline]
 fn leaf_of(kind: Kind) -> Kind
     ensures { result ≡ leaf_of kind }
 {
@@ -109,25 +138,11 @@ fn leaf_of(kind: Kind) -> Kind
     }
 }
 
-impl Names {
-    /// The name that comes after those that have led to these, if there is one.
-    pub fn after(&self, found: &Caps) -> Option<Name>
-        ensures { result ≡ head (names_after (listed self.now) (capabilities found.now)) }
-    {
-        match *found {
-            Caps::Zero => self.get(Nth::First),
-            Caps::One(_) => self.get(Nth::Second),
-            Caps::Two(_, _) => self.get(Nth::Third),
-            Caps::Three(_, _, _) => self.get(Nth::Fourth),
-            Caps::Four(_, _, _, _) => None,
-        }
-    }
-}
-
 impl Plan {
     /// What the call looks up next, where its first names have led to these.
+    #[inline]
     pub fn next(&self, found: &Caps) -> Next
-        ensures { said (with_found [] (capabilities found.now)) result ≡ next_of self.now (capabilities found.now) }
+        ensures { said (with_found [] found.now) result ≡ next_of self.now found.now }
     {
         match self.names.after(found) {
             Some(name) => Next::Name { name },

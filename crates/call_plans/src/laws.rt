@@ -46,6 +46,7 @@ pub fn bound_is_by_plan()
 {}
 
 /// The target of each call is in a table to whose root one of its names is to lead.
+#[tactic(auto, using(crate::proofs::RootedTargets::rooted))]
 pub fn are_rooted()
     ensures { AreRooted }
 {}

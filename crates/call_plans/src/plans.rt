@@ -1,9 +1,12 @@
 //! What a plan is made of.
 
-ghost use Rattle.std.specs.Prelude.{◌≡◌, length};
-ghost use Rattle.call_plans.specs.Plans.{listed, at_place, kind_of_spot, kind_of_target};
+ghost use Rattle.std.specs.Prelude.{◌≡◌, ◌≤◌, [], ◌∷◌, length, slice_get};
+ghost use Rattle.call_plans.specs.Plans.{head, index_of, at_place, kind_of_spot, kind_of_target};
+ghost use Rattle.call_plans.specs.After.{names_after};
 
+use crate::found::Caps;
 use spk_nums::{CapId, EntryNo, Kind, PageNo};
+use std::marker::Model;
 
 /// One of the names of a call, in their order.
 #[derive(Clone, Copy, PartialEq, Eq, Debug)]
@@ -36,14 +39,28 @@ pub struct Name {
     pub wanted: Wanted,
 }
 
-/// The names of a call in the order in which they are looked up, at most four.
+/// The names of a call in the order in which they are looked up, at most four; contracts see their list.
 #[derive(Clone, Copy, PartialEq, Eq, Debug)]
-pub enum Names {
-    Zero,
-    One(Name),
-    Two(Name, Name),
-    Three(Name, Name, Name),
-    Four(Name, Name, Name, Name),
+pub struct Names {
+    cells: [Name; 4],
+    len: u8,
+}
+
+impl Model for Names {
+    ghost use Rattle.std.specs.Prelude.{List};
+    ghost use Rattle.call_plans.specs.declared.plans.Name.{Name};
+
+    ghost Value = { List Name };
+
+    ghost use Rattle.call_plans.specs.NameCells.{names_of, AreNames, name_cells, name_cells-back};
+
+    ghost view = { names_of };
+
+    ghost invariant = { AreNames };
+
+    ghost inverse = { name_cells };
+
+    ghost inverse_ok = { name_cells-back };
 }
 
 /// A place in the table to whose root an earlier name has led.
@@ -133,40 +150,126 @@ pub enum Next {
     Nothing,
 }
 
-impl Names {
-    /// The name at this place, if there are so many.
+impl Nth {
+    /// The place counted from 0, at most 3.
     #[inline]
-    pub fn get(&self, at: Nth) -> Option<Name>
-        ensures { result ≡ at_place (listed self.now) at }
+    pub fn index(self) -> usize
+        ensures index { result ≡ index_of self }
+        ensures most { result ≤ 3 }
     {
-        match (*self, at) {
-            (Names::One(a), Nth::First) => Some(a),
-            (Names::Two(a, _), Nth::First) => Some(a),
-            (Names::Two(_, b), Nth::Second) => Some(b),
-            (Names::Three(a, _, _), Nth::First) => Some(a),
-            (Names::Three(_, b, _), Nth::Second) => Some(b),
-            (Names::Three(_, _, c), Nth::Third) => Some(c),
-            (Names::Four(a, _, _, _), Nth::First) => Some(a),
-            (Names::Four(_, b, _, _), Nth::Second) => Some(b),
-            (Names::Four(_, _, c, _), Nth::Third) => Some(c),
-            (Names::Four(_, _, _, d), Nth::Fourth) => Some(d),
-            _ => None,
+        match self {
+            Nth::First => 0,
+            Nth::Second => 1,
+            Nth::Third => 2,
+            Nth::Fourth => 3,
+        }
+    }
+}
+
+// A cell that holds no name.
+#[inline]
+fn blank() -> Name
+    ensures { result ≡ record { number = 0; wanted = Any } }
+{
+    Name {
+        number: CapId::new(0),
+        wanted: Wanted::Any,
+    }
+}
+
+impl Names {
+    /// No name.
+    #[inline]
+    pub fn none() -> Names
+        ensures { result ≡ [] }
+    {
+        Names {
+            cells: [blank(), blank(), blank(), blank()],
+            len: 0,
         }
     }
 
-    /// How many names there are.
+    /// One name.
+    #[inline]
+    pub fn one(a: Name) -> Names
+        ensures { result ≡ a ∷ [] }
+    {
+        Names {
+            cells: [a, blank(), blank(), blank()],
+            len: 1,
+        }
+    }
+
+    /// Two names.
+    #[inline]
+    pub fn two(a: Name, b: Name) -> Names
+        ensures { result ≡ a ∷ b ∷ [] }
+    {
+        Names {
+            cells: [a, b, blank(), blank()],
+            len: 2,
+        }
+    }
+
+    /// Three names.
+    #[inline]
+    pub fn three(a: Name, b: Name, c: Name) -> Names
+        ensures { result ≡ a ∷ b ∷ c ∷ [] }
+    {
+        Names {
+            cells: [a, b, c, blank()],
+            len: 3,
+        }
+    }
+
+    /// Four names.
+    #[inline]
+    pub fn four(a: Name, b: Name, c: Name, d: Name) -> Names
+        ensures { result ≡ a ∷ b ∷ c ∷ d ∷ [] }
+    {
+        Names {
+            cells: [a, b, c, d],
+            len: 4,
+        }
+    }
+
+    /// How many names there are, at most 4.
     #[inline]
     pub fn count(&self) -> u8
-        ensures count { result ≡ length (listed self.now) }
-        ensures most { result ≤ 4 }
+        ensures count { result ≡ length self.now }
+        ensures most { length self.now ≤ 4 }
     {
-        match self {
-            Names::Zero => 0,
-            Names::One(_) => 1,
-            Names::Two(_, _) => 2,
-            Names::Three(_, _, _) => 3,
-            Names::Four(_, _, _, _) => 4,
+        self.len
+    }
+
+    // The name in a cell that is used.
+    #[inline]
+    fn cell(&self, at: usize) -> Option<Name>
+        ensures { result ≡ slice_get self.now at }
+    {
+        if at < usize::from(self.len) {
+            Some(self.cells[at])
+        } else {
+            None
         }
+    }
+
+    /// The name at this place, if there are so many.
+    #[inline]
+    #[tactic(auto, using(crate::proofs::Roots::at_is))]
+    pub fn get(&self, at: Nth) -> Option<Name>
+        ensures { result ≡ at_place self.now at }
+    {
+        self.cell(at.index())
+    }
+
+    /// The name that comes after those that have led to these, if there is one.
+    #[inline]
+    #[tactic(auto, using(crate::proofs::Roots::next_is))]
+    pub fn after(&self, found: &Caps) -> Option<Name>
+        ensures { result ≡ head (names_after self.now found.now) }
+    {
+        self.cell(usize::from(found.count()))
     }
 }
 
@@ -196,4 +299,4 @@ impl Spot {
     }
 }
 
-ghost use Rattle.std.specs.Prelude.{◌≤◌};
+ghost use Rattle.call_plans.specs.declared.plans.Wanted.TheVariants.{Any};

@@ -17,14 +17,14 @@ use Rattle.turn_rule.specs.declared.view.Entry.{Entry}
 use Rattle.turn_rule.specs.declared.view.Start.{Start}
 use Rattle.turn_rule.specs.Trace.{called, MayCall, word_after, program_after, MayFollow, IsSound}
 use Rattle.turn_rule.proofs.Traces.{kept_along, word_here, word_elsewhere, program_here, program_elsewhere, core_inside}
-use Rattle.flight.specs.declared.stages.InFlight.{InFlight}
-use Rattle.flight.specs.View.{Core}
-use Rattle.flight.specs.Fits.{IsCore}
+use Rattle.call_steps.specs.declared.stages.ActiveCall.{ActiveCall}
+use Rattle.call_steps.specs.View.{Core}
+use Rattle.call_steps.specs.Fits.{IsCore}
 use Rattle.flight.specs.Histories.{IsHistory}
 use Rattle.flight.specs.Made.{turned, MayStep, core_after, cores_after, IsMade, IsMadeStep}
 use Rattle.flight.specs.Phases.{IsWord}
-use Rattle.flight.specs.Stands.{Stands}
-use Rattle.flight.specs.Steps.{started, move_of, absorbed}
+use Rattle.core_invariant.specs.Stands.{Stands}
+use Rattle.call_steps.specs.Cores.{started, move_of, absorbed}
 use Rattle.flight.proofs.ByPlace.{place_is, left_is, told_is, apart_places}
 use Rattle.flight.proofs.CoreFits.{begun_fits}
 use Rattle.flight.proofs.Made.{made_stands, made_histories}
@@ -34,12 +34,12 @@ use Rattle.core_kernel.specs.declared.core_run.CoreRun.{CoreRun}
 use Rattle.core_kernel.specs.Running.{run_of, next_in, running}
 use Rattle.core_kernel.specs.Seen.{core_by, step_by, trace_of, IsStart}
 
--- a program with a next step has a call in flight, and makes the step machine's step
-next_some : (core : Core) (o : Option InFlight) (op : WordOp) → next_in core o ≡ Some op → (op ≡ op_of core.shape (move_of core)) × IsSome o
+-- a program with a next step has a active call, and makes the step machine's step
+next_some : (core : Core) (o : Option ActiveCall) (op : WordOp) → next_in core o ≡ Some op → (op ≡ op_of core.own.layout (move_of core)) × IsSome o
 next_some core None op is = absurd (cc)
 next_some core (Some f) op is = (cc, refl)
 
-next_none : (core : Core) (o : Option InFlight) → IsNone (next_in core o) → o ≡ None
+next_none : (core : Core) (o : Option ActiveCall) → IsNone (next_in core o) → o ≡ None
 next_none core None is = refl
 next_none core (Some f) is = absurd (cc)
 
@@ -48,13 +48,13 @@ called_state : (p : CoreRun) (o : Option Call) → (called running p o).state �
 called_state p None = refl
 called_state p (Some call) = refl
 
-turned_shape : (o : Option Call) (core : Core) → (turned o core).shape ≡ core.shape
+turned_shape : (o : Option Call) (core : Core) → (turned o core).own.layout ≡ core.own.layout
 turned_shape None core = refl
 turned_shape (Some call) core = refl
 
 may_step : (p : CoreRun) (o : Option Call) (op : WordOp) → MayCall running p o → running.next (called running p o) ≡ Some op → MayStep o p.state
-may_step p None op may next = (next_some p.state p.state.flight op next).1
-may_step p (Some call) op may next = record { between = next_none p.state p.state.flight may.0; built = may.1.built; limits = may.1.limits }
+may_step p None op may next = (next_some p.state p.state.active op next).1
+may_step p (Some call) op may next = record { between = next_none p.state p.state.active may.0; built = may.1.built; limits = may.1.limits }
 
 turned_fits : (o : Option Call) (core : Core) → MayStep o core → IsCore core → IsCore (turned o core)
 turned_fits None core may fits = fits
@@ -67,11 +67,11 @@ started_state c setup p o is runs = let same : run_of (started c setup) None ≡
 the_same : (x y : CoreRun) (o : Option CoreRun) → o ≡ Some x → o ≡ Some y → x ≡ y
 the_same x y o i j = cc
 
--- the step of an entry, of a program p: its core is the trace's, fits, and has a call in flight, and takes in what the step tells
+-- the step of an entry, of a program p: its core is the trace's, fits, and has a active call, and takes in what the step tells
 pub record EntryIs (setup : Setting) (t : List (Entry Call)) (e : Entry Call) (p : CoreRun) : Type 0 where
   pub core : (called running p e.call).state ≡ core_by setup (trace_of setup t) e
   pub fits : IsCore (core_by setup (trace_of setup t) e)
-  pub in_call : IsSome (core_by setup (trace_of setup t) e).flight
+  pub in_call : IsSome (core_by setup (trace_of setup t) e).active
   pub told : (op : WordOp) → running.next (called running p e.call) ≡ Some op → table.told_by op e.found ≡ told_of (move_of (core_by setup (trace_of setup t) e)) e.found
 
 module _ (setup : Setting) (setting : IsSetting setup) (start : Start CoreRun) (is : IsStart setup start) where
@@ -124,15 +124,15 @@ module _ (setup : Setting) (setting : IsSetting setup) (start : Start CoreRun) (
     fits : IsCore core
     fits = turned_fits e.call (cores_after setup (trace_of setup t) c) may (stands.each c inside).fits
 
-    in_call : IsSome core.flight
-    in_call = subst (λ k. IsSome k.flight) is_core (next_some q.state q.state.flight m.step.op m.step.next).1
+    in_call : IsSome core.active
+    in_call = subst (λ k. IsSome k.active) is_core (next_some q.state q.state.active m.step.op m.step.next).1
 
-    shape_is : core.shape ≡ shape_of setup
+    shape_is : core.own.layout ≡ shape_of setup
     shape_is = turned_shape e.call (cores_after setup (trace_of setup t) c) ∙ (stands.each c inside).shape
 
     op_same : (op : WordOp) → running.next q ≡ Some op → op ≡ op_of (shape_of setup) (move_of core)
-    op_same op next = (next_some q.state q.state.flight op next).0
-        ∙ ap (λ k. op_of k.shape (move_of k)) is_core ∙ ap (λ s. op_of s (move_of core)) shape_is
+    op_same op next = (next_some q.state q.state.active op next).0
+        ∙ ap (λ k. op_of k.own.layout (move_of k)) is_core ∙ ap (λ s. op_of s (move_of core)) shape_is
 
     op_is : m.step.op ≡ op_of (shape_of setup) (move_of core)
     op_is = op_same m.step.op m.step.next
@@ -199,8 +199,8 @@ module _ (setup : Setting) (setting : IsSetting setup) (start : Start CoreRun) (
   pub is_history : (t : List (Entry Call)) → IsSound running start t → IsHistory setup (trace_of setup t)
   is_history t sound = made_histories setup setting (trace_of setup t) (along t sound).made
 
-  -- a core whose program has no call in flight is between calls
-  pub is_out : (t : List (Entry Call)) → IsSound running start t → (c : ℕ) (p : CoreRun) → program_after running start t c ≡ Some p → p.state.flight ≡ None → phase (trace_of setup t) c ≡ Out
+  -- a core whose program has no active call is between calls
+  pub is_out : (t : List (Entry Call)) → IsSound running start t → (c : ℕ) (p : CoreRun) → program_after running start t c ≡ Some p → p.state.active ≡ None → phase (trace_of setup t) c ≡ Out
   is_out t sound c p runs none =
       let a = along t sound in
-      (made_phases setup setting (trace_of setup t) a.made c (here t c p runs)).out (ap (λ x. x.flight) (sym (a.runs c p runs)) ∙ none)
+      (made_phases setup setting (trace_of setup t) a.made c (here t c p runs)).out (ap (λ x. x.active) (sym (a.runs c p runs)) ∙ none)

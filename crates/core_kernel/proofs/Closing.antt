@@ -21,11 +21,11 @@ use Rattle.turn_rule.specs.Trace.{program_after, IsSound, AreOfOthers}
 use Rattle.turn_rule.specs.Seats as turns
 use Rattle.turn_rule.specs.Seats.{TableValue, SeatValue}
 use Rattle.turn_rule.proofs.Traces.{program_stays}
-use Rattle.flight.specs.View.{Core}
-use Rattle.flight.specs.Steps.{started, end_of}
+use Rattle.call_steps.specs.View.{Core}
+use Rattle.call_steps.specs.Cores.{started, end_of}
 use Rattle.flight.proofs.Alike.{like}
 use Rattle.flight.proofs.Final.{represents}
-use Rattle.flight.proofs.Sounds.{limits_of}
+use Rattle.core_invariant.proofs.Sounds.{limits_of}
 use Rattle.core_kernel.specs.declared.core_run.CoreRun.{CoreRun}
 use Rattle.core_kernel.specs.Running.{run_of, running}
 use Rattle.core_kernel.specs.Seen.{IsStart, trace_of}
@@ -57,9 +57,9 @@ some_word setup setting =
     let below = (has_places (shape_of setup) is).below ClockAt tt in
     omega arith
 
-pub programs_fit : (setup : Setting) (programs : List CoreRun) (words : List ℕ) → ArePrograms setup setup.cores programs → length words ≡ size_of (shape_of setup) → All (λ p. size_of p.state.shape ≡ length words) programs
+pub programs_fit : (setup : Setting) (programs : List CoreRun) (words : List ℕ) → ArePrograms setup setup.cores programs → length words ≡ size_of (shape_of setup) → All (λ p. size_of p.state.own.layout ≡ length words) programs
 programs_fit setup programs words are size k d h =
-    ap (λ p. size_of p.state.shape) (get_or_from_slice_get programs k (run_of (started k setup) None) d (are.each k (let n = are.count in omega arith))) ∙ sym size
+    ap (λ p. size_of p.state.own.layout) (get_or_from_slice_get programs k (run_of (started k setup) None) d (are.each k (let n = are.count in omega arith))) ∙ sym size
 
 is_start : (setup : Setting) (start : Start CoreRun) (words : List ℕ) (programs : List CoreRun) → start.words ≡ words → start.programs ≡ programs → length words ≡ size_of (shape_of setup)
     → ((w : Word) → IsIn (shape_of setup) w → word_in (shape_of setup) words w ≡ boot_word setup (shared w)) → ArePrograms setup setup.cores programs → IsStart setup start
@@ -91,7 +91,7 @@ fresh_seats setup table seats booted all fresh k d h =
         sound = subst (λ (l : List (Entry Call)). IsSound running s.table.start l) (sym (fresh.seen k s at)) tt;
         runs = ap (λ (l : List (Entry Call)). program_after running s.table.start l s.core) (fresh.seen k s at) ∙ program;
       };
-      between = ap (λ p. p.state.flight) began;
+      between = ap (λ p. p.state.active) began;
     }
 
 -- a member of a mapped list is that of a member
@@ -135,7 +135,7 @@ module _ (setup : Setting) (table : TableValue CoreRun) (booted : IsBooted setup
       t = end.trace
 
       -- the program of each core at the end is that of its seat, between calls
-      program_at : (k : ℕ) → k < setup.cores → (p : CoreRun) × (slice_get programs k ≡ Some p) × (p.state.flight ≡ None)
+      program_at : (k : ℕ) → k < setup.cores → (p : CoreRun) × (slice_get programs k ≡ Some p) × (p.state.active ≡ None)
       program_at k h =
           let inside : k < length xs = (let n = all_unwrapped.count in let m = booted.start.count in omega arith) in
           let s = get_or xs k (first_of xs k inside) in
@@ -155,17 +155,17 @@ module _ (setup : Setting) (table : TableValue CoreRun) (booted : IsBooted setup
           first_of [] n h = absurd (omega arith)
           first_of (x ∷ l) n h = x
 
-      pub ended_between : All (λ p. p.state.flight ≡ None) programs
+      pub ended_between : All (λ p. p.state.active ≡ None) programs
       ended_between k d h =
           let p = program_at k (let n = end.program_count in let m = booted.start.count in omega arith) in
-          ap (λ q. q.state.flight) (get_or_from_slice_get programs k p.0 d p.1) ∙ p.2
+          ap (λ q. q.state.active) (get_or_from_slice_get programs k p.0 d p.1) ∙ p.2
 
       pub ends_at : (ends : List CoreEnd) → ends ≡ map (λ p. end_of p.state) programs → EndsAt (kernel_value setup table) seats words ends
       ends_at ends ends_are =
           let a = along setup booted.setting table.start booted.start t end.sound in
           let cores = cores_after setup (trace_of setup t) in
           let state : (c : ℕ) (h : c < setup.cores) → (program_at c h).0.state ≡ cores c = λ c h. a.runs c (program_at c h).0 (sym (end.program c) ∙ (program_at c h).1) in
-          let between : (c : ℕ) → c < setup.cores → (cores c).flight ≡ None = λ c h. ap (λ k. k.flight) (sym (state c h)) ∙ (program_at c h).2 in
+          let between : (c : ℕ) → c < setup.cores → (cores c).active ≡ None = λ c h. ap (λ k. k.active) (sym (state c h)) ∙ (program_at c h).2 in
           record {
             trace = trace_of setup t;
             history = is_history setup booted.setting table.start booted.start t end.sound;

@@ -33,20 +33,20 @@ has_seen setup s is = record {
 }
 
 -- where the seat's core stands
-pub front_core : (setup : Setting) (s : SeatValue CoreRun Call) → IsSeat setup s → s.program.state.core ≡ s.core
+pub front_core : (setup : Setting) (s : SeatValue CoreRun Call) → IsSeat setup s → s.program.state.own.core ≡ s.core
 front_core setup s is =
     let a = along setup is.booted.setting s.table.start is.booted.start s.seen is.follows.sound in
     let inside = here setup is.booted.setting s.table.start is.booted.start s.seen s.core s.program is.follows.runs in
-    ap (λ k. k.core) (a.runs s.core s.program is.follows.runs) ∙ ((made_stands setup is.booted.setting (trace_of setup s.seen) a.made).each s.core inside).number
+    ap (λ k. k.own.core) (a.runs s.core s.program is.follows.runs) ∙ ((made_stands setup is.booted.setting (trace_of setup s.seen) a.made).each s.core inside).number
 
-pub front_calls : (setup : Setting) (s : SeatValue CoreRun Call) → IsSeat setup s → s.program.state.made ≡ ((state_after setup (trace_of setup s.seen)).core s.core).counted
+pub front_calls : (setup : Setting) (s : SeatValue CoreRun Call) → IsSeat setup s → s.program.state.own.made ≡ ((state_after setup (trace_of setup s.seen)).core s.core).counted
 front_calls setup s is =
     let a = along setup is.booted.setting s.table.start is.booted.start s.seen is.follows.sound in
     let inside = here setup is.booted.setting s.table.start is.booted.start s.seen s.core s.program is.follows.runs in
-    ap (λ k. k.made) (a.runs s.core s.program is.follows.runs) ∙ ((made_stands setup is.booted.setting (trace_of setup s.seen) a.made).each s.core inside).works.made
+    ap (λ k. k.own.made) (a.runs s.core s.program is.follows.runs) ∙ ((made_stands setup is.booted.setting (trace_of setup s.seen) a.made).each s.core inside).works.made
 
 -- a seat that has gone on is one
-pub still_seat : (setup : Setting) (seat on : SeatValue CoreRun Call) (calls : List Call) → IsSeat setup seat → GoesOn setup seat calls on → on.program.state.flight ≡ None → IsSeat setup on
+pub still_seat : (setup : Setting) (seat on : SeatValue CoreRun Call) (calls : List Call) → IsSeat setup seat → GoesOn setup seat calls on → on.program.state.active ≡ None → IsSeat setup on
 still_seat setup seat on calls is goes between = record {
   booted = subst (IsBooted setup) (sym goes.table) is.booted;
   follows = goes.follows;
@@ -54,7 +54,7 @@ still_seat setup seat on calls is goes between = record {
 }
 
 -- a seat that has gone on through one call has made it
-pub makes_call : (setup : Setting) (seat on : SeatValue CoreRun Call) (call : Call) (r : Reply) → IsSeat setup seat → GoesOn setup seat (call ∷ []) on → on.program.state.flight ≡ None
+pub makes_call : (setup : Setting) (seat on : SeatValue CoreRun Call) (call : Call) (r : Reply) → IsSeat setup seat → GoesOn setup seat (call ∷ []) on → on.program.state.active ≡ None
     → on.program.last ≡ Some r → MakesCall (seat_value setup seat) call r (seat_value setup on)
 makes_call setup seat on call r is goes between last =
     let now = still_seat setup seat on (call ∷ []) is goes between in
@@ -90,7 +90,7 @@ module _ (setup : Setting) where
   met_seat seat met note is m follows = record {
     booted = subst (IsBooted setup) (sym m.table) is.booted;
     follows = follows;
-    between = ap (λ p. p.state.flight) m.program ∙ is.between;
+    between = ap (λ p. p.state.active) m.program ∙ is.between;
   }
 
   -- and has seen what the note tells

@@ -12,12 +12,12 @@ use Rattle.spk_nums.specs.WordSteps as table
 use Rattle.turn_rule.specs.Trace.{entry, called, program_after, IsSound}
 use Rattle.turn_rule.proofs.Traces.{program_stays}
 use Rattle.turn_rule.specs.Seats.{SeatValue, MakesStep, FollowsTrace}
-use Rattle.flight.specs.View.{Core}
-use Rattle.flight.specs.Fits.{IsCore, steps_left}
-use Rattle.flight.specs.Made.{returned_in}
-use Rattle.flight.specs.Steps.{move_of, absorbed, told_of_step}
+use Rattle.call_steps.specs.View.{Core}
+use Rattle.call_steps.specs.Fits.{IsCore, steps_left}
+use Rattle.core_invariant.specs.Events.{returned_in}
+use Rattle.call_steps.specs.Cores.{move_of, absorbed, told_of_step}
 use Rattle.word_map.specs.Moves.{told_of}
-use Rattle.flight.specs.declared.stages.InFlight.{InFlight}
+use Rattle.call_steps.specs.declared.stages.ActiveCall.{ActiveCall}
 use Rattle.flight.proofs.AfterStep.{absorbed_returns}
 use Rattle.flight.proofs.CoreFits.{absorbed_fewer}
 use Rattle.core_kernel.specs.declared.core_run.CoreRun.{CoreRun}
@@ -44,10 +44,10 @@ the_same : {A : Type 0} (x y : A) (o : Option A) → o ≡ Some x → o ≡ Some
 the_same x y o i j = cc
 
 -- a core whose step leaves it between calls keeps the reply that the step returns
-returns_kept : (p : CoreRun) (core : Core) (last : Option Reply) (n : ℕ) → p ≡ record { state = absorbed core n; last = answered last (returned_in (told_of_step core n)) } → IsSome core.flight → p.state.flight ≡ None
+returns_kept : (p : CoreRun) (core : Core) (last : Option Reply) (n : ℕ) → p ≡ record { state = absorbed core n; last = answered last (returned_in (told_of_step core n)) } → IsSome core.active → p.state.active ≡ None
     → (r : Reply) × (p.last ≡ Some r) × (returned_in (told_of_step core n) ≡ Some r)
 returns_kept p core last n is some none =
-    let r = absorbed_returns core n some (ap (λ q. q.state.flight) (sym is) ∙ none) in
+    let r = absorbed_returns core n some (ap (λ q. q.state.active) (sym is) ∙ none) in
     (r.0, ap (λ q. q.last) is ∙ ap (answered last) r.1, r.1)
 
 module _ (setup : Setting) (seat : SeatValue CoreRun Call) (call : Option Call) (op : WordOp) (made : SeatValue CoreRun Call)
@@ -114,11 +114,11 @@ module _ (setup : Setting) (seat : SeatValue CoreRun Call) (call : Option Call) 
   -- and leaves the call fewer steps
   pub fewer : steps_left made.program.state < steps_left (called running seat.program call).state
   fewer =
-      let f = some_of core.flight is.in_call in
+      let f = some_of core.active is.in_call in
       let less = absorbed_fewer core f.0 (told_of (move_of core) m.found) f.1 is.fits in
       subst (λ (z : Core × Core). steps_left z.0 < steps_left z.1) (λ i. (ap (λ q. q.state) (sym program_is) i, sym is.core i)) less
     where
-      some_of : (o : Option InFlight) → IsSome o → (f : InFlight) × (o ≡ Some f)
+      some_of : (o : Option ActiveCall) → IsSome o → (f : ActiveCall) × (o ≡ Some f)
       some_of None some = absurd (cc)
       some_of (Some f) some = (f, refl)
 

@@ -42,7 +42,7 @@ pub record IsBooted (setup : Setting) (table : TableValue CoreRun) : Type 0 wher
 pub record IsSeat (setup : Setting) (s : SeatValue CoreRun Call) : Type 0 where
   pub booted : IsBooted setup s.table
   pub follows : FollowsTrace running s
-  pub between : s.program.state.flight ≡ None
+  pub between : s.program.state.active ≡ None
 
 -- These are all seats of the kernel, in the order of their cores.
 pub record AreAllSeats (of : KernelValue) (seats : List CoreSeatValue) : Type 0 where

@@ -8,10 +8,10 @@ use Rattle.spk_nums.specs.declared.steps.WordOp.{WordOp}
 use Rattle.word_map.specs.Places.{size_of}
 use Rattle.word_map.specs.Moves.{op_of}
 use Rattle.turn_rule.specs.Steps.{Steps}
-use Rattle.flight.specs.declared.stages.InFlight.{InFlight}
-use Rattle.flight.specs.View.{Core}
-use Rattle.flight.specs.Steps.{begun, move_of, absorbed, told_of_step}
-use Rattle.flight.specs.Made.{returned_in}
+use Rattle.call_steps.specs.declared.stages.ActiveCall.{ActiveCall}
+use Rattle.call_steps.specs.View.{Core}
+use Rattle.call_steps.specs.Cores.{begun, move_of, absorbed, told_of_step}
+use Rattle.core_invariant.specs.Events.{returned_in}
 use Rattle.core_kernel.specs.declared.core_run.CoreRun.{CoreRun}
 
 -- A call can be made: it is carried out, and within its limits.
@@ -22,10 +22,10 @@ pub record CanCall (call : Call) : Type 0 where
 abbrev pub run_of : Core → Option Reply → CoreRun
 run_of core last = record { state = core; last = last }
 
--- The next step of a core with this call in flight, by the place of its word; there is none between calls.
-abbrev pub next_in : Core → Option InFlight → Option WordOp
+-- The next step of a core with this active call, by the place of its word; there is none between calls.
+abbrev pub next_in : Core → Option ActiveCall → Option WordOp
 next_in core None = None
-next_in core (Some f) = Some (op_of core.shape (move_of core))
+next_in core (Some f) = Some (op_of core.own.layout (move_of core))
 
 -- The reply of the last call, after a step that may return one.
 abbrev pub answered : Option Reply → Option Reply → Option Reply
@@ -35,9 +35,9 @@ answered last (Some r) = Some r
 -- A core's program goes on as the step machine does.
 abbrev pub running : Steps CoreRun Call
 running = record {
-  next = λ p. next_in p.state p.state.flight;
+  next = λ p. next_in p.state p.state.active;
   after = λ p n. run_of (absorbed p.state n) (answered p.last (returned_in (told_of_step p.state n)));
   fit = λ p call. CanCall call;
   begun = λ p call. run_of (begun p.state call) p.last;
-  size = λ p. size_of p.state.shape;
+  size = λ p. size_of p.state.own.layout;
 }

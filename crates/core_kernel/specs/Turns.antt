@@ -4,7 +4,7 @@ use Rattle.spk_nums.specs.declared.calls.Call.{Call}
 use Rattle.spk_nums.specs.Setting.{Setting}
 use Rattle.kernel_history.specs.Trace.{Trace, calls_of}
 use Rattle.turn_rule.specs.Seats.{SeatValue, FollowsTrace}
-use Rattle.flight.specs.Steps.{started}
+use Rattle.call_steps.specs.Cores.{started}
 use Rattle.core_kernel.specs.declared.core_run.CoreRun.{CoreRun}
 use Rattle.core_kernel.specs.Running.{running, run_of}
 use Rattle.core_kernel.specs.Seen.{trace_of}
@@ -13,7 +13,7 @@ use Rattle.core_kernel.specs.Kernel.{CoreSeatValue, IsSeat, seat_value}
 
 -- Where the core is between calls, its newest step has just returned the reply that is kept.
 abbrev pub HasReturned : Setting → SeatValue CoreRun Call → Type 0
-HasReturned setup s = s.program.state.flight ≡ None → IsSomeAnd s.program.last (λ r. EndsWith s.core r (trace_of setup s.seen))
+HasReturned setup s = s.program.state.active ≡ None → IsSomeAnd s.program.last (λ r. EndsWith s.core r (trace_of setup s.seen))
 
 -- The seat's trace goes on by steps in which its core begins these calls.
 pub record GoesOn (setup : Setting) (seat : SeatValue CoreRun Call) (entered : List Call) (on : SeatValue CoreRun Call) : Type 0 where

@@ -1,7 +1,7 @@
 //! The program that a core runs at the shared table.
 
 ghost use Rattle.std.specs.Prelude.{◌≡◌, ◌<◌, None};
-ghost use Rattle.flight.specs.Steps.{started};
+ghost use Rattle.call_steps.specs.Cores.{started};
 ghost use Rattle.core_kernel.specs.Running.{run_of};
 
 use flight::{Absorbed, CoreState};

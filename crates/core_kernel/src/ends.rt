@@ -3,7 +3,7 @@
 ghost use Rattle.std.specs.Prelude.{◌≡◌, IfOk, All, map, None};
 ghost use Rattle.spk_nums.specs.Setting.{IsSetting};
 ghost use Rattle.kernel_history.specs.BootWords.{shape_of};
-ghost use Rattle.flight.specs.Steps.{end_of};
+ghost use Rattle.call_steps.specs.Cores.{end_of};
 ghost use Rattle.core_kernel.specs.Kernel.{AreAllSeats, AreFresh, IsSeat, seat_value};
 ghost use Rattle.core_kernel.specs.Calls.{EndsAt};
 ghost use Rattle.core_kernel.specs.Turns.{ArePrograms, AreWrapped};
@@ -69,7 +69,7 @@ fn turn_seats_of(
 
 // Where each core ended.
 fn ends_of(alloc: Global, programs: &[CoreRun]) -> Result<Vec<CoreEnd>, AllocError>
-    requires { All (λ p. p.state.flight ≡ None) programs.now }
+    requires { All (λ p. p.state.active ≡ None) programs.now }
     ensures { IfOk result (λ ends. ends.items ≡ map (λ p. end_of p.state) programs.now) }
 {
     let mut ends = Vec::with_capacity(alloc, programs.len())?;

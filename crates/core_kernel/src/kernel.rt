@@ -39,9 +39,9 @@ impl Kernel {
         requires follows { FollowsTrace running seat.old }
         requires returned { HasReturned self.now.setup seat.old }
         ensures goes { GoesOn self.now.setup seat.old [] seat.new }
-        ensures between { seat.new.program.state.flight ≡ None }
+        ensures between { seat.new.program.state.active ≡ None }
     {
-        // A turn lends the core's state, which has a call in flight.
+        // A turn lends the core's state, which has a active call.
         let _made: Option<Make> = None;
         while self.table.turn(seat) {}
     }

@@ -34,9 +34,9 @@ use Rattle.kernel_history.proofs.StartRefs.{refs_most}
 use Rattle.kernel_history.proofs.GraceSteps.{grace_start, times_start}
 use Rattle.stage_look.specs.Shown.{CapNames}
 use Rattle.kernel_history.specs.Marking.{marked_by}
-use Rattle.flight.specs.Holding.{settled_by}
-use Rattle.flight.specs.Words.{PlaceIs, IsObjectWord, IsFrameWord, NumberIs, WordIs}
-use Rattle.flight.specs.Stands.{held_by, times_of}
+use Rattle.core_invariant.specs.Holding.{settled_by}
+use Rattle.core_invariant.specs.Words.{PlaceIs, IsObjectWord, IsFrameWord, NumberIs, WordIs}
+use Rattle.core_invariant.specs.Stands.{held_by, times_of}
 use Rattle.flight.specs.Made.{boot_cores}
 use Rattle.flight.specs.Theorems.{Boots}
 use Rattle.flight.proofs.CoreFits.{started_fits}
@@ -275,7 +275,7 @@ boots setup setting = record {
     };
     exit = refl;
     flushed = refl;
-    flight = refl;
+    active = refl;
   };
   away = λ c past. record { out = refl; none = refl; idle = refl };
 }

@@ -1,46 +1,56 @@
 -- The entry of a call is good: its calls are spent, its first name has no slot, or it looks that name up.
-use Rattle.std.proofs.Common.{◌≡◌, inl, ℕ, ◌+◌, ◌<◌, ◌≤◌, ◌∷◌, Bool, true, false, nat_le, Some, None, arith, refl, sym, ◌∙◌, ap, subst, IsTrue}
+use Rattle.std.proofs.Common.{◌≡◌, ℕ, ◌+◌, ◌<◌, ◌≤◌, ◌^◌, [], ◌∷◌, Bool, true, false, nat_le, Some, None, arith, refl, sym, ◌∙◌, ap, subst, IsTrue}
 use Rattle.std.proofs.lemmas.Bool.{leb-true}
-use Rattle.supported_calls.specs.Built.{IsBuilt}
 use Rattle.spk_nums.specs.Setting.{Setting, IsSetting}
+use Rattle.spk_nums.specs.declared.kinds.Kind.{Kind}
 use Rattle.spk_nums.specs.declared.calls.Call.{Call}
 use Rattle.spk_nums.specs.declared.calls.Call.TheVariants.{Look as look_call, Copy}
 use Rattle.spk_nums.specs.declared.replies.Reply.TheVariants as reply
+use Rattle.supported_calls.specs.Built.{IsBuilt}
 use Rattle.word_map.specs.Word.{CoreAt}
-use Rattle.word_map.specs.Places.{IsIn}
+use Rattle.word_map.specs.Places.{IsIn as IsInShape}
 use Rattle.word_map.specs.Moves.{StoreOf}
 use Rattle.kernel_rules.specs.State.{State, comp_of}
-use Rattle.kernel_rules.specs.Access.{root_at, any, reached, has_no_slot, own}
+use Rattle.kernel_rules.specs.Access.{root_at, reached, has_no_slot, own}
 use Rattle.kernel_rules.specs.Relies.{Relies}
 use Rattle.kernel_rules.specs.GracePeriods.{entered}
 use Rattle.kernel_rules.specs.Rules.{RuleMay, Refused}
 use Rattle.kernel_rules.specs.CallRelation.{rule_of, change_of, are_calls_spent, counted}
 use Rattle.kernel_rules.proofs.Within.{put_same}
-use Rattle.kernel_history.specs.Trace.{Step, Trace, Out, Open, phase, state_after, last_left}
 use Rattle.kernel_history.specs.BootWords.{shape_of}
+use Rattle.kernel_history.specs.Trace.{Step, Trace, Out, Open, phase, state_after, last_left}
 use Rattle.kernel_history.specs.Legal.{MayFollow}
 use Rattle.kernel_history.proofs.AloneCalls.{spent_first, refused_first}
 use Rattle.kernel_history.proofs.Steps.{phase-own}
 use Rattle.kernel_history.proofs.Stays.{relies_table, entered_comp}
-use Rattle.flight.specs.declared.stages.Want.TheVariants.{First}
-use Rattle.flight.specs.declared.stages.Stage.TheVariants.{Looking, Exit}
-use Rattle.flight.specs.declared.stages.Took.{Took}
-use Rattle.flight.specs.declared.stages.Took.TheVariants.{Goes}
 use Rattle.stage_look.specs.declared.look.Look.TheVariants.{AtRoot}
-use Rattle.flight.specs.View.{Core}
-use Rattle.flight.specs.Stages.{core_word, decide, looks, first_name, took_enter}
-use Rattle.flight.specs.Steps.{fresh, landed, told, is_spent, begun}
-use Rattle.flight.specs.Knows.{LooksUp, own_in, KnowsFirst, FlightIs}
-use Rattle.flight.specs.Stands.{Stands}
-use Rattle.flight.specs.Made.{MayBegin, decided_in, returned_in}
-use Rattle.flight.proofs.Good.{IsGood}
-use Rattle.flight.proofs.Calm.{calm_entered, calm_counted, calm_then}
-use Rattle.flight.proofs.Loads.{Lands, step_to}
-use Rattle.flight.proofs.Writes.{clock_small, core_small, enters_on}
-use Rattle.flight.proofs.Sounds.{limits_of}
-use Rattle.flight.proofs.Findings.{past_slot, past_unreached, named_no_slot}
-use Rattle.flight.proofs.LookLeaves.{look_refused}
-use Rattle.flight.proofs.CopyLeaves.{copy_refused_first}
+use Rattle.call_plans.specs.GoesBy.{own_pages}
+use Rattle.call_plans.specs.PlanOf.{plan_for}
+use Rattle.call_plans.specs.After.{Next, NextName, next_of, NextMay}
+use Rattle.call_plans.proofs.CallsGoBy.{calls_go}
+use Rattle.call_plans.proofs.AfterNames.{next_may}
+use Rattle.call_steps.specs.declared.refusals.Refusal.TheVariants as refusal
+use Rattle.call_steps.specs.declared.stages.Work.TheVariants.{Lookup}
+use Rattle.call_steps.specs.declared.stages.WorkStep.TheVariants.{Goes}
+use Rattle.call_steps.specs.declared.stages.Tail.TheVariants.{Nothing}
+use Rattle.call_steps.specs.declared.stages.Stage.TheVariants.{Undecided, Decided}
+use Rattle.call_steps.specs.View.{Core}
+use Rattle.call_steps.specs.Acts.{refuse}
+use Rattle.call_steps.specs.Lookups.{looks_under, next_step}
+use Rattle.call_steps.specs.Steps.{core_word, Took, landed, next_by, took_enter, is_spent}
+use Rattle.call_steps.specs.Cores.{fresh, core_after, told_by}
+use Rattle.core_invariant.specs.Events.{decided_in, returned_in}
+use Rattle.core_invariant.specs.Knows.{LooksUp, own_in, LooksFor, CallIs}
+use Rattle.core_invariant.specs.Stands.{Stands}
+use Rattle.core_invariant.proofs.Sounds.{limits_of}
+use Rattle.core_invariant.proofs.Good.{IsGood}
+use Rattle.core_invariant.proofs.Calm.{calm_entered, calm_counted, calm_then}
+use Rattle.core_invariant.proofs.Loads.{Lands, step_to}
+use Rattle.core_invariant.proofs.Writes.{clock_small, core_small, enters_on}
+use Rattle.flight.specs.Made.{MayBegin}
+use Rattle.plan_ways.specs.Laws.{NextRefused}
+use Rattle.plan_ways.proofs.Ways.{next_first}
+use Rattle.work_invariant.proofs.Findings.{past_slot, past_unreached, named_no_slot}
 
 module _ (setup : Setting) (setting : IsSetting setup) (cores : ℕ → Core) (t : Trace) (stands : Stands setup cores t) (c : ℕ) (here : c < setup.cores)
     (call : Call) (may : MayBegin call (cores c)) where
@@ -51,24 +61,24 @@ module _ (setup : Setting) (setting : IsSetting setup) (cores : ℕ → Core) (t
   was = last_left setup t (CoreAt c)
 
   abbrev step : Took → Step
-  step took = step_to c (Some call) (StoreOf (CoreAt c) (core_word true (cores c).exit)) was (decided_in (told took)) (returned_in (told took))
+  step took = step_to c (Some call) (StoreOf (CoreAt c) (core_word true (cores c).own.exit)) was (decided_in (told_by took)) (returned_in (told_by took))
 
   abbrev pub GoodEntry : Took → Type 0
-  GoodEntry took = Lands setup (landed (begun (cores c) call) (fresh call) took) (CoreAt c) → IsGood setup cores t (step took) (landed (begun (cores c) call) (fresh call) took)
+  GoodEntry took = Lands setup (core_after (cores c).own took) (CoreAt c) → IsGood setup cores t (step took) (core_after (cores c).own took)
 
   same_count : ((entered s c).core c).counted ≡ (s.core c).counted
   same_count = ap (λ k. k.counted) (put_same s.core c (record (s.core c) { inside = true }) c refl)
 
-  spent_is : are_calls_spent (entered s c) c ≡ is_spent (cores c)
+  spent_is : are_calls_spent (entered s c) c ≡ is_spent (cores c).own
   spent_is =
       ap (λ (n : ℕ). nat_le s.limits.calls n) (same_count ∙ sym (stands.each c here).works.made)
-      ∙ ap (λ (n : ℕ). nat_le n (cores c).made) (ap (λ l. l.calls) (limits_of setup t) ∙ sym (stands.each c here).limit)
+      ∙ ap (λ (n : ℕ). nat_le n (cores c).own.made) (ap (λ l. l.calls) (limits_of setup t) ∙ sym (stands.each c here).limit)
 
   out : phase t c ≡ Out
-  out = subst (FlightIs setup t c (cores c).table) may.between (stands.each c here).flight
+  out = subst (CallIs setup t c (cores c).own.table) may.between (stands.each c here).active
 
-  pub enters_spent : is_spent (cores c) ≡ true → GoodEntry (decide reply.CallsSpent)
-  enters_spent spent lands = enters_on setup setting cores t stands c here ((cores c).made + 0) call (Some reply.CallsSpent) (Exit reply.CallsSpent) may.between may.limits lands refl refl
+  enters_spent : is_spent (cores c).own ≡ true → GoodEntry (landed (fresh call) (refuse refusal.CallsSpent))
+  enters_spent spent lands = enters_on setup setting cores t stands c here ((cores c).own.made + 0) call (Some reply.CallsSpent) (Decided reply.CallsSpent Nothing) may.between may.limits lands refl refl
       (calm_entered s c)
       (record { begins = λ x. refl; ends = λ x. refl; flushes = refl; apart = λ d. refl; same = refl })
       (let made = (stands.each c here).works.made in let same = same_count in omega arith)
@@ -77,9 +87,9 @@ module _ (setup : Setting) (setting : IsSetting setup) (cores : ℕ → Core) (t
       (spent_first (entered s c) c call (spent_is ∙ spent))
       tt
 
-  pub enters_refused : is_spent (cores c) ≡ false → RuleMay (entered s c) c (rule_of (entered s c) c call) reply.NoSlot
-      → change_of (entered s c) c call ≡ Refused reply.NoSlot → GoodEntry (decide reply.NoSlot)
-  enters_refused unspent rule first lands = enters_on setup setting cores t stands c here ((cores c).made + 1) call (Some reply.NoSlot) (Exit reply.NoSlot) may.between may.limits lands refl refl
+  enters_refused : is_spent (cores c).own ≡ false → RuleMay (entered s c) c (rule_of (entered s c) c call) reply.NoSlot
+      → change_of (entered s c) c call ≡ Refused reply.NoSlot → GoodEntry (landed (fresh call) (refuse refusal.NoSlot))
+  enters_refused unspent rule first lands = enters_on setup setting cores t stands c here ((cores c).own.made + 1) call (Some reply.NoSlot) (Decided reply.NoSlot Nothing) may.between may.limits lands refl refl
       (calm_then s (entered s c) (counted (entered s c) c) c (calm_entered s c) (calm_counted (entered s c) c))
       (record { begins = λ x. refl; ends = λ x. refl; flushes = refl; apart = λ d. refl; same = refl })
       (let made = (stands.each c here).works.made in
@@ -93,17 +103,20 @@ module _ (setup : Setting) (setting : IsSetting setup) (cores : ℕ → Core) (t
       tt
 
   -- its first name is looked up
-  module _ (n : ℕ) where
-    abbrev e : Step
-    e = step (Goes (Looking First (AtRoot (cores c).table n)))
+  module _ (n : ℕ) (wanted : Kind → Bool) (next : next_of (plan_for call) [] ≡ NextName n wanted) where
+    abbrev looking : Took
+    looking = landed (fresh call) (Goes (Lookup (AtRoot (cores c).own.table n)))
 
-    follows : IsIn (shape_of setup) (CoreAt c) → MayFollow setup t e
+    abbrev e : Step
+    e = step looking
+
+    follows : IsInShape (shape_of setup) (CoreAt c) → MayFollow setup t e
     follows is_in = record {
       is_core = here;
       is_in = is_in;
       is_named = refl;
       found = refl;
-      small = core_small true (cores c).exit (let a = (stands.times c).exit in let b = (stands.each c here).exit in let m = clock_small setup setting cores t stands in omega arith);
+      small = core_small true (cores c).own.exit (let a = (stands.times c).exit in let b = (stands.each c here).exit in let m = clock_small setup setting cores t stands in omega arith);
       enters = (out, may.limits);
       in_call = not_out;
       decides = tt;
@@ -113,48 +126,54 @@ module _ (setup : Setting) (setting : IsSetting setup) (cores : ℕ → Core) (t
         not_out : Open call ≡ Out → ⊥
         not_out h = cc
 
-    first_looks : IsIn (shape_of setup) (CoreAt c) → n ≤ 4095 → LooksUp setup (e ∷ t) c (own_in (cores c).table n) (AtRoot (cores c).table n)
+    first_looks : IsInShape (shape_of setup) (CoreAt c) → n ≤ 4095 → LooksUp setup (e ∷ t) c (own_in (cores c).own.table n) (AtRoot (cores c).own.table n)
     first_looks is_in within = record {
       relies = subst (λ (f : ℕ). Relies (entered s c) c f) (ap (λ k. k.table) (entered_comp s c) ∙ sym (stands.each c here).works.table)
           (relies_table setup setting (e ∷ t) (stands.legal, follows is_in) c call (phase-own c e t refl));
       at = record { found = refl; frame = refl; same = refl; within = within };
     }
 
-    pub enters_looking : is_spent (cores c) ≡ false → n ≤ 4095 → (LooksUp setup (e ∷ t) c (own_in (cores c).table n) (AtRoot (cores c).table n)
-        → KnowsFirst setup (e ∷ t) c (cores c).table call (AtRoot (cores c).table n))
-        → GoodEntry (Goes (Looking First (AtRoot (cores c).table n)))
-    enters_looking unspent within knows lands = enters_on setup setting cores t stands c here (cores c).made call None (Looking First (AtRoot (cores c).table n)) may.between may.limits lands refl refl
+    enters_looking : is_spent (cores c).own ≡ false → n ≤ 4095 → GoodEntry looking
+    enters_looking unspent within lands = enters_on setup setting cores t stands c here (cores c).own.made call None (Undecided (Lookup (AtRoot (cores c).own.table n))) may.between may.limits lands refl refl
         (calm_entered s c)
         (record { begins = λ x. refl; ends = λ x. refl; flushes = refl; apart = λ d. refl; same = refl })
         (let made = (stands.each c here).works.made in let same = same_count in omega arith)
         (λ g i. refl)
         tt
         tt
-        (knows (first_looks lands.is_in within))
+        (record {
+          names = tt;
+          knows = subst (λ x. LooksFor setup (e ∷ t) c (cores c).own.table x (AtRoot (cores c).own.table n)) (sym next) (first_looks lands.is_in within);
+        })
 
-  -- by the call, and whether its number is within range
+    -- by whether its number is within range
+    first_may : nat_le n 4095 ≡ false → RuleMay (entered s c) c (rule_of (entered s c) c call) reply.NoSlot
+    first_may past = next_may (entered s c) c (own_pages (entered s c) c) (plan_for call) (rule_of (entered s c) c call) [] (calls_go (entered s c) c call) tt reply.NoSlot
+        (subst (λ x. NextMay (entered s c) c (own_pages (entered s c) c) x reply.NoSlot) (sym next) (past_slot (entered s c) (root_at (comp_of (entered s c) c).table) n past))
 
-  enters_within : (n : ℕ) → is_spent (cores c) ≡ false → (within : Bool) → nat_le n 4095 ≡ within
-      → (IsTrue (has_no_slot (entered s c) (own (entered s c) c n)) → RuleMay (entered s c) c (rule_of (entered s c) c call) reply.NoSlot)
-      → (reached (entered s c) c (own (entered s c) c n) ≡ None → change_of (entered s c) c call ≡ Refused reply.NoSlot)
-      → (LooksUp setup (e n ∷ t) c (own_in (cores c).table n) (AtRoot (cores c).table n) → KnowsFirst setup (e n ∷ t) c (cores c).table call (AtRoot (cores c).table n))
-      → GoodEntry (looks within First (cores c).table n)
-  enters_within n unspent true is rule first knows = enters_looking n unspent (leb-true n 4095 is) knows
-  enters_within n unspent false is rule first knows = enters_refused unspent (rule (past_slot (entered s c) (root_at (comp_of (entered s c) c).table) n is))
-      (first (past_unreached (entered s c) c (root_at (comp_of (entered s c) c).table) n is))
+    first_cause : nat_le n 4095 ≡ false → change_of (entered s c) c call ≡ Refused reply.NoSlot
+    first_cause past = next_first (entered s c) c (own_pages (entered s c) c) (plan_for call) (rule_of (entered s c) c call) [] (calls_go (entered s c) c call) tt reply.NoSlot
+        (subst (λ x. NextRefused (entered s c) c (own_pages (entered s c) c) x reply.NoSlot) (sym next)
+        (named_no_slot (entered s c) c n wanted (past_unreached (entered s c) c (root_at (comp_of (entered s c) c).table) n past)))
+
+    enters_within : is_spent (cores c).own ≡ false → (within : Bool) → nat_le n 4095 ≡ within → GoodEntry (landed (fresh call) (looks_under within (cores c).own.table n))
+    enters_within unspent true is = enters_looking unspent (leb-true n 4095 is)
+    enters_within unspent false is = enters_refused unspent (first_may is) (first_cause is)
+
+    pub enters_name : is_spent (cores c).own ≡ false → GoodEntry (landed (fresh call) (next_by (cores c).own.table (fresh call)))
+    enters_name unspent = subst (λ x. GoodEntry (landed (fresh call) (next_step (cores c).own.table call [] x))) (sym next) (enters_within unspent (nat_le n 4095) refl)
 
 -- a call enters
 module _ (setup : Setting) (setting : IsSetting setup) (cores : ℕ → Core) (t : Trace) (stands : Stands setup cores t) (c : ℕ) (here : c < setup.cores) where
-  enters_first : (call : Call) (may : MayBegin call (cores c)) → IsBuilt call → is_spent (cores c) ≡ false → GoodEntry setup setting cores t stands c here call may (first_name (cores c).table call)
-  enters_first (look_call a) may built unspent = enters_within setup setting cores t stands c here (look_call a) may a unspent (nat_le a 4095) refl (λ h. inl h)
-      (λ none. look_refused (entered (state_after setup t) c) c a reply.NoSlot (named_no_slot (entered (state_after setup t) c) c a any none)) (λ k. k)
-  enters_first (Copy a u b) may built unspent = enters_within setup setting cores t stands c here (Copy a u b) may a unspent (nat_le a 4095) refl (λ h. inl h)
-      (λ none. copy_refused_first (entered (state_after setup t) c) c a u b reply.NoSlot (named_no_slot (entered (state_after setup t) c) c a any none)) (λ k. k)
+  enters_first : (call : Call) (may : MayBegin call (cores c)) → IsBuilt call → is_spent (cores c).own ≡ false
+      → GoodEntry setup setting cores t stands c here call may (landed (fresh call) (next_by (cores c).own.table (fresh call)))
+  enters_first (look_call a) may built unspent = enters_name setup setting cores t stands c here (look_call a) may a _ refl unspent
+  enters_first (Copy a u b) may built unspent = enters_name setup setting cores t stands c here (Copy a u b) may a _ refl unspent
   enters_first _ may built unspent = absurd built
 
-  pub enter_good : (call : Call) (may : MayBegin call (cores c)) → GoodEntry setup setting cores t stands c here call may (took_enter (cores c).table call (is_spent (cores c)))
-  enter_good call may = by_spent (is_spent (cores c)) refl
+  pub enter_good : (call : Call) (may : MayBegin call (cores c)) → GoodEntry setup setting cores t stands c here call may (took_enter (is_spent (cores c).own) (cores c).own.table (fresh call))
+  enter_good call may = by_spent (is_spent (cores c).own) refl
     where
-      by_spent : (spent : Bool) → is_spent (cores c) ≡ spent → GoodEntry setup setting cores t stands c here call may (took_enter (cores c).table call spent)
+      by_spent : (spent : Bool) → is_spent (cores c).own ≡ spent → GoodEntry setup setting cores t stands c here call may (took_enter spent (cores c).own.table (fresh call))
       by_spent true is = enters_spent setup setting cores t stands c here call may is
       by_spent false is = enters_first call may may.built is

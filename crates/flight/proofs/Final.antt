@@ -20,16 +20,16 @@ use Rattle.kernel_history.specs.Trace.{Phase, Out, Open, Decided, phase, state_a
 use Rattle.kernel_history.specs.Stamps.{is_in, stamp, exit_of}
 use Rattle.kernel_history.proofs.Inside.{inside_is}
 use Rattle.kernel_history.proofs.Stays.{sound_of}
-use Rattle.flight.specs.View.{Core}
-use Rattle.flight.specs.Steps.{end_of}
+use Rattle.call_steps.specs.View.{Core}
+use Rattle.call_steps.specs.Cores.{end_of}
 use Rattle.kernel_history.specs.Marking.{marked_by}
-use Rattle.flight.specs.Holding.{settled_by}
-use Rattle.flight.specs.Words.{PlaceIs, IsFrameWord, NumberIs, WordIs}
-use Rattle.flight.specs.Knows.{FlightIs, WorksIn}
-use Rattle.flight.specs.Stands.{held_by, times_of}
+use Rattle.core_invariant.specs.Holding.{settled_by}
+use Rattle.core_invariant.specs.Words.{PlaceIs, IsFrameWord, NumberIs, WordIs}
+use Rattle.core_invariant.specs.Knows.{CallIs, WorksIn}
+use Rattle.core_invariant.specs.Stands.{held_by, times_of}
 use Rattle.flight.specs.Theorems.{SaysWords, Represents}
-use Rattle.flight.proofs.Markers.{marker_inside}
-use Rattle.flight.proofs.Places.{IsMarked, IsPlain, place_reads}
+use Rattle.core_invariant.proofs.Markers.{marker_inside}
+use Rattle.core_invariant.proofs.Places.{IsMarked, IsPlain, place_reads}
 
 sound_node : (x : Frame) → IsTrue (is_node x) → IsTrue (is_sound_node x)
 sound_node Untyped h = absurd (false≢true h)
@@ -127,14 +127,14 @@ none_held (Quiescing k) h = refl
 end_with : ℕ → ℕ → ℕ → ℕ → ℕ → List Translation → CoreEnd
 end_with thread tcap comp spent owed cached = record { thread = thread; tcap = tcap; comp = comp; spent = spent; owed = owed; cached = cached }
 
-pub ends_are : (core : Core) (s : State) (c : ℕ) → WorksIn core s c → end_of core ≡ end_in s c
+pub ends_are : (core : Core) (s : State) (c : ℕ) → WorksIn core.own s c → end_of core ≡ end_in s c
 unfolding end_with
 ends_are core s c is =
-    ap (λ (x : ℕ). end_with x core.tcap core.comp core.spent core.owed core.cached) is.thread
-    ∙ ap (λ (x : ℕ). end_with (s.core c).thread x core.comp core.spent core.owed core.cached) is.tcap
-    ∙ ap (λ (x : ℕ). end_with (s.core c).thread (s.core c).tcap x core.spent core.owed core.cached) is.comp
-    ∙ ap (λ (x : ℕ). end_with (s.core c).thread (s.core c).tcap (end_in s c).comp x core.owed core.cached) is.spent
-    ∙ ap (λ (x : ℕ). end_with (s.core c).thread (s.core c).tcap (end_in s c).comp (s.core c).spent x core.cached) is.owed
+    ap (λ (x : ℕ). end_with x core.own.tcap core.own.comp core.own.spent core.own.owed core.own.cached) is.thread
+    ∙ ap (λ (x : ℕ). end_with (s.core c).thread x core.own.comp core.own.spent core.own.owed core.own.cached) is.tcap
+    ∙ ap (λ (x : ℕ). end_with (s.core c).thread (s.core c).tcap x core.own.spent core.own.owed core.own.cached) is.comp
+    ∙ ap (λ (x : ℕ). end_with (s.core c).thread (s.core c).tcap (end_in s c).comp x core.own.owed core.own.cached) is.spent
+    ∙ ap (λ (x : ℕ). end_with (s.core c).thread (s.core c).tcap (end_in s c).comp (s.core c).spent x core.own.cached) is.owed
     ∙ ap (λ x. end_with (s.core c).thread (s.core c).tcap (end_in s c).comp (s.core c).spent (s.core c).owed x) is.cached
 
 pub represents : Represents
@@ -149,12 +149,12 @@ represents setup setting cores t stands between = record {
 }
   where
     limits : (state_after setup t).limits ≡ (Rattle.kernel_rules.specs.Start.start setup).limits
-    limits = Rattle.flight.proofs.Sounds.limits_of setup t
+    limits = Rattle.core_invariant.proofs.Sounds.limits_of setup t
 
-    works : (c : ℕ) → c < (state_after setup t).limits.cores → WorksIn (cores c) (state_after setup t) c
+    works : (c : ℕ) → c < (state_after setup t).limits.cores → WorksIn (cores c).own (state_after setup t) c
     works c here = (stands.each c (subst (λ (n : ℕ). c < n) (ap (λ l. l.cores) limits) here)).works
 
-    idle : (c : ℕ) → (cores c).flight ≡ None
+    idle : (c : ℕ) → (cores c).active ≡ None
     idle c = elim (cases_lt c setup.cores) [
       | inl here ↦ between c here
       | inr past ↦ (stands.away c past).idle
@@ -162,7 +162,7 @@ represents setup setting cores t stands between = record {
 
     out : (c : ℕ) → phase t c ≡ Out
     out c = elim (cases_lt c setup.cores) [
-      | inl here ↦ subst (FlightIs setup t c (cores c).table) (between c here) (stands.each c here).flight
+      | inl here ↦ subst (CallIs setup t c (cores c).own.table) (between c here) (stands.each c here).active
       | inr past ↦ (stands.away c past).out
     ]
 

@@ -7,7 +7,7 @@ use Rattle.kernel_history.specs.Moments.{WordsSayAlong}
 use Rattle.kernel_history.specs.Trace.{Step, Trace, last_left}
 use Rattle.flight.specs.Made.{step_of, core_after, cores_after, core_at, IsMadeStep, IsMade}
 use Rattle.flight.specs.Histories.{MadeHistories}
-use Rattle.flight.specs.Stands.{Stands}
+use Rattle.core_invariant.specs.Stands.{Stands}
 use Rattle.flight.specs.Theorems.{found_by, MadeStands}
 use Rattle.flight.proofs.Boot.{boots}
 use Rattle.flight.proofs.Advance.{steps_on}

@@ -1,13 +1,5 @@
-pub mod View
-pub mod Stages
-pub mod Steps
 pub mod Made
 pub mod Histories
 pub mod Decided
-pub mod Fits
-pub mod Holding
-pub mod Words
-pub mod Knows
-pub mod Stands
 pub mod Theorems
 pub mod Phases

@@ -9,10 +9,10 @@ use Rattle.spk_nums.specs.declared.replies.Reply.{Reply}
 use Rattle.word_map.specs.Moves.{Move, word_of, told_of}
 use Rattle.kernel_rules.specs.State.{put}
 use Rattle.kernel_history.specs.Trace.{Step, Trace, last_left}
-use Rattle.flight.specs.declared.stages.Absorbed.{Absorbed}
-use Rattle.flight.specs.declared.stages.Absorbed.TheVariants.{Going, Decided, Returned}
-use Rattle.flight.specs.View.{Core}
-use Rattle.flight.specs.Steps.{started, begun, move_of, ready_of, absorbed, told_of_step}
+use Rattle.call_steps.specs.declared.stages.Absorbed.{Absorbed}
+use Rattle.call_steps.specs.View.{Core}
+use Rattle.core_invariant.specs.Events.{decided_in, returned_in}
+use Rattle.call_steps.specs.Cores.{started, begun, move_of, ready_of, absorbed, told_of_step}
 
 -- The cores of a machine that has just booted.
 abbrev pub boot_cores : Setting → ℕ → Core
@@ -25,24 +25,13 @@ turned (Some call) core = begun core call
 
 -- A core may make a step: its call is in flight; or it is between calls, and a call begins that is carried out.
 pub record MayBegin (call : Call) (core : Core) : Type 0 where
-  pub between : core.flight ≡ None
+  pub between : core.active ≡ None
   pub built : IsBuilt call
   pub limits : InLimits call
 
 abbrev pub MayStep : Option Call → Core → Type 0
-MayStep None core = IsSome core.flight
+MayStep None core = IsSome core.active
 MayStep (Some call) core = MayBegin call core
-
--- The reply that a core's step decides, and the one that it returns, as told.
-abbrev pub decided_in : Absorbed → Option Reply
-decided_in Going = None
-decided_in (Decided r) = Some r
-decided_in (Returned r) = None
-
-abbrev pub returned_in : Absorbed → Option Reply
-returned_in Going = None
-returned_in (Decided r) = None
-returned_in (Returned r) = Some r
 
 -- The step of core c by its move, where it found this in its word, and this is told of it.
 abbrev pub step_at : ℕ → Option Call → Move → ℕ → Absorbed → Step

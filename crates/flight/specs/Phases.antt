@@ -7,9 +7,9 @@ use Rattle.word_map.specs.Places.{Shape, IsIn, shared}
 use Rattle.word_map.specs.Moves.{word_of}
 use Rattle.kernel_history.specs.Trace.{Step, Trace, Phase, Out, phase, calls_of}
 use Rattle.kernel_history.specs.Order.{IsDecided}
-use Rattle.flight.specs.View.{Core}
-use Rattle.flight.specs.Steps.{move_of, ready_of}
-use Rattle.flight.specs.Fits.{IsCore}
+use Rattle.call_steps.specs.View.{Core}
+use Rattle.call_steps.specs.Cores.{move_of, ready_of}
+use Rattle.call_steps.specs.Fits.{IsCore}
 use Rattle.flight.specs.Decided.{is_decided_in}
 use Rattle.flight.specs.Made.{core_after, cores_after, core_at, IsMade, IsMadeStep}
 
@@ -20,14 +20,14 @@ pub record IsWord (shape : Shape) (w : Word) : Type 0 where
 
 -- The next step of a core in a call is on a word of its machine.
 abbrev pub MovesAreWords : Type 0
-MovesAreWords = (core : Core) → IsCore core → IsSome core.flight → IsWord core.shape (word_of (move_of core))
+MovesAreWords = (core : Core) → IsCore core → IsSome core.active → IsWord core.own.layout (word_of (move_of core))
 
 -- A core has a call in flight exactly where it is in a call in this phase, and that is decided exactly where it is in the phase.
 pub record IsInPhase (core : Core) (p : Phase) : Type 0 where
-  pub out : core.flight ≡ None → p ≡ Out
-  pub in_call : core.flight ≢ None → p ≢ Out
-  pub decided : is_decided_in core.flight ≡ true → IsDecided p
-  pub was_decided : IsDecided p → is_decided_in core.flight ≡ true
+  pub out : core.active ≡ None → p ≡ Out
+  pub in_call : core.active ≢ None → p ≢ Out
+  pub decided : is_decided_in core.active ≡ true → IsDecided p
+  pub was_decided : IsDecided p → is_decided_in core.active ≡ true
 
 -- After a trace that is the machine's, each core stands in its phase.
 abbrev pub MadePhases : Type 0
@@ -45,10 +45,10 @@ MadeOfItsCores = (setup : Setting) (t : Trace) → IsMade setup t → (c : ℕ) 
 -- What the events of a step say of the core before it and after it: an undecided call is decided by the step that decides, and a
 -- call in flight has returned by the step that returns.
 pub record AreEvents (before after : Core) (decides returns : Option Reply) : Type 0 where
-  pub decides_now : is_decided_in before.flight ≡ false → is_decided_in after.flight ≡ true → IsSome decides
-  pub decides_none : after.flight ≢ None → is_decided_in after.flight ≡ false → decides ≡ None
-  pub returns_now : after.flight ≡ None → IsSome returns
-  pub returns_none : after.flight ≢ None → returns ≡ None
+  pub decides_now : is_decided_in before.active ≡ false → is_decided_in after.active ≡ true → IsSome decides
+  pub decides_none : after.active ≢ None → is_decided_in after.active ≡ false → decides ≡ None
+  pub returns_now : after.active ≡ None → IsSome returns
+  pub returns_none : after.active ≢ None → returns ≡ None
 
 -- The events of a step of the machine are those of its core.
 abbrev pub MadeEvents : Type 0
@@ -56,4 +56,4 @@ MadeEvents = (setup : Setting) (t : Trace) (e : Step) → IsMadeStep setup t e �
 
 -- A core whose call is decided is ready.
 abbrev pub DecidedIsReady : Type 0
-DecidedIsReady = (core : Core) → is_decided_in core.flight ≡ true → ready_of core ≡ true
+DecidedIsReady = (core : Core) → is_decided_in core.active ≡ true → ready_of core ≡ true

@@ -7,15 +7,10 @@ use Rattle.kernel_rules.specs.State.{put}
 use Rattle.kernel_history.specs.Trace.{Trace, state_after, last_left}
 use Rattle.kernel_history.specs.FinalWords.{Represent}
 use Rattle.kernel_history.specs.Moments.{WordsSay}
-use Rattle.flight.specs.declared.stages.Stage.{Stage}
-use Rattle.flight.specs.declared.stages.Stage.TheVariants.{Enter, Looking, Fill, Exit, Leave}
-use Rattle.flight.specs.declared.stages.InFlight.{InFlight}
-use Rattle.flight.specs.View.{Core}
-use Rattle.flight.specs.Steps.{move_of, ready_of, told_of_step, end_of}
-use Rattle.flight.specs.Stages.{stage_took}
-use Rattle.flight.specs.Decided.{is_decided_at, Turns, RefusedBy}
-use Rattle.flight.specs.Made.{boot_cores, turned, MayStep, decided_in, step_of, core_after, cores_after, IsMade}
-use Rattle.flight.specs.Stands.{Stands}
+use Rattle.call_steps.specs.View.{Core}
+use Rattle.call_steps.specs.Cores.{move_of, ready_of, told_of_step, end_of}
+use Rattle.flight.specs.Made.{boot_cores, turned, MayStep, step_of, core_after, cores_after, IsMade}
+use Rattle.core_invariant.specs.Stands.{Stands}
 
 -- The start stands for no step.
 abbrev pub Boots : Type 0
@@ -42,35 +37,9 @@ SaysWords = (setup : Setting) → IsSetting setup → (cores : ℕ → Core) (t 
 
 -- All cores of the machine are between calls.
 abbrev pub AreBetween : Setting → (ℕ → Core) → Type 0
-AreBetween setup cores = (c : ℕ) → c < setup.cores → (cores c).flight ≡ None
+AreBetween setup cores = (c : ℕ) → c < setup.cores → (cores c).active ≡ None
 
 -- Where all cores are between calls, the words and the cores' ends represent the state.
 abbrev pub Represents : Type 0
 Represents = (setup : Setting) → IsSetting setup → (cores : ℕ → Core) (t : Trace) → Stands setup cores t → AreBetween setup cores
     → Represent (last_left setup t) (λ c. end_of (cores c)) (state_after setup t)
-
--- A step of a core whose call is not ready decides a refusal, if it decides: an `ok` is decided by the step at which the call is
--- ready.
-abbrev pub UnreadyRefuses : Type 0
-UnreadyRefuses = (core : Core) (found : ℕ) → ready_of core ≡ false → RefusedBy (decided_in (told_of_step core found))
-
--- A call is decided once: by a step of an undecided stage, behind which every stage is decided, and it returns behind it.
-abbrev pub DecidesOnce : Type 0
-DecidesOnce = (table frames : ℕ) (spent : Bool) (call : Call) (s : Stage) (found : ℕ)
-    → Turns (is_decided_at s) (stage_took table frames spent call s found)
-
--- The call in flight is not decided.
-abbrev pub IsUndecidedAt : Stage → Type 0
-IsUndecidedAt Enter = Unit {0}
-IsUndecidedAt (Looking want look) = Unit {0}
-IsUndecidedAt (Fill node index word k) = Unit {0}
-IsUndecidedAt (Exit r) = ⊥
-IsUndecidedAt (Leave r x) = ⊥
-
-abbrev pub IsUndecided : Option InFlight → Type 0
-IsUndecided None = ⊥
-IsUndecided (Some f) = IsUndecidedAt f.stage
-
--- Where the call of a core is open and ready, its next step decides, whatever others do before it.
-abbrev pub ReadyDecides : Type 0
-ReadyDecides = (core : Core) → ready_of core ≡ true → (found : ℕ) → IsUndecided core.flight → IsSome (decided_in (told_of_step core found))

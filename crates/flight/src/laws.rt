@@ -1,7 +1,7 @@
 //! What is proved of the step machine, as laws: cores that stand for a trace go on standing for it, step by step.
 
 ghost use Rattle.flight.specs.Histories.{MadeHistories};
-ghost use Rattle.flight.specs.Theorems.{Boots, StepsOn, MadeStands, SaysWords, Represents, ReadyDecides, UnreadyRefuses, DecidesOnce};
+ghost use Rattle.flight.specs.Theorems.{Boots, StepsOn, MadeStands, SaysWords, Represents};
 
 /// The start stands for no step.
 #[tactic(auto, using(crate::proofs::Boot::boots))]
@@ -38,22 +38,4 @@ pub fn says_words()
 #[tactic(auto, using(crate::proofs::Final::represents))]
 pub fn represents()
     ensures { Represents }
-{}
-
-/// The next step of an open call that is ready decides.
-#[tactic(auto, using(crate::proofs::Ready::ready_decides))]
-pub fn ready_decides()
-    ensures { ReadyDecides }
-{}
-
-/// A step of a core whose call is not ready decides a refusal, if it decides.
-#[tactic(auto, using(crate::proofs::Unready::unready_refuses))]
-pub fn unready_refuses()
-    ensures { UnreadyRefuses }
-{}
-
-/// A call is decided by one step, and returns behind it.
-#[tactic(auto, using(crate::proofs::Turns::stage_turns))]
-pub fn decides_once()
-    ensures { DecidesOnce }
 {}

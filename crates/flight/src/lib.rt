@@ -1,14 +1,11 @@
-//! The step machine of a core: the atomic steps of its calls, one at a time, and what each takes from the word it finds.
+//! The step machine of a core: that each trace of its steps is a history of the kernel.
+//!
+//! The steps themselves are those of `call_steps`, and the invariant that they keep is that of `core_invariant`.
 #![tactic(auto)]
 
-mod core_state;
 mod laws;
-mod stages;
-mod steps;
 
-pub use core_state::CoreState;
-pub use laws::{
-    boots, decides_once, made_histories, made_stands, ready_decides, represents, says_words,
-    steps_on, unready_refuses,
+pub use call_steps::{
+    decides_once, ready_decides, unready_refuses, Absorbed, ActiveCall, CoreState,
 };
-pub use stages::{Absorbed, InFlight, Stage, Want};
+pub use laws::{boots, made_histories, made_stands, represents, says_words, steps_on};

@@ -18,14 +18,14 @@ use Rattle.kernel_history.specs.Order.{IsIdle, MakesOne}
 use Rattle.kernel_history.proofs.Names.{cases_word}
 use Rattle.kernel_history.proofs.Steps.{calls_of-own, calls_of-other, last_left-here, last_left-there}
 use Rattle.kernel_history.specs.BootWords.{shape_of}
-use Rattle.flight.specs.View.{Core}
-use Rattle.flight.specs.Fits.{IsCore}
-use Rattle.flight.specs.Steps.{move_of}
+use Rattle.call_steps.specs.View.{Core}
+use Rattle.call_steps.specs.Fits.{IsCore}
+use Rattle.call_steps.specs.Cores.{move_of}
 use Rattle.flight.specs.Made.{turned, MayStep, core_after, cores_after, core_at as core_of_step, IsMade, IsMadeStep}
 use Rattle.flight.specs.Phases.{IsWord, IsInPhase}
 use Rattle.flight.proofs.Phases.{made_phases}
 use Rattle.flight.proofs.Spelling.{moves_are_words}
-use Rattle.flight.specs.declared.stages.InFlight.{InFlight}
+use Rattle.call_steps.specs.declared.stages.ActiveCall.{ActiveCall}
 use Rattle.lone_kernel.specs.declared.seats.Turn.{Turn}
 use Rattle.lone_kernel.specs.declared.seats.Turn.TheVariants.{Begins, GoesOn}
 use Rattle.lone_kernel.specs.Machine.{Machine, seat_at, core_at, list_at, turn_if, turn_at, IsFinished, IsFit, CanTake, enters_as, core_in, begun_by, said_by, seat_after, place_next, found_by, stepped, step_in}
@@ -38,7 +38,7 @@ may_step core (Begins call) can = record { between = can.between; built = can.ca
 may_step core GoesOn can = can
 
 -- the next step of a core that takes its turn is on a word of its machine
-word_next : (core : Core) (f : Turn) → IsCore core → CanTake f core → IsWord core.shape (word_of (move_of (core_in core f)))
+word_next : (core : Core) (f : Turn) → IsCore core → CanTake f core → IsWord core.own.layout (word_of (move_of (core_in core f)))
 word_next core (Begins call) fits can = record { is_in = fits.core; is_named = refl }
 word_next core GoesOn fits can = moves_are_words core fits can
 
@@ -46,7 +46,7 @@ word_next core GoesOn fits can = moves_are_words core fits can
 pub phase_is : (m : Machine) (t : Trace) (c : ℕ) → IsSetting m.setup → c < m.setup.cores → StandsFor m t → IsInPhase (core_at m c) (phase t c)
 phase_is m t c setting here stands = subst (λ k. IsInPhase k (phase t c)) (sym (stands.cores c here)) (made_phases m.setup setting t stands.made c here)
 
-finished_if : (list : List Call) (n : ℕ) (o : Option InFlight) → turn_if list n o ≡ None → (o ≡ None) × (length list ≤ n)
+finished_if : (list : List Call) (n : ℕ) (o : Option ActiveCall) → turn_if list n o ≡ None → (o ≡ None) × (length list ≤ n)
 finished_if list n None none = elim (slice_get_cases list n).1 [
   | inl found ↦ absurd (some_is found.0 (ap (option_map Begins) (sym found.2) ∙ none))
   | inr past ↦ (refl, past.0)
@@ -60,14 +60,14 @@ pub stays_idle : (m : Machine) (c : ℕ) → IsSetting m.setup → c < m.setup.c
 stays_idle m c setting here none = record {
   same = refl;
   idle = λ t stands.
-      let done = finished_if (list_at m c) (seat_at m c).begun (core_at m c).flight none in
+      let done = finished_if (list_at m c) (seat_at m c).begun (core_at m c).active none in
       record {
         out = (phase_is m t c setting here stands).out done.0;
         finished = stands.calls c here ∙ take_all (seat_at m c).begun (list_at m c) done.1;
       };
 }
 
-entered_more : (list : List Call) (begun due : ℕ) (state : Core) (o : Option InFlight) (f : Turn) → state.flight ≡ o → turn_if list begun o ≡ Some f →
+entered_more : (list : List Call) (begun due : ℕ) (state : Core) (o : Option ActiveCall) (f : Turn) → state.active ≡ o → turn_if list begun o ≡ Some f →
     take begun list ++ option_to_list (enters_as f) ≡ take (begun_by f begun) list
 entered_more list begun due state None f is begins = elim (slice_get_cases list begun).1 [
   | inl found ↦
@@ -150,7 +150,7 @@ module _ (m : Machine) (t : Trace) (c : ℕ) (f : Turn) (fit : IsFit m) (setting
 
   own_calls : calls_of (e ∷ t) c ≡ take (begun_by f (seat_at m c).begun) (list_at m c)
   own_calls = calls_of-own c e t refl ∙ ap (λ x. x ++ option_to_list (enters_as f)) (stands.calls c here)
-      ∙ entered_more (list_at m c) (seat_at m c).begun (seat_at m c).due (core_at m c) (core_at m c).flight f refl begins
+      ∙ entered_more (list_at m c) (seat_at m c).begun (seat_at m c).due (core_at m c) (core_at m c).active f refl begins
 
   calls_on : (d : ℕ) → d < m.setup.cores → calls_of (e ∷ t) d ≡ take (seat_at (stepped m c f) d).begun (list_at m d)
   calls_on d h = elim (cases_eq d c) [
@@ -177,15 +177,15 @@ module _ (m : Machine) (t : Trace) (c : ℕ) (f : Turn) (fit : IsFit m) (setting
 
   -- the core was not idle
   pub not_idle : IsIdle m.lists t c → ⊥
-  not_idle idle = of_flight (core_at m c).flight refl where
-    of_flight : (o : Option InFlight) → (core_at m c).flight ≡ o → ⊥
-    of_flight None is =
+  not_idle idle = of_call (core_at m c).active refl where
+    of_call : (o : Option ActiveCall) → (core_at m c).active ≡ o → ⊥
+    of_call None is =
         let n : length (calls_of t c) ≡ (seat_at m c).begun = ap length (stands.calls c here) ∙ length-take-le (seat_at m c).begun (list_at m c) (fit.each c here).begun in
         let k : length (calls_of t c) ≡ length (list_at m c) = ap length idle.finished in
         let one_more : begun_by f (seat_at m c).begun ≡ (seat_at m c).begun + 1 = of.counts ∙ ap (λ o. calls_begun o (seat_at m c).begun) is in
         let within = of.within in
         omega arith
-    of_flight (Some g) is = (phase_is m t c setting here stands).in_call (λ none. let both = sym is ∙ none in absurd (cc)) idle.out
+    of_call (Some g) is = (phase_is m t c setting here stands).in_call (λ none. let both = sym is ∙ none in absurd (cc)) idle.out
 
   pub one_step : MovesTo m (stepped m c f) c t (λ u. MakesOne c t u)
   one_step = record {

@@ -10,10 +10,10 @@ use Rattle.word_map.specs.Word.{Word}
 use Rattle.word_map.specs.Places.{IsIn, size_of, shared}
 use Rattle.kernel_history.specs.BootWords.{boot_word, shape_of}
 use Rattle.kernel_history.specs.FinalWords.{word_in}
-use Rattle.flight.specs.View.{Core}
-use Rattle.flight.specs.Fits.{IsCore}
-use Rattle.flight.specs.Steps.{started}
-use Rattle.flight.specs.declared.stages.InFlight.{InFlight}
+use Rattle.call_steps.specs.View.{Core}
+use Rattle.call_steps.specs.Fits.{IsCore}
+use Rattle.call_steps.specs.Cores.{started}
+use Rattle.call_steps.specs.declared.stages.ActiveCall.{ActiveCall}
 use Rattle.lone_kernel.specs.declared.seats.Seat.{Seat}
 use Rattle.flight.specs.Decided.{is_decided_at}
 use Rattle.lone_kernel.specs.Machine.{Machine, seat_at, core_at, list_at, fresh_seat, due_at, due_in, IsFit, IsFitSeat, AreLists, AreFresh}
@@ -96,7 +96,7 @@ module _ {V : Type 0} (items : V → List Call) (setup : Setting) (words : List 
       decisions = none;
     }
 
-due_low : (o : Option InFlight) → due_in o ≤ 1
+due_low : (o : Option ActiveCall) → due_in o ≤ 1
 due_low None = omega arith
 due_low (Some f) = of_decided (is_decided_at f.stage) where
   of_decided : (b : Bool) → due_at b ≤ 1
@@ -118,6 +118,6 @@ few_due m fit few =
     let k = fit.each i (omega arith) in
     let sum = k.sum in
     let small = k.small in
-    let low = due_low (seat_at m i).state.flight in
+    let low = due_low (seat_at m i).state.active in
     omega arith) in
     omega arith

@@ -4,8 +4,8 @@ use Rattle.spk_nums.specs.Setting.{Setting, IsSetting}
 use Rattle.kernel_history.specs.BootWords.{shape_of}
 use Rattle.kernel_history.specs.FinalWords.{Represent, word_in, end_in}
 use Rattle.kernel_history.specs.Trace.{Trace, state_after, last_left}
-use Rattle.flight.specs.Steps.{end_of}
-use Rattle.flight.proofs.Sounds.{limits_of}
+use Rattle.call_steps.specs.Cores.{end_of}
+use Rattle.core_invariant.proofs.Sounds.{limits_of}
 use Rattle.flight.specs.Made.{cores_after}
 use Rattle.flight.proofs.Final.{represents}
 use Rattle.flight.proofs.Made.{made_stands}
@@ -22,10 +22,10 @@ end_at setup seats c h = of_list seats c h (fresh_seat setup c []) where
   of_list (s ∷ seats) zero h d = refl
   of_list (s ∷ seats) (suc c) h d = of_list seats c (omega arith) d
 
-pub closes : (m : Machine) → IsSetting m.setup → length m.seats ≡ m.setup.cores → ((c : ℕ) → c < m.setup.cores → (core_at m c).flight ≡ None) →
+pub closes : (m : Machine) → IsSetting m.setup → length m.seats ≡ m.setup.cores → ((c : ℕ) → c < m.setup.cores → (core_at m c).active ≡ None) →
     (t : Trace) → StandsFor m t → Represent (word_in (shape_of m.setup) m.words) (end_in (map (λ seat. end_of seat.state) m.seats)) (state_after m.setup t)
 closes m setting count between t stands =
     like m.setup (state_after m.setup t) (last_left m.setup t) (word_in (shape_of m.setup) m.words) (λ c. end_of (cores_after m.setup t c)) (end_in (map (λ seat. end_of seat.state) m.seats))
     (ap (λ l. l.frames) (limits_of m.setup t)) (ap (λ l. l.cores) (limits_of m.setup t))
     (λ w is_in is_shared. sym (stands.words w is_in is_shared)) (λ c h. ap end_of (sym (stands.cores c h)) ∙ end_at m.setup m.seats c (omega arith))
-    (represents m.setup setting (cores_after m.setup t) t (made_stands m.setup setting t stands.made) (λ c h. ap (λ k. k.flight) (sym (stands.cores c h)) ∙ between c h))
+    (represents m.setup setting (cores_after m.setup t) t (made_stands m.setup setting t stands.made) (λ c h. ap (λ k. k.active) (sym (stands.cores c h)) ∙ between c h))

@@ -8,15 +8,15 @@ use Rattle.std.proofs.lemmas.Option.{slice_get_cases}
 use Rattle.spk_nums.specs.declared.calls.Call.{Call}
 use Rattle.spk_nums.specs.Setting.{Setting}
 use Rattle.kernel_history.specs.Trace.{decision_at}
-use Rattle.flight.specs.View.{Core}
-use Rattle.flight.specs.Fits.{IsCore, steps_left}
-use Rattle.flight.specs.Steps.{begun, landed, told, took_by, absorbed, told_of_step, absorbed_in, told_in}
-use Rattle.flight.specs.Made.{decided_in}
-use Rattle.flight.specs.declared.stages.Absorbed.{Absorbed}
-use Rattle.flight.specs.declared.stages.Absorbed.TheVariants.{Going, Decided, Returned}
-use Rattle.flight.specs.declared.stages.InFlight.{InFlight}
-use Rattle.flight.specs.declared.stages.Took.{Took}
-use Rattle.flight.specs.declared.stages.Took.TheVariants.{Goes, Decides, Returns}
+use Rattle.call_steps.specs.View.{Core}
+use Rattle.call_steps.specs.Fits.{IsCore, steps_left}
+use Rattle.call_steps.specs.declared.own.Own.{Own}
+use Rattle.call_steps.specs.Cores.{core_after, told_by, absorbed, told_of_step, absorbed_in, told_in}
+use Rattle.core_invariant.specs.Events.{decided_in}
+use Rattle.call_steps.specs.declared.stages.Absorbed.{Absorbed}
+use Rattle.call_steps.specs.declared.stages.Absorbed.TheVariants.{Going, Decided, Returned}
+use Rattle.call_steps.specs.declared.stages.ActiveCall.{ActiveCall}
+use Rattle.call_steps.specs.Steps.{Took, GoesOn as TookOn, Decides, Returns, took}
 use Rattle.lone_kernel.specs.declared.seats.Seat.{Seat}
 use Rattle.lone_kernel.specs.declared.seats.Turn.{Turn}
 use Rattle.lone_kernel.specs.declared.seats.Turn.TheVariants.{Begins, GoesOn}
@@ -24,7 +24,7 @@ use Rattle.flight.specs.Decided.{is_decided_at, is_decided_in}
 use Rattle.lone_kernel.specs.Machine.{Machine, seat_at, core_at, list_at, fresh_seat, turn_if, turn_of, turn_at, due_at, due_in, IsFitSeat, IsFit, CanRun, CanTake, core_in, begun_by, decisions_in, said_by, seat_after, found_by, stepped}
 use Rattle.lone_kernel.specs.Moves.{calls_begun, GoesFurther}
 use Rattle.flight.specs.Decided.{Turns}
-use Rattle.flight.proofs.Turns.{stage_turns}
+use Rattle.flight.proofs.Phases.{took_turns}
 use Rattle.lone_kernel.proofs.Small.{steps_small}
 
 some_inj : {A : Type 0} (x y : A) → Some x ≡ Some y → x ≡ y
@@ -34,15 +34,15 @@ some_inj x y h = cc
 pub record IsOf (list : List Call) (seat : Seat) (f : Turn) : Type 0 where
   pub can : CanTake f seat.state
   pub within : begun_by f seat.begun ≤ length list
-  pub counts : begun_by f seat.begun ≡ calls_begun seat.state.flight seat.begun
-  pub due : begun_by f seat.begun + seat.due ≡ length list + due_in (core_in seat.state f).flight
-  pub in_call : IsSome (core_in seat.state f).flight
-  pub goes_on : seat.state.flight ≢ None → core_in seat.state f ≡ seat.state
+  pub counts : begun_by f seat.begun ≡ calls_begun seat.state.active seat.begun
+  pub due : begun_by f seat.begun + seat.due ≡ length list + due_in (core_in seat.state f).active
+  pub in_call : IsSome (core_in seat.state f).active
+  pub goes_on : seat.state.active ≢ None → core_in seat.state f ≡ seat.state
 
-of_flight : (list : List Call) (begun due : ℕ) (state : Core) (o : Option InFlight) (f : Turn) → state.flight ≡ o → All CanRun list →
+of_call : (list : List Call) (begun due : ℕ) (state : Core) (o : Option ActiveCall) (f : Turn) → state.active ≡ o → All CanRun list →
     begun + due ≡ length list + due_in o → begun ≤ length list → turn_if list begun o ≡ Some f →
     IsOf list (record { begun = begun; due = due; state = state }) f
-of_flight list begun due state None f is calls sum low begins = elim (slice_get_cases list begun).1 [
+of_call list begun due state None f is calls sum low begins = elim (slice_get_cases list begun).1 [
   | inl found ↦
       let call = found.0 in
       let same : Begins call ≡ f = some_inj (Begins call) f (ap (option_map Begins) (sym found.2) ∙ begins) in
@@ -59,7 +59,7 @@ of_flight list begun due state None f is calls sum low begins = elim (slice_get_
 ] where
   none_is : None ≡ Some f → ⊥
   none_is h = cc
-of_flight list begun due state (Some g) f is calls sum low begins =
+of_call list begun due state (Some g) f is calls sum low begins =
     subst (λ h. IsOf list (record { begun = begun; due = due; state = state }) h) (some_inj GoesOn f begins) record {
       can = subst IsSome (sym is) refl;
       within = low;
@@ -70,61 +70,56 @@ of_flight list begun due state (Some g) f is calls sum low begins =
     }
 
 pub turn_is : (setup : Setting) (list : List Call) (c : ℕ) (seat : Seat) (f : Turn) → IsFitSeat setup list c seat → All CanRun list → turn_of list seat ≡ Some f → IsOf list seat f
-turn_is setup list c seat f fit calls begins = of_flight list seat.begun seat.due seat.state seat.state.flight f refl calls fit.sum fit.begun begins
+turn_is setup list c seat f fit calls begins = of_call list seat.begun seat.due seat.state seat.state.active f refl calls fit.sum fit.begun begins
 
 -- what one decides is due before it and not behind it
-pub record Counts (before after : Option InFlight) (said : Absorbed) : Type 0 where
+pub record Counts (before after : Option ActiveCall) (said : Absorbed) : Type 0 where
   pub due : due_in before ≡ due_in after + decisions_in said
 
-counts_took : (f : InFlight) (core : Core) (took : Took) → Turns (is_decided_at f.stage) took → Counts (Some f) (landed core f took).flight (told took)
-counts_took f core (Goes s) turns = record { due = ap due_at (sym turns) ∙ omega arith }
-counts_took f core (Decides r s) turns = record { due = ap due_at turns.0 ∙ ap (λ b. due_at b + 1) (sym turns.1) }
-counts_took f core (Returns r x) turns = record { due = ap due_at turns }
+counts_took : (own : Own) (f : ActiveCall) (k : Took) → Turns (is_decided_at f.stage) k → Counts (Some f) (core_after own k).active (told_by k)
+counts_took own f (TookOn g) turns = record { due = ap due_at (sym turns) ∙ omega arith }
+counts_took own f (Decides r g) turns = record { due = ap due_at turns.0 ∙ ap (λ b. due_at b + 1) (sym turns.1) }
+counts_took own f (Returns r x) turns = record { due = ap due_at turns }
 
-counts_in : (core : Core) (o : Option InFlight) (found : ℕ) → IsSome o → Counts o (absorbed_in core o found).flight (told_in core o found)
-counts_in core None found some = absurd (cc)
-counts_in core (Some f) found some = counts_took f core (took_by core f found) (stage_turns _ _ _ f.call f.stage found)
+counts_in : (own : Own) (o : Option ActiveCall) (found : ℕ) → IsSome o → Counts o (absorbed_in own o found).active (told_in own o found)
+counts_in own None found some = absurd (cc)
+counts_in own (Some f) found some = counts_took own f (took own f found) (took_turns own f found)
 
-pub counts_absorbed : (core : Core) (found : ℕ) → IsSome core.flight → Counts core.flight (absorbed core found).flight (told_of_step core found)
-counts_absorbed core found some = counts_in core core.flight found some
+pub counts_absorbed : (core : Core) (found : ℕ) → IsSome core.active → Counts core.active (absorbed core found).active (told_of_step core found)
+counts_absorbed core found some = counts_in core.own core.active found some
 
--- a step leaves the core the one it is
-landed_core : (core : Core) (f : InFlight) (took : Took) → (landed core f took).core ≡ core.core
-landed_core core f (Goes s) = refl
-landed_core core f (Decides r s) = refl
-landed_core core f (Returns r x) = refl
+-- a step leaves the core the one it is, and its machine
+pub record IsTheSame (own own' : Own) : Type 0 where
+  pub core : own'.core ≡ own.core
+  pub layout : own'.layout ≡ own.layout
 
-landed_shape : (core : Core) (f : InFlight) (took : Took) → (landed core f took).shape ≡ core.shape
-landed_shape core f (Goes s) = refl
-landed_shape core f (Decides r s) = refl
-landed_shape core f (Returns r x) = refl
+same_took : (own : Own) (k : Took) → IsTheSame own (core_after own k).own
+same_took own (TookOn g) = record { core = refl; layout = refl }
+same_took own (Decides r g) = record { core = refl; layout = refl }
+same_took own (Returns r x) = record { core = refl; layout = refl }
 
-absorbed_core : (core : Core) (o : Option InFlight) (found : ℕ) → (absorbed_in core o found).core ≡ core.core
-absorbed_core core None found = refl
-absorbed_core core (Some f) found = landed_core core f (took_by core f found)
+same_in : (own : Own) (o : Option ActiveCall) (found : ℕ) → IsTheSame own (absorbed_in own o found).own
+same_in own None found = record { core = refl; layout = refl }
+same_in own (Some f) found = same_took own (took own f found)
 
-absorbed_shape : (core : Core) (o : Option InFlight) (found : ℕ) → (absorbed_in core o found).shape ≡ core.shape
-absorbed_shape core None found = refl
-absorbed_shape core (Some f) found = landed_shape core f (took_by core f found)
-
-turned_core : (core : Core) (f : Turn) → (core_in core f).core ≡ core.core
+turned_core : (core : Core) (f : Turn) → (core_in core f).own.core ≡ core.own.core
 turned_core core (Begins call) = refl
 turned_core core GoesOn = refl
 
-pub turned_shape : (core : Core) (f : Turn) → (core_in core f).shape ≡ core.shape
+pub turned_shape : (core : Core) (f : Turn) → (core_in core f).own.layout ≡ core.own.layout
 turned_shape core (Begins call) = refl
 turned_shape core GoesOn = refl
 
-stays_took : (core : Core) (f : InFlight) (took : Took) → Turns false took → (landed core f took).flight ≢ None
-stays_took core f (Goes s) turns none = cc
-stays_took core f (Decides r s) turns none = cc
-stays_took core f (Returns r x) turns none = cc
+stays_took : (own : Own) (k : Took) → Turns false k → (core_after own k).active ≢ None
+stays_took own (TookOn g) turns none = cc
+stays_took own (Decides r g) turns none = cc
+stays_took own (Returns r x) turns none = cc
 
-stays_absorbed : (core : Core) (o : Option InFlight) (found : ℕ) → IsSome o → is_decided_in o ≡ false → (absorbed_in core o found).flight ≢ None
-stays_absorbed core None found some h = absurd (cc)
-stays_absorbed core (Some f) found some h = stays_took core f (took_by core f found) (subst (λ b. Turns b (took_by core f found)) h (stage_turns _ _ _ f.call f.stage found))
+stays_absorbed : (own : Own) (o : Option ActiveCall) (found : ℕ) → IsSome o → is_decided_in o ≡ false → (absorbed_in own o found).active ≢ None
+stays_absorbed own None found some h = absurd (cc)
+stays_absorbed own (Some f) found some h = stays_took own (took own f found) (subst (λ b. Turns b (took own f found)) h (took_turns own f found))
 
-undecided_turn : (core : Core) (f : Turn) → is_decided_in core.flight ≡ false → is_decided_in (core_in core f).flight ≡ false
+undecided_turn : (core : Core) (f : Turn) → is_decided_in core.active ≡ false → is_decided_in (core_in core f).active ≡ false
 undecided_turn core (Begins call) h = refl
 undecided_turn core GoesOn h = h
 
@@ -141,7 +136,7 @@ module _ (m : Machine) (c : ℕ) (f : Turn) (fit : IsFit m) (here : c < m.setup.
   pub is_of : IsOf (list_at m c) (seat_at m c) f
   is_of = turn_is m.setup (list_at m c) c (seat_at m c) f (fit.each c here) (fit.calls c here) begins
 
-  counts : Counts core1.flight seat'.state.flight said
+  counts : Counts core1.active seat'.state.active said
   counts = counts_absorbed core1 _ is_of.in_call
 
   -- one that decides was due
@@ -157,14 +152,14 @@ module _ (m : Machine) (c : ℕ) (f : Turn) (fit : IsFit m) (here : c < m.setup.
     sum = (let all = is_of.due in let low = is_of.within in let once = counts.due in let was = was_due in omega arith);
     begun = is_of.within;
     small = (fit.each c here).small;
-    core = absorbed_core core1 core1.flight _ ∙ turned_core (core_at m c) f ∙ (fit.each c here).core;
-    shape = absorbed_shape core1 core1.flight _ ∙ turned_shape (core_at m c) f ∙ (fit.each c here).shape;
+    core = (same_in core1.own core1.active _).core ∙ turned_core (core_at m c) f ∙ (fit.each c here).core;
+    shape = (same_in core1.own core1.active _).layout ∙ turned_shape (core_at m c) f ∙ (fit.each c here).shape;
     fits = fits;
   }
 
-  -- a call that was not decided is still in flight
-  stays_behind : is_decided_in (core_at m c).flight ≡ false → seat'.state.flight ≢ None
-  stays_behind undecided = stays_absorbed core1 core1.flight _ is_of.in_call (undecided_turn (core_at m c) f undecided)
+  -- a call that was not decided is still active
+  stays_behind : is_decided_in (core_at m c).active ≡ false → seat'.state.active ≢ None
+  stays_behind undecided = stays_absorbed core1.own core1.active _ is_of.in_call (undecided_turn (core_at m c) f undecided)
 
   in_seats : c < length m.seats
   in_seats = let n = fit.seats in omega arith
@@ -204,7 +199,7 @@ module _ (m : Machine) (c : ℕ) (f : Turn) (fit : IsFit m) (here : c < m.setup.
         (subst (λ k. steps_left seat'.state < steps_left k) (is_of.goes_on some) fewer);
     begun = ap (λ k. k.begun) (seat_same c refl) ∙ is_of.counts;
     within = subst (λ k. k.begun ≤ length (list_at m c)) (sym (seat_same c refl)) is_of.within;
-    in_call = λ undecided. subst (λ k. k.state.flight ≢ None) (sym (seat_same c refl)) (stays_behind undecided);
+    in_call = λ undecided. subst (λ k. k.state.active ≢ None) (sym (seat_same c refl)) (stays_behind undecided);
   }
 
 -- a decision that is told is one
@@ -218,14 +213,14 @@ count_decided Going c i = refl
 count_decided (Decided r) c i = refl
 count_decided (Returned r) c i = refl
 
-undecided_in : (o : Option InFlight) → IsSome o → is_decided_in o ≡ false → due_in o ≡ 1
+undecided_in : (o : Option ActiveCall) → IsSome o → is_decided_in o ≡ false → due_in o ≡ 1
 undecided_in None some h = absurd (cc)
 undecided_in (Some f) some h = ap due_at h
 
 -- an undecided call's decision is due
-pub undecided_due : (list : List Call) (seat : Seat) (f : Turn) → IsOf list seat f → is_decided_in (core_in seat.state f).flight ≡ false → 0 < seat.due
+pub undecided_due : (list : List Call) (seat : Seat) (f : Turn) → IsOf list seat f → is_decided_in (core_in seat.state f).active ≡ false → 0 < seat.due
 undecided_due list seat f of h =
     let all = of.due in
     let low = of.within in
-    let one = undecided_in (core_in seat.state f).flight of.in_call h in
+    let one = undecided_in (core_in seat.state f).active of.in_call h in
     omega arith

@@ -10,13 +10,13 @@ use Rattle.word_map.specs.Places.{Shape, place_of}
 use Rattle.word_map.specs.Moves.{Move, LoadOf, CompareOf, StoreOf, AddOf, word_of, op_of, left_of, told_of}
 use Rattle.spk_nums.specs.WordSteps.{place_in}
 use Rattle.kernel_history.specs.Trace.{decision_at}
-use Rattle.flight.specs.View.{Core}
+use Rattle.call_steps.specs.View.{Core}
 use Rattle.flight.proofs.ByPlace.{place_is, left_is, told_is}
-use Rattle.flight.specs.Fits.{IsCore, steps_left}
-use Rattle.flight.specs.Steps.{move_of, absorbed, told_of_step}
+use Rattle.call_steps.specs.Fits.{IsCore, steps_left}
+use Rattle.call_steps.specs.Cores.{move_of, absorbed, told_of_step}
 use Rattle.kernel_history.specs.BootWords.{shape_of}
-use Rattle.flight.specs.Made.{decided_in}
-use Rattle.flight.specs.declared.stages.Absorbed.{Absorbed}
+use Rattle.core_invariant.specs.Events.{decided_in}
+use Rattle.call_steps.specs.declared.stages.Absorbed.{Absorbed}
 use Rattle.lone_kernel.specs.declared.seats.Seat.{Seat}
 use Rattle.lone_kernel.specs.declared.seats.Turn.{Turn}
 use Rattle.spk_nums.specs.WordSteps.{left_by, told_by}

@@ -11,29 +11,29 @@ use Rattle.spk_nums.specs.Setting.{Setting, IsSetting}
 use Rattle.kernel_rules.proofs.Within.{put_same}
 use Rattle.kernel_history.specs.Trace.{Step, Trace, phase, calls_of}
 use Rattle.kernel_history.specs.Order.{IsIdle, IsDecided, AreOf, HaveNone, StaysUnready, Stretch}
-use Rattle.flight.specs.Fits.{left_for}
-use Rattle.flight.specs.View.{Core}
-use Rattle.flight.specs.Steps.{ready_of}
+use Rattle.call_steps.specs.Fits.{left_for}
+use Rattle.call_steps.specs.View.{Core}
+use Rattle.call_steps.specs.Cores.{ready_of}
 use Rattle.flight.specs.Decided.{is_decided_in}
 use Rattle.flight.specs.Made.{turned, core_after, cores_after, core_at as core_of_step, IsMadeStep, ready_after}
 use Rattle.flight.specs.Phases.{AreEvents}
 use Rattle.flight.proofs.Phases.{made_events, decided_is_ready}
-use Rattle.flight.specs.declared.stages.InFlight.{InFlight}
+use Rattle.call_steps.specs.declared.stages.ActiveCall.{ActiveCall}
 use Rattle.lone_kernel.specs.Machine.{Machine, seat_at, core_at, list_at, IsFinished, IsInCall, HasDecided, IsThere, IsDone, turn_if}
 use Rattle.lone_kernel.specs.Stands.{StandsFor}
 use Rattle.lone_kernel.specs.Moves.{MovesTo, StepsOnce, GoesBy, GoesFurther, work_in, work_at, calls_in, calls_left, calls_begun}
 use Rattle.lone_kernel.proofs.Advance.{phase_is}
 
 pub begins_in_call : (m : Machine) (c : ℕ) → IsInCall m c → IsFinished m c → ⊥
-begins_in_call m c inside none = of_flight (core_at m c).flight inside none where
-  of_flight : (o : Option InFlight) → o ≢ None → turn_if (list_at m c) (seat_at m c).begun o ≡ None → ⊥
-  of_flight None inside none = inside refl
-  of_flight (Some f) inside none = cc
+begins_in_call m c inside none = of_call (core_at m c).active inside none where
+  of_call : (o : Option ActiveCall) → o ≢ None → turn_if (list_at m c) (seat_at m c).begun o ≡ None → ⊥
+  of_call None inside none = inside refl
+  of_call (Some f) inside none = cc
 
 -- a core that is not finished is not idle
-busy_flight : (m : Machine) (t : Trace) (c : ℕ) (o : Option InFlight) → IsSetting m.setup → (core_at m c).flight ≡ o → c < m.setup.cores
+busy_call : (m : Machine) (t : Trace) (c : ℕ) (o : Option ActiveCall) → IsSetting m.setup → (core_at m c).active ≡ o → c < m.setup.cores
     → (turn_if (list_at m c) (seat_at m c).begun o ≡ None → ⊥) → StandsFor m t → IsIdle m.lists t c → ⊥
-busy_flight m t c None setting is here begins stands idle = elim (slice_get_cases (list_at m c) (seat_at m c).begun).1 [
+busy_call m t c None setting is here begins stands idle = elim (slice_get_cases (list_at m c) (seat_at m c).begun).1 [
   | inl found ↦
       let within : (seat_at m c).begun < length (list_at m c) = found.1 in
       let n : length (calls_of t c) ≡ (seat_at m c).begun = ap length (stands.calls c here) ∙ length-take-le (seat_at m c).begun (list_at m c) (omega arith) in
@@ -41,11 +41,11 @@ busy_flight m t c None setting is here begins stands idle = elim (slice_get_case
       omega arith
   | inr past ↦ begins (ap (option_map Rattle.lone_kernel.specs.declared.seats.Turn.TheVariants.Begins) (past.1))
 ]
-busy_flight m t c (Some f) setting is here begins stands idle =
+busy_call m t c (Some f) setting is here begins stands idle =
     (phase_is m t c setting here stands).in_call (λ none. let both = sym is ∙ none in absurd (cc)) idle.out
 
 pub busy_if : (m : Machine) (c : ℕ) → IsSetting m.setup → c < m.setup.cores → (IsFinished m c → ⊥) → (t : Trace) → StandsFor m t → IsIdle m.lists t c → ⊥
-busy_if m c setting here begins t stands idle = busy_flight m t c (core_at m c).flight setting refl here begins stands idle
+busy_if m c setting here begins t stands idle = busy_call m t c (core_at m c).active setting refl here begins stands idle
 
 -- the steps so far have not come to where the item ends
 abbrev pub NotYet : (Trace → ℕ → Bool) → How → ℕ → Trace → Trace → Type 0
@@ -93,8 +93,8 @@ open_first Return m c undone = tt
 -- after a step that does not end the item, its call is in flight
 pub inside_after : (how : How) (m m' : Machine) (c : ℕ) → StaysOpen how m c → GoesFurther m m' c → (IsThere how m' c → ⊥) → IsInCall m' c
 inside_after One m m' c un further short = absurd (short tt)
-inside_after Ready m m' c un further short = further.in_call (undecided_false (is_decided_in (core_at m c).flight) un)
-inside_after Decide m m' c un further short = further.in_call (undecided_false (is_decided_in (core_at m c).flight) un)
+inside_after Ready m m' c un further short = further.in_call (undecided_false (is_decided_in (core_at m c).active) un)
+inside_after Decide m m' c un further short = further.in_call (undecided_false (is_decided_in (core_at m c).active) un)
 inside_after Return m m' c un further short = short
 
 pub open_after : (how : How) (m' : Machine) (c : ℕ) → (IsThere how m' c → ⊥) → StaysOpen how m' c
@@ -104,14 +104,14 @@ open_after Decide m' c short = short
 open_after Return m' c short = tt
 
 -- the events of a step of core c, by where the machine stands before it and after it
-turned_undecided : (enters : Option Call) (core : Core) → is_decided_in core.flight ≡ false → is_decided_in (turned enters core).flight ≡ false
+turned_undecided : (enters : Option Call) (core : Core) → is_decided_in core.active ≡ false → is_decided_in (turned enters core).active ≡ false
 turned_undecided None core h = h
 turned_undecided (Some call) core h = refl
 
 pub record AreEventsOf (m' m'' : Machine) (c : ℕ) (e : Step) : Type 0 where
   pub decides_now : (HasDecided m' c → ⊥) → HasDecided m'' c → IsSome e.decides
   pub decides_none : IsInCall m'' c → (HasDecided m'' c → ⊥) → e.decides ≡ None
-  pub returns_now : (core_at m'' c).flight ≡ None → IsSome e.returns
+  pub returns_now : (core_at m'' c).active ≡ None → IsSome e.returns
   pub returns_none : IsInCall m'' c → e.returns ≡ None
 
 pub events_are : (m' m'' : Machine) (c : ℕ) (t : Trace) (e : Step) → m''.setup ≡ m'.setup → c < m'.setup.cores → e.core ≡ c
@@ -126,12 +126,12 @@ events_are m' m'' c t e same here own stands stands' =
     stands.cores c here ∙ ap (λ s. cores_after s t c) (sym same) ∙ ap (cores_after setup t) (sym own) in
     record {
       decides_now = λ un h. are.decides_now
-          (turned_undecided e.enters (cores_after setup t e.core) (ap (λ k. is_decided_in k.flight) (sym was) ∙ undecided_false (is_decided_in (core_at m' c).flight) un))
-          (ap (λ k. is_decided_in k.flight) (sym now) ∙ h);
-      decides_none = λ inside un. are.decides_none (λ none. inside (ap (λ k. k.flight) now ∙ none))
-          (ap (λ k. is_decided_in k.flight) (sym now) ∙ undecided_false (is_decided_in (core_at m'' c).flight) un);
-      returns_now = λ none. are.returns_now (ap (λ k. k.flight) (sym now) ∙ none);
-      returns_none = λ inside. are.returns_none (λ none. inside (ap (λ k. k.flight) now ∙ none));
+          (turned_undecided e.enters (cores_after setup t e.core) (ap (λ k. is_decided_in k.active) (sym was) ∙ undecided_false (is_decided_in (core_at m' c).active) un))
+          (ap (λ k. is_decided_in k.active) (sym now) ∙ h);
+      decides_none = λ inside un. are.decides_none (λ none. inside (ap (λ k. k.active) now ∙ none))
+          (ap (λ k. is_decided_in k.active) (sym now) ∙ undecided_false (is_decided_in (core_at m'' c).active) un);
+      returns_now = λ none. are.returns_now (ap (λ k. k.active) (sym now) ∙ none);
+      returns_none = λ inside. are.returns_none (λ none. inside (ap (λ k. k.active) now ∙ none));
     }
 
 ready_is : (m : Machine) (c : ℕ) (t : Trace) (setup : Setting) → setup ≡ m.setup → c < m.setup.cores → StandsFor m t → ready_after setup t c ≡ ready_of (core_at m c)
@@ -226,50 +226,50 @@ nothing_done how m c setting here begins done t stands = record {
 }
 
 -- what a step leaves to do within its call is less, and a call that returns is one less
-work_less : (o o' : Option InFlight) (n n' : ℕ) → o' ≢ None → (o ≢ None → left_for o' < left_for o) → left_for o' < 1000 → work_in o' < work_in o
+work_less : (o o' : Option ActiveCall) (n n' : ℕ) → o' ≢ None → (o ≢ None → left_for n' o' < left_for n o) → left_for n' o' < 1000 → work_in n' o' < work_in n o
 work_less None None n n' some fewer small = absurd (some refl)
 work_less None (Some g) n n' some fewer small = small
 work_less (Some f) None n n' some fewer small = absurd (some refl)
 work_less (Some f) (Some g) n n' some fewer small = fewer (λ h. cc)
 
 pub works_on : (m m' : Machine) (c : ℕ) → IsInCall m' c → GoesFurther m m' c → work_at m' c < work_at m c
-works_on m m' c inside further = work_less (core_at m c).flight (core_at m' c).flight 0 0 inside further.steps further.few
+works_on m m' c inside further = work_less (core_at m c).active (core_at m' c).active (core_at m c).own.layout.cores (core_at m' c).own.layout.cores inside further.steps further.few
 
-calls_less : (o : Option InFlight) (length begun begun' : ℕ) → begun' ≡ calls_begun o begun → begun' ≤ length → calls_in None (length - begun') < calls_in o (length - begun)
+calls_less : (o : Option ActiveCall) (length begun begun' : ℕ) → begun' ≡ calls_begun o begun → begun' ≤ length → calls_in None (length - begun') < calls_in o (length - begun)
 calls_less None length begun begun' more within = omega arith
 calls_less (Some f) length begun begun' same within = let k = same in omega arith
 
 -- a call that has returned, or begun and returned, is one call less to come
-pub calls_fewer : (m m' : Machine) (c : ℕ) → m'.lists ≡ m.lists → (core_at m' c).flight ≡ None → (seat_at m' c).begun ≡ calls_begun (core_at m c).flight (seat_at m c).begun →
+pub calls_fewer : (m m' : Machine) (c : ℕ) → m'.lists ≡ m.lists → (core_at m' c).active ≡ None → (seat_at m' c).begun ≡ calls_begun (core_at m c).active (seat_at m c).begun →
     (seat_at m' c).begun ≤ length (list_at m' c) → calls_left m' c < calls_left m c
 calls_fewer m m' c same none begun within =
     subst (λ o. calls_in o (length (list_at m' c) - (seat_at m' c).begun) < calls_left m c) (sym none)
     (subst (λ l. calls_in None (length (get_or l c []) - (seat_at m' c).begun) < calls_left m c) (sym same)
-    (calls_less (core_at m c).flight (length (list_at m c)) (seat_at m c).begun (seat_at m' c).begun begun
+    (calls_less (core_at m c).active (length (list_at m c)) (seat_at m c).begun (seat_at m' c).begun begun
     (subst (λ l. (seat_at m' c).begun ≤ length (get_or l c [])) same within)))
 
-pub none_of : (o : Option InFlight) → (o ≢ None → ⊥) → o ≡ None
+pub none_of : (o : Option ActiveCall) → (o ≢ None → ⊥) → o ≡ None
 none_of None un = refl
 none_of (Some f) un = absurd (un (λ h. cc))
 
--- no step was made, or the call in flight is the one that was, or the next of the list
+-- no step was made, or the active call is the one that was, or the next of the list
 pub record IsCounted (m m' : Machine) (c : ℕ) : Type 0 where
   pub inside : IsInCall m' c
-  pub begun : (seat_at m' c).begun ≡ calls_begun (core_at m c).flight (seat_at m c).begun
+  pub begun : (seat_at m' c).begun ≡ calls_begun (core_at m c).active (seat_at m c).begun
 
 abbrev pub Counted : Machine → Machine → ℕ → Type 0
 Counted m m' c = (m' ≡ m) ⊎ IsCounted m m' c
 
-begun_inside : (o : Option InFlight) (n : ℕ) → o ≢ None → calls_begun o n ≡ n
+begun_inside : (o : Option ActiveCall) (n : ℕ) → o ≢ None → calls_begun o n ≡ n
 begun_inside None n some = absurd (some refl)
 begun_inside (Some f) n some = refl
 
-counted_step : (m m' m'' : Machine) (c : ℕ) → GoesFurther m' m'' c → Counted m m' c → (seat_at m'' c).begun ≡ calls_begun (core_at m c).flight (seat_at m c).begun
-counted_step m m' m'' c further (inl same) = further.begun ∙ ap (λ x. calls_begun (core_at x c).flight (seat_at x c).begun) same
-counted_step m m' m'' c further (inr counted) = further.begun ∙ begun_inside (core_at m' c).flight (seat_at m' c).begun counted.inside ∙ counted.begun
+counted_step : (m m' m'' : Machine) (c : ℕ) → GoesFurther m' m'' c → Counted m m' c → (seat_at m'' c).begun ≡ calls_begun (core_at m c).active (seat_at m c).begun
+counted_step m m' m'' c further (inl same) = further.begun ∙ ap (λ x. calls_begun (core_at x c).active (seat_at x c).begun) same
+counted_step m m' m'' c further (inr counted) = further.begun ∙ begun_inside (core_at m' c).active (seat_at m' c).begun counted.inside ∙ counted.begun
 
 pub counted_more : (m m' m'' : Machine) (c : ℕ) → IsInCall m'' c → GoesFurther m' m'' c → Counted m m' c → Counted m m'' c
 counted_more m m' m'' c inside further counted = inr (record { inside = inside; begun = counted_step m m' m'' c further counted })
 
-pub counted_last : (m m' m'' : Machine) (c : ℕ) → m''.lists ≡ m.lists → (core_at m'' c).flight ≡ None → GoesFurther m' m'' c → Counted m m' c → calls_left m'' c < calls_left m c
+pub counted_last : (m m' m'' : Machine) (c : ℕ) → m''.lists ≡ m.lists → (core_at m'' c).active ≡ None → GoesFurther m' m'' c → Counted m m' c → calls_left m'' c < calls_left m c
 counted_last m m' m'' c same between further counted = calls_fewer m m'' c same between (counted_step m m' m'' c further counted) further.within

@@ -7,9 +7,9 @@ use Rattle.spk_nums.specs.declared.calls.Make.{Make}
 use Rattle.spk_nums.specs.declared.calls.Make.TheVariants as make
 use Rattle.spk_nums.specs.declared.calls.Call.{Call}
 use Rattle.spk_nums.specs.declared.calls.Call.TheVariants as call
-use Rattle.flight.specs.View.{Core}
-use Rattle.flight.specs.Fits.{IsCore, FlightFits, left_for, steps_left}
-use Rattle.flight.specs.declared.stages.InFlight.{InFlight}
+use Rattle.call_steps.specs.View.{Core}
+use Rattle.call_steps.specs.Fits.{IsCore, CallFits, left_for, steps_left}
+use Rattle.call_steps.specs.declared.stages.ActiveCall.{ActiveCall}
 
 retype_small : (k : FrameKind) (n : ℕ) → n ≤ 8 → bound_of_retype k n < 1000
 retype_small Untyped n h = omega arith
@@ -47,9 +47,9 @@ bound_small (call.Transfer a b m) n h = omega arith
 bound_small (call.Delegate a b m) n h = omega arith
 bound_small (call.Test a b) n h = omega arith
 
-left_small : (core : Core) (o : Option InFlight) → core.shape.cores ≤ 8 → FlightFits core o → left_for o < 1000
+left_small : (core : Core) (o : Option ActiveCall) → core.own.layout.cores ≤ 8 → CallFits core.own o → left_for core.own.layout.cores o < 1000
 left_small core None h fits = omega arith
-left_small core (Some f) h fits = let b = bound_small f.call core.shape.cores h in let s = fits.steps in omega arith
+left_small core (Some f) h fits = let b = bound_small f.call core.own.layout.cores h in let s = fits.steps in omega arith
 
 pub steps_small : (core : Core) → IsCore core → steps_left core < 1000
-steps_small core fits = left_small core core.flight fits.shape.most_cores fits.flight
+steps_small core fits = left_small core core.active fits.own.shape.most_cores fits.active

@@ -10,15 +10,16 @@ use Rattle.spk_nums.specs.Setting.{Setting}
 use Rattle.word_map.specs.Places.{Shape, place_of, size_of}
 use Rattle.word_map.specs.Moves.{word_of, left_of, told_of}
 use Rattle.kernel_history.specs.Trace.{Step, decision_at}
-use Rattle.flight.specs.View.{Core}
-use Rattle.flight.specs.Fits.{IsCore}
-use Rattle.flight.specs.Steps.{started, move_of, ready_of, absorbed, told_of_step}
+use Rattle.call_steps.specs.View.{Core}
+use Rattle.call_steps.specs.Fits.{IsCore}
+use Rattle.call_steps.specs.Cores.{started, move_of, ready_of, absorbed, told_of_step}
 use Rattle.kernel_history.specs.BootWords.{shape_of}
 use Rattle.flight.specs.Decided.{is_decided_at, is_decided_in}
-use Rattle.flight.specs.Made.{turned, decided_in, step_of}
-use Rattle.flight.specs.declared.stages.Absorbed.{Absorbed}
-use Rattle.flight.specs.declared.stages.Absorbed.TheVariants.{Going, Decided, Returned}
-use Rattle.flight.specs.declared.stages.InFlight.{InFlight}
+use Rattle.flight.specs.Made.{turned, step_of}
+use Rattle.core_invariant.specs.Events.{decided_in}
+use Rattle.call_steps.specs.declared.stages.Absorbed.{Absorbed}
+use Rattle.call_steps.specs.declared.stages.Absorbed.TheVariants.{Going, Decided, Returned}
+use Rattle.call_steps.specs.declared.stages.ActiveCall.{ActiveCall}
 use Rattle.lone_kernel.specs.declared.seats.Seat.{Seat}
 use Rattle.lone_kernel.specs.declared.seats.Turn.{Turn}
 use Rattle.lone_kernel.specs.declared.seats.Turn.TheVariants.{Begins, GoesOn}
@@ -45,13 +46,13 @@ core_at m c = (seat_at m c).state
 abbrev pub list_at : Machine → ℕ → List Call
 list_at m c = slice_index_or m.lists c []
 
--- The turn of a core: the next call of its list begins where there is none in flight.
-abbrev pub turn_if : List Call → ℕ → Option InFlight → Option Turn
+-- The turn of a core: the next call of its list begins where there is none active.
+abbrev pub turn_if : List Call → ℕ → Option ActiveCall → Option Turn
 turn_if list begun None = option_map Begins (slice_get list begun)
 turn_if list begun (Some f) = Some GoesOn
 
 abbrev pub turn_of : List Call → Seat → Option Turn
-turn_of list seat = turn_if list seat.begun seat.state.flight
+turn_of list seat = turn_if list seat.begun seat.state.active
 
 abbrev pub turn_at : Machine → ℕ → Option Turn
 turn_at m c = turn_of (list_at m c) (seat_at m c)
@@ -60,13 +61,13 @@ turn_at m c = turn_of (list_at m c) (seat_at m c)
 abbrev pub IsFinished : Machine → ℕ → Type 0
 IsFinished m c = turn_at m c ≡ None
 
--- Core c has a call in flight.
+-- Core c has a active call.
 abbrev pub IsInCall : Machine → ℕ → Type 0
-IsInCall m c = (core_at m c).flight ≢ None
+IsInCall m c = (core_at m c).active ≢ None
 
 -- The call of core c is decided.
 abbrev pub HasDecided : Machine → ℕ → Type 0
-HasDecided m c = is_decided_in (core_at m c).flight ≡ true
+HasDecided m c = is_decided_in (core_at m c).active ≡ true
 
 -- Core c is ready: the next step is the one at which its call's `ok` is decided, or its call has decided.
 abbrev pub IsReady : Machine → ℕ → Type 0
@@ -77,7 +78,7 @@ abbrev pub IsThere : How → Machine → ℕ → Type 0
 IsThere One m c = Unit {0}
 IsThere Ready m c = IsReady m c
 IsThere Decide m c = HasDecided m c
-IsThere Return m c = (core_at m c).flight ≡ None
+IsThere Return m c = (core_at m c).active ≡ None
 
 -- An item that takes core c this far is done before it makes a step.
 abbrev pub IsDone : How → Machine → ℕ → Type 0
@@ -86,23 +87,23 @@ IsDone Ready m c = IsReady m c
 IsDone Decide m c = HasDecided m c
 IsDone Return m c = ⊥
 
--- The decision of a call in flight that is still to come, as a number.
+-- The decision of a active call that is still to come, as a number.
 abbrev pub due_at : Bool → ℕ
 due_at true = 0
 due_at false = 1
 
-abbrev pub due_in : Option InFlight → ℕ
+abbrev pub due_in : Option ActiveCall → ℕ
 due_in None = 0
 due_in (Some f) = due_at (is_decided_at f.stage)
 
 -- A core of the machine: the calls begun and those whose decisions are still to come are those of the list, where an open call
 -- is both; and it is this core of the machine.
 pub record IsFitSeat (setup : Setting) (list : List Call) (c : ℕ) (seat : Seat) : Type 0 where
-  pub sum : seat.begun + seat.due ≡ length list + due_in seat.state.flight
+  pub sum : seat.begun + seat.due ≡ length list + due_in seat.state.active
   pub begun : seat.begun ≤ length list
   pub small : length list < 2 ^ 32
-  pub core : seat.state.core ≡ c
-  pub shape : seat.state.shape ≡ shape_of setup
+  pub core : seat.state.own.core ≡ c
+  pub shape : seat.state.own.layout ≡ shape_of setup
   pub fits : IsCore seat.state
 
 -- A list's call can be run: it is carried out, and within its limits.
@@ -181,14 +182,14 @@ stepped m c f = record {
 abbrev pub step_in : Machine → ℕ → Turn → Step
 step_in m c f = step_of c (enters_as f) (core_in (core_at m c) f) (found_by m c f)
 
--- A core may take a turn: it has a call in flight, or none and the turn's call can be run.
+-- A core may take a turn: it has a active call, or none and the turn's call can be run.
 pub record CanBegin (call : Call) (core : Core) : Type 0 where
-  pub between : core.flight ≡ None
+  pub between : core.active ≡ None
   pub can_run : CanRun call
 
 abbrev pub CanTake : Turn → Core → Type 0
 CanTake (Begins call) core = CanBegin call core
-CanTake GoesOn core = IsSome core.flight
+CanTake GoesOn core = IsSome core.active
 
 -- From one seat and list of words to others: the core's next step, of which this is told.
 pub record MakesTurn (shape : Shape) (seat seat' : Seat) (before after : List ℕ) (said : Absorbed) : Type 0 where

@@ -6,9 +6,9 @@ use Rattle.kernel_history.specs.Order.{IsIdle, MakesOne, Stretch}
 use Rattle.lone_kernel.specs.declared.lone.Moved.{Moved}
 use Rattle.lone_kernel.specs.declared.lone.Moved.TheVariants.{Idle, Went}
 use Rattle.flight.specs.Decided.{is_decided_in}
-use Rattle.flight.specs.Fits.{steps_left, left_in}
+use Rattle.call_steps.specs.Fits.{steps_left, left_of}
 use Rattle.flight.specs.Made.{ready_after}
-use Rattle.flight.specs.declared.stages.InFlight.{InFlight}
+use Rattle.call_steps.specs.declared.stages.ActiveCall.{ActiveCall}
 use Rattle.lone_kernel.specs.Machine.{Machine, core_at, seat_at, list_at}
 use Rattle.lone_kernel.specs.Stands.{StandsFor}
 
@@ -37,32 +37,32 @@ abbrev pub MovesBy : Moved → How → Machine → Machine → ℕ → Type 0
 MovesBy Idle how m m' c = StaysIdle m m' c
 MovesBy Went how m m' c = GoesBy how m m' c
 
--- The calls begun behind a step: one more where none was in flight.
-abbrev pub calls_begun : Option InFlight → ℕ → ℕ
+-- The calls begun behind a step: one more where none was active.
+abbrev pub calls_begun : Option ActiveCall → ℕ → ℕ
 calls_begun None n = n + 1
 calls_begun (Some f) n = n
 
 -- Core c has less to do: its call has fewer steps to come, or has returned; a call that began with the step is fewer of its
 -- list's to come; and a call that was not decided has not returned.
 pub record GoesFurther (m m' : Machine) (c : ℕ) : Type 0 where
-  pub steps : (core_at m c).flight ≢ None → steps_left (core_at m' c) < steps_left (core_at m c)
+  pub steps : (core_at m c).active ≢ None → steps_left (core_at m' c) < steps_left (core_at m c)
   pub few : steps_left (core_at m' c) < 1000
-  pub begun : (seat_at m' c).begun ≡ calls_begun (core_at m c).flight (seat_at m c).begun
+  pub begun : (seat_at m' c).begun ≡ calls_begun (core_at m c).active (seat_at m c).begun
   pub within : (seat_at m' c).begun ≤ length (list_at m' c)
-  pub in_call : is_decided_in (core_at m c).flight ≡ false → (core_at m' c).flight ≢ None
+  pub in_call : is_decided_in (core_at m c).active ≡ false → (core_at m' c).active ≢ None
 
 -- What a core has still to do before its call returns, as a number that each step within a call lowers.
-abbrev pub work_in : Option InFlight → ℕ
+abbrev pub work_in : Option ActiveCall → ℕ
 work_in None = 1000
 work_in (Some f) = left_in f.call f.stage
 
 abbrev pub work_at : Machine → ℕ → ℕ
-work_at m c = work_in (core_at m c).flight
+work_at m c = work_in (core_at m c).own.layout.cores (core_at m c).active
 
 -- The calls of core c's list that have not returned, as a number that each call made lowers.
-abbrev pub calls_in : Option InFlight → ℕ → ℕ
+abbrev pub calls_in : Option ActiveCall → ℕ → ℕ
 calls_in None n = 2 * n
 calls_in (Some f) n = 2 * n + 1
 
 abbrev pub calls_left : Machine → ℕ → ℕ
-calls_left m c = calls_in (core_at m c).flight (length (list_at m c) - (seat_at m c).begun)
+calls_left m c = calls_in (core_at m c).active (length (list_at m c) - (seat_at m c).begun)

@@ -13,10 +13,10 @@ ghost use Rattle.spk_nums.specs.WordSteps.{place_in};
 ghost use Rattle.word_map.specs.Places.{size_of, place_of, shared};
 ghost use Rattle.kernel_history.specs.Trace.{Trace, state_after, decision_at};
 ghost use Rattle.kernel_history.specs.FinalWords.{Represent, word_in, end_in};
-ghost use Rattle.flight.specs.Fits.{IsCore, steps_left};
+ghost use Rattle.call_steps.specs.Fits.{IsCore, steps_left};
 ghost use Rattle.kernel_history.specs.BootWords.{shape_of};
-ghost use Rattle.flight.specs.Steps.{end_of};
-ghost use Rattle.flight.specs.Made.{decided_in};
+ghost use Rattle.call_steps.specs.Cores.{end_of};
+ghost use Rattle.core_invariant.specs.Events.{decided_in};
 ghost use Rattle.spk_nums.specs.declared.steps.How.TheVariants.{One, Ready, Decide, Return};
 ghost use Rattle.spk_nums.specs.WordSteps.{left_by, told_by};
 ghost use Rattle.flight.specs.Decided.{is_decided_in};
@@ -77,7 +77,7 @@ impl Model for LoneKernel {
     }) × (k.layout ≡ shape_of k.setup) × IsSetting k.setup × (vec_len k.decisions + sum_by (λ seat. seat.due) k.seats.items ≤ vec_capacity k.decisions) };
 }
 
-// A core's next turn: the next call of its list begins where there is none in flight.
+// A core's next turn: the next call of its list begins where there is none active.
 fn turn(list: &Vec<Call>, seat: &Seat) -> Option<Turn>
     ensures { result ≡ turn_of list.now.items seat.now }
 {
@@ -135,7 +135,7 @@ fn begin(seat: &mut Seat, turn: &Turn)
     ensures state { seat.new.state ≡ core_in seat.old.state turn.now }
     ensures begun { seat.new.begun ≡ begun_by turn.now seat.old.begun }
     ensures due { seat.new.due ≡ seat.old.due }
-    ensures in_call { IsSome seat.new.state.flight }
+    ensures in_call { IsSome seat.new.state.active }
 {
     if let Turn::Begins { call } = *turn {
         seat.state.begin(call);
@@ -155,10 +155,10 @@ fn decisions_in(absorbed: &Absorbed) -> usize
 
 // The core makes its next step over the words.
 fn go(seat: &mut Seat, layout: &Layout, words: &mut Vec<u64>) -> Absorbed
-    requires in_call { IsSome seat.old.state.flight }
-    requires machine { layout.now ≡ seat.old.state.shape }
+    requires in_call { IsSome seat.old.state.active }
+    requires machine { layout.now ≡ seat.old.state.own.layout }
     requires size { length words.old.items ≡ size_of layout.now }
-    requires due { is_decided_in seat.old.state.flight ≡ false → 0 < seat.old.due }
+    requires due { is_decided_in seat.old.state.active ≡ false → 0 < seat.old.due }
     ensures goes { MakesTurn layout.now seat.old seat.new words.old.items words.new.items result }
     ensures fits { IsCore seat.new.state }
     ensures fewer { steps_left seat.new.state < steps_left seat.old.state }
@@ -174,9 +174,9 @@ fn go(seat: &mut Seat, layout: &Layout, words: &mut Vec<u64>) -> Absorbed
 fn take(seat: &mut Seat, turn: &Turn, layout: &Layout, words: &mut Vec<u64>) -> Absorbed
     requires can { CanTake turn.now seat.old.state }
     requires few { seat.old.begun < 2 ^ 60 }
-    requires machine { layout.now ≡ seat.old.state.shape }
+    requires machine { layout.now ≡ seat.old.state.own.layout }
     requires size { length words.old.items ≡ size_of layout.now }
-    requires due { is_decided_in (core_in seat.old.state turn.now).flight ≡ false → 0 < seat.old.due }
+    requires due { is_decided_in (core_in seat.old.state turn.now).active ≡ false → 0 < seat.old.due }
     ensures takes { TakesTurn layout.now seat.old turn.now seat.new words.old.items words.new.items result }
     ensures fits { IsCore seat.new.state }
     ensures fewer { steps_left seat.new.state < steps_left (core_in seat.old.state turn.now) }
@@ -230,7 +230,7 @@ fn count_due(seats: &[Seat]) -> usize
 
 // Where each core ends.
 fn ends_of(alloc: Global, seats: &[Seat]) -> Result<Vec<CoreEnd>, AllocError>
-    requires { All (λ seat. seat.state.flight ≡ None) seats.now }
+    requires { All (λ seat. seat.state.active ≡ None) seats.now }
     ensures { IfOk result (λ ends. ends.items ≡ map (λ seat. end_of seat.state) seats.now) }
 {
     let mut ends = Vec::with_capacity(alloc, seats.len())?;
@@ -271,7 +271,7 @@ impl LoneKernel {
     /// The words and where each core ended. No core is in a call; only want of memory is refused. They represent the state
     /// that each trace left for which the machine stood.
     pub fn close(self, alloc: Global) -> Result<Closed, Memory>
-        requires { (c : ℕ) → c < self.setup.cores → (core_at self c).flight ≡ None }
+        requires { (c : ℕ) → c < self.setup.cores → (core_at self c).active ≡ None }
         ensures layout { IfOk result (λ closed. closed.layout ≡ shape_of self.setup) }
         ensures size { IfOk result (λ closed. (length closed.words.items ≡ size_of (shape_of self.setup)) × (length closed.ends.items ≡ self.setup.cores)) }
         ensures represent { IfOk result (λ closed. (t : Trace) → StandsFor self t → Represent (word_in (shape_of self.setup) closed.words.items) (end_in closed.ends.items) (state_after self.setup t)) }
@@ -415,7 +415,7 @@ impl LoneKernel {
         }
     }
 
-    // Whether the core has a call in flight.
+    // Whether the core has a active call.
     fn is_in_call(&self, core: CoreNo) -> bool
         requires { core < self.now.setup.cores }
         ensures { IsTrue result ↔ IsInCall self.now core }
@@ -423,7 +423,7 @@ impl LoneKernel {
         self.seats[usize::from(core.number())].state.in_call()
     }
 
-    // Whether the core's call in flight is decided: then it is not among those that are due.
+    // Whether the core's active call is decided: then it is not among those that are due.
     fn has_decided(&self, core: CoreNo) -> bool
         requires { core < self.now.setup.cores }
         ensures { IsTrue result ↔ HasDecided self.now core }

@@ -19,6 +19,6 @@ pub struct Seat {
 pub enum Turn {
     /// This call begins, and makes its first step.
     Begins { call: Call },
-    /// The call in flight makes its next step.
+    /// The active call makes its next step.
     GoesOn,
 }

@@ -13,7 +13,7 @@ use Rattle.kernel_history.specs.Text.{reply_lines, text_of}
 use Rattle.kernel_history.proofs.Idle.{all_idle}
 use Rattle.flight.specs.Made.{ready_after, IsMade}
 use Rattle.flight.specs.Histories.{IsHistory, MadeHistories}
-use Rattle.flight.specs.declared.stages.InFlight.{InFlight}
+use Rattle.call_steps.specs.declared.stages.ActiveCall.{ActiveCall}
 use Rattle.flight.proofs.Phases.{made_of_its_cores}
 use Rattle.lone_kernel.specs.GivenSteps.{GivenSteps}
 use Rattle.lone_kernel.specs.Machine.{Machine, core_at}
@@ -25,9 +25,9 @@ use Rattle.speck_run.specs.Written.{lines_of}
 
 -- a machine that stands for a trace in which its cores are idle
 module _ (m : Machine) (t : Trace) (setting : IsSetting m.setup) (stands : StandsFor m t) (idle : (c : ℕ) → c < m.setup.cores → IsIdle m.lists t c) where
-  -- no core has a call in flight
-  pub all_out : (c : ℕ) → c < m.setup.cores → (core_at m c).flight ≡ None
-  all_out c here = none_of (core_at m c).flight (λ inside. (phase_is m t c setting here stands).in_call inside (idle c here).out)
+  -- no core has a active call
+  pub all_out : (c : ℕ) → c < m.setup.cores → (core_at m c).active ≡ None
+  all_out c here = none_of (core_at m c).active (λ inside. (phase_is m t c setting here stands).in_call inside (idle c here).out)
 
   -- all cores have had their calls
   all_calls : length m.lists ≡ m.setup.cores → HasCalls m.lists t

@@ -6,7 +6,7 @@ use Rattle.kernel_history.specs.Trace.{state_after}
 use Rattle.kernel_history.specs.Tables.{tables_of}
 use Rattle.kernel_history.specs.FinalWords.{Represent, word_in, end_in}
 use Rattle.spk_nums.specs.Setting.{IsSetting}
-use Rattle.flight.proofs.Sounds.{limits_of}
+use Rattle.core_invariant.proofs.Sounds.{limits_of}
 use Rattle.flight.proofs.Made.{made_histories}
 use Rattle.speck_run.specs.Written.{lines_of}
 use Rattle.speck_run.proofs.Finish.{all_out, run, given}

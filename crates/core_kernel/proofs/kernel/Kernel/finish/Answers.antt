@@ -1,5 +1,5 @@
 use Rattle.std.proofs.Common.{◌≡◌, ◌∙◌, None, All, map, ap, sym, subst}
-use Rattle.flight.specs.Steps.{end_of}
+use Rattle.call_steps.specs.Cores.{end_of}
 use Rattle.core_kernel.specs.Kernel.{AreAllSeats}
 use Rattle.core_kernel.specs.Calls.{EndsAt}
 use Rattle.core_kernel.proofs.Closing.{all_unwrapped, ended_between, ends_at}
@@ -13,7 +13,7 @@ close-requires c =
 pub ends_of-requires : goal.ends_of-requires
 ends_of-requires c =
     let all = subst (λ k. AreAllSeats k c.args.seats.items) (sym c.self.view_is) c.requires in
-    subst (All (λ p. p.state.flight ≡ None)) (sym c.deref.ensures.value)
+    subst (All (λ p. p.state.active ≡ None)) (sym c.deref.ensures.value)
     (ended_between c.self.inside.setup c.self.inside.table c.self.invariant c.in_ok-turn_seats.turn_seats.items c.args.seats.items c.in_ok-turn_seats.ensures all
     c.in_ok-words.words.items c.in_ok-words.programs.items c.in_ok-words.ensures)
 

@@ -3,7 +3,7 @@ use Rattle.spk_nums.specs.Setting.{IsSetting}
 use Rattle.kernel_history.specs.BootWords.{shape_of}
 use Rattle.kernel_history.specs.FinalWords.{Represent, word_in, end_in}
 use Rattle.kernel_history.specs.Trace.{state_after}
-use Rattle.flight.specs.Steps.{end_of}
+use Rattle.call_steps.specs.Cores.{end_of}
 use Rattle.lone_kernel.specs.Machine.{fresh_seat, IsFit}
 use Rattle.flight.proofs.Alike.{same_default}
 use Rattle.lone_kernel.proofs.Close.{closes}
@@ -16,8 +16,8 @@ ends_of-requires c k d h =
     let count = c.self.invariant.0.seats in
     let size = ap length c.deref.ensures.value in
     let here : k < c.args.self.setup.cores = omega arith in
-    ap (λ s. s.state.flight) (same_default c.deref.result.now k d (fresh_seat c.args.self.setup k []) h)
-    ∙ ap (λ l. (get_or l k (fresh_seat c.args.self.setup k [])).state.flight) seats ∙ c.requires k here
+    ap (λ s. s.state.active) (same_default c.deref.result.now k d (fresh_seat c.args.self.setup k []) h)
+    ∙ ap (λ l. (get_or l k (fresh_seat c.args.self.setup k [])).state.active) seats ∙ c.requires k here
 
 pub returns-clause-represent : goal.returns-clause-represent
 returns-clause-represent c t stands =

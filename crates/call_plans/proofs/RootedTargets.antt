@@ -1,0 +1,58 @@
+-- The target of each call is in a table to whose root one of its names is to lead.
+use Rattle.std.proofs.Common.{List, Bool, true, false, ◌||◌, IsTrue}
+use Rattle.spk_nums.specs.declared.kinds.Kind.{Kind}
+use Rattle.spk_nums.specs.declared.kinds.Kind.TheVariants as kind
+use Rattle.spk_nums.specs.declared.kinds.FrameKind.TheVariants.{Untyped, User, Kernel}
+use Rattle.spk_nums.specs.declared.calls.Make.TheVariants as make
+use Rattle.spk_nums.specs.declared.calls.Call.{Call}
+use Rattle.spk_nums.specs.declared.calls.Call.TheVariants.{Look, Copy, Remove, Grow, Shrink, Retype, Make as make_call, Map, Unmap, Touch, Flush, Gate, Kill, Call as call_gate, Ret, Switch, Tick, Transfer, Delegate, Test}
+use Rattle.kernel_rules.specs.Access.{Named, only, root}
+use Rattle.call_plans.specs.declared.plans.Wanted.TheVariants.{Only, Root}
+use Rattle.call_plans.specs.Rooted.{WantsRoot, AreRooted}
+
+or_left : (a b : Bool) → IsTrue a → IsTrue (a || b)
+or_left true b is = is
+or_left false b is = cc
+
+or_right : (a b : Bool) → IsTrue b → IsTrue (a || b)
+or_right true b is = cc
+or_right false b is = is
+
+table_root : WantsRoot (Only kind.Table)
+table_root caps k is = or_left (only kind.Table k) (only kind.Pages k) is
+
+pages_root : WantsRoot (Only kind.Pages)
+pages_root caps k is = or_right (only kind.Table k) (only kind.Pages k) is
+
+any_root : WantsRoot Root
+any_root caps k is = is
+
+pub rooted : AreRooted
+rooted (Look a) = tt
+rooted (Copy a t b) = table_root
+rooted (Remove t b) = table_root
+rooted (Grow t i l) = any_root
+rooted (Shrink t i) = any_root
+rooted (Retype r f Untyped) = tt
+rooted (Retype r f User) = tt
+rooted (Retype r f Kernel) = tt
+rooted (make_call make.Table r f t b) = table_root
+rooted (make_call make.Leaf r f t b) = table_root
+rooted (make_call make.Pages r f t b) = table_root
+rooted (make_call make.Pleaf r f t b) = table_root
+rooted (make_call (make.Thread comp) r f t b) = table_root
+rooted (make_call (make.Tcap sched quality) r f t b) = table_root
+rooted (make_call (make.Comp table pages live) r f t b) = table_root
+rooted (Map p v r f w) = pages_root
+rooted (Unmap p v) = pages_root
+rooted (Touch v) = tt
+rooted Flush = tt
+rooted (Gate k t b) = table_root
+rooted (Kill k) = tt
+rooted (call_gate g) = tt
+rooted Ret = tt
+rooted (Switch h q) = tt
+rooted (Tick n) = tt
+rooted (Transfer a b m) = tt
+rooted (Delegate a b m) = tt
+rooted (Test a b) = tt

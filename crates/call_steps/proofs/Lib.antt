@@ -1,0 +1,4 @@
+pub mod Frames
+pub mod Landing
+pub mod Fitting
+pub mod Decisions

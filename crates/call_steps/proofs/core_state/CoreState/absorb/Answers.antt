@@ -1,0 +1,20 @@
+use Rattle.call_steps.proofs.Fitting.{goes_on, decides_on}
+use Rattle.call_steps.proofs.core_state.CoreState.absorb.Goals as goal
+
+pub invariant_of-self : goal.invariant_of-self
+invariant_of-self c = (goes_on c.self.inside.own c.self.inside.active c.in-Some.active c.absorb-told.new.self c.args.found c.self.invariant c.in-Some.is c.in-Going.ensures.told c.in-Going.ensures.after).0
+
+pub returns-in-Going-clause-fits : goal.returns-in-Going-clause-fits
+returns-in-Going-clause-fits c = (goes_on c.self.inside.own c.self.inside.active c.in-Some.active c.absorb-told.new.self c.args.found c.self.invariant c.in-Some.is c.in-Going.ensures.told c.in-Going.ensures.after).0
+
+pub returns-in-Going-clause-fewer : goal.returns-in-Going-clause-fewer
+returns-in-Going-clause-fewer c = rw (← c.self.view_is) (goes_on c.self.inside.own c.self.inside.active c.in-Some.active c.absorb-told.new.self c.args.found c.self.invariant c.in-Some.is c.in-Going.ensures.told c.in-Going.ensures.after).1
+
+pub invariant_of-self-in-Decided : goal.invariant_of-self-in-Decided
+invariant_of-self-in-Decided c = (decides_on c.self.inside.own c.self.inside.active c.in-Some.active c.absorb-told.new.self c.in-Decided.reply c.calls_counted.result c.args.found c.self.invariant c.in-Some.is c.in-Decided.ensures.told c.in-Decided.ensures.after c.calls_counted.ensures.value).0
+
+pub returns-in-Decided-clause-fits : goal.returns-in-Decided-clause-fits
+returns-in-Decided-clause-fits c = (decides_on c.self.inside.own c.self.inside.active c.in-Some.active c.absorb-told.new.self c.in-Decided.reply c.calls_counted.result c.args.found c.self.invariant c.in-Some.is c.in-Decided.ensures.told c.in-Decided.ensures.after c.calls_counted.ensures.value).0
+
+pub returns-in-Decided-clause-fewer : goal.returns-in-Decided-clause-fewer
+returns-in-Decided-clause-fewer c = rw (← c.self.view_is) (decides_on c.self.inside.own c.self.inside.active c.in-Some.active c.absorb-told.new.self c.in-Decided.reply c.calls_counted.result c.args.found c.self.invariant c.in-Some.is c.in-Decided.ensures.told c.in-Decided.ensures.after c.calls_counted.ensures.value).1

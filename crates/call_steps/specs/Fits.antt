@@ -1,0 +1,134 @@
+-- What holds of a core at every moment: its numbers are in range, and its call keeps within its bound of steps.
+use Rattle.std.specs.Prelude.{ℕ, ◌+◌, ◌<◌, ◌≤◌, ◌≡◌, Bool, IsTrue, List, [], ◌∷◌, Option, Some, None}
+use Rattle.spk_nums.specs.Bounds.{bound_of}
+use Rattle.spk_nums.specs.CallLimits.{InLimits}
+use Rattle.spk_nums.specs.Capability.{Capability}
+use Rattle.spk_nums.specs.declared.kinds.Kind.{Kind}
+use Rattle.supported_calls.specs.Built.{IsBuilt}
+use Rattle.word_map.specs.Places.{Shape, IsShape}
+use Rattle.stage_look.specs.Shown.{CapNames}
+use Rattle.stage_look.specs.Lookup.{LookFits}
+use Rattle.stage_look.specs.declared.look.Look.{Look}
+use Rattle.stage_look.specs.declared.look.Look.TheVariants.{AtRoot, AtLeaf, AtEntry}
+use Rattle.call_plans.specs.declared.plans.Name.{Name}
+use Rattle.call_plans.specs.declared.plans.Target.{Target}
+use Rattle.call_plans.specs.declared.plans.Plan.{Plan}
+use Rattle.call_plans.specs.PlanOf.{plan_for}
+use Rattle.call_plans.specs.After.{Leads, names_after}
+use Rattle.call_plans.specs.Bounds.{look_steps, act_steps}
+use Rattle.call_steps.specs.declared.own.Own.{Own}
+use Rattle.call_steps.specs.declared.stages.Work.{Work}
+use Rattle.call_steps.specs.declared.stages.Work.TheVariants.{Lookup, Act}
+use Rattle.call_steps.specs.declared.stages.Stage.{Stage}
+use Rattle.call_steps.specs.declared.stages.Stage.TheVariants.{Enter, Undecided, Decided, Leave}
+use Rattle.call_steps.specs.declared.stages.ActiveCall.{ActiveCall}
+use Rattle.call_steps.specs.Acts.{ActFits, act_left}
+use Rattle.call_steps.specs.Tails.{tail_left}
+use Rattle.call_steps.specs.View.{Core}
+
+-- a stage names frames of the machine alone
+abbrev pub WorkFits : Shape → Work → Type 0
+WorkFits s (Lookup look) = LookFits s look
+WorkFits s (Act act) = ActFits s act
+
+abbrev pub StageFits : Shape → Stage → Type 0
+StageFits s Enter = Unit {0}
+StageFits s (Undecided work) = WorkFits s work
+StageFits s (Decided r tail) = Unit {0}
+StageFits s (Leave r stamp) = Unit {0}
+
+-- what the names have led to is wanted, and names frames of the machine
+abbrev pub IsWanted : ℕ → ℕ → (Kind → Bool) → Capability → Type 0
+IsWanted frames n wanted k = IsTrue (wanted k.kind) × CapNames frames k
+
+abbrev pub FoundFits : ℕ → Plan → List Capability → Type 0
+FoundFits frames plan ks = Leads (IsWanted frames) plan.names [] ks
+
+-- a call that is not decided can still be counted, once it has entered
+abbrev pub HasRoom : ℕ → ℕ → Stage → Type 0
+HasRoom made limit Enter = Unit {0}
+HasRoom made limit (Undecided work) = made < limit
+HasRoom made limit (Decided r tail) = Unit {0}
+HasRoom made limit (Leave r stamp) = Unit {0}
+
+-- the most steps of a look-up that are still to come
+abbrev pub left_of_look : Look → ℕ
+left_of_look (AtRoot root number) = 2
+left_of_look (AtLeaf leaf number) = 1
+left_of_look (AtEntry root entry) = 1
+
+-- the names of a call that have led to nothing yet
+abbrev pub names_left : ActiveCall → List Name
+names_left a = names_after a.plan.names a.found
+
+-- the steps of the look-ups that come after that of the first of these names, or of the target where none is left
+abbrev pub looks_later : List Name → Target → ℕ
+looks_later [] target = 0
+looks_later (name ∷ names) target = look_steps names target
+
+-- the most steps that come after the look-up of a call, till it is decided and has stored what it has to
+abbrev pub steps_later : ℕ → ActiveCall → ℕ
+steps_later cores a = looks_later (names_left a) a.plan.target + act_steps a.call cores
+
+-- the most steps of the work that are still to come, where so many come after its look-up
+abbrev pub work_left : ℕ → Work → ℕ
+work_left later (Lookup look) = left_of_look look + later
+work_left later (Act act) = act_left act
+
+-- the most steps of a call that are still to come at a stage, on so many cores; two are those of its exit
+abbrev pub left_at : ℕ → ActiveCall → Stage → ℕ
+left_at cores a Enter = 3 + look_steps (names_left a) a.plan.target + act_steps a.call cores
+left_at cores a (Undecided work) = 2 + work_left (steps_later cores a) work
+left_at cores a (Decided r tail) = 2 + tail_left tail
+left_at cores a (Leave r stamp) = 1
+
+abbrev pub left_of : ℕ → ActiveCall → ℕ
+left_of cores a = left_at cores a a.stage
+
+-- a call that has not entered has found nothing yet
+abbrev pub IsFirst : Stage → List Capability → Type 0
+IsFirst Enter found = found ≡ []
+IsFirst (Undecided work) found = Unit {0}
+IsFirst (Decided r tail) found = Unit {0}
+IsFirst (Leave r stamp) found = Unit {0}
+
+-- the call of a core: it is one that is carried out and goes by its plan, its stage fits the core, and the steps made and those to
+-- come are within its bound
+pub record IsActive (own : Own) (a : ActiveCall) : Type 0 where
+  pub limits : InLimits a.call
+  pub built : IsBuilt a.call
+  pub plan : a.plan ≡ plan_for a.call
+  pub found : FoundFits own.layout.frames a.plan a.found
+  pub first : IsFirst a.stage a.found
+  pub stage : StageFits own.layout a.stage
+  pub room : HasRoom own.made own.limit a.stage
+  pub steps : a.steps + left_of own.layout.cores a ≤ bound_of a.call own.layout.cores
+
+-- the call of a core fits, if there is one
+abbrev pub CallFits : Own → Option ActiveCall → Type 0
+CallFits own None = Unit {0}
+CallFits own (Some a) = IsActive own a
+
+-- what a core has of its own names frames of its machine, and it has counted no more calls than it may make
+pub record IsOwn (own : Own) : Type 0 where
+  pub shape : IsShape own.layout
+  pub core : own.core < own.layout.cores
+  pub thread : own.thread < own.layout.frames
+  pub comp : own.comp < own.layout.frames
+  pub table : own.table < own.layout.frames
+  pub pages : own.pages < own.layout.frames
+  pub tcap : own.tcap < own.layout.frames
+  pub most_calls : own.limit ≤ 4194304
+  pub made : own.made ≤ own.limit
+
+pub record IsCore (c : Core) : Type 0 where
+  pub own : IsOwn c.own
+  pub active : CallFits c.own c.active
+
+-- the most steps of a core's call that are still to come; none where there is no call
+abbrev pub left_for : ℕ → Option ActiveCall → ℕ
+left_for cores None = 0
+left_for cores (Some a) = left_of cores a
+
+abbrev pub steps_left : Core → ℕ
+steps_left c = left_for c.own.layout.cores c.active

@@ -1,0 +1,56 @@
+-- When a call is decided, and what a step of it may decide. Each is the contract of a function of this crate.
+use Rattle.std.specs.Prelude.{◌≡◌, ℕ, true, false, Option, Some, None}
+use Rattle.spk_nums.specs.declared.replies.Reply.{Reply}
+use Rattle.kernel_rules.specs.Laws.{IsRefusal}
+use Rattle.call_steps.specs.declared.refusals.Refusal.{Refusal}
+use Rattle.call_steps.specs.declared.own.Own.{Own}
+use Rattle.call_steps.specs.declared.stages.Stage.{Stage}
+use Rattle.call_steps.specs.declared.stages.Stage.TheVariants.{Enter, Undecided, Decided, Leave}
+use Rattle.call_steps.specs.declared.stages.ActiveCall.{ActiveCall}
+use Rattle.call_steps.specs.Refusals.{reply_of, refusal_of}
+use Rattle.call_steps.specs.Steps.{Took, GoesOn, Decides, Returns, took, is_ready}
+use Rattle.call_steps.specs.Fits.{IsActive}
+
+-- The reply with which a call is decided, at a stage at which it is.
+abbrev pub reply_at : Stage → Option Reply
+reply_at Enter = None
+reply_at (Undecided work) = None
+reply_at (Decided r tail) = Some r
+reply_at (Leave r stamp) = Some r
+
+-- What a step leads to, where the call was decided with this reply, or was not: it goes on as it was; it is decided, and was not;
+-- it returns the reply with which it was decided.
+abbrev pub Turns : Option Reply → Took → Type 0
+Turns o (GoesOn a) = reply_at a.stage ≡ o
+Turns o (Decides r a) = (o ≡ None) × (reply_at a.stage ≡ Some r)
+Turns o (Returns r stamp) = o ≡ Some r
+
+-- A call is decided once, and returns the reply with which it was decided.
+abbrev pub DecidesOnce : Type 0
+DecidesOnce = (own : Own) (a : ActiveCall) (found : ℕ) → Turns (reply_at a.stage) (took own a found)
+
+-- What a step leads to is no `ok`.
+abbrev pub Refuses : Took → Type 0
+Refuses (GoesOn a) = Unit {0}
+Refuses (Decides r a) = IsRefusal r
+Refuses (Returns r stamp) = Unit {0}
+
+-- A step of a call that is not ready decides a refusal, if it decides.
+abbrev pub UnreadyRefuses : Type 0
+UnreadyRefuses = (own : Own) (a : ActiveCall) (found : ℕ) → IsActive own a → is_ready a ≡ false → Refuses (took own a found)
+
+-- What a step leads to is a decision.
+abbrev pub IsDecision : Took → Type 0
+IsDecision (GoesOn a) = ⊥
+IsDecision (Decides r a) = Unit {0}
+IsDecision (Returns r stamp) = ⊥
+
+-- A call that is ready and not decided is decided by its next step, whatever word that finds.
+abbrev pub ReadyDecides : Type 0
+ReadyDecides = (own : Own) (a : ActiveCall) (found : ℕ) → IsActive own a → is_ready a ≡ true → reply_at a.stage ≡ None → IsDecision (took own a found)
+
+-- A refusal and the reply that says it are one, and no refusal says `ok`.
+pub record RefusalsAreReplies : Type 0 where
+  pub refuses : (f : Refusal) → IsRefusal (reply_of f)
+  pub back : (f : Refusal) → refusal_of (reply_of f) ≡ f
+  pub same : (r : Reply) → IsRefusal r → reply_of (refusal_of r) ≡ r

@@ -1,0 +1,10 @@
+pub mod Refusals
+pub mod View
+pub mod Fills
+pub mod Tails
+pub mod Acts
+pub mod Lookups
+pub mod Steps
+pub mod Cores
+pub mod Fits
+pub mod Laws

@@ -1,0 +1,59 @@
+-- The look-ups of a call, driven by its plan.
+use Rattle.std.specs.Prelude.{ℕ, Bool, nat_le, if◌then◌else◌, Some, None, List}
+use Rattle.spk_nums.specs.Capability.{Capability}
+use Rattle.spk_nums.specs.declared.kinds.Kind.{Kind}
+use Rattle.spk_nums.specs.declared.calls.Call.{Call}
+use Rattle.entry_words.specs.declared.entry.Entry.{Entry}
+use Rattle.entry_words.specs.declared.entry.Entry.TheVariants as entry
+use Rattle.kernel_rules.specs.Access.{Target as place, Under, InRoot}
+use Rattle.stage_look.specs.declared.look.Look.TheVariants.{AtRoot, AtEntry}
+use Rattle.stage_look.specs.declared.look.Found.{Found}
+use Rattle.call_plans.specs.After.{Next, NextName, NextFree, NextHeld, NextOwn, NextNothing}
+use Rattle.call_steps.specs.declared.refusals.Refusal.TheVariants.{NoSlot, Empty, WrongCap, Occupied, Busy, Raced}
+use Rattle.call_steps.specs.declared.lookups.Met.{Met}
+use Rattle.call_steps.specs.declared.lookups.Met.TheVariants.{Finds, Refused}
+use Rattle.call_steps.specs.declared.stages.Work.TheVariants.{Lookup}
+use Rattle.call_steps.specs.declared.stages.WorkStep.{WorkStep}
+use Rattle.call_steps.specs.declared.stages.WorkStep.TheVariants.{Goes}
+use Rattle.call_steps.specs.Acts.{refuse, act_begun}
+
+-- a number, or a root entry, is looked up, if it is within its range
+abbrev pub looks_under : Bool → ℕ → ℕ → WorkStep
+looks_under within root n = if within then Goes (Lookup (AtRoot root n)) else refuse NoSlot
+
+abbrev pub looks_entry : Bool → ℕ → ℕ → WorkStep
+looks_entry within root i = if within then Goes (Lookup (AtEntry root i)) else refuse NoSlot
+
+abbrev pub looks_at : place → WorkStep
+looks_at (Under table n) = looks_under (nat_le n 4095) table.frame n
+looks_at (InRoot table i) = looks_entry (nat_le i 63) table.frame i
+
+-- what comes next of a call whose names have led to these, in a component with this table; no call that looks up a page of its
+-- own is carried out today
+abbrev pub next_step : ℕ → Call → List Capability → Next → WorkStep
+next_step table call found (NextName n wanted) = looks_under (nat_le n 4095) table n
+next_step table call found (NextFree target) = looks_at target
+next_step table call found (NextHeld target) = looks_at target
+next_step table call found (NextOwn v) = refuse Raced
+next_step table call found NextNothing = act_begun call found None
+
+-- what a name has led to that wants these kinds, where its place shows this entry
+abbrev pub met_name : (Kind → Bool) → Entry → Met
+met_name wanted entry.Free = Refused Empty
+met_name wanted (entry.Held k) = if wanted k.kind then Finds k else Refused WrongCap
+met_name wanted (entry.Closing by) = Refused (Busy by)
+met_name wanted (entry.Quiescing stamp) = Refused Empty
+
+-- what a call does whose target is to be free, where its place shows this entry
+abbrev pub met_free : Call → List Capability → Found → Entry → WorkStep
+met_free call found target entry.Free = act_begun call found (Some target)
+met_free call found target (entry.Held k) = refuse Occupied
+met_free call found target (entry.Closing by) = refuse (Busy by)
+met_free call found target (entry.Quiescing stamp) = act_begun call found (Some target)
+
+-- what a call does whose target is to be held, where its place shows this entry
+abbrev pub met_held : Call → List Capability → Found → Entry → WorkStep
+met_held call found target entry.Free = refuse Empty
+met_held call found target (entry.Held k) = act_begun call found (Some target)
+met_held call found target (entry.Closing by) = refuse (Busy by)
+met_held call found target (entry.Quiescing stamp) = refuse Empty

@@ -1,0 +1,78 @@
+//! The act that fills a place: one compare with the word that the call's look-up has loaded there, which decides the call.
+//!
+//! The place may be one that still waits for calls which used what was removed there. No call removes anything yet, so the
+//! compare expects that word as it was found, and no other core is asked.
+
+ghost use Rattle.std.specs.Prelude.{◌≡◌, ◌<◌};
+ghost use Rattle.word_map.specs.Places.{size_of};
+ghost use Rattle.word_map.specs.Moves.{op_of};
+ghost use Rattle.spk_nums.specs.WordSteps.{place_in};
+ghost use Rattle.entry_words.specs.EntryWord.{word_of_entry};
+ghost use Rattle.entry_words.specs.declared.entry.Entry.TheVariants.{Held};
+ghost use Rattle.call_steps.specs.Fills.{FillFits, fill_move, took_fill};
+
+use crate::refusals::Refusal;
+use crate::stages::{Tail, WorkStep};
+use entry_words::Entry;
+use spk_nums::{Cap, EntryNo, FrameNo, Value, WordOp};
+use word_map::Layout;
+
+/// A place that is filled, between two steps.
+#[derive(Clone, Copy, PartialEq, Eq, Debug)]
+pub struct Fill {
+    /// The node that has the place.
+    pub node: FrameNo,
+    /// The place's entry in the node.
+    pub entry: EntryNo,
+    /// The word that was found there.
+    pub word: u64,
+    /// What it is to hold.
+    pub cap: Cap,
+}
+
+impl Fill {
+    /// The next step: the place's word is compared with the one found. The node and the frames of what it is to hold are
+    /// below the layout's.
+    #[inline]
+    pub fn next(&self, layout: &Layout) -> WordOp
+        requires { FillFits layout.now self.now }
+        ensures step { result ≡ op_of layout.now (fill_move self.now) }
+        ensures below { place_in result < size_of layout.now }
+    {
+        WordOp::Compare {
+            at: layout.entry_at(self.node, self.entry),
+            expected: self.word,
+            word: held_word(self.cap),
+        }
+    }
+
+    /// Takes the word that the compare found: the call is carried out where it is the one expected, and else `raced`.
+    #[inline]
+    pub fn take(&self, found: u64) -> WorkStep
+        ensures { result ≡ took_fill self.now found }
+    {
+        if found == self.word {
+            WorkStep::Answers {
+                value: Value::Nothing,
+                tail: Tail::Nothing,
+            }
+        } else {
+            WorkStep::Refuses {
+                refusal: Refusal::Raced,
+                tail: Tail::Nothing,
+            }
+        }
+    }
+}
+
+// The word of an entry that holds a capability.
+#[inline]
+fn held_word(cap: Cap) -> u64
+    ensures { result ≡ word_of_entry (Held cap) }
+{
+    let _arg = cap.arg();
+    let frame = cap.frame();
+    let _number = frame.number();
+    let entry = Entry::Held(cap);
+    entry.pack()
+}

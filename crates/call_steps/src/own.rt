@@ -1,0 +1,38 @@
+//! What a core has of its own, beside its call.
+
+use spk_nums::{CoreNo, FrameNo, Stamp, Translations};
+use word_map::Layout;
+
+/// What a core has of its own: where it works, and what it has counted. The step machine of a call reads it; a decision and a
+/// return change it.
+#[derive(Clone, Copy, PartialEq, Eq, Debug)]
+pub struct Own {
+    /// The core's number.
+    pub core: CoreNo,
+    /// The machine's layout.
+    pub layout: Layout,
+    /// The root of the table of its component.
+    pub table: FrameNo,
+    /// The most calls that it may make.
+    pub limit: u32,
+    /// The calls that it has made, those answered `calls-spent` excepted.
+    pub made: u32,
+    /// The clock that its last exit loaded.
+    pub exit: Stamp,
+    /// Its current thread.
+    pub thread: FrameNo,
+    /// The depth of that thread's stack.
+    pub depth: u8,
+    /// The component on top of that stack.
+    pub comp: FrameNo,
+    /// The root of the pages of its component.
+    pub pages: FrameNo,
+    /// Its current temporal capability.
+    pub tcap: FrameNo,
+    /// The ticks that it owes.
+    pub owed: u64,
+    /// The ticks that it has spent.
+    pub spent: u64,
+    /// The translations that it has cached. They stand last, so that what every step reads lies together.
+    pub cached: Translations,
+}

@@ -1,0 +1,169 @@
+-- Steps that change no frame and no liveness number, and of the cores only what the own core counts and whether it is inside; and
+-- steps at which no grace period begins or ends and nothing is flushed. All steps of calls that are carried out today are such.
+use Rattle.std.proofs.Common.{◌≡◌, ◌≢◌, inl, inr, ℕ, zero, suc, ◌+◌, ◌<◌, ◌≤◌, Bool, true, false, cond, ◌∷◌, Option, Some, None, arith, refl, sym, ◌∙◌, ap, subst}
+use Rattle.std.proofs.lemmas.Bool.{cases_eq, false≢true}
+use Rattle.spk_nums.specs.Setting.{Setting}
+use Rattle.word_map.specs.Word.{Word, EntryAt, FrameAt, CountAt, CoreAt, FlushAt, LiveAt, ClockAt, same_word}
+use Rattle.word_map.specs.Moves.{word_of}
+use Rattle.kernel_rules.specs.State.{Core as CoreFields, Thing, PlaceOf, NumberOf, State, put, thread_in, comp_in, first_of_stack, thread_of, comp_of}
+use Rattle.kernel_rules.specs.References.{sum_below}
+use Rattle.kernel_rules.specs.GracePeriods.{entered, returned}
+use Rattle.kernel_rules.specs.CallRelation.{counted}
+use Rattle.kernel_rules.proofs.Within.{put_same, put_other}
+use Rattle.kernel_history.specs.Trace.{Step, Trace, state_after}
+use Rattle.kernel_history.specs.Stamps.{begins_at, ends_at, flushes_at, stamp, clock, clock_seen, exit_of, exit_after, flush_of, flush_stored}
+use Rattle.kernel_history.proofs.Steps.{stamp-kept, exit_of-own, exit_of-other, flush_of-own, flush_of-other, flush_stored-own, flush_stored-other}
+use Rattle.kernel_history.specs.Graces.{KeepsTime}
+use Rattle.call_steps.specs.declared.own.Own.{Own}
+use Rattle.core_invariant.specs.Knows.{WorksIn}
+use Rattle.core_invariant.specs.Stands.{times_of, counted_in}
+use Rattle.core_invariant.proofs.WordFrames.{SameFor}
+
+-- A core that is or is not inside, and has counted so many calls; all else of it stays.
+abbrev pub counts : CoreFields → Bool → ℕ → CoreFields
+counts k inside counted = record k { inside = inside; counted = counted }
+
+-- What a step of core c leaves of the state, the places and grace periods apart.
+pub record IsCalm (s s' : State) (c : ℕ) : Type 0 where
+  pub frame : (f : ℕ) → s'.frame f ≡ s.frame f
+  pub number : (l : ℕ) → s'.number l ≡ s.number l
+  pub limits : s'.limits ≡ s.limits
+  pub others : (d : ℕ) → d ≢ c → s'.core d ≡ s.core d
+  pub own : s'.core c ≡ counts (s.core c) (s'.core c).inside (s'.core c).counted
+  pub more : (s.core c).counted ≤ (s'.core c).counted
+
+pub calm_same : (s : State) (c : ℕ) → IsCalm s s c
+calm_same s c = record { frame = λ f. refl; number = λ l. refl; limits = refl; others = λ d other. refl; own = refl; more = omega arith }
+
+pub calm_core : (s s' : State) (c : ℕ) (k : CoreFields) → s'.core ≡ put s.core c k → ((f : ℕ) → s'.frame f ≡ s.frame f) → ((l : ℕ) → s'.number l ≡ s.number l)
+    → s'.limits ≡ s.limits → k ≡ counts (s.core c) k.inside k.counted → (s.core c).counted ≤ k.counted → IsCalm s s' c
+calm_core s s' c k core frame number limits own more =
+    let at : s'.core c ≡ k = ap (λ f. f c) core ∙ put_same s.core c k c refl in
+    let count : (s'.core c).counted ≡ k.counted = ap (λ j. j.counted) at in
+    record {
+      frame = frame;
+      number = number;
+      limits = limits;
+      others = λ d other. ap (λ f. f d) core ∙ put_other s.core c k d other;
+      own = at ∙ own ∙ ap (λ j. counts (s.core c) j.inside j.counted) (sym at);
+      more = omega arith;
+    }
+
+pub calm_counted : (s : State) (c : ℕ) → IsCalm s (counted s c) c
+calm_counted s c = calm_core s (counted s c) c _ refl (λ f. refl) (λ l. refl) refl refl (omega arith)
+
+pub calm_entered : (s : State) (c : ℕ) → IsCalm s (entered s c) c
+calm_entered s c = calm_core s (entered s c) c _ refl (λ f. refl) (λ l. refl) refl refl (omega arith)
+
+pub calm_returned : (s : State) (c : ℕ) → IsCalm s (returned s c) c
+calm_returned s c = calm_core s (returned s c) c _ refl (λ f. refl) (λ l. refl) refl refl (omega arith)
+
+pub calm_then : (s s' s'' : State) (c : ℕ) → IsCalm s s' c → IsCalm s' s'' c → IsCalm s s'' c
+calm_then s s' s'' c a b = record {
+  frame = λ f. b.frame f ∙ a.frame f;
+  number = λ l. b.number l ∙ a.number l;
+  limits = b.limits ∙ a.limits;
+  others = λ d other. b.others d other ∙ a.others d other;
+  own = b.own ∙ ap (λ k. counts k (s''.core c).inside (s''.core c).counted) a.own;
+  more = (let p = a.more in let q = b.more in omega arith);
+}
+
+thread_on : (s s' : State) (d : ℕ) → ((f : ℕ) → s'.frame f ≡ s.frame f) → (s'.core d).thread ≡ (s.core d).thread → thread_of s' d ≡ thread_of s d
+thread_on s s' d frame thread = ap thread_in (frame (s'.core d).thread) ∙ ap (λ (f : ℕ). thread_in (s.frame f)) thread
+
+comp_on : (s s' : State) (d : ℕ) → ((f : ℕ) → s'.frame f ≡ s.frame f) → (s'.core d).thread ≡ (s.core d).thread → comp_of s' d ≡ comp_of s d
+comp_on s s' d frame thread =
+    ap comp_in (frame (first_of_stack (thread_of s' d).stack)) ∙ ap (λ k. comp_in (s.frame (first_of_stack k.stack))) (thread_on s s' d frame thread)
+
+-- where the own core works stays, but for what it has counted
+pub calm_own : (s s' : State) (c : ℕ) (core after : Own) → IsCalm s s' c → after ≡ record core { made = (s'.core c).counted; exit = after.exit }
+    → WorksIn core s c → WorksIn after s' c
+calm_own s s' c core after calm same is =
+    let thread : (s'.core c).thread ≡ (s.core c).thread = ap (λ k. k.thread) calm.own in
+    let whose = thread_on s s' c calm.frame thread in
+    let comp = comp_on s s' c calm.frame thread in
+    record {
+      thread = ap (λ k. k.thread) same ∙ is.thread ∙ sym thread;
+      depth = ap (λ k. k.depth) same ∙ is.depth ∙ ap (λ k. Rattle.std.proofs.Common.length k.stack) (sym whose);
+      comp = ap (λ k. k.comp) same ∙ is.comp ∙ ap (λ k. first_of_stack k.stack) (sym whose);
+      table = ap (λ k. k.table) same ∙ is.table ∙ ap (λ k. k.table) (sym comp);
+      pages = ap (λ k. k.pages) same ∙ is.pages ∙ ap (λ k. k.pages) (sym comp);
+      tcap = ap (λ k. k.tcap) same ∙ is.tcap ∙ ap (λ k. k.tcap) (sym calm.own);
+      cached = ap (λ k. k.cached) same ∙ is.cached ∙ ap (λ k. k.cached) (sym calm.own);
+      owed = ap (λ k. k.owed) same ∙ is.owed ∙ ap (λ k. k.owed) (sym calm.own);
+      spent = ap (λ k. k.spent) same ∙ is.spent ∙ ap (λ k. k.spent) (sym calm.own);
+      made = ap (λ k. k.made) same;
+    }
+
+sum_rises : (f f' : ℕ → ℕ) (n : ℕ) → ((i : ℕ) → f i ≤ f' i) → sum_below f n ≤ sum_below f' n
+unfolding sum_below
+sum_rises f f' zero rises = omega arith
+sum_rises f f' (suc n) rises = let a = sum_rises f f' n rises in let b = rises n in omega arith
+
+-- the counted calls do not fall
+pub counted_rises : (setup : Setting) (s s' : State) (c : ℕ) → IsCalm s s' c → counted_in setup s ≤ counted_in setup s'
+counted_rises setup s s' c calm = sum_rises (λ d. (s.core d).counted) (λ d. (s'.core d).counted) setup.cores each
+  where
+    each : (d : ℕ) → (s.core d).counted ≤ (s'.core d).counted
+    each d = elim (cases_eq d c) [
+      | inl same ↦ (let a = calm.more in
+          let b : (s.core d).counted ≡ (s.core c).counted = ap (λ (i : ℕ). (s.core i).counted) same in
+          let g : (s'.core d).counted ≡ (s'.core c).counted = ap (λ (i : ℕ). (s'.core i).counted) same in
+          omega arith)
+      | inr other ↦ (let b : (s'.core d).counted ≡ (s.core d).counted = ap (λ k. k.counted) (calm.others d other) in omega arith)
+    ]
+
+-- A step at which no grace period begins or ends, nothing is flushed, no flush is stored, and the clock stays.
+pub record IsPlain (setup : Setting) (t : Trace) (e : Step) : Type 0 where
+  pub begins : (x : Thing) → begins_at setup t e x ≡ false
+  pub ends : (x : Thing) → ends_at t e x ≡ false
+  pub flushes : flushes_at t e ≡ false
+  pub apart : (d : ℕ) → same_word (FlushAt d) (word_of e.move) ≡ false
+  pub same : clock setup (e ∷ t) ≡ clock setup t
+
+pub plain_time : (setup : Setting) (t : Trace) (e : Step) → IsPlain setup t e → KeepsTime setup t e
+plain_time setup t e plain = record {
+  rises = (let a = plain.same in omega arith);
+  draws = λ x is. absurd (false≢true (sym (plain.begins x) ∙ is));
+  flushes = λ is. absurd (false≢true (sym plain.flushes ∙ is));
+}
+
+pub plain_stamp : (setup : Setting) (t : Trace) (e : Step) → IsPlain setup t e → (x : Thing) → stamp setup (e ∷ t) x ≡ stamp setup t x
+plain_stamp setup t e plain x = stamp-kept setup e t x (plain.begins x) (plain.ends x)
+
+pub plain_flush : (setup : Setting) (t : Trace) (e : Step) → IsPlain setup t e → (d : ℕ) → flush_stored (e ∷ t) d ≡ flush_stored t d
+plain_flush setup t e plain d = elim (cases_eq d e.core) [
+  | inl own ↦ flush_stored-own d e t own ∙ ap (λ b. cond b (flush_of t d) (flush_stored t d)) (plain.apart d)
+  | inr other ↦ flush_stored-other d e t other
+]
+
+-- a core's last flush stays stored
+pub plain_flushed : (setup : Setting) (t : Trace) (e : Step) → IsPlain setup t e → (d : ℕ) → flush_stored t d ≡ flush_of t d → flush_stored (e ∷ t) d ≡ flush_of (e ∷ t) d
+plain_flushed setup t e plain d is = elim (cases_eq d e.core) [
+  | inl own ↦ plain_flush setup t e plain d ∙ is ∙ sym (flush_of-own d e t own ∙ ap (λ b. cond b e.found (flush_of t d)) plain.flushes)
+  | inr other ↦ plain_flush setup t e plain d ∙ is ∙ sym (flush_of-other d e t other)
+]
+
+pub plain_exit : (t : Trace) (e : Step) → e.returns ≡ None → (d : ℕ) → exit_of (e ∷ t) d ≡ exit_of t d
+plain_exit t e none d = elim (cases_eq d e.core) [
+  | inl own ↦ exit_of-own d e t own ∙ ap (λ o. exit_after o (clock_seen t d) (exit_of t d)) none
+  | inr other ↦ exit_of-other d e t other
+]
+
+-- what is said of words stays: of all but the own core's word, if the places do
+pub calm_words : (setup : Setting) (t : Trace) (e : Step) → IsCalm (state_after setup t) (state_after setup (e ∷ t)) e.core → IsPlain setup t e
+    → (w : Word) → ((f i : ℕ) → w ≡ EntryAt f i → (state_after setup (e ∷ t)).place f i ≡ (state_after setup t).place f i)
+    → ((d : ℕ) → w ≡ CoreAt d → ((((state_after setup (e ∷ t)).core d).inside ≡ ((state_after setup t).core d).inside) × (exit_of (e ∷ t) d ≡ exit_of t d)))
+    → SameFor (state_after setup t) (state_after setup (e ∷ t)) (times_of setup t) (times_of setup (e ∷ t)) w
+calm_words setup t e calm plain (EntryAt f i) place inside = record {
+  frames = ap (λ l. l.frames) calm.limits;
+  frame = calm.frame f;
+  place = place f i refl;
+  stamp = plain_stamp setup t e plain (PlaceOf f i);
+}
+calm_words setup t e calm plain (FrameAt f) place inside = calm.frame f
+calm_words setup t e calm plain (CountAt f c) place inside = tt
+calm_words setup t e calm plain (CoreAt c) place inside = record { inside = (inside c refl).0; exit = (inside c refl).1 }
+calm_words setup t e calm plain (FlushAt c) place inside = plain_flush setup t e plain c
+calm_words setup t e calm plain (LiveAt l) place inside = record { number = calm.number l; stamp = plain_stamp setup t e plain (NumberOf l) }
+calm_words setup t e calm plain ClockAt place inside = tt

@@ -1,0 +1,136 @@
+-- What a call knows it still knows after a step of another core, and after an own step that decides nothing: each kind of
+-- knowledge once, over the few things that such a step keeps.
+use Rattle.std.proofs.Common.{◌≡◌, inl, inr, ℕ, ◌&&◌, nat_le, if◌then◌else◌, cond, [], ◌∷◌, ◌++◌, List, Bool, true, false, Option, Some, None, refl, ◌∙◌, ap, subst}
+use Rattle.std.specs.Prelude.{IsSome, is_some}
+use Rattle.spk_nums.specs.Capability.{Capability}
+use Rattle.spk_nums.specs.Setting.{Setting, IsSetting}
+use Rattle.spk_nums.specs.declared.kinds.Kind.{Kind}
+use Rattle.spk_nums.specs.declared.calls.Call.{Call}
+use Rattle.word_map.specs.Word.{Word, EntryAt}
+use Rattle.word_map.specs.Moves.{word_of}
+use Rattle.stage_look.specs.declared.look.Look.{Look}
+use Rattle.stage_look.specs.declared.look.Look.TheVariants.{AtRoot, AtLeaf, AtEntry}
+use Rattle.kernel_rules.specs.Access.{Slot, Named, found, Target, Under, InRoot, usable, linked, root_slot, reached}
+use Rattle.kernel_rules.proofs.Facts.{some_inj, none_some}
+use Rattle.kernel_rules.specs.Relies.{Relies}
+use Rattle.kernel_history.specs.Trace.{Step, Trace, Open, phase, state_after, own_left, own_read}
+use Rattle.kernel_history.specs.Justified.{HasReached}
+use Rattle.kernel_history.specs.Legal.{IsLegal}
+use Rattle.kernel_history.proofs.Names.{cases_word}
+use Rattle.kernel_history.proofs.Steps.{own_left-here, own_left-there}
+use Rattle.kernel_history.proofs.Stays.{relies_reached}
+use Rattle.kernel_history.proofs.Carries.{Carries}
+use Rattle.call_plans.specs.declared.plans.Name.{Name}
+use Rattle.call_plans.specs.declared.plans.Plan.{Plan}
+use Rattle.call_plans.specs.GoesBy.{wants}
+use Rattle.call_plans.specs.After.{Leads, Next, NextName, NextFree, NextHeld, NextOwn, NextNothing, next_of}
+use Rattle.call_steps.specs.declared.fills.Fill.{Fill}
+use Rattle.call_steps.specs.declared.stages.Act.TheVariants.{Fill as fill_act}
+use Rattle.call_steps.specs.declared.stages.Work.{Work}
+use Rattle.call_steps.specs.declared.stages.Work.TheVariants.{Lookup, Act}
+use Rattle.call_steps.specs.declared.stages.ActiveCall.{ActiveCall}
+use Rattle.core_invariant.specs.Knows.{IsReached, HasFound, LookIs, LooksUp, own_in, NamesAre, LooksFor, IsFill, KnowsWork, KnowsUndecided}
+
+-- The words on which a call has stepped, after a step of it.
+pub own_kept : (t : Trace) (e : Step) (c : ℕ) → c ≡ e.core → e.enters ≡ None → (w : Word) → IsSome (own_left t c w) → IsSome (own_left (e ∷ t) c w)
+own_kept t e c own no_entry w had = elim (cases_word w (word_of e.move)) [
+  | inl at ↦ ap is_some (own_left-here c e t own w at)
+  | inr there ↦ ap is_some (own_left-there c e t own w there ∙ ap (λ o. cond (is_some o) None (own_left t c w)) no_entry) ∙ had
+]
+
+-- The node of the slot that a target reaches.
+pub slot_relies : (setup : Setting) → IsSetting setup → (t : Trace) → IsLegal setup t → (c : ℕ) (call : Call) → phase t c ≡ Open call
+    → (target : Target) (at : Slot) → IsReached setup t c target at → Relies (state_after setup t) c at.node
+slot_relies setup setting t legal c call is (Under table n) at way = relies_reached setup setting t legal c call is table n at way.reached
+slot_relies setup setting t legal c call is (InRoot table i) at way = subst (Relies (state_after setup t) c) (entry_node (table.found && nat_le i 63) way.reached) way.relies
+  where
+    entry_node : (b : Bool) → (if b then Some (record { node = table.frame; index = i }) else None) ≡ Some at → table.frame ≡ at.node
+    entry_node true h = ap (λ (x : Slot). x.node) (some_inj record { node = table.frame; index = i } at h)
+    entry_node false h = absurd (none_some at h)
+
+module _ (setup : Setting) (setting : IsSetting setup) (t : Trace) (e : Step) (legal : IsLegal setup t) (c : ℕ) (call : Call)
+    (is_open : phase t c ≡ Open call) (carries : Carries setup t e c) where
+  pub slots_on : (slots : List Slot) → HasReached t c slots → HasReached (e ∷ t) c slots
+  slots_on slots had = λ k at h. carries.own _ (had k at h)
+
+  reached_by : (target : Target) (at : Slot) → IsReached setup t c target at → reached (state_after setup (e ∷ t)) c target ≡ Some at
+  reached_by (Under table n) at way = carries.stays.reached table n at way.relies way.reached
+  reached_by (InRoot table i) at way = way.reached
+
+  pub reached_on : (target : Target) (at : Slot) → IsReached setup t c target at → IsReached setup (e ∷ t) c target at
+  reached_on target at way = record {
+    relies = carries.stays.relies _ way.relies;
+    reached = reached_by target at way;
+    stepped = slots_on _ way.stepped;
+  }
+
+  pub found_on : (target : Target) (wanted : Kind → Bool) (k : Capability) → HasFound setup t c target wanted k → HasFound setup (e ∷ t) c target wanted k
+  found_on target wanted k has = record {
+    at = has.at;
+    way = reached_on target has.at has.way;
+    usable = carries.stays.usable has.at k (slot_relies setup setting t legal c call is_open target has.at has.way) has.usable;
+    kind = has.kind;
+    fits = has.fits;
+  }
+
+  link_on : (at : Slot) (leaf : ℕ) → Relies (state_after setup t) c at.node → linked (usable (state_after setup t) c at) ≡ Some leaf
+      → linked (usable (state_after setup (e ∷ t)) c at) ≡ Some leaf
+  link_on at leaf node h = by_cases (usable (state_after setup t) c at) refl h
+    where
+      by_cases : (o : Option Capability) → usable (state_after setup t) c at ≡ o → linked o ≡ Some leaf → linked (usable (state_after setup (e ∷ t)) c at) ≡ Some leaf
+      by_cases None is h = absurd (cc)
+      by_cases (Some k) is h = ap linked (carries.stays.usable at k node is) ∙ h
+
+  look_on : (target : Target) (look : Look) → LooksUp setup t c target look → LookIs setup (e ∷ t) c target look
+  look_on (Under table n) (AtRoot root number) looks = looks.at
+  look_on (Under table n) (AtLeaf leaf number) looks = record {
+    found = looks.at.found;
+    same = looks.at.same;
+    within = looks.at.within;
+    link = link_on (root_slot table.frame n) leaf looks.relies looks.at.link;
+    stepped = carries.own _ looks.at.stepped;
+  }
+  look_on (Under table n) (AtEntry root index) looks = looks.at
+  look_on (InRoot table i) (AtRoot root number) looks = looks.at
+  look_on (InRoot table i) (AtLeaf leaf number) looks = looks.at
+  look_on (InRoot table i) (AtEntry root index) looks = looks.at
+
+  pub looks_on : (target : Target) (look : Look) → LooksUp setup t c target look → LooksUp setup (e ∷ t) c target look
+  looks_on target look looks = record { relies = carries.stays.relies _ looks.relies; at = look_on target look looks }
+
+  pub names_on : (table : ℕ) (plan : Plan) (ks : List Capability) → NamesAre setup t c table plan ks → NamesAre setup (e ∷ t) c table plan ks
+  names_on table plan ks has = leads_on plan.names [] ks has
+    where
+      leads_on : (names : List Name) (caps : List Named) (ks : List Capability) → Leads (λ n wanted k. HasFound setup t c (own_in table n) wanted k) names caps ks
+          → Leads (λ n wanted k. HasFound setup (e ∷ t) c (own_in table n) wanted k) names caps ks
+      leads_on names caps [] has = tt
+      leads_on [] caps (k ∷ ks) has = absurd has
+      leads_on (name ∷ names) caps (k ∷ ks) has = (found_on (own_in table name.number) (wants caps name.wanted) k has.0, leads_on names (caps ++ found k ∷ []) ks has.1)
+
+  -- what a call knows of its look-up, and of its act
+  looks_for_on : (table : ℕ) (next : Next) (look : Look) → LooksFor setup t c table next look → LooksFor setup (e ∷ t) c table next look
+  looks_for_on table (NextName n wanted) look has = looks_on (own_in table n) look has
+  looks_for_on table (NextFree target) look has = looks_on target look has
+  looks_for_on table (NextHeld target) look has = looks_on target look has
+  looks_for_on table (NextOwn v) look has = has
+  looks_for_on table NextNothing look has = has
+
+  fill_on : (a : ActiveCall) (fill : Fill) → ((w : Word) → own_read (e ∷ t) c w ≡ own_read t c w) → IsFill setup t c a fill → IsFill setup (e ∷ t) c a fill
+  fill_on a fill same has = record {
+    target = has.target;
+    next = has.next;
+    way = reached_on has.target (record { node = fill.node; index = fill.entry }) has.way;
+    own = same (EntryAt fill.node fill.entry) ∙ has.own;
+    free = has.free;
+    fits = has.fits;
+    puts = has.puts;
+  }
+
+  work_on : (table : ℕ) (a : ActiveCall) (work : Work) → ((w : Word) → own_read (e ∷ t) c w ≡ own_read t c w) → KnowsWork setup t c table a work → KnowsWork setup (e ∷ t) c table a work
+  work_on table a (Lookup look) same has = looks_for_on table (next_of a.plan a.found) look has
+  work_on table a (Act (fill_act fill)) same has = fill_on a fill same has
+
+  -- what a call knows that is not decided, after a step of another core
+  pub undecided_on : (table : ℕ) (a : ActiveCall) (work : Work) → ((w : Word) → own_read (e ∷ t) c w ≡ own_read t c w) → KnowsUndecided setup t c table a work
+      → KnowsUndecided setup (e ∷ t) c table a work
+  undecided_on table a work same has = record { names = names_on table a.plan a.found has.names; knows = work_on table a work same has.knows }

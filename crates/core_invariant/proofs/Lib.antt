@@ -1,0 +1,10 @@
+pub mod Sounds
+pub mod WordFrames
+pub mod Carries
+pub mod Markers
+pub mod Good
+pub mod Calm
+pub mod Loads
+pub mod Writes
+pub mod Places
+pub mod Refusals

@@ -1,0 +1,5 @@
+pub mod Events
+pub mod Holding
+pub mod Words
+pub mod Knows
+pub mod Stands

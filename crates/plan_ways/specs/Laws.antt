@@ -1,0 +1,68 @@
+-- What is proved of the ways of a call by its plan, where its first names have led to some capabilities.
+use Rattle.std.specs.Prelude.{◌≡◌, ℕ, true, List, [], Option, None, IsFalse}
+use Rattle.spk_nums.specs.Capability.{Capability}
+use Rattle.spk_nums.specs.declared.replies.Reply.{Reply}
+use Rattle.kernel_rules.specs.State.{State, Thing}
+use Rattle.kernel_rules.specs.Access.{Slot, Target as place, own, reached}
+use Rattle.kernel_rules.specs.Rules.{Cause, Rule, Refused, named, vacant, held, mapped, outcome}
+use Rattle.kernel_history.specs.Trace.{Trace}
+use Rattle.kernel_history.specs.Ways.{way_to, ways, wide_way_to, wide_ways, target_of, asked_of}
+use Rattle.kernel_history.specs.Justified.{is_slot_in, HasReached}
+use Rattle.call_plans.specs.declared.plans.Plan.{Plan}
+use Rattle.call_plans.specs.GoesBy.{OwnPages, GoesBy}
+use Rattle.call_plans.specs.After.{rule_after, Leads, LeadsIn, Next, NextName, NextFree, NextHeld, NextOwn, NextNothing, next_of}
+use Rattle.call_plans.specs.Laws.{AfterNames}
+
+-- The place of the next look-up.
+abbrev pub NextPlace : State → ℕ → Next → place → Type 0
+NextPlace s c (NextName n wanted) target = target ≡ own s c n
+NextPlace s c (NextFree t) target = target ≡ t
+NextPlace s c (NextHeld t) target = target ≡ t
+NextPlace s c (NextOwn v) target = ⊥
+NextPlace s c NextNothing target = ⊥
+
+-- The way of the next look-up is on the wide ways of the rule.
+abbrev pub NextOnWay : Type 0
+NextOnWay = AfterNames λ s c pages plan rule ks.
+    (target : place) (f i : ℕ)
+    → NextPlace s c (next_of plan ks) target
+    → is_slot_in (wide_way_to s target) f i ≡ true
+    → is_slot_in (wide_ways s c rule) f i ≡ true
+
+-- The target's slot, if the next look-up is of the target.
+abbrev pub IsTargetOf : State → ℕ → Next → Option Slot → Type 0
+IsTargetOf s c (NextName n wanted) at = Unit {0}
+IsTargetOf s c (NextFree t) at = at ≡ reached s c t
+IsTargetOf s c (NextHeld t) at = at ≡ reached s c t
+IsTargetOf s c (NextOwn v) at = at ≡ None
+IsTargetOf s c NextNothing at = at ≡ None
+
+-- After all names the target of the rule is that of the plan.
+abbrev pub TargetIsNext : Type 0
+TargetIsNext = AfterNames λ s c pages plan rule ks. IsTargetOf s c (next_of plan ks) (target_of s c rule)
+
+-- The things whose grace periods the rule asks for are those that what is left of it asks for.
+abbrev pub AskedIsLeft : Type 0
+AskedIsLeft = AfterNames λ s c pages plan rule ks.
+    (of_cause : Cause → List Thing) → asked_of of_cause s c rule ≡ asked_of of_cause s c (rule_after rule ks)
+
+-- The next look-up of core c is refused in state s; a page of its own pages, where its translation is not cached.
+abbrev pub NextRefused : State → ℕ → OwnPages → Next → Reply → Type 0
+NextRefused s c pages (NextName n wanted) r = named s c n wanted ≡ Refused r
+NextRefused s c pages (NextFree t) r = vacant s c t ≡ Refused r
+NextRefused s c pages (NextHeld t) r = held s c t ≡ Refused r
+NextRefused s c pages (NextOwn v) r = IsFalse (pages.cached v) × (mapped s c pages.table v ≡ Refused r)
+NextRefused s c pages NextNothing r = ⊥
+
+-- Where the next look-up is refused, so is the call, and with that refusal.
+abbrev pub NextIsFirst : Type 0
+NextIsFirst = AfterNames λ s c pages plan rule ks. (r : Reply) → NextRefused s c pages (next_of plan ks) r → outcome s c rule ≡ Refused r
+
+-- A call that has gone the way to each of these names, and all ways of what is left, has gone all ways of the rule.
+abbrev pub AllWays : Type 0
+AllWays =
+    (s : State) (c : ℕ) (pages : OwnPages) (t : Trace) (plan : Plan) (rule : Rule) (ks : List Capability)
+    → GoesBy pages plan rule
+    → Leads (λ n wanted k. LeadsIn s c n wanted k × HasReached t c (way_to s c (own s c n))) plan.names [] ks
+    → HasReached t c (ways s c (rule_after rule ks))
+    → HasReached t c (ways s c rule)

@@ -1,0 +1,36 @@
+-- A step of the work of an undecided call is good.
+use Rattle.std.proofs.Common.{◌≡◌, ℕ, ◌<◌, Some, sym, ap, subst}
+use Rattle.spk_nums.specs.Setting.{Setting, IsSetting}
+use Rattle.word_map.specs.Moves.{word_of, told_of}
+use Rattle.kernel_history.specs.Trace.{Trace, last_left}
+use Rattle.stage_look.specs.Shown.{shown_in}
+use Rattle.stage_look.specs.Lookup.{look_move}
+use Rattle.stage_look.specs.declared.look.Look.{Look}
+use Rattle.stage_look.specs.declared.look.Look.TheVariants.{AtRoot, AtLeaf, AtEntry}
+use Rattle.call_steps.specs.declared.stages.Act.TheVariants.{Fill as fill_act}
+use Rattle.call_steps.specs.declared.stages.Work.{Work}
+use Rattle.call_steps.specs.declared.stages.Work.TheVariants.{Lookup, Act}
+use Rattle.call_steps.specs.declared.stages.Stage.TheVariants.{Undecided}
+use Rattle.call_steps.specs.declared.stages.ActiveCall.{ActiveCall}
+use Rattle.call_steps.specs.View.{Core}
+use Rattle.call_steps.specs.Steps.{work_move, took_look, took_work}
+use Rattle.core_invariant.specs.Knows.{KnowsUndecided}
+use Rattle.core_invariant.specs.Stands.{Stands}
+use Rattle.core_invariant.proofs.Refusals.{GoodTook}
+use Rattle.work_invariant.proofs.ByPlan.{lookup_good}
+use Rattle.work_invariant.proofs.Fills.{fill_good}
+
+look_good : (setup : Setting) → IsSetting setup → (cores : ℕ → Core) (t : Trace) → Stands setup cores t → (c : ℕ) → c < setup.cores → (a : ActiveCall) → (cores c).active ≡ Some a
+    → (look : Look) → a.stage ≡ Undecided (Lookup look) → KnowsUndecided setup t c (cores c).own.table a (Lookup look)
+    → GoodTook setup cores t c (look_move look) (took_look (cores c).own.table a look (last_left setup t (word_of (look_move look))) (shown_in (cores c).own.layout.frames (last_left setup t (word_of (look_move look)))))
+look_good setup setting cores t stands c here a active look is knows =
+    subst (λ (n : ℕ). GoodTook setup cores t c (look_move look) (took_look (cores c).own.table a look (last_left setup t (word_of (look_move look))) (shown_in n (last_left setup t (word_of (look_move look))))))
+    (sym (ap (λ s. s.frames) (stands.each c here).shape)) (lookup_good setup setting cores t stands c here a active look is knows)
+
+pub work_good : (setup : Setting) → IsSetting setup → (cores : ℕ → Core) (t : Trace) → Stands setup cores t → (c : ℕ) → c < setup.cores → (a : ActiveCall) → (cores c).active ≡ Some a
+    → (work : Work) → a.stage ≡ Undecided work → KnowsUndecided setup t c (cores c).own.table a work
+    → GoodTook setup cores t c (work_move work) (took_work (cores c).own a work (told_of (work_move work) (last_left setup t (word_of (work_move work)))))
+work_good setup setting cores t stands c here a active (Lookup (AtRoot top number)) is knows = look_good setup setting cores t stands c here a active (AtRoot top number) is knows
+work_good setup setting cores t stands c here a active (Lookup (AtLeaf leaf number)) is knows = look_good setup setting cores t stands c here a active (AtLeaf leaf number) is knows
+work_good setup setting cores t stands c here a active (Lookup (AtEntry top index)) is knows = look_good setup setting cores t stands c here a active (AtEntry top index) is knows
+work_good setup setting cores t stands c here a active (Act (fill_act fill)) is knows = fill_good setup setting cores t stands c here a fill active is knows
