@@ -35,7 +35,8 @@ RunsCall setting k k' c index call text text' = (s : State) → IsReached settin
 
 -- From every state that the kernel had reached, the calls of core c have been made alone, and their reply lines are written.
 abbrev pub RunsList : Setting → Maps → Maps → ℕ → List Call → List ℕ → List ℕ → Type 0
-RunsList setting k k' c calls text text' = (s : State) → IsReached setting k s → Ran setting k' (plain_steps s c calls) text (plain_lines s c 1 calls) text'
+RunsList setting k k' c calls text text' = (s : State) → IsReached setting k s
+    → Ran setting k' (plain_steps s c calls) text (plain_lines s c 1 calls) text'
 
 -- The same for the calls of the first n cores, core 0's first.
 abbrev pub RunsLists : Setting → Maps → Maps → (ℕ → List Call) → ℕ → List ℕ → List ℕ → Type 0
