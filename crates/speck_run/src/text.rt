@@ -4,7 +4,8 @@ ghost use Rattle.kernel_history.specs.Order.{list_of};
 ghost use Rattle.kernel_history.specs.Text.{line_of};
 ghost use Rattle.speck_run.specs.Written.{lines_of};
 
-use spk_nums::{Call, Decision, ReplyLine};
+use script_printer::push_reply_line;
+use spk_nums::{Call, Decision};
 use std::alloc::AllocError;
 
 // Appends the reply line of a decision, by the lists of the cores' calls; nothing where they have no such call.
@@ -23,14 +24,7 @@ fn write_decision(
     let Some(call) = list.get(index.saturating_sub(1) as usize) else {
         return Ok(());
     };
-    let reply = &decision.reply;
-    let line = ReplyLine {
-        core,
-        index,
-        call,
-        reply,
-    };
-    write!(text, "{line}")
+    push_reply_line(text, core, index, call, &decision.reply)
 }
 
 /// Appends the reply lines of the decisions, in order, by the lists of the cores' calls.
