@@ -70,7 +70,13 @@ fn is_page_node(object: Obj) -> bool
 // The refusal to which the word `at` of the object in a frame leads, if it does to one. The frame is below the layout's,
 // and the word below 64.
 #[inline]
-pub(crate) fn empty_refuses(layout: &Layout, frame: FrameNo, object: Obj, at: EntryNo, found: u64) -> Option<Reply>
+pub(crate) fn empty_refuses(
+    layout: &Layout,
+    frame: FrameNo,
+    object: Obj,
+    at: EntryNo,
+    found: u64,
+) -> Option<Reply>
     requires frame { frame < layout.now.frames }
     requires at { at < 64 }
     ensures { result ≡ empty_refuses layout.now.frames object at found }
@@ -345,7 +351,13 @@ mod tests {
         if let Some(layout) = Layout::new(1, 8) {
             for (object, at, word, wanted) in rows {
                 assert_eq!(rt;
-                    empty_refuses(&layout, FrameNo::new(3), object, EntryNo::new(at % 64), word),
+                    empty_refuses(
+                        &layout,
+                        FrameNo::new(3),
+                        object,
+                        EntryNo::new(at % 64),
+                        word
+                    ),
                     wanted,
                     "at {word:#x} of {object:?}"
                 );

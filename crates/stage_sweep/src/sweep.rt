@@ -212,7 +212,10 @@ impl Sweep {
                 } else {
                     None
                 };
-                (empty_refuses(layout, self.frame, object, entry, found), next)
+                (
+                    empty_refuses(layout, self.frame, object, entry, found),
+                    next,
+                )
             }
         }
     }
