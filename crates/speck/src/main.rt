@@ -50,14 +50,7 @@ fn main(rt: HostRuntime) -> ExitCode {
     let mut source = StdSource::new(rt.stdin());
     let mut sink = StdSink::new(rt.stdout());
     exit_code(match words_after_name(rt.alloc(), env::args(&rt)) {
-        Ok(words) => speck(
-            &rt,
-            rt.alloc(),
-            &FreeGate,
-            &words,
-            &mut source,
-            &mut sink,
-        ),
+        Ok(words) => speck(&rt, rt.alloc(), &FreeGate, &words, &mut source, &mut sink),
         Err(status) => status,
     })
 }

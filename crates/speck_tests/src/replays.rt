@@ -108,7 +108,8 @@ fn list_of(alloc: Global, words: &[&str]) -> Result<Vec<String>, Fail> {
 }
 
 // Whether the call ends with this status, and the sink then holds this text.
-fn answers<R: Threads + Sync>(rt: &R, 
+fn answers<R: Threads + Sync>(
+    rt: &R,
     alloc: Global,
     words: &[&str],
     input: &[u8],
@@ -127,7 +128,8 @@ fn answers<R: Threads + Sync>(rt: &R,
 }
 
 // Whether the script of these lines behind the machine's ends with this status and text.
-fn replays<R: Threads + Sync>(rt: &R, 
+fn replays<R: Threads + Sync>(
+    rt: &R,
     alloc: Global,
     lines: &str,
     ends: &Ends,
@@ -139,15 +141,28 @@ fn replays<R: Threads + Sync>(rt: &R,
 }
 
 // Whether the script of these lines ends with these reply lines and the start's tables, with these entry lines added.
-fn is_done<R: Threads + Sync>(rt: &R, alloc: Global, lines: &str, replies: &str, added: &str) -> Result<bool, Fail> {
+fn is_done<R: Threads + Sync>(
+    rt: &R,
+    alloc: Global,
+    lines: &str,
+    replies: &str,
+    added: &str,
+) -> Result<bool, Fail> {
     let text = format!(in alloc; "{replies}{TO_ENTRIES}{added}{FROM_ENTRIES}")?;
     replays(rt, alloc, lines, &AMPLE, Status::Done, text.as_str())
 }
 
 // Whether the script of these lines is told that this line is the first that is not built.
-fn is_not_built<R: Threads + Sync>(rt: &R, alloc: Global, lines: &str, line: u32) -> Result<bool, Fail> {
+fn is_not_built<R: Threads + Sync>(
+    rt: &R,
+    alloc: Global,
+    lines: &str,
+    line: u32,
+) -> Result<bool, Fail> {
     let text = format!(in alloc; "line {line}: not built yet\n")?;
-    replays(rt, alloc,
+    replays(
+        rt,
+        alloc,
         lines,
         &AMPLE,
         Status::NotBuilt { line },
@@ -156,7 +171,8 @@ fn is_not_built<R: Threads + Sync>(rt: &R, alloc: Global, lines: &str, line: u32
 }
 
 // Whether these bytes are told that they are no script, with this first fault.
-fn is_refused<R: Threads + Sync>(rt: &R, 
+fn is_refused<R: Threads + Sync>(
+    rt: &R,
     alloc: Global,
     bytes: &[u8],
     line: u32,
@@ -179,7 +195,9 @@ fn the_tables_of_the_start_are_written(rt: HostRuntime) -> Result<(), Fail> {
     assert_eq!(rt; ALONE_TABLES.len(), 341);
     for ends in [AMPLE, by_one] {
         assert!(rt;
-            answers(&rt, alloc,
+            answers(
+                &rt,
+                alloc,
                 &["replay"],
                 ALONE.as_bytes(),
                 &ends,
@@ -229,12 +247,26 @@ fn a_copy_of_an_object_is_a_reference_to_it(rt: HostRuntime) -> Result<(), Fail>
     let alloc = rt.alloc();
     let text = format!(in alloc; "0.1 copy 2 1 20 = ok\n{TO_ENTRIES}  20 pages 2\n{FROM_ENTRIES}")?;
     let text = text.replace(alloc, "pages refs 2", "pages refs 3")?;
-    assert!(rt; replays(&rt, alloc, "core 0\ncopy 2 1 20\n", &AMPLE, Status::Done, &text)?);
+    assert!(rt;
+        replays(
+            &rt,
+            alloc,
+            "core 0\ncopy 2 1 20\n",
+            &AMPLE,
+            Status::Done,
+            &text
+        )?
+    );
     Ok(())
 }
 
 // Whether core 0's copy is carried out under this order, and core 1's, to the same place, is then answered so.
-fn copies_end<R: Threads + Sync>(rt: &R, alloc: Global, order: &str, second: &str) -> Result<bool, Fail> {
+fn copies_end<R: Threads + Sync>(
+    rt: &R,
+    alloc: Global,
+    order: &str,
+    second: &str,
+) -> Result<bool, Fail> {
     let lines = format!(in alloc; "{COPIES}{order}")?;
     let replies = format!(in alloc; "0.1 copy 0 1 20 = ok\n1.1 copy 0 1 20 = {second}\n")?;
     is_done(rt, alloc, lines.as_str(), replies.as_str(), COPIED)
@@ -325,7 +357,9 @@ fn the_largest_machine_is_run(rt: HostRuntime) -> Result<(), Fail> {
         "3.1 look 0 = ok range 20 492\n7.1 look 19 = ok tcap 19\n{tables}"
     )?;
     assert!(rt;
-        answers(&rt, alloc,
+        answers(
+            &rt,
+            alloc,
             &["replay"],
             script.as_bytes(),
             &AMPLE,
@@ -344,7 +378,9 @@ fn spaces_and_comments_are_passed_over(rt: HostRuntime) -> Result<(), Fail> {
     let replies = "0.1 look 0 = ok range 6 2\n0.2 look 63 = empty\n0.3 look 12 = ok tcap 5\n";
     let text = format!(in alloc; "{replies}{ALONE_TABLES}")?;
     assert!(rt;
-        answers(&rt, alloc,
+        answers(
+            &rt,
+            alloc,
             &["replay"],
             script.as_bytes(),
             &AMPLE,
@@ -365,7 +401,10 @@ fn the_first_line_that_is_not_built_is_told(rt: HostRuntime) -> Result<(), Fail>
         ("calls 4194304\nepochs 1\ncore 0\nret\n", 9),
     ];
     for (lines, line) in rows {
-        assert!(rt; is_not_built(&rt, rt.alloc(), lines, line)?, "at line {line}");
+        assert!(rt;
+            is_not_built(&rt, rt.alloc(), lines, line)?,
+            "at line {line}"
+        );
     }
     Ok(())
 }
@@ -458,7 +497,9 @@ fn scripts_are_printed(rt: HostRuntime) -> Result<(), Fail> {
         let input = format!(in alloc; "{MACHINE}{lines}")?;
         let text = format!(in alloc; "{MACHINE}{printed}")?;
         assert!(rt;
-            answers(&rt, alloc,
+            answers(
+                &rt,
+                alloc,
                 &print,
                 input.as_bytes(),
                 &AMPLE,
@@ -468,7 +509,9 @@ fn scripts_are_printed(rt: HostRuntime) -> Result<(), Fail> {
         );
     }
     assert!(rt;
-        answers(&rt, alloc,
+        answers(
+            &rt,
+            alloc,
             &print,
             b"",
             &AMPLE,
@@ -530,7 +573,15 @@ fn faults_have_their_statuses(rt: HostRuntime) -> Result<(), Fail> {
     assert_eq!(rt; FRONT.len(), 100);
     for (what, ends, status, text) in rows {
         assert!(rt;
-            answers(&rt, alloc, &["replay"], ALONE.as_bytes(), &ends, status, text)?,
+            answers(
+                &rt,
+                alloc,
+                &["replay"],
+                ALONE.as_bytes(),
+                &ends,
+                status,
+                text
+            )?,
             "{what}"
         );
     }
@@ -550,7 +601,9 @@ fn words_and_length_are_judged_first(rt: HostRuntime) -> Result<(), Fail> {
     ];
     for words in rows {
         assert!(rt;
-            answers(&rt, alloc,
+            answers(
+                &rt,
+                alloc,
                 words,
                 b"",
                 &AMPLE,
@@ -562,7 +615,9 @@ fn words_and_length_are_judged_first(rt: HostRuntime) -> Result<(), Fail> {
     let spaces = vec![in alloc; b' '; 1_048_577]?;
     let replay = ["replay"];
     assert!(rt;
-        answers(&rt, alloc,
+        answers(
+            &rt,
+            alloc,
             &replay,
             &spaces,
             &AMPLE,
@@ -570,12 +625,22 @@ fn words_and_length_are_judged_first(rt: HostRuntime) -> Result<(), Fail> {
             "too long\n"
         )?
     );
-    assert!(rt; is_refused(&rt, alloc, &spaces[1..], 2, Cause::S7, "S7 section out of place")?);
+    assert!(rt;
+        is_refused(
+            &rt,
+            alloc,
+            &spaces[1..],
+            2,
+            Cause::S7,
+            "S7 section out of place"
+        )?
+    );
     Ok(())
 }
 
 // Sure ends never fail, so neither fault is answered.
-fn sure_status<R: Threads + Sync>(rt: &R, 
+fn sure_status<R: Threads + Sync>(
+    rt: &R,
     alloc: Global,
     words: &Vec<String>,
     source: &mut SureSource,

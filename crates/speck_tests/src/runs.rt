@@ -12,9 +12,11 @@ use std::test::Fail;
 use std::thread::Threads;
 
 // Two cores that make two calls each, on entries of their own.
-const TWO_LISTS: &str = "speck 1\ncores 2\nframes 32\ngrant 100 0 1\ngrant 100 0 1\ncore 0\nlook 0\ncopy 0 1 20\ncore 1\ncopy 1 1 21\nlook 21\n";
+const TWO_LISTS: &str =
+    "speck 1\ncores 2\nframes 32\ngrant 100 0 1\ngrant 100 0 1\ncore 0\nlook 0\ncopy 0 1 20\ncore 1\ncopy 1 1 21\nlook 21\n";
 
-const REPLIES: &str = "0.1 look 0 = ok range 8 24\n0.2 copy 0 1 20 = ok\n1.1 copy 1 1 21 = ok\n1.2 look 21 = ok table 0\n";
+const REPLIES: &str =
+    "0.1 look 0 = ok range 8 24\n0.2 copy 0 1 20 = ok\n1.1 copy 1 1 21 = ok\n1.2 look 21 = ok table 0\n";
 
 const TABLES: &str = "frame 0 table refs 3
   0 link 1
