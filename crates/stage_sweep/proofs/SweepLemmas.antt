@@ -35,6 +35,11 @@ pub counters_within : (s : Shape) → IsShape s → counters_of s ≤ s.cores
 unfolding counters_of
 counters_within s h = h.some_core
 
+-- a frame has a counter, so a sweep begins with one that is not frozen
+pub some_counter : (s : Shape) → 0 < counters_of s
+unfolding counters_of
+some_counter s = omega arith
+
 counters_most : (s : Shape) → counters_of s ≤ 8
 unfolding counters_of
 counters_most s = omega arith
