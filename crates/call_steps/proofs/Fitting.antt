@@ -142,7 +142,7 @@ at_fits s ks (InRoot i e) later acts most below = entry_fits s _ _ e later _ ref
 next_case : (s : Shape) (cores table : ℕ) (call : Call) (found : List Capability) (names : List Name) (target : Target) → table < s.frames → IfSome (at_place found First) (CapNames s.frames)
     → (names ≡ [] → RootBelow s.frames found target)
     → StepFits s (looks_later names target + act_steps call cores) (look_steps names target + act_steps call cores)
-      (next_step table call found (next_in (with_found [] found) names target))
+    (next_step table call found (next_in (with_found [] found) names target))
 next_case s cores table call found (name ∷ names) target below first roots = looks_fits s _ table name.number _ _ refl below (omega arith)
 next_case s cores table call found [] Nowhere below first roots =
     let zero : act_steps call cores ≡ 0 + act_steps call cores = omega arith in
@@ -185,7 +185,7 @@ next_fits own a facts =
     next_case own.layout own.layout.cores own.table a.call a.found (names_left a) a.plan.target facts.own_fits.table
     (first_named own.layout.frames a.plan.names [] a.found facts.found)
     (λ none. target_below own.layout.frames a.plan a.found a.plan.target
-      (subst (λ (p : Plan). IsRooted p.names p.target) (sym facts.plan) (rooted a.call)) facts.found none)
+    (subst (λ (p : Plan). IsRooted p.names p.target) (sym facts.plan) (rooted a.call)) facts.found none)
 
 module _ (own : Own) (old a : ActiveCall) (call : a.call ≡ old.call) (plan : a.plan ≡ old.plan) (steps : a.steps ≡ old.steps)
     (found : FoundFits own.layout.frames a.plan a.found) (room : own.made < own.limit) where
@@ -211,11 +211,11 @@ module _ (own : Own) (a : ActiveCall) (facts : Facts own a) (room : own.made < o
       → FoundFits own.layout.frames a.plan (pushed a.found k)
   more_fits name rest k is wanted =
       let few : length a.found < 4 =
-          let counted : length a.found + length (names_left a) ≡ length a.plan.names =
-              count_led (IsWanted own.layout.frames) a.plan.names [] a.found facts.found in
-          let most : length a.plan.names ≤ 4 = subst (λ (p : Plan). length p.names ≤ 4) (sym facts.plan) (few_names a.call) in
-          let one : length (names_left a) ≡ suc (length rest) = ap length is in
-          omega arith in
+      let counted : length a.found + length (names_left a) ≡ length a.plan.names =
+      count_led (IsWanted own.layout.frames) a.plan.names [] a.found facts.found in
+      let most : length a.plan.names ≤ 4 = subst (λ (p : Plan). length p.names ≤ 4) (sym facts.plan) (few_names a.call) in
+      let one : length (names_left a) ≡ suc (length rest) = ap length is in
+      omega arith in
       subst (λ ks. FoundFits own.layout.frames a.plan ks) (sym (pushed_one a.found k few))
       (one_more (IsWanted own.layout.frames) a.plan.names a.plan.target [] a.found k facts.found
       (subst (λ names. NextBy (IsWanted own.layout.frames) (next_in (with_found [] a.found) names a.plan.target) k) (sym is) wanted))
@@ -223,11 +223,11 @@ module _ (own : Own) (a : ActiveCall) (facts : Facts own a) (room : own.made < o
   left_more : (name : Name) (rest : List Name) (k : Capability) → names_left a ≡ name ∷ rest → names_left (found_more a (pushed a.found k)) ≡ rest
   left_more name rest k is =
       let few : length a.found < 4 =
-          let counted : length a.found + length (names_left a) ≡ length a.plan.names =
-              count_led (IsWanted own.layout.frames) a.plan.names [] a.found facts.found in
-          let most : length a.plan.names ≤ 4 = subst (λ (p : Plan). length p.names ≤ 4) (sym facts.plan) (few_names a.call) in
-          let one : length (names_left a) ≡ suc (length rest) = ap length is in
-          omega arith in
+      let counted : length a.found + length (names_left a) ≡ length a.plan.names =
+      count_led (IsWanted own.layout.frames) a.plan.names [] a.found facts.found in
+      let most : length a.plan.names ≤ 4 = subst (λ (p : Plan). length p.names ≤ 4) (sym facts.plan) (few_names a.call) in
+      let one : length (names_left a) ≡ suc (length rest) = ap length is in
+      omega arith in
       ap (names_after a.plan.names) (pushed_one a.found k few) ∙ after_more a.plan.names rest name a.found k is
 
   one_fits : (left : ℕ) (name : Name) (rest : List Name) (k : Capability) → names_left a ≡ name ∷ rest
@@ -381,9 +381,10 @@ pub goes_on : (own : Own) (active : Option ActiveCall) (a new : ActiveCall) (fou
 goes_on own active a new found h is going next =
     let fits : IsActive own a = subst (CallFits own) is h.active in
     let leads : TookFits own (left_of own.layout.cores a) a (GoesOn new) =
-        subst (TookFits own (left_of own.layout.cores a) a) (told_goes a (took own a found) going ∙ ap GoesOn (sym next)) (took_fits own a found h.own fits) in
-    (record { own = h.own; active = active_on own own.made a new fits leads },
-     subst (λ o. left_of own.layout.cores new < left_for own.layout.cores o) (sym is) leads.fewer)
+    subst (TookFits own (left_of own.layout.cores a) a) (told_goes a (took own a found) going ∙ ap GoesOn (sym next)) (took_fits own a found h.own fits) in (
+      record { own = h.own; active = active_on own own.made a new fits leads },
+      subst (λ o. left_of own.layout.cores new < left_for own.layout.cores o) (sym is) leads.fewer,
+    )
 
 pub decides_on : (own : Own) (active : Option ActiveCall) (a new : ActiveCall) (r : Reply) (counted found : ℕ) → IsCore (record { own = own; active = active }) → active ≡ Some a
     → told_as.Decided r ≡ told (took own a found) → new ≡ call_after a (took own a found) → counted ≡ calls_counted r
@@ -391,10 +392,11 @@ pub decides_on : (own : Own) (active : Option ActiveCall) (a new : ActiveCall) (
 decides_on own active a new r counted found h is decided next count =
     let fits : IsActive own a = subst (CallFits own) is h.active in
     let leads : TookFits own (left_of own.layout.cores a) a (Decides r new) =
-        subst (TookFits own (left_of own.layout.cores a) a) (told_decides a r (took own a found) decided ∙ ap (Decides r) (sym next)) (took_fits own a found h.own fits) in
-    (subst (λ n. IsCore (record { own = record own { made = own.made + n }; active = Some new })) (sym count)
-     (record { own = own_on own (own.made + calls_counted r) h.own leads.counted; active = active_on own (own.made + calls_counted r) a new fits leads }),
-     subst (λ o. left_of own.layout.cores new < left_for own.layout.cores o) (sym is) leads.fewer)
+    subst (TookFits own (left_of own.layout.cores a) a) (told_decides a r (took own a found) decided ∙ ap (Decides r) (sym next)) (took_fits own a found h.own fits) in (
+      subst (λ n. IsCore (record { own = record own { made = own.made + n }; active = Some new })) (sym count)
+          (record { own = own_on own (own.made + calls_counted r) h.own leads.counted; active = active_on own (own.made + calls_counted r) a new fits leads }),
+      subst (λ o. left_of own.layout.cores new < left_for own.layout.cores o) (sym is) leads.fewer,
+    )
 
 -- A core that begins a call.
 pub begun_fits : (own : Own) (call : Call) (found : List Capability) (plan : Plan) → IsOwn own → found ≡ [] → plan ≡ plan_for call → InLimits call → IsBuilt call

@@ -5,7 +5,9 @@ ghost use Rattle.spk_nums.specs.CallLimits.{InLimits};
 ghost use Rattle.supported_calls.specs.Built.{IsBuilt};
 
 use crate::{Absorbed, CoreState};
-use spk_nums::{Call, Cap, CapId, CoreNo, FrameNo, Grant, Grants, Kind, Reply, Setup, Value, WordOp};
+use spk_nums::{
+    Call, Cap, CapId, CoreNo, FrameNo, Grant, Grants, Kind, Reply, Setup, Value, WordOp,
+};
 
 // A machine of one core and eight frames has 595 words, the core word at 528 and the clock at 594.
 const CORE_WORD: usize = 528;

@@ -6,6 +6,6 @@
 mod laws;
 
 pub use call_steps::{
-    decides_once, ready_decides, unready_refuses, Absorbed, ActiveCall, CoreState,
+    Absorbed, ActiveCall, CoreState, decides_once, ready_decides, unready_refuses,
 };
 pub use laws::{boots, made_histories, made_stands, represents, says_words, steps_on};

@@ -30,8 +30,10 @@ use Rattle.plain_kernel.specs.Step.{IsReached, IsStep, StepsExactly}
 
 -- ---- the steps that are no call's own
 
-core_step : (t s : State) (c : ℕ) (f : Core → Core) → c < s.limits.cores → SameState t s → SameState (with_core t c (f (t.core c))) (with_core s c (f (s.core c)))
-core_step t s c f below e = same_then _ _ _ (same_by _ _ (ap (λ k. with_core t c (f k)) (e.core c below))) (same_core t s c (f (s.core c)) e)
+core_step : (t s : State) (c : ℕ) (f : Core → Core) → c < s.limits.cores → SameState t s
+    → SameState (with_core t c (f (t.core c))) (with_core s c (f (s.core c)))
+core_step t s c f below e = same_then _ _ _ (same_by _ _ (ap (λ k. with_core t c (f k)) (e.core c below)))
+    (same_core t s c (f (s.core c)) e)
 
 pub entered_same : (t s : State) (c : ℕ) → c < s.limits.cores → SameState t s → SameState (entered t c) (entered s c)
 entered_same t s c below e = core_step t s c (λ k. record k { inside = true }) below e
@@ -42,7 +44,8 @@ counted_same t s c below e = core_step t s c (λ k. record k { counted = k.count
 put_both : (f k : ℕ → Bool) (c d : ℕ) → f d ≡ k d → put f c false d ≡ put k c false d
 put_both f k c d same = ap (λ b. if d == c then false else b) same
 
-test_both : (a b : Bool) (f k f' k' : ℕ → Bool) (d : ℕ) → a ≡ b → f d ≡ k d → f' d ≡ k' d → (if a then f else f') d ≡ (if b then k else k') d
+test_both : (a b : Bool) (f k f' k' : ℕ → Bool) (d : ℕ) → a ≡ b → f d ≡ k d → f' d ≡ k' d
+    → (if a then f else f') d ≡ (if b then k else k') d
 test_both a b f k f' k' d e on off = ap (λ x. (if x then f else f') d) e ∙ chosen b
   where
     chosen : (x : Bool) → (if x then f else f') d ≡ (if x then k else k') d
@@ -55,7 +58,8 @@ passed_same n c g h below e = record {
   not_passed = λ d less. test_both (g.waits c) (h.waits c) g.not_passed h.not_passed (put g.not_passed c false) (put h.not_passed c false) d
       (e.waits c below) (e.not_passed d less) (put_both g.not_passed h.not_passed c d (e.not_passed d less));
   unflushed = e.unflushed;
-  flush_unknown = λ d less. test_both (g.unflushed c) (h.unflushed c) g.flush_unknown h.flush_unknown (put g.flush_unknown c false) (put h.flush_unknown c false) d
+  flush_unknown = λ d less. test_both (g.unflushed c) (h.unflushed c) g.flush_unknown h.flush_unknown (put g.flush_unknown c false)
+      (put h.flush_unknown c false) d
       (e.unflushed c below) (e.flush_unknown d less) (put_both g.flush_unknown h.flush_unknown c d (e.flush_unknown d less));
 }
 
@@ -76,13 +80,15 @@ returned_same t s c below e =
 -- ---- the call's own step
 
 -- What is carried out of an outcome is carried out of one that is the same.
-over : (t s : State) (r : Reply) (k : Maps) → SameState t s → (x y : Judged Change) → SameOutcome x y → IfFound y (λ change. change.next.limits ≡ s.limits)
+over : (t s : State) (r : Reply) (k : Maps) → SameState t s → (x y : Judged Change) → SameOutcome x y
+    → IfFound y (λ change. change.next.limits ≡ s.limits)
     → IsCarriedOut t x r k → IsCarriedOut s y r k
 over t s r k e (Refused p) (Refused q) same limits h = record { reply = h.reply ∙ same; state = same_then (state_of k) t s h.state e }
 over t s r k e (Found x) (Found y) same limits h = record {
   reply = h.reply ∙ ap reply.Ok same.value;
   state = same_then (state_of k) (begun t x.begins x.next) (begun s y.begins y.next) h.state
-      (subst (λ xs. SameState (begun t xs x.next) (begun s y.begins y.next)) (sym same.begins) (begun_same t s x.next y.next y.begins e same.next limits));
+      (subst (λ xs. SameState (begun t xs x.next) (begun s y.begins y.next)) (sym same.begins)
+      (begun_same t s x.next y.next y.begins e same.next limits));
 }
 over t s r k e (Refused p) (Found y) same limits h = absurd same
 over t s r k e (Found x) (Refused q) same limits h = absurd same
@@ -132,7 +138,7 @@ pub record Made (s : State) (c : ℕ) (call : Call) (r : Reply) (k : Maps) : Typ
   pub state : Represents k (plain_step s c call)
 
 module _ (setting : Setting) (lim : IsSetting setting) (events : List Event) (run : IsRun setting events) (c : ℕ) (call : Call)
-  (below : c < setting.cores) (out : phase_of events c ≡ Out) (fits : InLimits call) where
+    (below : c < setting.cores) (out : phase_of events c ≡ Out) (fits : InLimits call) where
   runs : IsRun setting (Enters c call ∷ events)
   runs = (run, record { is_core = below; is_out = out; in_limits = fits })
 
@@ -150,19 +156,23 @@ module _ (setting : Setting) (lim : IsSetting setting) (events : List Event) (ru
   }
 
   -- The kernel has entered the call.
-  pub entered_here : (k k1 : Maps) → Represents k (after setting events) → state_of k1 ≡ entered (state_of k) c → Represents k1 (entered (after setting events) c)
+  pub entered_here : (k k1 : Maps) → Represents k (after setting events) → state_of k1 ≡ entered (state_of k) c
+      → Represents k1 (entered (after setting events) c)
   entered_here k k1 e is = same_then _ _ _ (same_by _ _ is) (entered_same (state_of k) (after setting events) c core_in e)
 
-  spent_same : (k1 : Maps) → Represents k1 (entered (after setting events) c) → are_calls_spent (state_of k1) c ≡ are_calls_spent (entered (after setting events) c) c
+  spent_same : (k1 : Maps) → Represents k1 (entered (after setting events) c)
+      → are_calls_spent (state_of k1) c ≡ are_calls_spent (entered (after setting events) c) c
   spent_same k1 e = λ i. nat_le (e.limits i).calls (e.core c core_in i).counted
 
   -- A core whose calls are spent is answered so.
-  pub spent_here : (k k1 k2 : Maps) → Represents k (after setting events) → state_of k1 ≡ entered (state_of k) c → true ≡ are_calls_spent (state_of k1) c
+  pub spent_here : (k k1 k2 : Maps) → Represents k (after setting events) → state_of k1 ≡ entered (state_of k) c
+      → true ≡ are_calls_spent (state_of k1) c
       → Represents k2 (returned (state_of k1) c) → Made (after setting events) c call reply.CallsSpent k2
   spent_here k k1 k2 e is spent left =
       let here = entered_here k k1 e is in
       let yes : are_calls_spent (entered (after setting events) c) c ≡ true = sym (spent ∙ spent_same k1 here) in
-      let replied : reply.CallsSpent ≡ alone (entered (after setting events) c) c call = ap (λ t. if t then reply.CallsSpent else reply_in (change_of (entered (after setting events) c) c call)) (sym yes) in
+      let replied : reply.CallsSpent ≡ alone (entered (after setting events) c) c call = ap
+      (λ t. if t then reply.CallsSpent else reply_in (change_of (entered (after setting events) c) c call)) (sym yes) in
       record {
         reply = replied;
         state = subst (λ r. SameState (state_of k2) (returned (state_by (entered (after setting events) c) c call r) c)) replied
@@ -170,7 +180,8 @@ module _ (setting : Setting) (lim : IsSetting setting) (events : List Event) (ru
       }
 
   -- Any other call is decided, counted and returned from.
-  pub made_here : (k k1 k2 k3 : Maps) (r : Reply) → Represents k (after setting events) → state_of k1 ≡ entered (state_of k) c → false ≡ are_calls_spent (state_of k1) c
+  pub made_here : (k k1 k2 k3 : Maps) (r : Reply) → Represents k (after setting events) → state_of k1 ≡ entered (state_of k) c
+      → false ≡ are_calls_spent (state_of k1) c
       → (IsInRange (state_of k1) c call → IsCarriedOut (state_of k1) (change_of (state_of k1) c call) r k2)
       → (c < (state_of k2).limits.cores → ((state_of k2).core c).counted < 4194304 → Represents k3 (returned (counted (state_of k2) c) c))
       → Made (after setting events) c call r k3
@@ -180,26 +191,33 @@ module _ (setting : Setting) (lim : IsSetting setting) (events : List Event) (ru
       let no : are_calls_spent s c ≡ false = sym (some ∙ spent_same k1 here) in
       let j = change_of s c call in
       let done : IsCarriedOut s j r k2 = over (state_of k1) s r k2 here (change_of (state_of k1) c call) j
-          (changes_same setting lim (Enters c call ∷ events) runs c call opens (state_of k1) here) (limits_of s j (outcome_all (Waits s) s c (rule_of s c call) (rule_waits s c call)))
-          (decides (stays_in_range setting lim (Enters c call ∷ events) runs c call opens (state_of k1) here)) in
+      (changes_same setting lim (Enters c call ∷ events) runs c call opens (state_of k1) here)
+      (limits_of s j (outcome_all (Waits s) s c (rule_of s c call) (rule_waits s c call)))
+      (decides (stays_in_range setting lim (Enters c call ∷ events) runs c call opens (state_of k1) here)) in
       let replied : r ≡ alone s c call = done.reply ∙ ap (λ t. if t then reply.CallsSpent else reply_in j) (sym no) in
       let left : state_by s c call (alone s c call) ≡ counted (changed s j) c = alone_state s c call bounded no in
-      let decided : IsRun setting (Decides c call (alone s c call) ∷ Enters c call ∷ events) = (runs, record { is_open = opens; permitted = (first_permitted setting (Enters c call ∷ events) c call).permitted }) in
+      let decided : IsRun setting (Decides c call (alone s c call) ∷ Enters c call ∷ events) =
+      (runs, record { is_open = opens; permitted = (first_permitted setting (Enters c call ∷ events) c call).permitted }) in
       let range = (ranges_hold setting lim (Decides c call (alone s c call) ∷ Enters c call ∷ events) decided).cores c
-          (subst (λ (l : Limits). c < l.cores) (sym (limits_stay setting (Decides c call (alone s c call) ∷ Enters c call ∷ events))) below) in
+      (subst (λ (l : Limits). c < l.cores) (sym (limits_stay setting (Decides c call (alone s c call) ∷ Enters c call ∷ events)))
+      below) in
       let most : ((counted (changed s j) c).core c).counted ≤ 4194304 =
-          subst (λ x. (x.core c).counted ≤ 4194304) left
-          (le_then _ _ _ range.counted (subst (λ (l : Limits). l.calls ≤ 4194304) (sym (limits_stay setting (Decides c call (alone s c call) ∷ Enters c call ∷ events))) lim.most_calls)) in
+      subst (λ x. (x.core c).counted ≤ 4194304) left
+      (le_then _ _ _ range.counted (subst (λ (l : Limits). l.calls ≤ 4194304)
+      (sym (limits_stay setting (Decides c call (alone s c call) ∷ Enters c call ∷ events))) lim.most_calls)) in
       let few : ((changed s j).core c).counted < 4194304 = one_less _ (put_here (changed s j).core c) most in
-      let limits : (changed s j).limits ≡ s.limits = changed_limits s j (limits_of s j (outcome_all (Waits s) s c (rule_of s c call) (rule_waits s c call))) in
+      let limits : (changed s j).limits ≡ s.limits = changed_limits s j
+      (limits_of s j (outcome_all (Waits s) s c (rule_of s c call) (rule_waits s c call))) in
       let core_there : c < (changed s j).limits.cores = subst (λ (l : Limits). c < l.cores) (sym limits) core_in in
       let core_here : c < (state_of k2).limits.cores = subst (λ (l : Limits). c < l.cores) (sym done.state.limits) core_there in
-      let few_here : ((state_of k2).core c).counted < 4194304 = subst (λ (k : Core). k.counted < 4194304) (sym (done.state.core c core_there)) few in
+      let few_here : ((state_of k2).core c).counted < 4194304 = subst (λ (k : Core). k.counted < 4194304)
+      (sym (done.state.core c core_there)) few in
       record {
         reply = replied;
         state = subst (λ x. SameState (state_of k3) (returned x c)) (sym left)
             (same_then _ _ _ (finishes core_here few_here)
-            (returned_same (counted (state_of k2) c) (counted (changed s j) c) c core_there (counted_same (state_of k2) (changed s j) c core_there done.state)));
+            (returned_same (counted (state_of k2) c) (counted (changed s j) c) c core_there
+            (counted_same (state_of k2) (changed s j) c core_there done.state)));
       }
 
 -- ---- what is reached
@@ -213,13 +231,15 @@ quiet_again events c call r quiet d = by_test (d == c)
     by_test true = refl
     by_test false = quiet d
 
-pub reached_on : (setting : Setting) → IsSetting setting → (events : List Event) → IsRun setting events → ((d : ℕ) → phase_of events d ≡ Out)
+pub reached_on : (setting : Setting) → IsSetting setting → (events : List Event) → IsRun setting events
+    → ((d : ℕ) → phase_of events d ≡ Out)
     → (c : ℕ) (call : Call) (r : Reply) (k : Maps) → c < setting.cores → InLimits call
     → Made (after setting events) c call r k → IsStep setting (after setting events) c call r k
 reached_on setting lim events run quiet c call r k below fits made =
     let s = after setting events in
     let reply = plain_reply s c call in
-    let own : (phase : Phase) (b : Bool) → b ≡ true → (rest : Phase) → (if b then phase else rest) ≡ phase = λ phase b on rest. ap (λ t. if t then phase else rest) on in
+    let own : (phase : Phase) (b : Bool) → b ≡ true → (rest : Phase) → (if b then phase else rest) ≡ phase = λ phase b on rest. ap
+    (λ t. if t then phase else rest) on in
     let one = eq-eqb c c refl in
     record {
       reply = made.reply;
@@ -244,10 +264,11 @@ reached_on setting lim events run quiet c call r k below fits made =
 -- In every state that the kernel has reached.
 pub always : (k k' : Maps) (c : ℕ) (call : Call) (r : Reply) → c < (state_of k).limits.cores → InLimits call
     → ((setting : Setting) → IsSetting setting → (events : List Event) → IsRun setting events → phase_of events c ≡ Out → c < setting.cores
-      → Represents k (after setting events) → Made (after setting events) c call r k')
+    → Represents k (after setting events) → Made (after setting events) c call r k')
     → StepsExactly k c call r k'
 always k k' c call r below fits makes setting lim s reached =
     subst (λ x. IsStep setting x c call r k') reached.state
     (let e : Represents k (after setting reached.events) = subst (Represents k) (sym reached.state) reached.represents in
     let core : c < setting.cores = subst (λ (l : Limits). c < l.cores) (e.limits ∙ limits_stay setting reached.events) below in
-    reached_on setting lim reached.events reached.runs reached.quiet c call r k' core fits (makes setting lim reached.events reached.runs (reached.quiet c) core e))
+    reached_on setting lim reached.events reached.runs reached.quiet c call r k' core fits
+    (makes setting lim reached.events reached.runs (reached.quiet c) core e))

@@ -59,7 +59,7 @@ both (x ∷ a) b ys h =
 by_budgets : (none other : Bool) (a b ys : List (ℕ × ℕ))
     → (if none then false else if other then true else is_better (merged a b) ys) ≡ true
     → ((if none then false else if other then true else is_better a ys) ≡ true)
-        × ((if none then false else if other then true else is_better b ys) ≡ true)
+    × ((if none then false else if other then true else is_better b ys) ≡ true)
 by_budgets true other a b ys h = absurd (cc)
 by_budgets false true a b ys h = (refl, refl)
 by_budgets false false a b ys h = let two = both a b ys h in (two.first, two.second)

@@ -31,9 +31,12 @@ SameCauses s c _ _ = ⊥
 
 -- Two rules are one in step: what they name, where they look, their causes, and their changes where no cause stands.
 abbrev pub SameRule : State → ℕ → Rule → Rule → Type 0
-SameRule s c (Name n p rest) (Name m q other) = (n ≡ m) × (p ≡ q) × ((k : Capability) → named s c m q ≡ Found k → SameRule s c (rest (found k)) (other (found k)))
-SameRule s c (Vacant x rest) (Vacant y other) = (x ≡ y) × RootGood s y × ((at : Slot) → vacant s c y ≡ Found at → SameRule s c (rest at) (other at))
-SameRule s c (Held x rest) (Held y other) = (x ≡ y) × RootGood s y × ((at : Slot) (k : Capability) → held s c y ≡ Found (at, k) → SameRule s c (rest at k) (other at k))
+SameRule s c (Name n p rest) (Name m q other) = (n ≡ m) × (p ≡ q)
+    × ((k : Capability) → named s c m q ≡ Found k → SameRule s c (rest (found k)) (other (found k)))
+SameRule s c (Vacant x rest) (Vacant y other) = (x ≡ y) × RootGood s y
+    × ((at : Slot) → vacant s c y ≡ Found at → SameRule s c (rest at) (other at))
+SameRule s c (Held x rest) (Held y other) = (x ≡ y) × RootGood s y
+    × ((at : Slot) (k : Capability) → held s c y ≡ Found (at, k) → SameRule s c (rest at k) (other at k))
 SameRule s c (Mapped a v rest) (Mapped b w other) =
     (a ≡ b) × (v ≡ w) × (is_node (s.frame b) ≡ true) × ((k : Capability) → mapped s c b w ≡ Found k → SameRule s c (rest k) (other k))
 SameRule s c (Does xs a) (Does ys b) = SameCauses s c xs ys × (first_cause s c ys ≡ None → SameChange a b)
@@ -63,7 +66,8 @@ behind : (r p q : Option Reply) → (r ≡ None → p ≡ q) → first_of r p �
 behind None p q same = same refl
 behind (Some r) p q same = refl
 
-causes_same : {t s : State} {o : ℕ → Bool} {c : ℕ} → Twins t s o c → (xs ys : List Cause) → SameCauses s c xs ys → first_cause t c xs ≡ first_cause s c ys
+causes_same : {t s : State} {o : ℕ → Bool} {c : ℕ} → Twins t s o c → (xs ys : List Cause) → SameCauses s c xs ys
+    → first_cause t c xs ≡ first_cause s c ys
 causes_same w [] [] h = refl
 causes_same {t} {s} {o} {c} w (x ∷ xs) (y ∷ ys) h =
     ap (λ r. first_of r (first_cause t c xs)) (refusal_same w x y h.0)
@@ -88,17 +92,22 @@ unless_alike p q a b e same = subst (λ r. SameOutcome (unless r a) (unless q b)
     by_cause None is = same is
     by_cause (Some r) is = refl
 
-pub outcome_same : {t s : State} {o : ℕ → Bool} {c : ℕ} → Twins t s o c → (x y : Rule) → SameRule s c x y → SameOutcome (outcome t c x) (outcome s c y)
+pub outcome_same : {t s : State} {o : ℕ → Bool} {c : ℕ} → Twins t s o c → (x y : Rule) → SameRule s c x y
+    → SameOutcome (outcome t c x) (outcome s c y)
 outcome_same {t} {s} {o} {c} w (Name n p rest) (Name m q other) h =
     then_alike (named t c n p) (named s c m q) _ _ ((λ i. named t c (h.0 i) (h.1 i)) ∙ named_same w m q)
     (λ k is. outcome_same w (rest (found k)) (other (found k)) (h.2 k is))
 outcome_same {t} {s} {o} {c} w (Vacant x rest) (Vacant y other) h =
-    then_alike (vacant t c x) (vacant s c y) _ _ (ap (vacant t c) h.0 ∙ vacant_same w y h.1) (λ at is. outcome_same w (rest at) (other at) (h.2 at is))
+    then_alike (vacant t c x) (vacant s c y) _ _ (ap (vacant t c) h.0 ∙ vacant_same w y h.1)
+    (λ at is. outcome_same w (rest at) (other at) (h.2 at is))
 outcome_same {t} {s} {o} {c} w (Held x rest) (Held y other) h =
-    then_alike (held t c x) (held s c y) _ _ (ap (held t c) h.0 ∙ held_same w y h.1) (λ p is. outcome_same w (rest p.0 p.1) (other p.0 p.1) (h.2 p.0 p.1 is))
+    then_alike (held t c x) (held s c y) _ _ (ap (held t c) h.0 ∙ held_same w y h.1)
+    (λ p is. outcome_same w (rest p.0 p.1) (other p.0 p.1) (h.2 p.0 p.1 is))
 outcome_same {t} {s} {o} {c} w (Mapped a v rest) (Mapped b u other) h =
-    then_alike (mapped t c a v) (mapped s c b u) _ _ ((λ i. mapped t c (h.0 i) (h.1 i)) ∙ mapped_same w b u h.2) (λ k is. outcome_same w (rest k) (other k) (h.3 k is))
-outcome_same {t} {s} {o} {c} w (Does xs a) (Does ys b) h = unless_alike (first_cause t c xs) (first_cause s c ys) a b (causes_same w xs ys h.0) h.1
+    then_alike (mapped t c a v) (mapped s c b u) _ _ ((λ i. mapped t c (h.0 i) (h.1 i)) ∙ mapped_same w b u h.2)
+    (λ k is. outcome_same w (rest k) (other k) (h.3 k is))
+outcome_same {t} {s} {o} {c} w (Does xs a) (Does ys b) h = unless_alike (first_cause t c xs) (first_cause s c ys) a b
+    (causes_same w xs ys h.0) h.1
 outcome_same w (Name n p rest) (Vacant y other) h = absurd h
 outcome_same w (Name n p rest) (Held y other) h = absurd h
 outcome_same w (Name n p rest) (Mapped b u other) h = absurd h
@@ -136,7 +145,8 @@ new_grace_same t s e x is = record {
 }
 
 -- The grace periods that a change begins, begun in two states that are one.
-pub begun_same : (t s t' s' : State) (xs : List Thing) → SameState t s → SameState t' s' → s'.limits ≡ s.limits → SameState (begun t xs t') (begun s xs s')
+pub begun_same : (t s t' s' : State) (xs : List Thing) → SameState t s → SameState t' s' → s'.limits ≡ s.limits
+    → SameState (begun t xs t') (begun s xs s')
 begun_same t s t' s' xs e e' limits = record {
   limits = e'.limits;
   place = e'.place;
@@ -146,7 +156,8 @@ begun_same t s t' s' xs e e' limits = record {
   grace = λ x is. by_test x is (list_any (same_thing x) xs);
 }
   where
-    by_test : (x : Thing) → IsThing s'.limits x → (b : Bool) → SameGrace s'.limits.cores (if b then new_grace t x else t'.grace x) (if b then new_grace s x else s'.grace x)
+    by_test : (x : Thing) → IsThing s'.limits x → (b : Bool) → SameGrace s'.limits.cores (if b then new_grace t x else t'.grace x)
+        (if b then new_grace s x else s'.grace x)
     by_test x is true =
         subst (λ (l : Rattle.kernel_rules.specs.State.Limits). SameGrace l.cores (new_grace t x) (new_grace s x)) (sym limits)
         (new_grace_same t s e x (subst (λ l. IsThing l x) limits is))

@@ -26,7 +26,8 @@ use Rattle.same_changes.proofs.Alike.{SameCause, SameCauses, SameRule}
 use Rattle.same_changes.proofs.TimeRules.{named_table}
 
 -- A named root is a node.
-root_named : {t s : State} {o : ℕ → Bool} {c : ℕ} → Twins t s o c → (n : ℕ) (k : Capability) → named s c n root ≡ Found k → IsTrue (is_node (s.frame k.frame))
+root_named : {t s : State} {o : ℕ → Bool} {c : ℕ} → Twins t s o c → (n : ℕ) (k : Capability) → named s c n root ≡ Found k
+    → IsTrue (is_node (s.frame k.frame))
 root_named {s = s} {o = o} {c = c} w n k is =
     let good = named_good s o c n root k w.sound w.is_open is in
     root_node k.kind (s.frame k.frame) good.1 good.0.fit
@@ -34,32 +35,60 @@ root_named {s = s} {o = o} {c = c} w n k is =
 fills_same : {t s : State} {o : ℕ → Bool} {c : ℕ} → Twins t s o c → (at : Slot) (k : Capability) → SameChange (fills t at k) (fills s at k)
 fills_same {t} {s} w at k = record { value = refl; next = same_place t s at.node at.index (Holds k) w.same; begins = refl }
 
-pub removes_same : {t s : State} {o : ℕ → Bool} {c : ℕ} → Twins t s o c → (at : Slot) (k : Capability) → SameChange (removes t at k) (removes s at k)
+pub removes_same : {t s : State} {o : ℕ → Bool} {c : ℕ} → Twins t s o c → (at : Slot) (k : Capability)
+    → SameChange (removes t at k) (removes s at k)
 removes_same {t} {s} w at k = record { value = refl; next = same_place t s at.node at.index (Quiescing k) w.same; begins = refl }
 
 pub look_same : {t s : State} {o : ℕ → Bool} {c : ℕ} → Twins t s o c → (a : ℕ) → SameRule s c (look_rule t a) (look_rule s a)
 look_same w a = (refl, refl, λ cap is. (tt, λ none. record { value = refl; next = w.same; begins = refl }))
 
 pub copy_same : {t s : State} {o : ℕ → Bool} {c : ℕ} → Twins t s o c → (a x b : ℕ) → SameRule s c (copy_rule t a x b) (copy_rule s a x b)
-copy_same w a x b = (refl, refl, λ cap is. (refl, refl, λ table is_table.
-    (refl, (λ on. named_table w x table is_table), λ at is_free. (tt, λ none. fills_same w at (capability (found cap))))))
+copy_same w a x b = (
+  refl,
+  refl,
+  λ cap is. (
+    refl,
+    refl,
+    λ table is_table.
+        (refl, (λ on. named_table w x table is_table), λ at is_free. (tt, λ none. fills_same w at (capability (found cap)))),
+  ),
+)
 
 pub remove_same : {t s : State} {o : ℕ → Bool} {c : ℕ} → Twins t s o c → (x b : ℕ) → SameRule s c (remove_rule t x b) (remove_rule s x b)
-remove_same w x b = (refl, refl, λ table is_table. (refl, (λ on. named_table w x table is_table), λ at cap is_held. (tt, λ none. removes_same w at cap)))
+remove_same w x b = (
+  refl,
+  refl,
+  λ table is_table.
+      (refl, (λ on. named_table w x table is_table), λ at cap is_held. (tt, λ none. removes_same w at cap)),
+)
 
 pub grow_same : {t s : State} {o : ℕ → Bool} {c : ℕ} → Twins t s o c → (x i l : ℕ) → SameRule s c (grow_rule t x i l) (grow_rule s x i l)
-grow_same w x i l = (refl, refl, λ table is_table. (refl, refl, λ leaf is_leaf.
-    (refl, root_named w x table is_table, λ at is_free. (tt, λ none. fills_same w at (plain_cap kind.Link leaf.frame)))))
+grow_same w x i l = (
+  refl,
+  refl,
+  λ table is_table. (
+    refl,
+    refl,
+    λ leaf is_leaf.
+        (refl, root_named w x table is_table, λ at is_free. (tt, λ none. fills_same w at (plain_cap kind.Link leaf.frame))),
+  ),
+)
 
 pub shrink_same : {t s : State} {o : ℕ → Bool} {c : ℕ} → Twins t s o c → (x i : ℕ) → SameRule s c (shrink_rule t x i) (shrink_rule s x i)
-shrink_same w x i = (refl, refl, λ table is_table. (refl, root_named w x table is_table, λ at link is_held. (tt, λ none. removes_same w at link)))
+shrink_same w x i = (
+  refl,
+  refl,
+  λ table is_table.
+      (refl, root_named w x table is_table, λ at link is_held. (tt, λ none. removes_same w at link)),
+)
 
 -- ---- making
 
 -- A cause about one of the machine's frames.
 pub frame_test : {t s : State} {o : ℕ → Bool} {c : ℕ} → Twins t s o c → (f : ℕ) (test : Frame → Bool)
     → (nat_lt f t.limits.frames && test (t.frame f)) ≡ (nat_lt f s.limits.frames && test (s.frame f))
-frame_test {t} {s} w f test = ap (λ (l : Limits). nat_lt f l.frames && test (t.frame f)) w.same.limits ∙ by_frame (nat_lt f s.limits.frames) refl
+frame_test {t} {s} w f test = ap (λ (l : Limits). nat_lt f l.frames && test (t.frame f)) w.same.limits
+    ∙ by_frame (nat_lt f s.limits.frames) refl
   where
     by_frame : (b : Bool) → nat_lt f s.limits.frames ≡ b → (b && test (t.frame f)) ≡ (b && test (s.frame f))
     by_frame true is = ap test (w.same.frame f (ltb-true f s.limits.frames is))
@@ -68,7 +97,8 @@ frame_test {t} {s} w f test = ap (λ (l : Limits). nat_lt f l.frames && test (t.
 not_blank_same : {t s : State} {o : ℕ → Bool} {c : ℕ} → Twins t s o c → (f : ℕ) → SameCause s (not_blank t f) (not_blank s f)
 not_blank_same w f = (frame_test w f (λ x. not (is_blank x)), λ on. refl)
 
-makes_same : (t s : State) (f : ℕ) (object : Object) (k : Kind) (at : Slot) → SameState t s → SameChange (makes t f object k at) (makes s f object k at)
+makes_same : (t s : State) (f : ℕ) (object : Object) (k : Kind) (at : Slot) → SameState t s
+    → SameChange (makes t f object k at) (makes s f object k at)
 makes_same t s f object k at e = record {
   value = refl;
   next = same_place _ _ at.node at.index (Holds (plain_cap k f)) (same_frame t s f (Kernel object) e);
@@ -85,9 +115,11 @@ cleared_same t s f e = record {
   grace = λ x is. by_thing (is_place_of f x) x (e.grace x is);
 }
   where
-    by_node : (b : Bool) → {g : ℕ} (i : ℕ) → t.place g i ≡ s.place g i → (if b then (λ i. Free) else t.place g) i ≡ (if b then (λ i. Free) else s.place g) i
+    by_node : (b : Bool) → {g : ℕ} (i : ℕ) → t.place g i ≡ s.place g i
+        → (if b then (λ i. Free) else t.place g) i ≡ (if b then (λ i. Free) else s.place g) i
     by_node true i same = refl
     by_node false i same = same
+
     by_thing : (b : Bool) (x : Thing) → SameGrace s.limits.cores (t.grace x) (s.grace x)
         → SameGrace s.limits.cores (if b then no_grace else t.grace x) (if b then no_grace else s.grace x)
     by_thing true x same = same_grace_by s.limits.cores no_grace no_grace refl
@@ -95,32 +127,113 @@ cleared_same t s f e = record {
 
 make_node_same : {t s : State} {o : ℕ → Bool} {c : ℕ} → Twins t s o c → (object : Object) (k : Kind) (r f x b : ℕ)
     → SameRule s c (make_node t object k r f x b) (make_node s object k r f x b)
-make_node_same {t} {s} w object k r f x b = (refl, refl, λ range is. (refl, refl, λ table is_table. (refl, (λ on. named_table w x table is_table), λ at is_free.
-    (((refl, λ on. refl), λ calm. (not_blank_same w f, λ calm. tt)), λ none. makes_same (cleared t f) (cleared s f) f object k at (cleared_same t s f w.same)))))
+make_node_same {t} {s} w object k r f x b = (
+  refl,
+  refl,
+  λ range is. (
+    refl,
+    refl,
+    λ table is_table. (
+      refl,
+      (λ on. named_table w x table is_table),
+      λ at is_free. (
+        ((refl, λ on. refl), λ calm. (not_blank_same w f, λ calm. tt)),
+        λ none. makes_same (cleared t f) (cleared s f) f object k at
+            (cleared_same t s f w.same),
+      ),
+    ),
+  ),
+)
 
-make_comp_same : {t s : State} {o : ℕ → Bool} {c : ℕ} → Twins t s o c → (r f x b y p l : ℕ) → l < 64 → SameRule s c (make_comp t r f x b y p l) (make_comp s r f x b y p l)
+make_comp_same : {t s : State} {o : ℕ → Bool} {c : ℕ} → Twins t s o c → (r f x b y p l : ℕ) → l < 64
+    → SameRule s c (make_comp t r f x b y p l) (make_comp s r f x b y p l)
 make_comp_same {t} {s} w r f x b y p l small =
-    let number = w.same.number l small in
-    (refl, refl, λ range is. (refl, refl, λ table is_table. (refl, refl, λ own_table is_own. (refl, refl, λ own_pages is_pages. (refl, (λ on. named_table w x table is_table), λ at is_free.
-    (((refl, λ on. refl), λ calm. (not_blank_same w f, λ calm.
-      ((ap is_live number, λ on. refl), λ calm. ((refl, small), λ calm. (((λ i. epoch_of (number i) == (w.same.limits i).epochs), λ on. refl), λ calm. tt))))),
-     λ none. record {
-       value = refl;
-       next = same_then _ _ _
-           (same_by _ _ (ap (λ n. (makes_comp t f (record { table = own_table.frame; pages = own_pages.frame; number = l; epoch = epoch_of n + 1 }) at).next) number))
-           (same_place _ _ at.node at.index (Holds (plain_cap kind.Comp f)) (same_frame _ _ f
-               (Kernel (Comp (record { table = own_table.frame; pages = own_pages.frame; number = l; epoch = epoch_of (s.number l) + 1 })))
-               (same_number t s l (Live (epoch_of (s.number l) + 1) f) w.same)));
-       begins = refl;
-     }))))))
+    let number = w.same.number l small in (
+      refl,
+      refl,
+      λ range is. (
+        refl,
+        refl,
+        λ table is_table. (
+          refl,
+          refl,
+          λ own_table is_own. (
+            refl,
+            refl,
+            λ own_pages is_pages. (
+              refl,
+              (λ on. named_table w x table is_table),
+              λ at is_free. (
+                (
+                  (refl, λ on. refl),
+                  λ calm. (
+                    not_blank_same w f,
+                    λ calm. (
+                      (ap is_live number, λ on. refl),
+                      λ calm.
+                          ((refl, small), λ calm. (((λ i. epoch_of (number i) == (w.same.limits i).epochs), λ on. refl), λ calm. tt)),
+                    ),
+                  ),
+                ),
+                λ none. record {
+                  value = refl;
+                  next = same_then _ _ _
+                      (same_by _ _ (ap (λ n. (makes_comp t f (record
+                      { table = own_table.frame; pages = own_pages.frame; number = l; epoch = epoch_of n + 1 }) at).next) number))
+                      (same_place _ _ at.node at.index (Holds (plain_cap kind.Comp f)) (same_frame _ _ f
+                      (Kernel (Comp (record { table = own_table.frame; pages = own_pages.frame; number = l; epoch = epoch_of (s.number l) + 1 })))
+                      (same_number t s l (Live (epoch_of (s.number l) + 1) f) w.same)));
+                  begins = refl;
+                },
+              ),
+            ),
+          ),
+        ),
+      ),
+    )
 
-pub make_same : {t s : State} {o : ℕ → Bool} {c : ℕ} → Twins t s o c → (what : Make) (r f x b : ℕ) → MakeInLimits what → SameRule s c (make_rule t what r f x b) (make_rule s what r f x b)
+pub make_same : {t s : State} {o : ℕ → Bool} {c : ℕ} → Twins t s o c → (what : Make) (r f x b : ℕ) → MakeInLimits what
+    → SameRule s c (make_rule t what r f x b) (make_rule s what r f x b)
 make_same w make.Table r f x b fits = make_node_same w Table kind.Table r f x b
 make_same w make.Leaf r f x b fits = make_node_same w Leaf kind.Leaf r f x b
 make_same w make.Pages r f x b fits = make_node_same w Pages kind.Pages r f x b
 make_same w make.Pleaf r f x b fits = make_node_same w Pleaf kind.Pleaf r f x b
-make_same {t} {s} w (make.Thread comp) r f x b fits = (refl, refl, λ range is. (refl, refl, λ table is_table. (refl, refl, λ k is_comp. (refl, (λ on. named_table w x table is_table), λ at is_free.
-    (((refl, λ on. refl), λ calm. (not_blank_same w f, λ calm. tt)), λ none. makes_same t s f (Thread (record { stack = k.frame ∷ []; runs_on = None })) kind.Thread at w.same)))))
-make_same {t} {s} w (make.Tcap sched quality) r f x b fits = (refl, refl, λ range is. (refl, refl, λ table is_table. (refl, (λ on. named_table w x table is_table), λ at is_free.
-    (((refl, λ on. refl), λ calm. (not_blank_same w f, λ calm. tt)), λ none. makes_same t s f (Tcap (record { budget = 0; qualities = (sched, quality) ∷ [] })) kind.Tcap at w.same))))
+make_same {t} {s} w (make.Thread comp) r f x b fits = (
+  refl,
+  refl,
+  λ range is. (
+    refl,
+    refl,
+    λ table is_table. (
+      refl,
+      refl,
+      λ k is_comp. (
+        refl,
+        (λ on. named_table w x table is_table),
+        λ at is_free. (
+          ((refl, λ on. refl), λ calm. (not_blank_same w f, λ calm. tt)),
+          λ none. makes_same t s f
+              (Thread (record { stack = k.frame ∷ []; runs_on = None })) kind.Thread at w.same,
+        ),
+      ),
+    ),
+  ),
+)
+make_same {t} {s} w (make.Tcap sched quality) r f x b fits = (
+  refl,
+  refl,
+  λ range is. (
+    refl,
+    refl,
+    λ table is_table. (
+      refl,
+      (λ on. named_table w x table is_table),
+      λ at is_free. (
+        ((refl, λ on. refl), λ calm. (not_blank_same w f, λ calm. tt)),
+        λ none. makes_same t s f
+            (Tcap (record { budget = 0; qualities = (sched, quality) ∷ [] })) kind.Tcap at w.same,
+      ),
+    ),
+  ),
+)
 make_same w (make.Comp y p l) r f x b fits = make_comp_same w r f x b y p l fits

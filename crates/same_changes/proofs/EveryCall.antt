@@ -19,7 +19,8 @@ use Rattle.same_changes.proofs.CapabilityRules.{look_same, copy_same, remove_sam
 use Rattle.same_changes.proofs.MemoryRules.{retype_same, map_same, unmap_same, touch_same, flush_same}
 use Rattle.same_changes.proofs.TimeRules.{gate_same, kill_same, call_same, ret_same, switch_same, tick_same, transfer_same, delegate_same, test_same}
 
-pub rule_same : {t s : State} {o : ℕ → _} {c : ℕ} → Twins t s o c → (call : Call) → InLimits call → SameRule s c (rule_of t c call) (rule_of s c call)
+pub rule_same : {t s : State} {o : ℕ → _} {c : ℕ} → Twins t s o c → (call : Call) → InLimits call
+    → SameRule s c (rule_of t c call) (rule_of s c call)
 rule_same w (Look a) fits = look_same w a
 rule_same w (Copy a x b) fits = copy_same w a x b
 rule_same w (Remove x b) fits = remove_same w x b
@@ -42,7 +43,8 @@ rule_same w (Delegate a b m) fits = delegate_same w a b m
 rule_same w (Test a b) fits = test_same w a b
 
 -- A reached state with an open call, and a state that is one with it.
-pub twins : (setting : Setting) → IsSetting setting → (events : List Event) → IsRun setting events → (c : ℕ) (call : Call) → phase_of events c ≡ Open call
+pub twins : (setting : Setting) → IsSetting setting → (events : List Event) → IsRun setting events → (c : ℕ) (call : Call)
+    → phase_of events c ≡ Open call
     → (t : State) → SameState t (after setting events) → Twins t (after setting events) (opened events) c
 twins setting is events run c call opens t same = record {
   sound = runs_sound setting is events run;
@@ -54,7 +56,8 @@ twins setting is events run c call opens t same = record {
 pub changes_same : SameChanges
 changes_same setting is events run c call opens t same =
     let w = twins setting is events run c call opens t same in
-    outcome_same w (rule_of t c call) (rule_of (after setting events) c call) (rule_same w call (open_limits setting events c call run opens))
+    outcome_same w (rule_of t c call) (rule_of (after setting events) c call)
+    (rule_same w call (open_limits setting events c call run opens))
 
 pub stays_in_range : StaysInRange
 stays_in_range setting is events run c call opens t same =

@@ -42,7 +42,8 @@ epoch_fits : {t s : State} {o : ℕ → _} {c : ℕ} → Twins t s o c → (what
 epoch_fits {t} {s} w (make.Comp table pages live) small =
     let number = w.same.number live small in
     let most = epoch_most s.limits.epochs (s.number live) (w.ranges.numbers live) in
-    subst (λ (l : Limits). epoch_of (t.number live) ≤ l.epochs) (sym w.same.limits) (subst (λ n. epoch_of n ≤ s.limits.epochs) (sym number) most)
+    subst (λ (l : Limits). epoch_of (t.number live) ≤ l.epochs) (sym w.same.limits)
+    (subst (λ n. epoch_of n ≤ s.limits.epochs) (sym number) most)
 epoch_fits w make.Table small = tt
 epoch_fits w make.Leaf small = tt
 epoch_fits w make.Pages small = tt
@@ -61,7 +62,8 @@ has_epoch {t} {s} {o} {c} w n = wherever (named t c n (only kind.Comp)) _ (λ k 
     (comp_epoch s.limits.epochs (s.frame k.frame) (named_fit s o c n kind.Comp k w.sound w.is_open there) (w.ranges.frames k.frame)))
 
 budgets_fit : {t s : State} {o : ℕ → _} {c : ℕ} → Twins t s o c → (a b : ℕ) → BudgetsFit t c a b
-budgets_fit {t} {s} {o} {c} w a b = wherever (named t c a (only kind.Tcap)) _ (λ x is. wherever (named t c b (only kind.Tcap)) _ (λ y is_other apart.
+budgets_fit {t} {s} {o} {c} w a b = wherever (named t c a (only kind.Tcap)) _
+    (λ x is. wherever (named t c b (only kind.Tcap)) _ (λ y is_other apart.
     let one = ap (λ f. (tcap_in f).budget) (named_frame w a kind.Tcap x refl (sym (named_same w a (only kind.Tcap)) ∙ is)) in
     let other = ap (λ f. (tcap_in f).budget) (named_frame w b kind.Tcap y refl (sym (named_same w b (only kind.Tcap)) ∙ is_other)) in
     omega (arith, one, other, w.ranges.budgets x.frame y.frame apart)))
@@ -79,10 +81,12 @@ ticks_fit {t} {s} {o} {c} w calls n small =
     }
 
 -- What is mapped is a page, where it is so in the reached state.
-page_found : {t s : State} {o : ℕ → _} {c : ℕ} → Twins t s o c → ((v : ℕ) (k : Capability) → mapped s c (comp_of s c).pages v ≡ Found k → k.kind ≡ kind.Page)
+page_found : {t s : State} {o : ℕ → _} {c : ℕ} → Twins t s o c
+    → ((v : ℕ) (k : Capability) → mapped s c (comp_of s c).pages v ≡ Found k → k.kind ≡ kind.Page)
     → (v : ℕ) → PageFound t c v
 page_found {t} {s} {o} {c} w pages v = wherever (mapped t c (comp_of t c).pages v) _ (λ k is.
-    let there = sym (ap (λ (m : CompFields). mapped t c m.pages v) (comp_same w) ∙ mapped_same w (comp_of s c).pages v (pages_good w)) ∙ is in
+    let there = sym (ap (λ (m : CompFields). mapped t c m.pages v) (comp_same w) ∙ mapped_same w (comp_of s c).pages v (pages_good w))
+    ∙ is in
     pages v k there)
 
 pub in_range : {t s : State} {o : ℕ → _} {c : ℕ} → Twins t s o c → s.limits.calls ≤ 4194304

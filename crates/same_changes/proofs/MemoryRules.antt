@@ -29,7 +29,8 @@ use Rattle.same_changes.proofs.Reaching.{Twins, pages_node, pages_good, core_sam
 use Rattle.same_changes.proofs.Alike.{SameCauses, SameRule}
 use Rattle.same_changes.proofs.CapabilityRules.{frame_test, removes_same}
 
-named_pages : {t s : State} {o : ℕ → Bool} {c : ℕ} → Twins t s o c → (n : ℕ) (k : Capability) → named s c n (only kind.Pages) ≡ Found k → IsTrue (is_node (s.frame k.frame))
+named_pages : {t s : State} {o : ℕ → Bool} {c : ℕ} → Twins t s o c → (n : ℕ) (k : Capability) → named s c n (only kind.Pages) ≡ Found k
+    → IsTrue (is_node (s.frame k.frame))
 named_pages {s = s} {o = o} {c = c} w n k is = pages_node (s.frame k.frame) (named_fit s o c n kind.Pages k w.sound w.is_open is)
 
 -- A frame of a named range is one of the machine's.
@@ -37,7 +38,8 @@ in_range : {t s : State} {o : ℕ → Bool} {c : ℕ} → Twins t s o c → (n :
     → refusal_of s c (outside (found k) f) ≡ None → f < s.limits.frames
 in_range {s = s} {o = o} {c = c} w n k f is calm =
     let good = named_good s o c n (only kind.Range) k w.sound w.is_open is in
-    let ends : k.frame + k.arg ≤ s.limits.frames = subst (λ j. EndsWithin j k.frame k.arg s.limits.frames) (only_is kind.Range k.kind good.1) good.0.within in
+    let ends : k.frame + k.arg ≤ s.limits.frames = subst (λ j. EndsWithin j k.frame k.arg s.limits.frames)
+    (only_is kind.Range k.kind good.1) good.0.within in
     let has : (nat_le k.frame f && nat_lt f (k.frame + k.arg)) ≡ true = not_not _ (when_not _ reply.OutOfRange calm) in
     let less : f < k.frame + k.arg = ltb-true f (k.frame + k.arg) (second (nat_le k.frame f) (nat_lt f (k.frame + k.arg)) has) in
     omega (arith, ends, less)
@@ -48,7 +50,8 @@ in_range {s = s} {o = o} {c = c} w n k f is calm =
 
 -- ---- retyping
 
-any_same : (p q : ℕ → Bool) (a n : ℕ) → ((i : ℕ) → a ≤ i → i < a + n → p i ≡ q i) → list_any p (range_with_len a n) ≡ list_any q (range_with_len a n)
+any_same : (p q : ℕ → Bool) (a n : ℕ) → ((i : ℕ) → a ≤ i → i < a + n → p i ≡ q i)
+    → list_any p (range_with_len a n) ≡ list_any q (range_with_len a n)
 any_same p q a zero same = refl
 any_same p q a (suc n) same =
     let rest = any_same p q (a + 1) n (λ i least less. same i (omega (arith, least)) (omega (arith, less))) in
@@ -59,7 +62,8 @@ unfolding holds_nothing
 nothing_same {t} {s} w f below = ap not (any_same (λ i. is_some (held_in (t.place f i))) (λ i. is_some (held_in (s.place f i))) 0 64
     (λ i least less. ap (λ p. is_some (held_in p)) (w.same.place f i below (omega (arith, less)))))
 
-object_empty_same : {t s : State} {o : ℕ → Bool} {c : ℕ} → Twins t s o c → (f : ℕ) (x : Object) → f < s.limits.frames → is_empty_object t f x ≡ is_empty_object s f x
+object_empty_same : {t s : State} {o : ℕ → Bool} {c : ℕ} → Twins t s o c → (f : ℕ) (x : Object) → f < s.limits.frames
+    → is_empty_object t f x ≡ is_empty_object s f x
 object_empty_same w f Blank below = refl
 object_empty_same w f (Comp k) below = refl
 object_empty_same w f (Thread k) below = refl
@@ -69,14 +73,15 @@ object_empty_same w f Leaf below = nothing_same w f below
 object_empty_same w f Pages below = nothing_same w f below
 object_empty_same w f Pleaf below = nothing_same w f below
 
-empty_same : {t s : State} {o : ℕ → Bool} {c : ℕ} → Twins t s o c → (f : ℕ) (x : Frame) → f < s.limits.frames → is_empty t f x ≡ is_empty s f x
+empty_same : {t s : State} {o : ℕ → Bool} {c : ℕ} → Twins t s o c → (f : ℕ) (x : Frame) → f < s.limits.frames
+    → is_empty t f x ≡ is_empty s f x
 empty_same w f Untyped below = refl
 empty_same w f User below = refl
 empty_same w f (Kernel x) below = object_empty_same w f x below
 
 emptied_same : (t s : State) (f : ℕ) → SameState t s
     → SameState (with_grace (with_frame t f Untyped) (λ x. if same_thing x (FrameOf f) then no_grace else t.grace x))
-      (with_grace (with_frame s f Untyped) (λ x. if same_thing x (FrameOf f) then no_grace else s.grace x))
+    (with_grace (with_frame s f Untyped) (λ x. if same_thing x (FrameOf f) then no_grace else s.grace x))
 emptied_same t s f e =
     let frames = same_frame t s f Untyped e in
     record {
@@ -93,56 +98,120 @@ emptied_same t s f e =
     by_thing true x same = same_grace_by s.limits.cores no_grace no_grace refl
     by_thing false x same = same
 
-pub retype_same : {t s : State} {o : ℕ → Bool} {c : ℕ} → Twins t s o c → (r f : ℕ) (k : FrameKind) → SameRule s c (retype_rule t r f k) (retype_rule s r f k)
-retype_same {t} {s} {o} {c} w r f frame_kind.Untyped = (refl, refl, λ range is.
-    (((refl, λ on. refl), λ inside.
-      let below = in_range w r range f is inside in
-      ((frame_test w f is_untyped, λ on. refl), λ calm.
-      ((ap (nat_lt 0) (same_refs t s f w.same), λ on. ap reply.Referenced (same_refs t s f w.same)), λ calm.
-      ((refl, below), λ calm. ((refl, below), λ calm.
-      ((ap not (ap (is_empty t f) (w.same.frame f below) ∙ empty_same w f (s.frame f) below), λ on. refl), λ calm. tt)))))),
-     λ none.
-      let below = in_range w r range f is (Rattle.kernel_rules.proofs.Facts.none_parts (refusal_of s c (outside (found range) f)) (Rattle.kernel_rules.specs.Rules.first_cause s c (not_retyped s f frame_kind.Untyped)) none).0 in
-      record { value = refl; next = emptied_same t s f w.same; begins = ap (λ x. frames_of (frame_names x)) (w.same.frame f below) }))
-retype_same {t} {s} w r f frame_kind.User = (refl, refl, λ range is.
-    (((refl, λ on. refl), λ inside. ((frame_test w f (λ x. not (is_untyped x)), λ on. refl), λ calm. tt)),
-     λ none. record { value = refl; next = same_frame t s f User w.same; begins = refl }))
-retype_same {t} {s} w r f frame_kind.Kernel = (refl, refl, λ range is.
-    (((refl, λ on. refl), λ inside. ((frame_test w f (λ x. not (is_untyped x)), λ on. refl), λ calm. tt)),
-     λ none. record { value = refl; next = same_frame t s f (Kernel Blank) w.same; begins = refl }))
+pub retype_same : {t s : State} {o : ℕ → Bool} {c : ℕ} → Twins t s o c → (r f : ℕ) (k : FrameKind)
+    → SameRule s c (retype_rule t r f k) (retype_rule s r f k)
+retype_same {t} {s} {o} {c} w r f frame_kind.Untyped = (
+  refl,
+  refl,
+  λ range is. (
+    (
+      (refl, λ on. refl),
+      λ inside.
+          let below = in_range w r range f is inside in (
+            (frame_test w f is_untyped, λ on. refl),
+            λ calm. (
+              (ap (nat_lt 0) (same_refs t s f w.same), λ on. ap reply.Referenced (same_refs t s f w.same)),
+              λ calm. (
+                (refl, below),
+                λ calm. (
+                  (refl, below),
+                  λ calm.
+                      ((ap not (ap (is_empty t f) (w.same.frame f below) ∙ empty_same w f (s.frame f) below), λ on. refl), λ calm. tt),
+                ),
+              ),
+            ),
+          ),
+    ),
+    λ none.
+        let below = in_range w r range f is (Rattle.kernel_rules.proofs.Facts.none_parts (refusal_of s c (outside (found range) f))
+        (Rattle.kernel_rules.specs.Rules.first_cause s c (not_retyped s f frame_kind.Untyped)) none).0 in
+        record { value = refl; next = emptied_same t s f w.same; begins = ap (λ x. frames_of (frame_names x)) (w.same.frame f below) },
+  ),
+)
+retype_same {t} {s} w r f frame_kind.User = (
+  refl,
+  refl,
+  λ range is. (
+    ((refl, λ on. refl), λ inside. ((frame_test w f (λ x. not (is_untyped x)), λ on. refl), λ calm. tt)),
+    λ none. record { value = refl; next = same_frame t s f User w.same; begins = refl },
+  ),
+)
+retype_same {t} {s} w r f frame_kind.Kernel = (
+  refl,
+  refl,
+  λ range is. (
+    ((refl, λ on. refl), λ inside. ((frame_test w f (λ x. not (is_untyped x)), λ on. refl), λ calm. tt)),
+    λ none. record { value = refl; next = same_frame t s f (Kernel Blank) w.same; begins = refl },
+  ),
+)
 
 -- ---- pages
 
-pub map_same : {t s : State} {o : ℕ → Bool} {c : ℕ} → Twins t s o c → (p v r f : ℕ) (flags : PageFlags) → SameRule s c (map_rule t p v r f flags) (map_rule s p v r f flags)
-map_same {t} {s} w p v r f flags = (refl, refl, λ pages is_pages. (refl, refl, λ range is. (refl, (λ on. named_pages w p pages is_pages), λ at is_free.
-    (((refl, λ on. refl), λ inside. ((frame_test w f (λ x. not (is_user x)), λ on. refl), λ calm. tt)),
-     λ none. record { value = refl; next = same_place t s at.node at.index (Holds (record { kind = kind.Page; frame = f; arg = flags.0 })) w.same; begins = refl }))))
+pub map_same : {t s : State} {o : ℕ → Bool} {c : ℕ} → Twins t s o c → (p v r f : ℕ) (flags : PageFlags)
+    → SameRule s c (map_rule t p v r f flags) (map_rule s p v r f flags)
+map_same {t} {s} w p v r f flags = (
+  refl,
+  refl,
+  λ pages is_pages. (
+    refl,
+    refl,
+    λ range is. (
+      refl,
+      (λ on. named_pages w p pages is_pages),
+      λ at is_free. (
+        ((refl, λ on. refl), λ inside. ((frame_test w f (λ x. not (is_user x)), λ on. refl), λ calm. tt)),
+        λ none. record {
+          value = refl;
+          next = same_place t s at.node at.index (Holds (record { kind = kind.Page; frame = f; arg = flags.0 }))
+              w.same;
+          begins = refl;
+        },
+      ),
+    ),
+  ),
+)
 
 pub unmap_same : {t s : State} {o : ℕ → Bool} {c : ℕ} → Twins t s o c → (p v : ℕ) → SameRule s c (unmap_rule t p v) (unmap_rule s p v)
-unmap_same w p v = (refl, refl, λ pages is_pages. (refl, (λ on. named_pages w p pages is_pages), λ at mapping is_held. (tt, λ none. removes_same w at mapping)))
+unmap_same w p v = (
+  refl,
+  refl,
+  λ pages is_pages.
+      (refl, (λ on. named_pages w p pages is_pages), λ at mapping is_held. (tt, λ none. removes_same w at mapping)),
+)
 
 touched_same : {t s : State} {o : ℕ → Bool} {c : ℕ} → Twins t s o c → (v : ℕ) (tr : Option Translation)
     → SameRule s c (touch_by t c (comp_of s c).pages v tr) (touch_by s c (comp_of s c).pages v tr)
 touched_same w v (Some tr) = (((refl, λ on. refl), λ calm. tt), λ none. record { value = refl; next = w.same; begins = refl })
-touched_same {t} {s} {o} {c} w v None = (refl, refl, pages_good w, λ mapping is. (tt, λ none.
-    let tr : Translation = record { pages = (comp_of s c).pages; page = v; frame = mapping.frame; flags = record { 0 = mapping.arg } } in
-    record {
-      value = refl;
-      next = same_then _ _ _
-          (same_by _ _ (ap (λ (k : Core). with_core t c (record k { cached = caching k.cached tr })) (core_same w)))
-          (same_core t s c (record (s.core c) { cached = caching (s.core c).cached tr }) w.same);
-      begins = refl;
-    }))
+touched_same {t} {s} {o} {c} w v None = (
+  refl,
+  refl,
+  pages_good w,
+  λ mapping is. (
+    tt,
+    λ none.
+        let tr : Translation = record { pages = (comp_of s c).pages; page = v; frame = mapping.frame; flags = record { 0 = mapping.arg } } in
+        record {
+          value = refl;
+          next = same_then _ _ _
+              (same_by _ _ (ap (λ (k : Core). with_core t c (record k { cached = caching k.cached tr })) (core_same w)))
+              (same_core t s c (record (s.core c) { cached = caching (s.core c).cached tr }) w.same);
+          begins = refl;
+        },
+  ),
+)
 
 pub touch_same : {t s : State} {o : ℕ → Bool} {c : ℕ} → Twins t s o c → (v : ℕ) → SameRule s c (touch_rule t c v) (touch_rule s c v)
 touch_same {t} {s} {o} {c} w v =
     let pages : (comp_of t c).pages ≡ (comp_of s c).pages = ap (λ (k : CompFields). k.pages) (comp_same w) in
-    let tr : translation_of (t.core c).cached (comp_of t c).pages v ≡ translation_of (s.core c).cached (comp_of s c).pages v = λ i. translation_of (core_same w i).cached (pages i) v in
-    subst (λ r. SameRule s c r (touch_rule s c v)) (λ i. touch_by t c (sym pages i) v (sym tr i)) (touched_same w v (translation_of (s.core c).cached (comp_of s c).pages v))
+    let tr : translation_of (t.core c).cached (comp_of t c).pages v ≡ translation_of (s.core c).cached (comp_of s c).pages v = λ i.
+    translation_of (core_same w i).cached (pages i) v in
+    subst (λ r. SameRule s c r (touch_rule s c v)) (λ i. touch_by t c (sym pages i) v (sym tr i))
+    (touched_same w v (translation_of (s.core c).cached (comp_of s c).pages v))
 
 flushed_same : {t s : State} {o : ℕ → Bool} {c : ℕ} → Twins t s o c → SameState (flushed t c) (flushed s c)
 flushed_same {t} {s} {o} {c} w =
-    let cores = same_then _ _ _ (same_by _ _ (ap (λ (k : Core). with_core t c (record k { cached = [] })) (core_same w))) (same_core t s c (record (s.core c) { cached = [] }) w.same) in
+    let cores = same_then _ _ _ (same_by _ _ (ap (λ (k : Core). with_core t c (record k { cached = [] })) (core_same w)))
+    (same_core t s c (record (s.core c) { cached = [] }) w.same) in
     record {
       limits = w.same.limits;
       place = w.same.place;

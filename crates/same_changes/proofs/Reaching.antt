@@ -49,7 +49,8 @@ fit_typed kind.Tcap some fit = false≢true fit
 fit_typed kind.Link some fit = false≢true fit
 fit_typed kind.Page some fit = false≢true fit
 
-pub fit_below : (s : State) (o : ℕ → Bool) (j : Kind) (f : ℕ) → IsSound s o → is_some_kind j ≡ true → IsTrue (fits j (s.frame f)) → f < s.limits.frames
+pub fit_below : (s : State) (o : ℕ → Bool) (j : Kind) (f : ℕ) → IsSound s o → is_some_kind j ≡ true → IsTrue (fits j (s.frame f))
+    → f < s.limits.frames
 fit_below s o j f h some fit = below s o f h (λ none. fit_typed j some (subst (λ x. IsTrue (fits j x)) none fit))
 
 -- The frame that a root fits is a node.
@@ -62,7 +63,8 @@ pages_node (Kernel Pages) fit = refl
 pages_node _ fit = absurd (false≢true fit)
 
 -- The component on top of a thread's stack.
-top_fit : (s : State) (x : Frame) → IsTrue (fits kind.Thread x) → IsObjectGood s x → IsTrue (fits kind.Comp (s.frame (first_of_stack (thread_in x).stack)))
+top_fit : (s : State) (x : Frame) → IsTrue (fits kind.Thread x) → IsObjectGood s x
+    → IsTrue (fits kind.Comp (s.frame (first_of_stack (thread_in x).stack)))
 top_fit s (Kernel (Thread t)) fit good = by_stack t.stack good
   where
     by_stack : (fs : List ℕ) → IsStack s fs → IsTrue (fits kind.Comp (s.frame (first_of_stack fs)))
@@ -88,7 +90,8 @@ core_below {c = c} w = (w.sound.inside c w.is_open).1
 pub core_same : {t s : State} {o : ℕ → Bool} {c : ℕ} → Twins t s o c → t.core c ≡ s.core c
 core_same {c = c} w = w.same.core c (core_below w)
 
-pub frame_same : {t s : State} {o : ℕ → Bool} {c : ℕ} → Twins t s o c → (j : Kind) (f : ℕ) → is_some_kind j ≡ true → IsTrue (fits j (s.frame f)) → t.frame f ≡ s.frame f
+pub frame_same : {t s : State} {o : ℕ → Bool} {c : ℕ} → Twins t s o c → (j : Kind) (f : ℕ) → is_some_kind j ≡ true
+    → IsTrue (fits j (s.frame f)) → t.frame f ≡ s.frame f
 frame_same {s = s} {o = o} w j f some fit = w.same.frame f (fit_below s o j f w.sound some fit)
 
 -- ---- the current thread, and the component that the core works in
@@ -97,7 +100,8 @@ thread_fit : {t s : State} {o : ℕ → Bool} {c : ℕ} → Twins t s o c → Is
 thread_fit {c = c} w = (w.sound.cores c (core_below w)).0
 
 pub thread_frame_same : {t s : State} {o : ℕ → Bool} {c : ℕ} → Twins t s o c → t.frame (t.core c).thread ≡ s.frame (s.core c).thread
-thread_frame_same {t} {s} {o} {c} w = ap (λ (k : Core). t.frame k.thread) (core_same w) ∙ frame_same w kind.Thread (s.core c).thread refl (thread_fit w)
+thread_frame_same {t} {s} {o} {c} w = ap (λ (k : Core). t.frame k.thread) (core_same w)
+    ∙ frame_same w kind.Thread (s.core c).thread refl (thread_fit w)
 
 pub tcap_frame_same : {t s : State} {o : ℕ → Bool} {c : ℕ} → Twins t s o c → t.frame (t.core c).tcap ≡ s.frame (s.core c).tcap
 tcap_frame_same {t} {s} {o} {c} w =
@@ -115,7 +119,8 @@ here_fit {t} {s} {o} {c} w = top_fit s (s.frame (s.core c).thread) (thread_fit w
 
 pub comp_same : {t s : State} {o : ℕ → Bool} {c : ℕ} → Twins t s o c → comp_of t c ≡ comp_of s c
 comp_same {t} {s} {o} {c} w =
-    ap (λ (k : ThreadFields). comp_in (t.frame (first_of_stack k.stack))) (thread_same w) ∙ ap comp_in (frame_same w kind.Comp (here s c) refl (here_fit w))
+    ap (λ (k : ThreadFields). comp_in (t.frame (first_of_stack k.stack))) (thread_same w)
+    ∙ ap comp_in (frame_same w kind.Comp (here s c) refl (here_fit w))
 
 -- The roots of the component that the core works in are nodes.
 own_nodes : {t s : State} {o : ℕ → Bool} {c : ℕ} → Twins t s o c
@@ -154,18 +159,22 @@ number_part : (a b : Bool) → (a && b) ≡ true → b ≡ true
 number_part true b h = h
 number_part false b h = absurd (false≢true h)
 
-root_is : (s : State) (o : ℕ → Bool) (table : Named) (n : ℕ) → IsSound s o → RootGood s (Under table n) → (table.found && nat_le n 4095) ≡ true → IsSlot s (root_slot table.frame n)
+root_is : (s : State) (o : ℕ → Bool) (table : Named) (n : ℕ) → IsSound s o → RootGood s (Under table n)
+    → (table.found && nat_le n 4095) ≡ true → IsSlot s (root_slot table.frame n)
 root_is s o table n h good on = record {
   node = node_below s o table.frame h (good (found_part table.found (nat_le n 4095) on));
   index = let most : n ≤ 4095 = leb-true n 4095 (number_part table.found (nat_le n 4095) on) in omega arith;
 }
 
-pub reached_same : {t s : State} {o : ℕ → Bool} {c : ℕ} → Twins t s o c → (target : Target) → RootGood s target → reached t c target ≡ reached s c target
+pub reached_same : {t s : State} {o : ℕ → Bool} {c : ℕ} → Twins t s o c → (target : Target) → RootGood s target
+    → reached t c target ≡ reached s c target
 reached_same {t} {s} {o} {c} w (Under table n) good = by_number (table.found && nat_le n 4095) refl
   where
     by_number : (b : Bool) → (table.found && nat_le n 4095) ≡ b
-        → (if b then slot_in (linked (usable t c (root_slot table.frame n))) (n % 64) else None) ≡ (if b then slot_in (linked (usable s c (root_slot table.frame n))) (n % 64) else None)
-    by_number true on = ap (λ u. slot_in (linked u) (n % 64)) (usable_same w (root_slot table.frame n) (root_is s o table n w.sound good on))
+        → (if b then slot_in (linked (usable t c (root_slot table.frame n))) (n % 64) else None) ≡
+        (if b then slot_in (linked (usable s c (root_slot table.frame n))) (n % 64) else None)
+    by_number true on = ap (λ u. slot_in (linked u) (n % 64))
+        (usable_same w (root_slot table.frame n) (root_is s o table n w.sound good on))
     by_number false on = refl
 reached_same w (InRoot table i) good = refl
 
@@ -174,7 +183,8 @@ root_node s (Under table n) good = tt
 root_node s (InRoot table i) good = good
 
 -- A reached slot is one of the machine's.
-pub slot_good : {t s : State} {o : ℕ → Bool} {c : ℕ} → Twins t s o c → (target : Target) (at : Slot) → RootGood s target → reached s c target ≡ Some at → IsSlot s at
+pub slot_good : {t s : State} {o : ℕ → Bool} {c : ℕ} → Twins t s o c → (target : Target) (at : Slot) → RootGood s target
+    → reached s c target ≡ Some at → IsSlot s at
 slot_good {t} {s} {o} {c} w target at good is =
     let found = reached_node s o c target at w.sound w.is_open (root_node s target good) is in
     record { node = node_below s o at.node w.sound found.0; index = found.1 }
@@ -182,7 +192,8 @@ slot_good {t} {s} {o} {c} w target at good is =
 -- ---- judging by what was reached
 
 -- What follows on what is found is the same, where it is the same for what is found.
-pub then_same : {A B : Type 0} (x y : Judged A) (f g : A → Judged B) → x ≡ y → ((a : A) → y ≡ Found a → f a ≡ g a) → and_then x f ≡ and_then y g
+pub then_same : {A B : Type 0} (x y : Judged A) (f g : A → Judged B) → x ≡ y → ((a : A) → y ≡ Found a → f a ≡ g a)
+    → and_then x f ≡ and_then y g
 then_same {A} {B} x y f g e same = ap (λ j. and_then j f) e ∙ by_judged y refl
   where
     by_judged : (z : Judged A) → y ≡ z → and_then z f ≡ and_then z g
@@ -200,19 +211,21 @@ own_good w n = λ found. (own_nodes w).0
 own_same : {t s : State} {o : ℕ → Bool} {c : ℕ} → Twins t s o c → (n : ℕ) → own t c n ≡ own s c n
 own_same w n = ap (λ (k : CompFields). Under (root_at k.table) n) (comp_same w)
 
-pub named_same : {t s : State} {o : ℕ → Bool} {c : ℕ} → Twins t s o c → (n : ℕ) (wanted : Kind → Bool) → named t c n wanted ≡ named s c n wanted
+pub named_same : {t s : State} {o : ℕ → Bool} {c : ℕ} → Twins t s o c → (n : ℕ) (wanted : Kind → Bool)
+    → named t c n wanted ≡ named s c n wanted
 named_same {t} {s} {o} {c} w n wanted =
     then_same (or_refuse (reached t c (own t c n)) reply.NoSlot) (or_refuse (reached s c (own s c n)) reply.NoSlot) _ _
     (ap (λ r. or_refuse r reply.NoSlot) (ap (reached t c) (own_same w n) ∙ reached_same w (own s c n) (own_good w n)))
     (λ at is.
-        let good = slot_good w (own s c n) at (own_good w n) (or_refused (reached s c (own s c n)) reply.NoSlot at is) in
-        ap (λ u. and_then (or_refuse u reply.Empty) (of_kind wanted)) (usable_same w at good))
+    let good = slot_good w (own s c n) at (own_good w n) (or_refused (reached s c (own s c n)) reply.NoSlot at is) in
+    ap (λ u. and_then (or_refuse u reply.Empty) (of_kind wanted)) (usable_same w at good))
 
 -- ---- who waits, and who has not flushed
 
 lowest_same : (t s : State) (p q : ℕ → Bool) → t.limits ≡ s.limits → ((e : ℕ) → e < s.limits.cores → p e ≡ q e) → lowest t p ≡ lowest s q
 lowest_same t s p q limits same =
-    ap (λ (l : Limits). find p (range_with_len 0 l.cores)) limits ∙ found_alike p q 0 s.limits.cores (λ e least less. same e (omega (arith, less)))
+    ap (λ (l : Limits). find p (range_with_len 0 l.cores)) limits
+    ∙ found_alike p q 0 s.limits.cores (λ e least less. same e (omega (arith, less)))
 
 pub waits_same : {t s : State} {o : ℕ → Bool} {c : ℕ} → Twins t s o c → (x : Thing) → IsThing s.limits x → waits_of t c x ≡ waits_of s c x
 waits_same {t} {s} {o} {c} w x is =
@@ -220,40 +233,49 @@ waits_same {t} {s} {o} {c} w x is =
     (λ e less. ap (λ b. b && not (e == c)) ((w.same.grace x is).waits e less)))
 
 pub flushes_same : {t s : State} {o : ℕ → Bool} {c : ℕ} → Twins t s o c → (x : Thing) → IsThing s.limits x → flushes_of t x ≡ flushes_of s x
-flushes_same {t} {s} w x is = ap unflushed_by (lowest_same t s (t.grace x).unflushed (s.grace x).unflushed w.same.limits (λ e less. (w.same.grace x is).unflushed e less))
+flushes_same {t} {s} w x is = ap unflushed_by
+    (lowest_same t s (t.grace x).unflushed (s.grace x).unflushed w.same.limits (λ e less. (w.same.grace x is).unflushed e less))
 
-not_vacant_same : {t s : State} {o : ℕ → Bool} {c : ℕ} → Twins t s o c → (x : Thing) (p : Place) → IsThing s.limits x → not_vacant t c x p ≡ not_vacant s c x p
+not_vacant_same : {t s : State} {o : ℕ → Bool} {c : ℕ} → Twins t s o c → (x : Thing) (p : Place) → IsThing s.limits x
+    → not_vacant t c x p ≡ not_vacant s c x p
 not_vacant_same w x Free is = refl
 not_vacant_same w x (Holds k) is = refl
 not_vacant_same w x (Quiescing k) is = λ i. first_of (waits_same w x is i) (flushes_same w x is i)
 
 -- ---- targets
 
-pub vacant_same : {t s : State} {o : ℕ → Bool} {c : ℕ} → Twins t s o c → (target : Target) → RootGood s target → vacant t c target ≡ vacant s c target
+pub vacant_same : {t s : State} {o : ℕ → Bool} {c : ℕ} → Twins t s o c → (target : Target) → RootGood s target
+    → vacant t c target ≡ vacant s c target
 vacant_same {t} {s} {o} {c} w target good =
     then_same (or_refuse (reached t c target) reply.NoSlot) (or_refuse (reached s c target) reply.NoSlot) _ _
     (ap (λ r. or_refuse r reply.NoSlot) (reached_same w target good))
     (λ at is.
-        let slot = slot_good w target at good (or_refused (reached s c target) reply.NoSlot at is) in
-        let x = PlaceOf at.node at.index in
-        ap (λ p. unless (not_vacant t c x p) at) (place_same w at slot) ∙ ap (λ r. unless r at) (not_vacant_same w x (place_at s at) (slot.node, slot.index)))
+    let slot = slot_good w target at good (or_refused (reached s c target) reply.NoSlot at is) in
+    let x = PlaceOf at.node at.index in
+    ap (λ p. unless (not_vacant t c x p) at) (place_same w at slot)
+    ∙ ap (λ r. unless r at) (not_vacant_same w x (place_at s at) (slot.node, slot.index)))
 
-pub held_same : {t s : State} {o : ℕ → Bool} {c : ℕ} → Twins t s o c → (target : Target) → RootGood s target → held t c target ≡ held s c target
+pub held_same : {t s : State} {o : ℕ → Bool} {c : ℕ} → Twins t s o c → (target : Target) → RootGood s target
+    → held t c target ≡ held s c target
 held_same {t} {s} {o} {c} w target good =
     then_same (or_refuse (reached t c target) reply.NoSlot) (or_refuse (reached s c target) reply.NoSlot) _ _
     (ap (λ r. or_refuse r reply.NoSlot) (reached_same w target good))
     (λ at is.
-        let slot = slot_good w target at good (or_refused (reached s c target) reply.NoSlot at is) in
-        ap (λ p. and_then (or_refuse (held_in p) reply.Empty) λ k. Found (at, k)) (place_same w at slot))
+    let slot = slot_good w target at good (or_refused (reached s c target) reply.NoSlot at is) in
+    ap (λ p. and_then (or_refuse (held_in p) reply.Empty) λ k. Found (at, k)) (place_same w at slot))
 
-pub mapped_same : {t s : State} {o : ℕ → Bool} {c : ℕ} → Twins t s o c → (table v : ℕ) → IsTrue (is_node (s.frame table)) → mapped t c table v ≡ mapped s c table v
+pub mapped_same : {t s : State} {o : ℕ → Bool} {c : ℕ} → Twins t s o c → (table v : ℕ) → IsTrue (is_node (s.frame table))
+    → mapped t c table v ≡ mapped s c table v
 mapped_same {t} {s} {o} {c} w table v node =
-    then_same (unless (if nat_lt 4095 v then Some reply.NoSlot else None) v) (unless (if nat_lt 4095 v then Some reply.NoSlot else None) v) _ _ refl
-    (λ v is. then_same (or_refuse (reached t c (Under (root_at table) v)) reply.Fault) (or_refuse (reached s c (Under (root_at table) v)) reply.Fault) _ _
-        (ap (λ r. or_refuse r reply.Fault) (reached_same w (Under (root_at table) v) (λ found. node)))
-        (λ at is.
-            let slot = slot_good w (Under (root_at table) v) at (λ found. node) (or_refused (reached s c (Under (root_at table) v)) reply.Fault at is) in
-            ap (λ p. or_refuse (held_in p) reply.Fault) (place_same w at slot)))
+    then_same (unless (if nat_lt 4095 v then Some reply.NoSlot else None) v)
+    (unless (if nat_lt 4095 v then Some reply.NoSlot else None) v) _ _ refl
+    (λ v is. then_same (or_refuse (reached t c (Under (root_at table) v)) reply.Fault)
+    (or_refuse (reached s c (Under (root_at table) v)) reply.Fault) _ _
+    (ap (λ r. or_refuse r reply.Fault) (reached_same w (Under (root_at table) v) (λ found. node)))
+    (λ at is.
+    let slot = slot_good w (Under (root_at table) v) at (λ found. node)
+    (or_refused (reached s c (Under (root_at table) v)) reply.Fault at is) in
+    ap (λ p. or_refuse (held_in p) reply.Fault) (place_same w at slot)))
 
 -- The pages of the component that the core works in are a node.
 pub pages_good : {t s : State} {o : ℕ → Bool} {c : ℕ} → Twins t s o c → IsTrue (is_node (s.frame (comp_of s c).pages))

@@ -24,16 +24,19 @@ use Rattle.same_changes.proofs.Alike.{SameRule}
 
 -- ---- what a name leads to
 
-named_below : {t s : State} {o : ℕ → Bool} {c : ℕ} → Twins t s o c → (n : ℕ) (j : Kind) (k : Capability) → is_some_kind j ≡ true → named s c n (only j) ≡ Found k
+named_below : {t s : State} {o : ℕ → Bool} {c : ℕ} → Twins t s o c → (n : ℕ) (j : Kind) (k : Capability) → is_some_kind j ≡ true
+    → named s c n (only j) ≡ Found k
     → k.frame < s.limits.frames
 named_below {s = s} {o = o} {c = c} w n j k some is = fit_below s o j k.frame w.sound some (named_fit s o c n j k w.sound w.is_open is)
 
-pub named_frame : {t s : State} {o : ℕ → Bool} {c : ℕ} → Twins t s o c → (n : ℕ) (j : Kind) (k : Capability) → is_some_kind j ≡ true → named s c n (only j) ≡ Found k
+pub named_frame : {t s : State} {o : ℕ → Bool} {c : ℕ} → Twins t s o c → (n : ℕ) (j : Kind) (k : Capability) → is_some_kind j ≡ true
+    → named s c n (only j) ≡ Found k
     → t.frame k.frame ≡ s.frame k.frame
 named_frame w n j k some is = w.same.frame k.frame (named_below w n j k some is)
 
 -- A named table is a node.
-pub named_table : {t s : State} {o : ℕ → Bool} {c : ℕ} → Twins t s o c → (n : ℕ) (k : Capability) → named s c n (only kind.Table) ≡ Found k → IsTrue (is_node (s.frame k.frame))
+pub named_table : {t s : State} {o : ℕ → Bool} {c : ℕ} → Twins t s o c → (n : ℕ) (k : Capability)
+    → named s c n (only kind.Table) ≡ Found k → IsTrue (is_node (s.frame k.frame))
 named_table {s = s} {o = o} {c = c} w n k is = table_node (s.frame k.frame) (named_fit s o c n kind.Table k w.sound w.is_open is)
 
 -- A component's liveness number is one of the machine's.
@@ -53,16 +56,33 @@ alive_same {s = s} w f fit = w.same.number (comp_in (s.frame f)).number (number_
 -- ---- gates and killing
 
 pub gate_same : {t s : State} {o : ℕ → Bool} {c : ℕ} → Twins t s o c → (k x b : ℕ) → SameRule s c (gate_rule t k x b) (gate_rule s k x b)
-gate_same {t} {s} {o} {c} w k x b = (refl, refl, λ comp is. (refl, refl, λ table is_table.
-    (refl, (λ on. named_table w x table is_table), λ at is_free. (tt, λ none. record {
-      value = refl;
-      next = same_then _ _ _
-          (same_by _ _ (ap (λ (x : Frame). with_place t at.node at.index (Holds (record { kind = kind.Gate; frame = comp.frame; arg = (comp_in x).epoch }))) (named_frame w k kind.Comp comp refl is)))
-          (same_place t s at.node at.index (Holds (record { kind = kind.Gate; frame = comp.frame; arg = (comp_in (s.frame comp.frame)).epoch })) w.same);
-      begins = refl;
-    }))))
+gate_same {t} {s} {o} {c} w k x b = (
+  refl,
+  refl,
+  λ comp is. (
+    refl,
+    refl,
+    λ table is_table. (
+      refl,
+      (λ on. named_table w x table is_table),
+      λ at is_free. (
+        tt,
+        λ none. record {
+          value = refl;
+          next = same_then _ _ _
+              (same_by _ _ (ap (λ (x : Frame). with_place t at.node at.index
+              (Holds (record { kind = kind.Gate; frame = comp.frame; arg = (comp_in x).epoch }))) (named_frame w k kind.Comp comp refl is)))
+              (same_place t s at.node at.index (Holds (record
+              { kind = kind.Gate; frame = comp.frame; arg = (comp_in (s.frame comp.frame)).epoch })) w.same);
+          begins = refl;
+        },
+      ),
+    ),
+  ),
+)
 
-kills_same : {t s : State} {o : ℕ → Bool} {c : ℕ} → Twins t s o c → (k : CompFields) → t.number k.number ≡ s.number k.number → SameChange (kills t k) (kills s k)
+kills_same : {t s : State} {o : ℕ → Bool} {c : ℕ} → Twins t s o c → (k : CompFields) → t.number k.number ≡ s.number k.number
+    → SameChange (kills t k) (kills s k)
 kills_same {t} {s} w k same = record {
   value = refl;
   next = same_number t s k.number (Dead k.epoch) w.same;
@@ -70,68 +90,95 @@ kills_same {t} {s} w k same = record {
 }
 
 pub kill_same : {t s : State} {o : ℕ → Bool} {c : ℕ} → Twins t s o c → (k : ℕ) → SameRule s c (kill_rule t k) (kill_rule s k)
-kill_same {t} {s} {o} {c} w k = (refl, refl, λ comp is.
-    let frame = named_frame w k kind.Comp comp refl is in
-    let fit = named_fit s o c k kind.Comp comp w.sound w.is_open is in
-    let number = alive_same w comp.frame fit in
-    let fields = comp_in (s.frame comp.frame) in
-    subst (λ x. SameRule s c (Rattle.kernel_rules.specs.InvocationCalls.kill_comp t (found comp) (comp_in x)) (Rattle.kernel_rules.specs.InvocationCalls.kill_comp s (found comp) fields)) (sym frame)
-    (((ap (λ n. not (is_live_in n fields.epoch)) number, λ on. refl), λ calm. tt), λ none. kills_same w fields number))
+kill_same {t} {s} {o} {c} w k = (
+  refl,
+  refl,
+  λ comp is.
+      let frame = named_frame w k kind.Comp comp refl is in
+      let fit = named_fit s o c k kind.Comp comp w.sound w.is_open is in
+      let number = alive_same w comp.frame fit in
+      let fields = comp_in (s.frame comp.frame) in
+      subst (λ x. SameRule s c (Rattle.kernel_rules.specs.InvocationCalls.kill_comp t (found comp) (comp_in x))
+      (Rattle.kernel_rules.specs.InvocationCalls.kill_comp s (found comp) fields)) (sym frame)
+      (((ap (λ n. not (is_live_in n fields.epoch)) number, λ on. refl), λ calm. tt), λ none. kills_same w fields number),
+)
 
 -- ---- calling and returning
 
-stack_same : {t s : State} {o : ℕ → Bool} {c : ℕ} → Twins t s o c → (xs ys : List ℕ) → xs ≡ ys → SameState (with_stack t c xs) (with_stack s c ys)
+stack_same : {t s : State} {o : ℕ → Bool} {c : ℕ} → Twins t s o c → (xs ys : List ℕ) → xs ≡ ys
+    → SameState (with_stack t c xs) (with_stack s c ys)
 stack_same {t} {s} {o} {c} w xs ys e =
     same_then _ _ _
-    (same_by _ _ (λ i. with_frame t (core_same w i).thread (with_thread (thread_frame_same w i) (record (thread_same w i) { stack = e i }))))
+    (same_by _ _ (λ i. with_frame t (core_same w i).thread
+    (with_thread (thread_frame_same w i) (record (thread_same w i) { stack = e i }))))
     (same_frame t s (s.core c).thread (with_thread (s.frame (s.core c).thread) (record (thread_of s c) { stack = ys })) w.same)
 
 pub call_same : {t s : State} {o : ℕ → Bool} {c : ℕ} → Twins t s o c → (g : ℕ) → SameRule s c (call_rule t c g) (call_rule s c g)
-call_same {t} {s} {o} {c} w g = (refl, refl, λ gate is.
-    let frame = named_frame w g kind.Gate gate refl is in
-    let fit = gate_comp (s.frame gate.frame) (named_fit s o c g kind.Gate gate w.sound w.is_open is) in
-    let number : t.number (comp_in (t.frame gate.frame)).number ≡ s.number (comp_in (s.frame gate.frame)).number =
-        ap (λ x. t.number (comp_in x).number) frame ∙ alive_same w gate.frame fit in
-    (((ap (λ (k : ThreadFields). nat_le 16 (length k.stack)) (thread_same w), λ on. refl),
-      λ calm. ((ap (λ n. not (is_live_in n gate.arg)) number, λ on. refl), λ calm. tt)),
-     λ none. record {
-       value = refl;
-       next = stack_same w _ _ (ap (λ (k : ThreadFields). gate.frame ∷ k.stack) (thread_same w));
-       begins = refl;
-     }))
+call_same {t} {s} {o} {c} w g = (
+  refl,
+  refl,
+  λ gate is.
+      let frame = named_frame w g kind.Gate gate refl is in
+      let fit = gate_comp (s.frame gate.frame) (named_fit s o c g kind.Gate gate w.sound w.is_open is) in
+      let number : t.number (comp_in (t.frame gate.frame)).number ≡ s.number (comp_in (s.frame gate.frame)).number =
+      ap (λ x. t.number (comp_in x).number) frame ∙ alive_same w gate.frame fit in (
+        (
+          (ap (λ (k : ThreadFields). nat_le 16 (length k.stack)) (thread_same w), λ on. refl),
+          λ calm. ((ap (λ n. not (is_live_in n gate.arg)) number, λ on. refl), λ calm. tt),
+        ),
+        λ none. record {
+          value = refl;
+          next = stack_same w _ _ (ap (λ (k : ThreadFields). gate.frame ∷ k.stack) (thread_same w));
+          begins = refl;
+        },
+      ),
+)
 
 pub ret_same : {t s : State} {o : ℕ → Bool} {c : ℕ} → Twins t s o c → SameRule s c (ret_rule t c) (ret_rule s c)
-ret_same {t} {s} {o} {c} w =
-    (((ap (λ (k : ThreadFields). nat_le (length k.stack) 1) (thread_same w), λ on. refl), λ calm. tt),
-     λ none. record {
-       value = refl;
-       next = stack_same w _ _ (ap (λ (k : ThreadFields). drop 1 k.stack) (thread_same w));
-       begins = ap (λ (k : ThreadFields). frames_of (take 1 k.stack)) (thread_same w);
-     })
+ret_same {t} {s} {o} {c} w = (
+  ((ap (λ (k : ThreadFields). nat_le (length k.stack) 1) (thread_same w), λ on. refl), λ calm. tt),
+  λ none. record {
+    value = refl;
+    next = stack_same w _ _ (ap (λ (k : ThreadFields). drop 1 k.stack) (thread_same w));
+    begins = ap (λ (k : ThreadFields). frames_of (take 1 k.stack)) (thread_same w);
+  },
+)
 
 -- ---- switching
 
-running_same : (t s : State) (f : ℕ) (core : Option ℕ) → f < s.limits.frames → SameState t s → SameState (running t f core) (running s f core)
+running_same : (t s : State) (f : ℕ) (core : Option ℕ) → f < s.limits.frames → SameState t s
+    → SameState (running t f core) (running s f core)
 running_same t s f core below e =
     same_then _ _ _
     (same_by _ _ (ap (λ x. with_frame t f (with_thread x (record (thread_in x) { runs_on = core }))) (e.frame f below)))
     (same_frame t s f (with_thread (s.frame f) (record (thread_in (s.frame f)) { runs_on = core })) e)
 
-switches_same : {t s : State} {o : ℕ → Bool} {c : ℕ} → Twins t s o c → (h q : ℕ) → h < s.limits.frames → SameChange (switches t c (t.core c) h q) (switches s c (s.core c) h q)
+switches_same : {t s : State} {o : ℕ → Bool} {c : ℕ} → Twins t s o c → (h q : ℕ) → h < s.limits.frames
+    → SameChange (switches t c (t.core c) h q) (switches s c (s.core c) h q)
 switches_same {t} {s} {o} {c} w h q below =
     subst (λ k. SameChange (switches t c k h q) (switches s c (s.core c) h q)) (sym (core_same w)) (record {
       value = refl;
       next = same_core _ _ c (record (s.core c) { thread = h; tcap = q })
           (running_same _ _ h (Some c) below (running_same t s (s.core c).thread None
-              (fit_below s o kind.Thread (s.core c).thread w.sound refl (w.sound.cores c (w.sound.inside c w.is_open).1).0) w.same));
+          (fit_below s o kind.Thread (s.core c).thread w.sound refl (w.sound.cores c (w.sound.inside c w.is_open).1).0) w.same));
       begins = refl;
     })
 
-pub switch_same : {t s : State} {o : ℕ → Bool} {c : ℕ} → Twins t s o c → (h q : ℕ) → SameRule s c (switch_rule t c h q) (switch_rule s c h q)
-switch_same {t} {s} {o} {c} w h q = (refl, refl, λ thread is. (refl, refl, λ tcap is_tcap.
-    let frame = named_frame w h kind.Thread thread refl is in
-    subst (λ x. SameRule s c (switch_to t c (found thread) tcap.frame (thread_in x).runs_on) (switch_to s c (found thread) tcap.frame (thread_in (s.frame thread.frame)).runs_on)) (sym frame)
-    (by_core thread tcap (named_below w h kind.Thread thread refl is) (thread_in (s.frame thread.frame)).runs_on)))
+pub switch_same : {t s : State} {o : ℕ → Bool} {c : ℕ} → Twins t s o c → (h q : ℕ)
+    → SameRule s c (switch_rule t c h q) (switch_rule s c h q)
+switch_same {t} {s} {o} {c} w h q = (
+  refl,
+  refl,
+  λ thread is. (
+    refl,
+    refl,
+    λ tcap is_tcap.
+        let frame = named_frame w h kind.Thread thread refl is in
+        subst (λ x. SameRule s c (switch_to t c (found thread) tcap.frame (thread_in x).runs_on)
+        (switch_to s c (found thread) tcap.frame (thread_in (s.frame thread.frame)).runs_on)) (sym frame)
+        (by_core thread tcap (named_below w h kind.Thread thread refl is) (thread_in (s.frame thread.frame)).runs_on),
+  ),
+)
   where
     by_core : (thread tcap : Capability) → thread.frame < s.limits.frames → (e : Option ℕ)
         → SameRule s c (switch_to t c (found thread) tcap.frame e) (switch_to s c (found thread) tcap.frame e)
@@ -153,7 +200,8 @@ charges_same {t} {s} {o} {c} w due n =
     record {
       value = refl;
       next = same_then _ _ _
-          (same_by _ _ (λ i. with_core (with_budget t (core_same w i).tcap ((tcap_at t (core_same w i).tcap).budget - n)) c (record (core_same w i) { spent = (core_same w i).spent + n; owed = due - n })))
+          (same_by _ _ (λ i. with_core (with_budget t (core_same w i).tcap ((tcap_at t (core_same w i).tcap).budget - n)) c
+          (record (core_same w i) { spent = (core_same w i).spent + n; owed = due - n })))
           (same_core _ _ c (record core { spent = core.spent + n; owed = due - n })
           (budget_same t s core.tcap _ _ below (ap (λ x. (tcap_in x).budget - n) (w.same.frame core.tcap below)) w.same));
       begins = refl;
@@ -162,43 +210,108 @@ charges_same {t} {s} {o} {c} w due n =
 pub tick_same : {t s : State} {o : ℕ → Bool} {c : ℕ} → Twins t s o c → (n : ℕ) → SameRule s c (tick_rule t c n) (tick_rule s c n)
 tick_same {t} {s} {o} {c} w n =
     let due : n + (t.core c).owed ≡ n + (s.core c).owed = ap (λ (k : Core). n + k.owed) (core_same w) in
-    let charged : charge t c (n + (t.core c).owed) ≡ charge s c (n + (s.core c).owed) = λ i. Rattle.std.specs.Prelude.min (due i) (tcap_in (tcap_frame_same w i)).budget in
-    (tt, λ none. subst (λ x. SameChange x (charges s c (n + (s.core c).owed) (charge s c (n + (s.core c).owed)))) (λ i. charges t c (sym due i) (sym charged i))
-    (charges_same w (n + (s.core c).owed) (charge s c (n + (s.core c).owed))))
+    let charged : charge t c (n + (t.core c).owed) ≡ charge s c (n + (s.core c).owed) = λ i. Rattle.std.specs.Prelude.min (due i)
+    (tcap_in (tcap_frame_same w i)).budget in (
+      tt,
+      λ none. subst (λ x. SameChange x (charges s c (n + (s.core c).owed) (charge s c (n + (s.core c).owed))))
+          (λ i. charges t c (sym due i) (sym charged i))
+          (charges_same w (n + (s.core c).owed) (charge s c (n + (s.core c).owed))),
+    )
 
 -- ---- moving budgets, and preemption
 
-moved_same : (t s : State) (a b m : ℕ) → a < s.limits.frames → b < s.limits.frames → SameState t s → SameState (moved t a b m) (moved s a b m)
+moved_same : (t s : State) (a b m : ℕ) → a < s.limits.frames → b < s.limits.frames → SameState t s
+    → SameState (moved t a b m) (moved s a b m)
 moved_same t s a b m below under e =
-    budget_same _ _ b _ _ under (ap (λ x. (tcap_in x).budget + m) (e.frame b under)) (budget_same t s a _ _ below (ap (λ x. (tcap_in x).budget - m) (e.frame a below)) e)
+    budget_same _ _ b _ _ under (ap (λ x. (tcap_in x).budget + m) (e.frame b under))
+    (budget_same t s a _ _ below (ap (λ x. (tcap_in x).budget - m) (e.frame a below)) e)
 
-list_same : (t s : State) (f : ℕ) (xs ys : List (ℕ × ℕ)) → f < s.limits.frames → xs ≡ ys → SameState t s → SameState (with_qualities t f xs) (with_qualities s f ys)
+list_same : (t s : State) (f : ℕ) (xs ys : List (ℕ × ℕ)) → f < s.limits.frames → xs ≡ ys → SameState t s
+    → SameState (with_qualities t f xs) (with_qualities s f ys)
 list_same t s f xs ys below is e =
     same_then _ _ _
     (same_by _ _ (λ i. with_frame t f (with_tcap (e.frame f below i) (record (tcap_in (e.frame f below i)) { qualities = is i }))))
     (same_frame t s f (with_tcap (s.frame f) (record (tcap_in (s.frame f)) { qualities = ys })) e)
 
-pub transfer_same : {t s : State} {o : ℕ → Bool} {c : ℕ} → Twins t s o c → (a b m : ℕ) → SameRule s c (transfer_rule t a b m) (transfer_rule s a b m)
-transfer_same {t} {s} {o} {c} w a b m = (refl, refl, λ x is. (refl, refl, λ y is_other.
-    let one : tcap_at t x.frame ≡ tcap_at s x.frame = ap tcap_in (named_frame w a kind.Tcap x refl is) in
-    let other : tcap_at t y.frame ≡ tcap_at s y.frame = ap tcap_in (named_frame w b kind.Tcap y refl is_other) in
-    (((refl, λ on. refl), λ calm. ((ap (λ (q : TcapFields). nat_lt q.budget m) one, λ on. ap (λ (q : TcapFields). reply.Short q.budget) one),
-      λ calm. (((λ i. not (are_alike (one i).qualities (other i).qualities)), λ on. refl), λ calm. tt))),
-     λ none. record { value = refl; next = moved_same t s x.frame y.frame m (named_below w a kind.Tcap x refl is) (named_below w b kind.Tcap y refl is_other) w.same; begins = refl })))
+pub transfer_same : {t s : State} {o : ℕ → Bool} {c : ℕ} → Twins t s o c → (a b m : ℕ)
+    → SameRule s c (transfer_rule t a b m) (transfer_rule s a b m)
+transfer_same {t} {s} {o} {c} w a b m = (
+  refl,
+  refl,
+  λ x is. (
+    refl,
+    refl,
+    λ y is_other.
+        let one : tcap_at t x.frame ≡ tcap_at s x.frame = ap tcap_in (named_frame w a kind.Tcap x refl is) in
+        let other : tcap_at t y.frame ≡ tcap_at s y.frame = ap tcap_in (named_frame w b kind.Tcap y refl is_other) in (
+          (
+            (refl, λ on. refl),
+            λ calm. (
+              (
+                ap (λ (q : TcapFields). nat_lt q.budget m) one,
+                λ on. ap (λ (q : TcapFields). reply.Short q.budget)
+                    one,
+              ),
+              λ calm. (((λ i. not (are_alike (one i).qualities (other i).qualities)), λ on. refl), λ calm. tt),
+            ),
+          ),
+          λ none. record {
+            value = refl;
+            next = moved_same t s x.frame y.frame m (named_below w a kind.Tcap x refl is)
+                (named_below w b kind.Tcap y refl is_other) w.same;
+            begins = refl;
+          },
+        ),
+  ),
+)
 
-pub delegate_same : {t s : State} {o : ℕ → Bool} {c : ℕ} → Twins t s o c → (a b m : ℕ) → SameRule s c (delegate_rule t a b m) (delegate_rule s a b m)
-delegate_same {t} {s} {o} {c} w a b m = (refl, refl, λ x is. (refl, refl, λ y is_other.
-    let one : tcap_at t x.frame ≡ tcap_at s x.frame = ap tcap_in (named_frame w a kind.Tcap x refl is) in
-    let other : tcap_at t y.frame ≡ tcap_at s y.frame = ap tcap_in (named_frame w b kind.Tcap y refl is_other) in
-    let list : merged_list t x.frame y.frame ≡ merged_list s x.frame y.frame = λ i. merged (one i).qualities (other i).qualities in
-    let below = named_below w a kind.Tcap x refl is in
-    let under = named_below w b kind.Tcap y refl is_other in
-    (((refl, λ on. refl), λ calm. ((ap (λ (q : TcapFields). nat_lt q.budget m) one, λ on. ap (λ (q : TcapFields). reply.Short q.budget) one),
-      λ calm. ((ap (λ l. nat_lt 8 (length l)) list, λ on. refl), λ calm. tt))),
-     λ none. record { value = refl; next = list_same _ _ y.frame _ _ under list (moved_same t s x.frame y.frame m below under w.same); begins = refl })))
+pub delegate_same : {t s : State} {o : ℕ → Bool} {c : ℕ} → Twins t s o c → (a b m : ℕ)
+    → SameRule s c (delegate_rule t a b m) (delegate_rule s a b m)
+delegate_same {t} {s} {o} {c} w a b m = (
+  refl,
+  refl,
+  λ x is. (
+    refl,
+    refl,
+    λ y is_other.
+        let one : tcap_at t x.frame ≡ tcap_at s x.frame = ap tcap_in (named_frame w a kind.Tcap x refl is) in
+        let other : tcap_at t y.frame ≡ tcap_at s y.frame = ap tcap_in (named_frame w b kind.Tcap y refl is_other) in
+        let list : merged_list t x.frame y.frame ≡ merged_list s x.frame y.frame = λ i. merged (one i).qualities (other i).qualities in
+        let below = named_below w a kind.Tcap x refl is in
+        let under = named_below w b kind.Tcap y refl is_other in (
+          (
+            (refl, λ on. refl),
+            λ calm. (
+              (
+                ap (λ (q : TcapFields). nat_lt q.budget m) one,
+                λ on. ap (λ (q : TcapFields). reply.Short q.budget)
+                    one,
+              ),
+              λ calm. ((ap (λ l. nat_lt 8 (length l)) list, λ on. refl), λ calm. tt),
+            ),
+          ),
+          λ none. record {
+            value = refl;
+            next = list_same _ _ y.frame _ _ under list (moved_same t s x.frame y.frame m below under w.same);
+            begins = refl;
+          },
+        ),
+  ),
+)
 
 pub test_same : {t s : State} {o : ℕ → Bool} {c : ℕ} → Twins t s o c → (a b : ℕ) → SameRule s c (test_rule t a b) (test_rule s a b)
-test_same {t} {s} {o} {c} w a b = (refl, refl, λ x is. (refl, refl, λ y is_other.
-    let one : tcap_at t x.frame ≡ tcap_at s x.frame = ap tcap_in (named_frame w a kind.Tcap x refl is) in
-    let other : tcap_at t y.frame ≡ tcap_at s y.frame = ap tcap_in (named_frame w b kind.Tcap y refl is_other) in
-    (((refl, λ on. refl), λ calm. tt), λ none. record { value = λ i. preemption (preempts (one i) (other i)); next = w.same; begins = refl })))
+test_same {t} {s} {o} {c} w a b = (
+  refl,
+  refl,
+  λ x is. (
+    refl,
+    refl,
+    λ y is_other.
+        let one : tcap_at t x.frame ≡ tcap_at s x.frame = ap tcap_in (named_frame w a kind.Tcap x refl is) in
+        let other : tcap_at t y.frame ≡ tcap_at s y.frame = ap tcap_in (named_frame w b kind.Tcap y refl is_other) in (
+          ((refl, λ on. refl), λ calm. tt),
+          λ none. record
+              { value = λ i. preemption (preempts (one i) (other i)); next = w.same; begins = refl },
+        ),
+  ),
+)

@@ -9,7 +9,7 @@ mod setup;
 
 pub use law::reads_back;
 pub use printing::print;
-pub use reply_lines::reply_line;
+pub use reply_lines::{push_reply_line, reply_line};
 
 #[cfg(test)]
 mod tests;

@@ -1,17 +1,34 @@
 //! The lines that tell the replies of calls.
 
-ghost use Rattle.std.specs.Prelude.{◌≡◌, IfOk, string_bytes};
+ghost use Rattle.std.specs.Prelude.{◌≡◌, ◌++◌, IfOk, OnOk, string_bytes};
 ghost use Rattle.spk_nums.specs.Texts.{reply_line_text};
 
-use spk_nums::{Call, CoreNo, Memory, Reply, ReplyLine};
-use std::alloc::Global;
+use spk_nums::{Call, CoreNo, Memory, Reply};
+use std::alloc::{AllocError, Global};
 
-/// The reply line of a call: the core, `.`, the call's index among the core's, from 1, the call, ` = `, its
-/// reply, and a line feed.
+// Room for most lines.
+const ROOM: usize = 64;
+
+/// Appends the reply line of a call to a text: the core, `.`, the call's index among the core's, from 1, the
+/// call, ` = `, its reply, and a line feed.
+pub fn push_reply_line(
+    text: &mut String,
+    core: CoreNo,
+    index: u32,
+    call: &Call,
+    reply: &Reply,
+) -> Result<(), AllocError>
+    ensures { OnOk result (string_bytes text.new ≡ string_bytes text.old ++ reply_line_text core index call.now reply.now) }
+{
+    let core = core.number();
+    write!(text, "{core}.{index} {call} = {reply}\n")
+}
+
+/// The reply line of a call.
 ///
 /// # Errors
 ///
-/// `Memory` where memory is wanting.
+/// `Memory` where memory has run out.
 pub fn reply_line(
     alloc: Global,
     core: CoreNo,
@@ -21,12 +38,7 @@ pub fn reply_line(
 ) -> Result<String, Memory>
     ensures { IfOk result (λ text. string_bytes text ≡ reply_line_text core index call.now reply.now) }
 {
-    let line = ReplyLine {
-        core,
-        index,
-        call,
-        reply,
-    };
-    let text = format!(in alloc; "{line}")?;
+    let mut text = String::with_capacity(alloc, ROOM)?;
+    push_reply_line(&mut text, core, index, call, reply)?;
     Ok(text)
 }

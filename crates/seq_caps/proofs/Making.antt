@@ -129,11 +129,6 @@ comp_found s c r f t b x p l range table own_table own_pages at g n h own e free
       ← unless_calm (first_cause s c (not_taken s l)) (epoch_of (s.number l) + 1) n free,
     )
 
--- The number that was found unless a cause stood.
-pub found_is : (o : Option Reply) (x y : ℕ) → Found y ≡ unless o x → y ≡ x
-found_is None x y e = cc
-found_is (Some r) x y e = cc
-
 -- A frame is filled in a state that the kernel represents.
 pub put_after : (s t u : State) (g f : ℕ) (o object : Object) (j k : Kind) (at : Slot) → g ≡ f → o ≡ object → j ≡ k → SameState t s
     → SameState u (makes t g o j at).next → SameState u (makes s f object k at).next

@@ -1,20 +1,20 @@
 -- What a rule comes to, one look-up after the other.
-use Rattle.std.proofs.Common.{◌≡◌, ℕ, refl, sym, ◌∙◌, ap, subst, Bool, List, ◌∷◌, Option, Some, None}
+use Rattle.std.proofs.Common.{◌≡◌, ◌≤◌, ◌+◌, ℕ, refl, sym, ap, subst, Bool, List, ◌∷◌, Option, Some, None}
 use Rattle.spk_nums.specs.Capability.{Capability}
 use Rattle.spk_nums.specs.declared.kinds.Kind.{Kind}
+use Rattle.spk_nums.specs.declared.kinds.Kind.TheVariants as kind
 use Rattle.spk_nums.specs.declared.replies.Value.{Value}
 use Rattle.spk_nums.specs.declared.replies.Reply.{Reply}
 use Rattle.spk_nums.specs.declared.replies.Reply.TheVariants as reply
 use Rattle.kernel_rules.specs.State.{State}
-use Rattle.kernel_rules.specs.Access.{Slot, Named, found, Target}
+use Rattle.kernel_rules.specs.Access.{Slot, Named, found, Target, only}
 use Rattle.kernel_rules.specs.Rules.{Change, Cause, Rule, Name, Vacant, Held, Mapped, Does, Judged, Refused, Found, and_then, unless, named, vacant, held, mapped, first_of, refusal_of, first_cause, outcome}
 use Rattle.kernel_rules.specs.CallRelation.{changed}
-use Rattle.kernel_rules.specs.Alone.{reply_in}
 use Rattle.seq_state.specs.Maps.{Maps, state_of}
 use Rattle.seq_state.specs.Representation.{Represents}
 use Rattle.seq_state.proofs.Same.{same_by}
 use Rattle.seq_lookups.specs.Carried.{IsCarriedOut}
-use Rattle.seq_lookups.specs.Ranges.{WhereFound}
+use Rattle.seq_lookups.specs.Ranges.{WhereFound, RangeEnds}
 
 -- ---- names and targets
 
@@ -77,6 +77,16 @@ unless_stands (Some q) x r e = cc
 -- What is said of what is found holds of it.
 pub where_found : {A : Type 0} (j : Judged A) (P : A → Type 0) (x : A) → Found x ≡ j → WhereFound j P → P x
 where_found {A = A} j P x e h = subst (λ (i : Judged A). WhereFound i P) (sym e) h
+
+-- A range that a call names ends within the machine's frames.
+pub ends_within : (s : State) (c r : ℕ) (range : Capability) → Found range ≡ named s c r (only kind.Range) → RangeEnds s c r
+    → range.frame + range.arg ≤ s.limits.frames
+ends_within s c r range e ends = where_found (named s c r (only kind.Range)) (λ k. k.frame + k.arg ≤ s.limits.frames) range e ends
+
+-- The number that was found unless a cause stood.
+pub found_is : (o : Option Reply) (x y : ℕ) → Found y ≡ unless o x → y ≡ x
+found_is None x y e = cc
+found_is (Some r) x y e = cc
 
 -- ---- what is carried out
 

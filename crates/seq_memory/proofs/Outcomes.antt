@@ -1,5 +1,5 @@
 -- What a retype and a map come to, by what they found.
-use Rattle.std.proofs.Common.{◌≡◌, ℕ, ◌+◌, ◌≤◌, refl, sym, ap, List, [], ◌∷◌, Option, None, Some, length, slice_get, arith}
+use Rattle.std.proofs.Common.{◌≡◌, ℕ, ◌≤◌, refl, sym, ap, List, [], ◌∷◌, None, Some, length, slice_get, arith}
 use Rattle.spk_nums.specs.Capability.{Capability}
 use Rattle.spk_nums.specs.declared.kinds.Kind.TheVariants as kind
 use Rattle.spk_nums.specs.declared.kinds.FrameKind.{FrameKind}
@@ -10,14 +10,8 @@ use Rattle.kernel_rules.specs.Access.{Slot, Under, found, only}
 use Rattle.kernel_rules.specs.Rules.{Cause, Refused, Found, fills, unless, first_of, named, vacant, refusal_of, first_cause, outcome}
 use Rattle.kernel_rules.specs.CapabilityCalls.{outside}
 use Rattle.kernel_rules.specs.MemoryCalls.{not_retyped, not_user, retypes, retype_rule, map_rule}
-use Rattle.seq_lookups.specs.Ranges.{RangeEnds}
 use Rattle.seq_memory.specs.Retyping.{retyping}
-use Rattle.seq_lookups.proofs.Outcomes.{unless_calm, unless_stands, where_found}
-
--- A range that a call names ends within the machine's frames.
-pub ends_within : (s : State) (c r : ℕ) (range : Capability) → Found range ≡ named s c r (only kind.Range) → RangeEnds s c r
-    → range.frame + range.arg ≤ s.limits.frames
-ends_within s c r range e ends = where_found (named s c r (only kind.Range)) (λ k. k.frame + k.arg ≤ s.limits.frames) range e ends
+use Rattle.seq_lookups.proofs.Outcomes.{unless_calm, unless_stands}
 
 -- ---- retype
 
@@ -53,11 +47,6 @@ pub map_found : (s : State) (c p v r f : ℕ) (w : PageFlags) (pages range : Cap
     → outcome s c (map_rule s p v r f w) ≡ Found (fills s at (record { kind = kind.Page; frame = f; arg = w.0 }))
 map_found s c p v r f w pages range at g h e =
     rw (← h.has_pages, ← h.has_range, ← h.has_place, ← unless_calm (first_cause s c (user_causes s range f)) f g e)
-
--- The number that was found unless a cause stood.
-pub found_is : (o : Option Reply) (x y : ℕ) → Found y ≡ unless o x → y ≡ x
-found_is None x y e = cc
-found_is (Some r) x y e = cc
 
 -- ---- the stack of a thread
 

@@ -51,6 +51,14 @@ fn done() -> Reply {
     Reply::Ok(Value::Nothing)
 }
 
+/// The answer of a touch of the frame 6, mapped with both flags.
+fn page() -> Reply {
+    Reply::Ok(Value::Page {
+        frame: FrameNo::new(6),
+        flags: PageFlags::of_bits(3),
+    })
+}
+
 #[test]
 fn retypes_a_frame_there_and_back(rt: HostRuntime) -> Result<(), Fail> {
     let setup = machine().ok_or("a setup")?;
@@ -107,27 +115,22 @@ fn touches_what_it_mapped_until_it_flushes(rt: HostRuntime) -> Result<(), Fail> 
         &retype(6, FrameKind::User),
         done(),
     );
-    let flags = PageFlags::of_bits(3);
     let map = Call::Map {
         p: CapId::new(2),
         v: PageNo::new(5),
         r: CapId::new(0),
         f: FrameArg::new(6),
-        w: flags,
+        w: PageFlags::of_bits(3),
     };
     is_answered(&rt, &mut kernel, rt.alloc(), &map, done());
     let touch = Call::Touch { v: PageNo::new(5) };
-    let page = Reply::Ok(Value::Page {
-        frame: FrameNo::new(6),
-        flags,
-    });
-    is_answered(&rt, &mut kernel, rt.alloc(), &touch, page);
+    is_answered(&rt, &mut kernel, rt.alloc(), &touch, page());
     let unmap = Call::Unmap {
         p: CapId::new(2),
         v: PageNo::new(5),
     };
     is_answered(&rt, &mut kernel, rt.alloc(), &unmap, done());
-    is_answered(&rt, &mut kernel, rt.alloc(), &touch, page);
+    is_answered(&rt, &mut kernel, rt.alloc(), &touch, page());
     let core = CoreNo::new(0);
     is_answered(
         &rt,

@@ -1,6 +1,6 @@
 //! The stack of a thread.
 
-ghost use Rattle.std.specs.Prelude.{◌≡◌, ◌<◌, ◌≤◌, [], ◌∷◌, length, slice_get, drop};
+ghost use Rattle.std.specs.Prelude.{◌≡◌, ◌<◌, ◌≤◌, [], ◌∷◌, length, slice_get, drop, reverse};
 ghost use Rattle.kernel_rules.specs.References.{times};
 
 use spk_nums::FrameNo;
@@ -66,6 +66,17 @@ impl Stack {
             None
         } else {
             Some(self.cells[usize::from(self.len) - 1])
+        }
+    }
+
+    /// The frame at a height from the oldest, 0; None exactly past the newest.
+    pub fn at_height(&self, height: usize) -> Option<FrameNo>
+        ensures { result ≡ slice_get (reverse self.now) height }
+    {
+        if height < usize::from(self.len) {
+            Some(self.cells[height])
+        } else {
+            None
         }
     }
 

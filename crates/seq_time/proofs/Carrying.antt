@@ -62,10 +62,10 @@ pair_outcome s c a b causes change =
     let changes = λ (p : Capability × Capability). change (found p.0) (found p.1) in
     let second = λ (x : Capability) (y : Capability). unless_changed (first_cause s c (causes (found x) (found y))) (x, y) changes in
     same_after (named s c a (only kind.Tcap)) _ _ (λ x.
-        same_after (named s c b (only kind.Tcap)) _ _ (second x)
-        ∙ then_changed (named s c b (only kind.Tcap)) (λ y. unless (first_cause s c (causes (found x) (found y))) (x, y)) changes)
+    same_after (named s c b (only kind.Tcap)) _ _ (second x)
+    ∙ then_changed (named s c b (only kind.Tcap)) (λ y. unless (first_cause s c (causes (found x) (found y))) (x, y)) changes)
     ∙ then_changed (named s c a (only kind.Tcap))
-        (λ x. and_then (named s c b (only kind.Tcap)) λ y. unless (first_cause s c (causes (found x) (found y))) (x, y)) changes
+    (λ x. and_then (named s c b (only kind.Tcap)) λ y. unless (first_cause s c (causes (found x) (found y))) (x, y)) changes
 
 -- Against a pair that was found no cause stands.
 pub no_cause : (s : State) (c a b : ℕ) (causes : Capability → Capability → List Cause) (p : Capability × Capability)
@@ -78,10 +78,12 @@ no_cause s c a b causes p h = first (named s c a (only kind.Tcap)) h
         let one : (x, y) ≡ p = cc in
         subst (λ (q : Capability × Capability). first_cause s c (causes q.0 q.1) ≡ None) one (sym is)
     third x y (Some r) is h = absurd (cc)
+
     second : (x : Capability) (o : Judged Capability) → and_then o (λ y. unless (first_cause s c (causes x y)) (x, y)) ≡ Found p
         → first_cause s c (causes p.0 p.1) ≡ None
     second x (Refused r) h = absurd (cc)
     second x (Found y) h = third x y (first_cause s c (causes x y)) refl h
+
     first : (o : Judged Capability) → and_then o
         (λ x. and_then (named s c b (only kind.Tcap)) λ y. unless (first_cause s c (causes x y)) (x, y)) ≡ Found p
         → first_cause s c (causes p.0 p.1) ≡ None
@@ -102,12 +104,15 @@ may_move s c m x y causes h = tested (x.frame == y.frame) (nat_lt (tcap_at s x.f
   where
     tested : (same short : Bool) → (x.frame == y.frame) ≡ same → nat_lt (tcap_at s x.frame).budget m ≡ short
         → first_of (if same then Some reply.Same else None)
-          (first_of (if short then Some (reply.Short (tcap_at s x.frame).budget) else None) (first_cause s c causes)) ≡ None
+        (first_of (if short then Some (reply.Short (tcap_at s x.frame).budget) else None) (first_cause s c causes)) ≡ None
         → MayMove s x.frame y.frame m
     tested true short one less h = absurd (cc)
     tested false true one less h = absurd (cc)
-    tested false false one less h = record { apart = λ e. absurd (differs (sym (eq-eqb x.frame y.frame e) ∙ one)); enough = grind
-        (arith, nat_tests, less) }
+    tested false false one less h = record {
+      apart = λ e. absurd (differs (sym (eq-eqb x.frame y.frame e) ∙ one));
+      enough = grind
+          (arith, nat_tests, less);
+    }
 
 -- A pair that is refused.
 pub pair_refused : (k : Maps) (c a b : ℕ) (causes : Named → Named → List Cause) (change : Named → Named → Change) (r : Reply)
@@ -169,8 +174,8 @@ few s c m x y h = tested (x.frame == y.frame) (nat_lt (tcap_at s x.frame).budget
   where
     tested : (same short many : Bool) → nat_lt 8 (length (merged_list s x.frame y.frame)) ≡ many
         → first_of (if same then Some reply.Same else None)
-          (first_of (if short then Some (reply.Short (tcap_at s x.frame).budget) else None)
-              (first_of (if many then Some reply.TooMany else None) None)) ≡ None
+        (first_of (if short then Some (reply.Short (tcap_at s x.frame).budget) else None)
+        (first_of (if many then Some reply.TooMany else None) None)) ≡ None
         → length (merged_list s x.frame y.frame) ≤ 8
     tested true short many is h = absurd (cc)
     tested false true many is h = absurd (cc)

@@ -10,7 +10,7 @@ use Rattle.seq_state.proofs.Same.{same_grace_by, same_then, same_frame}
 -- A budget and then a list, in an object.
 again_in : (x : Object) (n : ℕ) (l : List (ℕ × ℕ))
     → with_tcap (with_tcap (Kernel x) (record (tcap_in (Kernel x)) { budget = n }))
-        (record (tcap_in (with_tcap (Kernel x) (record (tcap_in (Kernel x)) { budget = n }))) { qualities = l })
+    (record (tcap_in (with_tcap (Kernel x) (record (tcap_in (Kernel x)) { budget = n }))) { qualities = l })
     ≡ with_tcap (Kernel x) (record { budget = n; qualities = l })
 again_in Blank n l = refl
 again_in Table n l = refl
@@ -24,7 +24,7 @@ again_in (Tcap q) n l = refl
 -- A budget and then a list, in a frame.
 again : (x : Frame) (n : ℕ) (l : List (ℕ × ℕ))
     → with_tcap (with_tcap x (record (tcap_in x) { budget = n }))
-        (record (tcap_in (with_tcap x (record (tcap_in x) { budget = n }))) { qualities = l })
+    (record (tcap_in (with_tcap x (record (tcap_in x) { budget = n }))) { qualities = l })
     ≡ with_tcap x (record { budget = n; qualities = l })
 again Untyped n l = refl
 again User n l = refl
@@ -50,7 +50,7 @@ delegated s t1 t2 a b m l A B apart first second one two =
     let budget : Frame → Frame = λ x. with_tcap x (record (tcap_in x) { budget = n }) in
     let list : Frame → Frame = λ x. with_tcap x (record (tcap_in x) { qualities = l }) in
     let here : (moved s a b m).frame b ≡ budget (s.frame b) = ap (λ t. if t then budget (put s.frame a A' b) else put s.frame a A' b)
-        (eq-eqb b b refl) ∙ ap budget kept in
+    (eq-eqb b b refl) ∙ ap budget kept in
     let last : list ((moved s a b m).frame b) ≡ B = ap list here ∙ again (s.frame b) n l ∙ sym second in
     same_then t2 (with_frame (with_frame s a A) b B) (with_qualities (moved s a b m) b l)
     (same_then t2 (with_frame t1 b B) (with_frame (with_frame s a A) b B) two (same_frame t1 (with_frame s a A) b B one))

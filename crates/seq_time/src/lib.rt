@@ -14,4 +14,3 @@ mod switching;
 mod ticks;
 
 pub use one::step;
-

@@ -61,12 +61,7 @@ fn go_on(k: &mut SeqKernel, core: CoreNo, h: FrameNo, q: FrameNo)
 }
 
 /// `switch`: the core goes on as a named thread, which is idle, with a named temporal capability.
-pub(crate) fn switch(
-    k: &mut SeqKernel,
-    core: CoreNo,
-    h: CapId,
-    q: CapId,
-) -> Result<Value, Reply>
+pub(crate) fn switch(k: &mut SeqKernel, core: CoreNo, h: CapId, q: CapId) -> Result<Value, Reply>
     requires { core < (state_of k.old).limits.cores }
     ensures { IsCarriedOut (state_of k.old) (change_of (state_of k.old) core (Switch h q)) (answered result) k.new }
 {

@@ -9,6 +9,7 @@ ghost use Rattle.speck_run.specs.Top.{status_number};
 ghost use Rattle.speck_run.specs.declared.top.Status.TheVariants as statuses;
 
 use byte_ends::{StdSink, StdSource};
+use core_kernel::FreeGate;
 use speck_run::{Status, speck};
 use std::alloc::{AllocError, Global};
 use std::env::{self, Args};
@@ -49,7 +50,7 @@ fn main(rt: HostRuntime) -> ExitCode {
     let mut source = StdSource::new(rt.stdin());
     let mut sink = StdSink::new(rt.stdout());
     exit_code(match words_after_name(rt.alloc(), env::args(&rt)) {
-        Ok(words) => speck(rt.alloc(), &words, &mut source, &mut sink),
+        Ok(words) => speck(&rt, rt.alloc(), &FreeGate, &words, &mut source, &mut sink),
         Err(status) => status,
     })
 }

@@ -7,12 +7,12 @@ use Rattle.script_tokens.specs.Words.{words_of}
 use Rattle.script_reader.specs.Readings.{Row, Meaning, First_fault, rows_of, script_of}
 use Rattle.script_reader.specs.Unbuilt.{IsFirstUnbuiltOf}
 use Rattle.speck_run.specs.declared.words.Command.{Command}
-use Rattle.speck_run.specs.declared.words.Command.TheVariants.{Replay, Print}
+use Rattle.speck_run.specs.declared.words.Command.TheVariants.{Replay, Run, Print}
 use Rattle.speck_run.specs.declared.top.Status.{Status}
-use Rattle.speck_run.specs.declared.top.Status.TheVariants.{Done, Words, Script, ReadFault, WriteFault, Memory, TooLong, NotBuilt}
+use Rattle.speck_run.specs.declared.top.Status.TheVariants.{Done, Words, Script, ReadFault, WriteFault, Memory, TooLong, NotBuilt, Stopped}
 use Rattle.speck_run.specs.Ends.{GivesAll}
 use Rattle.speck_run.specs.Script.{IsTaken, IsLeft, IsAnswer, IsMade}
-use Rattle.speck_run.specs.Top.{CommandLine, texts_of, Asked, Asks, IsDue, IsDueOf, IsDone, InputMakes, CarriesOut, IsStatusOf, Answers, IsAccepted, Writes}
+use Rattle.speck_run.specs.Top.{CommandLine, texts_of, Asked, Asks, IsDue, IsDueOf, IsDone, InputMakes, CarriesOut, IsStatusOf, Answers, IsAccepted, Writes, InputRuns}
 
 -- There is one first line that is not carried out, or none.
 first_same : (rows : List Row) (a b : Option ℕ) → IsFirstUnbuiltOf rows a → IsFirstUnbuiltOf rows b → a ≡ b
@@ -33,11 +33,12 @@ is_word : List (List ℕ) → List ℕ → Bool
 is_word texts word = pointwise (λ x y. pointwise eqb x y) texts (word ∷ [])
 
 told : List (List ℕ) → Option Command
-told texts = if is_word texts (codes "replay") then Some Replay else if is_word texts (codes "print") then Some Print else None
+told texts = if is_word texts (codes "replay") then Some Replay else if is_word texts (codes "run") then Some Run else if is_word texts (codes "print") then Some Print else None
 
 asks_told : (words : CommandLine) (command : Command) → Asks words command → told (texts_of words) ≡ Some command
 unfolding told is_word
 asks_told words Replay p = ap told p
+asks_told words Run p = ap told p
 asks_told words Print p = ap told p
 
 some_same : (a b : Command) → Some a ≡ Some b → a ≡ b
@@ -69,6 +70,7 @@ status_same c bytes Done WriteFault p q = absurd q
 status_same c bytes Done Memory p q = absurd q
 status_same c bytes Done TooLong p q = absurd (omega (arith, p.0, q))
 status_same c bytes Done (NotBuilt line') p q = absurd (taken_left c bytes line' p.1 q.1)
+status_same c bytes Done Stopped p q = absurd q
 status_same c bytes Words s' p q = absurd p
 status_same c bytes (Script line cause) Done p q = absurd (taken_fault c bytes _ q.1 p.1)
 status_same c bytes (Script line cause) Words p q = absurd q
@@ -78,6 +80,7 @@ status_same c bytes (Script line cause) WriteFault p q = absurd q
 status_same c bytes (Script line cause) Memory p q = absurd q
 status_same c bytes (Script line cause) TooLong p q = absurd (omega (arith, p.0, q))
 status_same c bytes (Script line cause) (NotBuilt line') p q = absurd (left_fault c bytes line' _ q.1 p.1)
+status_same c bytes (Script line cause) Stopped p q = absurd q
 status_same c bytes ReadFault s' p q = absurd p
 status_same c bytes WriteFault s' p q = absurd p
 status_same c bytes Memory s' p q = absurd p
@@ -89,6 +92,7 @@ status_same c bytes TooLong WriteFault p q = absurd q
 status_same c bytes TooLong Memory p q = absurd q
 status_same c bytes TooLong TooLong p q = refl
 status_same c bytes TooLong (NotBuilt line') p q = absurd (omega (arith, p, q.0))
+status_same c bytes TooLong Stopped p q = absurd q
 status_same c bytes (NotBuilt line) Done p q = absurd (taken_left c bytes line q.1 p.1)
 status_same c bytes (NotBuilt line) Words p q = absurd q
 status_same c bytes (NotBuilt line) (Script line' cause') p q = absurd (left_fault c bytes line _ p.1 q.1)
@@ -97,6 +101,8 @@ status_same c bytes (NotBuilt line) WriteFault p q = absurd q
 status_same c bytes (NotBuilt line) Memory p q = absurd q
 status_same c bytes (NotBuilt line) TooLong p q = absurd (omega (arith, p.0, q))
 status_same c bytes (NotBuilt line) (NotBuilt line') p q = left_same c bytes line line' p.1 q.1
+status_same c bytes (NotBuilt line) Stopped p q = absurd q
+status_same c bytes Stopped s' p q = absurd p
 
 -- What is due for an input that was read to its end is due.
 pub due_input : (words : CommandLine) (left left' : Option (List ℕ)) (f f' : ℕ) (command : Command) (bytes : List ℕ) (s : Status) (text : List ℕ) → Asks words command →
@@ -120,6 +126,16 @@ due_input words left left' f f' command bytes (NotBuilt line) text asks input sm
   record { command = command; asks = asks; bytes = bytes; input = input; small = small; leaves = d.0 },
   d.1,
 )
+due_input words left left' f f' command bytes Stopped text asks input small d = (
+  record {
+    asks = subst (Asks words) d.0 asks;
+    bytes = bytes;
+    input = input;
+    small = small;
+    takes = subst (λ (c : Command). IsTaken c bytes) d.0 d.1;
+  },
+  d.2,
+)
 
 -- What a command makes of an input, it makes of one that it takes.
 made_taken : (command : Command) (bytes text : List ℕ) → IsMade command (IsAnswer command) bytes text → IsTaken command bytes
@@ -133,13 +149,14 @@ module _ (words : CommandLine) (command : Command) (asks : Asks words command) w
 
   -- What is due for an input that the source tells.
   status_due : (left : List ℕ) (left' : Option (List ℕ)) (f f' : ℕ) (s : Status) (text : List ℕ) →
-      IsDue (record { words = words; left = Some left; left' = left'; faults = f; faults' = f' }) s text → IsStatusOf command left s ⊎ (s ≡ ReadFault)
+      IsDue (record { words = words; left = Some left; left' = left'; faults = f; faults' = f' }) s text → IsStatusOf command left s ⊎ ((s ≡ Stopped) ⊎ (s ≡ ReadFault))
   status_due left left' f f' Done text d =
       let a = makes_as (Some left) left' f f' text d in
       inl (subst (λ (l : List ℕ). IsStatusOf command l Done) a.input.all (a.small, made_taken command a.bytes text a.made))
   status_due left left' f f' Words text d = absurd (d.0 (record { command = command; asks = asks }))
   status_due left left' f f' (Script line cause) text (i, d, t) = inl (subst (λ (l : List ℕ). IsStatusOf command l (Script line cause)) d.input.all (d.small, d.fault))
-  status_due left left' f f' ReadFault text d = inr refl
+  status_due left left' f f' ReadFault text d = inr (inr refl)
+  status_due left left' f f' Stopped text d = inr (inl refl)
   status_due left left' f f' WriteFault text d = absurd d
   status_due left left' f f' Memory text d = absurd d
   status_due left left' f f' TooLong text (i, d, t) = inl (omega (arith, d.there))
@@ -147,9 +164,10 @@ module _ (words : CommandLine) (command : Command) (asks : Asks words command) w
       inl (subst (λ (c : Command). IsStatusOf c left (NotBuilt line)) (asks_same words d.command command d.asks asks)
       (subst (λ (l : List ℕ). IsStatusOf d.command l (NotBuilt line)) d.input.all (d.small, d.leaves)))
 
-  answers_of : (left : List ℕ) (s : Status) → IsStatusOf command left s ⊎ (s ≡ ReadFault) → Answers command (Some left) s
+  answers_of : (left : List ℕ) (s : Status) → IsStatusOf command left s ⊎ ((s ≡ Stopped) ⊎ (s ≡ ReadFault)) → Answers command (Some left) s
   answers_of left s (inl p) = λ due h. inl (status_same command left s due p h)
-  answers_of left s (inr e) = λ due h. inr (inl e)
+  answers_of left s (inr (inl e)) = λ due h. inr (inl e)
+  answers_of left s (inr (inr e)) = λ due h. inr (inr (inl e))
 
   -- The answer with what is due, or with a fault.
   pub answers_due : (left left' : Option (List ℕ)) (f f' : ℕ) (s : Status) (text : List ℕ) →
@@ -159,11 +177,12 @@ module _ (words : CommandLine) (command : Command) (asks : Asks words command) w
 
   -- An input that the command takes is done, where reading has not failed.
   pub completes : (left left' : Option (List ℕ)) (f f' : ℕ) (s : Status) (text : List ℕ) →
-      IsDue (record { words = words; left = left; left' = left'; faults = f; faults' = f' }) s text → IsAccepted command left → (HasRisen f f' → ⊥) → s ≡ Done
-  completes None left' f f' s text d accepted sure = absurd accepted
-  completes (Some left) left' f f' s text d accepted sure = elim (status_due left left' f f' s text d) [
+      IsDue (record { words = words; left = left; left' = left'; faults = f; faults' = f' }) s text → IsAccepted command left → (s ≡ Stopped → ⊥) → (HasRisen f f' → ⊥) → s ≡ Done
+  completes None left' f f' s text d accepted goes sure = absurd accepted
+  completes (Some left) left' f f' s text d accepted goes sure = elim (status_due left left' f f' s text d) [
     | inl p ↦ status_same command left s Done p accepted
-    | inr e ↦ absurd (sure (subst (λ (due : Status). IsDue (record { words = words; left = Some left; left' = left'; faults = f; faults' = f' }) due text) e d).1)
+    | inr (inl e) ↦ absurd (goes e)
+    | inr (inr e) ↦ absurd (sure (subst (λ (due : Status). IsDue (record { words = words; left = Some left; left' = left'; faults = f; faults' = f' }) due text) e d).1)
   ]
 
   -- The text of a call that is done, and that the sink has taken.
@@ -178,7 +197,7 @@ module _ (words : CommandLine) (command : Command) (asks : Asks words command) w
 
 pub answers_fault : (command : Command) (left : Option (List ℕ)) (s : Status) → (s ≡ WriteFault) ⊎ (s ≡ Memory) → Answers command left s
 answers_fault command None s e = tt
-answers_fault command (Some left) s e = λ due h. inr (inr e)
+answers_fault command (Some left) s e = λ due h. inr (inr (inr e))
 
 -- What is written with what is due.
 pub writes_due : (a : Asked) (held held' : Option (List ℕ)) (s : Status) (text : List ℕ) → IsDue a s text → Adds text held held' → Writes a held held' s
@@ -189,4 +208,9 @@ writes_due a held held' ReadFault text d w = subst (λ (t : List ℕ). Adds t he
 writes_due a held held' WriteFault text d w = absurd d
 writes_due a held held' Memory text d w = absurd d
 writes_due a held held' TooLong text d w = subst (λ (t : List ℕ). Adds t held held') d.2 w
+writes_due a held held' Stopped text d w = subst (λ (t : List ℕ). Adds t held held') d.1 w
 writes_due a held held' (NotBuilt line) text d w = subst (λ (t : List ℕ). Adds t held held') d.1 w
+
+-- A run that was stopped was asked for.
+pub stops_run : (a : Asked) (s : Status) (text : List ℕ) → IsDue a s text → s ≡ Stopped → InputRuns a.words a.left a.left'
+stops_run a s text d e = (subst (λ (due : Status). IsDue a due text) e d).0

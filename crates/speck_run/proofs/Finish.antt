@@ -1,6 +1,6 @@
 -- The machine at the end of a run: its cores are between calls, and its text is that of the trace for which it stands.
-use Rattle.std.proofs.Common.{◌≡◌, ◌≢◌, inl, inr, ℕ, ◌<◌, ◌++◌, List, [], length, refl, sym, ◌∙◌, ap, subst, arith}
-use Rattle.std.specs.Prelude.{Option, Some, None}
+use Rattle.std.proofs.Common.{◌≡◌, inl, inr, ℕ, ◌<◌, ◌++◌, List, [], length, sym, ◌∙◌, ap, subst, arith}
+use Rattle.std.specs.Prelude.{None}
 use Rattle.std.proofs.lemmas.Bool.{cases_lt}
 use Rattle.std.proofs.lemmas.List.{get_or_past}
 use Rattle.spk_nums.specs.Setting.{Setting, IsSetting}
@@ -12,7 +12,7 @@ use Rattle.kernel_history.specs.Tables.{tables_of}
 use Rattle.kernel_history.specs.Text.{reply_lines, text_of}
 use Rattle.kernel_history.proofs.Idle.{all_idle}
 use Rattle.flight.specs.Made.{ready_after, IsMade}
-use Rattle.flight.specs.Histories.{IsHistory, MadeHistories}
+use Rattle.flight.specs.Histories.{MadeHistories}
 use Rattle.call_steps.specs.declared.stages.ActiveCall.{ActiveCall}
 use Rattle.flight.proofs.Phases.{made_of_its_cores}
 use Rattle.lone_kernel.specs.GivenSteps.{GivenSteps}

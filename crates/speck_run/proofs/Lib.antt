@@ -4,3 +4,4 @@ pub mod Pieces
 pub mod OneWord
 pub mod Accepted
 pub mod Due
+pub mod ByCores

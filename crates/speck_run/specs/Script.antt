@@ -1,12 +1,13 @@
 -- What an input is under a command: a script that the command takes, one that it leaves, or no script.
 use Rattle.std.specs.Prelude.{◌≡◌, ℕ, List, Bool, true, false, Some, None, Ok, Err}
+use Rattle.core_kernel.specs.TakenSteps.{TakenSteps}
 use Rattle.lone_kernel.specs.GivenSteps.{GivenSteps}
 use Rattle.script_reader.specs.declared.cause.Cause.{Cause}
 use Rattle.script_reader.specs.Readings.{Meaning, script_of}
 use Rattle.script_reader.specs.Unbuilt.{IsFirstUnbuilt}
 use Rattle.script_printer.specs.Printing.{printed}
 use Rattle.speck_run.specs.declared.words.Command.{Command}
-use Rattle.speck_run.specs.declared.words.Command.TheVariants.{Replay, Print}
+use Rattle.speck_run.specs.declared.words.Command.TheVariants.{Replay, Run, Print}
 
 -- The bytes are this script.
 abbrev pub IsScript : List ℕ → Meaning → Type 0
@@ -19,11 +20,13 @@ IsFirstFault bytes line cause = script_of bytes ≡ Err (record { line = line; c
 -- Whether the command makes the script's calls, so that it takes a script only where each of them is supported today.
 abbrev pub makes_calls : Command → Bool
 makes_calls Replay = true
+makes_calls Run = true
 makes_calls Print = false
 
--- What the command makes of a script: `replay` the text of given steps, `print` the printed form.
+-- What the command makes of a script: `replay` the text of given steps, `run` that of taken ones, `print` the printed form.
 abbrev pub IsAnswer : Command → Meaning → List ℕ → Type 0
 IsAnswer Replay script text = GivenSteps script.setup script.lists script.order text
+IsAnswer Run script text = TakenSteps script.setup script.lists text
 IsAnswer Print script text = text ≡ printed script
 
 -- The bytes are a script that the command takes.

@@ -2,14 +2,17 @@
 use Rattle.std.specs.Prelude.{◌≡◌, ◌⊎◌, ◌++◌, ℕ, ◌<◌, ◌≤◌, List, [], ◌∷◌, length, map, Option, Some, None, String, string_bytes, codes}
 use Rattle.std.specs.Fmt.{decimal}
 use Rattle.std.specs.Global.{Global, Vec}
+use Rattle.spk_nums.specs.Setting.{Setting}
+use Rattle.spk_nums.specs.declared.calls.Call.{Call}
 use Rattle.byte_ends.specs.Ends.{HasRisen, Adds}
+use Rattle.core_kernel.specs.TakenSteps.{TakenSteps}
 use Rattle.script_reader.specs.declared.cause.Cause.{Cause}
 use Rattle.script_reader.specs.Causes.{cause_text}
 use Rattle.script_reader.specs.Readings.{Meaning}
 use Rattle.speck_run.specs.declared.words.Command.{Command}
-use Rattle.speck_run.specs.declared.words.Command.TheVariants.{Replay, Print}
+use Rattle.speck_run.specs.declared.words.Command.TheVariants.{Replay, Run, Print}
 use Rattle.speck_run.specs.declared.top.Status.{Status}
-use Rattle.speck_run.specs.declared.top.Status.TheVariants.{Done, Words, Script, ReadFault, WriteFault, Memory, TooLong, NotBuilt}
+use Rattle.speck_run.specs.declared.top.Status.TheVariants.{Done, Words, Script, ReadFault, WriteFault, Memory, TooLong, NotBuilt, Stopped}
 use Rattle.speck_run.specs.Ends.{Gives, GivesAll, AddsFront}
 use Rattle.speck_run.specs.Script.{IsFirstFault, IsAnswer, IsTaken, IsLeft, IsMade}
 
@@ -23,6 +26,7 @@ texts_of words = map (λ word. string_bytes word) words.items
 -- The words ask for the command.
 abbrev pub Asks : CommandLine → Command → Type 0
 Asks words Replay = texts_of words ≡ codes "replay" ∷ []
+Asks words Run = texts_of words ≡ codes "run" ∷ []
 Asks words Print = texts_of words ≡ codes "print" ∷ []
 
 -- The words ask for some command.
@@ -58,6 +62,14 @@ pub record InputLeft (words : CommandLine) (left left' : Option (List ℕ)) (lin
   pub input : GivesAll bytes left left'
   pub small : length bytes ≤ 1048576
   pub leaves : IsLeft command bytes line
+
+-- The words ask for `run`, which takes the input, and the source has given it to the end, at most 1,048,576 bytes.
+pub record InputRuns (words : CommandLine) (left left' : Option (List ℕ)) : Type 0 where
+  pub asks : Asks words Run
+  pub bytes : List ℕ
+  pub input : GivesAll bytes left left'
+  pub small : length bytes ≤ 1048576
+  pub takes : IsTaken Run bytes
 
 -- The command takes the input, and the sink has taken a whole text, which is this of the script that the input is.
 pub record CarriesOut (command : Command) (Is : Meaning → List ℕ → Type 0) (left left' held held' : Option (List ℕ)) : Type 0 where
@@ -104,16 +116,24 @@ IsDue a ReadFault text = IsCommand a.words × HasRisen a.faults a.faults' × (te
 IsDue a TooLong text = IsCommand a.words × Gives 1048577 a.left a.left' × (text ≡ long_line)
 IsDue a (Script line cause) text = IsCommand a.words × InputFaults a.left a.left' line cause × (text ≡ script_line line cause)
 IsDue a (NotBuilt line) text = InputLeft a.words a.left a.left' line × (text ≡ not_built_line line)
+IsDue a Stopped text = InputRuns a.words a.left a.left' × (text ≡ [])
 IsDue a WriteFault text = ⊥
 IsDue a Memory text = ⊥
 
--- What is due under a command for an input that was read to its end: what the command makes of it, or the line of its first
--- fault, or that of the first line that is not supported today.
+-- What is due under a command for an input that was read to its end: what the command makes of it, or nothing where a run was
+-- stopped, or the line of its first fault, or that of the first line that is not supported today.
 abbrev pub IsDueOf : Command → List ℕ → Status → List ℕ → Type 0
 IsDueOf command bytes Done text = IsMade command (IsAnswer command) bytes text
+IsDueOf command bytes Stopped text = (command ≡ Run) × IsTaken command bytes × (text ≡ [])
 IsDueOf command bytes (Script line cause) text = IsFirstFault bytes line cause × (text ≡ script_line line cause)
 IsDueOf command bytes (NotBuilt line) text = IsLeft command bytes line × (text ≡ not_built_line line)
 IsDueOf command bytes _ text = ⊥
+
+-- What is due for a script whose lists are made: its text of taken steps, or nothing where a core was stopped.
+abbrev pub IsRunOf : Setting → List (List Call) → Status → List ℕ → Type 0
+IsRunOf setup lists Done text = TakenSteps setup lists text
+IsRunOf setup lists Stopped text = text ≡ []
+IsRunOf setup lists _ text = ⊥
 
 -- A prefix of a text that was due.
 pub record WritesFront (a : Asked) (held held' : Option (List ℕ)) : Type 0 where
@@ -130,6 +150,7 @@ Writes a held held' ReadFault = Adds read_line held held'
 Writes a held held' TooLong = Adds long_line held held'
 Writes a held held' (Script line cause) = Adds (script_line line cause) held held'
 Writes a held held' (NotBuilt line) = Adds (not_built_line line) held held'
+Writes a held held' Stopped = Adds [] held held'
 Writes a held held' WriteFault = WritesFront a held held'
 Writes a held held' Memory = held' ≡ held
 
@@ -146,9 +167,9 @@ IsStatusOf command bytes _ = ⊥
 abbrev pub IsUnlessUnwritten : Status → Status → Type 0
 IsUnlessUnwritten due status = (status ≡ due) ⊎ ((status ≡ WriteFault) ⊎ (status ≡ Memory))
 
--- The status is this one, unless a read or a write has failed or memory has run out.
+-- The status is this one, unless a read or a write has failed, memory has run out, or a run was stopped.
 abbrev pub IsUnlessFault : Status → Status → Type 0
-IsUnlessFault due status = (status ≡ due) ⊎ IsUnlessUnwritten ReadFault status
+IsUnlessFault due status = (status ≡ due) ⊎ ((status ≡ Stopped) ⊎ IsUnlessUnwritten ReadFault status)
 
 -- The status is that of the input under the command, where the source tells it, unless something has failed.
 abbrev pub Answers : Command → Option (List ℕ) → Status → Type 0
@@ -175,3 +196,4 @@ status_number WriteFault = 5
 status_number Memory = 6
 status_number TooLong = 7
 status_number (NotBuilt line) = 8
+status_number Stopped = 9

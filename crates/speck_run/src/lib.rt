@@ -4,9 +4,11 @@
 mod ends;
 mod orders;
 mod replay;
+mod runs;
 mod text;
 mod top;
 mod words;
 
+pub use runs::run_lists;
 pub use top::{Status, speck};
 pub use words::Command;

@@ -29,7 +29,7 @@ pub fn replay(
     follow(&mut kernel, items);
     run_rest(&mut kernel, setup);
     let mut text = String::new(alloc);
-    write_decisions(alloc, &mut text, kernel.lists(), kernel.decisions())?;
+    write_decisions(&mut text, kernel.lists(), kernel.decisions())?;
     let closed = kernel.close(alloc)?;
     let tables = report(alloc, &closed)?;
     text.push_str(&tables)?;

@@ -1,22 +1,27 @@
 //! The top call: words, then reading, then the script, then writing.
 
-ghost use Rattle.std.specs.Prelude.{◌≡◌, ℕ, ◌<◌, ◌≤◌, ◌⊎◌, ◌↔◌, IsTrue, IfOk, map, length, string_bytes};
+ghost use Rattle.std.specs.Prelude.{◌≡◌, ℕ, ◌<◌, ◌≤◌, ◌⊎◌, ◌↔◌, true, IsTrue, IfOk, map, length, string_bytes};
 ghost use Rattle.byte_ends.specs.Ends.{HasRisen, Adds};
+ghost use Rattle.core_kernel.specs.TakenSteps.{TakenSteps};
 ghost use Rattle.lone_kernel.specs.GivenSteps.{GivenSteps};
+ghost use Rattle.lone_kernel.specs.Machine.{AreLists};
 ghost use Rattle.script_printer.specs.Printing.{printed};
 ghost use Rattle.speck_run.specs.declared.words.Command.{Command};
 ghost use Rattle.speck_run.specs.declared.words.Command.TheVariants as commands;
 ghost use Rattle.speck_run.specs.Ends.{Gives, GivesAll, GivesAtMost};
-ghost use Rattle.speck_run.specs.Top.{Asks, IsCommand, IsDue, IsDueOf, InputFaults, InputLeft, CarriesOut, Writes, Answers, IsUnlessUnwritten, IsAccepted, Finishes, script_line, not_built_line, status_number};
+ghost use Rattle.speck_run.specs.Top.{Asks, IsCommand, IsDue, IsDueOf, InputFaults, InputLeft, InputRuns, IsRunOf, CarriesOut, Writes, Answers, IsUnlessUnwritten, IsAccepted, Finishes, script_line, not_built_line, status_number};
 
 use crate::ends::{ReadError, read_all, write_all};
 use crate::replay::replay;
+use crate::runs::run_lists;
 use crate::words::{Command, command_of};
 use byte_ends::{Sink, Source};
+use core_kernel::Gate;
 use script_printer::print;
 use script_reader::{Cause, ReadFault, Script, first_unbuilt, read};
 use spk_nums::Memory;
 use std::alloc::Global;
+use std::thread::Threads;
 
 /// How a call of `speck` ended.
 #[derive(Clone, Copy, Debug, PartialEq, Eq)]
@@ -35,8 +40,10 @@ pub enum Status {
     Memory,
     /// The source gave more than 1,048,576 bytes.
     TooLong,
-    /// The input of `replay` is a script with a call that is not built; this is the line of the first.
+    /// The input of `replay` or `run` is a script with a call that is not built; this is the line of the first.
     NotBuilt { line: u32 },
+    /// The gate has stopped a core of a `run`.
+    Stopped,
 }
 
 impl Status {
@@ -53,6 +60,7 @@ impl Status {
             Status::Memory => 6,
             Status::TooLong => 7,
             Status::NotBuilt { .. } => 8,
+            Status::Stopped => 9,
         }
     }
 }
@@ -97,10 +105,38 @@ fn leave(alloc: Global, line: u32) -> Result<Answer, Memory>
     })
 }
 
+// What is due for a script whose lists are made: its text, or nothing where the gate has stopped a core.
+fn answer_run<R: Threads + Sync, G: Gate>(
+    rt: &R,
+    alloc: Global,
+    gate: &G,
+    script: &Script,
+) -> Result<Answer, Memory>
+    requires can_run { AreLists (map (λ v. v.items) script.now.lists.items) }
+    requires one_each { length script.now.lists.items ≡ script.now.setup.cores }
+    ensures due { IfOk result (λ answer. IsRunOf script.now.setup (map (λ v. v.items) script.now.lists.items) answer.status (string_bytes answer.text)) }
+    ensures free { IfOk result (λ answer. answer.status ≡ Status.Stopped → G.is_free gate.now ≡ true → ⊥) }
+{
+    match run_lists(rt, alloc, script, gate)? {
+        Some(text) => Ok(Answer {
+            status: Status::Done,
+            text,
+        }),
+        None => line(alloc, Status::Stopped, ""),
+    }
+}
+
 // What is due for an input that was read to its end. A script is printed whatever its lines say.
-fn judge_input(alloc: Global, command: Command, bytes: &[u8]) -> Result<Answer, Memory>
+fn judge_input<R: Threads + Sync, G: Gate>(
+    rt: &R,
+    alloc: Global,
+    gate: &G,
+    command: Command,
+    bytes: &[u8],
+) -> Result<Answer, Memory>
     requires { length bytes.now ≤ 1048576 }
-    ensures { IfOk result (λ answer. IsDueOf command bytes.now answer.status (string_bytes answer.text)) }
+    ensures due { IfOk result (λ answer. IsDueOf command bytes.now answer.status (string_bytes answer.text)) }
+    ensures free { IfOk result (λ answer. answer.status ≡ Status.Stopped → G.is_free gate.now ≡ true → ⊥) }
 {
     let script = match read(alloc, bytes) {
         Ok(script) => script,
@@ -117,6 +153,9 @@ fn judge_input(alloc: Global, command: Command, bytes: &[u8]) -> Result<Answer, 
     if let Some(line) = first_unbuilt(&script.tokens) {
         return leave(alloc, line);
     }
+    if matches!(command, Command::Run) {
+        return answer_run(rt, alloc, gate, &script);
+    }
     let Script {
         setup,
         lists,
@@ -131,7 +170,13 @@ fn judge_input(alloc: Global, command: Command, bytes: &[u8]) -> Result<Answer, 
 }
 
 // What is due: words are judged first, then reading, then the script.
-fn judge<S: Source>(alloc: Global, words: &Vec<String>, source: &mut S) -> Result<Answer, Memory>
+fn judge<R: Threads + Sync, G: Gate, S: Source>(
+    rt: &R,
+    alloc: Global,
+    gate: &G,
+    words: &Vec<String>,
+    source: &mut S,
+) -> Result<Answer, Memory>
     ensures due { IfOk result (λ answer. IsDue record {
       words = words.now;
       left = S.left source.old;
@@ -141,13 +186,14 @@ fn judge<S: Source>(alloc: Global, words: &Vec<String>, source: &mut S) -> Resul
     } answer.status (string_bytes answer.text)) }
     ensures most { GivesAtMost 1048577 (S.left source.old) (S.left source.new) }
     ensures unread { (IsCommand words.now → ⊥) → source.new ≡ source.old }
+    ensures free { IfOk result (λ answer. answer.status ≡ Status.Stopped → G.is_free gate.now ≡ true → ⊥) }
     ensures steady { IfOk result (λ answer. (answer.status ≡ Status.ReadFault) ⊎ (S.faults source.new ≡ S.faults source.old)) }
 {
     let Some(command) = command_of(words) else {
         return line(alloc, Status::Words, "words not understood\n");
     };
     match read_all(alloc, source) {
-        Ok(bytes) => judge_input(alloc, command, &bytes),
+        Ok(bytes) => judge_input(rt, alloc, gate, command, &bytes),
         Err(ReadError::Memory) => Err(Memory),
         Err(ReadError::Failed) => line(alloc, Status::ReadFault, "read failed\n"),
         Err(ReadError::TooLong) => line(alloc, Status::TooLong, "too long\n"),
@@ -168,18 +214,22 @@ fn finish<K: Sink>(sink: &mut K, answer: &Answer) -> Status
 /// Does all that the program does: judges the words, reads the source, takes the script and writes
 /// the sink.
 ///
-/// Words other than `replay` alone or `print` alone are `Words`, and nothing is read. A source that
+/// Words other than `replay`, `run` or `print` alone are `Words`, and nothing is read. A source that
 /// fails is `ReadFault`, and one that gives a byte past 1,048,576 is `TooLong`; no more than that
-/// byte is taken. An input that is no script is `Script`, with its first fault. Under `replay` a
-/// script that has a call that is not built is `NotBuilt`, at the line of the first such call; else
-/// the script's steps are taken and their text is written, the reply lines and the tables, and the
-/// status is `Done`.
+/// byte is taken. An input that is no script is `Script`, with its first fault. Under `replay` and
+/// `run` a script that has a call that is not built is `NotBuilt`, at the line of the first such
+/// call; else the script's steps are taken and their text is written, the reply lines and the
+/// tables, and the status is `Done`. `run` makes each core's calls in a thread of its own where one
+/// can be made, and asks the gate before each call: where the gate stops a core, which a free one
+/// never does, the status is `Stopped` and nothing is written.
 /// Under `print` each script is written in its printed form, and the status is `Done`.
 /// Each of the other statuses writes its line in place of the text. A sink that fails is
 /// `WriteFault`, and holds a prefix of what was due. `Memory` may come in place of any status, and
 /// has written nothing. No read and no write that failed is tried again.
-pub fn speck<S: Source, K: Sink>(
+pub fn speck<R: Threads + Sync, G: Gate, S: Source, K: Sink>(
+    rt: &R,
     alloc: Global,
+    gate: &G,
     words: &Vec<String>,
     source: &mut S,
     sink: &mut K,
@@ -187,6 +237,9 @@ pub fn speck<S: Source, K: Sink>(
     // What each command has written where it is done.
     ensures replay { Asks words.now commands.Replay → result ≡ Status.Done
         → CarriesOut commands.Replay (λ script text. GivenSteps script.setup script.lists script.order text)
+        (S.left source.old) (S.left source.new) (K.held sink.old) (K.held sink.new) }
+    ensures run { Asks words.now commands.Run → result ≡ Status.Done
+        → CarriesOut commands.Run (λ script text. TakenSteps script.setup script.lists text)
         (S.left source.old) (S.left source.new) (K.held sink.old) (K.held sink.new) }
     ensures print { Asks words.now commands.Print → result ≡ Status.Done
         → CarriesOut commands.Print (λ script text. text ≡ printed script)
@@ -204,6 +257,9 @@ pub fn speck<S: Source, K: Sink>(
         → IsCommand words.now × InputFaults (S.left source.old) (S.left source.new) line cause }
     ensures not_built { (line : ℕ) → result ≡ Status.NotBuilt line
         → InputLeft words.now (S.left source.old) (S.left source.new) line }
+    // A run is stopped by a gate that is not free alone.
+    ensures stopped { result ≡ Status.Stopped
+        → InputRuns words.now (S.left source.old) (S.left source.new) × (G.is_free gate.now ≡ true → ⊥) }
     ensures long { result ≡ Status.TooLong
         → IsCommand words.now × Gives 1048577 (S.left source.old) (S.left source.new) }
     ensures most { GivesAtMost 1048577 (S.left source.old) (S.left source.new) }
@@ -229,11 +285,12 @@ pub fn speck<S: Source, K: Sink>(
     ensures sure_sink { ((k : K) → K.faults k ≡ 0) → result ≡ Status.WriteFault → ⊥ }
     ensures complete { (command : Command) → Asks words.now command
         → IsAccepted command (S.left source.old)
+        → (command ≡ commands.Run → G.is_free gate.now ≡ true)
         → (HasRisen (S.faults source.old) (S.faults source.new) → ⊥)
         → (HasRisen (K.faults sink.old) (K.faults sink.new) → ⊥)
         → (result ≡ Status.Done) ⊎ (result ≡ Status.Memory) }
 {
-    match judge(alloc, words, source) {
+    match judge(rt, alloc, gate, words, source) {
         Ok(answer) => finish(sink, &answer),
         Err(Memory) => Status::Memory,
     }

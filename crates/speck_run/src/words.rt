@@ -8,6 +8,8 @@ ghost use Rattle.speck_run.specs.Top.{IsCommandOf, texts_of};
 pub enum Command {
     /// Takes given steps of a script, and writes what they did.
     Replay,
+    /// Makes the lists of a script, each core in a thread of its own, and writes what they did.
+    Run,
     /// Writes a script in its printed form.
     Print,
 }
@@ -28,6 +30,9 @@ pub fn command_of(words: &Vec<String>) -> Option<Command>
 {
     if is_alone(words, "replay") {
         return Some(Command::Replay);
+    }
+    if is_alone(words, "run") {
+        return Some(Command::Run);
     }
     if is_alone(words, "print") {
         return Some(Command::Print);

@@ -6,4 +6,6 @@ mod numbers;
 #[cfg(test)]
 mod replays;
 #[cfg(test)]
+mod runs;
+#[cfg(test)]
 mod texts;

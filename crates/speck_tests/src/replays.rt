@@ -3,10 +3,12 @@
 ghost use Rattle.std.specs.Prelude.{◌≡◌};
 
 use byte_ends::{MemSink, MemSource, SureSink, SureSource};
+use core_kernel::FreeGate;
 use script_reader::Cause;
 use speck_run::{Status, speck};
 use std::alloc::Global;
 use std::test::Fail;
+use std::thread::Threads;
 
 const MACHINE: &str = "speck 1\ncores 2\nframes 32\ngrant 100 0 1\ngrant 100 0 1\n";
 
@@ -106,7 +108,8 @@ fn list_of(alloc: Global, words: &[&str]) -> Result<Vec<String>, Fail> {
 }
 
 // Whether the call ends with this status, and the sink then holds this text.
-fn answers(
+fn answers<R: Threads + Sync>(
+    rt: &R,
     alloc: Global,
     words: &[&str],
     input: &[u8],
@@ -120,12 +123,13 @@ fn answers(
     let write_fails = Vec::from_slice(alloc, &[ends.write_fails])?;
     let mut source = MemSource::new(bytes, ends.read_most.max(1), read_fails);
     let mut sink = MemSink::new(alloc, ends.room, ends.write_most.max(1), write_fails)?;
-    let answer = speck(alloc, &words, &mut source, &mut sink);
+    let answer = speck(rt, alloc, &FreeGate, &words, &mut source, &mut sink);
     Ok(answer == status && sink.bytes() == text.as_bytes())
 }
 
 // Whether the script of these lines behind the machine's ends with this status and text.
-fn replays(
+fn replays<R: Threads + Sync>(
+    rt: &R,
     alloc: Global,
     lines: &str,
     ends: &Ends,
@@ -133,19 +137,31 @@ fn replays(
     text: &str,
 ) -> Result<bool, Fail> {
     let input = format!(in alloc; "{MACHINE}{lines}")?;
-    answers(alloc, &["replay"], input.as_bytes(), ends, status, text)
+    answers(rt, alloc, &["replay"], input.as_bytes(), ends, status, text)
 }
 
 // Whether the script of these lines ends with these reply lines and the start's tables, with these entry lines added.
-fn is_done(alloc: Global, lines: &str, replies: &str, added: &str) -> Result<bool, Fail> {
+fn is_done<R: Threads + Sync>(
+    rt: &R,
+    alloc: Global,
+    lines: &str,
+    replies: &str,
+    added: &str,
+) -> Result<bool, Fail> {
     let text = format!(in alloc; "{replies}{TO_ENTRIES}{added}{FROM_ENTRIES}")?;
-    replays(alloc, lines, &AMPLE, Status::Done, text.as_str())
+    replays(rt, alloc, lines, &AMPLE, Status::Done, text.as_str())
 }
 
 // Whether the script of these lines is told that this line is the first that is not built.
-fn is_not_built(alloc: Global, lines: &str, line: u32) -> Result<bool, Fail> {
+fn is_not_built<R: Threads + Sync>(
+    rt: &R,
+    alloc: Global,
+    lines: &str,
+    line: u32,
+) -> Result<bool, Fail> {
     let text = format!(in alloc; "line {line}: not built yet\n")?;
     replays(
+        rt,
         alloc,
         lines,
         &AMPLE,
@@ -155,7 +171,8 @@ fn is_not_built(alloc: Global, lines: &str, line: u32) -> Result<bool, Fail> {
 }
 
 // Whether these bytes are told that they are no script, with this first fault.
-fn is_refused(
+fn is_refused<R: Threads + Sync>(
+    rt: &R,
     alloc: Global,
     bytes: &[u8],
     line: u32,
@@ -164,7 +181,7 @@ fn is_refused(
 ) -> Result<bool, Fail> {
     let text = format!(in alloc; "line {line}: {text}\n")?;
     let status = Status::Script { line, cause };
-    answers(alloc, &["replay"], bytes, &AMPLE, status, text.as_str())
+    answers(rt, alloc, &["replay"], bytes, &AMPLE, status, text.as_str())
 }
 
 #[test]
@@ -179,6 +196,7 @@ fn the_tables_of_the_start_are_written(rt: HostRuntime) -> Result<(), Fail> {
     for ends in [AMPLE, by_one] {
         assert!(rt;
             answers(
+                &rt,
                 alloc,
                 &["replay"],
                 ALONE.as_bytes(),
@@ -188,7 +206,7 @@ fn the_tables_of_the_start_are_written(rt: HostRuntime) -> Result<(), Fail> {
             )?
         );
     }
-    assert!(rt; is_done(alloc, "", "", "")?);
+    assert!(rt; is_done(&rt, alloc, "", "", "")?);
     Ok(())
 }
 
@@ -219,7 +237,7 @@ fn cores_look_and_copy(rt: HostRuntime) -> Result<(), Fail> {
         ),
     ];
     for (lines, replies, added) in rows {
-        assert!(rt; is_done(alloc, lines, replies, added)?, "{lines}");
+        assert!(rt; is_done(&rt, alloc, lines, replies, added)?, "{lines}");
     }
     Ok(())
 }
@@ -229,15 +247,29 @@ fn a_copy_of_an_object_is_a_reference_to_it(rt: HostRuntime) -> Result<(), Fail>
     let alloc = rt.alloc();
     let text = format!(in alloc; "0.1 copy 2 1 20 = ok\n{TO_ENTRIES}  20 pages 2\n{FROM_ENTRIES}")?;
     let text = text.replace(alloc, "pages refs 2", "pages refs 3")?;
-    assert!(rt; replays(alloc, "core 0\ncopy 2 1 20\n", &AMPLE, Status::Done, &text)?);
+    assert!(rt;
+        replays(
+            &rt,
+            alloc,
+            "core 0\ncopy 2 1 20\n",
+            &AMPLE,
+            Status::Done,
+            &text
+        )?
+    );
     Ok(())
 }
 
 // Whether core 0's copy is carried out under this order, and core 1's, to the same place, is then answered so.
-fn copies_end(alloc: Global, order: &str, second: &str) -> Result<bool, Fail> {
+fn copies_end<R: Threads + Sync>(
+    rt: &R,
+    alloc: Global,
+    order: &str,
+    second: &str,
+) -> Result<bool, Fail> {
     let lines = format!(in alloc; "{COPIES}{order}")?;
     let replies = format!(in alloc; "0.1 copy 0 1 20 = ok\n1.1 copy 0 1 20 = {second}\n")?;
-    is_done(alloc, lines.as_str(), replies.as_str(), COPIED)
+    is_done(rt, alloc, lines.as_str(), replies.as_str(), COPIED)
 }
 
 #[test]
@@ -256,7 +288,7 @@ fn two_cores_copy_to_one_place(rt: HostRuntime) -> Result<(), Fail> {
         ("", "occupied"),
     ];
     for (order, second) in rows {
-        assert!(rt; copies_end(alloc, order, second)?, "{order}");
+        assert!(rt; copies_end(&rt, alloc, order, second)?, "{order}");
     }
     Ok(())
 }
@@ -266,7 +298,7 @@ fn the_first_to_decide_is_told_first(rt: HostRuntime) -> Result<(), Fail> {
     let lines = "core 0\nlook 0\nlook 1\ncore 1\nlook 2\nlook 3\norder\n1! 0! 1! 0. 1. 1< 0.\n";
     let replies =
         "1.1 look 2 = ok pages 2\n0.1 look 0 = ok range 8 24\n0.2 look 1 = ok table 0\n1.2 look 3 = ok comp 3\n";
-    assert!(rt; is_done(rt.alloc(), lines, replies, "")?);
+    assert!(rt; is_done(&rt, rt.alloc(), lines, replies, "")?);
     Ok(())
 }
 
@@ -274,7 +306,7 @@ fn the_first_to_decide_is_told_first(rt: HostRuntime) -> Result<(), Fail> {
 fn items_of_idle_cores_do_nothing(rt: HostRuntime) -> Result<(), Fail> {
     // Core 1 has no list, and core 0 has finished its own behind its first item.
     let lines = "core 0\nlook 0\norder\n1 1< 1! 1. 0. 0 0< 0! 0. 1\n";
-    assert!(rt; is_done(rt.alloc(), lines, "0.1 look 0 = ok range 8 24\n", "")?);
+    assert!(rt; is_done(&rt, rt.alloc(), lines, "0.1 look 0 = ok range 8 24\n", "")?);
     Ok(())
 }
 
@@ -326,6 +358,7 @@ fn the_largest_machine_is_run(rt: HostRuntime) -> Result<(), Fail> {
     )?;
     assert!(rt;
         answers(
+            &rt,
             alloc,
             &["replay"],
             script.as_bytes(),
@@ -346,6 +379,7 @@ fn spaces_and_comments_are_passed_over(rt: HostRuntime) -> Result<(), Fail> {
     let text = format!(in alloc; "{replies}{ALONE_TABLES}")?;
     assert!(rt;
         answers(
+            &rt,
             alloc,
             &["replay"],
             script.as_bytes(),
@@ -367,7 +401,10 @@ fn the_first_line_that_is_not_built_is_told(rt: HostRuntime) -> Result<(), Fail>
         ("calls 4194304\nepochs 1\ncore 0\nret\n", 9),
     ];
     for (lines, line) in rows {
-        assert!(rt; is_not_built(rt.alloc(), lines, line)?, "at line {line}");
+        assert!(rt;
+            is_not_built(&rt, rt.alloc(), lines, line)?,
+            "at line {line}"
+        );
     }
     Ok(())
 }
@@ -388,7 +425,7 @@ fn the_first_fault_of_a_script_is_told(rt: HostRuntime) -> Result<(), Fail> {
     ];
     for (script, line, cause, text) in rows {
         assert!(rt;
-            is_refused(alloc, script.as_bytes(), line, cause, text)?,
+            is_refused(&rt, alloc, script.as_bytes(), line, cause, text)?,
             "{text}"
         );
     }
@@ -418,7 +455,7 @@ fn a_fault_of_a_call_is_told_at_its_line(rt: HostRuntime) -> Result<(), Fail> {
     for (lines, line, cause, text) in rows {
         let script = format!(in alloc; "{MACHINE}core 0\n{lines}")?;
         assert!(rt;
-            is_refused(alloc, script.as_bytes(), line, cause, text)?,
+            is_refused(&rt, alloc, script.as_bytes(), line, cause, text)?,
             "{text}"
         );
     }
@@ -431,12 +468,12 @@ fn a_foreign_byte_and_one_line_too_many_are_told(rt: HostRuntime) -> Result<(), 
     let mut foreign = Vec::from_slice(alloc, MACHINE.as_bytes())?;
     foreign.extend_from_slice(b"core 0\nlook ")?;
     foreign.push(200)?;
-    assert!(rt; is_refused(alloc, &foreign, 7, Cause::S8, "S8 not ASCII")?);
+    assert!(rt; is_refused(&rt, alloc, &foreign, 7, Cause::S8, "S8 not ASCII")?);
     let mut long = Vec::from_slice(alloc, MACHINE.as_bytes())?;
     let feeds = vec![in alloc; b'\n'; 19_995]?;
     long.extend_from_slice(&feeds)?;
     long.push(b' ')?;
-    assert!(rt; is_refused(alloc, &long, 20_001, Cause::S9, "S9 too many")?);
+    assert!(rt; is_refused(&rt, alloc, &long, 20_001, Cause::S9, "S9 too many")?);
     Ok(())
 }
 
@@ -461,6 +498,7 @@ fn scripts_are_printed(rt: HostRuntime) -> Result<(), Fail> {
         let text = format!(in alloc; "{MACHINE}{printed}")?;
         assert!(rt;
             answers(
+                &rt,
                 alloc,
                 &print,
                 input.as_bytes(),
@@ -472,6 +510,7 @@ fn scripts_are_printed(rt: HostRuntime) -> Result<(), Fail> {
     }
     assert!(rt;
         answers(
+            &rt,
             alloc,
             &print,
             b"",
@@ -534,7 +573,15 @@ fn faults_have_their_statuses(rt: HostRuntime) -> Result<(), Fail> {
     assert_eq!(rt; FRONT.len(), 100);
     for (what, ends, status, text) in rows {
         assert!(rt;
-            answers(alloc, &["replay"], ALONE.as_bytes(), &ends, status, text)?,
+            answers(
+                &rt,
+                alloc,
+                &["replay"],
+                ALONE.as_bytes(),
+                &ends,
+                status,
+                text
+            )?,
             "{what}"
         );
     }
@@ -555,6 +602,7 @@ fn words_and_length_are_judged_first(rt: HostRuntime) -> Result<(), Fail> {
     for words in rows {
         assert!(rt;
             answers(
+                &rt,
                 alloc,
                 words,
                 b"",
@@ -568,6 +616,7 @@ fn words_and_length_are_judged_first(rt: HostRuntime) -> Result<(), Fail> {
     let replay = ["replay"];
     assert!(rt;
         answers(
+            &rt,
             alloc,
             &replay,
             &spaces,
@@ -576,12 +625,22 @@ fn words_and_length_are_judged_first(rt: HostRuntime) -> Result<(), Fail> {
             "too long\n"
         )?
     );
-    assert!(rt; is_refused(alloc, &spaces[1..], 2, Cause::S7, "S7 section out of place")?);
+    assert!(rt;
+        is_refused(
+            &rt,
+            alloc,
+            &spaces[1..],
+            2,
+            Cause::S7,
+            "S7 section out of place"
+        )?
+    );
     Ok(())
 }
 
 // Sure ends never fail, so neither fault is answered.
-fn sure_status(
+fn sure_status<R: Threads + Sync>(
+    rt: &R,
     alloc: Global,
     words: &Vec<String>,
     source: &mut SureSource,
@@ -590,7 +649,7 @@ fn sure_status(
     ensures read { result ≡ Status.ReadFault → ⊥ }
     ensures write { result ≡ Status.WriteFault → ⊥ }
 {
-    speck(alloc, words, source, sink)
+    speck(rt, alloc, &FreeGate, words, source, sink)
 }
 
 #[test]
@@ -600,7 +659,7 @@ fn sure_ends_have_no_faults(rt: HostRuntime) -> Result<(), Fail> {
     let bytes = Vec::from_slice(rt.alloc(), input.as_bytes())?;
     let mut source = SureSource::new(bytes, 7);
     let mut sink = SureSink::new();
-    let status = sure_status(rt.alloc(), &words, &mut source, &mut sink);
+    let status = sure_status(&rt, rt.alloc(), &words, &mut source, &mut sink);
     assert_eq!(rt; status.number(), 0);
     Ok(())
 }

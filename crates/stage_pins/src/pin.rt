@@ -277,8 +277,11 @@ mod tests {
 
     #[test]
     fn refuses_a_count_that_a_core_holds(rt: HostRuntime) {
-        let busy = Reply::Busy(CoreNo::new(1));
-        let rows = [(PINNED, busy), (CLOSED, busy), (FOREIGN, Reply::Raced)];
+        let rows = [
+            (PINNED, Reply::Busy(CoreNo::new(1))),
+            (CLOSED, Reply::Busy(CoreNo::new(1))),
+            (FOREIGN, Reply::Raced),
+        ];
         if let Some(layout) = Layout::new(1, 8) {
             for (word, reply) in rows {
                 let mut pin = Pin::new(FrameNo::new(0), CoreNo::new(0));

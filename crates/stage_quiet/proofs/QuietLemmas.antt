@@ -1,5 +1,5 @@
 -- The scans and the steps of a removal and of a flush stay on the words of the machine, whatever words are found.
-use Rattle.std.proofs.Common.{◌≡◌, ◌≢◌, ℕ, ◌+◌, ◌==◌, ◌<◌, ◌≤◌, ◌^◌, Bool, true, false, nat_lt, Option, Some, None, IfSome, refl, arith}
+use Rattle.std.proofs.Common.{◌≡◌, ◌≢◌, ℕ, ◌+◌, ◌==◌, ◌<◌, ◌≤◌, ◌^◌, Bool, true, false, nat_lt, Option, Some, None, IfSome, if◌then◌else◌, refl, arith}
 use Rattle.std.proofs.lemmas.Bool.{ltb-true}
 use Rattle.spk_nums.specs.declared.replies.Reply.{Reply}
 use Rattle.word_map.specs.Places.{Shape, IsIn}
@@ -34,6 +34,14 @@ flush_scan_fits s false stamp h = tt
 core_scan_fits : (s : Shape) (there : Bool) (stamp core at : ℕ) (page : Bool) → there ≡ nat_lt at s.cores → at ≢ core → 0 < s.cores → IfSome (core_scan there stamp core at page) (QuietFits s)
 core_scan_fits s true stamp core at page is other some = (ltb-true at s.cores (cc), other)
 core_scan_fits s false stamp core at page is other some = flush_scan_fits s page stamp some
+
+stamped_fits : (s : Shape) (none : Bool) (stamp core : ℕ) (page : Bool) → core < s.cores → IfSome (if none then None else core_scan (nat_lt (first_other core) s.cores) stamp core (first_other core) page) (QuietFits s)
+stamped_fits s true stamp core page h = tt
+stamped_fits s false stamp core page h = core_scan_fits s _ stamp core (first_other core) page refl (first_differs core _ refl) (omega (arith, h))
+
+-- a scan begins on a core of the machine
+pub quiet_scan_fits : (s : Shape) (stamp core : ℕ) (page : Bool) → core < s.cores → IfSome (quiet_scan stamp core s.cores page) (QuietFits s)
+quiet_scan_fits s stamp core page h = stamped_fits s (stamp == 0) stamp core page h
 
 -- where it goes on it is on a core of the machine
 pub next_fits : (s : Shape) (q : Quiet) → QuietFits s q → IfSome (quiet_next s.cores q) (QuietFits s)

@@ -273,28 +273,27 @@ mod tests {
     // A machine of three cores and ten frames has its core words from 680 on, and its flush words from 683 on.
     #[test]
     fn scans_the_other_cores_then_the_flushes(rt: HostRuntime) {
-        let steps = [(680, OUT), (682, INSIDE_6), (683, 6), (684, 7), (685, 6)];
         let scan = Quiet::page(Stamp::new(5), CoreNo::new(1), 3);
         if let (Some(layout), Some(mut scan)) = (Layout::new(3, 10), scan) {
-            let mut end = StageEnd::Going;
-            for (at, word) in steps {
-                assert_eq!(rt; end, StageEnd::Going, "before {at}");
-                assert_eq!(rt; scan.next(&layout), WordOp::Load { at });
-                end = scan.take(&layout, word);
-            }
-            assert_eq!(rt; end, StageEnd::Done(()));
+            assert_eq!(rt; scan.next(&layout), WordOp::Load { at: 680 });
+            assert_eq!(rt; scan.take(&layout, OUT), StageEnd::Going);
+            assert_eq!(rt; scan.next(&layout), WordOp::Load { at: 682 });
+            assert_eq!(rt; scan.take(&layout, INSIDE_6), StageEnd::Going);
+            assert_eq!(rt; scan.next(&layout), WordOp::Load { at: 683 });
+            assert_eq!(rt; scan.take(&layout, 6), StageEnd::Going);
+            assert_eq!(rt; scan.take(&layout, 7), StageEnd::Going);
+            assert_eq!(rt; scan.next(&layout), WordOp::Load { at: 685 });
+            assert_eq!(rt; scan.take(&layout, 6), StageEnd::Done(()));
         }
     }
 
     #[test]
     fn waits_for_cores_and_flushes_no_later_than_the_stamp(rt: HostRuntime) {
-        let quiescing = Reply::Quiescing(CoreNo::new(1));
-        let unflushed = Reply::Unflushed(CoreNo::new(0));
         let rows = [
-            (2, INSIDE_4, quiescing),
-            (2, INSIDE_5, quiescing),
+            (2, INSIDE_4, Reply::Quiescing(CoreNo::new(1))),
+            (2, INSIDE_5, Reply::Quiescing(CoreNo::new(1))),
             (2, FOREIGN, Reply::Raced),
-            (1, 5, unflushed),
+            (1, 5, Reply::Unflushed(CoreNo::new(0))),
             (1, FOREIGN, Reply::Raced),
         ];
         for (cores, word, reply) in rows {

@@ -1,6 +1,6 @@
 -- In every state that a run reaches, what a core has cached stands.
 use Rattle.std.proofs.Common.{◌≡◌, ◌≢◌, ◌⊎◌, inl, inr, ℕ, ◌<◌, ◌≤◌, ◌/◌, ◌%◌, arith, Bool, true, false, refl, sym, ◌∙◌, ap, subst, nat_lt, nat_le, if◌then◌else◌, IsTrue, List, [], ◌∷◌, ◌++◌, length, Option, Some, None}
-use Rattle.std.proofs.lemmas.Bool.{cases_eq, false≢true, ltb-false, eq-eqb, ne_eqb}
+use Rattle.std.proofs.lemmas.Bool.{cases_eq, false≢true, ltb-false}
 use Rattle.std.specs.List.{AllByRecursion}
 use Rattle.spk_nums.specs.Setting.{Setting, IsSetting}
 use Rattle.spk_nums.specs.CallLimits.{InLimits}
@@ -27,7 +27,7 @@ use Rattle.kernel_rules.specs.InvocationCalls.{switch_to}
 use Rattle.kernel_rules.specs.CallRelation.{rule_of, change_of, changed, owed_by, state_by, MayReply, flushes, flushes_by}
 use Rattle.kernel_rules.specs.Fitting.{fits, IsGood}
 use Rattle.kernel_rules.specs.Relies.{IsGuarded}
-use Rattle.kernel_rules.specs.Runs.{Event, Enters, Decides, Returns, after, core_of, is_in, is_open, phase_by, phase_of, IsRun}
+use Rattle.kernel_rules.specs.Runs.{Event, Enters, Decides, Returns, after, is_in, is_open, IsRun}
 use Rattle.kernel_rules.proofs.Changes.{IfFound}
 use Rattle.kernel_rules.proofs.Within.{put_same, put_other}
 use Rattle.kernel_rules.proofs.AloneLaw.{waits_inside, decided_stays}
@@ -42,6 +42,7 @@ use Rattle.kernel_rules.proofs.Stays.{link_of, fields, pages_relies, usable_guar
 use Rattle.state_laws.specs.Cached.{IsStillThere, IsLinkTo, IsMappingOf, IsOrWas, Stands, TranslationsStand}
 use Rattle.kernel_laws.proofs.NodeSteps.{IsFitted}
 use Rattle.kernel_laws.proofs.NodesLaw.{runs_fit, leaf_fits, pages_leaf, fit_node, held_is, mapped_page}
+use Rattle.state_laws.proofs.Phases.{phase_own, phase_other}
 use Rattle.state_laws.proofs.Flushes.{frame_stays, there_stays, place_unflushed, place_holds, IsWaited, decided_waited}
 
 -- All of a list.
@@ -378,12 +379,6 @@ returned_stand : (s : State) (c : ℕ) → AllStand s s.core → AllStand (retur
 returned_stand s c all = moved_stand s (returned s c) c (record (s.core c) { inside = false }) refl refl refl
     (λ d t. same_stands s (returned s c) d t (λ f. refl) (λ f i. refl)
     (λ f. grace_refs (with_core s c (record (s.core c) { inside = false })) (returned s c).grace f ∙ core_same_refs s c (record (s.core c) { inside = false }) refl refl f) (λ x. refl)) all
-
-phase_own : (e : Event) (events : List Event) (c : ℕ) → c ≡ core_of e → phase_of (e ∷ events) c ≡ phase_by e
-phase_own e events c same = ap (λ b. if b then phase_by e else phase_of events c) (eq-eqb c (core_of e) same)
-
-phase_other : (e : Event) (events : List Event) (c : ℕ) → c ≢ core_of e → phase_of (e ∷ events) c ≡ phase_of events c
-phase_other e events c other = ap (λ b. if b then phase_by e else phase_of events c) (ne_eqb c (core_of e) other)
 
 enter_waited : (setting : Setting) (events : List Event) (c : ℕ) (call : Call) → IsRun setting (Enters c call ∷ events)
     → IsWaited (after setting events) (opened events)

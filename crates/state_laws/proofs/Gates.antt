@@ -1,6 +1,6 @@
 -- A gate's epoch is that in which its component was made.
 use Rattle.std.proofs.Common.{◌≡◌, ◌≢◌, ◌⊎◌, inl, inr, ℕ, ◌+◌, ◌≤◌, arith, Bool, true, false, not, refl, sym, ◌∙◌, ap, subst, cond, ◌==◌, nat_lt, if◌then◌else◌, IsTrue, List, [], ◌∷◌, Option, Some, None, is_some}
-use Rattle.std.proofs.lemmas.Bool.{cases_eq, false≢true, eq-eqb, ne_eqb}
+use Rattle.std.proofs.lemmas.Bool.{cases_eq, false≢true}
 use Rattle.spk_nums.specs.Setting.{Setting, IsSetting}
 use Rattle.spk_nums.specs.Capability.{Capability}
 use Rattle.spk_nums.specs.declared.kinds.Kind.{Kind}
@@ -26,7 +26,7 @@ use Rattle.kernel_rules.specs.MemoryCalls.{retype_rule, touch_by, translation_of
 use Rattle.kernel_rules.specs.InvocationCalls.{switch_to}
 use Rattle.kernel_rules.specs.CallRelation.{rule_of, change_of, changed, owed_by, state_by, begins, ends, flushes, MayReply}
 use Rattle.kernel_rules.specs.Fitting.{fits, IsGood}
-use Rattle.kernel_rules.specs.Runs.{Event, Enters, Decides, Returns, after, core_of, is_in, is_open, phase_by, phase_of, IsRun}
+use Rattle.kernel_rules.specs.Runs.{Event, Enters, Decides, Returns, after, is_in, is_open, IsRun}
 use Rattle.kernel_rules.proofs.Changes.{IfFound}
 use Rattle.kernel_rules.proofs.Within.{put_same, put_other}
 use Rattle.kernel_rules.proofs.AloneLaw.{waits_inside}
@@ -41,6 +41,7 @@ use Rattle.kernel_rules.proofs.GraceChanges.{grace_by, grace_is, flushed_by}
 use Rattle.kernel_rules.proofs.Ends.{ends_by_rule}
 use Rattle.kernel_rules.proofs.Stays.{name_parts, place_named}
 use Rattle.state_laws.specs.Lives.{IsOfEpoch, GatesFit}
+use Rattle.state_laws.proofs.Phases.{phase_own, phase_other}
 use Rattle.state_laws.proofs.Kept.{is_kept, Kept, decided_kept}
 use Rattle.state_laws.proofs.Lives.{comp_kept}
 
@@ -292,12 +293,6 @@ start_gates setting = record {
       (λ is at. no_gate (start setting) k (place_none (start_cap setting i) k (start_none setting i) at)) (λ none at. absurd (free_holds k at)));
   waiting = λ f i k c p q. absurd (false≢true q);
 }
-
-phase_own : (e : Event) (events : List Event) (c : ℕ) → c ≡ core_of e → phase_of (e ∷ events) c ≡ phase_by e
-phase_own e events c same = ap (λ b. if b then phase_by e else phase_of events c) (eq-eqb c (core_of e) same)
-
-phase_other : (e : Event) (events : List Event) (c : ℕ) → c ≢ core_of e → phase_of (e ∷ events) c ≡ phase_of events c
-phase_other e events c other = ap (λ b. if b then phase_by e else phase_of events c) (ne_eqb c (core_of e) other)
 
 enter_gates : (setting : Setting) (events : List Event) (c : ℕ) (call : Call) → IsRun setting (Enters c call ∷ events)
     → AreGates (after setting events) (opened events)

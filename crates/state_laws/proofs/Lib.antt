@@ -1,3 +1,4 @@
+pub mod Phases
 pub mod Kept
 pub mod Lives
 pub mod Gates

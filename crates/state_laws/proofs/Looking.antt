@@ -1,22 +1,23 @@
 -- What a core in an open call has found stays found while other cores go on.
-use Rattle.std.proofs.Common.{◌≡◌, inl, inr, ℕ, Bool, refl, sym, ◌∙◌, ap, subst, if◌then◌else◌, IsTrue, List, [], ◌∷◌, ◌++◌}
-use Rattle.std.proofs.lemmas.Bool.{false≢true, ne_eqb}
+use Rattle.std.proofs.Common.{◌≡◌, inl, inr, ℕ, Bool, refl, sym, ◌∙◌, ap, subst, IsTrue, List, [], ◌∷◌, ◌++◌}
+use Rattle.std.proofs.lemmas.Bool.{false≢true}
 use Rattle.spk_nums.specs.Setting.{Setting, IsSetting}
 use Rattle.spk_nums.specs.declared.kinds.Kind.{Kind}
 use Rattle.spk_nums.specs.declared.kinds.Kind.TheVariants as kind
 use Rattle.kernel_rules.specs.State.{Table, Leaf, Pages, Pleaf, Frame, Kernel, State}
 use Rattle.kernel_rules.specs.Relies.{is_node, is_fixed, Relies}
-use Rattle.kernel_rules.specs.Runs.{Event, after, core_of, is_open, phase_by, phase_of, IsRun}
+use Rattle.kernel_rules.specs.Runs.{Event, after, is_open, phase_of, IsRun}
 use Rattle.kernel_rules.proofs.SoundCalls.{IsOpen}
 use Rattle.kernel_rules.proofs.SoundRuns.{opened, open_is}
 use Rattle.kernel_rules.proofs.Stays.{Stay, stay_same, stay_then, names_node, usable_relies, table_relies, pages_relies, event_stay}
+use Rattle.state_laws.proofs.Phases.{phase_other}
 use Rattle.state_laws.specs.Looking.{names_nodes, LooksThrough, AreOfOthers, FoundStays}
 
 -- A core stays open through events of others.
 open_still : (later earlier : List Event) (c : ℕ) → AreOfOthers c later → phase_of (later ++ earlier) c ≡ phase_of earlier c
 open_still [] earlier c others = refl
 open_still (e ∷ later) earlier c others =
-    ap (λ b. if b then phase_by e else phase_of (later ++ earlier) c) (ne_eqb c (core_of e) others.0) ∙ open_still later earlier c others.1
+    phase_other e (later ++ earlier) c others.0 ∙ open_still later earlier c others.1
 
 stays : (setting : Setting) → IsSetting setting → (later earlier : List Event) → IsRun setting (later ++ earlier) → (c : ℕ)
     → AreOfOthers c later

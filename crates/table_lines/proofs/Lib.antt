@@ -1,2 +1,4 @@
 pub mod Lines
 pub mod Putting
+pub mod Tallies
+pub mod Adding

@@ -68,7 +68,12 @@ fn push_times(text: &mut String, end: &CoreEnd) -> Result<(), AllocError>
 }
 
 /// Appends the line of a core, and those of its translations, ascending by page root, then by page.
-pub fn push_core(alloc: Global, text: &mut String, core: usize, end: &CoreEnd) -> Result<(), AllocError>
+pub fn push_core(
+    alloc: Global,
+    text: &mut String,
+    core: usize,
+    end: &CoreEnd,
+) -> Result<(), AllocError>
     ensures { OnOk result (string_bytes text.new ≡ string_bytes text.old ++ core_lines core (core_shown end.now) end.now.comp) }
 {
     let sorted = ascending(alloc, &end.cached)?;

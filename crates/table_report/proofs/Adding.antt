@@ -16,18 +16,10 @@ use Rattle.kernel_history.specs.FinalWords.{word_in}
 use Rattle.kernel_rules.specs.References.{sum_below, times, place_names, frame_names, core_names, number_names, node_refs, refs}
 use Rattle.kernel_history.proofs.Sums.{sum_none, sum_more, sum_zero, times_append}
 use Rattle.tcap_words.specs.Stack.{stack_of_word}
-use Rattle.table_report.specs.Counting.{Adds}
+use Rattle.table_lines.specs.Counting.{Adds}
+use Rattle.table_lines.proofs.Adding.{adds_piece}
 use Rattle.table_report.specs.Shown.{stacked, stack_shown, place_shown, place_in, words_of, frame_at, place_at, number_at, core_at, shown, object_shown, kind_shown, frame_shown}
 use Rattle.table_report.proofs.Lines.{stack_none, stack_more}
-
--- A piece is appended.
-pub adds_piece : (old new piece : List ℕ) → new ≡ old ++ piece → Adds old new (λ f. times f piece)
-adds_piece old new piece is = record { counts = λ f. let a = times_append f old piece in let e : times f new ≡ times f (old ++ piece) = ap (times f) is in omega arith }
-
--- A sum goes on by one more term.
-pub adds_more : (begun mid new : List ℕ) (h : ℕ → ℕ → ℕ) (n : ℕ) → Adds begun mid (λ f. sum_below (h f) n) → Adds mid new (λ f. h f n)
-    → Adds begun new (λ f. sum_below (h f) (n + 1))
-adds_more begun mid new h n p q = record { counts = λ f. let a = p.counts f in let b = q.counts f in let c = sum_more (h f) n in omega arith }
 
 -- A stack goes on by one higher word.
 pub adds_stacked : (begun mid new : List ℕ) (word : ℕ → ℕ) (n : ℕ) → Adds begun mid (λ f. times f (stack_shown word n))
@@ -41,12 +33,6 @@ adds_stacked begun mid new word n p is = record {
       let d : times f (stack_shown word (n + 1)) ≡ times f (o ++ stack_shown word n) = ap (times f) (stack_more word n) in
       omega (arith, a, b, c, d);
 }
-
-pub adds_none : (xs : List ℕ) (h : ℕ → ℕ → ℕ) → Adds xs xs (λ f. sum_below (h f) 0)
-adds_none xs h = record { counts = λ f. let a = sum_none (h f) in omega arith }
-
-pub adds_whole : (begun new : List ℕ) (h : ℕ → ℕ → ℕ) (n m : ℕ) → n ≡ m → Adds begun new (λ f. sum_below (h f) n) → Adds begun new (λ f. sum_below (h f) m)
-adds_whole begun new h n m is p = subst (λ k. Adds begun new (λ f. sum_below (h f) k)) is p
 
 pub adds_stack_none : (xs : List ℕ) (word : ℕ → ℕ) → Adds xs xs (λ f. times f (stack_shown word 0))
 adds_stack_none xs word = record { counts = λ f. let a : times f (stack_shown word 0) ≡ 0 = ap (times f) (stack_none word) in omega arith }
@@ -95,10 +81,6 @@ pub kernel_at : (shape : Shape) (words : List ℕ) (g w : ℕ) (v : FrameWord) �
 kernel_at shape words g w v word is kind =
     ap (λ o. frame_shown o (words_of shape words g)) (ap frame_of_word (sym word) ∙ sym is)
     ∙ ap (λ k. kind_shown k v.object (words_of shape words g)) kind
-
--- Two lists one after the other.
-pub adds_both : (a b c : List ℕ) (h k : ℕ → ℕ) → Adds a b h → Adds b c k → Adds a c (λ f. h f + k f)
-adds_both a b c h k p q = record { counts = λ f. let x = p.counts f in let y = q.counts f in omega arith }
 
 -- The names of places, objects, cores and liveness numbers are the references.
 pub all_adds : (shape : Shape) (words : List ℕ) (ends : List CoreEnd) (a b c d e : List ℕ) → length ends ≡ shape.cores

@@ -18,7 +18,7 @@ use Rattle.kernel_history.specs.ObjectWords.{is_node, is_node_object}
 use Rattle.kernel_history.specs.FinalWords.{SaysPlace, AreEntries, AreFrame, SaysNumber, Represent, word_in, end_in}
 use Rattle.kernel_history.specs.Tables.{lines_below, frame_line, object_word, entry_line, object_lines, frame_lines, number_line, core_lines, total_line, tables_of}
 use Rattle.kernel_history.proofs.Sums.{sum_same}
-use Rattle.table_report.specs.Counting.{AreCounts}
+use Rattle.table_lines.specs.Counting.{AreCounts}
 use Rattle.table_lines.specs.Ends.{core_shown}
 use Rattle.table_report.specs.Shown.{place_shown, place_in, number_shown, frame_shown, words_of, frame_at, place_at, number_at, core_at, shown, frames_text, numbers_text, cores_text, tables_shown}
 use Rattle.table_lines.proofs.Lines.{lines_same}

@@ -1,30 +1,16 @@
 //! The references to each frame.
 
 ghost use Rattle.std.specs.Prelude.{◌≡◌, IfOk, length};
-ghost use Rattle.kernel_rules.specs.References.{times, refs};
+ghost use Rattle.kernel_rules.specs.References.{refs};
 ghost use Rattle.word_map.specs.Places.{size_of};
 ghost use Rattle.table_report.specs.Shown.{shown};
-ghost use Rattle.table_report.specs.Counting.{AreCounts};
+ghost use Rattle.table_lines.specs.Counting.{AreCounts};
 
 use crate::names::push_all;
 use spk_nums::CoreEnd;
 use std::alloc::{AllocError, Global};
+use table_lines::tally;
 use word_map::Layout;
-
-// How often each frame below `frames` is among the names.
-fn tally(alloc: Global, names: &[u64], frames: u16) -> Result<Vec<u64>, AllocError>
-    ensures length { IfOk result (λ counts. length counts.items ≡ frames) }
-    ensures counts { IfOk result (λ counts. AreCounts counts.items (λ f. times f names.now) frames) }
-{
-    let mut counts = vec![in alloc; 0; usize::from(frames)]?;
-    'names: for at in 0..names.len() {
-        let name = names[at];
-        if name < u64::from(frames) {
-            counts[name as usize] += 1;
-        }
-    }
-    Ok(counts)
-}
 
 /// The references to each frame, counted from the words and the ends.
 pub fn references(

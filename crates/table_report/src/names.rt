@@ -10,7 +10,7 @@ ghost use Rattle.word_map.specs.Places.{size_of};
 ghost use Rattle.kernel_history.specs.ObjectWords.{is_node, is_node_object};
 ghost use Rattle.table_lines.specs.Ends.{core_shown};
 ghost use Rattle.table_report.specs.Shown.{place_shown, stacked, stack_shown, object_shown, number_shown, words_of, frame_at, place_at, number_at, core_at, frame_shown, shown};
-ghost use Rattle.table_report.specs.Counting.{Adds};
+ghost use Rattle.table_lines.specs.Counting.{Adds};
 ghost use Rattle.frame_words.specs.Frame.{frame_of_word};
 
 use crate::words::{entry_word, frame_word, held, live_word};

@@ -13,7 +13,7 @@ pairs-preserved c =
     elim c.match-get.branch [
       | in-Some+else-named-sched w ↦
           c.pairs.invariant ∙ passed_here c.args.list.now c.pairs.i c.args.sched (w.in-Some.named, w.in-Some.quality) (cc)
-              w.if-named-sched.false
+          w.if-named-sched.false
       | in_default w ↦ c.pairs.invariant ∙ ap (λ l. number_of l c.args.sched) (past_end c.args.list.now c.pairs.i (cc))
     ]
 

@@ -7,9 +7,8 @@ use Rattle.seq_state.specs.Parts.{object_of}
 use Rattle.seq_state.specs.Maps.{state_of}
 use Rattle.seq_lookups.specs.Judged.{answered}
 use Rattle.seq_lookups.specs.Places.{target_of}
-use Rattle.seq_lookups.proofs.Outcomes.{refused, carried}
-use Rattle.seq_caps.proofs.Ranged.{ends_within}
-use Rattle.seq_caps.proofs.Making.{blank_causes, node_refused, node_found, found_is, put_after}
+use Rattle.seq_lookups.proofs.Outcomes.{ends_within, found_is, refused, carried}
+use Rattle.seq_caps.proofs.Making.{blank_causes, node_refused, node_found, put_after}
 use Rattle.seq_caps.proofs.makes.make_node.Goals as goal
 
 pub returns-in_err-frame : goal.returns-in_err-frame

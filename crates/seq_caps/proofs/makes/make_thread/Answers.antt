@@ -9,9 +9,8 @@ use Rattle.seq_state.specs.Maps.{state_of}
 use Rattle.seq_state.proofs.Same.{same_by}
 use Rattle.seq_lookups.specs.Judged.{answered}
 use Rattle.seq_lookups.specs.Places.{target_of}
-use Rattle.seq_lookups.proofs.Outcomes.{refused, carried}
-use Rattle.seq_caps.proofs.Ranged.{ends_within}
-use Rattle.seq_caps.proofs.Making.{blank_causes, thread_refused, thread_found, found_is, put_after}
+use Rattle.seq_lookups.proofs.Outcomes.{ends_within, found_is, refused, carried}
+use Rattle.seq_caps.proofs.Making.{blank_causes, thread_refused, thread_found, put_after}
 use Rattle.seq_caps.proofs.makes.make_thread.Goals as goal
 
 pub returns-in_err-frame : goal.returns-in_err-frame

@@ -8,8 +8,8 @@ use Rattle.seq_state.specs.Maps.{state_of}
 use Rattle.seq_state.specs.Representation.{Represents}
 use Rattle.seq_lookups.specs.Judged.{answered}
 use Rattle.seq_lookups.specs.Places.{target_of}
-use Rattle.seq_lookups.proofs.Outcomes.{refused, carried}
-use Rattle.seq_memory.proofs.Outcomes.{ends_within, user_causes, map_refused, map_found, found_is}
+use Rattle.seq_lookups.proofs.Outcomes.{ends_within, found_is, refused, carried}
+use Rattle.seq_memory.proofs.Outcomes.{user_causes, map_refused, map_found}
 use Rattle.seq_memory.proofs.pages.map.Goals as goal
 
 pub returns-in_err-frame : goal.returns-in_err-frame

@@ -2,7 +2,8 @@ use Rattle.kernel_rules.specs.Rules.{refusal_of}
 use Rattle.kernel_rules.specs.CapabilityCalls.{outside}
 use Rattle.kernel_rules.specs.Access.{found}
 use Rattle.seq_state.specs.Maps.{state_of}
-use Rattle.seq_memory.proofs.Outcomes.{ends_within, in_range, found_is}
+use Rattle.seq_lookups.proofs.Outcomes.{ends_within, found_is}
+use Rattle.seq_memory.proofs.Outcomes.{in_range}
 use Rattle.seq_memory.proofs.retyping.retype.Goals as goal
 
 pub returns : goal.returns

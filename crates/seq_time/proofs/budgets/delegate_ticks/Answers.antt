@@ -11,9 +11,9 @@ returns c = λ apart fits short.
     let from_budget : c.tcap_at-from.result.budget ≡ (tcap_at s c.args.a).budget = ap (λ t. t.budget) c.tcap_at-from.ensures in
     let to_budget : c.tcap_at-to.result.budget ≡ (tcap_at s c.args.b).budget = ap (λ t. t.budget) c.tcap_at-to.ensures in
     let less : c.saturating_sub.result ≡ (tcap_at s c.args.a).budget - c.args.amount = omega
-        (arith, c.saturating_sub.ensures, from_budget) in
+    (arith, c.saturating_sub.ensures, from_budget) in
     let more : c.saturating_add.result ≡ (tcap_at s c.args.b).budget + c.args.amount = omega
-        (arith, c.saturating_add.ensures, to_budget, fits) in
+    (arith, c.saturating_add.ensures, to_budget, fits) in
     let list : c.unwrap_or.result ≡ merged_list s c.args.a c.args.b =
     c.unwrap_or.ensures ∙ there c.merged_for-list.result _ (merged_list s c.args.a c.args.b) c.merged_for-list.ensures short in
     delegated s (state_of c.set_frame.new.self) (state_of c.set_frame-2.new.self) c.args.a c.args.b c.args.amount _ _ _ apart

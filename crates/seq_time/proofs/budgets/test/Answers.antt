@@ -12,7 +12,7 @@ pub returns-in-Err : goal.returns-in-Err
 returns-in-Err c =
     let s = state_of c.args.k.now in
     pair_refused c.args.k.now c.args.core c.args.a c.args.b against_test
-        (λ x y. answers s (preemption (preempts (tcap_at s x.frame) (tcap_at s y.frame)))) _ c.in-Err.ensures
+    (λ x y. answers s (preemption (preempts (tcap_at s x.frame) (tcap_at s y.frame)))) _ c.in-Err.ensures
 
 pub returns-in-Ok : goal.returns-in-Ok
 returns-in-Ok c =

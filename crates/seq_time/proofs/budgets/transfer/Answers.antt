@@ -10,7 +10,7 @@ pub returns-in-Err : goal.returns-in-Err
 returns-in-Err c =
     let s = state_of c.args.k.now in
     λ fits. pair_refused c.args.k.now c.args.core c.args.a c.args.b (against_transfer s c.args.amount)
-        (λ x y. leaves (moved s x.frame y.frame c.args.amount)) _ c.in-Err.ensures
+    (λ x y. leaves (moved s x.frame y.frame c.args.amount)) _ c.in-Err.ensures
 
 pub returns-in-Ok : goal.returns-in-Ok
 returns-in-Ok c = λ fits.
@@ -19,7 +19,7 @@ returns-in-Ok c = λ fits.
     let may = may_move s c.args.core c.args.amount p.0 p.1 (are_unlike s (found p.0) (found p.1) ∷ [])
     (no_cause s c.args.core c.args.a c.args.b (λ x y. against_transfer s c.args.amount (found x) (found y)) p (sym c.in-Ok.ensures)) in
     pair_done s c.move_ticks.new.k c.args.core c.args.a c.args.b (against_transfer s c.args.amount)
-        (λ x y. leaves (moved s x.frame y.frame c.args.amount)) p.0 p.1 c.in-Ok.ensures
+    (λ x y. leaves (moved s x.frame y.frame c.args.amount)) p.0 p.1 c.in-Ok.ensures
     (rw (c.frame.ensures, c.frame-in-Ok.ensures) at c.move_ticks.ensures may.apart
-        (joins s c.args.core c.args.a c.args.b c.args.amount (λ x y. against_transfer s c.args.amount (found x) (found y)) p
-        (sym c.in-Ok.ensures) fits may))
+    (joins s c.args.core c.args.a c.args.b c.args.amount (λ x y. against_transfer s c.args.amount (found x) (found y)) p
+    (sym c.in-Ok.ensures) fits may))

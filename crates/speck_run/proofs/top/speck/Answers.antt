@@ -1,7 +1,8 @@
-use Rattle.std.proofs.Common.{◌∙◌, sym, subst, inl, inr}
+use Rattle.std.proofs.Common.{◌≡◌, ◌∙◌, sym, subst, inl, inr}
 use Rattle.speck_run.specs.declared.words.Command.TheVariants as commands
+use Rattle.speck_run.specs.declared.top.Status.TheVariants.{Stopped}
 use Rattle.speck_run.specs.Top.{Asked, Answers, Writes}
-use Rattle.speck_run.proofs.Due.{answers_due, answers_fault, carried_out, completes, writes_due}
+use Rattle.speck_run.proofs.Due.{answers_due, answers_fault, asks_same, carried_out, completes, stops_run, writes_due}
 use Rattle.speck_run.proofs.top.speck.Goals as goal
 
 pub returns-in-Ok-clause-replay : goal.returns-in-Ok-clause-replay
@@ -9,6 +10,27 @@ returns-in-Ok-clause-replay g c asks done =
     elim c.finish.ensures [
       | inl p ↦ carried_out c.args.words.now commands.Replay asks (g.S.Source.left c.args.source.now) _ _ _ c.in-Ok.answer.status _ _ _ c.in-Ok.ensures.due (sym p.0 ∙ done) p.2
       | inr p ↦ let wrong = sym p.0 ∙ done in cc
+    ]
+
+pub returns-in-Ok-clause-run : goal.returns-in-Ok-clause-run
+returns-in-Ok-clause-run g c asks done =
+    elim c.finish.ensures [
+      | inl p ↦ carried_out c.args.words.now commands.Run asks (g.S.Source.left c.args.source.now) _ _ _ c.in-Ok.answer.status _ _ _ c.in-Ok.ensures.due (sym p.0 ∙ done) p.2
+      | inr p ↦ let wrong = sym p.0 ∙ done in cc
+    ]
+
+pub returns-in-Ok-clause-stopped : goal.returns-in-Ok-clause-stopped
+returns-in-Ok-clause-stopped g c stopped =
+    let asked : Asked = record {
+      words = c.args.words.now;
+      left = g.S.Source.left c.args.source.now;
+      left' = g.S.Source.left c.judge.new.source;
+      faults = g.S.Source.faults c.args.source.now;
+      faults' = g.S.Source.faults c.judge.new.source;
+    } in
+    elim c.finish.ensures [
+      | inl p ↦ (stops_run asked c.in-Ok.answer.status _ c.in-Ok.ensures.due (sym p.0 ∙ stopped), c.in-Ok.ensures.free (sym p.0 ∙ stopped))
+      | inr p ↦ let wrong = sym p.0 ∙ stopped in cc
     ]
 
 pub returns-in-Ok-clause-print : goal.returns-in-Ok-clause-print
@@ -27,9 +49,18 @@ returns-in-Ok-clause-answers g c command asks =
     ]
 
 pub returns-in-Ok-clause-complete : goal.returns-in-Ok-clause-complete
-returns-in-Ok-clause-complete g c command asks accepted sure_source sure_sink =
+returns-in-Ok-clause-complete g c command asks accepted gate sure_source sure_sink =
+    let asked : Asked = record {
+      words = c.args.words.now;
+      left = g.S.Source.left c.args.source.now;
+      left' = g.S.Source.left c.judge.new.source;
+      faults = g.S.Source.faults c.args.source.now;
+      faults' = g.S.Source.faults c.judge.new.source;
+    } in
+    let goes : c.in-Ok.answer.status ≡ Stopped → ⊥ = λ stopped.
+    c.in-Ok.ensures.free stopped (gate (asks_same c.args.words.now command commands.Run asks (stops_run asked c.in-Ok.answer.status _ c.in-Ok.ensures.due stopped).asks)) in
     elim c.finish.ensures [
-      | inl p ↦ inl (p.0 ∙ completes c.args.words.now command asks (g.S.Source.left c.args.source.now) _ _ _ c.in-Ok.answer.status _ c.in-Ok.ensures.due accepted sure_source)
+      | inl p ↦ inl (p.0 ∙ completes c.args.words.now command asks (g.S.Source.left c.args.source.now) _ _ _ c.in-Ok.answer.status _ c.in-Ok.ensures.due accepted goes sure_source)
       | inr p ↦ absurd (sure_sink p.1)
     ]
 

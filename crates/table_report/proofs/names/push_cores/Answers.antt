@@ -3,7 +3,7 @@ use Rattle.std.proofs.Common.{length}
 use Rattle.kernel_rules.specs.References.{core_names}
 use Rattle.table_lines.specs.Ends.{core_shown}
 use Rattle.table_report.proofs.Lines.{ends_read}
-use Rattle.table_report.proofs.Adding.{adds_none, adds_piece, adds_more, adds_whole}
+use Rattle.table_lines.proofs.Adding.{adds_none, adds_piece, adds_more, adds_whole}
 use Rattle.table_report.proofs.names.push_cores.Goals as goal
 
 pub cores-init : goal.cores-init

@@ -1,5 +1,5 @@
 use Rattle.kernel_rules.specs.References.{sum_below, times, core_names}
-use Rattle.table_report.specs.Counting.{Adds}
+use Rattle.table_lines.specs.Counting.{Adds}
 use Rattle.table_report.specs.Shown.{core_at}
 use Rattle.table_report.proofs.names.push_cores.Given as goal
 

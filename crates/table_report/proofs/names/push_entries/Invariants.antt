@@ -1,6 +1,6 @@
 use Rattle.kernel_rules.specs.References.{sum_below, times, place_names}
 use Rattle.entry_words.specs.EntryWord.{entry_of_word}
-use Rattle.table_report.specs.Counting.{Adds}
+use Rattle.table_lines.specs.Counting.{Adds}
 use Rattle.table_report.specs.Shown.{place_shown, words_of}
 use Rattle.table_report.proofs.names.push_entries.Given as goal
 

@@ -2,7 +2,7 @@ use Rattle.std.proofs.Common.{sym, subst}
 use Rattle.std.specs.Prelude.{OnOk}
 use Rattle.kernel_rules.specs.State.{Frame}
 use Rattle.kernel_rules.specs.References.{times, frame_names}
-use Rattle.table_report.specs.Counting.{Adds}
+use Rattle.table_lines.specs.Counting.{Adds}
 use Rattle.table_report.proofs.Adding.{kernel_at}
 use Rattle.table_report.proofs.names.push_frame.Goals as goal
 

@@ -1,5 +1,5 @@
 use Rattle.std.proofs.Common.{arith, ◌≡◌}
-use Rattle.table_report.proofs.Adding.{adds_none, adds_more, adds_whole}
+use Rattle.table_lines.proofs.Adding.{adds_none, adds_more, adds_whole}
 use Rattle.table_report.proofs.names.push_frames.Goals as goal
 
 pub frames-init : goal.frames-init

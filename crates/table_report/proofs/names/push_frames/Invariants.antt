@@ -1,5 +1,5 @@
 use Rattle.kernel_rules.specs.References.{sum_below, times, frame_names}
-use Rattle.table_report.specs.Counting.{Adds}
+use Rattle.table_lines.specs.Counting.{Adds}
 use Rattle.table_report.specs.Shown.{frame_at}
 use Rattle.table_report.proofs.names.push_frames.Given as goal
 

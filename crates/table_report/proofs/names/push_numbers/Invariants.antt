@@ -1,5 +1,5 @@
 use Rattle.kernel_rules.specs.References.{sum_below, times, number_names}
-use Rattle.table_report.specs.Counting.{Adds}
+use Rattle.table_lines.specs.Counting.{Adds}
 use Rattle.table_report.specs.Shown.{number_at}
 use Rattle.table_report.proofs.names.push_numbers.Given as goal
 

@@ -1,5 +1,5 @@
 use Rattle.kernel_rules.specs.References.{times}
-use Rattle.table_report.specs.Counting.{Adds}
+use Rattle.table_lines.specs.Counting.{Adds}
 use Rattle.table_report.specs.Shown.{stack_shown, words_of}
 use Rattle.table_report.proofs.names.push_stack.Given as goal
 

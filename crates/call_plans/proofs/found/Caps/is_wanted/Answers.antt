@@ -1,7 +1,4 @@
-use Rattle.std.proofs.Common.{◌≡◌, ◌∙◌, sym, ap}
-use Rattle.kernel_rules.specs.Access.{kind_number}
-use Rattle.call_plans.specs.GoesBy.{wants}
-use Rattle.call_plans.specs.After.{with_found}
+use Rattle.std.proofs.Common.{◌∙◌, sym}
 use Rattle.call_plans.proofs.Roots.{wants_leaf}
 use Rattle.call_plans.proofs.found.Caps.is_wanted.Goals as goal
 

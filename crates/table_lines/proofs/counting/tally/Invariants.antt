@@ -1,6 +1,6 @@
 use Rattle.std.proofs.Common.{◌≡◌, ℕ, ◌<◌, length, get_or, take}
 use Rattle.kernel_rules.specs.References.{times}
-use Rattle.table_report.proofs.counting.tally.Given as goal
+use Rattle.table_lines.proofs.counting.tally.Given as goal
 
 abbrev pub invariant-names : goal.invariant-names
 invariant-names l = record {

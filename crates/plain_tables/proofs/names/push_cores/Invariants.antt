@@ -1,0 +1,7 @@
+use Rattle.kernel_rules.specs.References.{sum_below, times, core_names}
+use Rattle.seq_state.specs.Maps.{state_of}
+use Rattle.table_lines.specs.Counting.{Adds}
+use Rattle.plain_tables.proofs.names.push_cores.Given as goal
+
+abbrev pub invariant-cores : goal.invariant-cores
+invariant-cores l = Adds l.initial.names.items l.names.items (λ f. sum_below (λ c. times f (core_names ((state_of l.k).core c))) l.core)

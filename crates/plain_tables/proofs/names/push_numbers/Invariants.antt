@@ -1,0 +1,7 @@
+use Rattle.kernel_rules.specs.References.{sum_below, times, number_names}
+use Rattle.seq_state.specs.Maps.{state_of}
+use Rattle.table_lines.specs.Counting.{Adds}
+use Rattle.plain_tables.proofs.names.push_numbers.Given as goal
+
+abbrev pub invariant-numbers : goal.invariant-numbers
+invariant-numbers l = Adds l.initial.names.items l.names.items (λ f. sum_below (λ i. times f (number_names ((state_of l.k).number i))) l.number)

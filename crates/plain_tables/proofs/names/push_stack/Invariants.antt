@@ -1,0 +1,7 @@
+use Rattle.std.proofs.Common.{take, reverse}
+use Rattle.kernel_rules.specs.References.{times}
+use Rattle.table_lines.specs.Counting.{Adds}
+use Rattle.plain_tables.proofs.names.push_stack.Given as goal
+
+abbrev pub invariant-heights : goal.invariant-heights
+invariant-heights l = Adds l.initial.names.items l.names.items (λ f. times f (take l.height (reverse l.stack)))

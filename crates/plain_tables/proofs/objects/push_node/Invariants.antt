@@ -1,0 +1,8 @@
+use Rattle.std.proofs.Common.{◌≡◌, ◌++◌}
+use Rattle.std.specs.Prelude.{string_bytes}
+use Rattle.kernel_history.specs.Tables.{lines_below, entry_line}
+use Rattle.seq_state.specs.Maps.{state_of}
+use Rattle.plain_tables.proofs.objects.push_node.Given as goal
+
+abbrev pub invariant-entries : goal.invariant-entries
+invariant-entries l = string_bytes l.text ≡ string_bytes l.initial.text ++ lines_below (λ i. entry_line i ((state_of l.k).place l.node i)) l.index

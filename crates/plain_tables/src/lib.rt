@@ -1,0 +1,15 @@
+//! The printed tables of the plain kernel.
+//!
+//! They are printed from its maps by the lines that the tables of final words are printed by. The references to each frame are
+//! counted afresh, by one pass over places, objects, cores and liveness numbers.
+#![tactic(auto)]
+
+mod frames;
+mod names;
+mod objects;
+mod rest;
+#[cfg(test)]
+mod tests;
+mod whole;
+
+pub use whole::tables;

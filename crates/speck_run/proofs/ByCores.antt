@@ -1,0 +1,43 @@
+-- Lists that are made by threads have the text of taken steps.
+use Rattle.std.proofs.Common.{◌≡◌, ℕ, zero, suc, ◌<◌, ◌^◌, ◌++◌, List, [], length, map, get_or, All, refl, sym, ◌∙◌, ap, Vec, Global, arith}
+use Rattle.std.proofs.lemmas.Grind.{flat_map-append}
+use Rattle.std.proofs.lemmas.List.{length-map, get_or-map}
+use Rattle.spk_nums.specs.Setting.{Setting}
+use Rattle.spk_nums.specs.declared.calls.Call.{Call}
+use Rattle.kernel_history.specs.Order.{list_of}
+use Rattle.kernel_history.specs.Tables.{tables_of, lines_below}
+use Rattle.kernel_history.specs.Text.{line_of, reply_lines, decisions_by}
+use Rattle.kernel_history.specs.Trace.{Trace, state_after, calls_of}
+use Rattle.core_kernel.specs.declared.whole.Ran.{Ran}
+use Rattle.core_kernel.specs.TakenSteps.{TakenSteps}
+use Rattle.core_kernel.specs.Whole.{decisions_below, IsList, AreMade}
+use Rattle.lone_kernel.specs.Machine.{AreLists}
+use Rattle.speck_run.specs.Written.{lines_of}
+
+-- the reply lines of the decisions, core by core
+lines_by_cores : (lists : List (List Call)) (t : Trace) → list_of lists ≡ calls_of t → (n : ℕ) → lines_of lists (decisions_below t n) ≡ lines_below (λ c. reply_lines (calls_of t) (decisions_by t c)) n
+unfolding lines_below
+lines_by_cores lists t same zero = refl
+lines_by_cores lists t same (suc n) =
+    flat_map-append (line_of (list_of lists)) (decisions_below t n) (decisions_by t n)
+    ∙ (λ i. lines_by_cores lists t same n i ++ reply_lines (same i) (decisions_by t n))
+
+-- whole lists that were made have the text of taken steps
+pub taken : (setup : Setting) (lists : List (List Call)) (ran : Ran) (tables text : List ℕ) (m : AreMade setup lists ran) → tables ≡ tables_of (state_after setup m.trace) → text ≡ lines_of lists ran.decisions.items ++ tables → TakenSteps setup lists text
+taken setup lists ran tables text m shown is =
+    let same : list_of lists ≡ calls_of m.trace = λ i c. sym (m.calls c).finished i in
+    let lines : List ℕ = lines_below (λ c. reply_lines (calls_of m.trace) (decisions_by m.trace c)) setup.cores in
+    record {
+      trace = m.trace;
+      history = m.history;
+      calls = m.calls;
+      is_text = is ∙ ap (λ (x : List ℕ). x ++ tables) (ap (lines_of lists) m.decisions ∙ lines_by_cores lists m.trace same setup.cores) ∙ ap (λ (x : List ℕ). lines ++ x) shown;
+    }
+
+-- lists that can be run can be made by threads
+pub lists_fit : (lists : List (Vec Call Global)) → AreLists (map (λ v. v.items) lists) → All (λ v. IsList v.items) lists
+lists_fit lists are k d h =
+    let size = length-map lists (λ (v : Vec Call Global). v.items) in
+    let list = are k [] (omega arith) in
+    let same : get_or (map (λ (v : Vec Call Global). v.items) lists) k [] ≡ (get_or lists k d).items = get_or-map (λ (v : Vec Call Global). v.items) lists k d [] h in
+    rw (← same) record { fit = λ j e g. let can = list.0 j e g in record { built = can.0; limits = can.1 }; few = list.1 }

@@ -1,0 +1,37 @@
+//! Lists, made as `run` does.
+ghost use Rattle.std.specs.Prelude.{◌≡◌, true, IfOk, IfSome, IsSome, map, length, string_bytes};
+ghost use Rattle.core_kernel.specs.TakenSteps.{TakenSteps};
+ghost use Rattle.lone_kernel.specs.Machine.{AreLists};
+
+use crate::text::write_decisions;
+use core_kernel::{Gate, run_whole};
+use script_reader::Script;
+use spk_nums::Memory;
+use std::alloc::Global;
+use std::thread::Threads;
+use table_report::report;
+
+/// Makes the script's lists, each core in a thread of its own where one can be made, and answers the text of the trace
+/// that this makes: the reply lines of core 0, then of core 1 and so on, then the tables. There is a list for each core,
+/// each of fewer than 2^32 calls that are carried out and within their limits. None comes exactly where the gate has
+/// stopped a core, so only where it is not free; only want of memory is refused.
+pub fn run_lists<R: Threads + Sync, G: Gate>(
+    rt: &R,
+    alloc: Global,
+    script: &Script,
+    gate: &G,
+) -> Result<Option<String>, Memory>
+    requires can_run { AreLists (map (λ v. v.items) script.now.lists.items) }
+    requires one_each { length script.now.lists.items ≡ script.now.setup.cores }
+    ensures text { IfOk result (λ text. IfSome text (λ text. TakenSteps script.now.setup (map (λ v. v.items) script.now.lists.items) (string_bytes text))) }
+    ensures free { IfOk result (λ text. G.is_free gate.now ≡ true → IsSome text) }
+{
+    let Some(ran) = run_whole(rt, alloc, &script.setup, &script.lists, gate)? else {
+        return Ok(None);
+    };
+    let mut text = String::new(alloc);
+    write_decisions(alloc, &mut text, &script.lists, &ran.decisions)?;
+    let tables = report(alloc, &ran.closed)?;
+    text.push_str(&tables)?;
+    Ok(Some(text))
+}

@@ -1,0 +1,56 @@
+-- The steps of a claim, a push and a pop stay on the words of the machine, whatever words are found.
+use Rattle.std.proofs.Common.{◌≡◌, ℕ, ◌==◌, ◌<◌, Bool, true, false, Option, Some, None, refl, arith}
+use Rattle.tcap_words.specs.Thread.{DepthFits, word_of_thread, thread_of_word}
+use Rattle.tcap_words.specs.declared.thread_word.ThreadWord.{ThreadWord}
+use Rattle.tcap_words.specs.declared.thread_word.ThreadWord.TheVariants as state
+use Rattle.tcap_words.proofs.ThreadLemmas as words
+use Rattle.word_map.specs.Places.{Shape, IsIn}
+use Rattle.word_map.specs.Moves.{word_of}
+use Rattle.stage_thread.specs.Claiming.{ClaimFits, claim_move, thread_after, compared_after, claim_after}
+use Rattle.stage_thread.specs.Stacking.{PushFits, push_move, push_after, PopFits, pop_move, pop_after}
+use Rattle.stage_thread.specs.declared.claim.Claim.{Claim}
+use Rattle.stage_thread.specs.declared.claim.Claim.TheVariants.{AtLoad, AtCompare, AtStack}
+use Rattle.stage_thread.specs.declared.stack.Push.{Push}
+use Rattle.stage_thread.specs.declared.stack.Push.TheVariants as push
+use Rattle.stage_thread.specs.declared.stack.Pop.{Pop}
+use Rattle.stage_thread.specs.declared.stack.Pop.TheVariants as pop
+
+-- the next step of a claim is on a word of the machine
+pub claim_is_in : (s : Shape) (c : Claim) → ClaimFits s c → IsIn s (word_of (claim_move c))
+claim_is_in s (AtLoad t core) h = (h, omega arith)
+claim_is_in s (AtCompare t core depth) h = (h.0, omega arith)
+claim_is_in s (AtStack t depth) h = (h.0, omega (arith, h.1.1))
+
+thread_after_fits : (s : Shape) (t core found : ℕ) (o : Option ThreadWord) → thread_of_word found ≡ o → t < s.frames → ClaimFits s (thread_after t core o)
+thread_after_fits s t core found None is h = h
+thread_after_fits s t core found (Some (state.Idle depth)) is h = (h, (words.spelling.spells found (state.Idle depth) is).0)
+thread_after_fits s t core found (Some (state.Running c depth)) is h = h
+thread_after_fits s t core found (Some (state.Claimed c depth)) is h = h
+
+compared_fits : (s : Shape) (same : Bool) (t core depth : ℕ) → (t < s.frames) × DepthFits depth → ClaimFits s (compared_after same t core depth)
+compared_fits s true t core depth h = h
+compared_fits s false t core depth h = h
+
+-- and it stays so
+pub claim_after_fits : (s : Shape) (c : Claim) (found : ℕ) → ClaimFits s c → ClaimFits s (claim_after c found)
+claim_after_fits s (AtLoad t core) found h = thread_after_fits s t core found (thread_of_word found) refl h
+claim_after_fits s (AtCompare t core depth) found h = compared_fits s (found == word_of_thread (state.Idle depth)) t core depth h
+claim_after_fits s (AtStack t depth) found h = h
+
+-- the next step of a push is on a word of the machine
+pub push_is_in : (s : Shape) (p : Push) → PushFits s p → IsIn s (word_of (push_move p))
+push_is_in s (push.AtStack t core depth comp) h = (h.0, omega (arith, h.2))
+push_is_in s (push.AtThread t core depth) h = (h.0, omega arith)
+
+pub push_after_fits : (s : Shape) (p : Push) → PushFits s p → PushFits s (push_after p)
+push_after_fits s (push.AtStack t core depth comp) h = h
+push_after_fits s (push.AtThread t core depth) h = h
+
+-- the next step of a pop is on a word of the machine
+pub pop_is_in : (s : Shape) (p : Pop) → PopFits s p → IsIn s (word_of (pop_move p))
+pop_is_in s (pop.AtThread t core depth) h = (h.0, omega arith)
+pop_is_in s (pop.AtStack t depth) h = (h.0, omega (arith, h.2))
+
+pub pop_after_fits : (s : Shape) (p : Pop) → PopFits s p → PopFits s (pop_after p)
+pop_after_fits s (pop.AtThread t core depth) h = h
+pop_after_fits s (pop.AtStack t depth) h = h

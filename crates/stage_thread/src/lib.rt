@@ -1,0 +1,8 @@
+//! Claiming a thread, and pushing and popping the components on its stack.
+#![tactic(auto)]
+
+mod claim;
+mod stack;
+
+pub use claim::{Claim, Claimed};
+pub use stack::{Pop, Push};
