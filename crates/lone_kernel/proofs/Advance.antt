@@ -39,7 +39,7 @@ may_step core GoesOn can = can
 
 -- the next step of a core that takes its turn is on a word of its machine
 word_next : (core : Core) (f : Turn) → IsCore core → CanTake f core → IsWord core.own.layout (word_of (move_of (core_in core f)))
-word_next core (Begins call) fits can = record { is_in = fits.core; is_named = refl }
+word_next core (Begins call) fits can = record { is_in = fits.own.core; is_named = refl }
 word_next core GoesOn fits can = moves_are_words core fits can
 
 -- where the core stands is where the trace is

@@ -52,9 +52,9 @@ pub record GoesFurther (m m' : Machine) (c : ℕ) : Type 0 where
   pub in_call : is_decided_in (core_at m c).active ≡ false → (core_at m' c).active ≢ None
 
 -- What a core has still to do before its call returns, as a number that each step within a call lowers.
-abbrev pub work_in : Option ActiveCall → ℕ
-work_in None = 1000
-work_in (Some f) = left_in f.call f.stage
+abbrev pub work_in : ℕ → Option ActiveCall → ℕ
+work_in cores None = 1000
+work_in cores (Some f) = left_of cores f
 
 abbrev pub work_at : Machine → ℕ → ℕ
 work_at m c = work_in (core_at m c).own.layout.cores (core_at m c).active
