@@ -17,7 +17,6 @@ use Rattle.call_steps.specs.Fits.{IsCore, steps_left}
 use Rattle.core_invariant.specs.Events.{returned_in}
 use Rattle.call_steps.specs.Cores.{move_of, absorbed, told_of_step}
 use Rattle.word_map.specs.Moves.{told_of}
-use Rattle.call_steps.specs.declared.stages.ActiveCall.{ActiveCall}
 use Rattle.flight.proofs.AfterStep.{absorbed_returns}
 use Rattle.flight.proofs.CoreFits.{absorbed_fewer}
 use Rattle.core_kernel.specs.declared.core_run.CoreRun.{CoreRun}
@@ -114,13 +113,8 @@ module _ (setup : Setting) (seat : SeatValue CoreRun Call) (call : Option Call) 
   -- and leaves the call fewer steps
   pub fewer : steps_left made.program.state < steps_left (called running seat.program call).state
   fewer =
-      let f = some_of core.active is.in_call in
-      let less = absorbed_fewer core f.0 (told_of (move_of core) m.found) f.1 is.fits in
+      let less = absorbed_fewer core (told_of (move_of core) m.found) is.fits is.in_call in
       subst (λ (z : Core × Core). steps_left z.0 < steps_left z.1) (λ i. (ap (λ q. q.state) (sym program_is) i, sym is.core i)) less
-    where
-      some_of : (o : Option ActiveCall) → IsSome o → (f : ActiveCall) × (o ≡ Some f)
-      some_of None some = absurd (cc)
-      some_of (Some f) some = (f, refl)
 
 -- a seat that goes on twice
 pub goes_further : (setup : Setting) (u v w : SeatValue CoreRun Call) (xs ys : List Call) → GoesOn setup u xs v → GoesOn setup v ys w → GoesOn setup u (xs ++ ys) w
