@@ -1,6 +1,6 @@
 //! Committing a count.
 //!
-//! A call that has acquired a count commits it behind its decision: with the change that the decision made to the
+//! A call that has acquired a count commits it after its decision: with the change that the decision made to the
 //! references, and with its stamp where a reference was released. After a refusal it commits the change 0.
 
 ghost use Rattle.std.specs.Prelude.{◌≡◌, ◌<◌, ℕ, ℤ, pos, None};

@@ -1,7 +1,7 @@
 //! Removing what stands at a place.
 //!
 //! **Three steps.** A compare puts the core's mark in the place of the entry; an add draws a stamp from the clock, and
-//! decides the removal; a store leaves the entry that quiesces since that stamp. The draw must come behind the mark:
+//! decides the removal; a store leaves the entry that quiesces since that stamp. The draw must come after the mark:
 //! between them no core can find the entry and enter it into a call that the stamp takes for a later one.
 
 ghost use Rattle.std.specs.Prelude.{◌≡◌, ◌<◌, ◌≤◌, ◌==◌};
@@ -119,7 +119,7 @@ impl Close {
         }
     }
 
-    // Where the removal stands behind a step that finds this word.
+    // Where the removal stands after a step that finds this word.
     #[inline]
     fn after(&self, found: u64) -> Close
         ensures { result ≡ close_after self.now found }

@@ -76,7 +76,7 @@ impl FlushMark {
         }
     }
 
-    // Where it stands behind a step that finds this word.
+    // Where it stands after a step that finds this word.
     #[inline]
     fn after(&self, found: u64) -> FlushMark
         ensures { result ≡ flush_after self.now found }

@@ -6,7 +6,7 @@
 //! core is waited for. The core that scans does not wait for itself.
 //!
 //! **Flushes.** A page that was removed may also stand among a core's cached translations until it flushes. A flush word
-//! has the clock of the core's last flush, which must be later than the stamp. These words are scanned behind those of
+//! has the clock of the core's last flush, which must be later than the stamp. These words are scanned after those of
 //! the cores, the own one too.
 
 ghost use Rattle.std.specs.Prelude.{◌≡◌, ◌<◌, ◌≤◌, nat_lt, false, true, IfSome};
@@ -114,7 +114,7 @@ impl Quiet {
         }
     }
 
-    // The scan behind the word at which it stands, where there is one more. The cores are at most 8.
+    // The scan after the word at which it stands, where there is one more. The cores are at most 8.
     #[inline]
     fn following(&self, cores: u8) -> Option<Quiet>
         requires { cores ≤ 8 }

@@ -61,7 +61,7 @@ frozen_at (Compare count stamp) found = frozen_if (found == word_of_count (unhel
 frozen_at (Scan q) found = None
 frozen_at (Empty entry) found = None
 
--- it is kept behind the others
+-- it is kept after the others
 abbrev pub kept_with : List CountWord → Option CountWord → List CountWord
 kept_with kept None = kept
 kept_with kept (Some v) = kept ++ v ∷ []

@@ -1,7 +1,7 @@
 //! Releasing the counters that a sweep has frozen.
 //!
 //! After a refusal each counter is stored again as it was found. After a retype that was decided each is stored with no
-//! count and no stamp, since no reference to the frame stands. The frame's own word is stored behind them: while it is
+//! count and no stamp, since no reference to the frame stands. The frame's own word is stored after them: while it is
 //! marked no core finds a frame whose counters are another's.
 
 ghost use Rattle.std.specs.Prelude.{◌≡◌, ◌<◌, ◌≤◌, ◌+◌, nat_lt, length, slice_get, IfSome};

@@ -127,7 +127,7 @@ noted_by p found = record {
 abbrev pub giving_back : PairAt
 giving_back = StoreA false value.Nothing
 
--- behind the last word of list B: lists that differ, and a merged list with no room, are refused where head B is still the same
+-- after the last word of list B: lists that differ, and a merged list with no room, are refused where head B is still the same
 abbrev pub by_alike : Bool → PairAt
 by_alike same = if same then CompareB else AgainB reply.Unlike
 
@@ -164,15 +164,15 @@ abbrev pub at_read : Option QualityWord → PairAt → PairAt
 at_read None next = giving_back
 at_read (Some v) next = next
 
--- after a word of list A the next one is loaded, and behind the last head B
+-- after a word of list A the next one is loaded, and after the last head B
 abbrev pub a_next : Bool → ℕ → PairAt
 a_next more entry = if more then ListA (entry + 1) else LoadB
 
--- after a word of list B the next one is loaded, and behind the last the two are judged
+-- after a word of list B the next one is loaded, and after the last the two are judged
 abbrev pub b_next : Bool → ℕ → Pair → PairAt
 b_next more entry p = if more then ListB (entry + 1) else judged p.what p
 
--- after a word of list B is stored the next one is, and behind the last head B
+-- after a word of list B is stored the next one is, and after the last head B
 abbrev pub store_next : Bool → ℕ → PairAt
 store_next more entry = if more then StoreList (entry + 1) else StoreB
 
@@ -228,7 +228,7 @@ end_by_budget short budget = if short then Decided (reply.Short budget) else Goi
 abbrev pub marked_end : Bool → Bool → ℕ → StageEnd Value
 marked_end same short budget = if same then end_by_budget short budget else Refuse reply.Raced
 
--- behind it a refusal decides, since head A is still to be given back
+-- after it a refusal decides, since head A is still to be given back
 abbrev pub decided_by_mark : Option ℕ → StageEnd Value
 decided_by_mark None = Going
 decided_by_mark (Some by) = Decided (reply.Busy by)

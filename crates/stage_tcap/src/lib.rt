@@ -2,6 +2,7 @@
 #![tactic(auto)]
 
 mod charge;
+mod ends;
 mod heads;
 mod lists;
 mod pair;

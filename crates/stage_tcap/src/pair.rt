@@ -6,7 +6,7 @@
 //! unchanged since head B was loaded.
 //!
 //! **Deciding.** A transfer is decided where it compares head B to the one with the ticks; a delegation where it marks head
-//! B, behind which it stores the merged list, head B and head A; a test where it loads head B a second time. Lists that
+//! B, after which it stores the merged list, head B and head A; a test where it loads head B a second time. Lists that
 //! differ, and a merged list with no room, are refused at such a second load. A budget of A that is too small is told at
 //! the compare that marks head A. None of B's words is stored before the deciding step.
 //!
@@ -22,9 +22,10 @@ ghost use Rattle.word_map.specs.Word.{EntryAt};
 ghost use Rattle.word_map.specs.Moves.{LoadOf, op_of};
 ghost use Rattle.stage_tcap.specs.Heads.{head, credited, VersionFits};
 ghost use Rattle.stage_tcap.specs.Lists.{read_word, in_order};
-ghost use Rattle.stage_tcap.specs.Pairs.{AtFits, PairFits, amount_of, next_b, left_a, move_at, pair_move, noted, head_a_after, head_b_after, list_a_after, whole_b, read_b, list_b_after, noted_by, giving_back, by_alike, by_room, by_preempting, judged, at_by_mark, at_by_head, at_by_budget, at_marked, at_read, a_next, b_next, store_next, at_decided, compared_after, value_of, again_value, at_after, pair_after, end_by_budget, marked_end, decided_by_mark, b_end, list_end, again_end, end_at, pair_end};
+ghost use Rattle.stage_tcap.specs.Pairs.{AtFits, PairFits, amount_of, next_b, left_a, move_at, pair_move, noted, head_a_after, head_b_after, list_a_after, whole_b, read_b, list_b_after, noted_by, giving_back, by_alike, by_room, by_preempting, judged, at_by_mark, at_by_head, at_by_budget, at_marked, at_read, a_next, b_next, store_next, at_decided, compared_after, again_value, at_after, pair_after, end_at, pair_end};
 
 use crate::charge::head_end;
+use crate::ends::{again_end, again_value, b_end, list_end, marked_end};
 use crate::heads::{credited, debited, head, marked, word_of};
 use crate::lists::{in_order, merge_of, read_word, same_list, word_at};
 use preempt_test::preempts;
@@ -262,7 +263,7 @@ impl Pair {
         self.head_a.budget < amount_of(self.what)
     }
 
-    // After the load of a word of list B the next one is loaded, and behind the last the two are judged.
+    // After the load of a word of list B the next one is loaded, and after the last the two are judged.
     fn next_of_b(&self, entry: EntryNo) -> PairAt
         requires { entry ≤ 8 }
         ensures { result ≡ b_next (nat_lt entry 8) entry self.now }
@@ -521,7 +522,7 @@ fn at_read(shown: &Option<QualityWord>, next: PairAt) -> PairAt
     }
 }
 
-// After the load of a word of list A the next one is loaded, and behind the last head B.
+// After the load of a word of list A the next one is loaded, and after the last head B.
 #[inline]
 fn next_of_a(entry: EntryNo) -> PairAt
     requires { entry ≤ 8 }
@@ -536,7 +537,7 @@ fn next_of_a(entry: EntryNo) -> PairAt
     }
 }
 
-// After the store of a word of list B the next one is stored, and behind the last head B.
+// After the store of a word of list B the next one is stored, and after the last head B.
 #[inline]
 fn next_store(entry: EntryNo) -> PairAt
     requires { entry ≤ 8 }
@@ -577,88 +578,6 @@ fn at_decided(what: PairWork) -> PairAt
             entry: EntryNo::new(1),
         },
         PairWork::Test => giving_back(),
-    }
-}
-
-// The value of a reply that is decided where head B is still the same.
-#[inline]
-fn again_value(same: bool, reply: &Reply) -> Value
-    ensures { result ≡ again_value same reply.now }
-{
-    if same {
-        value_of(reply)
-    } else {
-        Value::Nothing
-    }
-}
-
-// The value of a reply.
-#[inline]
-fn value_of(reply: &Reply) -> Value
-    ensures { result ≡ value_of reply.now }
-{
-    match reply {
-        Reply::Ok(value) => *value,
-        _ => Value::Nothing,
-    }
-}
-
-// What the compare that marks head A leads to: a budget that is too small is told there.
-#[inline]
-fn marked_end(same: bool, short: bool, budget: u32) -> StageEnd<Value>
-    ensures { result ≡ marked_end same short budget }
-{
-    if !same {
-        StageEnd::Refuse(Reply::Raced)
-    } else if short {
-        StageEnd::Decided(Reply::Short(budget))
-    } else {
-        StageEnd::Going
-    }
-}
-
-// What the load of head B leads to.
-#[inline]
-fn b_end(shown: &Option<HeadWord>) -> StageEnd<Value>
-    ensures { result ≡ b_end shown.now }
-{
-    match shown {
-        None => StageEnd::Decided(Reply::Raced),
-        Some(head) => decided_by_mark(head.mark),
-    }
-}
-
-// What a head B leads to that has this mark.
-#[inline]
-fn decided_by_mark(mark: Option<CoreNo>) -> StageEnd<Value>
-    ensures { result ≡ decided_by_mark mark }
-{
-    match mark {
-        None => StageEnd::Going,
-        Some(by) => StageEnd::Decided(Reply::Busy(by)),
-    }
-}
-
-// What the load of a word of a list leads to.
-#[inline]
-fn list_end(shown: &Option<QualityWord>) -> StageEnd<Value>
-    ensures { result ≡ list_end shown.now }
-{
-    match shown {
-        None => StageEnd::Decided(Reply::Raced),
-        Some(_) => StageEnd::Going,
-    }
-}
-
-// What the deciding step leads to, where head B is still the same or not.
-#[inline]
-fn again_end(same: bool, reply: &Reply) -> StageEnd<Value>
-    ensures { result ≡ again_end same reply.now }
-{
-    if same {
-        StageEnd::Decided(*reply)
-    } else {
-        StageEnd::Decided(Reply::Raced)
     }
 }
 
