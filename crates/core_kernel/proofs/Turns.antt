@@ -17,7 +17,6 @@ use Rattle.call_steps.specs.Fits.{IsCore, steps_left}
 use Rattle.core_invariant.specs.Events.{returned_in}
 use Rattle.call_steps.specs.Cores.{move_of, absorbed, told_of_step}
 use Rattle.word_map.specs.Moves.{told_of}
-use Rattle.call_steps.specs.declared.stages.ActiveCall.{ActiveCall}
 use Rattle.flight.proofs.AfterStep.{absorbed_returns}
 use Rattle.flight.proofs.CoreFits.{absorbed_fewer}
 use Rattle.core_kernel.specs.declared.core_run.CoreRun.{CoreRun}

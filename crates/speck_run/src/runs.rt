@@ -30,7 +30,7 @@ pub fn run_lists<R: Threads + Sync, G: Gate>(
         return Ok(None);
     };
     let mut text = String::new(alloc);
-    write_decisions(alloc, &mut text, &script.lists, &ran.decisions)?;
+    write_decisions(&mut text, &script.lists, &ran.decisions)?;
     let tables = report(alloc, &ran.closed)?;
     text.push_str(&tables)?;
     Ok(Some(text))

@@ -52,6 +52,7 @@ total 200
 
 // Lets core 0 make its first call once core 1 asks for its second one, and core 1 its first once core 0 has asked for
 // its first. It counts how often it was asked, and how often it has answered false.
+#[derive(Drop)]
 struct Meeting {
     first_of_0: AtomicU64,
     second_of_1: AtomicU64,

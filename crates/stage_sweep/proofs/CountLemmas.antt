@@ -1,9 +1,9 @@
 -- Lists of count words keep their counts within their ranges.
-use Rattle.std.proofs.Common.{◌≡◌, ℕ, ◌+◌, ◌<◌, ◌≤◌, List, [], ◌∷◌, ◌++◌, length, take, get_or, zero, suc, Option, Some, None, arith}
+use Rattle.std.proofs.Common.{◌≡◌, ℕ, ◌+◌, ◌<◌, ◌≤◌, List, [], ◌∷◌, ◌++◌, length, take, get_or, zero, suc, None, arith}
 use Rattle.std.proofs.lemmas.Option.{slice_get_past}
 use Rattle.std.specs.Prelude.{slice_set, slice_get}
 use Rattle.std.proofs.lemmas.List.{take_more_set, get_or-take}
-use Rattle.spk_nums.specs.Listed.{IsListed, length-listed}
+use Rattle.spk_nums.specs.Listed.{length-listed}
 use Rattle.spk_nums.proofs.Cells.{added}
 use Rattle.frame_words.specs.Count.{NumberFits}
 use Rattle.frame_words.specs.declared.count_word.CountWord.{CountWord}

@@ -1,24 +1,23 @@
 -- A sweep stays on the words of the machine while it goes on, whatever words are found.
-use Rattle.std.proofs.Common.{◌≡◌, ℕ, ℤ, ◌+◌, ◌==◌, ◌<◌, ◌≤◌, Bool, true, false, nat_lt, List, [], ◌∷◌, ◌++◌, length, Option, Some, None, IfSome, MatchBool, if◌then◌else◌, refl, arith}
+use Rattle.std.proofs.Common.{◌≡◌, ℕ, ◌+◌, ◌==◌, ◌<◌, ◌≤◌, Bool, true, false, nat_lt, List, [], ◌∷◌, ◌++◌, length, Option, Some, None, IfSome, MatchBool, if◌then◌else◌, refl, arith}
 use Rattle.std.proofs.lemmas.Bool.{ltb-true}
 use Rattle.spk_nums.specs.declared.kinds.Obj.{Obj}
 use Rattle.spk_nums.specs.declared.kinds.Obj.TheVariants as object
 use Rattle.spk_nums.specs.declared.replies.Reply.{Reply}
 use Rattle.spk_nums.specs.declared.steps.StageEnd.{StageEnd}
 use Rattle.spk_nums.specs.declared.steps.StageEnd.TheVariants.{Going, Decided, Done, Refuse}
-use Rattle.frame_words.specs.Count.{NumberFits, word_of_count, count_of_word}
+use Rattle.frame_words.specs.Count.{count_of_word}
 use Rattle.frame_words.specs.declared.count_word.CountWord.{CountWord}
 use Rattle.frame_words.specs.declared.frame_word.FrameWord.{FrameWord}
 use Rattle.frame_words.proofs.CountLemmas as counts
 use Rattle.word_map.specs.Places.{Shape, IsShape, IsIn}
 use Rattle.word_map.specs.Moves.{word_of}
-use Rattle.stage_pins.specs.Counts.{unheld}
-use Rattle.stage_quiet.specs.Scan.{QuietFits, quiet_scan, quiet_end, quiet_after}
+use Rattle.stage_quiet.specs.Scan.{QuietFits, quiet_end, quiet_after}
 use Rattle.stage_quiet.specs.declared.quiet.Quiet.{Quiet}
 use Rattle.stage_quiet.proofs.QuietLemmas.{quiet_scan_fits, quiet_after_fits, quiet_is_in}
-use Rattle.stage_sweep.specs.Counters.{counters_of, sum_of_counts, latest_stamp}
+use Rattle.stage_sweep.specs.Counters.{counters_of}
 use Rattle.stage_sweep.specs.Emptiness.{loads_of, may_be_cached}
-use Rattle.stage_sweep.specs.Freeze.{AtFits, SweepFits, StepFits, KeepFits, TookFits, move_at, sweep_move, frozen_if, frozen_at, kept_with, load_refuses, compare_refuses, refuses_at, load_next, empty_next, scan_next, compare_next, scan_goes, next_at, at_after, sweep_refuses, sweep_next, sweep_kept, sweep_after, swept_of, end_by, sweep_end}
+use Rattle.stage_sweep.specs.Freeze.{AtFits, SweepFits, StepFits, KeepFits, TookFits, move_at, sweep_move, frozen_at, kept_with, load_next, empty_next, scan_next, compare_next, scan_goes, next_at, at_after, sweep_refuses, sweep_next, sweep_kept, sweep_after, end_by, sweep_end}
 use Rattle.stage_sweep.specs.declared.sweep.Sweep.{Sweep}
 use Rattle.stage_sweep.specs.declared.sweep.SweepAt.{SweepAt}
 use Rattle.stage_sweep.specs.declared.sweep.SweepAt.TheVariants.{Load, Compare, Scan, Empty}
@@ -34,6 +33,11 @@ took_fits s kept (Empty entry) h = h
 pub counters_within : (s : Shape) → IsShape s → counters_of s ≤ s.cores
 unfolding counters_of
 counters_within s h = h.some_core
+
+-- a frame has a counter, so a sweep begins with one that is not frozen
+pub some_counter : (s : Shape) → 0 < counters_of s
+unfolding counters_of
+some_counter s = omega arith
 
 counters_most : (s : Shape) → counters_of s ≤ 8
 unfolding counters_of

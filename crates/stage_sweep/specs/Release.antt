@@ -1,5 +1,5 @@
 -- The steps that release the frozen counters of a frame again, one store each.
-use Rattle.std.specs.Prelude.{ℕ, pos, ◌+◌, ◌<◌, ◌≤◌, ◌==◌, nat_lt, Bool, false, true, Option, Some, None, List, length, slice_get, if◌then◌else◌}
+use Rattle.std.specs.Prelude.{ℕ, pos, ◌+◌, ◌<◌, ◌≤◌, ◌==◌, nat_lt, Bool, false, true, Option, Some, None, length, slice_get, if◌then◌else◌}
 use Rattle.spk_nums.specs.declared.steps.StageEnd.{StageEnd}
 use Rattle.spk_nums.specs.declared.steps.StageEnd.TheVariants.{Going, Done}
 use Rattle.frame_words.specs.Count.{word_of_count}

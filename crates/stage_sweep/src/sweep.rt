@@ -15,7 +15,7 @@ ghost use Rattle.std.specs.Prelude.{◌≡◌, ◌<◌, ◌≤◌, ◌==◌, nat
 ghost use Rattle.spk_nums.specs.declared.steps.StageEnd.TheVariants.{Going};
 ghost use Rattle.spk_nums.specs.WordSteps.{place_in};
 ghost use Rattle.frame_words.specs.Count.{NumberFits, word_of_count, count_of_word};
-ghost use Rattle.word_map.specs.Places.{Shape, place_of, size_of};
+ghost use Rattle.word_map.specs.Places.{place_of, size_of};
 ghost use Rattle.word_map.specs.Word.{CountAt};
 ghost use Rattle.word_map.specs.Moves.{op_of};
 ghost use Rattle.stage_pins.specs.Counts.{unheld};
@@ -455,8 +455,10 @@ mod tests {
     const INSIDE_5: u64 = 11;
 
     // The sweep of frame 3 by core 1.
-    fn sweep(kind: FrameKind, object: Obj) -> Sweep
-        ensures { (s : Shape) → 3 < s.frames → 1 < s.cores → SweepFits s result }
+    fn sweep(_layout: &Layout, kind: FrameKind, object: Obj) -> Sweep
+        requires frame { 3 < _layout.now.frames }
+        requires core { 1 < _layout.now.cores }
+        ensures { SweepFits _layout.now result }
     {
         let word = FrameWord {
             kind,
@@ -470,7 +472,7 @@ mod tests {
     #[test]
     fn freezes_then_scans_then_looks_at_the_object(rt: HostRuntime) {
         if let Some(layout) = Layout::new(2, 8) {
-            let mut tcap = sweep(FrameKind::Kernel, Obj::Tcap);
+            let mut tcap = sweep(&layout, FrameKind::Kernel, Obj::Tcap);
             assert_eq!(rt; tcap.next(&layout), WordOp::Load { at: 526 });
             assert_eq!(rt; tcap.take(&layout, NONE), StageEnd::Going);
             let compare = WordOp::Compare {
@@ -499,7 +501,7 @@ mod tests {
     #[test]
     fn refuses_a_frame_that_is_referenced_or_a_counter_that_is_held(rt: HostRuntime) {
         if let Some(layout) = Layout::new(2, 8) {
-            let mut leaf = sweep(FrameKind::Kernel, Obj::Leaf);
+            let mut leaf = sweep(&layout, FrameKind::Kernel, Obj::Leaf);
             let mut held = leaf;
             assert_eq!(rt; leaf.take(&layout, TWO), StageEnd::Going);
             assert_eq!(rt;

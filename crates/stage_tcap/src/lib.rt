@@ -1,0 +1,10 @@
+//! Charging ticks to a temporal capability, and calls on two of them: transfers, delegations and tests of preemption.
+#![tactic(auto)]
+
+mod charge;
+mod heads;
+mod lists;
+mod pair;
+
+pub use charge::Charge;
+pub use pair::{Pair, PairAt, PairWork};

@@ -1,0 +1,809 @@
+//! A call on two temporal capabilities, A and B.
+//!
+//! **One moment.** Such a call must see both budgets and both lists as they stood at one moment. It marks head A, by which no
+//! other core changes A or its list; then it loads A's list, head B and B's list. Each change of B, also of its list
+//! alone, raises the version in head B. So where head B is found the same again at the deciding step, B's list has stood
+//! unchanged since head B was loaded.
+//!
+//! **Deciding.** A transfer is decided where it compares head B to the one with the ticks; a delegation where it marks head
+//! B, behind which it stores the merged list, head B and head A; a test where it loads head B a second time. Lists that
+//! differ, and a merged list with no room, are refused at such a second load. A budget of A that is too small is told at
+//! the compare that marks head A. None of B's words is stored before the deciding step.
+//!
+//! **Giving back.** Once head A is marked, a refusal decides the call, and head A is stored as it was.
+
+ghost use Rattle.std.specs.Prelude.{◌≡◌, ◌<◌, ◌≤◌, ◌+◌, ◌==◌, nat_lt, [], Some};
+ghost use Rattle.spk_nums.specs.WordSteps.{place_in};
+ghost use Rattle.spk_nums.specs.Merging.{preempts_by};
+ghost use Rattle.tcap_words.specs.Head.{word_of_head, head_of_word};
+ghost use Rattle.tcap_words.specs.Quality.{quality_of_word};
+ghost use Rattle.word_map.specs.Places.{size_of};
+ghost use Rattle.word_map.specs.Word.{EntryAt};
+ghost use Rattle.word_map.specs.Moves.{LoadOf, op_of};
+ghost use Rattle.stage_tcap.specs.Heads.{head, credited, VersionFits};
+ghost use Rattle.stage_tcap.specs.Lists.{read_word, in_order};
+ghost use Rattle.stage_tcap.specs.Pairs.{AtFits, PairFits, amount_of, next_b, left_a, move_at, pair_move, noted, head_a_after, head_b_after, list_a_after, whole_b, read_b, list_b_after, noted_by, giving_back, by_alike, by_room, by_preempting, judged, at_by_mark, at_by_head, at_by_budget, at_marked, at_read, a_next, b_next, store_next, at_decided, compared_after, value_of, again_value, at_after, pair_after, end_by_budget, marked_end, decided_by_mark, b_end, list_end, again_end, end_at, pair_end};
+
+use crate::charge::head_end;
+use crate::heads::{credited, debited, head, marked, word_of};
+use crate::lists::{in_order, merge_of, read_word, same_list, word_at};
+use preempt_test::preempts;
+use spk_nums::{CoreNo, EntryNo, FrameNo, Qualities, Reply, StageEnd, Value, WordOp};
+use tcap_words::{HeadWord, QualityWord};
+use word_map::Layout;
+
+/// What a call does with two temporal capabilities.
+#[derive(Clone, Copy, PartialEq, Eq, Debug)]
+pub enum PairWork {
+    /// Moves so many ticks from A to B, which have equal lists.
+    Transfer(u32),
+    /// Moves so many ticks from A to B, and gives B the merged list.
+    Delegate(u32),
+    /// Tells whether A preempts B.
+    Test,
+}
+
+/// Where a call on two temporal capabilities stands, between two of its steps.
+#[derive(Clone, Copy, PartialEq, Eq, Debug)]
+pub enum PairAt {
+    /// Before the load of head A.
+    LoadA,
+    /// Before the compare that marks it.
+    MarkA,
+    /// Before the load of this word of list A, 1 to 8.
+    ListA { entry: EntryNo },
+    /// Before the load of head B.
+    LoadB,
+    /// Before the load of this word of list B, 1 to 8.
+    ListB { entry: EntryNo },
+    /// Before the compare of head B, which decides.
+    CompareB,
+    /// Before the second load of head B, which decides this where it finds it the same.
+    AgainB { reply: Reply },
+    /// Decided; before the store of this word of list B, 1 to 8.
+    StoreList { entry: EntryNo },
+    /// Decided; before the store of head B.
+    StoreB,
+    /// Decided; before the store of head A, from which the ticks were moved or not.
+    StoreA { moved: bool, value: Value },
+}
+
+/// A call on two temporal capabilities, between two of its steps.
+#[derive(Clone, Copy, PartialEq, Eq, Debug)]
+pub struct Pair {
+    /// The one that is marked.
+    pub a: FrameNo,
+    /// The other one.
+    pub b: FrameNo,
+    /// What is done with them.
+    pub what: PairWork,
+    /// The core whose call it is.
+    pub core: CoreNo,
+    /// Head A as it was found.
+    pub head_a: HeadWord,
+    /// Head B as it was found.
+    pub head_b: HeadWord,
+    /// List A as far as it is read; None once it is out of order.
+    pub list_a: Option<Qualities>,
+    /// List B as far as it is read, None once it is out of order; then the list that B is given.
+    pub list_b: Option<Qualities>,
+    /// Where the call stands.
+    pub at: PairAt,
+}
+
+impl Pair {
+    /// A core's call on two different temporal capabilities.
+    pub fn new(a: FrameNo, b: FrameNo, what: PairWork, core: CoreNo) -> Pair
+        ensures { result ≡ record { a = a; b = b; what = what; core = core; head_a = head 0 0; head_b = head 0 0; list_a = Some []; list_b = Some []; at = PairAt.LoadA } }
+    {
+        Pair {
+            a,
+            b,
+            what,
+            core,
+            head_a: head(0, 0),
+            head_b: head(0, 0),
+            list_a: Some(Qualities::empty()),
+            list_b: Some(Qualities::empty()),
+            at: PairAt::LoadA,
+        }
+    }
+
+    /// The next step. Both temporal capabilities are below the layout's frames.
+    pub fn next(&self, layout: &Layout) -> WordOp
+        requires { PairFits layout.now self.now }
+        ensures step { result ≡ op_of layout.now (pair_move self.now) }
+        ensures below { place_in result < size_of layout.now }
+    {
+        match self.at {
+            PairAt::LoadA => load(layout, self.a, EntryNo::new(0)),
+            PairAt::MarkA => WordOp::Compare {
+                at: layout.entry_at(self.a, EntryNo::new(0)),
+                expected: word_of(self.head_a),
+                word: word_of(marked(self.core, &self.head_a)),
+            },
+            PairAt::ListA { entry } => load(layout, self.a, entry),
+            PairAt::LoadB => load(layout, self.b, EntryNo::new(0)),
+            PairAt::ListB { entry } => load(layout, self.b, entry),
+            PairAt::CompareB => WordOp::Compare {
+                at: layout.entry_at(self.b, EntryNo::new(0)),
+                expected: word_of(self.head_b),
+                word: word_of(self.next_b()),
+            },
+            PairAt::AgainB { reply: _ } => load(layout, self.b, EntryNo::new(0)),
+            PairAt::StoreList { entry } => WordOp::Store {
+                at: layout.entry_at(self.b, entry),
+                word: word_at(&in_order(&self.list_b), entry),
+            },
+            PairAt::StoreB => WordOp::Store {
+                at: layout.entry_at(self.b, EntryNo::new(0)),
+                word: word_of(credited(&self.head_b, amount_of(self.what))),
+            },
+            PairAt::StoreA { moved, value: _ } => WordOp::Store {
+                at: layout.entry_at(self.a, EntryNo::new(0)),
+                word: word_of(self.left_a(moved)),
+            },
+        }
+    }
+
+    /// Takes the word that the step found. Before head A is marked the call is refused with `busy` where a core has marked
+    /// it, and with `raced` where the compare is lost or the word is that of no head. The compare that marks it decides
+    /// `short` where its budget is less than the ticks. Behind it a head B that a core has marked decides `busy`, a word
+    /// that is none of its place `raced`, and at the deciding step another head B than before decides `raced`; lists
+    /// that differ decide `unlike`, and a merged list with more than 8 schedulers `too-many`. The last store is done
+    /// with the call's value: whether A preempts B, or nothing. Both temporal capabilities are below the layout's frames,
+    /// and stay so.
+    pub fn take(&mut self, _layout: &Layout, found: u64) -> StageEnd<Value>
+        requires { PairFits _layout.now self.old }
+        ensures end { result ≡ pair_end self.old found }
+        ensures after { self.new ≡ pair_after self.old found }
+        ensures fits { PairFits _layout.now self.new }
+    {
+        self.note(found);
+        let end = self.end(found);
+        self.at = self.after(found);
+        end
+    }
+}
+
+impl Pair {
+    // What is put in the place of head B: a transfer gives it the ticks, a delegation marks it first.
+    fn next_b(&self) -> HeadWord
+        requires { VersionFits self.now.head_b }
+        ensures value { result ≡ next_b self.now.what self.now.core self.now.head_b }
+        ensures range { VersionFits result }
+    {
+        match self.what {
+            PairWork::Transfer(ticks) => credited(&self.head_b, ticks),
+            PairWork::Delegate(_) => marked(self.core, &self.head_b),
+            PairWork::Test => self.head_b,
+        }
+    }
+
+    // What head A is left as: with the ticks less, or as it was.
+    fn left_a(&self, moved: bool) -> HeadWord
+        requires { VersionFits self.now.head_a }
+        ensures value { result ≡ left_a moved self.now.head_a (amount_of self.now.what) }
+        ensures range { VersionFits result }
+    {
+        if moved {
+            debited(&self.head_a, amount_of(self.what))
+        } else {
+            self.head_a
+        }
+    }
+
+    // Keeps what a step tells that finds this word.
+    fn note(&mut self, found: u64)
+        ensures { self.new ≡ noted_by self.old found }
+    {
+        self.list_b = list_b_after(&self.at, self.what, &self.list_a, &self.list_b, found);
+        self.list_a = list_a_after(&self.at, &self.list_a, found);
+        self.head_b = head_b_after(&self.at, &self.head_b, found);
+        self.head_a = head_a_after(&self.at, &self.head_a, found);
+    }
+
+    // What a step leads to that finds this word, once what it tells is kept.
+    fn end(&self, found: u64) -> StageEnd<Value>
+        requires a { VersionFits self.now.head_a }
+        requires b { VersionFits self.now.head_b }
+        ensures { result ≡ end_at self.now self.now.at found }
+    {
+        match self.at {
+            PairAt::LoadA => head_end(&HeadWord::unpack(found)),
+            PairAt::MarkA => {
+                let same = found == word_of(self.head_a);
+                marked_end(same, self.is_short(), self.head_a.budget)
+            }
+            PairAt::ListA { entry: _ } => list_end(&QualityWord::unpack(found)),
+            PairAt::LoadB => b_end(&HeadWord::unpack(found)),
+            PairAt::ListB { entry: _ } => list_end(&QualityWord::unpack(found)),
+            PairAt::CompareB => {
+                again_end(found == word_of(self.head_b), &Reply::Ok(Value::Nothing))
+            }
+            PairAt::AgainB { reply } => again_end(found == word_of(self.head_b), &reply),
+            PairAt::StoreList { entry: _ } => StageEnd::Going,
+            PairAt::StoreB => StageEnd::Going,
+            PairAt::StoreA { moved: _, value } => StageEnd::Done(value),
+        }
+    }
+
+    // Where the call stands after a step that finds this word, once what it tells is kept.
+    fn after(&self, found: u64) -> PairAt
+        requires a { VersionFits self.now.head_a }
+        requires b { VersionFits self.now.head_b }
+        requires at { AtFits self.now.at }
+        ensures { result ≡ at_after self.now self.now.at found }
+    {
+        match self.at {
+            PairAt::LoadA => after_load_a(&HeadWord::unpack(found)),
+            PairAt::MarkA => at_marked(found == word_of(self.head_a), self.is_short()),
+            PairAt::ListA { entry } => at_read(&QualityWord::unpack(found), next_of_a(entry)),
+            PairAt::LoadB => after_load_b(&HeadWord::unpack(found)),
+            PairAt::ListB { entry } => at_read(&QualityWord::unpack(found), self.next_of_b(entry)),
+            PairAt::CompareB => after_compare(found == word_of(self.head_b), self.what),
+            PairAt::AgainB { reply } => PairAt::StoreA {
+                moved: false,
+                value: again_value(found == word_of(self.head_b), &reply),
+            },
+            PairAt::StoreList { entry } => next_store(entry),
+            PairAt::StoreB => PairAt::StoreA {
+                moved: true,
+                value: Value::Nothing,
+            },
+            PairAt::StoreA { moved, value } => PairAt::StoreA { moved, value },
+        }
+    }
+
+    // Whether A has fewer ticks than are to be moved.
+    fn is_short(&self) -> bool
+        ensures { result ≡ nat_lt self.now.head_a.budget (amount_of self.now.what) }
+    {
+        self.head_a.budget < amount_of(self.what)
+    }
+
+    // After the load of a word of list B the next one is loaded, and behind the last the two are judged.
+    fn next_of_b(&self, entry: EntryNo) -> PairAt
+        requires { entry ≤ 8 }
+        ensures { result ≡ b_next (nat_lt entry 8) entry self.now }
+    {
+        if entry.number() < 8 {
+            PairAt::ListB {
+                entry: EntryNo::new(entry.number() + 1),
+            }
+        } else {
+            self.judged()
+        }
+    }
+
+    // Lists that differ, and a merged list with no room, are refused where head B is still the same.
+    fn judged(&self) -> PairAt
+        ensures { result ≡ judged self.now.what self.now }
+    {
+        let a = in_order(&self.list_a);
+        match self.what {
+            PairWork::Transfer(_) => by_alike(same_list(&a, &in_order(&self.list_b))),
+            PairWork::Delegate(_) => by_room(&self.list_b),
+            PairWork::Test => {
+                let b = in_order(&self.list_b);
+                by_preempting(preempts(self.head_a.budget, &a, self.head_b.budget, &b))
+            }
+        }
+    }
+}
+
+// A load of a word of a temporal capability.
+#[inline]
+fn load(layout: &Layout, tcap: FrameNo, entry: EntryNo) -> WordOp
+    requires tcap { tcap < layout.now.frames }
+    requires entry { entry < 64 }
+    ensures step { result ≡ op_of layout.now (LoadOf (EntryAt tcap entry)) }
+    ensures below { place_in result < size_of layout.now }
+{
+    WordOp::Load {
+        at: layout.entry_at(tcap, entry),
+    }
+}
+
+// The ticks that are moved.
+#[inline]
+fn amount_of(what: PairWork) -> u32
+    ensures { result ≡ amount_of what }
+{
+    match what {
+        PairWork::Transfer(ticks) => ticks,
+        PairWork::Delegate(ticks) => ticks,
+        PairWork::Test => 0,
+    }
+}
+
+// A head as it was found, without the mark.
+#[inline]
+fn noted(old: &HeadWord, shown: &Option<HeadWord>) -> HeadWord
+    ensures { result ≡ noted old.now shown.now }
+{
+    match shown {
+        None => *old,
+        Some(found) => head(found.budget, found.version),
+    }
+}
+
+// Head A, after a step that finds this word.
+#[inline]
+fn head_a_after(at: &PairAt, old: &HeadWord, found: u64) -> HeadWord
+    ensures { result ≡ head_a_after at.now old.now found }
+{
+    match at {
+        PairAt::LoadA => noted(old, &HeadWord::unpack(found)),
+        _ => *old,
+    }
+}
+
+// Head B, after a step that finds this word.
+#[inline]
+fn head_b_after(at: &PairAt, old: &HeadWord, found: u64) -> HeadWord
+    ensures { result ≡ head_b_after at.now old.now found }
+{
+    match at {
+        PairAt::LoadB => noted(old, &HeadWord::unpack(found)),
+        _ => *old,
+    }
+}
+
+// List A, after a step that finds this word.
+#[inline]
+fn list_a_after(at: &PairAt, list: &Option<Qualities>, found: u64) -> Option<Qualities>
+    ensures { result ≡ list_a_after at.now list.now found }
+{
+    match at {
+        PairAt::ListA { entry: _ } => read_word(list, QualityWord::unpack(found)),
+        _ => *list,
+    }
+}
+
+// List B, after a step that finds this word.
+#[inline]
+fn list_b_after(
+    at: &PairAt,
+    what: PairWork,
+    a: &Option<Qualities>,
+    list: &Option<Qualities>,
+    found: u64,
+) -> Option<Qualities>
+    ensures { result ≡ list_b_after at.now what a.now list.now found }
+{
+    match at {
+        PairAt::ListB { entry } => {
+            let read = read_word(list, QualityWord::unpack(found));
+            read_b(entry.number() < 8, what, &in_order(a), &read)
+        }
+        _ => *list,
+    }
+}
+
+// List B, once its last word is read: a delegation keeps the merged list.
+#[inline]
+fn read_b(more: bool, what: PairWork, a: &Qualities, read: &Option<Qualities>) -> Option<Qualities>
+    ensures { result ≡ read_b more what a.now read.now }
+{
+    if more {
+        *read
+    } else {
+        whole_b(what, a, &in_order(read))
+    }
+}
+
+// The list that B is given, or keeps.
+#[inline]
+fn whole_b(what: PairWork, a: &Qualities, b: &Qualities) -> Option<Qualities>
+    ensures { result ≡ whole_b what a.now b.now }
+{
+    match what {
+        PairWork::Transfer(_) => Some(*b),
+        PairWork::Delegate(_) => merge_of(a, b),
+        PairWork::Test => Some(*b),
+    }
+}
+
+// Head A is given back as it was.
+#[inline]
+fn giving_back() -> PairAt
+    ensures { result ≡ giving_back }
+{
+    PairAt::StoreA {
+        moved: false,
+        value: Value::Nothing,
+    }
+}
+
+// Lists that differ are refused where head B is still the same.
+#[inline]
+fn by_alike(same: bool) -> PairAt
+    ensures { result ≡ by_alike same }
+{
+    if same {
+        PairAt::CompareB
+    } else {
+        PairAt::AgainB {
+            reply: Reply::Unlike,
+        }
+    }
+}
+
+// A merged list with no room is refused where head B is still the same.
+#[inline]
+fn by_room(list: &Option<Qualities>) -> PairAt
+    ensures { result ≡ by_room list.now }
+{
+    match list {
+        None => PairAt::AgainB {
+            reply: Reply::TooMany,
+        },
+        Some(_) => PairAt::CompareB,
+    }
+}
+
+// A test tells whether A preempts B where head B is still the same.
+#[inline]
+fn by_preempting(preempts: bool) -> PairAt
+    ensures { result ≡ by_preempting preempts }
+{
+    let value = if preempts {
+        Value::Preempts
+    } else {
+        Value::Stays
+    };
+    PairAt::AgainB {
+        reply: Reply::Ok(value),
+    }
+}
+
+// Where the call stands after the load of head A.
+#[inline]
+fn after_load_a(shown: &Option<HeadWord>) -> PairAt
+    ensures { result ≡ at_by_head PairAt.MarkA PairAt.LoadA shown.now }
+{
+    match shown {
+        Some(
+            HeadWord {
+                budget: _,
+                mark: None,
+                version: _,
+            },
+        ) => PairAt::MarkA,
+        _ => PairAt::LoadA,
+    }
+}
+
+// Where the call stands after the load of head B.
+#[inline]
+fn after_load_b(shown: &Option<HeadWord>) -> PairAt
+    ensures { result ≡ at_by_head (PairAt.ListB 1) giving_back shown.now }
+{
+    match shown {
+        Some(
+            HeadWord {
+                budget: _,
+                mark: None,
+                version: _,
+            },
+        ) => PairAt::ListB {
+            entry: EntryNo::new(1),
+        },
+        _ => giving_back(),
+    }
+}
+
+// Where the call stands after the compare that marks head A.
+#[inline]
+fn at_marked(same: bool, short: bool) -> PairAt
+    ensures { result ≡ at_marked same short }
+{
+    if !same {
+        PairAt::MarkA
+    } else if short {
+        giving_back()
+    } else {
+        PairAt::ListA {
+            entry: EntryNo::new(1),
+        }
+    }
+}
+
+// Where the call stands after the load of a word of a list.
+#[inline]
+fn at_read(shown: &Option<QualityWord>, next: PairAt) -> PairAt
+    ensures { result ≡ at_read shown.now next }
+{
+    match shown {
+        None => giving_back(),
+        Some(_) => next,
+    }
+}
+
+// After the load of a word of list A the next one is loaded, and behind the last head B.
+#[inline]
+fn next_of_a(entry: EntryNo) -> PairAt
+    requires { entry ≤ 8 }
+    ensures { result ≡ a_next (nat_lt entry 8) entry }
+{
+    if entry.number() < 8 {
+        PairAt::ListA {
+            entry: EntryNo::new(entry.number() + 1),
+        }
+    } else {
+        PairAt::LoadB
+    }
+}
+
+// After the store of a word of list B the next one is stored, and behind the last head B.
+#[inline]
+fn next_store(entry: EntryNo) -> PairAt
+    requires { entry ≤ 8 }
+    ensures { result ≡ store_next (nat_lt entry 8) entry }
+{
+    if entry.number() < 8 {
+        PairAt::StoreList {
+            entry: EntryNo::new(entry.number() + 1),
+        }
+    } else {
+        PairAt::StoreB
+    }
+}
+
+// Where the call stands after the compare of head B.
+#[inline]
+fn after_compare(same: bool, what: PairWork) -> PairAt
+    ensures { result ≡ compared_after same what }
+{
+    if same {
+        at_decided(what)
+    } else {
+        giving_back()
+    }
+}
+
+// Where the call stands once it is decided at the compare of head B.
+#[inline]
+fn at_decided(what: PairWork) -> PairAt
+    ensures { result ≡ at_decided what }
+{
+    match what {
+        PairWork::Transfer(_) => PairAt::StoreA {
+            moved: true,
+            value: Value::Nothing,
+        },
+        PairWork::Delegate(_) => PairAt::StoreList {
+            entry: EntryNo::new(1),
+        },
+        PairWork::Test => giving_back(),
+    }
+}
+
+// The value of a reply that is decided where head B is still the same.
+#[inline]
+fn again_value(same: bool, reply: &Reply) -> Value
+    ensures { result ≡ again_value same reply.now }
+{
+    if same {
+        value_of(reply)
+    } else {
+        Value::Nothing
+    }
+}
+
+// The value of a reply.
+#[inline]
+fn value_of(reply: &Reply) -> Value
+    ensures { result ≡ value_of reply.now }
+{
+    match reply {
+        Reply::Ok(value) => *value,
+        _ => Value::Nothing,
+    }
+}
+
+// What the compare that marks head A leads to: a budget that is too small is told there.
+#[inline]
+fn marked_end(same: bool, short: bool, budget: u32) -> StageEnd<Value>
+    ensures { result ≡ marked_end same short budget }
+{
+    if !same {
+        StageEnd::Refuse(Reply::Raced)
+    } else if short {
+        StageEnd::Decided(Reply::Short(budget))
+    } else {
+        StageEnd::Going
+    }
+}
+
+// What the load of head B leads to.
+#[inline]
+fn b_end(shown: &Option<HeadWord>) -> StageEnd<Value>
+    ensures { result ≡ b_end shown.now }
+{
+    match shown {
+        None => StageEnd::Decided(Reply::Raced),
+        Some(head) => decided_by_mark(head.mark),
+    }
+}
+
+// What a head B leads to that has this mark.
+#[inline]
+fn decided_by_mark(mark: Option<CoreNo>) -> StageEnd<Value>
+    ensures { result ≡ decided_by_mark mark }
+{
+    match mark {
+        None => StageEnd::Going,
+        Some(by) => StageEnd::Decided(Reply::Busy(by)),
+    }
+}
+
+// What the load of a word of a list leads to.
+#[inline]
+fn list_end(shown: &Option<QualityWord>) -> StageEnd<Value>
+    ensures { result ≡ list_end shown.now }
+{
+    match shown {
+        None => StageEnd::Decided(Reply::Raced),
+        Some(_) => StageEnd::Going,
+    }
+}
+
+// What the deciding step leads to, where head B is still the same or not.
+#[inline]
+fn again_end(same: bool, reply: &Reply) -> StageEnd<Value>
+    ensures { result ≡ again_end same reply.now }
+{
+    if same {
+        StageEnd::Decided(*reply)
+    } else {
+        StageEnd::Decided(Reply::Raced)
+    }
+}
+
+#[cfg(test)]
+mod tests {
+    use super::*;
+
+    // Heads with the budget 100 and the version 1, also with core 0's mark; with 7 ticks less and 7 more, and the version
+    // 2. Words of lists with the pairs (0, 1), (0, 2) and (1, 5).
+    const HEAD: u64 = 0x10_0000_0064;
+
+    const MARKED: u64 = 0x11_0000_0064;
+
+    const LESS: u64 = 0x20_0000_005d;
+
+    const MORE: u64 = 0x20_0000_006b;
+
+    const GOOD: u64 = 1;
+
+    const WORSE: u64 = 2;
+
+    const OTHER: u64 = 0x100_0005;
+
+    // Takes a list whose first word is this, and whose other words have no pair.
+    fn take_list(pair: &mut Pair, layout: &Layout, first: u64)
+        requires { PairFits layout.now pair.old }
+        ensures { PairFits layout.now pair.new }
+    {
+        pair.take(layout, first);
+        pair.take(layout, 0);
+        pair.take(layout, 0);
+        pair.take(layout, 0);
+        pair.take(layout, 0);
+        pair.take(layout, 0);
+        pair.take(layout, 0);
+        pair.take(layout, 0);
+    }
+
+    // A call of core 0 on the frames 6 and 7, up to the deciding step; their first words are at 384 and 448.
+    fn read(what: PairWork, layout: &Layout, a: u64, b: u64) -> Pair
+        requires { 7 < layout.now.frames }
+        ensures { PairFits layout.now result }
+    {
+        let mut pair = Pair::new(FrameNo::new(6), FrameNo::new(7), what, CoreNo::new(0));
+        pair.take(layout, HEAD);
+        pair.take(layout, HEAD);
+        take_list(&mut pair, layout, a);
+        pair.take(layout, HEAD);
+        take_list(&mut pair, layout, b);
+        pair
+    }
+
+    #[test]
+    fn moves_ticks_between_equal_lists(rt: HostRuntime) {
+        if let Some(layout) = Layout::new(1, 8) {
+            let mut pair = read(PairWork::Transfer(7), &layout, GOOD, GOOD);
+            let compare = WordOp::Compare {
+                at: 448,
+                expected: HEAD,
+                word: MORE,
+            };
+            assert_eq!(rt; pair.next(&layout), compare);
+            let mut lost = pair;
+            assert_eq!(rt; lost.take(&layout, MORE), StageEnd::Decided(Reply::Raced));
+            let back = WordOp::Store {
+                at: 384,
+                word: HEAD,
+            };
+            assert_eq!(rt; lost.next(&layout), back);
+            let ok = StageEnd::Decided(Reply::Ok(Value::Nothing));
+            assert_eq!(rt; pair.take(&layout, HEAD), ok);
+            let less = WordOp::Store {
+                at: 384,
+                word: LESS,
+            };
+            assert_eq!(rt; pair.next(&layout), less);
+            assert_eq!(rt; pair.take(&layout, LESS), StageEnd::Done(Value::Nothing));
+        }
+    }
+
+    #[test]
+    fn delegates_the_merged_list(rt: HostRuntime) {
+        if let Some(layout) = Layout::new(1, 8) {
+            let mut pair = read(PairWork::Delegate(7), &layout, GOOD, OTHER);
+            let compare = WordOp::Compare {
+                at: 448,
+                expected: HEAD,
+                word: MARKED,
+            };
+            assert_eq!(rt; pair.next(&layout), compare);
+            let ok = StageEnd::Decided(Reply::Ok(Value::Nothing));
+            assert_eq!(rt; pair.take(&layout, HEAD), ok);
+            let first = WordOp::Store {
+                at: 449,
+                word: GOOD,
+            };
+            assert_eq!(rt; pair.next(&layout), first);
+            assert_eq!(rt; pair.take(&layout, GOOD), StageEnd::Going);
+            let second = WordOp::Store {
+                at: 450,
+                word: OTHER,
+            };
+            assert_eq!(rt; pair.next(&layout), second);
+        }
+    }
+
+    #[test]
+    fn tells_whether_a_preempts_b(rt: HostRuntime) {
+        if let Some(layout) = Layout::new(1, 8) {
+            let mut pair = read(PairWork::Test, &layout, GOOD, WORSE);
+            assert_eq!(rt; pair.next(&layout), WordOp::Load { at: 448 });
+            let preempts = StageEnd::Decided(Reply::Ok(Value::Preempts));
+            assert_eq!(rt; pair.take(&layout, HEAD), preempts);
+            assert_eq!(rt; pair.take(&layout, HEAD), StageEnd::Done(Value::Preempts));
+        }
+    }
+
+    #[test]
+    fn refuses_and_gives_head_a_back(rt: HostRuntime) {
+        if let Some(layout) = Layout::new(1, 8) {
+            let mut unlike = read(PairWork::Transfer(7), &layout, GOOD, WORSE);
+            assert_eq!(rt;
+                unlike.take(&layout, HEAD),
+                StageEnd::Decided(Reply::Unlike)
+            );
+            let work = PairWork::Transfer(101);
+            let mut short = Pair::new(FrameNo::new(6), FrameNo::new(7), work, CoreNo::new(0));
+            assert_eq!(rt; short.next(&layout), WordOp::Load { at: 384 });
+            assert_eq!(rt; short.take(&layout, HEAD), StageEnd::Going);
+            let mark = WordOp::Compare {
+                at: 384,
+                expected: HEAD,
+                word: MARKED,
+            };
+            assert_eq!(rt; short.next(&layout), mark);
+            assert_eq!(rt;
+                short.take(&layout, HEAD),
+                StageEnd::Decided(Reply::Short(100))
+            );
+            let back = WordOp::Store {
+                at: 384,
+                word: HEAD,
+            };
+            assert_eq!(rt; short.next(&layout), back);
+            assert_eq!(rt; short.take(&layout, HEAD), StageEnd::Done(Value::Nothing));
+        }
+    }
+}
