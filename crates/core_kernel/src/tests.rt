@@ -136,11 +136,7 @@ fn a_shut_gate_stops_a_run(rt: HostRuntime) -> Result<(), Memory> {
 }
 
 // The first core copies and tells the second one, which looks at the copy. It answers both replies.
-fn copied_and_seen(
-    kernel: &Kernel,
-    first: &mut CoreSeat,
-    second: &mut CoreSeat,
-) -> (Reply, Reply)
+fn copied_and_seen(kernel: &Kernel, first: &mut CoreSeat, second: &mut CoreSeat) -> (Reply, Reply)
     requires first { first.old.kernel ≡ kernel.now }
     requires second { second.old.kernel ≡ kernel.now }
 {
