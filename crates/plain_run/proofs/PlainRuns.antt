@@ -8,7 +8,11 @@ use Rattle.spk_nums.specs.declared.calls.Call.{Call}
 use Rattle.spk_nums.specs.declared.replies.Reply.{Reply}
 use Rattle.kernel_rules.specs.State.{Limits, State}
 use Rattle.kernel_rules.specs.Alone.{plain_reply, plain_step, plain_steps}
-use Rattle.kernel_rules.proofs.SoundRuns.{limits_stay}
+use Rattle.spk_nums.specs.declared.kinds.Kind.TheVariants as kind
+use Rattle.kernel_rules.specs.Runs.{after}
+use Rattle.kernel_rules.proofs.SoundRuns.{opened, limits_stay, runs_sound}
+use Rattle.same_changes.proofs.Reaching.{fit_below}
+use Rattle.plain_tables.specs.Within.{ThreadsWithin}
 use Rattle.kernel_history.specs.Tables.{lines_below, tables_of}
 use Rattle.kernel_rules.specs.Start.{start}
 use Rattle.seq_state.specs.Representation.{Represents}
@@ -135,14 +139,22 @@ runnable_at items lists n list below is runnable =
 pub started : (setting : Setting) (k : Maps) → Represents k (start setting) → IsReached setting k (start setting)
 started setting k e = record { events = []; runs = tt; quiet = λ c. refl; state = refl; represents = e }
 
+-- In a state that the kernel has reached, the current thread of each core is in a frame of the machine.
+pub threads_within : (setting : Setting) → IsSetting setting → (k : Maps) (s : State) → IsReached setting k s → ThreadsWithin s
+threads_within setting lim k s r =
+    let sound = runs_sound setting lim r.events r.runs in
+    subst ThreadsWithin r.state (λ c below. fit_below (after setting r.events) (opened r.events) kind.Thread
+    ((after setting r.events).core c).thread sound refl (sound.cores c below).0)
+
 -- The whole text: the lines of all lists, and then the tables of the last state.
-pub whole_text : (setting : Setting) (k k' : Maps) (calls : ℕ → List Call) (text now tables all : List ℕ)
+pub whole_text : (setting : Setting) (k k' : Maps) (calls : ℕ → List Call) (text now tables all : List ℕ) → IsSetting setting
     → IsReached setting k (start setting)
-    → text ≡ [] → RunsLists setting k k' calls setting.cores text now → ((s : State) → Represents k' s → tables ≡ tables_of s)
-    → all ≡ now ++ tables
+    → text ≡ [] → RunsLists setting k k' calls setting.cores text now
+    → ((s : State) → ThreadsWithin s → Represents k' s → tables ≡ tables_of s) → all ≡ now ++ tables
     → all ≡ plain_text setting calls
-whole_text setting k k' calls text now tables all start_reached none runs shown is =
+whole_text setting k k' calls text now tables all lim start_reached none runs shown is =
     let ran = runs (start setting) start_reached in
+    let last = plain_state calls setting.cores (start setting) in
     let line = λ (c : ℕ). plain_lines (plain_state calls c (start setting)) c 1 (calls c) in
     is ∙ ap (λ x. x ++ tables) (ran.written ∙ ap (λ x. x ++ lines_below line setting.cores) none)
-    ∙ ap (λ x. lines_below line setting.cores ++ x) (shown (plain_state calls setting.cores (start setting)) ran.reached.represents)
+    ∙ ap (λ x. lines_below line setting.cores ++ x) (shown last (threads_within setting lim k' last ran.reached) ran.reached.represents)

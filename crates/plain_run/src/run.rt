@@ -7,6 +7,7 @@ ghost use Rattle.kernel_history.specs.Text.{plain_text};
 ghost use Rattle.plain_run.specs.Plain.{HasReached, RunsCall, RunsList, RunsLists};
 
 use plain_kernel::{SeqKernel, plain_step};
+use plain_tables::tables;
 use spk_nums::{Call, CoreNo, Memory, Reply, ReplyLine, Setup};
 use std::alloc::{AllocError, Global};
 
@@ -102,10 +103,13 @@ pub fn plain(alloc: Global, setup: &Setup, lists: &[Vec<Call>]) -> Result<String
     requires can_run { AreRunnable (map (λ v. v.items) lists.now) }
     ensures { IfOk result (λ text. string_bytes text ≡ plain_text setup.now (list_of (map (λ v. v.items) lists.now))) }
 {
+    let _limits = setup.cores();
     let mut kernel = SeqKernel::start(alloc, setup)?;
     let mut text = String::new(alloc);
     run_lists(alloc, setup, &mut kernel, lists, &mut text)?;
-    Err(Memory)
+    let tables = tables(alloc, &kernel)?;
+    text.push_str(&tables)?;
+    Ok(text)
 }
 
 ghost use Rattle.plain_run.specs.Plain.{AreRunnable};

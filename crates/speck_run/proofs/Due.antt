@@ -7,7 +7,7 @@ use Rattle.script_tokens.specs.Words.{words_of}
 use Rattle.script_reader.specs.Readings.{Row, Meaning, First_fault, rows_of, script_of}
 use Rattle.script_reader.specs.Unbuilt.{IsFirstUnbuiltOf}
 use Rattle.speck_run.specs.declared.words.Command.{Command}
-use Rattle.speck_run.specs.declared.words.Command.TheVariants.{Replay, Run, Print}
+use Rattle.speck_run.specs.declared.words.Command.TheVariants.{Replay, Run, Plain, Print}
 use Rattle.speck_run.specs.declared.top.Status.{Status}
 use Rattle.speck_run.specs.declared.top.Status.TheVariants.{Done, Words, Script, ReadFault, WriteFault, Memory, TooLong, NotBuilt, Stopped}
 use Rattle.speck_run.specs.Ends.{GivesAll}
@@ -33,12 +33,13 @@ is_word : List (List ℕ) → List ℕ → Bool
 is_word texts word = pointwise (λ x y. pointwise eqb x y) texts (word ∷ [])
 
 told : List (List ℕ) → Option Command
-told texts = if is_word texts (codes "replay") then Some Replay else if is_word texts (codes "run") then Some Run else if is_word texts (codes "print") then Some Print else None
+told texts = if is_word texts (codes "replay") then Some Replay else if is_word texts (codes "run") then Some Run else if is_word texts (codes "plain") then Some Plain else if is_word texts (codes "print") then Some Print else None
 
 asks_told : (words : CommandLine) (command : Command) → Asks words command → told (texts_of words) ≡ Some command
 unfolding told is_word
 asks_told words Replay p = ap told p
 asks_told words Run p = ap told p
+asks_told words Plain p = ap told p
 asks_told words Print p = ap told p
 
 some_same : (a b : Command) → Some a ≡ Some b → a ≡ b

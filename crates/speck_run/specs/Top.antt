@@ -10,7 +10,7 @@ use Rattle.script_reader.specs.declared.cause.Cause.{Cause}
 use Rattle.script_reader.specs.Causes.{cause_text}
 use Rattle.script_reader.specs.Readings.{Meaning}
 use Rattle.speck_run.specs.declared.words.Command.{Command}
-use Rattle.speck_run.specs.declared.words.Command.TheVariants.{Replay, Run, Print}
+use Rattle.speck_run.specs.declared.words.Command.TheVariants.{Replay, Run, Plain, Print}
 use Rattle.speck_run.specs.declared.top.Status.{Status}
 use Rattle.speck_run.specs.declared.top.Status.TheVariants.{Done, Words, Script, ReadFault, WriteFault, Memory, TooLong, NotBuilt, Stopped}
 use Rattle.speck_run.specs.Ends.{Gives, GivesAll, AddsFront}
@@ -27,6 +27,7 @@ texts_of words = map (λ word. string_bytes word) words.items
 abbrev pub Asks : CommandLine → Command → Type 0
 Asks words Replay = texts_of words ≡ codes "replay" ∷ []
 Asks words Run = texts_of words ≡ codes "run" ∷ []
+Asks words Plain = texts_of words ≡ codes "plain" ∷ []
 Asks words Print = texts_of words ≡ codes "print" ∷ []
 
 -- The words ask for some command.

@@ -2,6 +2,8 @@
 
 ghost use Rattle.std.specs.Prelude.{◌≡◌, ℕ, ◌<◌, ◌≤◌, ◌⊎◌, ◌↔◌, true, IsTrue, IfOk, map, length, string_bytes};
 ghost use Rattle.byte_ends.specs.Ends.{HasRisen, Adds};
+ghost use Rattle.kernel_history.specs.Order.{list_of};
+ghost use Rattle.kernel_history.specs.Text.{plain_text};
 ghost use Rattle.core_kernel.specs.TakenSteps.{TakenSteps};
 ghost use Rattle.lone_kernel.specs.GivenSteps.{GivenSteps};
 ghost use Rattle.lone_kernel.specs.Machine.{AreLists};
@@ -17,6 +19,7 @@ use crate::runs::run_lists;
 use crate::words::{Command, command_of};
 use byte_ends::{Sink, Source};
 use core_kernel::Gate;
+use plain_run::plain;
 use script_printer::print;
 use script_reader::{Cause, ReadFault, Script, first_unbuilt, read};
 use spk_nums::Memory;
@@ -105,6 +108,17 @@ fn leave(alloc: Global, line: u32) -> Result<Answer, Memory>
     })
 }
 
+// The answer to an input of which a command makes this text.
+fn made(text: String) -> Answer
+    ensures status { result.status ≡ Status.Done }
+    ensures text { string_bytes result.text ≡ string_bytes text }
+{
+    Answer {
+        status: Status::Done,
+        text,
+    }
+}
+
 // What is due for a script whose lists are made: its text, or nothing where the gate has stopped a core.
 fn answer_run<R: Threads + Sync, G: Gate>(
     rt: &R,
@@ -126,7 +140,8 @@ fn answer_run<R: Threads + Sync, G: Gate>(
     }
 }
 
-// What is due for an input that was read to its end. A script is printed whatever its lines say.
+// What is due for an input that was read to its end. A script is printed, and its calls are made
+// alone, whatever its lines say.
 fn judge_input<R: Threads + Sync, G: Gate>(
     rt: &R,
     alloc: Global,
@@ -145,10 +160,11 @@ fn judge_input<R: Threads + Sync, G: Gate>(
     };
     if matches!(command, Command::Print) {
         let text = print(alloc, &script)?;
-        return Ok(Answer {
-            status: Status::Done,
-            text,
-        });
+        return Ok(made(text));
+    }
+    if matches!(command, Command::Plain) {
+        let text = plain(alloc, &script.setup, &script.lists)?;
+        return Ok(made(text));
     }
     if let Some(line) = first_unbuilt(&script.tokens) {
         return leave(alloc, line);
@@ -163,10 +179,7 @@ fn judge_input<R: Threads + Sync, G: Gate>(
         ..
     } = script;
     let text = replay(alloc, &setup, lists, &order)?;
-    Ok(Answer {
-        status: Status::Done,
-        text,
-    })
+    Ok(made(text))
 }
 
 // What is due: words are judged first, then reading, then the script.
@@ -214,18 +227,20 @@ fn finish<K: Sink>(sink: &mut K, answer: &Answer) -> Status
 /// Does all that the program does: judges the words, reads the source, takes the script and writes
 /// the sink.
 ///
-/// Words other than `replay`, `run` or `print` alone are `Words`, and nothing is read. A source that
-/// fails is `ReadFault`, and one that gives a byte past 1,048,576 is `TooLong`; no more than that
-/// byte is taken. An input that is no script is `Script`, with its first fault. Under `replay` and
-/// `run` a script that has a call that is not built is `NotBuilt`, at the line of the first such
-/// call; else the script's steps are taken and their text is written, the reply lines and the
-/// tables, and the status is `Done`. `run` makes each core's calls in a thread of its own where one
-/// can be made, and asks the gate before each call: where the gate stops a core, which a free one
-/// never does, the status is `Stopped` and nothing is written.
-/// Under `print` each script is written in its printed form, and the status is `Done`.
-/// Each of the other statuses writes its line in place of the text. A sink that fails is
-/// `WriteFault`, and holds a prefix of what was due. `Memory` may come in place of any status, and
-/// has written nothing. No read and no write that failed is tried again.
+/// Words other than `replay`, `run`, `plain` or `print` alone are `Words`, and nothing is read. A
+/// source that fails is `ReadFault`, and one that gives a byte past 1,048,576 is `TooLong`; no more
+/// than that byte is taken. An input that is no script is `Script`, with its first fault. Under
+/// `replay` and `run` a script that has a call that is not built is `NotBuilt`, at the line of the
+/// first such call; else the script's steps are taken and their text is written, the reply lines
+/// and the tables, and the status is `Done`. `run` makes each core's calls in a thread of its own
+/// where one can be made, and asks the gate before each call: where the gate stops a core, which a
+/// free one never does, the status is `Stopped` and nothing is written. Under `plain` the calls of
+/// each script are made alone, core 0's first, whatever its order says; their text is written, the
+/// reply lines and the tables, and the status is `Done`. Under `print` each script is written in
+/// its printed form, and the status is `Done`. Each of the other statuses writes its line in place
+/// of the text. A sink that fails is `WriteFault`, and holds a prefix of what was due. `Memory` may
+/// come in place of any status, and has written nothing. No read and no write that failed is tried
+/// again.
 pub fn speck<R: Threads + Sync, G: Gate, S: Source, K: Sink>(
     rt: &R,
     alloc: Global,
@@ -240,6 +255,9 @@ pub fn speck<R: Threads + Sync, G: Gate, S: Source, K: Sink>(
         (S.left source.old) (S.left source.new) (K.held sink.old) (K.held sink.new) }
     ensures run { Asks words.now commands.Run → result ≡ Status.Done
         → CarriesOut commands.Run (λ script text. TakenSteps script.setup script.lists text)
+        (S.left source.old) (S.left source.new) (K.held sink.old) (K.held sink.new) }
+    ensures plain { Asks words.now commands.Plain → result ≡ Status.Done
+        → CarriesOut commands.Plain (λ script text. text ≡ plain_text script.setup (list_of script.lists))
         (S.left source.old) (S.left source.new) (K.held sink.old) (K.held sink.new) }
     ensures print { Asks words.now commands.Print → result ≡ Status.Done
         → CarriesOut commands.Print (λ script text. text ≡ printed script)

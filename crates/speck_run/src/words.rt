@@ -10,6 +10,8 @@ pub enum Command {
     Replay,
     /// Makes the lists of a script, each core in a thread of its own, and writes what they did.
     Run,
+    /// Makes the calls of a script alone, core 0's first, and writes what they did.
+    Plain,
     /// Writes a script in its printed form.
     Print,
 }
@@ -33,6 +35,9 @@ pub fn command_of(words: &Vec<String>) -> Option<Command>
     }
     if is_alone(words, "run") {
         return Some(Command::Run);
+    }
+    if is_alone(words, "plain") {
+        return Some(Command::Plain);
     }
     if is_alone(words, "print") {
         return Some(Command::Print);

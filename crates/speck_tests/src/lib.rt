@@ -4,6 +4,8 @@
 #[cfg(test)]
 mod numbers;
 #[cfg(test)]
+mod plains;
+#[cfg(test)]
 mod replays;
 #[cfg(test)]
 mod runs;

@@ -26,3 +26,10 @@ answer_run-requires-clause-can_run g c κs bounds =
     let few = c.in-Ok.ensures.words in
     let small = c.requires in
     accepted (length c.in-Ok.script.tokens.items) bytes (script_view c.in-Ok.script) c.in-Ok.ensures.value first c.in-Ok.ensures.script.limits c.in-Ok.ensures.calls (omega arith)
+
+pub plain-requires-clause-can_run : goal.plain-requires-clause-can_run
+plain-requires-clause-can_run g c = λ k d below.
+    let few = c.in-Ok.ensures.calls k d below in
+    let words = c.in-Ok.ensures.words in
+    let small = c.requires in
+    (c.in-Ok.ensures.script.limits k d below, omega arith)

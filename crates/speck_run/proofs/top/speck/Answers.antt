@@ -33,6 +33,13 @@ returns-in-Ok-clause-stopped g c stopped =
       | inr p ↦ let wrong = sym p.0 ∙ stopped in cc
     ]
 
+pub returns-in-Ok-clause-plain : goal.returns-in-Ok-clause-plain
+returns-in-Ok-clause-plain g c asks done =
+    elim c.finish.ensures [
+      | inl p ↦ carried_out c.args.words.now commands.Plain asks (g.S.Source.left c.args.source.now) _ _ _ c.in-Ok.answer.status _ _ _ c.in-Ok.ensures.due (sym p.0 ∙ done) p.2
+      | inr p ↦ let wrong = sym p.0 ∙ done in cc
+    ]
+
 pub returns-in-Ok-clause-print : goal.returns-in-Ok-clause-print
 returns-in-Ok-clause-print g c asks done =
     elim c.finish.ensures [
