@@ -4,7 +4,7 @@ use Rattle.word_map.specs.Places.{Shape}
 use Rattle.kernel_history.specs.FinalWords.{Represent, word_in, end_in}
 use Rattle.kernel_history.specs.Tables.{tables_of}
 use Rattle.kernel_history.specs.Trace.{state_after}
-use Rattle.flight.proofs.Sounds.{limits_of}
+use Rattle.core_invariant.proofs.Sounds.{limits_of}
 use Rattle.core_kernel.specs.Whole.{IsList, AreMade}
 use Rattle.speck_run.specs.Written.{lines_of}
 use Rattle.speck_run.proofs.ByCores.{taken, lists_fit}
