@@ -381,13 +381,9 @@ fn a_server_is_booted_and_called(rt: HostRuntime) -> Result<(), Fail> {
         ("switch 4 12", "ok"),
         ("look 24", "ok comp 16"),
     ];
-    let mut others = Vec::new(rt.alloc());
-    others.push(("look 0", "ok range 12 116"))?;
-    for _ in 0..40 {
-        others.push(("tick 10", "ok 10"))?;
-    }
-    others.push(("touch 0", "fault"))?;
-    let others = others.as_slice();
+    let mut others = [("tick 10", "ok 10"); 42];
+    others[0] = ("look 0", "ok range 12 116");
+    others[41] = ("touch 0", "fault");
     let pieces = &[
         "frame 3 comp refs 6\n",
         "frame 4 thread refs 3\n",
@@ -408,7 +404,7 @@ fn a_server_is_booted_and_called(rt: HostRuntime) -> Result<(), Fail> {
             &rt,
             rt.alloc(),
             head,
-            &[boot, others, others, others],
+            &[boot, &others, &others, &others],
             pieces,
             "total 4000\n"
         )?
