@@ -1,5 +1,14 @@
 -- When a call is decided, and what a step of it may decide.
-use Rattle.std.proofs.Common.{◌≡◌, ℕ, ◌+◌, ◌==◌, ◌&&◌, Bool, true, false, List, [], ◌∷◌, length, Option, Some, None, refl, sym, ◌∙◌, ap, subst, arith, eqb-true}
+use Rattle.stage_quiet.specs.declared.close.Close.{Close}
+use Rattle.stage_quiet.specs.declared.close.Close.TheVariants.{AtCompare, AtDraw, AtStore}
+use Rattle.stage_quiet.specs.declared.quiet.Quiet.{Quiet}
+use Rattle.stage_quiet.specs.Removal.{close_compared, close_end, close_after}
+use Rattle.stage_quiet.specs.Scan.{quiet_after, quiet_end}
+use Rattle.stage_pins.specs.declared.pin.Pin.{Pin}
+use Rattle.stage_pins.specs.declared.pin.Pinned.{Pinned}
+use Rattle.stage_pins.specs.declared.held.Acquired.{Acquired}
+use Rattle.stage_pins.specs.Acquire.{pin_after, pin_end}
+use Rattle.std.proofs.Common.{◌≡◌, ℕ, ℤ, ◌+◌, ◌==◌, ◌&&◌, Bool, true, false, List, [], ◌∷◌, length, Option, Some, None, refl, sym, ◌∙◌, ap, subst, arith, eqb-true}
 use Rattle.call_plans.specs.Plans.{pushed}
 use Rattle.spk_nums.specs.Capability.{Capability}
 use Rattle.spk_nums.specs.declared.kinds.FrameKind.{FrameKind}
@@ -7,7 +16,7 @@ use Rattle.spk_nums.specs.declared.kinds.FrameKind.TheVariants.{Untyped, User, K
 use Rattle.spk_nums.specs.declared.calls.Make.{Make}
 use Rattle.spk_nums.specs.declared.calls.Make.TheVariants as make
 use Rattle.spk_nums.specs.declared.calls.Call.{Call}
-use Rattle.spk_nums.specs.declared.calls.Call.TheVariants.{Look as look_call, Copy, Retype, Make as make_call}
+use Rattle.spk_nums.specs.declared.calls.Call.TheVariants.{Look as look_call, Copy, Remove, Shrink, Unmap, Retype, Make as make_call}
 use Rattle.spk_nums.specs.declared.replies.Reply.{Reply}
 use Rattle.spk_nums.specs.declared.replies.Reply.TheVariants as reply
 use Rattle.entry_words.specs.declared.entry.Entry.{Entry}
@@ -32,24 +41,24 @@ use Rattle.call_steps.specs.declared.own.Own.{Own}
 use Rattle.call_steps.specs.declared.lookups.Met.{Met}
 use Rattle.call_steps.specs.declared.lookups.Met.TheVariants.{Finds, Refused}
 use Rattle.call_steps.specs.declared.stages.Act.{Act as ActType}
-use Rattle.call_steps.specs.declared.stages.Act.TheVariants.{Fill as fill_act}
+use Rattle.call_steps.specs.declared.stages.Act.TheVariants.{Fill as fill_act, Remove as remove_act}
 use Rattle.call_steps.specs.declared.stages.Work.{Work}
-use Rattle.call_steps.specs.declared.stages.Work.TheVariants.{Lookup, Act}
+use Rattle.call_steps.specs.declared.stages.Work.TheVariants.{Lookup, Scan, Acquire, Act}
 use Rattle.call_steps.specs.declared.stages.Stage.{Stage}
 use Rattle.call_steps.specs.declared.stages.Stage.TheVariants.{Enter, Undecided, Decided, Leave}
 use Rattle.call_steps.specs.declared.stages.Tail.{Tail}
-use Rattle.call_steps.specs.declared.stages.Tail.TheVariants.{Nothing}
+use Rattle.call_steps.specs.declared.stages.Tail.TheVariants.{Nothing, Quiesce}
 use Rattle.call_steps.specs.declared.stages.ActiveCall.{ActiveCall}
 use Rattle.call_steps.specs.declared.stages.WorkStep.{WorkStep}
-use Rattle.call_steps.specs.declared.stages.WorkStep.TheVariants.{Goes, Refuses as refuses_to, Answers}
+use Rattle.call_steps.specs.declared.stages.WorkStep.TheVariants.{Goes, Acquires, Refuses as refuses_to, Answers}
 use Rattle.call_steps.specs.Refusals.{reply_of, refusal_of}
 use Rattle.call_steps.specs.Fills.{filled_if}
-use Rattle.call_steps.specs.Acts.{took_act, act_ready, refuse, fills_with, act_begun}
+use Rattle.call_steps.specs.Acts.{took_close, is_draw, took_act, act_ready, refuse, fills_with, removes_held, removes_at, act_begun}
 use Rattle.call_steps.specs.Lookups.{looks_under, looks_entry, looks_at, next_step, met_free, met_held}
 use Rattle.call_steps.specs.Fits.{FoundFits, IsFirst, IsActive}
-use Rattle.call_steps.specs.Tails.{took_tail}
+use Rattle.call_steps.specs.Tails.{took_tail, tail_counts}
 use Rattle.call_plans.specs.After.{with_found, names_after, next_in, Next, NextName, NextFree, NextHeld, NextOwn, NextNothing, next_of}
-use Rattle.call_steps.specs.Steps.{GoesOn, landed, went, next_by, found_more, took_enter, named_one, took_found, took_end, took_look, took_work, took_at, is_last, decides_at_name, is_last_name, work_ready, ready_at}
+use Rattle.call_steps.specs.Steps.{GoesOn, landed, next_by, found_more, took_enter, named_one, took_found, took_end, took_look, took_scan, took_count, took_work, went_with, took_at, is_last, decides_at_name, is_last_name, work_ready, ready_at}
 use Rattle.call_steps.specs.Laws.{reply_at, Turns, DecidesOnce, Refuses, UnreadyRefuses, IsDecision, ReadyDecides, RefusalsAreReplies}
 
 -- a refusal and the reply that says it
@@ -73,41 +82,49 @@ refusals_are = record { refuses = refusal_refuses; back = refusal_back; same = r
 
 landed_turns : (a : ActiveCall) (step : WorkStep) → Turns None (landed a step)
 landed_turns a (Goes work) = refl
+landed_turns a (Acquires count work) = refl
 landed_turns a (refuses_to r tail) = (refl, refl)
-landed_turns a (Answers v tail) = (refl, refl)
+landed_turns a (Answers v drawn tail) = (refl, refl)
 
-named_turns : (table : ℕ) (a : ActiveCall) (met : Met) → Turns None (named_one table a met)
-named_turns table a (Finds k) = landed_turns (found_more a (pushed a.found k)) _
-named_turns table a (Refused r) = landed_turns a (refuse r)
+named_turns : (own : Own) (a : ActiveCall) (met : Met) → Turns None (named_one own a met)
+named_turns own a (Finds k) = landed_turns (found_more a (pushed a.found k)) _
+named_turns own a (Refused r) = landed_turns a (refuse r)
 
-found_turns : (table : ℕ) (a : ActiveCall) (next : Next) (f : Found) → Turns None (took_found table a next f)
-found_turns table a (NextName n wanted) f = named_turns table a _
-found_turns table a (NextFree target) f = landed_turns a _
-found_turns table a (NextHeld target) f = landed_turns a _
-found_turns table a (NextOwn v) f = landed_turns a (refuse refusal.Raced)
-found_turns table a NextNothing f = landed_turns a (refuse refusal.Raced)
+found_turns : (own : Own) (a : ActiveCall) (next : Next) (f : Found) → Turns None (took_found own a next f)
+found_turns own a (NextName n wanted) f = named_turns own a _
+found_turns own a (NextFree target) f = landed_turns a _
+found_turns own a (NextHeld target) f = landed_turns a _
+found_turns own a (NextOwn v) f = landed_turns a (refuse refusal.Raced)
+found_turns own a NextNothing f = landed_turns a (refuse refusal.Raced)
 
-end_turns : (table : ℕ) (a : ActiveCall) (look : Look) (end : StageEnd Found) → Turns None (took_end table a look end)
-end_turns table a look ends.Going = landed_turns a (Goes (Lookup look))
-end_turns table a look (ends.Decided r) = landed_turns a (refuse (refusal_of r))
-end_turns table a look (ends.Done f) = found_turns table a _ f
-end_turns table a look (ends.Refuse r) = landed_turns a (refuse (refusal_of r))
+end_turns : (own : Own) (a : ActiveCall) (look : Look) (end : StageEnd Found) → Turns None (took_end own a look end)
+end_turns own a look ends.Going = landed_turns a (Goes (Lookup look))
+end_turns own a look (ends.Decided r) = landed_turns a (refuse (refusal_of r))
+end_turns own a look (ends.Done f) = found_turns own a _ f
+end_turns own a look (ends.Refuse r) = landed_turns a (refuse (refusal_of r))
 
-enter_turns : (spent : Bool) (table : ℕ) (a : ActiveCall) → Turns None (took_enter spent table a)
-enter_turns true table a = landed_turns a (refuse refusal.CallsSpent)
-enter_turns false table a = landed_turns a (next_by table a)
+enter_turns : (spent : Bool) (own : Own) (a : ActiveCall) → Turns None (took_enter spent own a)
+enter_turns true own a = landed_turns a (refuse refusal.CallsSpent)
+enter_turns false own a = landed_turns a (next_by own a)
 
 work_turns : (own : Own) (a : ActiveCall) (work : Work) (found : ℕ) → Turns None (took_work own a work found)
-work_turns own a (Lookup look) found = end_turns own.table a _ _
+work_turns own a (Lookup look) found = end_turns own a _ _
+work_turns own a (Scan q act) found =
+    landed_turns a (took_scan own.core act (quiet_after own.layout.cores q found) (quiet_end own.layout.cores q found))
+work_turns own a (Acquire pin change act) found =
+    landed_turns a (took_count own.core (length a.counts) change act (pin_after pin found) (pin_end pin found))
 work_turns own a (Act act) found = landed_turns a (took_act act found)
 
-tail_turns : (a : ActiveCall) (r : Reply) (tail : Tail) (found : ℕ) → Turns (Some r) (GoesOn (went a (took_tail r tail found)))
-tail_turns a r Nothing found = refl
+tail_turns : (a : ActiveCall) (r : Reply) (drawn : Option ℕ) (tail : Tail) (counts : List Acquired) (found : ℕ)
+    → Turns (Some r) (GoesOn (went_with a (tail_counts tail counts) (took_tail r drawn tail counts found)))
+tail_turns a r drawn (Quiesce close) counts found = refl
+tail_turns a r drawn Nothing [] found = refl
+tail_turns a r drawn Nothing (x ∷ xs) found = refl
 
 stage_turns : (own : Own) (a : ActiveCall) (stage : Stage) (found : ℕ) → Turns (reply_at stage) (took_at own a stage found)
-stage_turns own a Enter found = enter_turns _ own.table a
+stage_turns own a Enter found = enter_turns _ own a
 stage_turns own a (Undecided work) found = work_turns own a work found
-stage_turns own a (Decided r tail) found = tail_turns a r tail found
+stage_turns own a (Decided r drawn tail) found = tail_turns a r drawn tail a.counts found
 stage_turns own a (Leave r stamp) found = refl
 
 pub decides_once : DecidesOnce
@@ -116,13 +133,15 @@ decides_once own a found = stage_turns own a a.stage found
 -- A step of the work that carries nothing out.
 abbrev NoAnswer : WorkStep → Type 0
 NoAnswer (Goes work) = Unit {0}
+NoAnswer (Acquires count work) = Unit {0}
 NoAnswer (refuses_to r tail) = Unit {0}
-NoAnswer (Answers v tail) = ⊥
+NoAnswer (Answers v drawn tail) = ⊥
 
 landed_refuses : (a : ActiveCall) (step : WorkStep) → NoAnswer step → Refuses (landed a step)
 landed_refuses a (Goes work) none = tt
+landed_refuses a (Acquires count work) none = tt
 landed_refuses a (refuses_to r tail) none = refusal_refuses r
-landed_refuses a (Answers v tail) none = absurd none
+landed_refuses a (Answers v drawn tail) none = absurd none
 
 under_no : (within : Bool) (top n : ℕ) → NoAnswer (looks_under within top n)
 under_no true top n = tt
@@ -137,15 +156,29 @@ target_no (Under table n) = under_no _ table.frame n
 target_no (InRoot table i) = entry_no _ table.frame i
 
 -- The act of a call that is not decided where its last name is found answers nothing when it begins.
-fill_no : (k : Option Capability) (target : Option Found) → NoAnswer (fills_with k target)
-fill_no None target = tt
-fill_no (Some k) None = tt
-fill_no (Some k) (Some f) = tt
+fill_no : (own : Own) (k : Option Capability) (target : Option Found) → NoAnswer (fills_with own k target)
+fill_no own None target = tt
+fill_no own (Some k) None = tt
+fill_no own (Some k) (Some f) = tt
 
-act_no : (call : Call) (found : List Capability) (target : Option Found) → decides_at_name (plan_for call).decides ≡ false → NoAnswer (act_begun call found target)
-act_no (look_call a) found target not = absurd (cc)
-act_no (Copy a t b) found target not = fill_no _ target
-act_no call found target not = tt
+held_no : (core : ℕ) (f : Found) (value : Entry) → NoAnswer (removes_held core f value)
+held_no core f entry.Free = tt
+held_no core f (entry.Held k) = tt
+held_no core f (entry.Closing by) = tt
+held_no core f (entry.Quiescing stamp) = tt
+
+remove_no : (core : ℕ) (target : Option Found) → NoAnswer (removes_at core target)
+remove_no core None = tt
+remove_no core (Some f) = held_no core f f.value
+
+act_no : (own : Own) (call : Call) (found : List Capability) (target : Option Found) → decides_at_name (plan_for call).decides ≡ false
+    → NoAnswer (act_begun own call found target)
+act_no own (look_call a) found target not = absurd (cc)
+act_no own (Copy a t b) found target not = fill_no own _ target
+act_no own (Remove t b) found target not = remove_no own.core target
+act_no own (Shrink t i) found target not = remove_no own.core target
+act_no own (Unmap p v) found target not = remove_no own.core target
+act_no own call found target not = tt
 
 -- A call that is decided where its last name is found has one name, and no target.
 record OneName (plan : Plan) : Type 0 where
@@ -165,7 +198,7 @@ make_one make.Pages r t b is = absurd (cc)
 make_one make.Pleaf r t b is = absurd (cc)
 make_one (make.Thread comp) r t b is = absurd (cc)
 make_one (make.Tcap sched quality) r t b is = absurd (cc)
-make_one (make.Comp table pages live) r t b is = absurd (cc)
+make_one (make.Comp own pages live) r t b is = absurd (cc)
 
 one_name : (call : Call) → decides_at_name (plan_for call).decides ≡ true → OneName (plan_for call)
 one_name (look_call a) is = record { name = any_cap a; names = refl; target = refl }
@@ -174,31 +207,33 @@ one_name (make_call what r f t b) is = make_one what r t b is
 one_name call is = absurd (cc)
 
 -- what comes next of a call answers nothing, where no call with its plan is decided where its last name is found
-next_no : (table : ℕ) (call : Call) (found : List Capability) (next : Next) → decides_at_name (plan_for call).decides ≡ false → NoAnswer (next_step table call found next)
-next_no table call found (NextName n wanted) not = under_no _ table n
-next_no table call found (NextFree target) not = target_no target
-next_no table call found (NextHeld target) not = target_no target
-next_no table call found (NextOwn v) not = tt
-next_no table call found NextNothing not = act_no call found None not
+next_no : (own : Own) (call : Call) (found : List Capability) (next : Next) → decides_at_name (plan_for call).decides ≡ false
+    → NoAnswer (next_step own call found next)
+next_no own call found (NextName n wanted) not = under_no _ own.table n
+next_no own call found (NextFree target) not = target_no target
+next_no own call found (NextHeld target) not = target_no target
+next_no own call found (NextOwn v) not = tt
+next_no own call found NextNothing not = act_no own call found None not
 
-module _ (table : ℕ) (a : ActiveCall) (not : decides_at_name (plan_for a.call).decides ≡ false) where
-  met_refuses : (met : Met) → Refuses (named_one table a met)
-  met_refuses (Finds k) = landed_refuses (found_more a (pushed a.found k)) _ (next_no table a.call (pushed a.found k) (next_of a.plan (pushed a.found k)) not)
+module _ (own : Own) (a : ActiveCall) (not : decides_at_name (plan_for a.call).decides ≡ false) where
+  met_refuses : (met : Met) → Refuses (named_one own a met)
+  met_refuses (Finds k) =
+      landed_refuses (found_more a (pushed a.found k)) _ (next_no own a.call (pushed a.found k) (next_of a.plan (pushed a.found k)) not)
   met_refuses (Refused r) = landed_refuses a (refuse r) tt
 
-  free_refuses : (f : Found) (value : Entry) → Refuses (landed a (met_free a.call a.found f value))
-  free_refuses f entry.Free = landed_refuses a _ (act_no a.call a.found (Some f) not)
+  free_refuses : (f : Found) (value : Entry) → Refuses (landed a (met_free own a.call a.found f value))
+  free_refuses f entry.Free = landed_refuses a _ (act_no own a.call a.found (Some f) not)
   free_refuses f (entry.Held k) = tt
   free_refuses f (entry.Closing by) = tt
-  free_refuses f (entry.Quiescing stamp) = landed_refuses a _ (act_no a.call a.found (Some f) not)
+  free_refuses f (entry.Quiescing stamp) = landed_refuses a _ (act_no own a.call a.found (Some f) not)
 
-  held_refuses : (f : Found) (value : Entry) → Refuses (landed a (met_held a.call a.found f value))
+  held_refuses : (f : Found) (value : Entry) → Refuses (landed a (met_held own a.call a.found f value))
   held_refuses f entry.Free = tt
-  held_refuses f (entry.Held k) = landed_refuses a _ (act_no a.call a.found (Some f) not)
+  held_refuses f (entry.Held k) = landed_refuses a _ (act_no own a.call a.found (Some f) not)
   held_refuses f (entry.Closing by) = tt
   held_refuses f (entry.Quiescing stamp) = tt
 
-  plain_found : (next : Next) (f : Found) → Refuses (took_found table a next f)
+  plain_found : (next : Next) (f : Found) → Refuses (took_found own a next f)
   plain_found (NextName n wanted) f = met_refuses _
   plain_found (NextFree target) f = free_refuses f f.value
   plain_found (NextHeld target) f = held_refuses f f.value
@@ -206,55 +241,62 @@ module _ (table : ℕ) (a : ActiveCall) (not : decides_at_name (plan_for a.call)
   plain_found NextNothing f = tt
 
 -- a step of a look-up refuses, where every place that it may find does
-link_refuses : (table : ℕ) (a : ActiveCall) (look : Look) (linked : Bool) → Refuses (took_end table a look (end_by_link linked))
-link_refuses table a look true = tt
-link_refuses table a look false = tt
+link_refuses : (own : Own) (a : ActiveCall) (look : Look) (linked : Bool) → Refuses (took_end own a look (end_by_link linked))
+link_refuses own a look true = tt
+link_refuses own a look false = tt
 
-root_refuses : (table : ℕ) (a : ActiveCall) (look : Look) (shown : Option Entry) → Refuses (took_end table a look (root_end shown))
-root_refuses table a look None = tt
-root_refuses table a look (Some entry.Free) = tt
-root_refuses table a look (Some (entry.Held k)) = link_refuses table a look (is_link k.kind)
-root_refuses table a look (Some (entry.Closing by)) = tt
-root_refuses table a look (Some (entry.Quiescing stamp)) = tt
+root_refuses : (own : Own) (a : ActiveCall) (look : Look) (shown : Option Entry) → Refuses (took_end own a look (root_end shown))
+root_refuses own a look None = tt
+root_refuses own a look (Some entry.Free) = tt
+root_refuses own a look (Some (entry.Held k)) = link_refuses own a look (is_link k.kind)
+root_refuses own a look (Some (entry.Closing by)) = tt
+root_refuses own a look (Some (entry.Quiescing stamp)) = tt
 
-place_refuses : (table : ℕ) (a : ActiveCall) (look : Look) (node index word : ℕ) (shown : Option Entry) → ((f : Found) → Refuses (took_found table a (next_of a.plan a.found) f))
-    → Refuses (took_end table a look (place_end node index word shown))
-place_refuses table a look node index word None found = tt
-place_refuses table a look node index word (Some entry.Free) found = found _
-place_refuses table a look node index word (Some (entry.Held k)) found = found _
-place_refuses table a look node index word (Some (entry.Closing by)) found = tt
-place_refuses table a look node index word (Some (entry.Quiescing stamp)) found = found _
+place_refuses : (own : Own) (a : ActiveCall) (look : Look) (node index word : ℕ) (shown : Option Entry)
+    → ((f : Found) → Refuses (took_found own a (next_of a.plan a.found) f))
+    → Refuses (took_end own a look (place_end node index word shown))
+place_refuses own a look node index word None found = tt
+place_refuses own a look node index word (Some entry.Free) found = found _
+place_refuses own a look node index word (Some (entry.Held k)) found = found _
+place_refuses own a look node index word (Some (entry.Closing by)) found = tt
+place_refuses own a look node index word (Some (entry.Quiescing stamp)) found = found _
 
-look_refuses : (table : ℕ) (a : ActiveCall) (look : Look) (word : ℕ) (shown : Option Entry)
-    → (is_last look ≡ true → (f : Found) → Refuses (took_found table a (next_of a.plan a.found) f)) → Refuses (took_look table a look word shown)
-look_refuses table a (AtRoot top number) word shown found = root_refuses table a _ shown
-look_refuses table a (AtLeaf leaf number) word shown found = place_refuses table a _ _ _ word shown (found refl)
-look_refuses table a (AtEntry top index) word shown found = place_refuses table a _ _ _ word shown (found refl)
+look_refuses : (own : Own) (a : ActiveCall) (look : Look) (word : ℕ) (shown : Option Entry)
+    → (is_last look ≡ true → (f : Found) → Refuses (took_found own a (next_of a.plan a.found) f))
+    → Refuses (took_look own a look word shown)
+look_refuses own a (AtRoot top number) word shown found = root_refuses own a _ shown
+look_refuses own a (AtLeaf leaf number) word shown found = place_refuses own a _ _ _ word shown (found refl)
+look_refuses own a (AtEntry top index) word shown found = place_refuses own a _ _ _ word shown (found refl)
 
 -- a count and one more
 last_one : (count names : ℕ) → count ≡ 0 → names ≡ 1 → (count + 1 == names) ≡ false → ⊥
-last_one count names zero one not = absurd (subst (λ n. (n + 1 == names) ≡ false → ⊥) (sym zero) (subst (λ m. (0 + 1 == m) ≡ false → ⊥) (sym one) (λ e. cc)) not)
+last_one count names zero one not =
+    absurd (subst (λ n. (n + 1 == names) ≡ false → ⊥) (sym zero) (subst (λ m. (0 + 1 == m) ≡ false → ⊥) (sym one) (λ e. cc)) not)
 
 none_after : (ks : List Capability) → names_after [] ks ≡ []
 none_after [] = refl
 none_after (k ∷ ks) = refl
 
 -- a call with one name and no target that is not ready has found its name already, and finds nothing more
-one_found : (frames table : ℕ) (a : ActiveCall) (ks : List Capability) → a.found ≡ ks → OneName a.plan → FoundFits frames a.plan ks → is_last_name a.plan a.found ≡ false
-    → (f : Found) → Refuses (took_found table a (next_of a.plan ks) f)
-one_found frames table a [] is one fits not f =
+one_found : (frames : ℕ) (own : Own) (a : ActiveCall) (ks : List Capability) → a.found ≡ ks → OneName a.plan → FoundFits frames a.plan ks
+    → is_last_name a.plan a.found ≡ false
+    → (f : Found) → Refuses (took_found own a (next_of a.plan ks) f)
+one_found frames own a [] is one fits not f =
     let first : length a.found ≡ 0 = ap length is in
     let count : length a.plan.names ≡ 1 = ap length one.names in
     absurd (last_one _ _ first count not)
-one_found frames table a (k ∷ ks) is one fits not f =
-    subst (λ (names : List Name). Refuses (took_found table a (next_in (with_found [] (k ∷ ks)) (names_after names (k ∷ ks)) a.plan.target) f)) (sym one.names)
-    (subst (λ (names : List Name). Refuses (took_found table a (next_in (with_found [] (k ∷ ks)) names a.plan.target) f)) (sym (none_after ks))
-    (subst (λ (t : Target). Refuses (took_found table a (next_in (with_found [] (k ∷ ks)) [] t) f)) (sym one.target) tt))
+one_found frames own a (k ∷ ks) is one fits not f =
+    subst (λ (names : List Name). Refuses (took_found own a (next_in (with_found [] (k ∷ ks)) (names_after names (k ∷ ks)) a.plan.target)
+    f)) (sym one.names)
+    (subst (λ (names : List Name). Refuses (took_found own a (next_in (with_found [] (k ∷ ks)) names a.plan.target) f))
+    (sym (none_after ks))
+    (subst (λ (t : Target). Refuses (took_found own a (next_in (with_found [] (k ∷ ks)) [] t) f)) (sym one.target) tt))
 
 -- the name of a call with one name is looked up first
-first_no : (table : ℕ) (call : Call) (plan : Plan) → OneName plan → NoAnswer (next_step table call [] (next_of plan []))
-first_no table call plan one =
-    subst (λ (names : List Name). NoAnswer (next_step table call [] (next_in [] names plan.target))) (sym one.names) (under_no _ table one.name.number)
+first_no : (own : Own) (call : Call) (plan : Plan) → OneName plan → NoAnswer (next_step own call [] (next_of plan []))
+first_no own call plan one =
+    subst (λ (names : List Name). NoAnswer (next_step own call [] (next_in [] names plan.target))) (sym one.names)
+    (under_no _ own.table one.name.number)
 
 -- two tests that do not both stand
 last_not : (b c : Bool) → (true && b && c) ≡ false → c ≡ true → b ≡ false
@@ -262,32 +304,71 @@ last_not true true is last = is
 last_not true false is last = cc
 last_not false c is last = refl
 
-act_not : (act : ActType) → act_ready act ≡ false → ⊥
-act_not (fill_act fill) not = cc
+-- a step of an act that is not ready answers nothing
+compare_no : (cap : Capability) (close : Close) (same : Bool) → NoAnswer (took_close cap close (close_compared same))
+compare_no cap close true = tt
+compare_no cap close false = tt
 
-work_refuses : (own : Own) (a : ActiveCall) (decides : Bool) (work : Work) (found : ℕ) → decides ≡ decides_at_name a.plan.decides → IsActive own a → work_ready a.plan a.found work ≡ false
+close_no : (cap : Capability) (close : Close) (found : ℕ) → is_draw close ≡ false
+    → NoAnswer (took_close cap (close_after close found) (close_end close found))
+close_no cap (AtCompare node index word core) found not = compare_no cap _ (found == word)
+close_no cap (AtDraw node index) found not = absurd (cc)
+close_no cap (AtStore node index stamp) found not = tt
+
+act_unready : (act : ActType) (found : ℕ) → act_ready act ≡ false → NoAnswer (took_act act found)
+act_unready (fill_act fill) found not = absurd (cc)
+act_unready (remove_act close cap) found not = close_no cap close found not
+
+-- a step of a scan answers nothing
+scan_refuses : (core : ℕ) (act : ActType) (a : ActiveCall) (q : Quiet) (end : StageEnd (Unit {0}))
+    → Refuses (landed a (took_scan core act q end))
+scan_refuses core act a q ends.Going = tt
+scan_refuses core act a q (ends.Decided r) = landed_refuses a (refuse (refusal_of r)) tt
+scan_refuses core act a q (ends.Done x) = tt
+scan_refuses core act a q (ends.Refuse r) = landed_refuses a (refuse (refusal_of r)) tt
+
+-- a step by which a count is acquired answers nothing
+count_refuses : (core n : ℕ) (change : ℤ) (act : ActType) (a : ActiveCall) (pin : Pin) (end : StageEnd Pinned)
+    → Refuses (landed a (took_count core n change act pin end))
+count_refuses core n change act a pin ends.Going = tt
+count_refuses core n change act a pin (ends.Decided r) = landed_refuses a (refuse (refusal_of r)) tt
+count_refuses core n change act a pin (ends.Done p) = tt
+count_refuses core n change act a pin (ends.Refuse r) = landed_refuses a (refuse (refusal_of r)) tt
+
+work_refuses : (own : Own) (a : ActiveCall) (decides : Bool) (work : Work) (found : ℕ) → decides ≡ decides_at_name a.plan.decides
+    → IsActive own a → work_ready a.plan a.found work ≡ false
     → Refuses (took_work own a work found)
-work_refuses own a decides (Act act) found is active not = absurd (act_not act not)
+work_refuses own a decides (Scan q act) found is active not =
+    scan_refuses own.core act a (quiet_after own.layout.cores q found) (quiet_end own.layout.cores q found)
+work_refuses own a decides (Acquire pin change act) found is active not =
+    count_refuses own.core (length a.counts) change act a (pin_after pin found) (pin_end pin found)
+work_refuses own a decides (Act act) found is active not = landed_refuses a (took_act act found) (act_unready act found not)
 work_refuses own a false (Lookup look) found is active not =
-    look_refuses own.table a look found _ (λ last f. plain_found own.table a (ap (λ (p : Plan). decides_at_name p.decides) (sym active.plan) ∙ sym is) _ f)
+    look_refuses own a look found _ (λ last f. plain_found own a (ap (λ (p : Plan). decides_at_name p.decides) (sym active.plan) ∙ sym is)
+    _ f)
 work_refuses own a true (Lookup look) found is active not =
-    look_refuses own.table a look found _ (λ last f.
-    one_found own.layout.frames own.table a a.found refl
-    (subst OneName (sym active.plan) (one_name a.call (ap (λ (p : Plan). decides_at_name p.decides) (sym active.plan) ∙ sym is))) active.found
+    look_refuses own a look found _ (λ last f.
+    one_found own.layout.frames own a a.found refl
+    (subst OneName (sym active.plan) (one_name a.call (ap (λ (p : Plan). decides_at_name p.decides) (sym active.plan) ∙ sym is)))
+    active.found
     (last_not _ (is_last look) (subst (λ b. (b && is_last_name a.plan a.found && is_last look) ≡ false) (sym is) not) last) f)
 
-enter_refuses : (own : Own) (a : ActiveCall) (spent decides : Bool) → decides ≡ decides_at_name a.plan.decides → IsActive own a → a.found ≡ [] → Refuses (took_enter spent own.table a)
+enter_refuses : (own : Own) (a : ActiveCall) (spent decides : Bool) → decides ≡ decides_at_name a.plan.decides → IsActive own a
+    → a.found ≡ [] → Refuses (took_enter spent own a)
 enter_refuses own a true decides is active zero = tt
 enter_refuses own a false false is active zero =
-    landed_refuses a _ (next_no own.table a.call a.found (next_of a.plan a.found) (ap (λ (p : Plan). decides_at_name p.decides) (sym active.plan) ∙ sym is))
+    landed_refuses a _ (next_no own a.call a.found (next_of a.plan a.found)
+    (ap (λ (p : Plan). decides_at_name p.decides) (sym active.plan) ∙ sym is))
 enter_refuses own a false true is active zero =
-    landed_refuses a _ (subst (λ (f : List Capability). NoAnswer (next_step own.table a.call f (next_of a.plan f))) (sym zero)
-    (first_no own.table a.call a.plan (subst OneName (sym active.plan) (one_name a.call (ap (λ (p : Plan). decides_at_name p.decides) (sym active.plan) ∙ sym is)))))
+    landed_refuses a _ (subst (λ (f : List Capability). NoAnswer (next_step own a.call f (next_of a.plan f))) (sym zero)
+    (first_no own a.call a.plan (subst OneName (sym active.plan)
+    (one_name a.call (ap (λ (p : Plan). decides_at_name p.decides) (sym active.plan) ∙ sym is)))))
 
-stage_refuses : (own : Own) (a : ActiveCall) (stage : Stage) (found : ℕ) → IsActive own a → IsFirst stage a.found → ready_at a.plan a.found stage ≡ false → Refuses (took_at own a stage found)
+stage_refuses : (own : Own) (a : ActiveCall) (stage : Stage) (found : ℕ) → IsActive own a → IsFirst stage a.found
+    → ready_at a.plan a.found stage ≡ false → Refuses (took_at own a stage found)
 stage_refuses own a Enter found active first not = enter_refuses own a _ _ refl active first
 stage_refuses own a (Undecided work) found active first not = work_refuses own a _ work found refl active not
-stage_refuses own a (Decided r tail) found active first not = tt
+stage_refuses own a (Decided r drawn tail) found active first not = tt
 stage_refuses own a (Leave r stamp) found active first not = tt
 
 pub unready_refuses : UnreadyRefuses
@@ -298,13 +379,15 @@ unready_refuses own a found active not = stage_refuses own a a.stage found activ
 -- A step with which the work is over.
 abbrev IsOver : WorkStep → Type 0
 IsOver (Goes work) = ⊥
+IsOver (Acquires count work) = ⊥
 IsOver (refuses_to r tail) = Unit {0}
-IsOver (Answers v tail) = Unit {0}
+IsOver (Answers v drawn tail) = Unit {0}
 
 landed_decides : (a : ActiveCall) (step : WorkStep) → IsOver step → IsDecision (landed a step)
 landed_decides a (Goes work) over = absurd over
+landed_decides a (Acquires count work) over = absurd over
 landed_decides a (refuses_to r tail) over = tt
-landed_decides a (Answers v tail) over = tt
+landed_decides a (Answers v drawn tail) over = tt
 
 fill_decides : (a : ActiveCall) (equal : Bool) → IsDecision (landed a (filled_if equal))
 fill_decides a true = tt
@@ -312,11 +395,18 @@ fill_decides a false = tt
 
 act_decides : (a : ActiveCall) (act : ActType) (found : ℕ) → act_ready act ≡ true → IsDecision (landed a (took_act act found))
 act_decides a (fill_act fill) found ready = fill_decides a _
+act_decides a (remove_act (AtCompare node index word core) cap) found ready = absurd (cc)
+act_decides a (remove_act (AtDraw node index) cap) found ready = tt
+act_decides a (remove_act (AtStore node index stamp) cap) found ready = absurd (cc)
 
-begun_over : (call : Call) (k : Capability) → decides_at_name (plan_for call).decides ≡ true → IsOver (act_begun call (k ∷ []) None)
-begun_over (look_call a) k is = tt
-begun_over (Copy a t b) k is = absurd (cc)
-begun_over call k is = tt
+begun_over : (own : Own) (call : Call) (k : Capability) → decides_at_name (plan_for call).decides ≡ true
+    → IsOver (act_begun own call (k ∷ []) None)
+begun_over own (look_call a) k is = tt
+begun_over own (Copy a t b) k is = absurd (cc)
+begun_over own (Remove t b) k is = absurd (cc)
+begun_over own (Shrink t i) k is = absurd (cc)
+begun_over own (Unmap p v) k is = absurd (cc)
+begun_over own call k is = tt
 
 zero_of : (found : List Capability) → (length found + 1 == 1) ≡ true → found ≡ []
 zero_of [] is = refl
@@ -325,35 +415,39 @@ zero_of (k ∷ ks) is = let more : length (k ∷ ks) + 1 ≡ 1 = eqb-true (lengt
 none_yet : (plan : Plan) (found : List Capability) → OneName plan → is_last_name plan found ≡ true → found ≡ []
 none_yet plan found one is = zero_of found (subst (λ (names : List Name). (length found + 1 == length names) ≡ true) one.names is)
 
-module _ (table : ℕ) (a : ActiveCall) (one : OneName a.plan) (zero : a.found ≡ []) (is : decides_at_name (plan_for a.call).decides ≡ true) where
-  one_over : (k : Capability) → IsOver (next_by table (found_more a (pushed a.found k)))
-  one_over k =
-      subst (λ (f : List Capability). IsOver (next_step table a.call (pushed f k) (next_of a.plan (pushed f k)))) (sym zero)
-      (subst (λ (names : List Name). IsOver (next_step table a.call (k ∷ []) (next_in (with_found [] (k ∷ [])) (names_after names (k ∷ [])) a.plan.target))) (sym one.names)
-      (subst (λ (t : Target). IsOver (next_step table a.call (k ∷ []) (next_in (with_found [] (k ∷ [])) [] t))) (sym one.target) (begun_over a.call k is)))
+module _ (own : Own) (a : ActiveCall) (one : OneName a.plan) (zero : a.found ≡ []) (is : decides_at_name (plan_for a.call).decides ≡ true)
+  where
+    one_over : (k : Capability) → IsOver (next_by own (found_more a (pushed a.found k)))
+    one_over k =
+        subst (λ (f : List Capability). IsOver (next_step own a.call (pushed f k) (next_of a.plan (pushed f k)))) (sym zero)
+        (subst (λ (names : List Name). IsOver (next_step own a.call (k ∷ [])
+        (next_in (with_found [] (k ∷ [])) (names_after names (k ∷ [])) a.plan.target))) (sym one.names)
+        (subst (λ (t : Target). IsOver (next_step own a.call (k ∷ []) (next_in (with_found [] (k ∷ [])) [] t))) (sym one.target)
+        (begun_over own a.call k is)))
 
-  met_decides : (met : Met) → IsDecision (named_one table a met)
-  met_decides (Finds k) = landed_decides (found_more a (pushed a.found k)) _ (one_over k)
-  met_decides (Refused r) = tt
+    met_decides : (met : Met) → IsDecision (named_one own a met)
+    met_decides (Finds k) = landed_decides (found_more a (pushed a.found k)) _ (one_over k)
+    met_decides (Refused r) = tt
 
-  name_decides : (f : Found) → IsDecision (took_found table a (next_of a.plan a.found) f)
-  name_decides f =
-      subst (λ (found : List Capability). IsDecision (took_found table a (next_of a.plan found) f)) (sym zero)
-      (subst (λ (names : List Name). IsDecision (took_found table a (next_in [] names a.plan.target) f)) (sym one.names) (met_decides _))
+    name_decides : (f : Found) → IsDecision (took_found own a (next_of a.plan a.found) f)
+    name_decides f =
+        subst (λ (found : List Capability). IsDecision (took_found own a (next_of a.plan found) f)) (sym zero)
+        (subst (λ (names : List Name). IsDecision (took_found own a (next_in [] names a.plan.target) f)) (sym one.names) (met_decides _))
 
-place_decides : (table : ℕ) (a : ActiveCall) (look : Look) (node index word : ℕ) (shown : Option Entry) → ((f : Found) → IsDecision (took_found table a (next_of a.plan a.found) f))
-    → IsDecision (took_end table a look (place_end node index word shown))
-place_decides table a look node index word None found = tt
-place_decides table a look node index word (Some entry.Free) found = found _
-place_decides table a look node index word (Some (entry.Held k)) found = found _
-place_decides table a look node index word (Some (entry.Closing by)) found = tt
-place_decides table a look node index word (Some (entry.Quiescing stamp)) found = found _
+place_decides : (own : Own) (a : ActiveCall) (look : Look) (node index word : ℕ) (shown : Option Entry)
+    → ((f : Found) → IsDecision (took_found own a (next_of a.plan a.found) f))
+    → IsDecision (took_end own a look (place_end node index word shown))
+place_decides own a look node index word None found = tt
+place_decides own a look node index word (Some entry.Free) found = found _
+place_decides own a look node index word (Some (entry.Held k)) found = found _
+place_decides own a look node index word (Some (entry.Closing by)) found = tt
+place_decides own a look node index word (Some (entry.Quiescing stamp)) found = found _
 
-look_decides : (table : ℕ) (a : ActiveCall) (look : Look) (word : ℕ) (shown : Option Entry) → is_last look ≡ true
-    → ((f : Found) → IsDecision (took_found table a (next_of a.plan a.found) f)) → IsDecision (took_look table a look word shown)
-look_decides table a (AtRoot top number) word shown last found = absurd (cc)
-look_decides table a (AtLeaf leaf number) word shown last found = place_decides table a _ _ _ word shown found
-look_decides table a (AtEntry top index) word shown last found = place_decides table a _ _ _ word shown found
+look_decides : (own : Own) (a : ActiveCall) (look : Look) (word : ℕ) (shown : Option Entry) → is_last look ≡ true
+    → ((f : Found) → IsDecision (took_found own a (next_of a.plan a.found) f)) → IsDecision (took_look own a look word shown)
+look_decides own a (AtRoot top number) word shown last found = absurd (cc)
+look_decides own a (AtLeaf leaf number) word shown last found = place_decides own a _ _ _ word shown found
+look_decides own a (AtEntry top index) word shown last found = place_decides own a _ _ _ word shown found
 
 three : (a b c : Bool) → (a && b && c) ≡ true → (a ≡ true) × (b ≡ true) × (c ≡ true)
 three true true true is = (refl, refl, refl)
@@ -361,18 +455,22 @@ three true true false is = absurd (cc)
 three true false c is = absurd (cc)
 three false b c is = absurd (cc)
 
-work_decides : (own : Own) (a : ActiveCall) (work : Work) (found : ℕ) → IsActive own a → work_ready a.plan a.found work ≡ true → IsDecision (took_work own a work found)
+work_decides : (own : Own) (a : ActiveCall) (work : Work) (found : ℕ) → IsActive own a → work_ready a.plan a.found work ≡ true
+    → IsDecision (took_work own a work found)
+work_decides own a (Scan q act) found active ready = absurd (cc)
+work_decides own a (Acquire pin change act) found active ready = absurd (cc)
 work_decides own a (Act act) found active ready = act_decides a act found ready
 work_decides own a (Lookup look) found active ready =
     let all = three (decides_at_name a.plan.decides) (is_last_name a.plan a.found) (is_last look) ready in
     let is = ap (λ (p : Plan). decides_at_name p.decides) (sym active.plan) ∙ all.0 in
     let one = subst OneName (sym active.plan) (one_name a.call is) in
-    look_decides own.table a look found _ all.2 (name_decides own.table a one (none_yet a.plan a.found one all.1) is)
+    look_decides own a look found _ all.2 (name_decides own a one (none_yet a.plan a.found one all.1) is)
 
-stage_decides : (own : Own) (a : ActiveCall) (stage : Stage) (found : ℕ) → IsActive own a → ready_at a.plan a.found stage ≡ true → reply_at stage ≡ None → IsDecision (took_at own a stage found)
+stage_decides : (own : Own) (a : ActiveCall) (stage : Stage) (found : ℕ) → IsActive own a → ready_at a.plan a.found stage ≡ true
+    → reply_at stage ≡ None → IsDecision (took_at own a stage found)
 stage_decides own a Enter found active ready not_yet = absurd (cc)
 stage_decides own a (Undecided work) found active ready not_yet = work_decides own a work found active ready
-stage_decides own a (Decided r tail) found active ready not_yet = absurd (cc)
+stage_decides own a (Decided r drawn tail) found active ready not_yet = absurd (cc)
 stage_decides own a (Leave r stamp) found active ready not_yet = absurd (cc)
 
 pub ready_decides : ReadyDecides

@@ -9,7 +9,8 @@ use Rattle.call_plans.specs.GoesBy.{earlier, or_not_found}
 use Rattle.call_plans.specs.After.{with_found}
 use Rattle.call_plans.proofs.Roots.{earlier_found}
 
-pub some_frame : (ks : List Capability) (i : Nth) (k : Capability) → at_place ks i ≡ Some k → (earlier (with_found [] ks) i).frame ≡ k.frame
+pub some_frame : (ks : List Capability) (i : Nth) (k : Capability) → at_place ks i ≡ Some k
+    → (earlier (with_found [] ks) i).frame ≡ k.frame
 some_frame ks i k is = ap (λ x. x.frame) (earlier_found ks i ∙ ap (λ o. or_not_found (option_map found o)) is)
 
 pub no_frame : (ks : List Capability) (i : Nth) → at_place ks i ≡ None → (earlier (with_found [] ks) i).frame ≡ 0

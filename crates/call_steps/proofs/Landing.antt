@@ -3,15 +3,16 @@ use Rattle.std.proofs.Common.{◌≡◌, ℕ, refl}
 use Rattle.spk_nums.specs.declared.replies.Reply.{Reply}
 use Rattle.call_steps.specs.declared.stages.ActiveCall.{ActiveCall}
 use Rattle.call_steps.specs.declared.stages.WorkStep.{WorkStep}
-use Rattle.call_steps.specs.declared.stages.WorkStep.TheVariants.{Goes, Refuses, Answers}
+use Rattle.call_steps.specs.declared.stages.WorkStep.TheVariants.{Goes, Acquires, Refuses, Answers}
 use Rattle.call_steps.specs.declared.stages.Told.TheVariants as told_as
 use Rattle.call_steps.specs.Steps.{Took, GoesOn, Decides, Returns, landed, told, call_after}
 
 -- no step of the work returns
 pub same_call : (old a : ActiveCall) (step : WorkStep) → call_after a (landed a step) ≡ call_after old (landed a step)
 same_call old a (Goes work) = refl
+same_call old a (Acquires count work) = refl
 same_call old a (Refuses r tail) = refl
-same_call old a (Answers v tail) = refl
+same_call old a (Answers v drawn tail) = refl
 
 -- what was told of a step says what it led to
 pub told_goes : (old : ActiveCall) (k : Took) → told_as.Going ≡ told k → k ≡ GoesOn (call_after old k)

@@ -1,4 +1,5 @@
 pub mod Frames
 pub mod Landing
+pub mod StepsFit
 pub mod Fitting
 pub mod Decisions

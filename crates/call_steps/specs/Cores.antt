@@ -40,11 +40,19 @@ started c setting = record {
 
 -- what the end of a run tells of a core
 abbrev pub end_of : Core → CoreEnd
-end_of c = record { thread = c.own.thread; tcap = c.own.tcap; comp = c.own.comp; spent = c.own.spent; owed = c.own.owed; cached = c.own.cached }
+end_of c = record {
+  thread = c.own.thread;
+  tcap = c.own.tcap;
+  comp = c.own.comp;
+  spent = c.own.spent;
+  owed = c.own.owed;
+  cached =
+      c.own.cached;
+}
 
 -- a call that has made no step
 abbrev pub fresh : Call → ActiveCall
-fresh call = record { steps = 0; stage = Enter; found = []; call = call; plan = plan_for call }
+fresh call = record { steps = 0; stage = Enter; found = []; counts = []; call = call; plan = plan_for call }
 
 -- the core that has begun this call
 abbrev pub begun : Core → Call → Core
@@ -53,7 +61,7 @@ begun c call = record c { active = Some (fresh call) }
 -- the next step of a core, by the name of its word; without a call there is none, and the clock is read
 abbrev pub move_in : Own → Option ActiveCall → Move
 move_in own None = LoadOf ClockAt
-move_in own (Some a) = stage_move own a.stage
+move_in own (Some a) = stage_move own a.counts a.stage
 
 abbrev pub move_of : Core → Move
 move_of c = move_in c.own c.active

@@ -1,5 +1,5 @@
 -- The act that fills a place.
-use Rattle.std.specs.Prelude.{ℕ, ◌==◌, ◌<◌, Bool, if◌then◌else◌}
+use Rattle.std.specs.Prelude.{ℕ, ◌==◌, ◌<◌, None, Bool, if◌then◌else◌}
 use Rattle.spk_nums.specs.declared.replies.Value.TheVariants.{Nothing as nothing}
 use Rattle.entry_words.specs.EntryWord.{word_of_entry}
 use Rattle.entry_words.specs.declared.entry.Entry.TheVariants.{Held}
@@ -25,7 +25,7 @@ fill_move fill = CompareOf (EntryAt fill.node fill.entry) fill.word (word_of_ent
 
 -- the compare is won or lost
 abbrev pub filled_if : Bool → WorkStep
-filled_if equal = if equal then Answers nothing Nothing else Refuses Raced Nothing
+filled_if equal = if equal then Answers nothing None Nothing else Refuses Raced Nothing
 
 abbrev pub took_fill : Fill → ℕ → WorkStep
 took_fill fill found = filled_if (found == fill.word)

@@ -1,5 +1,5 @@
 -- What holds of a core at every moment: its numbers are in range, and its call keeps within its bound of steps.
-use Rattle.std.specs.Prelude.{ℕ, ◌+◌, ◌<◌, ◌≤◌, ◌≡◌, Bool, IsTrue, List, [], ◌∷◌, Option, Some, None}
+use Rattle.std.specs.Prelude.{ℕ, ◌+◌, ◌*◌, ◌-◌, ◌<◌, ◌≤◌, ◌≡◌, Bool, false, nat_lt, if◌then◌else◌, IsTrue, List, [], ◌∷◌, length, Option, Some, None}
 use Rattle.spk_nums.specs.Bounds.{bound_of}
 use Rattle.spk_nums.specs.CallLimits.{InLimits}
 use Rattle.spk_nums.specs.Capability.{Capability}
@@ -18,24 +18,52 @@ use Rattle.call_plans.specs.After.{Leads, names_after}
 use Rattle.call_plans.specs.Bounds.{look_steps, act_steps}
 use Rattle.call_steps.specs.declared.own.Own.{Own}
 use Rattle.call_steps.specs.declared.stages.Work.{Work}
-use Rattle.call_steps.specs.declared.stages.Work.TheVariants.{Lookup, Act}
+use Rattle.call_steps.specs.declared.stages.Work.TheVariants.{Lookup, Scan, Acquire, Act}
 use Rattle.call_steps.specs.declared.stages.Stage.{Stage}
 use Rattle.call_steps.specs.declared.stages.Stage.TheVariants.{Enter, Undecided, Decided, Leave}
+use Rattle.call_steps.specs.declared.stages.Tail.{Tail}
+use Rattle.call_steps.specs.declared.stages.Tail.TheVariants.{Nothing, Quiesce}
 use Rattle.call_steps.specs.declared.stages.ActiveCall.{ActiveCall}
-use Rattle.call_steps.specs.Acts.{ActFits, act_left}
+use Rattle.stage_quiet.specs.declared.quiet.Quiet.{Quiet}
+use Rattle.stage_quiet.specs.declared.quiet.Quiet.TheVariants.{AtCore, AtFlush}
+use Rattle.stage_quiet.specs.Scan.{QuietFits}
+use Rattle.stage_quiet.specs.Removal.{CloseFits}
+use Rattle.stage_pins.specs.declared.pin.Pin.{Pin}
+use Rattle.stage_pins.specs.declared.pin.Pin.TheVariants.{AtLoad, AtCompare}
+use Rattle.stage_pins.specs.declared.held.Acquired.{Acquired}
+use Rattle.stage_pins.specs.Acquire.{PinFits}
+use Rattle.stage_pins.specs.Held.{AllFit}
+use Rattle.call_steps.specs.Acts.{ActFits, act_left, dues}
 use Rattle.call_steps.specs.Tails.{tail_left}
 use Rattle.call_steps.specs.View.{Core}
+
+-- a scan is for a place of a table of capabilities: of the other cores' words alone, from the first on
+abbrev pub ScanFits : Shape → Quiet → Type 0
+ScanFits s (AtCore stamp core at page) = (core < s.cores) × (page ≡ false) × (1 ≤ stamp)
+ScanFits s (AtFlush stamp at) = ⊥
 
 -- a stage names frames of the machine alone
 abbrev pub WorkFits : Shape → Work → Type 0
 WorkFits s (Lookup look) = LookFits s look
+WorkFits s (Scan q act) = QuietFits s q × ScanFits s q × ActFits s act
+WorkFits s (Acquire pin change act) = PinFits s pin × ActFits s act
 WorkFits s (Act act) = ActFits s act
+
+abbrev pub TailFits : Shape → Tail → Type 0
+TailFits s Nothing = Unit {0}
+TailFits s (Quiesce close) = CloseFits s close
 
 abbrev pub StageFits : Shape → Stage → Type 0
 StageFits s Enter = Unit {0}
 StageFits s (Undecided work) = WorkFits s work
-StageFits s (Decided r tail) = Unit {0}
+StageFits s (Decided r drawn tail) = TailFits s tail
 StageFits s (Leave r stamp) = Unit {0}
+
+-- a stage after the look-ups of a call
+abbrev pub IsLater : Stage → Type 0
+IsLater Enter = ⊥
+IsLater (Undecided (Lookup look)) = ⊥
+IsLater _ = Unit {0}
 
 -- what the names have led to is wanted, and names frames of the machine
 abbrev pub IsWanted : ℕ → ℕ → (Kind → Bool) → Capability → Type 0
@@ -48,7 +76,7 @@ FoundFits frames plan ks = Leads (IsWanted frames) plan.names [] ks
 abbrev pub HasRoom : ℕ → ℕ → Stage → Type 0
 HasRoom made limit Enter = Unit {0}
 HasRoom made limit (Undecided work) = made < limit
-HasRoom made limit (Decided r tail) = Unit {0}
+HasRoom made limit (Decided r drawn tail) = Unit {0}
 HasRoom made limit (Leave r stamp) = Unit {0}
 
 -- the most steps of a look-up that are still to come
@@ -70,16 +98,29 @@ looks_later (name ∷ names) target = look_steps names target
 abbrev pub steps_later : ℕ → ActiveCall → ℕ
 steps_later cores a = looks_later (names_left a) a.plan.target + act_steps a.call cores
 
--- the most steps of the work that are still to come, where so many come after its look-up
-abbrev pub work_left : ℕ → Work → ℕ
-work_left later (Lookup look) = left_of_look look + later
-work_left later (Act act) = act_left act
+-- the steps of the acquiring of a count that are still to come
+abbrev pub left_of_pin : Pin → ℕ
+left_of_pin (AtLoad frame core) = 2
+left_of_pin (AtCompare frame core count stamp) = 1
+
+-- the loads of a scan that are still to come: of the other cores' words, from this on
+abbrev pub left_of_scan : ℕ → Quiet → ℕ
+left_of_scan cores (AtCore stamp core at page) = if nat_lt at core then cores - at - 1 else cores - at
+left_of_scan cores (AtFlush stamp at) = 0
+
+-- the most steps of the work that are still to come, where so many come after its look-up and so many counts are acquired: each
+-- count that is still to be acquired takes two steps, and one for its commit
+abbrev pub work_left : ℕ → ℕ → ℕ → Work → ℕ
+work_left cores later n (Lookup look) = left_of_look look + later
+work_left cores later n (Scan q act) = left_of_scan cores q + 3 * length (dues act) + act_left act
+work_left cores later n (Acquire pin change act) = left_of_pin pin + 1 + 3 * (length (dues act) - (n + 1)) + act_left act
+work_left cores later n (Act act) = act_left act
 
 -- the most steps of a call that are still to come at a stage, on so many cores; two are those of its exit
 abbrev pub left_at : ℕ → ActiveCall → Stage → ℕ
 left_at cores a Enter = 3 + look_steps (names_left a) a.plan.target + act_steps a.call cores
-left_at cores a (Undecided work) = 2 + work_left (steps_later cores a) work
-left_at cores a (Decided r tail) = 2 + tail_left tail
+left_at cores a (Undecided work) = 2 + length a.counts + work_left cores (steps_later cores a) (length a.counts) work
+left_at cores a (Decided r drawn tail) = 2 + length a.counts + tail_left tail
 left_at cores a (Leave r stamp) = 1
 
 abbrev pub left_of : ℕ → ActiveCall → ℕ
@@ -89,8 +130,21 @@ left_of cores a = left_at cores a a.stage
 abbrev pub IsFirst : Stage → List Capability → Type 0
 IsFirst Enter found = found ≡ []
 IsFirst (Undecided work) found = Unit {0}
-IsFirst (Decided r tail) found = Unit {0}
+IsFirst (Decided r drawn tail) found = Unit {0}
 IsFirst (Leave r stamp) found = Unit {0}
+
+-- a call acquires no count before its look-ups are made, and none but those that its act changes
+abbrev pub CountsWait : List Acquired → Work → Type 0
+CountsWait counts (Lookup look) = counts ≡ []
+CountsWait counts (Scan q act) = counts ≡ []
+CountsWait counts (Acquire pin change act) = length counts < length (dues act)
+CountsWait counts (Act act) = Unit {0}
+
+abbrev pub CountsAt : List Acquired → Stage → Type 0
+CountsAt counts Enter = counts ≡ []
+CountsAt counts (Undecided work) = CountsWait counts work
+CountsAt counts (Decided r drawn tail) = Unit {0}
+CountsAt counts (Leave r stamp) = counts ≡ []
 
 -- the call of a core: it is one that is carried out and goes by its plan, its stage fits the core, and the steps made and those to
 -- come are within its bound
@@ -101,6 +155,8 @@ pub record IsActive (own : Own) (a : ActiveCall) : Type 0 where
   pub found : FoundFits own.layout.frames a.plan a.found
   pub first : IsFirst a.stage a.found
   pub stage : StageFits own.layout a.stage
+  pub acquired : AllFit own.layout a.counts
+  pub counts : CountsAt a.counts a.stage
   pub room : HasRoom own.made own.limit a.stage
   pub steps : a.steps + left_of own.layout.cores a ≤ bound_of a.call own.layout.cores
 

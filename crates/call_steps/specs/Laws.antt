@@ -15,7 +15,7 @@ use Rattle.call_steps.specs.Fits.{IsActive}
 abbrev pub reply_at : Stage → Option Reply
 reply_at Enter = None
 reply_at (Undecided work) = None
-reply_at (Decided r tail) = Some r
+reply_at (Decided r drawn tail) = Some r
 reply_at (Leave r stamp) = Some r
 
 -- What a step leads to, where the call was decided with this reply, or was not: it goes on as it was; it is decided, and was not;
@@ -47,7 +47,8 @@ IsDecision (Returns r stamp) = ⊥
 
 -- A call that is ready and not decided is decided by its next step, whatever word that finds.
 abbrev pub ReadyDecides : Type 0
-ReadyDecides = (own : Own) (a : ActiveCall) (found : ℕ) → IsActive own a → is_ready a ≡ true → reply_at a.stage ≡ None → IsDecision (took own a found)
+ReadyDecides = (own : Own) (a : ActiveCall) (found : ℕ) → IsActive own a → is_ready a ≡ true → reply_at a.stage ≡ None → IsDecision
+    (took own a found)
 
 -- A refusal and the reply that says it are one, and no refusal says `ok`.
 pub record RefusalsAreReplies : Type 0 where

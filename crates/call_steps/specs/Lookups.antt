@@ -9,6 +9,7 @@ use Rattle.kernel_rules.specs.Access.{Target as place, Under, InRoot}
 use Rattle.stage_look.specs.declared.look.Look.TheVariants.{AtRoot, AtEntry}
 use Rattle.stage_look.specs.declared.look.Found.{Found}
 use Rattle.call_plans.specs.After.{Next, NextName, NextFree, NextHeld, NextOwn, NextNothing}
+use Rattle.call_steps.specs.declared.own.Own.{Own}
 use Rattle.call_steps.specs.declared.refusals.Refusal.TheVariants.{NoSlot, Empty, WrongCap, Occupied, Busy, Raced}
 use Rattle.call_steps.specs.declared.lookups.Met.{Met}
 use Rattle.call_steps.specs.declared.lookups.Met.TheVariants.{Finds, Refused}
@@ -28,14 +29,13 @@ abbrev pub looks_at : place → WorkStep
 looks_at (Under table n) = looks_under (nat_le n 4095) table.frame n
 looks_at (InRoot table i) = looks_entry (nat_le i 63) table.frame i
 
--- what comes next of a call whose names have led to these, in a component with this table; no call that looks up a page of its
--- own is carried out today
-abbrev pub next_step : ℕ → Call → List Capability → Next → WorkStep
-next_step table call found (NextName n wanted) = looks_under (nat_le n 4095) table n
-next_step table call found (NextFree target) = looks_at target
-next_step table call found (NextHeld target) = looks_at target
-next_step table call found (NextOwn v) = refuse Raced
-next_step table call found NextNothing = act_begun call found None
+-- what comes next of a core's call whose names have led to these; no call that looks up a page of its own is carried out today
+abbrev pub next_step : Own → Call → List Capability → Next → WorkStep
+next_step own call found (NextName n wanted) = looks_under (nat_le n 4095) own.table n
+next_step own call found (NextFree target) = looks_at target
+next_step own call found (NextHeld target) = looks_at target
+next_step own call found (NextOwn v) = refuse Raced
+next_step own call found NextNothing = act_begun own call found None
 
 -- what a name has led to that wants these kinds, where its place shows this entry
 abbrev pub met_name : (Kind → Bool) → Entry → Met
@@ -44,16 +44,16 @@ met_name wanted (entry.Held k) = if wanted k.kind then Finds k else Refused Wron
 met_name wanted (entry.Closing by) = Refused (Busy by)
 met_name wanted (entry.Quiescing stamp) = Refused Empty
 
--- what a call does whose target is to be free, where its place shows this entry
-abbrev pub met_free : Call → List Capability → Found → Entry → WorkStep
-met_free call found target entry.Free = act_begun call found (Some target)
-met_free call found target (entry.Held k) = refuse Occupied
-met_free call found target (entry.Closing by) = refuse (Busy by)
-met_free call found target (entry.Quiescing stamp) = act_begun call found (Some target)
+-- what a call of a core does whose target is to be free, where its place shows this entry
+abbrev pub met_free : Own → Call → List Capability → Found → Entry → WorkStep
+met_free own call found target entry.Free = act_begun own call found (Some target)
+met_free own call found target (entry.Held k) = refuse Occupied
+met_free own call found target (entry.Closing by) = refuse (Busy by)
+met_free own call found target (entry.Quiescing stamp) = act_begun own call found (Some target)
 
--- what a call does whose target is to be held, where its place shows this entry
-abbrev pub met_held : Call → List Capability → Found → Entry → WorkStep
-met_held call found target entry.Free = refuse Empty
-met_held call found target (entry.Held k) = act_begun call found (Some target)
-met_held call found target (entry.Closing by) = refuse (Busy by)
-met_held call found target (entry.Quiescing stamp) = refuse Empty
+-- what a call of a core does whose target is to be held, where its place shows this entry
+abbrev pub met_held : Own → Call → List Capability → Found → Entry → WorkStep
+met_held own call found target entry.Free = refuse Empty
+met_held own call found target (entry.Held k) = act_begun own call found (Some target)
+met_held own call found target (entry.Closing by) = refuse (Busy by)
+met_held own call found target (entry.Quiescing stamp) = refuse Empty

@@ -1,16 +1,28 @@
 -- What a decided call has still to store, and its exit.
-use Rattle.std.specs.Prelude.{ℕ, ◌-◌, ◌^◌, Bool, nat_lt, if◌then◌else◌}
+use Rattle.std.specs.Prelude.{ℕ, ◌-◌, ◌^◌, Bool, true, false, nat_lt, Option, List, [], ◌∷◌, if◌then◌else◌}
 use Rattle.spk_nums.specs.declared.replies.Reply.{Reply}
+use Rattle.spk_nums.specs.declared.replies.Reply.TheVariants.{Ok}
 use Rattle.word_map.specs.Word.{ClockAt}
 use Rattle.word_map.specs.Moves.{Move, LoadOf}
+use Rattle.stage_quiet.specs.Removal.{close_move}
+use Rattle.stage_pins.specs.declared.held.Acquired.{Acquired}
+use Rattle.stage_pins.specs.Commit.{settle_move}
+use Rattle.stage_pins.specs.Held.{commit_of, rest_of}
 use Rattle.call_steps.specs.declared.stages.Tail.{Tail}
-use Rattle.call_steps.specs.declared.stages.Tail.TheVariants.{Nothing}
+use Rattle.call_steps.specs.declared.stages.Tail.TheVariants.{Nothing, Quiesce}
 use Rattle.call_steps.specs.declared.stages.Stage.{Stage}
-use Rattle.call_steps.specs.declared.stages.Stage.TheVariants.{Leave}
+use Rattle.call_steps.specs.declared.stages.Stage.TheVariants.{Decided, Leave}
 
--- the next step: where nothing is left to store, the clock is loaded
-abbrev pub tail_move : Tail → Move
-tail_move Nothing = LoadOf ClockAt
+-- whether a reply says that the call was carried out
+abbrev pub is_ok : Reply → Bool
+is_ok (Ok v) = true
+is_ok _ = false
+
+-- the next step of a decided call: its next store, then the commit of each count that it has acquired, then the load of the clock
+abbrev pub tail_move : Reply → Option ℕ → Tail → List Acquired → Move
+tail_move r drawn (Quiesce close) counts = close_move close
+tail_move r drawn Nothing [] = LoadOf ClockAt
+tail_move r drawn Nothing (x ∷ xs) = settle_move (commit_of (is_ok r) drawn x)
 
 -- the stamp of a clock; a clock past a stamp's range never comes, and stays at the range's end
 abbrev pub stamp_if : Bool → ℕ → ℕ
@@ -19,10 +31,17 @@ stamp_if fits clock = if fits then clock else 2 ^ 28 - 1
 abbrev pub stamp_of : ℕ → ℕ
 stamp_of clock = stamp_if (nat_lt clock (2 ^ 28)) clock
 
--- where the call stands after that step
-abbrev pub took_tail : Reply → Tail → ℕ → Stage
-took_tail r Nothing found = Leave r (stamp_of found)
+-- where the call stands after that step, and the counts that it has then still to commit
+abbrev pub took_tail : Reply → Option ℕ → Tail → List Acquired → ℕ → Stage
+took_tail r drawn (Quiesce close) counts found = Decided r drawn Nothing
+took_tail r drawn Nothing [] found = Leave r (stamp_of found)
+took_tail r drawn Nothing (x ∷ xs) found = Decided r drawn Nothing
 
--- how many stores are left
+abbrev pub tail_counts : Tail → List Acquired → List Acquired
+tail_counts (Quiesce close) xs = xs
+tail_counts Nothing xs = rest_of xs
+
+-- how many stores are left beside the counts
 abbrev pub tail_left : Tail → ℕ
 tail_left Nothing = 0
+tail_left (Quiesce close) = 1

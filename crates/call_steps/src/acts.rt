@@ -1,20 +1,33 @@
 //! The acts of calls: how each begins after its look-ups, and its steps.
 //!
-//! A call that is new here adds a line to each function: where its act begins, its next step, what it takes, and whether that
-//! step decides.
+//! **Counts.** An act that changes the references to a frame says so by `due`: each such count is acquired before the act's
+//! first step, in this order, and committed after the call is decided.
+//!
+//! **Removal.** What the target holds is closed by a compare, a stamp is drawn, which decides the call, and the entry that quiesces
+//! since the stamp is stored. What was removed serves on for the calls that were in progress at the draw.
+//!
+//! **Scan.** A place that is quiescing is filled only when no other core is in such a call: its core word says that it is out, or
+//! that it has left a call since the stamp.
+//!
+//! A call that is new here adds a line to each function: where its act begins, which counts that changes, its next step, what it
+//! takes, and whether that step decides.
 
-ghost use Rattle.std.specs.Prelude.{◌≡◌, ◌<◌};
+ghost use Rattle.std.specs.Prelude.{◌≡◌, ◌<◌, ◌≤◌, slice_get, None};
 ghost use Rattle.word_map.specs.Places.{Shape, size_of};
 ghost use Rattle.word_map.specs.Moves.{op_of};
 ghost use Rattle.spk_nums.specs.WordSteps.{place_in};
-ghost use Rattle.call_steps.specs.Acts.{ActFits, act_move, took_act, act_ready, refuse, looked, fills_at, fills_with, act_begun};
+ghost use Rattle.call_steps.specs.Acts.{ActFits, act_move, took_act, act_ready, refuse, looked, cap_dues, dues, acquires, next_work, filling, fills_at, fills_with, put_by, act_begun, drawn_by, took_close, is_draw, scans, stamp_in, removing, removes_held, removes_at};
 
 use crate::fills::Fill;
+use crate::own::Own;
 use crate::refusals::Refusal;
-use crate::stages::{Act, Tail, Work, WorkStep};
+use crate::stages::{Act, Due, Tail, Work, WorkStep};
 use call_plans::{Caps, Nth};
-use spk_nums::{Call, Cap, Value, WordOp};
+use entry_words::Entry;
+use spk_nums::{Call, Cap, CoreNo, Kind, StageEnd, Stamp, Value, WordOp};
 use stage_look::Found;
+use stage_pins::Pin;
+use stage_quiet::{Close, Quiet};
 use word_map::Layout;
 
 /// The next step of an act. What it names is of the layout's machine.
@@ -26,16 +39,59 @@ pub fn act_op(act: &Act, layout: &Layout) -> WordOp
 {
     match act {
         Act::Fill { fill } => fill.next(layout),
+        Act::Remove { close, cap: _ } => close.next(layout),
     }
 }
 
-/// What an act takes from the word that its step found.
+/// What an act takes from the word that its step found. What it names is of the layout's machine.
 #[inline]
-pub fn act_took(act: &Act, found: u64) -> WorkStep
+pub fn act_took(act: &Act, layout: &Layout, found: u64) -> WorkStep
+    requires { ActFits layout.now act.now }
     ensures { result ≡ took_act act.now found }
 {
     match act {
         Act::Fill { fill } => fill.take(found),
+        Act::Remove { close, cap } => {
+            let mut close = *close;
+            let end = close.take(layout, found);
+            close_took(*cap, close, &end)
+        }
+    }
+}
+
+// What a removal takes from its step, after which it stands here.
+#[inline]
+fn close_took(cap: Cap, close: Close, end: &StageEnd<Stamp>) -> WorkStep
+    ensures { result ≡ took_close cap close end.now }
+{
+    match end {
+        StageEnd::Going => WorkStep::Goes {
+            work: Work::Act {
+                act: Act::Remove { close, cap },
+            },
+        },
+        StageEnd::Decided(_) => WorkStep::Answers {
+            value: Value::Nothing,
+            drawn: drawn_by(&close),
+            tail: Tail::Quiesce { close },
+        },
+        StageEnd::Done(_) => refuse(Refusal::Raced),
+        StageEnd::Refuse(reply) => refuse(Refusal::of(reply)),
+    }
+}
+
+// The stamp with which a removal goes on to its store.
+#[inline]
+fn drawn_by(close: &Close) -> Option<Stamp>
+    ensures { result ≡ drawn_by close.now }
+{
+    match close {
+        Close::AtStore {
+            node: _,
+            entry: _,
+            stamp,
+        } => Some(*stamp),
+        _ => None,
     }
 }
 
@@ -46,6 +102,7 @@ pub fn act_ready(act: &Act) -> bool
 {
     match act {
         Act::Fill { fill: _ } => true,
+        Act::Remove { close, cap: _ } => matches!(close, Close::AtDraw { .. }),
     }
 }
 
@@ -60,15 +117,63 @@ pub fn refuse(refusal: Refusal) -> WorkStep
     }
 }
 
-/// What a call does whose names have led to these and whose target, if it has one, was found: a look answers at once, a copy
-/// begins to fill its target.
+/// What a core does for an act of whose counts it has acquired so many: it acquires the next, or goes on to the act.
 #[inline]
-pub fn begin_act(call: &Call, found: &Caps, target: &Option<Found>) -> WorkStep
-    ensures { result ≡ act_begun call.now found.now target.now }
+pub fn next_work(core: CoreNo, n: u8, act: &Act) -> Work
+    ensures { result ≡ next_work core n act.now }
+{
+    match due(act, n) {
+        None => Work::Act { act: *act },
+        Some(due) => Work::Acquire {
+            pin: Pin::new(due.frame, core),
+            change: due.change,
+            act: *act,
+        },
+    }
+}
+
+// The count of this number that an act changes, if it changes so many.
+#[inline]
+fn due(act: &Act, n: u8) -> Option<Due>
+    ensures { result ≡ slice_get (dues act.now) n }
+{
+    match act {
+        Act::Fill { fill } => cap_due(&fill.cap, 1, n),
+        Act::Remove { close: _, cap } => cap_due(cap, -1, n),
+    }
+}
+
+// The count of this number that changes by so many where a capability is put: that of the frame that it names. A range names none.
+#[inline]
+fn cap_due(cap: &Cap, change: i32, n: u8) -> Option<Due>
+    ensures { result ≡ slice_get (cap_dues cap.now change) n }
+{
+    if cap.kind() == Kind::Range {
+        return None;
+    }
+    if n == 0 {
+        Some(Due {
+            frame: cap.frame(),
+            change,
+        })
+    } else {
+        None
+    }
+}
+
+/// What a call of a core does whose names have led to these and whose target, if it has one, was found: a look answers at once, a
+/// copy begins to fill its target, a remove, a shrink and an unmap to remove what their target holds. The core is one of the layout's at most 8.
+#[inline]
+pub fn begin_act(own: &Own, call: &Call, found: &Caps, target: &Option<Found>) -> WorkStep
+    requires core { own.now.core < own.now.layout.cores }
+    requires cores { own.now.layout.cores ≤ 8 }
+    ensures { result ≡ act_begun own.now call.now found.now target.now }
 {
     match call {
         Call::Look { a: _ } => looked(&found.get(Nth::First)),
-        Call::Copy { a: _, t: _, b: _ } => fills_with(&found.get(Nth::First), target),
+        Call::Copy { a: _, t: _, b: _ } => fills_with(own, &found.get(Nth::First), target),
+        Call::Remove { t: _, b: _ } | Call::Shrink { t: _, i: _ } | Call::Unmap { p: _, v: _ } =>
+            removes_at(own.core, target),
         _ => refuse(Refusal::Raced),
     }
 }
@@ -81,6 +186,7 @@ fn looked(cap: &Option<Cap>) -> WorkStep
     match cap {
         Some(cap) => WorkStep::Answers {
             value: Value::Cap(*cap),
+            drawn: None,
             tail: Tail::Nothing,
         },
         None => refuse(Refusal::Raced),
@@ -89,30 +195,84 @@ fn looked(cap: &Option<Cap>) -> WorkStep
 
 // The target is filled with this capability.
 #[inline]
-fn fills_with(cap: &Option<Cap>, target: &Option<Found>) -> WorkStep
-    ensures { result ≡ fills_with cap.now target.now }
+fn fills_with(own: &Own, cap: &Option<Cap>, target: &Option<Found>) -> WorkStep
+    requires core { own.now.core < own.now.layout.cores }
+    requires cores { own.now.layout.cores ≤ 8 }
+    ensures { result ≡ fills_with own.now cap.now target.now }
 {
     match (cap, target) {
-        (Some(cap), Some(target)) => fills_at(*cap, target),
+        (Some(cap), Some(target)) => fills_at(own, *cap, target),
         _ => refuse(Refusal::Raced),
     }
 }
 
-// This place is filled with this capability.
+// This place is filled with this capability, after a scan where it is quiescing.
 #[inline]
-fn fills_at(cap: Cap, target: &Found) -> WorkStep
-    ensures { result ≡ fills_at cap target.now }
+fn fills_at(own: &Own, cap: Cap, target: &Found) -> WorkStep
+    requires core { own.now.core < own.now.layout.cores }
+    requires cores { own.now.layout.cores ≤ 8 }
+    ensures { result ≡ fills_at own.now cap target.now }
 {
-    WorkStep::Goes {
-        work: Work::Act {
-            act: Act::Fill {
-                fill: Fill {
-                    node: target.node,
-                    entry: target.entry,
-                    word: target.word,
-                    cap,
-                },
-            },
+    let act = Act::Fill {
+        fill: Fill {
+            node: target.node,
+            entry: target.entry,
+            word: target.word,
+            cap,
         },
+    };
+    let quiet = Quiet::entry(stamp_in(&target.value), own.core, own.layout.cores());
+    WorkStep::Goes {
+        work: scans(own.core, quiet, &act),
+    }
+}
+
+// The stamp since which an entry is quiescing, 0 for one that is not.
+#[inline]
+fn stamp_in(entry: &Entry) -> Stamp
+    ensures { result ≡ stamp_in entry.now }
+{
+    match *entry {
+        Entry::Quiescing { stamp } => stamp,
+        _ => Stamp::new(0),
+    }
+}
+
+// An act begins with a scan, if there is one.
+#[inline]
+fn scans(core: CoreNo, quiet: Option<Quiet>, act: &Act) -> Work
+    ensures { result ≡ scans core quiet act.now }
+{
+    match quiet {
+        None => next_work(core, 0, act),
+        Some(quiet) => Work::Scan { quiet, act: *act },
+    }
+}
+
+// What the target holds is removed.
+#[inline]
+fn removes_at(core: CoreNo, target: &Option<Found>) -> WorkStep
+    ensures { result ≡ removes_at core target.now }
+{
+    match target {
+        None => refuse(Refusal::Raced),
+        Some(target) => removes_held(core, target),
+    }
+}
+
+// What this place holds is removed.
+#[inline]
+fn removes_held(core: CoreNo, target: &Found) -> WorkStep
+    ensures { result ≡ removes_held core target.now target.now.value }
+{
+    match target.value {
+        Entry::Held(cap) => {
+            let close = Close::new(target.node, target.entry, target.word, core);
+            let act = Act::Remove { close, cap };
+            WorkStep::Goes {
+                work: next_work(core, 0, &act),
+            }
+        }
+        _ => refuse(Refusal::Raced),
     }
 }

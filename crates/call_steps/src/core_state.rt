@@ -15,6 +15,7 @@ use crate::stages::{Absorbed, ActiveCall, Stage, Told};
 use crate::steps::stage_op;
 use call_plans::{Caps, plan_of};
 use spk_nums::{Call, CoreEnd, CoreNo, FrameNo, Reply, Setup, Stamp, Translations, WordOp};
+use stage_pins::AcquiredCounts;
 use std::marker::Model;
 use word_map::Layout;
 
@@ -87,6 +88,7 @@ impl CoreState {
             steps: 0,
             stage: Stage::Enter,
             found: Caps::none(),
+            counts: AcquiredCounts::none(),
             call,
             plan,
         });
@@ -134,7 +136,7 @@ impl CoreState {
         ensures fits { IsCore self.now }
     {
         match &self.active {
-            Some(active) => stage_op(&self.own, &active.stage, layout),
+            Some(active) => stage_op(&self.own, &active.counts, &active.stage, layout),
             None => unreachable!(),
         }
     }

@@ -1,7 +1,7 @@
 //! The act that fills a place: one compare with the word that the call's look-up has loaded there, which decides the call.
 //!
-//! The place may be one that still waits for calls which used what was removed there. No call removes anything yet, so the
-//! compare expects that word as it was found, and no other core is asked.
+//! The place may be quiescing. Then the call has scanned the other cores since it loaded the word, and the compare expects that word
+//! with its stamp: so nothing else was removed there in between.
 
 ghost use Rattle.std.specs.Prelude.{◌≡◌, ◌<◌};
 ghost use Rattle.word_map.specs.Places.{size_of};
@@ -54,6 +54,7 @@ impl Fill {
         if found == self.word {
             WorkStep::Answers {
                 value: Value::Nothing,
+                drawn: None,
                 tail: Tail::Nothing,
             }
         } else {

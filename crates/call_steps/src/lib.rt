@@ -9,10 +9,20 @@
 //! (`lookups`). Then its act begins, which is a call's own (`acts`). A step of the work goes on, refuses or answers. A refusal is
 //! a type without `ok`, so that a step which may only refuse carries nothing out, by its type.
 //!
-//! **What is still to store.** What a decided call has still to store is known when it is decided, and is carried out by stores
-//! alone: its tail. Neither of the calls of today has anything to store.
+//! **Counts.** An act that changes the references to a frame says which counts it changes, and by how much. Each is acquired
+//! before the act's first step, by a load and a compare, and is committed after the call is decided, by one store: with its change
+//! where the call is carried out, and as it was where it is refused. While a core holds a count no other core changes it or
+//! freezes it, so the sum of a frame's counts, each as its holder will commit it, is at each moment the number of references.
 //!
-//! **Copy.** The target's entry is compared with the word that this call has loaded there; the compare decides.
+//! **What is still to store.** What a decided call has still to store is known when it is decided, and is carried out by stores
+//! alone: its tail, then its counts, the earliest first.
+//!
+//! **Copy.** The count of what is copied is acquired; a range names frames without a reference, and no count is. Then the target's
+//! entry is compared with the word that this call has loaded there; the compare decides. A target that is quiescing is scanned for
+//! before: each other core is out of a call, or has entered its call after the removal.
+//!
+//! **Remove, shrink, unmap.** The count of what is removed is acquired, the entry is closed, and a stamp is drawn, which decides. Then the entry that
+//! quiesces since the stamp is stored, and the count is committed with one reference less and the stamp.
 //!
 //! **Refusals.** A refusal decides at the first step by which it is known and every earlier cause is judged: first that the
 //! core's calls are spent, then of each name in written order `no-slot`, `empty` and `wrong-cap`, then of the target `no-slot`
@@ -23,8 +33,8 @@
 //! **Words that never come.** Every word is taken: what is no entry of this machine is refused with `raced`, and a clock past the
 //! range of a stamp stays at the range's end.
 //!
-//! **A call more** adds a line to each function of `acts`: where its act begins, the act's next step, what it takes, whether that
-//! step decides; and to the tail, if it has something to store.
+//! **A call more** adds a line to each function of `acts`: where its act begins, which counts it changes, the act's next step, what
+//! it takes, whether that step decides; and to the tail, if it has something to store.
 #![tactic(auto)]
 
 mod acts;

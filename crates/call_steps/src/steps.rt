@@ -1,31 +1,45 @@
 //! The steps of a call.
 
-ghost use Rattle.std.specs.Prelude.{◌≡◌, ◌<◌};
+ghost use Rattle.std.specs.Prelude.{◌≡◌, ◌<◌, ◌≤◌};
 ghost use Rattle.word_map.specs.Places.{size_of};
 ghost use Rattle.word_map.specs.Moves.{op_of};
 ghost use Rattle.spk_nums.specs.WordSteps.{place_in};
 ghost use Rattle.call_plans.specs.After.{next_of};
-ghost use Rattle.call_steps.specs.Steps.{core_word, work_move, stage_move, went, landed, next_by, took_enter, took_found, took_end, took_work, took_at, took, told, call_after, is_last, decides_at_name, work_ready, is_ready, is_spent, named_one};
-ghost use Rattle.call_steps.specs.Fits.{WorkFits, StageFits};
+ghost use Rattle.stage_pins.specs.Held.{AllFit};
+ghost use Rattle.call_steps.specs.Tails.{tail_counts, took_tail};
+ghost use Rattle.call_steps.specs.Steps.{core_word, work_move, stage_move, went, went_with, took_scan, took_count, landed, next_by, took_enter, took_found, took_end, took_work, took_at, took, told, call_after, is_last, decides_at_name, work_ready, is_ready, is_spent, named_one};
+ghost use Rattle.call_steps.specs.Fits.{WorkFits, StageFits, IsLater};
+ghost use Rattle.stage_pins.specs.Acquire.{pin_after, pin_end};
+ghost use Rattle.stage_quiet.specs.Scan.{quiet_after, quiet_end};
+ghost use Rattle.std.specs.Prelude.{nat_le, []};
+ghost use Rattle.call_plans.specs.GoesBy.{place_of};
+ghost use Rattle.call_plans.specs.After.{with_found};
+ghost use Rattle.call_steps.specs.Acts.{refuse, act_begun};
+ghost use Rattle.call_steps.specs.Lookups.{looks_under, looks_entry, looks_at, met_free, met_held};
+ghost use Rattle.call_steps.specs.declared.stages.WorkStep.TheVariants.{Goes};
+ghost use Rattle.call_steps.specs.declared.stages.Work.TheVariants.{Lookup, Scan, Acquire};
 
-use crate::acts::{act_op, act_ready, act_took, refuse};
-use crate::lookups::{Met, met_free, met_held, met_name, next_step};
+use crate::acts::{act_op, act_ready, act_took, begin_act, next_work, refuse};
+use crate::lookups::{Met, frame_of, met_free, met_held, met_name};
 use crate::own::Own;
 use crate::refusals::Refusal;
-use crate::stages::{ActiveCall, Stage, Tail, Told, Work, WorkStep};
+use crate::stages::{Act, ActiveCall, Stage, Tail, Told, Work, WorkStep};
 use crate::tails::{tail_op, took_tail};
-use call_plans::{Decides, Next};
+use call_plans::{Decides, Next, Spot};
 use frame_words::CoreWord;
-use spk_nums::{Reply, StageEnd, Stamp, WordOp};
+use spk_nums::{CapId, CoreNo, EntryNo, FrameNo, Reply, StageEnd, Stamp, WordOp};
 use stage_look::{Found, Look};
+use stage_pins::{Acquired, AcquiredCounts, Pin, Pinned};
+use stage_quiet::Quiet;
 use word_map::Layout;
 
-/// The next step of a call at a stage. What it names is of the layout's machine.
+/// The next step of a call that has acquired these counts, at a stage. What it names is of the layout's machine.
 #[inline]
-pub fn stage_op(own: &Own, stage: &Stage, layout: &Layout) -> WordOp
+pub fn stage_op(own: &Own, counts: &AcquiredCounts, stage: &Stage, layout: &Layout) -> WordOp
     requires fits { StageFits layout.now stage.now }
+    requires counts { AllFit layout.now counts.now }
     requires core { own.now.core < layout.now.cores }
-    ensures step { result ≡ op_of layout.now (stage_move own.now stage.now) }
+    ensures step { result ≡ op_of layout.now (stage_move own.now counts.now stage.now) }
     ensures below { place_in result < size_of layout.now }
 {
     match stage {
@@ -34,7 +48,7 @@ pub fn stage_op(own: &Own, stage: &Stage, layout: &Layout) -> WordOp
             word: core_word(true, own.exit),
         },
         Stage::Undecided { work } => work_op(work, layout),
-        Stage::Decided { reply: _, tail } => tail_op(*tail, layout),
+        Stage::Decided { reply, drawn, tail } => tail_op(reply, *drawn, tail, counts, layout),
         Stage::Leave { reply: _, stamp } => WordOp::Store {
             at: layout.core_at(own.core),
             word: core_word(false, *stamp),
@@ -51,6 +65,12 @@ fn work_op(work: &Work, layout: &Layout) -> WordOp
 {
     match work {
         Work::Lookup { look } => look.next(layout),
+        Work::Scan { quiet, act: _ } => quiet.next(layout),
+        Work::Acquire {
+            pin,
+            change: _,
+            act: _,
+        } => pin.next(layout),
         Work::Act { act } => act_op(act, layout),
     }
 }
@@ -62,6 +82,53 @@ fn core_word(inside: bool, stamp: Stamp) -> u64
 {
     let word = CoreWord { inside, stamp };
     word.pack()
+}
+
+// What a call takes from a step of a scan, which stands here after it.
+#[inline]
+fn scan_took(core: CoreNo, act: &Act, quiet: Quiet, end: &StageEnd<()>) -> WorkStep
+    ensures { result ≡ took_scan core act.now quiet end.now }
+{
+    match end {
+        StageEnd::Going => WorkStep::Goes {
+            work: Work::Scan { quiet, act: *act },
+        },
+        StageEnd::Decided(reply) => refuse(Refusal::of(reply)),
+        StageEnd::Done(_) => WorkStep::Goes {
+            work: next_work(core, 0, act),
+        },
+        StageEnd::Refuse(reply) => refuse(Refusal::of(reply)),
+    }
+}
+
+// What a call takes from a step by which it acquires a count for an act, of whose counts it has acquired so many.
+#[inline]
+fn count_took(
+    core: CoreNo,
+    n: u8,
+    change: i32,
+    act: &Act,
+    pin: Pin,
+    end: &StageEnd<Pinned>,
+) -> WorkStep
+    requires { n < 255 }
+    ensures { result ≡ took_count core n change act.now pin end.now }
+{
+    match end {
+        StageEnd::Going => WorkStep::Goes {
+            work: Work::Acquire {
+                pin,
+                change,
+                act: *act,
+            },
+        },
+        StageEnd::Decided(reply) => refuse(Refusal::of(reply)),
+        StageEnd::Done(pin) => WorkStep::Acquires {
+            count: Acquired { pin: *pin, change },
+            work: next_work(core, n + 1, act),
+        },
+        StageEnd::Refuse(reply) => refuse(Refusal::of(reply)),
+    }
 }
 
 // Whether the next load is that of the place that is looked for.
@@ -86,6 +153,29 @@ fn decides_at_name(decides: Decides) -> bool
     }
 }
 
+// A step of a scan.
+#[inline]
+fn scan_step(own: &Own, quiet: &Quiet, act: &Act, found: u64) -> WorkStep
+    requires { WorkFits own.now.layout (Scan quiet.now act.now) }
+    ensures { result ≡ took_scan own.now.core act.now (quiet_after own.now.layout.cores quiet.now found) (quiet_end own.now.layout.cores quiet.now found) }
+{
+    let mut quiet = *quiet;
+    let end = quiet.take(&own.layout, found);
+    scan_took(own.core, act, quiet, &end)
+}
+
+// A step by which a call that has acquired so many counts acquires one.
+#[inline]
+fn count_step(own: &Own, n: u8, pin: &Pin, change: i32, act: &Act, found: u64) -> WorkStep
+    requires fits { WorkFits own.now.layout (Acquire pin.now change act.now) }
+    requires few { n < 255 }
+    ensures { result ≡ took_count own.now.core n change act.now (pin_after pin.now found) (pin_end pin.now found) }
+{
+    let mut pin = *pin;
+    let end = pin.take(&own.layout, found);
+    count_took(own.core, n, change, act, pin, &end)
+}
+
 impl ActiveCall {
     /// Whether the call is ready: its next step is the one that decides its `ok`, or it is decided.
     #[inline]
@@ -95,7 +185,11 @@ impl ActiveCall {
         match &self.stage {
             Stage::Enter => false,
             Stage::Undecided { work } => self.work_ready(work),
-            Stage::Decided { reply: _, tail: _ } => true,
+            Stage::Decided {
+                reply: _,
+                drawn: _,
+                tail: _,
+            } => true,
             Stage::Leave { reply: _, stamp: _ } => true,
         }
     }
@@ -111,6 +205,12 @@ impl ActiveCall {
                     && self.found.count() + 1 == self.plan.names.count()
                     && is_last(look)
             }
+            Work::Scan { quiet: _, act: _ } => false,
+            Work::Acquire {
+                pin: _,
+                change: _,
+                act: _,
+            } => false,
             Work::Act { act } => act_ready(act),
         }
     }
@@ -119,28 +219,70 @@ impl ActiveCall {
     /// and only in what the step changes. One that returns stays as it was.
     #[inline]
     pub fn absorb(&mut self, own: &Own, found: u64) -> Told
+        requires core { own.now.core < own.now.layout.cores }
+        requires cores { own.now.layout.cores ≤ 8 }
         requires fits { StageFits own.now.layout self.old.stage }
         requires few { self.old.steps < 1000 }
         ensures told { result ≡ told (took own.now self.old found) }
         ensures after { self.new ≡ call_after self.old (took own.now self.old found) }
     {
-        let stage = self.stage;
-        self.absorb_at(own, &stage, found)
+        match &self.stage {
+            Stage::Enter => self.enter(own.limit <= own.made, own),
+            Stage::Undecided { work } => match work {
+                Work::Lookup { look } => {
+                    let look = *look;
+                    self.absorb_look(own, look, found)
+                }
+                Work::Scan { quiet: _, act: _ } => self.absorb_later(own, found),
+                Work::Acquire {
+                    pin: _,
+                    change: _,
+                    act: _,
+                } => self.absorb_later(own, found),
+                Work::Act { act: _ } => self.absorb_later(own, found),
+            },
+            Stage::Decided {
+                reply: _,
+                drawn: _,
+                tail: _,
+            } => self.absorb_later(own, found),
+            Stage::Leave { reply: _, stamp: _ } => self.absorb_later(own, found),
+        }
     }
 
-    // A step at this stage, which is the call's.
-    #[inline]
-    fn absorb_at(&mut self, own: &Own, stage: &Stage, found: u64) -> Told
-        requires fits { StageFits own.now.layout stage.now }
+    // The step of a call after its look-ups. It stands apart, so that a step of a look-up, which most are, has no room on the stack
+    // for what an act needs.
+    #[inline(never)]
+    fn absorb_later(&mut self, own: &Own, found: u64) -> Told
+        requires core { own.now.core < own.now.layout.cores }
+        requires cores { own.now.layout.cores ≤ 8 }
+        requires fits { StageFits own.now.layout self.old.stage }
+        requires later { IsLater self.old.stage }
         requires few { self.old.steps < 1000 }
-        ensures told { result ≡ told (took_at own.now self.old stage.now found) }
-        ensures after { self.new ≡ call_after self.old (took_at own.now self.old stage.now found) }
+        ensures told { result ≡ told (took own.now self.old found) }
+        ensures after { self.new ≡ call_after self.old (took own.now self.old found) }
     {
-        match stage {
-            Stage::Enter => self.enter(own.limit <= own.made, own),
-            Stage::Undecided { work } => self.absorb_work(own, work, found),
-            Stage::Decided { reply, tail } => {
-                self.go_on(took_tail(*reply, *tail, found));
+        match &self.stage {
+            Stage::Enter => unreachable!(),
+            Stage::Undecided { work } => match work {
+                Work::Lookup { look: _ } => unreachable!(),
+                Work::Scan { quiet, act } => {
+                    let step = scan_step(own, quiet, act, found);
+                    self.land(&step)
+                }
+                Work::Acquire { pin, change, act } => {
+                    let n = self.counts.count();
+                    let step = count_step(own, n, pin, *change, act, found);
+                    self.land(&step)
+                }
+                Work::Act { act } => {
+                    let step = act_took(act, &own.layout, found);
+                    self.land(&step)
+                }
+            },
+            Stage::Decided { reply, drawn, tail } => {
+                let (reply, drawn, tail) = (*reply, *drawn, *tail);
+                self.store(reply, drawn, &tail, found);
                 Told::Going
             }
             Stage::Leave { reply, stamp } => Told::Returned {
@@ -150,77 +292,85 @@ impl ActiveCall {
         }
     }
 
+    // A step of a look-up.
+    #[inline]
+    fn absorb_look(&mut self, own: &Own, look: Look, found: u64) -> Told
+        requires core { own.now.core < own.now.layout.cores }
+        requires cores { own.now.layout.cores ≤ 8 }
+        requires fits { WorkFits own.now.layout (Lookup look) }
+        requires few { self.old.steps < 1000 }
+        ensures told { result ≡ told (took_work own.now self.old (Lookup look) found) }
+        ensures after { self.new ≡ call_after self.old (took_work own.now self.old (Lookup look) found) }
+    {
+        let mut look = look;
+        let end = look.take(&own.layout, found);
+        self.looked(own, look, &end)
+    }
+
+    // A step of a call that is decided: a store, a commit, or the load of the clock.
+    #[inline]
+    fn store(&mut self, reply: Reply, drawn: Option<Stamp>, tail: &Tail, found: u64)
+        requires { self.old.steps < 1000 }
+        ensures { self.new ≡ went_with self.old (tail_counts tail.now self.old.counts) (took_tail reply drawn tail.now self.old.counts found) }
+    {
+        let stage = took_tail(reply, drawn, tail, &self.counts, found);
+        if matches!(tail, Tail::Nothing) {
+            self.counts.pop();
+        }
+        self.go_on(stage);
+    }
+
     // The first step of a call.
     #[inline]
     fn enter(&mut self, spent: bool, own: &Own) -> Told
-        requires { self.old.steps < 1000 }
-        ensures told { result ≡ told (took_enter spent own.now.table self.old) }
-        ensures after { self.new ≡ call_after self.old (took_enter spent own.now.table self.old) }
+        requires core { own.now.core < own.now.layout.cores }
+        requires cores { own.now.layout.cores ≤ 8 }
+        requires few { self.old.steps < 1000 }
+        ensures told { result ≡ told (took_enter spent own.now self.old) }
+        ensures after { self.new ≡ call_after self.old (took_enter spent own.now self.old) }
     {
         if spent {
-            self.land(&refuse(Refusal::CallsSpent))
+            self.refused(Refusal::CallsSpent)
         } else {
             self.look_next(own)
-        }
-    }
-
-    // A step of the work of a call.
-    #[inline]
-    fn absorb_work(&mut self, own: &Own, work: &Work, found: u64) -> Told
-        requires fits { WorkFits own.now.layout work.now }
-        requires few { self.old.steps < 1000 }
-        ensures told { result ≡ told (took_work own.now self.old work.now found) }
-        ensures after { self.new ≡ call_after self.old (took_work own.now self.old work.now found) }
-    {
-        match work {
-            Work::Lookup { look } => {
-                let mut look = *look;
-                let end = look.take(&own.layout, found);
-                self.looked(own, look, &end)
-            }
-            Work::Act { act } => self.land(&act_took(act, found)),
         }
     }
 
     // A step of a look-up, which stands at `look` after it.
     #[inline]
     fn looked(&mut self, own: &Own, look: Look, end: &StageEnd<Found>) -> Told
-        requires { self.old.steps < 1000 }
-        ensures told { result ≡ told (took_end own.now.table self.old look end.now) }
-        ensures after { self.new ≡ call_after self.old (took_end own.now.table self.old look end.now) }
+        requires core { own.now.core < own.now.layout.cores }
+        requires cores { own.now.layout.cores ≤ 8 }
+        requires few { self.old.steps < 1000 }
+        ensures told { result ≡ told (took_end own.now self.old look end.now) }
+        ensures after { self.new ≡ call_after self.old (took_end own.now self.old look end.now) }
     {
         match end {
-            StageEnd::Going => self.land(&WorkStep::Goes {
-                work: Work::Lookup { look },
-            }),
-            StageEnd::Decided(reply) => self.land(&refuse(Refusal::of(reply))),
+            StageEnd::Going => self.look(look),
+            StageEnd::Decided(reply) => self.refused(Refusal::of(reply)),
             StageEnd::Done(found) => self.found_place(own, found),
-            StageEnd::Refuse(reply) => self.land(&refuse(Refusal::of(reply))),
+            StageEnd::Refuse(reply) => self.refused(Refusal::of(reply)),
         }
     }
 
     // The place of a name or of the target was found.
     #[inline]
     fn found_place(&mut self, own: &Own, found: &Found) -> Told
-        requires { self.old.steps < 1000 }
-        ensures told { result ≡ told (took_found own.now.table self.old (next_of self.old.plan self.old.found) found.now) }
-        ensures after { self.new ≡ call_after self.old (took_found own.now.table self.old (next_of self.old.plan self.old.found) found.now) }
+        requires core { own.now.core < own.now.layout.cores }
+        requires cores { own.now.layout.cores ≤ 8 }
+        requires few { self.old.steps < 1000 }
+        ensures told { result ≡ told (took_found own.now self.old (next_of self.old.plan self.old.found) found.now) }
+        ensures after { self.new ≡ call_after self.old (took_found own.now self.old (next_of self.old.plan self.old.found) found.now) }
     {
         match self.plan.next(&self.found) {
             Next::Name { name } => {
                 let met = met_name(&self.found, name.wanted, &found.value);
                 self.named_one(own, &met)
             }
-            Next::Free { spot: _ } => {
-                let step = met_free(&self.call, &self.found, found);
-                self.land(&step)
-            }
-            Next::Held { spot: _ } => {
-                let step = met_held(&self.call, &self.found, found);
-                self.land(&step)
-            }
-            Next::Own { page: _ } => self.land(&refuse(Refusal::Raced)),
-            Next::Nothing => self.land(&refuse(Refusal::Raced)),
+            Next::Free { spot: _ } => self.found_free(own, found),
+            Next::Held { spot: _ } => self.found_held(own, found),
+            Next::Own { page: _ } => self.refused(Refusal::Raced),
+            Next::Nothing => self.refused(Refusal::Raced),
         }
     }
 
@@ -228,28 +378,146 @@ impl ActiveCall {
     #[inline]
     #[tactic(auto, using(crate::proofs::Landing::same_call))]
     fn named_one(&mut self, own: &Own, met: &Met) -> Told
-        requires { self.old.steps < 1000 }
-        ensures told { result ≡ told (named_one own.now.table self.old met.now) }
-        ensures after { self.new ≡ call_after self.old (named_one own.now.table self.old met.now) }
+        requires core { own.now.core < own.now.layout.cores }
+        requires cores { own.now.layout.cores ≤ 8 }
+        requires few { self.old.steps < 1000 }
+        ensures told { result ≡ told (named_one own.now self.old met.now) }
+        ensures after { self.new ≡ call_after self.old (named_one own.now self.old met.now) }
     {
         match met {
             Met::Finds { cap } => {
                 self.found.push(*cap);
                 self.look_next(own)
             }
-            Met::Refused { refusal } => self.land(&refuse(*refusal)),
+            Met::Refused { refusal } => self.refused(*refusal),
         }
+    }
+
+    // The place of a target that is to be free was found.
+    #[inline(never)]
+    fn found_free(&mut self, own: &Own, found: &Found) -> Told
+        requires core { own.now.core < own.now.layout.cores }
+        requires cores { own.now.layout.cores ≤ 8 }
+        requires few { self.old.steps < 1000 }
+        ensures told { result ≡ told (landed self.old (met_free own.now self.old.call self.old.found found.now found.now.value)) }
+        ensures after { self.new ≡ call_after self.old (landed self.old (met_free own.now self.old.call self.old.found found.now found.now.value)) }
+    {
+        let step = met_free(own, &self.call, &self.found, found);
+        self.land(&step)
+    }
+
+    // The place of a target that is to be held was found.
+    #[inline(never)]
+    fn found_held(&mut self, own: &Own, found: &Found) -> Told
+        requires core { own.now.core < own.now.layout.cores }
+        requires cores { own.now.layout.cores ≤ 8 }
+        requires few { self.old.steps < 1000 }
+        ensures told { result ≡ told (landed self.old (met_held own.now self.old.call self.old.found found.now found.now.value)) }
+        ensures after { self.new ≡ call_after self.old (landed self.old (met_held own.now self.old.call self.old.found found.now found.now.value)) }
+    {
+        let step = met_held(own, &self.call, &self.found, found);
+        self.land(&step)
     }
 
     // What comes next of the call: a look-up, or its act.
     #[inline]
     fn look_next(&mut self, own: &Own) -> Told
-        requires { self.old.steps < 1000 }
-        ensures told { result ≡ told (landed self.old (next_by own.now.table self.old)) }
-        ensures after { self.new ≡ call_after self.old (landed self.old (next_by own.now.table self.old)) }
+        requires core { own.now.core < own.now.layout.cores }
+        requires cores { own.now.layout.cores ≤ 8 }
+        requires few { self.old.steps < 1000 }
+        ensures told { result ≡ told (landed self.old (next_by own.now self.old)) }
+        ensures after { self.new ≡ call_after self.old (landed self.old (next_by own.now self.old)) }
     {
-        let step = next_step(own.table, &self.call, &self.plan, &self.found);
+        match self.plan.next(&self.found) {
+            Next::Name { name } => self.look_under(own.table, name.number.number()),
+            Next::Free { spot } => self.look_at(spot),
+            Next::Held { spot } => self.look_at(spot),
+            Next::Own { page: _ } => self.refused(Refusal::Raced),
+            Next::Nothing => self.begin_act(own),
+        }
+    }
+
+    // The act of a call without a target begins.
+    #[inline(never)]
+    fn begin_act(&mut self, own: &Own) -> Told
+        requires core { own.now.core < own.now.layout.cores }
+        requires cores { own.now.layout.cores ≤ 8 }
+        requires few { self.old.steps < 1000 }
+        ensures told { result ≡ told (landed self.old (act_begun own.now self.old.call self.old.found None)) }
+        ensures after { self.new ≡ call_after self.old (landed self.old (act_begun own.now self.old.call self.old.found None)) }
+    {
+        let step = begin_act(own, &self.call, &self.found, &None);
         self.land(&step)
+    }
+
+    // A number of the table with this root is looked up.
+    #[inline]
+    fn look_under(&mut self, root: FrameNo, number: u16) -> Told
+        requires { self.old.steps < 1000 }
+        ensures told { result ≡ told (landed self.old (looks_under (nat_le number 4095) root number)) }
+        ensures after { self.new ≡ call_after self.old (landed self.old (looks_under (nat_le number 4095) root number)) }
+    {
+        if number <= 4095 {
+            self.look(Look::place(root, CapId::new(number)))
+        } else {
+            self.refused(Refusal::NoSlot)
+        }
+    }
+
+    // An entry of this root is looked up.
+    #[inline]
+    fn look_entry(&mut self, root: FrameNo, entry: EntryNo) -> Told
+        requires { self.old.steps < 1000 }
+        ensures told { result ≡ told (landed self.old (looks_entry (nat_le entry 63) root entry)) }
+        ensures after { self.new ≡ call_after self.old (landed self.old (looks_entry (nat_le entry 63) root entry)) }
+    {
+        if entry.number() <= 63 {
+            self.look(Look::root(root, entry))
+        } else {
+            self.refused(Refusal::NoSlot)
+        }
+    }
+
+    // The place of a target is looked up.
+    #[inline]
+    fn look_at(&mut self, spot: Spot) -> Told
+        requires { self.old.steps < 1000 }
+        ensures told { result ≡ told (landed self.old (looks_at (place_of (with_found [] self.old.found) spot))) }
+        ensures after { self.new ≡ call_after self.old (landed self.old (looks_at (place_of (with_found [] self.old.found) spot))) }
+    {
+        match spot {
+            Spot::Under { root, number } => {
+                let root = frame_of(&self.found, root);
+                self.look_under(root, number)
+            }
+            Spot::InRoot { root, entry } => {
+                let root = frame_of(&self.found, root);
+                self.look_entry(root, entry)
+            }
+        }
+    }
+
+    // A look-up stands here.
+    #[inline]
+    fn look(&mut self, look: Look) -> Told
+        requires { self.old.steps < 1000 }
+        ensures told { result ≡ told (landed self.old (Goes (Lookup look))) }
+        ensures after { self.new ≡ call_after self.old (landed self.old (Goes (Lookup look))) }
+    {
+        self.go_on(Stage::Undecided {
+            work: Work::Lookup { look },
+        });
+        Told::Going
+    }
+
+    // The call is refused, with nothing to store.
+    #[inline]
+    fn refused(&mut self, refusal: Refusal) -> Told
+        requires { self.old.steps < 1000 }
+        ensures told { result ≡ told (landed self.old (refuse refusal)) }
+        ensures after { self.new ≡ call_after self.old (landed self.old (refuse refusal)) }
+    {
+        self.decide(&refusal.reply(), None, &Tail::Nothing)
     }
 
     // The call goes where a step of its work takes it.
@@ -264,20 +532,28 @@ impl ActiveCall {
                 self.go_on(Stage::Undecided { work: *work });
                 Told::Going
             }
-            WorkStep::Refuses { refusal, tail } => self.decide(&refusal.reply(), tail),
-            WorkStep::Answers { value, tail } => self.decide(&Reply::Ok(*value), tail),
+            WorkStep::Acquires { count, work } => {
+                self.counts.push(*count);
+                self.go_on(Stage::Undecided { work: *work });
+                Told::Going
+            }
+            WorkStep::Refuses { refusal, tail } => self.decide(&refusal.reply(), None, tail),
+            WorkStep::Answers { value, drawn, tail } => {
+                self.decide(&Reply::Ok(*value), *drawn, tail)
+            }
         }
     }
 
-    // The call is decided with this reply.
+    // The call is decided with this reply, and has drawn this stamp or none.
     #[inline]
-    fn decide(&mut self, reply: &Reply, tail: &Tail) -> Told
+    fn decide(&mut self, reply: &Reply, drawn: Option<Stamp>, tail: &Tail) -> Told
         requires { self.old.steps < 1000 }
-        ensures told { result ≡ told (decided self.old reply.now tail.now) }
-        ensures after { self.new ≡ call_after self.old (decided self.old reply.now tail.now) }
+        ensures told { result ≡ told (decided self.old reply.now drawn tail.now) }
+        ensures after { self.new ≡ call_after self.old (decided self.old reply.now drawn tail.now) }
     {
         self.go_on(Stage::Decided {
             reply: *reply,
+            drawn,
             tail: *tail,
         });
         Told::Decided { reply: *reply }

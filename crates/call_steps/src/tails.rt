@@ -4,34 +4,82 @@ ghost use Rattle.std.specs.Prelude.{◌≡◌, ◌<◌};
 ghost use Rattle.word_map.specs.Places.{size_of};
 ghost use Rattle.word_map.specs.Moves.{op_of};
 ghost use Rattle.spk_nums.specs.WordSteps.{place_in};
-ghost use Rattle.call_steps.specs.Tails.{tail_move, stamp_of, took_tail};
+ghost use Rattle.call_steps.specs.Tails.{is_ok, tail_move, stamp_of, took_tail};
+ghost use Rattle.stage_pins.specs.Held.{AllFit};
+ghost use Rattle.call_steps.specs.Fits.{TailFits};
 
 use crate::stages::{Stage, Tail};
 use spk_nums::{Reply, Stamp, WordOp};
+use stage_pins::AcquiredCounts;
 use word_map::Layout;
 
-/// The next step of a decided call: its next store, or the load of the clock where it has none.
+/// The next step of a decided call that has acquired these counts: its next store, then the commit of its earliest count, then the
+/// load of the clock. The counts are of the layout's machine.
 #[inline]
-pub fn tail_op(tail: Tail, layout: &Layout) -> WordOp
-    ensures step { result ≡ op_of layout.now (tail_move tail) }
+pub fn tail_op(
+    reply: &Reply,
+    drawn: Option<Stamp>,
+    tail: &Tail,
+    counts: &AcquiredCounts,
+    layout: &Layout,
+) -> WordOp
+    requires tail { TailFits layout.now tail.now }
+    requires counts { AllFit layout.now counts.now }
+    ensures step { result ≡ op_of layout.now (tail_move reply.now drawn tail.now counts.now) }
     ensures below { place_in result < size_of layout.now }
 {
     match tail {
-        Tail::Nothing => WordOp::Load {
-            at: layout.clock_at(),
+        Tail::Quiesce { close } => close.next(layout),
+        Tail::Nothing => match counts.first() {
+            None => WordOp::Load {
+                at: layout.clock_at(),
+            },
+            Some(count) => {
+                let settle = count.commit(is_ok(reply), drawn);
+                settle.next(layout)
+            }
         },
     }
 }
 
-/// Where a decided call stands after that step found this.
+// Whether a reply says that the call was carried out.
 #[inline]
-pub fn took_tail(reply: Reply, tail: Tail, found: u64) -> Stage
-    ensures { result ≡ took_tail reply tail found }
+fn is_ok(reply: &Reply) -> bool
+    ensures { result ≡ is_ok reply.now }
+{
+    match reply {
+        Reply::Ok(_) => true,
+        _ => false,
+    }
+}
+
+/// Where a decided call with these counts stands after that step found this.
+#[inline]
+pub fn took_tail(
+    reply: Reply,
+    drawn: Option<Stamp>,
+    tail: &Tail,
+    counts: &AcquiredCounts,
+    found: u64,
+) -> Stage
+    ensures { result ≡ took_tail reply drawn tail.now counts.now found }
 {
     match tail {
-        Tail::Nothing => Stage::Leave {
+        Tail::Quiesce { close: _ } => Stage::Decided {
             reply,
-            stamp: stamp_of(found),
+            drawn,
+            tail: Tail::Nothing,
+        },
+        Tail::Nothing => match counts.first() {
+            None => Stage::Leave {
+                reply,
+                stamp: stamp_of(found),
+            },
+            Some(_) => Stage::Decided {
+                reply,
+                drawn,
+                tail: Tail::Nothing,
+            },
         },
     }
 }

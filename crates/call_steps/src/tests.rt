@@ -1,4 +1,4 @@
-//! A look and a copy, step by step over plain words: their replies, their steps, and where they are ready.
+//! A look, a copy and a removal, step by step over plain words: their replies, their steps, and where they are ready.
 
 ghost use Rattle.std.specs.Prelude.{◌<◌};
 ghost use Rattle.spk_nums.specs.CallLimits.{InLimits};
@@ -9,7 +9,9 @@ use spk_nums::{
     Call, Cap, CapId, CoreNo, FrameNo, Grant, Grants, Kind, Reply, Setup, Value, WordOp,
 };
 
-// A machine of one core and eight frames has 595 words, the core word at 528 and the clock at 594.
+// A machine of one core and eight frames has 595 words, the count of frame 0 at 520, the core word at 528 and the clock at 594.
+const COUNT_OF_0: usize = 520;
+
 const CORE_WORD: usize = 528;
 
 const CLOCK: usize = 594;
@@ -17,18 +19,42 @@ const CLOCK: usize = 594;
 // The entry 20 of frame 1.
 const TARGET: usize = 84;
 
+const COUNT_OF_2: usize = 522;
+
 const LINK_TO_1: u64 = 101;
 
 const RANGE_6_2: u64 = 0x2_0181;
 
 const TABLE_0: u64 = 5;
 
-// The words with a table of one leaf, whose entries 0 and 1 are the range and the table.
+const PAGES_2: u64 = 141;
+
+// The entries of places that quiesce since the stamps 5, 6 and 7.
+const QUIESCES_5: u64 = 0x5_0000_0003;
+
+const QUIESCES_6: u64 = 0x6_0000_0003;
+
+const QUIESCES_7: u64 = 0x7_0000_0003;
+
+// A count of one reference, held by no core, the last released at the stamp 7.
+const ONE_SINCE_7: u64 = 0x0400_0000_1000_0007;
+
+// Counts of two references and of three, held by no core, and of two, which core 0 or core 1 has acquired; each with the stamp 5.
+const TWO: u64 = 0x0400_0000_2000_0005;
+
+const THREE: u64 = 0x0400_0000_3000_0005;
+
+const TWO_BY_0: u64 = 0x0c00_0000_2000_0005;
+
+const TWO_BY_1: u64 = 0x1400_0000_2000_0005;
+
+// The words with a table of one leaf, whose entries 0 and 1 are the range and the table, which has two references.
 fn words() -> [u64; 595] {
     let mut words = [0; 595];
     words[0] = LINK_TO_1;
     words[64] = RANGE_6_2;
     words[65] = TABLE_0;
+    words[COUNT_OF_0] = TWO;
     words[CLOCK] = 7;
     words
 }
@@ -79,6 +105,11 @@ fn make(words: &mut [u64; 595], op: WordOp) -> u64 {
     }
 }
 
+// No steps.
+fn no_steps() -> [WordOp; 20] {
+    [WordOp::Load { at: 0 }; 20]
+}
+
 // Makes a call alone, unless the target is changed before a step: its reply, how many steps it made, and how many
 // before it was ready.
 fn call(
@@ -86,6 +117,21 @@ fn call(
     calls: u32,
     call: Call,
     changed_at: u32,
+) -> Option<(Reply, u32, u32)>
+    requires limits { InLimits call }
+    requires built { IsBuilt call }
+{
+    let mut steps = no_steps();
+    call_by_steps(words, calls, call, changed_at, &mut steps)
+}
+
+// The same, with its steps.
+fn call_by_steps(
+    words: &mut [u64; 595],
+    calls: u32,
+    call: Call,
+    changed_at: u32,
+    steps: &mut [WordOp; 20],
 ) -> Option<(Reply, u32, u32)>
     requires limits { InLimits call }
     requires built { IsBuilt call }
@@ -105,7 +151,9 @@ fn call(
         if !core.is_ready() {
             before = step + 1;
         }
-        let found = make(words, core.next_op(&layout));
+        let op = core.next_op(&layout);
+        steps[step as usize] = op;
+        let found = make(words, op);
         if let Absorbed::Returned(reply) = core.absorb(found) {
             return Some((reply, step + 1, before));
         }
@@ -126,6 +174,16 @@ fn copy(a: u16, b: u16) -> Call
 {
     Call::Copy {
         a: CapId::new(a),
+        t: CapId::new(1),
+        b: CapId::new(b),
+    }
+}
+
+fn remove(b: u16) -> Call
+    ensures limits { InLimits result }
+    ensures built { IsBuilt result }
+{
+    Call::Remove {
         t: CapId::new(1),
         b: CapId::new(b),
     }
@@ -170,7 +228,7 @@ fn refuses_at_the_first_cause(rt: HostRuntime) {
     assert_eq!(rt; answers(&words, copy(63, 0)), Some((Reply::Empty, 5)));
     assert_eq!(rt; answers(&words, copy(0, 0)), Some((Reply::WrongCap, 7)));
     // The second name is quiescing, then closed by core 1.
-    words[65] = 0x5_0000_0003;
+    words[65] = QUIESCES_5;
     assert_eq!(rt; answers(&words, copy(0, 0)), Some((Reply::Empty, 7)));
     words[65] = 6;
     assert_eq!(rt;
@@ -189,4 +247,265 @@ fn refuses_numbers_without_a_step(rt: HostRuntime) {
     let words = words();
     assert_eq!(rt; answers(&words, look(4096)), Some((Reply::NoSlot, 3)));
     assert_eq!(rt; answers(&words, copy(0, 4096)), Some((Reply::NoSlot, 7)));
+}
+
+// Whether these are steps that a call has made, each at its number from 0 on.
+fn has_steps(steps: &[WordOp; 20], rows: &[(usize, WordOp)]) -> bool {
+    rows.iter().all(|row| steps.get(row.0) == Some(&row.1))
+}
+
+#[test]
+fn a_copy_counts_one_reference_more(rt: HostRuntime) {
+    let mut words = words();
+    let mut steps = no_steps();
+    let copied = call_by_steps(&mut words, 9, copy(1, 20), 99, &mut steps);
+    assert_eq!(rt; copied, Some((Reply::Ok(Value::Nothing), 13, 9)));
+    let acquires = WordOp::Compare {
+        at: 520,
+        expected: TWO,
+        word: TWO_BY_0,
+    };
+    let fills = WordOp::Compare {
+        at: 84,
+        expected: 0,
+        word: TABLE_0,
+    };
+    let commits = WordOp::Store {
+        at: 520,
+        word: THREE,
+    };
+    let leaves = WordOp::Store { at: 528, word: 14 };
+    let rows = [
+        (7, WordOp::Load { at: 520 }),
+        (8, acquires),
+        (9, fills),
+        (10, commits),
+        (11, WordOp::Load { at: 594 }),
+        (12, leaves),
+    ];
+    assert!(rt; has_steps(&steps, &rows));
+    assert_eq!(rt; words[COUNT_OF_0], THREE);
+    assert_eq!(rt; words[TARGET], TABLE_0);
+}
+
+#[test]
+fn a_refused_copy_gives_the_count_back(rt: HostRuntime) {
+    let mut words = words();
+    let mut steps = no_steps();
+    let lost = call_by_steps(&mut words, 9, copy(1, 20), 9, &mut steps);
+    assert_eq!(rt; lost, Some((Reply::Raced, 13, 9)));
+    let gives_back = WordOp::Store { at: 520, word: TWO };
+    assert!(rt; has_steps(&steps, &[(10, gives_back)]));
+    assert_eq!(rt; words[COUNT_OF_0], TWO);
+    // A count that another core holds is left as it was, and no place is filled.
+    words[TARGET] = 0;
+    words[COUNT_OF_0] = TWO_BY_1;
+    let held = call(&mut words, 9, copy(1, 20), 99);
+    assert_eq!(rt; held, Some((Reply::Busy(CoreNo::new(1)), 10, 8)));
+    assert_eq!(rt; words[COUNT_OF_0], TWO_BY_1);
+    assert_eq!(rt; words[TARGET], 0);
+}
+
+#[test]
+fn a_removal_closes_draws_and_releases_the_reference(rt: HostRuntime) {
+    let mut words = words();
+    words[TARGET] = PAGES_2;
+    words[COUNT_OF_2] = TWO;
+    let mut steps = no_steps();
+    let removed = call_by_steps(&mut words, 9, remove(20), 99, &mut steps);
+    assert_eq!(rt; removed, Some((Reply::Ok(Value::Nothing), 13, 8)));
+    let acquires = WordOp::Compare {
+        at: 522,
+        expected: TWO,
+        word: TWO_BY_0,
+    };
+    let closes = WordOp::Compare {
+        at: 84,
+        expected: PAGES_2,
+        word: 2,
+    };
+    let stores = WordOp::Store {
+        at: 84,
+        word: QUIESCES_7,
+    };
+    let commits = WordOp::Store {
+        at: 522,
+        word: ONE_SINCE_7,
+    };
+    let leaves = WordOp::Store { at: 528, word: 16 };
+    let rows = [
+        (5, WordOp::Load { at: 522 }),
+        (6, acquires),
+        (7, closes),
+        (8, WordOp::Add { at: 594, by: 1 }),
+        (9, stores),
+        (10, commits),
+        (11, WordOp::Load { at: 594 }),
+        (12, leaves),
+    ];
+    assert!(rt; has_steps(&steps, &rows));
+    assert_eq!(rt; words[TARGET], QUIESCES_7);
+    assert_eq!(rt; words[COUNT_OF_2], ONE_SINCE_7);
+    assert_eq!(rt; words[CLOCK], 8);
+    // A range names its frames without a reference to them, so no count is acquired.
+    words[TARGET] = RANGE_6_2;
+    let of_range = call(&mut words, 9, remove(20), 99);
+    assert_eq!(rt; of_range, Some((Reply::Ok(Value::Nothing), 10, 6)));
+}
+
+#[test]
+fn a_lost_removal_gives_the_count_back(rt: HostRuntime) {
+    let mut words = words();
+    words[TARGET] = PAGES_2;
+    words[COUNT_OF_2] = TWO;
+    let mut steps = no_steps();
+    let lost = call_by_steps(&mut words, 9, remove(20), 7, &mut steps);
+    assert_eq!(rt; lost, Some((Reply::Raced, 11, 8)));
+    let gives_back = WordOp::Store { at: 522, word: TWO };
+    assert!(rt; has_steps(&steps, &[(8, gives_back)]));
+    assert_eq!(rt; words[COUNT_OF_2], TWO);
+    assert_eq!(rt; words[TARGET], TABLE_0);
+    assert_eq!(rt; words[CLOCK], 7);
+    // Where another core holds the count, the entry stays as it was: it is closed only after the count is acquired.
+    words[COUNT_OF_0] = TWO_BY_1;
+    let held = call(&mut words, 9, remove(20), 99);
+    assert_eq!(rt; held, Some((Reply::Busy(CoreNo::new(1)), 8, 6)));
+    assert_eq!(rt; words[TARGET], TABLE_0);
+}
+
+#[test]
+fn a_removal_is_refused_at_the_first_cause(rt: HostRuntime) {
+    let mut words = words();
+    assert_eq!(rt; answers(&words, remove(4096)), Some((Reply::NoSlot, 5)));
+    assert_eq!(rt; answers(&words, remove(64)), Some((Reply::NoSlot, 6)));
+    assert_eq!(rt; answers(&words, remove(20)), Some((Reply::Empty, 7)));
+    words[TARGET] = QUIESCES_5;
+    assert_eq!(rt; answers(&words, remove(20)), Some((Reply::Empty, 7)));
+    words[TARGET] = 6;
+    assert_eq!(rt;
+        answers(&words, remove(20)),
+        Some((Reply::Busy(CoreNo::new(1)), 7))
+    );
+}
+
+// How many steps core 1 of a machine of three cores and ten frames makes of a call as wanted: each of these in order, which finds
+// this word and leads to this. The count of frame 0 is at 650, the core words from 680 on, and the clock at 750.
+fn steps_alike(call: Call, rows: &[(WordOp, u64, Absorbed)]) -> Option<usize>
+    requires limits { InLimits call }
+    requires built { IsBuilt call }
+{
+    let mut grants = Grants::empty();
+    for _ in 0..3u8 {
+        let _added = grants.add(Grant {
+            budget: 100,
+            sched: 0,
+            quality: 1,
+        });
+    }
+    let setup = Setup::new(3, 10, grants, 9, 1)?;
+    if setup.cores() < 2 {
+        return None;
+    }
+    let mut core = CoreState::start(CoreNo::new(1), &setup);
+    core.begin(call);
+    for (at, row) in rows.iter().enumerate() {
+        let layout = *core.layout();
+        if !core.in_call() || core.next_op(&layout) != row.0 || core.absorb(row.1) != row.2 {
+            return Some(at);
+        }
+    }
+    Some(rows.len())
+}
+
+// A load that finds this word, and a step that finds what it expects or stores, after which the call goes on.
+fn loads(at: u32, found: u64) -> (WordOp, u64, Absorbed) {
+    (WordOp::Load { at }, found, Absorbed::Going)
+}
+
+fn stores(at: u32, word: u64) -> (WordOp, u64, Absorbed) {
+    (WordOp::Store { at, word }, word, Absorbed::Going)
+}
+
+fn compares(at: u32, expected: u64, word: u64) -> (WordOp, u64, Absorbed) {
+    (
+        WordOp::Compare { at, expected, word },
+        expected,
+        Absorbed::Going,
+    )
+}
+
+// The steps of core 1's `copy 1 1 20` to the scan, where the target quiesces since the stamp 5.
+fn steps_to_the_scan() -> [(WordOp, u64, Absorbed); 7] {
+    [
+        stores(681, 1),
+        loads(0, LINK_TO_1),
+        loads(65, TABLE_0),
+        loads(0, LINK_TO_1),
+        loads(65, TABLE_0),
+        loads(0, LINK_TO_1),
+        loads(84, QUIESCES_5),
+    ]
+}
+
+// The same, with these behind them.
+fn scans(rows: &[(WordOp, u64, Absorbed)]) -> Option<usize> {
+    let mut all = [loads(0, 0); 15];
+    for (at, row) in steps_to_the_scan().iter().chain(rows).enumerate() {
+        *all.get_mut(at)? = *row;
+    }
+    steps_alike(copy(1, 20), all.get(..7 + rows.len())?)
+}
+
+// The steps of a call that is decided with this reply by a step that finds this, and has nothing to store.
+fn decides(op: &WordOp, found: u64, reply: &Reply) -> (WordOp, u64, Absorbed) {
+    (*op, found, Absorbed::Decided(*reply))
+}
+
+fn leaves(reply: &Reply) -> (WordOp, u64, Absorbed) {
+    let leaves = WordOp::Store { at: 681, word: 18 };
+    (leaves, 18, Absorbed::Returned(*reply))
+}
+
+#[test]
+fn a_copy_scans_the_other_cores_before_it_fills(rt: HostRuntime) {
+    // Core words: out, inside since an exit at 6, and inside since one at 5.
+    let (out, inside_6, inside_5) = (0, 13, 11);
+    let fills = WordOp::Compare {
+        at: 84,
+        expected: QUIESCES_5,
+        word: TABLE_0,
+    };
+    let ok = Reply::Ok(Value::Nothing);
+    let filled = [
+        loads(680, out),
+        loads(682, inside_6),
+        loads(650, TWO),
+        compares(650, TWO, TWO_BY_1),
+        decides(&fills, QUIESCES_5, &ok),
+        stores(650, THREE),
+        loads(750, 9),
+        leaves(&ok),
+    ];
+    assert_eq!(rt; scans(&filled), Some(15));
+    // The place was filled and removed again in between: the compare finds a later stamp.
+    let raced = [
+        loads(680, out),
+        loads(682, inside_6),
+        loads(650, TWO),
+        compares(650, TWO, TWO_BY_1),
+        decides(&fills, QUIESCES_6, &Reply::Raced),
+        stores(650, TWO),
+        loads(750, 9),
+        leaves(&Reply::Raced),
+    ];
+    assert_eq!(rt; scans(&raced), Some(15));
+    // The highest core has been in its call since before the removal: no count is acquired.
+    let waits = Reply::Quiescing(CoreNo::new(2));
+    let refused = [
+        loads(680, out),
+        decides(&WordOp::Load { at: 682 }, inside_5, &waits),
+        loads(750, 9),
+        leaves(&waits),
+    ];
+    assert_eq!(rt; scans(&refused), Some(11));
 }

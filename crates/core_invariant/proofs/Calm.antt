@@ -1,6 +1,7 @@
 -- Steps that change no frame and no liveness number, and of the cores only what the own core counts and whether it is inside; and
--- steps at which no grace period begins or ends and nothing is flushed. All steps of calls that are carried out today are such.
-use Rattle.std.proofs.Common.{◌≡◌, ◌≢◌, inl, inr, ℕ, zero, suc, ◌+◌, ◌<◌, ◌≤◌, Bool, true, false, cond, ◌∷◌, Option, Some, None, arith, refl, sym, ◌∙◌, ap, subst}
+-- steps at which no grace period begins or ends and nothing is flushed. Steps of calls that are carried out today are such, but for the
+-- draw of a stamp.
+use Rattle.std.proofs.Common.{◌≡◌, ◌≢◌, inl, inr, ℕ, zero, suc, ◌+◌, ◌*◌, ◌<◌, ◌≤◌, Bool, true, false, cond, ◌∷◌, Option, Some, None, arith, refl, sym, ◌∙◌, ap, subst}
 use Rattle.std.proofs.lemmas.Bool.{cases_eq, false≢true}
 use Rattle.spk_nums.specs.Setting.{Setting}
 use Rattle.word_map.specs.Word.{Word, EntryAt, FrameAt, CountAt, CoreAt, FlushAt, LiveAt, ClockAt, same_word}
@@ -9,12 +10,14 @@ use Rattle.kernel_rules.specs.State.{Core as CoreFields, Thing, PlaceOf, NumberO
 use Rattle.kernel_rules.specs.References.{sum_below}
 use Rattle.kernel_rules.specs.GracePeriods.{entered, returned}
 use Rattle.kernel_rules.specs.CallRelation.{counted}
+use Rattle.kernel_rules.proofs.Sums.{sum_one}
 use Rattle.kernel_rules.proofs.Within.{put_same, put_other}
 use Rattle.kernel_history.specs.Trace.{Step, Trace, state_after}
 use Rattle.kernel_history.specs.Stamps.{begins_at, ends_at, flushes_at, stamp, clock, clock_seen, exit_of, exit_after, flush_of, flush_stored}
 use Rattle.kernel_history.proofs.Steps.{stamp-kept, exit_of-own, exit_of-other, flush_of-own, flush_of-other, flush_stored-own, flush_stored-other}
 use Rattle.kernel_history.specs.Graces.{KeepsTime}
 use Rattle.call_steps.specs.declared.own.Own.{Own}
+use Rattle.core_invariant.specs.Words.{count_room}
 use Rattle.core_invariant.specs.Knows.{WorksIn}
 use Rattle.core_invariant.specs.Stands.{times_of, counted_in}
 use Rattle.core_invariant.proofs.WordFrames.{SameFor}
@@ -35,7 +38,8 @@ pub record IsCalm (s s' : State) (c : ℕ) : Type 0 where
 pub calm_same : (s : State) (c : ℕ) → IsCalm s s c
 calm_same s c = record { frame = λ f. refl; number = λ l. refl; limits = refl; others = λ d other. refl; own = refl; more = omega arith }
 
-pub calm_core : (s s' : State) (c : ℕ) (k : CoreFields) → s'.core ≡ put s.core c k → ((f : ℕ) → s'.frame f ≡ s.frame f) → ((l : ℕ) → s'.number l ≡ s.number l)
+pub calm_core : (s s' : State) (c : ℕ) (k : CoreFields) → s'.core ≡ put s.core c k → ((f : ℕ) → s'.frame f ≡ s.frame f)
+    → ((l : ℕ) → s'.number l ≡ s.number l)
     → s'.limits ≡ s.limits → k ≡ counts (s.core c) k.inside k.counted → (s.core c).counted ≤ k.counted → IsCalm s s' c
 calm_core s s' c k core frame number limits own more =
     let at : s'.core c ≡ k = ap (λ f. f c) core ∙ put_same s.core c k c refl in
@@ -68,15 +72,19 @@ calm_then s s' s'' c a b = record {
   more = (let p = a.more in let q = b.more in omega arith);
 }
 
-thread_on : (s s' : State) (d : ℕ) → ((f : ℕ) → s'.frame f ≡ s.frame f) → (s'.core d).thread ≡ (s.core d).thread → thread_of s' d ≡ thread_of s d
+thread_on : (s s' : State) (d : ℕ) → ((f : ℕ) → s'.frame f ≡ s.frame f) → (s'.core d).thread ≡ (s.core d).thread
+    → thread_of s' d ≡ thread_of s d
 thread_on s s' d frame thread = ap thread_in (frame (s'.core d).thread) ∙ ap (λ (f : ℕ). thread_in (s.frame f)) thread
 
-comp_on : (s s' : State) (d : ℕ) → ((f : ℕ) → s'.frame f ≡ s.frame f) → (s'.core d).thread ≡ (s.core d).thread → comp_of s' d ≡ comp_of s d
+comp_on : (s s' : State) (d : ℕ) → ((f : ℕ) → s'.frame f ≡ s.frame f) → (s'.core d).thread ≡ (s.core d).thread
+    → comp_of s' d ≡ comp_of s d
 comp_on s s' d frame thread =
-    ap comp_in (frame (first_of_stack (thread_of s' d).stack)) ∙ ap (λ k. comp_in (s.frame (first_of_stack k.stack))) (thread_on s s' d frame thread)
+    ap comp_in (frame (first_of_stack (thread_of s' d).stack)) ∙ ap (λ k. comp_in (s.frame (first_of_stack k.stack)))
+    (thread_on s s' d frame thread)
 
 -- where the own core works stays, but for what it has counted
-pub calm_own : (s s' : State) (c : ℕ) (core after : Own) → IsCalm s s' c → after ≡ record core { made = (s'.core c).counted; exit = after.exit }
+pub calm_own : (s s' : State) (c : ℕ) (core after : Own) → IsCalm s s' c
+    → after ≡ record core { made = (s'.core c).counted; exit = after.exit }
     → WorksIn core s c → WorksIn after s' c
 calm_own s s' c core after calm same is =
     let thread : (s'.core c).thread ≡ (s.core c).thread = ap (λ k. k.thread) calm.own in
@@ -100,9 +108,9 @@ unfolding sum_below
 sum_rises f f' zero rises = omega arith
 sum_rises f f' (suc n) rises = let a = sum_rises f f' n rises in let b = rises n in omega arith
 
--- the counted calls do not fall
-pub counted_rises : (setup : Setting) (s s' : State) (c : ℕ) → IsCalm s s' c → counted_in setup s ≤ counted_in setup s'
-counted_rises setup s s' c calm = sum_rises (λ d. (s.core d).counted) (λ d. (s'.core d).counted) setup.cores each
+calls_rise : (s s' : State) (c : ℕ) → IsCalm s s' c → (n : ℕ)
+    → sum_below (λ d. (s.core d).counted) n ≤ sum_below (λ d. (s'.core d).counted) n
+calls_rise s s' c calm n = sum_rises (λ d. (s.core d).counted) (λ d. (s'.core d).counted) n each
   where
     each : (d : ℕ) → (s.core d).counted ≤ (s'.core d).counted
     each d = elim (cases_eq d c) [
@@ -112,6 +120,29 @@ counted_rises setup s s' c calm = sum_rises (λ d. (s.core d).counted) (λ d. (s
           omega arith)
       | inr other ↦ (let b : (s'.core d).counted ≡ (s.core d).counted = ap (λ k. k.counted) (calm.others d other) in omega arith)
     ]
+
+-- the counted calls do not fall, and so the room of counts does not
+pub counted_rises : (setup : Setting) (s s' : State) (c : ℕ) → IsCalm s s' c → counted_in setup s ≤ counted_in setup s'
+counted_rises setup s s' c calm = calls_rise s s' c calm setup.cores
+
+pub room_rises : (s s' : State) (c : ℕ) → IsCalm s s' c → count_room s ≤ count_room s'
+room_rises s s' c calm =
+    subst (λ (n : ℕ). count_room s ≤ 16 + 4 * sum_below (λ d. (s'.core d).counted) n) (sym (ap (λ l. l.cores) calm.limits))
+    (let a = calls_rise s s' c calm s.limits.cores in omega arith)
+
+-- A call that is counted makes room for the changes that it has still to store.
+pub room_grows : (s s' : State) (c : ℕ) → IsCalm s s' c → c < s.limits.cores → (s'.core c).counted ≡ (s.core c).counted + 1
+    → count_room s + 4 ≤ count_room s'
+room_grows s s' c calm below more =
+    subst (λ (n : ℕ). count_room s + 4 ≤ 16 + 4 * sum_below (λ d. (s'.core d).counted) n) (sym (ap (λ l. l.cores) calm.limits))
+    (let a = sum_one (λ d. (s.core d).counted) (λ d. (s'.core d).counted) s.limits.cores c below
+    (λ d other. ap (λ k. k.counted) (calm.others d other)) in omega arith)
+
+pub counted_grows : (setup : Setting) (s s' : State) (c : ℕ) → IsCalm s s' c → c < setup.cores
+    → (s'.core c).counted ≡ (s.core c).counted + 1 → counted_in setup s + 1 ≤ counted_in setup s'
+counted_grows setup s s' c calm below more =
+    let a = sum_one (λ d. (s.core d).counted) (λ d. (s'.core d).counted) setup.cores c below
+    (λ d other. ap (λ k. k.counted) (calm.others d other)) in omega arith
 
 -- A step at which no grace period begins or ends, nothing is flushed, no flush is stored, and the clock stays.
 pub record IsPlain (setup : Setting) (t : Trace) (e : Step) : Type 0 where
@@ -138,7 +169,8 @@ plain_flush setup t e plain d = elim (cases_eq d e.core) [
 ]
 
 -- a core's last flush stays stored
-pub plain_flushed : (setup : Setting) (t : Trace) (e : Step) → IsPlain setup t e → (d : ℕ) → flush_stored t d ≡ flush_of t d → flush_stored (e ∷ t) d ≡ flush_of (e ∷ t) d
+pub plain_flushed : (setup : Setting) (t : Trace) (e : Step) → IsPlain setup t e → (d : ℕ) → flush_stored t d ≡ flush_of t d
+    → flush_stored (e ∷ t) d ≡ flush_of (e ∷ t) d
 plain_flushed setup t e plain d is = elim (cases_eq d e.core) [
   | inl own ↦ plain_flush setup t e plain d ∙ is ∙ sym (flush_of-own d e t own ∙ ap (λ b. cond b e.found (flush_of t d)) plain.flushes)
   | inr other ↦ plain_flush setup t e plain d ∙ is ∙ sym (flush_of-other d e t other)
@@ -151,9 +183,11 @@ plain_exit t e none d = elim (cases_eq d e.core) [
 ]
 
 -- what is said of words stays: of all but the own core's word, if the places do
-pub calm_words : (setup : Setting) (t : Trace) (e : Step) → IsCalm (state_after setup t) (state_after setup (e ∷ t)) e.core → IsPlain setup t e
+pub calm_words : (setup : Setting) (t : Trace) (e : Step) → IsCalm (state_after setup t) (state_after setup (e ∷ t)) e.core
+    → IsPlain setup t e
     → (w : Word) → ((f i : ℕ) → w ≡ EntryAt f i → (state_after setup (e ∷ t)).place f i ≡ (state_after setup t).place f i)
-    → ((d : ℕ) → w ≡ CoreAt d → ((((state_after setup (e ∷ t)).core d).inside ≡ ((state_after setup t).core d).inside) × (exit_of (e ∷ t) d ≡ exit_of t d)))
+    → ((d : ℕ) → w ≡ CoreAt d
+    → ((((state_after setup (e ∷ t)).core d).inside ≡ ((state_after setup t).core d).inside) × (exit_of (e ∷ t) d ≡ exit_of t d)))
     → SameFor (state_after setup t) (state_after setup (e ∷ t)) (times_of setup t) (times_of setup (e ∷ t)) w
 calm_words setup t e calm plain (EntryAt f i) place inside = record {
   frames = ap (λ l. l.frames) calm.limits;
@@ -162,8 +196,9 @@ calm_words setup t e calm plain (EntryAt f i) place inside = record {
   stamp = plain_stamp setup t e plain (PlaceOf f i);
 }
 calm_words setup t e calm plain (FrameAt f) place inside = calm.frame f
-calm_words setup t e calm plain (CountAt f c) place inside = tt
+calm_words setup t e calm plain (CountAt f c) place inside = room_rises (state_after setup t) (state_after setup (e ∷ t)) e.core calm
 calm_words setup t e calm plain (CoreAt c) place inside = record { inside = (inside c refl).0; exit = (inside c refl).1 }
 calm_words setup t e calm plain (FlushAt c) place inside = plain_flush setup t e plain c
-calm_words setup t e calm plain (LiveAt l) place inside = record { number = calm.number l; stamp = plain_stamp setup t e plain (NumberOf l) }
+calm_words setup t e calm plain (LiveAt l) place inside =
+    record { number = calm.number l; stamp = plain_stamp setup t e plain (NumberOf l) }
 calm_words setup t e calm plain ClockAt place inside = tt

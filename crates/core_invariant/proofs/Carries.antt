@@ -1,12 +1,16 @@
 -- What a call knows it still knows after a step of another core, and after an own step that decides nothing: each kind of
 -- knowledge once, over the few things that such a step keeps.
-use Rattle.std.proofs.Common.{◌≡◌, inl, inr, ℕ, ◌&&◌, nat_le, if◌then◌else◌, cond, [], ◌∷◌, ◌++◌, List, Bool, true, false, Option, Some, None, refl, ◌∙◌, ap, subst}
-use Rattle.std.specs.Prelude.{IsSome, is_some}
+use Rattle.std.proofs.Common.{◌≡◌, ◌≤◌, arith, inl, inr, ℕ, ◌&&◌, nat_le, if◌then◌else◌, cond, [], ◌∷◌, ◌++◌, List, Bool, true, false, Option, Some, None, refl, ◌∙◌, ap, subst}
+use Rattle.std.specs.Prelude.{IsSome, is_some, All}
+use Rattle.std.proofs.lemmas.List.Elements.{All-nil, All-cons, All-head, All-tail}
+use Rattle.stage_pins.specs.declared.held.Acquired.{Acquired}
+use Rattle.core_invariant.specs.Holding.{count_of}
 use Rattle.spk_nums.specs.Capability.{Capability}
 use Rattle.spk_nums.specs.Setting.{Setting, IsSetting}
 use Rattle.spk_nums.specs.declared.kinds.Kind.{Kind}
 use Rattle.spk_nums.specs.declared.calls.Call.{Call}
-use Rattle.word_map.specs.Word.{Word, EntryAt}
+use Rattle.word_map.specs.Word.{Word, EntryAt, CountAt}
+use Rattle.word_map.specs.Places.{counter_of}
 use Rattle.word_map.specs.Moves.{word_of}
 use Rattle.stage_look.specs.declared.look.Look.{Look}
 use Rattle.stage_look.specs.declared.look.Look.TheVariants.{AtRoot, AtLeaf, AtEntry}
@@ -19,20 +23,34 @@ use Rattle.kernel_history.specs.Legal.{IsLegal}
 use Rattle.kernel_history.proofs.Names.{cases_word}
 use Rattle.kernel_history.proofs.Steps.{own_left-here, own_left-there}
 use Rattle.kernel_history.proofs.Stays.{relies_reached}
-use Rattle.kernel_history.proofs.Carries.{Carries}
+use Rattle.kernel_history.proofs.Carries.{Carries, was_stays}
+use Rattle.kernel_history.specs.Footprint.{IsNearIn}
 use Rattle.call_plans.specs.declared.plans.Name.{Name}
 use Rattle.call_plans.specs.declared.plans.Plan.{Plan}
 use Rattle.call_plans.specs.GoesBy.{wants}
 use Rattle.call_plans.specs.After.{Leads, Next, NextName, NextFree, NextHeld, NextOwn, NextNothing, next_of}
 use Rattle.call_steps.specs.declared.fills.Fill.{Fill}
-use Rattle.call_steps.specs.declared.stages.Act.TheVariants.{Fill as fill_act}
+use Rattle.entry_words.specs.declared.entry.Entry.{Entry}
+use Rattle.entry_words.specs.declared.entry.Entry.TheVariants as entry
+use Rattle.entry_words.specs.EntryWord.{entry_of_word}
+use Rattle.kernel_rules.specs.State.{Thing, PlaceOf}
+use Rattle.kernel_history.specs.Stamps.{stamp}
+use Rattle.stage_quiet.specs.declared.close.Close.{Close}
+use Rattle.stage_quiet.specs.declared.close.Close.TheVariants.{AtCompare, AtDraw, AtStore}
+use Rattle.stage_quiet.specs.declared.quiet.Quiet.{Quiet}
+use Rattle.stage_quiet.specs.declared.quiet.Quiet.TheVariants.{AtCore, AtFlush}
+use Rattle.stage_pins.specs.declared.pin.Pin.{Pin}
+use Rattle.stage_pins.specs.declared.pin.Pin.TheVariants.{AtLoad, AtCompare as pin_compare}
+use Rattle.call_steps.specs.declared.stages.Act.{Act as ActOf}
+use Rattle.call_steps.specs.declared.stages.Act.TheVariants.{Fill as fill_act, Remove as remove_act}
 use Rattle.call_steps.specs.declared.stages.Work.{Work}
-use Rattle.call_steps.specs.declared.stages.Work.TheVariants.{Lookup, Act}
+use Rattle.call_steps.specs.declared.stages.Work.TheVariants.{Lookup, Scan, Acquire, Act}
 use Rattle.call_steps.specs.declared.stages.ActiveCall.{ActiveCall}
-use Rattle.core_invariant.specs.Knows.{IsReached, HasFound, LookIs, LooksUp, own_in, NamesAre, LooksFor, IsFill, KnowsWork, KnowsUndecided}
+use Rattle.core_invariant.specs.Knows.{IsCount, IsReached, HasFound, LookIs, LooksUp, own_in, NamesAre, LooksFor, IsScanned, MayFill, IsFill, IsRemoval, KnowsClose, KnowsAct, KnowsQuiet, KnowsStore, HasLoaded, KnowsWork, KnowsUndecided}
 
 -- The words on which a call has stepped, after a step of it.
-pub own_kept : (t : Trace) (e : Step) (c : ℕ) → c ≡ e.core → e.enters ≡ None → (w : Word) → IsSome (own_left t c w) → IsSome (own_left (e ∷ t) c w)
+pub own_kept : (t : Trace) (e : Step) (c : ℕ) → c ≡ e.core → e.enters ≡ None → (w : Word) → IsSome (own_left t c w)
+    → IsSome (own_left (e ∷ t) c w)
 own_kept t e c own no_entry w had = elim (cases_word w (word_of e.move)) [
   | inl at ↦ ap is_some (own_left-here c e t own w at)
   | inr there ↦ ap is_some (own_left-there c e t own w there ∙ ap (λ o. cond (is_some o) None (own_left t c w)) no_entry) ∙ had
@@ -42,7 +60,8 @@ own_kept t e c own no_entry w had = elim (cases_word w (word_of e.move)) [
 pub slot_relies : (setup : Setting) → IsSetting setup → (t : Trace) → IsLegal setup t → (c : ℕ) (call : Call) → phase t c ≡ Open call
     → (target : Target) (at : Slot) → IsReached setup t c target at → Relies (state_after setup t) c at.node
 slot_relies setup setting t legal c call is (Under table n) at way = relies_reached setup setting t legal c call is table n at way.reached
-slot_relies setup setting t legal c call is (InRoot table i) at way = subst (Relies (state_after setup t) c) (entry_node (table.found && nat_le i 63) way.reached) way.relies
+slot_relies setup setting t legal c call is (InRoot table i) at way =
+    subst (Relies (state_after setup t) c) (entry_node (table.found && nat_le i 63) way.reached) way.relies
   where
     entry_node : (b : Bool) → (if b then Some (record { node = table.frame; index = i }) else None) ≡ Some at → table.frame ≡ at.node
     entry_node true h = ap (λ (x : Slot). x.node) (some_inj record { node = table.frame; index = i } at h)
@@ -64,7 +83,8 @@ module _ (setup : Setting) (setting : IsSetting setup) (t : Trace) (e : Step) (l
     stepped = slots_on _ way.stepped;
   }
 
-  pub found_on : (target : Target) (wanted : Kind → Bool) (k : Capability) → HasFound setup t c target wanted k → HasFound setup (e ∷ t) c target wanted k
+  pub found_on : (target : Target) (wanted : Kind → Bool) (k : Capability) → HasFound setup t c target wanted k
+      → HasFound setup (e ∷ t) c target wanted k
   found_on target wanted k has = record {
     at = has.at;
     way = reached_on target has.at has.way;
@@ -77,7 +97,8 @@ module _ (setup : Setting) (setting : IsSetting setup) (t : Trace) (e : Step) (l
       → linked (usable (state_after setup (e ∷ t)) c at) ≡ Some leaf
   link_on at leaf node h = by_cases (usable (state_after setup t) c at) refl h
     where
-      by_cases : (o : Option Capability) → usable (state_after setup t) c at ≡ o → linked o ≡ Some leaf → linked (usable (state_after setup (e ∷ t)) c at) ≡ Some leaf
+      by_cases : (o : Option Capability) → usable (state_after setup t) c at ≡ o → linked o ≡ Some leaf
+          → linked (usable (state_after setup (e ∷ t)) c at) ≡ Some leaf
       by_cases None is h = absurd (cc)
       by_cases (Some k) is h = ap linked (carries.stays.usable at k node is) ∙ h
 
@@ -98,14 +119,17 @@ module _ (setup : Setting) (setting : IsSetting setup) (t : Trace) (e : Step) (l
   pub looks_on : (target : Target) (look : Look) → LooksUp setup t c target look → LooksUp setup (e ∷ t) c target look
   looks_on target look looks = record { relies = carries.stays.relies _ looks.relies; at = look_on target look looks }
 
-  pub names_on : (table : ℕ) (plan : Plan) (ks : List Capability) → NamesAre setup t c table plan ks → NamesAre setup (e ∷ t) c table plan ks
+  pub names_on : (table : ℕ) (plan : Plan) (ks : List Capability) → NamesAre setup t c table plan ks
+      → NamesAre setup (e ∷ t) c table plan ks
   names_on table plan ks has = leads_on plan.names [] ks has
     where
-      leads_on : (names : List Name) (caps : List Named) (ks : List Capability) → Leads (λ n wanted k. HasFound setup t c (own_in table n) wanted k) names caps ks
+      leads_on : (names : List Name) (caps : List Named) (ks : List Capability)
+          → Leads (λ n wanted k. HasFound setup t c (own_in table n) wanted k) names caps ks
           → Leads (λ n wanted k. HasFound setup (e ∷ t) c (own_in table n) wanted k) names caps ks
       leads_on names caps [] has = tt
       leads_on [] caps (k ∷ ks) has = absurd has
-      leads_on (name ∷ names) caps (k ∷ ks) has = (found_on (own_in table name.number) (wants caps name.wanted) k has.0, leads_on names (caps ++ found k ∷ []) ks has.1)
+      leads_on (name ∷ names) caps (k ∷ ks) has =
+          (found_on (own_in table name.number) (wants caps name.wanted) k has.0, leads_on names (caps ++ found k ∷ []) ks has.1)
 
   -- what a call knows of its look-up, and of its act
   looks_for_on : (table : ℕ) (next : Next) (look : Look) → LooksFor setup t c table next look → LooksFor setup (e ∷ t) c table next look
@@ -115,22 +139,129 @@ module _ (setup : Setting) (setting : IsSetting setup) (t : Trace) (e : Step) (l
   looks_for_on table (NextOwn v) look has = has
   looks_for_on table NextNothing look has = has
 
-  fill_on : (a : ActiveCall) (fill : Fill) → ((w : Word) → own_read (e ∷ t) c w ≡ own_read t c w) → IsFill setup t c a fill → IsFill setup (e ∷ t) c a fill
-  fill_on a fill same has = record {
+  scanned_on : (x : Thing) (at upto : ℕ) → stamp setup t x ≤ stamp setup (e ∷ t) x → IsScanned setup t c x at upto
+      → IsScanned setup (e ∷ t) c x at upto
+  scanned_on x at upto rises has = record {
+    some = has.some;
+    past = carries.past at has.past;
+    rises = (let a = has.rises in omega arith);
+    was_removed = carries.was_removed x has.was_removed;
+    passed = λ d below other. carries.passed x at d has.past (has.passed d below other);
+  }
+
+  may_fill_on : (x : Thing) (upto : ℕ) (o : Option Entry) → stamp setup t x ≤ stamp setup (e ∷ t) x → MayFill setup t c x upto o
+      → MayFill setup (e ∷ t) c x upto o
+  may_fill_on x upto None rises has = has
+  may_fill_on x upto (Some entry.Free) rises has = has
+  may_fill_on x upto (Some (entry.Held k)) rises has = has
+  may_fill_on x upto (Some (entry.Closing by)) rises has = has
+  may_fill_on x upto (Some (entry.Quiescing at)) rises has = scanned_on x at upto rises has
+
+  fill_on : (of : Call) (plan : Plan) (caps : List Capability) (upto : ℕ) (fill : Fill)
+      → ((f i : ℕ) → own_read (e ∷ t) c (EntryAt f i) ≡ own_read t c (EntryAt f i))
+      → IsFill setup t c of plan caps upto fill → IsFill setup (e ∷ t) c of plan caps upto fill
+  fill_on of plan caps upto fill same has = record {
     target = has.target;
     next = has.next;
     way = reached_on has.target (record { node = fill.node; index = fill.entry }) has.way;
-    own = same (EntryAt fill.node fill.entry) ∙ has.own;
-    free = has.free;
+    own = same fill.node fill.entry ∙ has.own;
+    vacant = may_fill_on (PlaceOf fill.node fill.entry) upto (entry_of_word fill.word)
+        (carries.place_rises fill.node fill.entry (slot_relies setup setting t legal c call is_open has.target
+        (record { node = fill.node; index = fill.entry }) has.way)) has.vacant;
     fits = has.fits;
     puts = has.puts;
   }
 
-  work_on : (table : ℕ) (a : ActiveCall) (work : Work) → ((w : Word) → own_read (e ∷ t) c w ≡ own_read t c w) → KnowsWork setup t c table a work → KnowsWork setup (e ∷ t) c table a work
+  pub removal_on : (of : Call) (plan : Plan) (caps : List Capability) (node index : ℕ) (cap : Capability)
+      → IsRemoval setup t c of plan caps node index cap
+      → IsRemoval setup (e ∷ t) c of plan caps node index cap
+  removal_on of plan caps node index cap has = record {
+    target = has.target;
+    next = has.next;
+    way = reached_on has.target (record { node = node; index = index }) has.way;
+    usable = carries.stays.usable (record { node = node; index = index }) cap
+        (slot_relies setup setting t legal c call is_open has.target (record { node = node; index = index }) has.way) has.usable;
+    fits = has.fits;
+    removes = has.removes;
+  }
+
+  close_on : (of : Call) (plan : Plan) (caps : List Capability) (close : Close) (cap : Capability)
+      → ((f i : ℕ) → own_read (e ∷ t) c (EntryAt f i) ≡ own_read t c (EntryAt f i))
+      → KnowsClose setup t c of plan caps close cap → KnowsClose setup (e ∷ t) c of plan caps close cap
+  close_on of plan caps (AtCompare node index word core) cap same has = record {
+    removal = removal_on of plan caps node index cap has.removal;
+    own = same node index ∙ has.own;
+    held = has.held;
+    core = has.core;
+  }
+  close_on of plan caps (AtDraw node index) cap same has = removal_on of plan caps node index cap has
+  close_on of plan caps (AtStore node index at) cap same has = has
+
+  pub act_on : (of : Call) (plan : Plan) (caps : List Capability) (upto : ℕ) (act : ActOf)
+      → ((f i : ℕ) → own_read (e ∷ t) c (EntryAt f i) ≡ own_read t c (EntryAt f i))
+      → KnowsAct setup t c of plan caps upto act → KnowsAct setup (e ∷ t) c of plan caps upto act
+  act_on of plan caps upto (fill_act fill) same has = fill_on of plan caps upto fill same has
+  act_on of plan caps upto (remove_act close cap) same has = close_on of plan caps close cap same has
+
+  quiet_on : (a : ActiveCall) (q : Quiet) (act : ActOf) → ((f i : ℕ) → own_read (e ∷ t) c (EntryAt f i) ≡ own_read t c (EntryAt f i))
+      → KnowsQuiet setup t c a q act
+      → KnowsQuiet setup (e ∷ t) c a q act
+  quiet_on a (AtCore at core upto page) act same has =
+      record { knows = act_on a.call a.plan a.found upto act same has.knows; core = has.core; stamp = has.stamp; starts = has.starts }
+  quiet_on a (AtFlush at upto) act same has = has
+
+  loaded_on : (pin : Pin) → ((w : Word) → own_read (e ∷ t) c w ≡ own_read t c w) → HasLoaded t c pin → HasLoaded (e ∷ t) c pin
+  loaded_on (AtLoad frame core) same has = tt
+  loaded_on (pin_compare frame core count stamp) same has =
+      record { own = same (CountAt frame (counter_of core)) ∙ has.own; fits = has.fits }
+
+  work_on : (table : ℕ) (a : ActiveCall) (work : Work) → ((w : Word) → own_read (e ∷ t) c w ≡ own_read t c w)
+      → KnowsWork setup t c table a work → KnowsWork setup (e ∷ t) c table a work
   work_on table a (Lookup look) same has = looks_for_on table (next_of a.plan a.found) look has
-  work_on table a (Act (fill_act fill)) same has = fill_on a fill same has
+  work_on table a (Scan q act) same has = quiet_on a q act (λ f i. same (EntryAt f i)) has
+  work_on table a (Acquire pin change act) same has = record {
+    knows = act_on a.call a.plan a.found setup.cores act (λ f i. same (EntryAt f i)) has.knows;
+    rest = has.rest;
+    due = has.due;
+    core = has.core;
+    new = has.new;
+    loaded = loaded_on pin same has.loaded;
+    starts = has.starts;
+  }
+  work_on table a (Act act) same has =
+      record { knows = act_on a.call a.plan a.found setup.cores act (λ f i. same (EntryAt f i)) has.knows; all = has.all }
 
   -- what a call knows that is not decided, after a step of another core
-  pub undecided_on : (table : ℕ) (a : ActiveCall) (work : Work) → ((w : Word) → own_read (e ∷ t) c w ≡ own_read t c w) → KnowsUndecided setup t c table a work
+  pub undecided_on : (table : ℕ) (a : ActiveCall) (work : Work) → ((w : Word) → own_read (e ∷ t) c w ≡ own_read t c w)
+      → KnowsUndecided setup t c table a work
       → KnowsUndecided setup (e ∷ t) c table a work
-  undecided_on table a work same has = record { names = names_on table a.plan a.found has.names; knows = work_on table a work same has.knows }
+  undecided_on table a work same has =
+      record { names = names_on table a.plan a.found has.names; knows = work_on table a work same has.knows }
+
+-- The counts that a call has acquired are near it at a moment of it still, after a further step.
+pub counts_on : (setup : Setting) (t : Trace) (e : Step) (c : ℕ) (call : Call) → (c ≡ e.core → e.enters ≡ None) → (xs : List Acquired)
+    → All (IsCount setup t c call) xs → All (IsCount setup (e ∷ t) c call) xs
+counts_on setup t e c call no_entry [] has = All-nil (IsCount setup (e ∷ t) c call)
+counts_on setup t e c call no_entry (x ∷ xs) has =
+    let first = All-head (IsCount setup t c call) x xs has in
+    All-cons (IsCount setup (e ∷ t) c call) x xs
+    (record {
+      counts = first.counts;
+      core = first.core;
+      fits = first.fits;
+      near = was_stays (IsNearIn c call (count_of x)) setup t e c
+          no_entry first.near;
+    })
+    (counts_on setup t e c call no_entry xs (All-tail (IsCount setup t c call) x xs has))
+
+-- What a call knows of its store it knows still where it relies on the node still.
+pub store_on : (setup : Setting) (t : Trace) (e : Step) (c : ℕ) (call : Call) → (c ≡ e.core → e.enters ≡ None)
+    → ((f : ℕ) → Relies (state_after setup t) c f → Relies (state_after setup (e ∷ t)) c f) → (close : Close)
+    → KnowsStore setup t c call close → KnowsStore setup (e ∷ t) c call close
+store_on setup t e c call no_entry relies (AtCompare node index word core) has = has
+store_on setup t e c call no_entry relies (AtDraw node index) has = has
+store_on setup t e c call no_entry relies (AtStore node index at) has = record {
+  relies = relies node has.relies;
+  near = was_stays (IsNearIn c call (EntryAt node index)) setup t e c no_entry has.near;
+  places = has.places;
+}

@@ -1,10 +1,15 @@
 pub mod Sounds
+pub mod Ranges
 pub mod WordFrames
 pub mod Carries
 pub mod Markers
-pub mod Good
 pub mod Calm
+pub mod CountSums
+pub mod Sums
+pub mod Good
 pub mod Loads
 pub mod Writes
+pub mod Counting
+pub mod Draws
 pub mod Places
 pub mod Refusals

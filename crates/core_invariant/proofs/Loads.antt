@@ -6,10 +6,10 @@ use Rattle.spk_nums.specs.Capability.{Capability}
 use Rattle.spk_nums.specs.Setting.{Setting, IsSetting}
 use Rattle.spk_nums.specs.declared.calls.Call.{Call}
 use Rattle.spk_nums.specs.declared.replies.Reply.{Reply}
-use Rattle.word_map.specs.Word.{Word, FlushAt, ClockAt, same_word}
+use Rattle.word_map.specs.Word.{Word, CountAt, FlushAt, ClockAt, same_word}
 use Rattle.word_map.specs.Places.{IsIn as IsInShape, shared}
 use Rattle.word_map.specs.Moves.{Move, word_of, left_of}
-use Rattle.kernel_rules.specs.State.{Thing}
+use Rattle.kernel_rules.specs.State.{Thing, put}
 use Rattle.kernel_rules.specs.CallRelation.{MayReply, state_by, counted, begins, ends, flushes}
 use Rattle.kernel_rules.specs.Alone.{alone}
 use Rattle.kernel_rules.specs.Laws.{calls_counted}
@@ -34,9 +34,12 @@ use Rattle.call_steps.specs.declared.stages.ActiveCall.{ActiveCall}
 use Rattle.call_steps.specs.View.{Core}
 use Rattle.call_steps.specs.Fits.{IsCore, IsActive, CallFits, left_at}
 use Rattle.core_invariant.specs.Knows.{phase_at, Knows, IsIn, CallIs, CoreIs}
-use Rattle.core_invariant.specs.Stands.{holds_at, holds_in, holds, Stands}
+use Rattle.core_invariant.specs.Stands.{done_by, holds_at, holds_in, holds, held_by, Stands}
 use Rattle.core_invariant.proofs.Markers.{phase_in, phase_call}
-use Rattle.core_invariant.proofs.WordFrames.{marks_own, load_keeps, load_marks, load_words}
+use Rattle.core_invariant.proofs.WordFrames.{marks_own, settled_on, load_keeps, load_marks, load_words}
+use Rattle.core_invariant.proofs.Sums.{sums_stay}
+use Rattle.core_invariant.proofs.Carries.{counts_on}
+use Rattle.core_invariant.specs.Holding.{holds_counts}
 use Rattle.core_invariant.proofs.Good.{IsGood}
 use Rattle.core_invariant.proofs.Calm.{IsCalm, calm_same, calm_counted, calm_own, calm_words, counted_rises, IsPlain, plain_time, plain_exit, plain_flushed}
 
@@ -53,7 +56,7 @@ step_to c enters move found decides returns = record {
 
 -- A call after one step more, whose names have led to these and which stands at this stage.
 abbrev pub next_at : ActiveCall → List Capability → Stage → ActiveCall
-next_at a found stage = record { steps = a.steps + 1; stage = stage; found = found; call = a.call; plan = a.plan }
+next_at a found stage = record { steps = a.steps + 1; stage = stage; found = found; counts = a.counts; call = a.call; plan = a.plan }
 
 -- The core with so many calls made, and this call.
 abbrev pub core_at : Core → ℕ → ActiveCall → Core
@@ -80,11 +83,12 @@ pub record OnlyLooks (setup : Setting) (t : Trace) (c : ℕ) (call : Call) (move
 pub some_left : (cores : ℕ) (a : ActiveCall) (stage : Stage) → 1 ≤ left_at cores a stage
 some_left cores a Enter = omega arith
 some_left cores a (Undecided work) = omega arith
-some_left cores a (Decided r tail) = omega arith
+some_left cores a (Decided r drawn tail) = omega arith
 some_left cores a (Leave r x) = omega arith
 
 -- The core c is in the call a.
-module _ (setup : Setting) (setting : IsSetting setup) (cores : ℕ → Core) (t : Trace) (stands : Stands setup cores t) (c : ℕ) (here : c < setup.cores)
+module _ (setup : Setting) (setting : IsSetting setup) (cores : ℕ → Core) (t : Trace) (stands : Stands setup cores t) (c : ℕ)
+    (here : c < setup.cores)
     (a : ActiveCall) (active : (cores c).active ≡ Some a) where
   pub core_is : CoreIs setup (cores c) t c
   core_is = stands.each c here
@@ -100,7 +104,8 @@ module _ (setup : Setting) (setting : IsSetting setup) (cores : ℕ → Core) (t
   has_room =
       let left = some_left (cores c).own.layout.cores a a.stage in
       let most = is_active.steps in
-      let same : bound_of a.call (cores c).own.layout.cores ≡ bound_of a.call setup.cores = ap (λ s. bound_of a.call s.cores) core_is.shape in
+      let same : bound_of a.call (cores c).own.layout.cores ≡ bound_of a.call setup.cores = ap (λ s. bound_of a.call s.cores)
+      core_is.shape in
       omega arith
 
   pub in_call : phase t c ≢ Out
@@ -123,15 +128,18 @@ module _ (setup : Setting) (setting : IsSetting setup) (cores : ℕ → Core) (t
           omega arith);
     }
 
-    pub inner_disciplined : IsOfCall setup t c a.call move → MarksOwn setup t inner → KeepsMarked setup t inner → IsDisciplined setup t inner
+    pub inner_disciplined : IsOfCall setup t c a.call move → MarksOwn setup t inner → KeepsMarked setup t inner
+        → IsDisciplined setup t inner
     inner_disciplined of_call marks keeps = record { call = a.call; is_of = is_of; moves = of_call.moves; marks = marks; keeps = keeps }
 
     pub inner_near : IsOfCall setup t c a.call move → StepsNear setup t inner
     inner_near of_call = record { call = a.call; is_of = is_of; near = of_call.near }
 
-    pub inner_own : returns ≡ None → IsPlain setup t inner → (made : ℕ) (found : List Capability) (stage : Stage) → IsCore (core_at (cores c) made (next_at a found stage)) → IsCalm (state_after setup t) (state_after setup (inner ∷ t)) c
+    pub inner_own : returns ≡ None → IsPlain setup t inner → (made : ℕ) (found : List Capability) (stage : Stage)
+        → IsCore (core_at (cores c) made (next_at a found stage)) → IsCalm (state_after setup t) (state_after setup (inner ∷ t)) c
         → made ≡ ((state_after setup (inner ∷ t)).core c).counted → after_decide decides (phase_at a.call a.stage) ≡ phase_at a.call stage
-        → Knows setup (inner ∷ t) c (cores c).own.table (next_at a found stage) → CoreIs setup (core_at (cores c) made (next_at a found stage)) (inner ∷ t) c
+        → Knows setup (inner ∷ t) c (cores c).own.table (next_at a found stage)
+        → CoreIs setup (core_at (cores c) made (next_at a found stage)) (inner ∷ t) c
     inner_own none plain made found stage fits calm counts at knows = record {
       fits = fits;
       number = core_is.number;
@@ -142,23 +150,29 @@ module _ (setup : Setting) (setting : IsSetting setup) (cores : ℕ → Core) (t
       exit = core_is.exit ∙ sym (plain_exit t inner none c);
       flushed = plain_flushed setup t inner plain c core_is.flushed;
       active = record {
-        phase = phase-own c inner t refl ∙ ap (λ o. after_return o (after_decide decides (phase t c))) none ∙ ap (after_decide decides) call_is.phase ∙ at;
+        phase = phase-own c inner t refl ∙ ap (λ o. after_return o (after_decide decides (phase t c))) none ∙ ap (after_decide decides)
+            call_is.phase ∙ at;
         steps = steps_in_call-own c inner t refl ∙ ap (λ (n : ℕ). n + 1) call_is.steps;
         knows = knows;
+        counts = counts_on setup t inner c a.call (λ own. refl) a.counts call_is.counts;
+        apart = call_is.apart;
       };
     }
 
     -- the core holds at the next stage what it held
-    pub still_holds : (made : ℕ) (found : List Capability) (stage : Stage) → holds_at stage (cores c).own.core ≡ holds_at a.stage (cores c).own.core → holds (core_at (cores c) made (next_at a found stage)) ≡ holds (cores c)
-    still_holds made found stage same = same ∙ ap (λ o. holds_in o (cores c).own.core) (sym active)
+    pub still_holds : (made : ℕ) (found : List Capability) (stage : Stage) → holds_at stage a.counts ≡ holds_in (Some a)
+        → holds (core_at (cores c) made (next_at a found stage)) ≡ holds (cores c)
+    still_holds made found stage same = same ∙ ap holds_in (sym active)
 
     -- a step that leaves its word as found leaves one of 64 bits
-    pub kept_small : left_of move (last_left setup t (word_of move)) ≡ last_left setup t (word_of move) → left_of move (last_left setup t (word_of move)) < 2 ^ 64
+    pub kept_small : left_of move (last_left setup t (word_of move)) ≡ last_left setup t (word_of move)
+        → left_of move (last_left setup t (word_of move)) < 2 ^ 64
     kept_small kept = subst (λ (n : ℕ). n < 2 ^ 64) (sym kept) (last_small setup setting t stands.legal (word_of move))
 
   -- An undecided load, after which the call is at this stage; what it knew it still knows.
   pub loads_on : (move : Move) (found : List Capability) (stage : Stage) → OnlyLooks setup t c a.call move
-      → Lands setup (core_at (cores c) (cores c).own.made (next_at a found stage)) (word_of move) → holds_at stage (cores c).own.core ≡ holds_at a.stage (cores c).own.core → phase_at a.call a.stage ≡ phase_at a.call stage
+      → Lands setup (core_at (cores c) (cores c).own.made (next_at a found stage)) (word_of move)
+      → holds_at stage a.counts ≡ holds_in (Some a) → phase_at a.call a.stage ≡ phase_at a.call stage
       → (Carries setup t (inner move None None) c → Knows setup (inner move None None ∷ t) c (cores c).own.table (next_at a found stage))
       → IsGood setup cores t (inner move None None) (core_at (cores c) (cores c).own.made (next_at a found stage))
   loads_on move found stage looks lands same at knows =
@@ -187,34 +201,46 @@ module _ (setup : Setting) (setting : IsSetting setup) (cores : ℕ → Core) (t
         follows = follows;
         within = inner_within move None None;
         alone = λ is_alone. tt;
-        disciplined = inner_disciplined move None None looks.of_call (marks_own setup cores t e after (λ w there. ap (λ h. h.marks w) still) stands.marks marks) (λ d m other. looks.kept);
+        disciplined = inner_disciplined move None None looks.of_call
+            (marks_own setup cores t e after (λ w there. ap (λ h. h.marks w) still) stands.marks marks) (λ d m other. looks.kept);
         near = inner_near move None None looks.of_call;
         marks = marks;
         words = load_words setup cores t e after still (λ g. refl) looks.kept
-            (λ v. calm_words setup t e (calm_same (state_after setup t) c) plain v (λ g i h. refl) (λ d h. (refl, plain_exit t e refl d))) stands.words;
+            (λ v. calm_words setup t e (calm_same (state_after setup t) c) plain v (λ g i h. refl) (λ d h. (refl, plain_exit t e refl d)))
+            stands.words;
+        sums = sums_stay setup t e (held_by cores) (held_by (put cores c after))
+            (λ f d. settled_on setup cores t e after still (λ g. refl) (CountAt f d)
+            (load_keeps setup cores t e after still (λ g. refl) looks.kept (CountAt f d)))
+            (calm_same (state_after setup t) c) plain (λ g i. refl) stands.sums;
         draws = (let d = stands.draws in let b = plain.same in omega arith);
-        none_removed = stands.none_removed;
         time = plain_time setup t e plain;
         leaves = tt;
-        own = inner_own move None None refl plain (cores c).own.made found stage lands.fits (calm_same (state_after setup t) c) core_is.works.made at
+        own = inner_own move None None refl plain (cores c).own.made found stage lands.fits (calm_same (state_after setup t) c)
+            core_is.works.made at
             (knows (carries_own setup setting t stands.legal e follows (plain_time setup t e plain) stands.graces refl refl refl));
       }
 
   -- A decision at a load or at a lost compare, which leaves all as it was but counts the call.
   pub decides_on : (move : Move) (r : Reply) (found : List Capability) → OnlyLooks setup t c a.call move
-      → Lands setup (core_at (cores c) ((cores c).own.made + calls_counted r) (next_at a found (Decided r Nothing))) (word_of move) → holds_at (Decided r Nothing) (cores c).own.core ≡ holds_at a.stage (cores c).own.core
-      → phase_at a.call a.stage ≡ Open a.call → state_by (state_after setup t) c a.call r ≡ counted (state_after setup t) c → calls_counted r ≡ 1
-      → ((x : Thing) → begins (state_after setup t) c a.call r x ≡ false) → ((x : Thing) → ends a.call r x ≡ false) → flushes a.call r ≡ false
+      → Lands setup (core_at (cores c) ((cores c).own.made + calls_counted r) (next_at a found (Decided r None Nothing))) (word_of move)
+      → holds_counts (done_by r None) a.counts ≡ holds_in (Some a)
+      → phase_at a.call a.stage ≡ Open a.call → state_by (state_after setup t) c a.call r ≡ counted (state_after setup t) c
+      → calls_counted r ≡ 1
+      → ((x : Thing) → begins (state_after setup t) c a.call r x ≡ false) → ((x : Thing) → ends a.call r x ≡ false)
+      → flushes a.call r ≡ false
       → MayReply (state_after setup t) c a.call r → IsJustified setup t (inner move (Some r) None) a.call r
       → (IsAlone t (inner move (Some r) None) → r ≡ alone (state_after setup t) c a.call)
-      → IsGood setup cores t (inner move (Some r) None) (core_at (cores c) ((cores c).own.made + calls_counted r) (next_at a found (Decided r Nothing)))
+      → IsGood setup cores t (inner move (Some r) None) (core_at (cores c) ((cores c).own.made + calls_counted r)
+      (next_at a found (Decided r None Nothing)))
   decides_on move r found looks lands same opens state one none_begins none_ends no_flush permitted justified first =
       let e : Step = inner move (Some r) None in
-      let after : Core = core_at (cores c) ((cores c).own.made + calls_counted r) (next_at a found (Decided r Nothing)) in
-      let still = still_holds move (Some r) None ((cores c).own.made + calls_counted r) found (Decided r Nothing) same in
+      let after : Core = core_at (cores c) ((cores c).own.made + calls_counted r) (next_at a found (Decided r None Nothing)) in
+      let still = still_holds move (Some r) None ((cores c).own.made + calls_counted r) found (Decided r None Nothing) same in
       let is_open : phase t c ≡ Open a.call = call_is.phase ∙ opens in
-      let now : state_after setup (e ∷ t) ≡ counted (state_after setup t) c = ap (λ p. state_decided_in p r (state_after setup t) c) is_open ∙ state in
-      let calm : IsCalm (state_after setup t) (state_after setup (e ∷ t)) c = subst (λ s. IsCalm (state_after setup t) s c) (sym now) (calm_counted (state_after setup t) c) in
+      let now : state_after setup (e ∷ t) ≡ counted (state_after setup t) c = ap (λ p. state_decided_in p r (state_after setup t) c)
+      is_open ∙ state in
+      let calm : IsCalm (state_after setup t) (state_after setup (e ∷ t)) c = subst (λ s. IsCalm (state_after setup t) s c) (sym now)
+      (calm_counted (state_after setup t) c) in
       let plain : IsPlain setup t e = record {
         begins = λ x. ap (λ p. begins_in (Some r) p (state_after setup t) c x) is_open ∙ none_begins x;
         ends = λ x. ap (λ p. ends_in (Some r) p x) is_open ∙ none_ends x;
@@ -236,17 +262,23 @@ module _ (setup : Setting) (setting : IsSetting setup) (cores : ℕ → Core) (t
         };
         within = inner_within move (Some r) None;
         alone = λ is_alone. subst (IsFirst setup t e (Some r)) (sym is_open) (first is_alone);
-        disciplined = inner_disciplined move (Some r) None looks.of_call (marks_own setup cores t e after (λ w there. ap (λ h. h.marks w) still) stands.marks marks) (λ d m other. looks.kept);
+        disciplined = inner_disciplined move (Some r) None looks.of_call
+            (marks_own setup cores t e after (λ w there. ap (λ h. h.marks w) still) stands.marks marks) (λ d m other. looks.kept);
         near = inner_near move (Some r) None looks.of_call;
         marks = marks;
         words = load_words setup cores t e after still calm.frame looks.kept
             (λ v. calm_words setup t e calm plain v (λ g i h. ap (λ s. s.place g i) now)
             (λ d h. (decided-inside (Some r) (phase t c) (state_after setup t) c d, plain_exit t e refl d))) stands.words;
-        draws = (let d = stands.draws in let b = plain.same in let g = counted_rises setup (state_after setup t) (state_after setup (e ∷ t)) c calm in omega arith);
-        none_removed = λ g i k h. stands.none_removed g i k (sym (ap (λ s. s.place g i) now) ∙ h);
+        sums = sums_stay setup t e (held_by cores) (held_by (put cores c after))
+            (λ f d. settled_on setup cores t e after still calm.frame (CountAt f d)
+            (load_keeps setup cores t e after still calm.frame looks.kept (CountAt f d)))
+            calm plain (λ g i. ap (λ s. s.place g i) now) stands.sums;
+        draws = (let d = stands.draws in let b = plain.same in let g = counted_rises setup (state_after setup t)
+            (state_after setup (e ∷ t)) c calm in omega arith);
         time = plain_time setup t e plain;
         leaves = tt;
-        own = inner_own move (Some r) None refl plain ((cores c).own.made + calls_counted r) found (Decided r Nothing) lands.fits calm (counts now)
+        own = inner_own move (Some r) None refl plain ((cores c).own.made + calls_counted r) found (Decided r None Nothing) lands.fits
+            calm (counts now)
             (ap (after_decide (Some r)) opens) tt;
       }
     where
@@ -254,7 +286,9 @@ module _ (setup : Setting) (setting : IsSetting setup) (cores : ℕ → Core) (t
           → (cores c).own.made + calls_counted r ≡ ((state_after setup (inner move (Some r) None ∷ t)).core c).counted
       counts now =
           let made = core_is.works.made in
-          let g : ((state_after setup (inner move (Some r) None ∷ t)).core c).counted ≡ ((counted (state_after setup t) c).core c).counted = ap (λ s. (s.core c).counted) now in
+          let g : ((state_after setup (inner move (Some r) None ∷ t)).core c).counted ≡ ((counted (state_after setup t) c).core c).counted
+          = ap (λ s. (s.core c).counted) now in
           let k : ((counted (state_after setup t) c).core c).counted ≡ ((state_after setup t).core c).counted + 1 =
-          ap (λ j. j.counted) (put_same (state_after setup t).core c (record ((state_after setup t).core c) { counted = ((state_after setup t).core c).counted + 1 }) c refl) in
+          ap (λ j. j.counted) (put_same (state_after setup t).core c
+          (record ((state_after setup t).core c) { counted = ((state_after setup t).core c).counted + 1 }) c refl) in
           omega arith

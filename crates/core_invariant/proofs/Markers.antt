@@ -17,28 +17,31 @@ use Rattle.core_invariant.specs.Knows.{phase_at, KnowsAt, Knows, CallIs}
 use Rattle.core_invariant.specs.Stands.{holds_in, Stands}
 
 -- A call that has entered is in its phase.
-phase_at_in : (setup : Setting) (t : Trace) (c table : ℕ) (a : ActiveCall) (stage : Stage) → KnowsAt setup t c table a stage → phase_at a.call stage ≢ Out
+phase_at_in : (setup : Setting) (t : Trace) (c table : ℕ) (a : ActiveCall) (stage : Stage) → KnowsAt setup t c table a stage
+    → phase_at a.call stage ≢ Out
 phase_at_in setup t c table a Enter knows = absurd knows
 phase_at_in setup t c table a (Undecided work) knows = λ h. cc
-phase_at_in setup t c table a (Decided r tail) knows = λ h. cc
+phase_at_in setup t c table a (Decided r drawn tail) knows = λ h. cc
 phase_at_in setup t c table a (Leave r x) knows = λ h. cc
 
 pub phase_in : (setup : Setting) (t : Trace) (c table : ℕ) (a : ActiveCall) → Knows setup t c table a → phase_at a.call a.stage ≢ Out
 phase_in setup t c table a knows = phase_at_in setup t c table a a.stage knows
 
-phase_at_call : (setup : Setting) (t : Trace) (c table : ℕ) (a : ActiveCall) (stage : Stage) → KnowsAt setup t c table a stage → call_in (phase_at a.call stage) ≡ Some a.call
+phase_at_call : (setup : Setting) (t : Trace) (c table : ℕ) (a : ActiveCall) (stage : Stage) → KnowsAt setup t c table a stage
+    → call_in (phase_at a.call stage) ≡ Some a.call
 phase_at_call setup t c table a Enter knows = absurd knows
 phase_at_call setup t c table a (Undecided work) knows = refl
-phase_at_call setup t c table a (Decided r tail) knows = refl
+phase_at_call setup t c table a (Decided r drawn tail) knows = refl
 phase_at_call setup t c table a (Leave r x) knows = refl
 
-pub phase_call : (setup : Setting) (t : Trace) (c table : ℕ) (a : ActiveCall) → Knows setup t c table a → call_in (phase_at a.call a.stage) ≡ Some a.call
+pub phase_call : (setup : Setting) (t : Trace) (c table : ℕ) (a : ActiveCall) → Knows setup t c table a
+    → call_in (phase_at a.call a.stage) ≡ Some a.call
 phase_call setup t c table a knows = phase_at_call setup t c table a a.stage knows
 
 -- Who marks a word is in a call.
-flight_some : (o : Option ActiveCall) (c : ℕ) (w : Word) → (holds_in o c).marks w ≡ true → IsSome o
-flight_some None c w h = absurd (false≢true h)
-flight_some (Some f) c w h = refl
+flight_some : (o : Option ActiveCall) (w : Word) → (holds_in o).marks w ≡ true → IsSome o
+flight_some None w h = absurd (false≢true h)
+flight_some (Some f) w h = refl
 
 in_phase : (p : Phase) → p ≢ Out → is_in p ≡ true
 in_phase Out h = absurd (h refl)
@@ -46,7 +49,8 @@ in_phase (Rattle.kernel_history.specs.Trace.Open call) h = refl
 in_phase (Rattle.kernel_history.specs.Trace.Decided call r) h = refl
 
 -- A core whose mark a word carries is in a call.
-pub marker_inside : (setup : Setting) (cores : ℕ → Core) (t : Trace) → Stands setup cores t → (w : Word) (d : ℕ) → marked_by setup t w ≡ Some d
+pub marker_inside : (setup : Setting) (cores : ℕ → Core) (t : Trace) → Stands setup cores t → (w : Word) (d : ℕ)
+    → marked_by setup t w ≡ Some d
     → ((state_after setup t).core d).inside ≡ true
 marker_inside setup cores t stands w d is = elim (cases_lt d setup.cores) [
   | inl here ↦ inside_is setup t d ∙ in_phase (phase t d) (by_flight (cores d).active (stands.each d here).active some)
@@ -54,7 +58,7 @@ marker_inside setup cores t stands w d is = elim (cases_lt d setup.cores) [
 ]
   where
     some : IsSome (cores d).active
-    some = flight_some (cores d).active (cores d).own.core w ((stands.marks w d).owned is)
+    some = flight_some (cores d).active w ((stands.marks w d).owned is)
 
     none_some : (o : Option ActiveCall) → o ≡ None → IsSome o → ⊥
     none_some None is some = absurd (false≢true some)

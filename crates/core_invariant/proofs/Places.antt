@@ -28,9 +28,11 @@ pub record IsMarked (setup : Setting) (t : Trace) (f i : ℕ) : Type 0 where
 -- It carries no mark, and says what the place is.
 pub record IsPlain (setup : Setting) (t : Trace) (f i : ℕ) : Type 0 where
   pub mark : marked_by setup t (EntryAt f i) ≡ None
-  pub says : PlaceIs setup.frames ((state_after setup t).place f i) (stamp setup t (PlaceOf f i)) (entry_of_word (last_left setup t (EntryAt f i)))
+  pub says : PlaceIs setup.frames ((state_after setup t).place f i) (stamp setup t (PlaceOf f i))
+      (entry_of_word (last_left setup t (EntryAt f i)))
 
-node_says : (n : ℕ) (x : Frame) (p : Place) (r i v : ℕ) → IsTrue (is_node x) → i < 64 → IsFrameWord n x p r i v → PlaceIs n p r (entry_of_word v)
+pub node_says : (n : ℕ) (x : Frame) (p : Place) (r i v : ℕ) → IsTrue (is_node x) → i < 64 → IsFrameWord n x p r i v
+    → PlaceIs n p r (entry_of_word v)
 node_says n (Kernel Table) p r i v node below h = h below
 node_says n (Kernel Leaf) p r i v node below h = h below
 node_says n (Kernel Pages) p r i v node below h = h below
@@ -52,21 +54,26 @@ closing_by (Some (Closing e)) d h = ap (λ o. Rattle.std.specs.Prelude.option_ma
 closing_by (Some (Quiescing s)) d h = absurd (cc)
 
 -- What is read at a place of a node.
-pub place_reads : (setup : Setting) (cores : ℕ → Core) (t : Trace) → Stands setup cores t → (f i : ℕ) → IsTrue (is_node ((state_after setup t).frame f)) → i < 64
+pub place_reads : (setup : Setting) (cores : ℕ → Core) (t : Trace) → Stands setup cores t → (f i : ℕ)
+    → IsTrue (is_node ((state_after setup t).frame f)) → i < 64
     → IsMarked setup t f i ⊎ IsPlain setup t f i
 place_reads setup cores t stands f i node below = by_mark (marked_by setup t (EntryAt f i)) refl
   where
     by_mark : (o : Option ℕ) → marked_by setup t (EntryAt f i) ≡ o → IsMarked setup t f i ⊎ IsPlain setup t f i
     by_mark None is = inr (record {
       mark = is;
-      says = subst (λ n. PlaceIs n ((state_after setup t).place f i) (stamp setup t (PlaceOf f i)) (entry_of_word (last_left setup t (EntryAt f i))))
+      says = subst (λ n. PlaceIs n ((state_after setup t).place f i) (stamp setup t (PlaceOf f i))
+          (entry_of_word (last_left setup t (EntryAt f i))))
           (ap (λ l. l.frames) (limits_of setup t))
-          (node_says (state_after setup t).limits.frames ((state_after setup t).frame f) ((state_after setup t).place f i) (stamp setup t (PlaceOf f i)) i (last_left setup t (EntryAt f i)) node below
-          (subst (λ o. IsFrameWord (state_after setup t).limits.frames ((state_after setup t).frame f) ((state_after setup t).place f i) (stamp setup t (PlaceOf f i)) i
+          (node_says (state_after setup t).limits.frames ((state_after setup t).frame f) ((state_after setup t).place f i)
+          (stamp setup t (PlaceOf f i)) i (last_left setup t (EntryAt f i)) node below
+          (subst (λ o. IsFrameWord (state_after setup t).limits.frames ((state_after setup t).frame f) ((state_after setup t).place f i)
+          (stamp setup t (PlaceOf f i)) i
           (settled_by o (held_by cores) (EntryAt f i) (last_left setup t (EntryAt f i)))) is (stands.words (EntryAt f i))));
     })
     by_mark (Some d) is = inl (record {
       by = d;
-      says = closing_by (entry_of_word (last_left setup t (EntryAt f i))) d (sym (node_mark ((state_after setup t).frame f) i (last_left setup t (EntryAt f i)) node) ∙ is);
+      says = closing_by (entry_of_word (last_left setup t (EntryAt f i))) d
+          (sym (node_mark ((state_after setup t).frame f) i (last_left setup t (EntryAt f i)) node) ∙ is);
       mark = is;
     })

@@ -1,10 +1,10 @@
 -- The refusals of a call at a load: each leaves all as it was, but counts the call.
-use Rattle.std.proofs.Common.{◌≡◌, ℕ, ◌+◌, ◌<◌, false, Some, None, arith, refl, sym, ◌∙◌, ap}
+use Rattle.std.proofs.Common.{◌≡◌, ℕ, ◌+◌, ◌<◌, Option, false, Some, None, arith, refl, sym, ◌∙◌, ap}
 use Rattle.std.proofs.lemmas.Bool.{false≢true, lt-leb}
 use Rattle.supported_calls.specs.Built.{IsBuilt}
 use Rattle.spk_nums.specs.Setting.{Setting, IsSetting}
 use Rattle.spk_nums.specs.declared.calls.Call.{Call}
-use Rattle.spk_nums.specs.declared.calls.Call.TheVariants.{Look, Copy}
+use Rattle.spk_nums.specs.declared.calls.Call.TheVariants.{Look, Copy, Remove, Shrink, Unmap}
 use Rattle.spk_nums.specs.declared.replies.Reply.{Reply}
 use Rattle.spk_nums.specs.declared.replies.Reply.TheVariants as reply
 use Rattle.word_map.specs.Moves.{Move, word_of}
@@ -25,9 +25,9 @@ use Rattle.call_steps.specs.declared.stages.Stage.TheVariants.{Decided}
 use Rattle.call_steps.specs.Steps.{Took}
 use Rattle.call_steps.specs.Cores.{core_after, told_by}
 use Rattle.kernel_history.specs.Marking.{marked_by}
-use Rattle.core_invariant.specs.Holding.{nothing}
+use Rattle.core_invariant.specs.Holding.{holds_counts}
 use Rattle.core_invariant.specs.Knows.{phase_at, CoreIs}
-use Rattle.core_invariant.specs.Stands.{holds_at, holds_in, held_by, Stands}
+use Rattle.core_invariant.specs.Stands.{holds_in, held_by, Stands}
 use Rattle.core_invariant.specs.Events.{decided_in, returned_in}
 use Rattle.core_invariant.proofs.Good.{IsGood}
 use Rattle.core_invariant.proofs.Loads.{Lands, OnlyLooks, step_to, next_at, core_at, core_is, call_is, is_active, inner, decides_on}
@@ -41,7 +41,8 @@ step_with c move found took = step_to c None move found (decided_in (told_by too
 -- The step of core c, from which this was taken, is good where it leaves the core in its ranges.
 abbrev pub GoodTook : Setting → (ℕ → Core) → Trace → ℕ → Move → Took → Type 0
 GoodTook setup cores t c move took =
-    Lands setup (core_after (cores c).own took) (word_of move) → IsGood setup cores t (step_with c move (last_left setup t (word_of move)) took) (core_after (cores c).own took)
+    Lands setup (core_after (cores c).own took) (word_of move) → IsGood setup cores t
+    (step_with c move (last_left setup t (word_of move)) took) (core_after (cores c).own took)
 
 -- No core waits in a grace period; so it is where a call is alone.
 abbrev pub NobodyWaits : State → Type 0
@@ -51,25 +52,37 @@ NobodyWaits s = (x : Thing) (d : ℕ) → (s.grace x).waits d ≡ false
 pub built_owes : (s : State) (c : ℕ) (call : Call) → IsBuilt call → owed_by s c call ≡ s
 built_owes s c (Look a) built = refl
 built_owes s c (Copy a u b) built = refl
+built_owes s c (Remove u b) built = refl
+built_owes s c (Shrink u i) built = refl
+built_owes s c (Unmap p v) built = refl
 built_owes s c _ built = absurd built
 
 -- The calls of a core are not spent where it may count one more.
-pub not_spent : (setup : Setting) (core : Core) (t : Trace) (c : ℕ) → CoreIs setup core t c → core.own.made < core.own.limit → are_calls_spent (state_after setup t) c ≡ false
+pub not_spent : (setup : Setting) (core : Core) (t : Trace) (c : ℕ) → CoreIs setup core t c → core.own.made < core.own.limit
+    → are_calls_spent (state_after setup t) c ≡ false
 not_spent setup core t c is room =
     let limit : (state_after setup t).limits.calls ≡ setup.calls = ap (λ l. l.calls) (limits_of setup t) in
     let made : core.own.made ≡ ((state_after setup t).core c).counted = is.works.made in
     let most : core.own.limit ≡ setup.calls = is.limit in
     lt-leb (state_after setup t).limits.calls ((state_after setup t).core c).counted (omega arith)
 
-module _ (setup : Setting) (setting : IsSetting setup) (cores : ℕ → Core) (t : Trace) (stands : Stands setup cores t) (c : ℕ) (here : c < setup.cores)
-    (a : ActiveCall) (active : (cores c).active ≡ Some a) (opens : phase_at a.call a.stage ≡ Open a.call) (holds_none : holds_at a.stage (cores c).own.core ≡ nothing)
+module _ (setup : Setting) (setting : IsSetting setup) (cores : ℕ → Core) (t : Trace) (stands : Stands setup cores t) (c : ℕ)
+    (here : c < setup.cores)
+    (a : ActiveCall) (active : (cores c).active ≡ Some a) (opens : phase_at a.call a.stage ≡ Open a.call)
+    (held : holds_in (Some a) ≡ holds_counts None a.counts)
     (room : (cores c).own.made < (cores c).own.limit) (move : Move) (looks : OnlyLooks setup t c a.call move) where
+  -- a refusal holds what the call held
+  still : (fate : Option (Option ℕ)) → fate ≡ None → holds_counts fate a.counts ≡ holds_in (Some a)
+  still fate is = ap (λ x. holds_counts x a.counts) is ∙ sym held
+
   unspent : are_calls_spent (state_after setup t) c ≡ false
   unspent = not_spent setup (cores c) t c (core_is setup setting cores t stands c here a active) room
 
   -- where the call is alone, no core waits
-  nobody : (r : Reply) → IsAlone t (inner setup setting cores t stands c here a active move (Some r) None) → NobodyWaits (state_after setup t)
-  nobody r alone x d = nobody_waits setup t (inner setup setting cores t stands c here a active move (Some r) None) stands.legal tt alone a.call
+  nobody : (r : Reply) → IsAlone t (inner setup setting cores t stands c here a active move (Some r) None)
+      → NobodyWaits (state_after setup t)
+  nobody r alone x d = nobody_waits setup t (inner setup setting cores t stands c here a active move (Some r) None) stands.legal tt alone
+      a.call
       ((call_is setup setting cores t stands c here a active).phase ∙ opens) x d
 
   -- What refuses a call whatever its steps were: the first cause in order, where no core waits.
@@ -78,46 +91,69 @@ module _ (setup : Setting) (setting : IsSetting setup) (cores : ℕ → Core) (t
 
   -- the call is refused with this reply, and its names have led to what they had
   abbrev pub RefusedWith : Reply → Type 0
-  RefusedWith r = Lands setup (core_at (cores c) ((cores c).own.made + calls_counted r) (next_at a a.found (Decided r Nothing))) (word_of move)
-      → IsGood setup cores t (inner setup setting cores t stands c here a active move (Some r) None) (core_at (cores c) ((cores c).own.made + calls_counted r) (next_at a a.found (Decided r Nothing)))
+  RefusedWith r = Lands setup (core_at (cores c) ((cores c).own.made + calls_counted r) (next_at a a.found (Decided r None Nothing)))
+      (word_of move)
+      → IsGood setup cores t (inner setup setting cores t stands c here a active move (Some r) None)
+      (core_at (cores c) ((cores c).own.made + calls_counted r) (next_at a a.found (Decided r None Nothing)))
 
-  first_of : (r : Reply) → IsFirstCause r → IsAlone t (inner setup setting cores t stands c here a active move (Some r) None) → r ≡ alone (state_after setup t) c a.call
+  first_of : (r : Reply) → IsFirstCause r → IsAlone t (inner setup setting cores t stands c here a active move (Some r) None)
+      → r ≡ alone (state_after setup t) c a.call
   first_of r first is_alone = refused_first (state_after setup t) c a.call r unspent (first (nobody r is_alone))
 
-  pub refuses_no_slot : RuleMay (state_after setup t) c (rule_of (state_after setup t) c a.call) reply.NoSlot → IsFirstCause reply.NoSlot → RefusedWith reply.NoSlot
-  refuses_no_slot may first lands = decides_on setup setting cores t stands c here a active move reply.NoSlot a.found looks lands (sym holds_none) opens refl refl (λ x. refl) (λ x. refl) refl (unspent, may) tt
+  pub refuses_no_slot : RuleMay (state_after setup t) c (rule_of (state_after setup t) c a.call) reply.NoSlot → IsFirstCause reply.NoSlot
+      → RefusedWith reply.NoSlot
+  refuses_no_slot may first lands =
+      decides_on setup setting cores t stands c here a active move reply.NoSlot a.found looks lands (still None refl) opens refl refl
+      (λ x. refl) (λ x. refl) refl (unspent, may) tt
       (first_of reply.NoSlot first)
 
-  pub refuses_empty : RuleMay (state_after setup t) c (rule_of (state_after setup t) c a.call) reply.Empty → IsFirstCause reply.Empty → RefusedWith reply.Empty
-  refuses_empty may first lands = decides_on setup setting cores t stands c here a active move reply.Empty a.found looks lands (sym holds_none) opens refl refl (λ x. refl) (λ x. refl) refl (unspent, may) tt
+  pub refuses_empty : RuleMay (state_after setup t) c (rule_of (state_after setup t) c a.call) reply.Empty → IsFirstCause reply.Empty
+      → RefusedWith reply.Empty
+  refuses_empty may first lands =
+      decides_on setup setting cores t stands c here a active move reply.Empty a.found looks lands (still None refl) opens refl refl
+      (λ x. refl) (λ x. refl) refl (unspent, may) tt
       (first_of reply.Empty first)
 
-  pub refuses_wrong : RuleMay (state_after setup t) c (rule_of (state_after setup t) c a.call) reply.WrongCap → IsFirstCause reply.WrongCap → RefusedWith reply.WrongCap
-  refuses_wrong may first lands = decides_on setup setting cores t stands c here a active move reply.WrongCap a.found looks lands (sym holds_none) opens refl refl (λ x. refl) (λ x. refl) refl (unspent, may) tt
+  pub refuses_wrong : RuleMay (state_after setup t) c (rule_of (state_after setup t) c a.call) reply.WrongCap
+      → IsFirstCause reply.WrongCap → RefusedWith reply.WrongCap
+  refuses_wrong may first lands =
+      decides_on setup setting cores t stands c here a active move reply.WrongCap a.found looks lands (still None refl) opens refl refl
+      (λ x. refl) (λ x. refl) refl (unspent, may) tt
       (first_of reply.WrongCap first)
 
-  pub refuses_occupied : RuleMay (state_after setup t) c (rule_of (state_after setup t) c a.call) reply.Occupied → IsFirstCause reply.Occupied → RefusedWith reply.Occupied
-  refuses_occupied may first lands = decides_on setup setting cores t stands c here a active move reply.Occupied a.found looks lands (sym holds_none) opens refl refl (λ x. refl) (λ x. refl) refl (unspent, may) tt
+  pub refuses_occupied : RuleMay (state_after setup t) c (rule_of (state_after setup t) c a.call) reply.Occupied
+      → IsFirstCause reply.Occupied → RefusedWith reply.Occupied
+  refuses_occupied may first lands =
+      decides_on setup setting cores t stands c here a active move reply.Occupied a.found looks lands (still None refl) opens refl refl
+      (λ x. refl) (λ x. refl) refl (unspent, may) tt
       (first_of reply.Occupied first)
 
   -- a word that has changed since the call's last step on it
-  pub refuses_raced : IsRaceLost t (inner setup setting cores t stands c here a active move (Some reply.Raced) None) (state_after setup t) (rule_of (state_after setup t) c a.call) → RefusedWith reply.Raced
-  refuses_raced lost lands = decides_on setup setting cores t stands c here a active move reply.Raced a.found looks lands (sym holds_none) opens
+  pub refuses_raced : IsRaceLost t (inner setup setting cores t stands c here a active move (Some reply.Raced) None) (state_after setup t)
+      (rule_of (state_after setup t) c a.call) → RefusedWith reply.Raced
+  refuses_raced lost lands =
+      decides_on setup setting cores t stands c here a active move reply.Raced a.found looks lands (still None refl) opens
       (ap (λ s. counted s c) (built_owes (state_after setup t) c a.call (is_active setup setting cores t stands c here a active).built))
       refl (λ x. refl) (λ x. refl) refl (unspent, tt) lost
-      (λ is_alone. absurd (not_changed setup t (inner setup setting cores t stands c here a active move (Some reply.Raced) None) refl is_alone lost.own lost.has_read lost.changed))
+      (λ is_alone. absurd (not_changed setup t (inner setup setting cores t stands c here a active move (Some reply.Raced) None) refl
+      is_alone lost.own lost.has_read lost.changed))
 
   -- another core's mark
-  pub refuses_busy : (d : ℕ) → marked_by setup t (word_of move) ≡ Some d → IsOnWay (state_after setup t) c (rule_of (state_after setup t) c a.call) (word_of move) → RefusedWith (reply.Busy d)
-  refuses_busy d mark on_way lands = decides_on setup setting cores t stands c here a active move (reply.Busy d) a.found looks lands (sym holds_none) opens
+  pub refuses_busy : (d : ℕ) → (holds_counts None a.counts).marks (word_of move) ≡ false → marked_by setup t (word_of move) ≡ Some d
+      → IsOnWay (state_after setup t) c (rule_of (state_after setup t) c a.call) (word_of move) → RefusedWith (reply.Busy d)
+  refuses_busy d bare mark on_way lands =
+      decides_on setup setting cores t stands c here a active move (reply.Busy d) a.found looks lands (still None refl) opens
       (ap (λ s. counted s c) (built_owes (state_after setup t) c a.call (is_active setup setting cores t stands c here a active).built))
-      refl (λ x. refl) (λ x. refl) refl (unspent, tt) held
-      (λ is_alone. absurd (not_inside setup t (inner setup setting cores t stands c here a active move (Some (reply.Busy d)) None) refl is_alone d held.other held.is_inside))
+      refl (λ x. refl) (λ x. refl) refl (unspent, tt) blocked
+      (λ is_alone. absurd (not_inside setup t (inner setup setting cores t stands c here a active move (Some (reply.Busy d)) None) refl
+      is_alone d blocked.other blocked.is_inside))
     where
-      held : IsHeldUp setup t (inner setup setting cores t stands c here a active move (Some (reply.Busy d)) None) (state_after setup t) (rule_of (state_after setup t) c a.call) d
-      held = record {
+      blocked : IsHeldUp setup t (inner setup setting cores t stands c here a active move (Some (reply.Busy d)) None)
+          (state_after setup t) (rule_of (state_after setup t) c a.call) d
+      blocked = record {
         marked = mark;
-        other = λ own. false≢true (sym (ap (λ h. h.marks (word_of move)) (ap (λ (e : ℕ). held_by cores e) own ∙ ap (λ o. holds_in o (cores c).own.core) active ∙ holds_none)) ∙ (stands.marks (word_of move) d).owned mark);
+        other = λ own. false≢true (sym (ap (λ h. h.marks (word_of move)) (ap (λ (e : ℕ). held_by cores e) own ∙ ap holds_in active ∙ held)
+            ∙ bare) ∙ (stands.marks (word_of move) d).owned mark);
         is_inside = marker_inside setup cores t stands (word_of move) d mark;
         has_marked = stands.marked (word_of move) d mark;
         on_way = on_way;

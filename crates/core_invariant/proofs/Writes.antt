@@ -1,6 +1,6 @@
 -- The ways in which a core makes a step that writes its word: a decided call writes an entry; a call enters or leaves, and the
 -- core's own word is stored.
-use Rattle.std.proofs.Common.{◌≡◌, ◌≢◌, ℕ, zero, suc, ◌*◌, ◌^◌, ◌<◌, ◌≤◌, Bool, true, false, List, [], ◌∷◌, Option, Some, None, arith, refl, sym, ◌∙◌, ap, subst, inl, inr}
+use Rattle.std.proofs.Common.{◌≡◌, ◌≢◌, ℕ, zero, suc, ◌+◌, ◌*◌, ◌^◌, ◌<◌, ◌≤◌, Bool, true, false, if◌then◌else◌, List, [], ◌∷◌, Option, Some, None, arith, refl, sym, ◌∙◌, ap, subst, inl, inr}
 use Rattle.std.proofs.lemmas.Bool.{cases_eq, eq-eqb}
 use Rattle.spk_nums.specs.Bounds.{bound_of}
 use Rattle.spk_nums.specs.Capability.{Capability}
@@ -10,9 +10,9 @@ use Rattle.spk_nums.specs.declared.calls.Call.{Call}
 use Rattle.spk_nums.specs.declared.replies.Reply.{Reply}
 use Rattle.frame_words.specs.Core.{core_of_word}
 use Rattle.frame_words.proofs.CoreLemmas.{spelling}
-use Rattle.word_map.specs.Word.{EntryAt, CoreAt}
+use Rattle.word_map.specs.Word.{Word, EntryAt, CountAt, CoreAt, same_word}
 use Rattle.word_map.specs.Moves.{Move, StoreOf, word_of, left_of}
-use Rattle.kernel_rules.specs.State.{Quiescing}
+use Rattle.kernel_rules.specs.State.{put}
 use Rattle.kernel_rules.specs.References.{sum_below}
 use Rattle.kernel_rules.specs.GracePeriods.{returned}
 use Rattle.kernel_rules.specs.Alone.{alone}
@@ -26,19 +26,26 @@ use Rattle.kernel_history.specs.Graces.{IsLeave}
 use Rattle.kernel_history.proofs.Inside.{decided-inside, inside-own, inside-other}
 use Rattle.kernel_history.proofs.Steps.{phase-own, steps_in_call-own, exit_of-own, exit_of-other}
 use Rattle.call_steps.specs.declared.stages.Stage.{Stage}
-use Rattle.call_steps.specs.declared.stages.Stage.TheVariants.{Enter, Undecided, Decided, Leave}
+use Rattle.call_steps.specs.declared.stages.Stage.TheVariants.{Decided, Leave}
 use Rattle.call_steps.specs.declared.stages.ActiveCall.{ActiveCall}
 use Rattle.call_steps.specs.View.{Core}
 use Rattle.call_steps.specs.Steps.{core_word}
 use Rattle.call_steps.specs.Cores.{fresh}
 use Rattle.kernel_history.specs.Marking.{marked_by}
-use Rattle.core_invariant.specs.Words.{WordIs}
-use Rattle.core_invariant.specs.Knows.{phase_at, KnowsAt, Knows, CallIs, CoreIs}
-use Rattle.core_invariant.specs.Stands.{holds_at, holds_in, holds, times_of, Stands}
-use Rattle.core_invariant.proofs.WordFrames.{marks_own, write_marks, write_words}
+use Rattle.core_invariant.specs.Words.{count_room, WordIs}
+use Rattle.core_invariant.proofs.Sounds.{limits_of}
+use Rattle.core_invariant.specs.Knows.{phase_at, KnowsAt, Knows, IsCount, CallIs, CoreIs}
+use Rattle.core_invariant.specs.Stands.{is_done, holds_at, holds_in, holds, held_by, times_of, SumIs, Stands}
+use Rattle.core_invariant.proofs.WordFrames.{marks_own, settled_on, write_marks, write_words, carry_marks, carry_words}
+use Rattle.core_invariant.proofs.Sums.{sums_stay}
+use Rattle.core_invariant.specs.Holding.{nothing, count_of, holds_counts}
+use Rattle.stage_pins.specs.declared.held.Acquired.{Acquired}
+use Rattle.call_steps.specs.Fits.{CountsAt}
+use Rattle.kernel_history.proofs.Steps.{last_left-there}
+use Rattle.std.proofs.lemmas.List.Elements.{All-nil}
 use Rattle.core_invariant.proofs.Good.{IsGood}
 use Rattle.core_invariant.proofs.Calm.{IsCalm, calm_returned, calm_own, calm_words, counted_rises, IsPlain, plain_time, plain_exit, plain_flushed}
-use Rattle.core_invariant.proofs.Loads.{Lands, IsOfCall, step_to, next_at, core_at, some_left, core_is, call_is, in_call, inner, inner_within, inner_disciplined, inner_near, inner_own, still_holds}
+use Rattle.core_invariant.proofs.Loads.{Lands, IsOfCall, step_to, next_at, core_at, some_left, core_is, call_is, in_call, inner, inner_within, inner_disciplined, inner_near, inner_own, is_active}
 
 -- The clock fits a stamp: each stamp was drawn by a call that was counted.
 
@@ -47,23 +54,35 @@ unfolding sum_below
 sum_most f zero most = omega arith
 sum_most f (suc n) most = let a = sum_most f n (λ i h. most i (omega arith)) in let b = most n (omega arith) in omega arith
 
+made_most : (setup : Setting) (cores : ℕ → Core) (t : Trace) → Stands setup cores t → (c : ℕ) → c < setup.cores
+    → ((state_after setup t).core c).counted ≤ 4194304
+made_most setup cores t stands c here =
+    let is = stands.each c here in
+    let made = is.works.made in
+    let most = is.fits.own.made in
+    let limit = is.fits.own.most_calls in
+    omega arith
+
 pub clock_small : (setup : Setting) → IsSetting setup → (cores : ℕ → Core) (t : Trace) → Stands setup cores t → clock setup t < 2 ^ 28
 clock_small setup setting cores t stands =
-    let most = sum_most (λ c. ((state_after setup t).core c).counted) setup.cores each in
+    let most = sum_most (λ c. ((state_after setup t).core c).counted) setup.cores (made_most setup cores t stands) in
     let draws = stands.draws in
     let few = setting.most_cores in
     omega arith
-  where
-    each : (c : ℕ) → c < setup.cores → ((state_after setup t).core c).counted ≤ 4194304
-    each c here =
-        let is = stands.each c here in
-        let made = is.works.made in
-        let most = is.fits.own.made in
-        let limit = is.fits.own.most_calls in
-        omega arith
+
+-- So few calls leave room in each count's field.
+pub room_small : (setup : Setting) → IsSetting setup → (cores : ℕ → Core) (t : Trace) → Stands setup cores t
+    → count_room (state_after setup t) < 2 ^ 28
+room_small setup setting cores t stands =
+    subst (λ (n : ℕ). 16 + 4 * sum_below (λ c. ((state_after setup t).core c).counted) n < 2 ^ 28)
+    (sym (ap (λ l. l.cores) (limits_of setup t)))
+    (let most = sum_most (λ c. ((state_after setup t).core c).counted) setup.cores (made_most setup cores t stands) in
+    let few = setting.most_cores in
+    omega arith)
 
 -- The word of a core reads as what was stored.
-pub core_reads : (inside : Bool) (stamp : ℕ) → stamp < 2 ^ 28 → core_of_word (core_word inside stamp) ≡ Some (record { inside = inside; stamp = stamp })
+pub core_reads : (inside : Bool) (stamp : ℕ) → stamp < 2 ^ 28
+    → core_of_word (core_word inside stamp) ≡ Some (record { inside = inside; stamp = stamp })
 core_reads inside stamp small = spelling.reads (record { inside = inside; stamp = stamp }) small
 
 pub core_small : (inside : Bool) (stamp : ℕ) → stamp < 2 ^ 28 → core_word inside stamp < 2 ^ 64
@@ -72,32 +91,54 @@ core_small inside stamp small = spelling.small (record { inside = inside; stamp 
 none_some : (d : ℕ) → None ≡ Some d → ⊥
 none_some d h = cc
 
-module _ (setup : Setting) (setting : IsSetting setup) (cores : ℕ → Core) (t : Trace) (stands : Stands setup cores t) (c : ℕ) (here : c < setup.cores) where
-  -- A decision that writes an entry, which carried no mark and carries none.
+-- A count is no core's word.
+count_apart : (f d c : ℕ) → CountAt f d ≢ CoreAt c
+count_apart f d c h = cc
+
+-- What counts are held does not depend on whether the call is carried out.
+pub same_marks : (fate fate' : Option (Option ℕ)) (xs : List Acquired) (w : Word)
+    → (holds_counts fate xs).marks w ≡ (holds_counts fate' xs).marks w
+same_marks fate fate' [] w = refl
+same_marks fate fate' (x ∷ xs) w = ap (λ b. if same_word w (count_of x) then true else b) (same_marks fate fate' xs w)
+
+module _ (setup : Setting) (setting : IsSetting setup) (cores : ℕ → Core) (t : Trace) (stands : Stands setup cores t) (c : ℕ)
+    (here : c < setup.cores) where
+  -- A decision that writes an entry, which carried no mark and carries none. The counts that the call has acquired stand for what it
+  -- will commit.
   module _ (a : ActiveCall) (active : (cores c).active ≡ Some a) where
-    pub writes_entry : (move : Move) (node index made : ℕ) (r : Reply) (found : List Capability) (stage : Stage) → word_of move ≡ EntryAt node index
-        → marked_by setup t (EntryAt node index) ≡ None → mark_of (state_after setup t) (EntryAt node index) (left_of move (last_left setup t (EntryAt node index))) ≡ None
+    pub writes_entry : (move : Move) (node index made : ℕ) (r : Reply) (found : List Capability) (stage : Stage)
+        → word_of move ≡ EntryAt node index
+        → marked_by setup t (EntryAt node index) ≡ None
+        → mark_of (state_after setup t) (EntryAt node index) (left_of move (last_left setup t (EntryAt node index))) ≡ None
         → left_of move (last_left setup t (EntryAt node index)) < 2 ^ 64 → IsOfCall setup t c a.call move
-        → Lands setup (core_at (cores c) made (next_at a found stage)) (word_of move) → holds_at stage (cores c).own.core ≡ holds_at a.stage (cores c).own.core
+        → Lands setup (core_at (cores c) made (next_at a found stage)) (word_of move)
         → phase_at a.call a.stage ≡ Open a.call → phase_at a.call stage ≡ Decided a.call r
+        → holds_at stage a.counts ≡ holds_counts (is_done stage) a.counts
         → (let e : Step = inner setup setting cores t stands c here a active move (Some r) None in
         IsCalm (state_after setup t) (state_after setup (e ∷ t)) c → IsPlain setup t e
         → made ≡ ((state_after setup (e ∷ t)).core c).counted
         → ((g i : ℕ) → EntryAt g i ≢ EntryAt node index → (state_after setup (e ∷ t)).place g i ≡ (state_after setup t).place g i)
-        → ((g i : ℕ) (k : Capability) → (state_after setup (e ∷ t)).place g i ≢ Quiescing k)
-        → WordIs (state_after setup (e ∷ t)) (times_of setup (e ∷ t)) (EntryAt node index) (left_of move (last_left setup t (EntryAt node index)))
+        → WordIs (state_after setup (e ∷ t)) (times_of setup (e ∷ t)) (EntryAt node index)
+        (left_of move (last_left setup t (EntryAt node index)))
+        → holds_in (Some a) ≡ holds_counts None a.counts
+        → ((w : Word) → marked_by setup t w ≡ Some c
+        → WordIs (state_after setup (e ∷ t)) (times_of setup (e ∷ t)) w ((holds_counts (is_done stage) a.counts).stands w))
+        → ((f : ℕ) → SumIs setup (held_by (put cores c (core_at (cores c) made (next_at a found stage)))) (e ∷ t) f)
         → MayDecide setup t e (Some r) (phase t c)
         → (IsAlone t e → r ≡ alone (state_after setup t) c a.call)
         → Knows setup (e ∷ t) c (cores c).own.table (next_at a found stage)
         → IsGood setup cores t e (core_at (cores c) made (next_at a found stage)))
-    writes_entry move node index made r found stage at was now small of_call lands same opens closes calm plain counts places removed new may first knows =
+    writes_entry move node index made r found stage at was now small of_call lands opens closes bare_stage calm plain counts places new
+        held commits sums may first knows =
         let e : Step = inner setup setting cores t stands c here a active move (Some r) None in
         let after : Core = core_at (cores c) made (next_at a found stage) in
-        let still = still_holds setup setting cores t stands c here a active move (Some r) None made found stage same in
+        let still : (w : Word) → (holds after).marks w ≡ (holds (cores c)).marks w =
+        λ w. ap (λ h. h.marks w) bare_stage ∙ same_marks (is_done stage) None a.counts w ∙ sym
+        (ap (λ h. h.marks w) (ap holds_in active ∙ held)) in
         let unmarked : marked_by setup t (word_of move) ≡ None = ap (marked_by setup t) at ∙ was in
         let bare : mark_of (state_after setup t) (word_of move) (left_of move (last_left setup t (word_of move))) ≡ None =
         ap (λ w. mark_of (state_after setup t) w (left_of move (last_left setup t w))) at ∙ now in
-        let marks = write_marks setup cores t e after still calm.frame unmarked bare stands.marks in
+        let marks = carry_marks setup cores t e after still calm.frame unmarked bare stands.marks in
         record {
           follows = record {
             is_core = here;
@@ -111,27 +152,35 @@ module _ (setup : Setting) (setting : IsSetting setup) (cores : ℕ → Core) (t
             returns = tt;
           };
           within = inner_within setup setting cores t stands c here a active move (Some r) None;
-          alone = λ is_alone. subst (IsFirst setup t e (Some r)) (sym ((call_is setup setting cores t stands c here a active).phase ∙ opens)) (first is_alone);
+          alone = λ is_alone. subst (IsFirst setup t e (Some r))
+              (sym ((call_is setup setting cores t stands c here a active).phase ∙ opens)) (first is_alone);
           disciplined = inner_disciplined setup setting cores t stands c here a active move (Some r) None of_call
-              (marks_own setup cores t e after (λ w there. ap (λ h. h.marks w) still) stands.marks marks) (λ d m other. absurd (none_some d (sym unmarked ∙ m)));
+              (marks_own setup cores t e after (λ w there. still w) stands.marks marks)
+              (λ d m other. absurd (none_some d (sym unmarked ∙ m)));
           near = inner_near setup setting cores t stands c here a active move (Some r) None of_call;
           marks = marks;
-          words = write_words setup cores t e after still calm.frame unmarked bare
-              (λ v there. calm_words setup t e calm plain v (λ g i h. places g i (λ q. there (h ∙ q ∙ sym at)))
+          words = carry_words setup cores t e after still calm.frame unmarked bare
+              (λ v there free. calm_words setup t e calm plain v (λ g i h. places g i (λ q. there (h ∙ q ∙ sym at)))
               (λ d h. (decided-inside (Some r) (phase t c) (state_after setup t) c d, plain_exit t e refl d)))
-              (subst (λ w. WordIs (state_after setup (e ∷ t)) (times_of setup (e ∷ t)) w (left_of move (last_left setup t w))) (sym at) new) stands.words;
-          draws = (let d = stands.draws in let b = plain.same in let g = counted_rises setup (state_after setup t) (state_after setup (e ∷ t)) c calm in omega arith);
-          none_removed = removed;
+              (subst (λ w. WordIs (state_after setup (e ∷ t)) (times_of setup (e ∷ t)) w (left_of move (last_left setup t w))) (sym at)
+              new)
+              (λ w own. subst (λ h. WordIs (state_after setup (e ∷ t)) (times_of setup (e ∷ t)) w (h.stands w)) (sym bare_stage)
+              (commits w own)) stands.words;
+          sums = sums;
+          draws = (let d = stands.draws in let b = plain.same in let g = counted_rises setup (state_after setup t)
+              (state_after setup (e ∷ t)) c calm in omega arith);
           time = plain_time setup t e plain;
           leaves = tt;
-          own = inner_own setup setting cores t stands c here a active move (Some r) None refl plain made found stage lands.fits calm counts
+          own = inner_own setup setting cores t stands c here a active move (Some r) None refl plain made found stage lands.fits calm
+              counts
               (ap (after_decide (Some r)) opens ∙ sym closes) knows;
         }
 
     -- The call returns: the core's word says that it is outside, with the clock that it has loaded.
     pub leaves_on : (r : Reply) (x : ℕ) → a.stage ≡ Leave r x
         → Lands setup (record { own = record (cores c).own { exit = x }; active = None }) (CoreAt c)
-        → IsGood setup cores t (step_to c None (StoreOf (CoreAt c) (core_word false x)) (last_left setup t (CoreAt c)) None (Some r)) (record { own = record (cores c).own { exit = x }; active = None })
+        → IsGood setup cores t (step_to c None (StoreOf (CoreAt c) (core_word false x)) (last_left setup t (CoreAt c)) None (Some r))
+        (record { own = record (cores c).own { exit = x }; active = None })
     leaves_on r x at lands =
         let e : Step = step_to c None (StoreOf (CoreAt c) (core_word false x)) (last_left setup t (CoreAt c)) None (Some r) in
         let after : Core = record { own = record (cores c).own { exit = x }; active = None } in
@@ -139,7 +188,9 @@ module _ (setup : Setting) (setting : IsSetting setup) (cores : ℕ → Core) (t
         let in_flight = call_is setup setting cores t stands c here a active in
         let leave : IsLeave setup t c x = subst (KnowsAt setup t c (cores c).own.table a) at in_flight.knows in
         let was_decided : phase t c ≡ Decided a.call r = in_flight.phase ∙ ap (phase_at a.call) at in
-        let still : holds after ≡ holds (cores c) = sym (ap (λ o. holds_in o (cores c).own.core) active ∙ ap (λ s. holds_at s (cores c).own.core) at) in
+        let none : a.counts ≡ [] = subst (CountsAt a.counts) at (is_active setup setting cores t stands c here a active).counts in
+        let still : holds after ≡ holds (cores c) = sym (ap holds_in active ∙ ap (λ s. holds_at s a.counts) at ∙ ap (holds_counts None)
+        none) in
         let calm : IsCalm (state_after setup t) (state_after setup (e ∷ t)) c = calm_returned (state_after setup t) c in
         let plain : IsPlain setup t e = record { begins = λ y. refl; ends = λ y. refl; flushes = refl; apart = λ d. refl; same = refl } in
         let out : exit_of (e ∷ t) c ≡ x = exit_of-own c e t refl ∙ leave.seen in
@@ -161,8 +212,10 @@ module _ (setup : Setting) (setting : IsSetting setup) (cores : ℕ → Core) (t
           };
           within = inner_within setup setting cores t stands c here a active (StoreOf (CoreAt c) (core_word false x)) None (Some r);
           alone = λ is_alone. tt;
-          disciplined = inner_disciplined setup setting cores t stands c here a active (StoreOf (CoreAt c) (core_word false x)) None (Some r) own_word
-              (marks_own setup cores t e after (λ w there. ap (λ h. h.marks w) still) stands.marks marks) (λ d m other. absurd (none_some d m));
+          disciplined = inner_disciplined setup setting cores t stands c here a active (StoreOf (CoreAt c) (core_word false x)) None
+              (Some r) own_word
+              (marks_own setup cores t e after (λ w there. ap (λ h. h.marks w) still) stands.marks marks)
+              (λ d m other. absurd (none_some d m));
           near = inner_near setup setting cores t stands c here a active (StoreOf (CoreAt c) (core_word false x)) None (Some r) own_word;
           marks = marks;
           words = write_words setup cores t e after still calm.frame refl refl
@@ -174,8 +227,12 @@ module _ (setup : Setting) (setting : IsSetting setup) (cores : ℕ → Core) (t
               (core_reads false x (omega arith) ∙ ap (λ b. Some (record { inside = b; stamp = x })) (sym inside)
               ∙ ap (λ (y : ℕ). Some (record { inside = ((state_after setup (e ∷ t)).core c).inside; stamp = y })) (sym out))
               stands.words;
-          draws = (let d = stands.draws in let g = counted_rises setup (state_after setup t) (state_after setup (e ∷ t)) c calm in omega arith);
-          none_removed = stands.none_removed;
+          sums = sums_stay setup t e (held_by cores) (held_by (put cores c after))
+              (λ f d. settled_on setup cores t e after still calm.frame (CountAt f d)
+              (last_left-there setup (CountAt f d) e t (count_apart f d c)))
+              calm plain (λ g i. refl) stands.sums;
+          draws = (let d = stands.draws in let g = counted_rises setup (state_after setup t) (state_after setup (e ∷ t)) c calm in omega
+              arith);
           time = plain_time setup t e plain;
           leaves = record { at = x; knows = leave; stored = now.flushed; no_entry = refl; no_decision = refl };
           own = record {
@@ -183,7 +240,8 @@ module _ (setup : Setting) (setting : IsSetting setup) (cores : ℕ → Core) (t
             number = now.number;
             shape = now.shape;
             limit = now.limit;
-            works = calm_own (state_after setup t) (state_after setup (e ∷ t)) c (cores c).own after.own calm (ap (λ (m : ℕ). record after.own { made = m }) (counts now)) now.works;
+            works = calm_own (state_after setup t) (state_after setup (e ∷ t)) c (cores c).own after.own calm
+                (ap (λ (m : ℕ). record after.own { made = m }) (counts now)) now.works;
             exit = sym out;
             flushed = plain_flushed setup t e plain c now.flushed;
             active = phase-own c e t refl;
@@ -198,9 +256,10 @@ module _ (setup : Setting) (setting : IsSetting setup) (cores : ℕ → Core) (t
 
   -- A call enters, and may be decided at once: the core's word says that it is inside, with the stamp of its last exit.
   pub enters_on : (made : ℕ) (call : Call) (d : Option Reply) (stage : Stage) → (cores c).active ≡ None
-      → InLimits call → Lands setup (core_at (cores c) made (next_at (fresh call) [] stage)) (CoreAt c) → holds_at stage (cores c).own.core ≡ holds_in None (cores c).own.core
+      → InLimits call → Lands setup (core_at (cores c) made (next_at (fresh call) [] stage)) (CoreAt c) → holds_at stage [] ≡ nothing
       → after_decide d (Open call) ≡ phase_at call stage
-      → (let e : Step = step_to c (Some call) (StoreOf (CoreAt c) (core_word true (cores c).own.exit)) (last_left setup t (CoreAt c)) d None in
+      → (let e : Step = step_to c (Some call) (StoreOf (CoreAt c) (core_word true (cores c).own.exit)) (last_left setup t (CoreAt c)) d
+      None in
       IsCalm (state_after setup t) (state_after setup (e ∷ t)) c → IsPlain setup t e
       → made ≡ ((state_after setup (e ∷ t)).core c).counted
       → ((g i : ℕ) → (state_after setup (e ∷ t)).place g i ≡ (state_after setup t).place g i)
@@ -208,12 +267,13 @@ module _ (setup : Setting) (setting : IsSetting setup) (cores : ℕ → Core) (t
       → IsFirst setup t e d (Open call)
       → Knows setup (e ∷ t) c (cores c).own.table (next_at (fresh call) [] stage)
       → IsGood setup cores t e (core_at (cores c) made (next_at (fresh call) [] stage)))
-  enters_on made call d stage between limits lands same at calm plain counts places may first knows =
-      let e : Step = step_to c (Some call) (StoreOf (CoreAt c) (core_word true (cores c).own.exit)) (last_left setup t (CoreAt c)) d None in
+  enters_on made call d stage between limits lands bare at calm plain counts places may first knows =
+      let e : Step = step_to c (Some call) (StoreOf (CoreAt c) (core_word true (cores c).own.exit)) (last_left setup t (CoreAt c)) d None
+      in
       let after : Core = core_at (cores c) made (next_at (fresh call) [] stage) in
       let now : CoreIs setup (cores c) t c = stands.each c here in
       let out : phase t c ≡ Out = subst (CallIs setup t c (cores c).own.table) between now.active in
-      let still : holds after ≡ holds (cores c) = same ∙ sym (ap (λ o. holds_in o (cores c).own.core) between) in
+      let still : holds after ≡ holds (cores c) = bare ∙ sym (ap holds_in between) in
       let last : exit_of (e ∷ t) c ≡ (cores c).own.exit = plain_exit t e refl c ∙ sym now.exit in
       let inside : ((state_after setup (e ∷ t)).core c).inside ≡ true = inside-own setup e t c refl in
       let small = clock_small setup setting cores t stands in
@@ -257,11 +317,16 @@ module _ (setup : Setting) (setting : IsSetting setup) (cores : ℕ → Core) (t
               | inl own ↦ absurd (there (h ∙ ap CoreAt own))
               | inr other ↦ (inside-other setup e t b other, exit_of-other b e t other)
             ]))
-            (core_reads true (cores c).own.exit (omega arith) ∙ ap (λ b. Some (record { inside = b; stamp = (cores c).own.exit })) (sym inside)
+            (core_reads true (cores c).own.exit (omega arith) ∙ ap (λ b. Some (record { inside = b; stamp = (cores c).own.exit }))
+            (sym inside)
             ∙ ap (λ (y : ℕ). Some (record { inside = ((state_after setup (e ∷ t)).core c).inside; stamp = y })) (sym last))
             stands.words;
-        draws = (let d = stands.draws in let b = plain.same in let g = counted_rises setup (state_after setup t) (state_after setup (e ∷ t)) c calm in omega arith);
-        none_removed = λ g i k h. stands.none_removed g i k (sym (places g i) ∙ h);
+        sums = sums_stay setup t e (held_by cores) (held_by (put cores c after))
+            (λ f d. settled_on setup cores t e after still calm.frame (CountAt f d)
+            (last_left-there setup (CountAt f d) e t (count_apart f d c)))
+            calm plain places stands.sums;
+        draws = (let d = stands.draws in let b = plain.same in let g = counted_rises setup (state_after setup t)
+            (state_after setup (e ∷ t)) c calm in omega arith);
         time = plain_time setup t e plain;
         leaves = tt;
         own = record {
@@ -269,10 +334,17 @@ module _ (setup : Setting) (setting : IsSetting setup) (cores : ℕ → Core) (t
           number = now.number;
           shape = now.shape;
           limit = now.limit;
-          works = calm_own (state_after setup t) (state_after setup (e ∷ t)) c (cores c).own after.own calm (ap (λ (m : ℕ). record (cores c).own { made = m }) counts) now.works;
+          works = calm_own (state_after setup t) (state_after setup (e ∷ t)) c (cores c).own after.own calm
+              (ap (λ (m : ℕ). record (cores c).own { made = m }) counts) now.works;
           exit = sym last;
           flushed = plain_flushed setup t e plain c now.flushed;
-          active = record { phase = phase-own c e t refl ∙ at; steps = steps_in_call-own c e t refl; knows = knows };
+          active = record {
+            phase = phase-own c e t refl ∙ at;
+            steps = steps_in_call-own c e t refl;
+            knows = knows;
+            counts = All-nil (IsCount setup (e ∷ t) c call);
+            apart = tt;
+          };
         };
       }
     where

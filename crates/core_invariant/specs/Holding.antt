@@ -1,9 +1,19 @@
 -- What cores hold of the words. A core's mark keeps a word for it until it gives the word back; what the word will then be is
 -- its settled value, and all that is said of words is said of settled ones. So a step that only marks a word, or gives it
 -- back, changes nothing that is said.
-use Rattle.std.specs.Prelude.{◌≡◌, ℕ, Bool, true, false, Option, Some, None}
+use Rattle.std.specs.Prelude.{◌≡◌, ℕ, Bool, true, false, List, [], ◌∷◌, Option, Some, None, if◌then◌else◌}
 use Rattle.spk_nums.specs.Setting.{Setting}
-use Rattle.word_map.specs.Word.{Word}
+use Rattle.frame_words.specs.Count.{word_of_count}
+use Rattle.word_map.specs.Word.{Word, EntryAt, CountAt, same_word}
+use Rattle.word_map.specs.Places.{counter_of}
+use Rattle.spk_nums.specs.Capability.{Capability}
+use Rattle.entry_words.specs.EntryWord.{word_of_entry}
+use Rattle.entry_words.specs.declared.entry.Entry.TheVariants.{Held, Quiescing}
+use Rattle.stage_quiet.specs.declared.close.Close.{Close}
+use Rattle.stage_quiet.specs.declared.close.Close.TheVariants.{AtCompare, AtDraw, AtStore}
+use Rattle.stage_pins.specs.declared.held.Acquired.{Acquired}
+use Rattle.stage_pins.specs.Commit.{settled_word}
+use Rattle.stage_pins.specs.Held.{commit_of}
 use Rattle.kernel_history.specs.Marking.{marked_by}
 use Rattle.kernel_history.specs.Trace.{Trace, last_left}
 
@@ -15,6 +25,41 @@ pub record Holding : Type 0 where
 -- No word is held.
 abbrev pub nothing : Holding
 nothing = record { marks = λ w. false; stands = λ w. 0 }
+
+-- One word more is held, and stands for this.
+abbrev pub keeps : Word → ℕ → Holding → Holding
+keeps w x h = record { marks = λ u. if same_word u w then true else h.marks u; stands = λ u. if same_word u w then x else h.stands u }
+
+-- The word of a count that a call has acquired.
+abbrev pub count_of : Acquired → Word
+count_of x = CountAt x.pin.frame (counter_of x.pin.core)
+
+-- What it stands for: the word that its commit stores, where the call is not carried out, or is, and has drawn this stamp or none.
+abbrev pub committed : Option (Option ℕ) → Acquired → ℕ
+committed None x = word_of_count (settled_word (commit_of false None x))
+committed (Some drawn) x = word_of_count (settled_word (commit_of true drawn x))
+
+-- The counts that a call has acquired are held.
+abbrev pub holds_counts : Option (Option ℕ) → List Acquired → Holding
+holds_counts fate [] = nothing
+holds_counts fate (x ∷ xs) = keeps (count_of x) (committed fate x) (holds_counts fate xs)
+
+-- An entry that a call has closed is held: it stands for what it held until the stamp is drawn, and then for the entry that quiesces
+-- since the stamp.
+abbrev pub holds_closed : Close → Capability → Holding → Holding
+holds_closed (AtCompare node entry word core) cap h = h
+holds_closed (AtDraw node entry) cap h = keeps (EntryAt node entry) (word_of_entry (Held cap)) h
+holds_closed (AtStore node entry stamp) cap h = h
+
+abbrev pub holds_drawn : Close → Holding → Holding
+holds_drawn (AtCompare node entry word core) h = h
+holds_drawn (AtDraw node entry) h = h
+holds_drawn (AtStore node entry stamp) h = keeps (EntryAt node entry) (word_of_entry (Quiescing stamp)) h
+
+-- No count is acquired twice.
+abbrev pub AreApart : List Acquired → Type 0
+AreApart [] = Unit {0}
+AreApart (x ∷ xs) = ((holds_counts None xs).marks (count_of x) ≡ false) × AreApart xs
 
 -- A word as it will be when the core that has marked it gives it back.
 abbrev pub settled_by : Option ℕ → (ℕ → Holding) → Word → ℕ → ℕ

@@ -1,42 +1,55 @@
 -- What a call knows where it stands, said of the state; and what a core is after a trace.
-use Rattle.std.specs.Prelude.{◌≡◌, ◌≤◌, ◌++◌, ◌/◌, ℕ, Bool, true, List, [], ◌∷◌, length, Option, Some, None, IsSome}
+use Rattle.std.specs.Prelude.{◌≡◌, ◌≢◌, ◌<◌, ◌≤◌, ◌++◌, ◌/◌, ℕ, ℤ, Bool, true, false, map, All, List, [], ◌∷◌, length, Option, Some, None, IsSome, IsTrue}
 use Rattle.spk_nums.specs.Capability.{Capability}
 use Rattle.spk_nums.specs.Setting.{Setting}
 use Rattle.spk_nums.specs.declared.kinds.Kind.{Kind}
 use Rattle.spk_nums.specs.declared.calls.Call.{Call}
 use Rattle.entry_words.specs.EntryWord.{EntryFits, entry_of_word}
+use Rattle.entry_words.specs.declared.entry.Entry.{Entry}
 use Rattle.entry_words.specs.declared.entry.Entry.TheVariants as entry
-use Rattle.word_map.specs.Word.{EntryAt}
-use Rattle.kernel_rules.specs.State.{State, first_of_stack, thread_of, comp_of}
+use Rattle.frame_words.specs.Count.{CountFits, word_of_count}
+use Rattle.word_map.specs.Word.{EntryAt, CountAt}
+use Rattle.word_map.specs.Places.{counter_of}
+use Rattle.kernel_rules.specs.State.{Thing, PlaceOf, State, first_of_stack, thread_of, comp_of}
 use Rattle.kernel_rules.specs.Access.{Slot, Named, root_at, Target, Under, InRoot, usable, linked, root_slot, reached}
 use Rattle.kernel_rules.specs.Relies.{Relies}
 use Rattle.kernel_history.specs.Graces.{IsLeave}
 use Rattle.kernel_history.specs.BootWords.{shape_of}
-use Rattle.kernel_history.specs.Trace.{Trace, Phase, Out, Open, phase, state_after, own_left, own_read, steps_in_call}
+use Rattle.kernel_history.specs.Trace.{Trace, Phase, Out, Open, phase, state_after, own_left, own_read, steps_in_call, WasAt}
 use Rattle.kernel_history.specs.Trace as history
 use Rattle.kernel_history.specs.Ways.{root_passed}
-use Rattle.kernel_history.specs.Justified.{HasReached}
-use Rattle.kernel_history.specs.Stamps.{exit_of, flush_of, flush_stored}
+use Rattle.kernel_history.specs.Discipline.{counts_references, changes_places}
+use Rattle.kernel_history.specs.Footprint.{IsNearIn}
+use Rattle.kernel_history.specs.Justified.{HasReached, IsRemoved}
+use Rattle.kernel_history.specs.Stamps.{clock, stamp, exit_of, flush_of, flush_stored}
 use Rattle.stage_look.specs.declared.look.Look.{Look}
 use Rattle.stage_look.specs.declared.look.Look.TheVariants.{AtRoot, AtLeaf, AtEntry}
-use Rattle.stage_look.specs.declared.look.Found.{Found}
+use Rattle.stage_pins.specs.Counts.{unheld}
+use Rattle.stage_pins.specs.declared.pin.Pin.{Pin}
+use Rattle.stage_pins.specs.declared.pin.Pin.TheVariants.{AtLoad, AtCompare}
+use Rattle.stage_pins.specs.declared.held.Acquired.{Acquired}
 use Rattle.call_plans.specs.declared.plans.Plan.{Plan}
 use Rattle.call_plans.specs.After.{Leads, Next, NextName, NextFree, NextHeld, NextOwn, NextNothing, next_of}
 use Rattle.call_steps.specs.declared.own.Own.{Own}
 use Rattle.call_steps.specs.declared.fills.Fill.{Fill}
 use Rattle.call_steps.specs.declared.stages.Act.{Act as ActOf}
-use Rattle.call_steps.specs.declared.stages.Act.TheVariants.{Fill as fill_act}
+use Rattle.call_steps.specs.declared.stages.Act.TheVariants.{Fill as fill_act, Remove as remove_act}
 use Rattle.call_steps.specs.declared.stages.Work.{Work}
-use Rattle.call_steps.specs.declared.stages.Work.TheVariants.{Lookup, Act}
+use Rattle.call_steps.specs.declared.stages.Due.{Due}
+use Rattle.call_steps.specs.declared.stages.Work.TheVariants.{Lookup, Scan, Acquire, Act}
 use Rattle.call_steps.specs.declared.stages.Tail.{Tail}
-use Rattle.call_steps.specs.declared.stages.Tail.TheVariants.{Nothing}
+use Rattle.call_steps.specs.declared.stages.Tail.TheVariants.{Nothing, Quiesce}
 use Rattle.call_steps.specs.declared.stages.Stage.{Stage}
 use Rattle.call_steps.specs.declared.stages.Stage.TheVariants.{Enter, Undecided, Decided, Leave}
 use Rattle.call_steps.specs.declared.stages.ActiveCall.{ActiveCall}
-use Rattle.call_steps.specs.declared.stages.WorkStep.TheVariants.{Goes}
-use Rattle.call_steps.specs.Acts.{act_begun}
+use Rattle.stage_quiet.specs.declared.close.Close.{Close}
+use Rattle.stage_quiet.specs.declared.close.Close.TheVariants.{AtCompare as close_compare, AtDraw, AtStore}
+use Rattle.stage_quiet.specs.declared.quiet.Quiet.{Quiet}
+use Rattle.stage_quiet.specs.declared.quiet.Quiet.TheVariants.{AtCore, AtFlush}
+use Rattle.call_steps.specs.Acts.{dues, put_by, removes_by, stamp_of_act}
 use Rattle.call_steps.specs.View.{Core}
 use Rattle.call_steps.specs.Fits.{IsCore}
+use Rattle.core_invariant.specs.Holding.{count_of, holds_counts, AreApart}
 
 -- The frame of the root of a target.
 abbrev pub root_frame : Target → ℕ
@@ -113,42 +126,159 @@ LooksFor setup t c table (NextHeld target) look = LooksUp setup t c target look
 LooksFor setup t c table (NextOwn v) look = ⊥
 LooksFor setup t c table NextNothing look = ⊥
 
--- The slot of the target is reached, and the call's last step on its entry has read this word there, which says that it is free;
--- and what is to be put there is what the call puts.
--- A quiescing target is scanned and kept here too, once calls remove.
-pub record IsFill (setup : Setting) (t : Trace) (c : ℕ) (a : ActiveCall) (fill : Fill) : Type 0 where
+-- Core d has passed the grace period that began at this stamp: while the stamp is the thing's, d does not wait.
+abbrev pub HasPassed : Setting → Trace → Thing → ℕ → ℕ → Type 0
+HasPassed setup t x at d = stamp setup t x ≡ at → ((state_after setup t).grace x).waits d ≡ false
+
+-- A thing was removed at a moment of core c's call, at a stamp that is past and no later than its last; and the cores below `upto`,
+-- but for c, have passed the grace period that began at that stamp.
+pub record IsScanned (setup : Setting) (t : Trace) (c : ℕ) (x : Thing) (at upto : ℕ) : Type 0 where
+  pub some : 1 ≤ at
+  pub past : at < clock setup t
+  pub rises : at ≤ stamp setup t x
+  pub was_removed : WasAt (IsRemoved x) setup t c
+  pub passed : (d : ℕ) → d < upto → d ≢ c → HasPassed setup t x at d
+
+-- A word that a call may fill says that its place is free, or quiescing and scanned so far.
+abbrev pub MayFill : Setting → Trace → ℕ → Thing → ℕ → Option Entry → Type 0
+MayFill setup t c x upto None = ⊥
+MayFill setup t c x upto (Some entry.Free) = Unit {0}
+MayFill setup t c x upto (Some (entry.Held k)) = ⊥
+MayFill setup t c x upto (Some (entry.Closing by)) = ⊥
+MayFill setup t c x upto (Some (entry.Quiescing at)) = IsScanned setup t c x at upto
+
+-- The slot of the target is reached, and the call's last step on its entry has read this word there, which it may fill; and what is to
+-- be put there is what the call puts.
+pub record IsFill (setup : Setting) (t : Trace) (c : ℕ) (call : Call) (plan : Plan) (found : List Capability) (upto : ℕ) (fill : Fill) :
+    Type 0 where
   pub target : Target
-  pub next : next_of a.plan a.found ≡ NextFree target
+  pub next : next_of plan found ≡ NextFree target
   pub way : IsReached setup t c target (record { node = fill.node; index = fill.entry })
   pub own : own_read t c (EntryAt fill.node fill.entry) ≡ Some fill.word
-  pub free : entry_of_word fill.word ≡ Some entry.Free
+  pub vacant : MayFill setup t c (PlaceOf fill.node fill.entry) upto (entry_of_word fill.word)
   pub fits : EntryFits (entry.Held fill.cap)
-  pub puts : (place : Found) → place.node ≡ fill.node → place.entry ≡ fill.entry → place.word ≡ fill.word
-      → act_begun a.call a.found (Some place) ≡ Goes (Act (fill_act fill))
+  pub puts : put_by call found ≡ Some fill.cap
 
--- What a call knows of its act.
-abbrev pub KnowsAct : Setting → Trace → ℕ → ActiveCall → ActOf → Type 0
-KnowsAct setup t c a (fill_act fill) = IsFill setup t c a fill
+-- A call that removes what its target holds has reached the target, and may use there what it removes.
+pub record IsRemoval (setup : Setting) (t : Trace) (c : ℕ) (call : Call) (plan : Plan) (found : List Capability) (node index : ℕ)
+    (cap : Capability) : Type 0 where
+  pub target : Target
+  pub next : next_of plan found ≡ NextHeld target
+  pub way : IsReached setup t c target (record { node = node; index = index })
+  pub usable : usable (state_after setup t) c (record { node = node; index = index }) ≡ Some cap
+  pub fits : EntryFits (entry.Held cap)
+  pub removes : removes_by call ≡ true
+
+-- Before the compare, the call's last step on the entry has read there this word, which says what it holds.
+pub record IsClosing (setup : Setting) (t : Trace) (c : ℕ) (call : Call) (plan : Plan) (found : List Capability) (node index word by : ℕ)
+    (cap : Capability) : Type 0 where
+  pub removal : IsRemoval setup t c call plan found node index cap
+  pub own : own_read t c (EntryAt node index) ≡ Some word
+  pub held : entry_of_word word ≡ Some (entry.Held cap)
+  pub core : by ≡ c
+
+abbrev pub KnowsClose : Setting → Trace → ℕ → Call → Plan → List Capability → Close → Capability → Type 0
+KnowsClose setup t c call plan found (close_compare node index word core) cap =
+    IsClosing setup t c call plan found node index word core cap
+KnowsClose setup t c call plan found (AtDraw node index) cap = IsRemoval setup t c call plan found node index cap
+KnowsClose setup t c call plan found (AtStore node index at) cap = ⊥
+
+-- What a call with this plan knows of its act, where its names have led to these and the cores below `upto` were scanned.
+abbrev pub KnowsAct : Setting → Trace → ℕ → Call → Plan → List Capability → ℕ → ActOf → Type 0
+KnowsAct setup t c call plan found upto (fill_act fill) = IsFill setup t c call plan found upto fill
+KnowsAct setup t c call plan found upto (remove_act close cap) = KnowsClose setup t c call plan found close cap
+
+-- An act is before its first step.
+abbrev pub is_first_of : Close → Bool
+is_first_of (close_compare node index word core) = true
+is_first_of (AtDraw node index) = false
+is_first_of (AtStore node index at) = false
+
+abbrev pub is_start : ActOf → Bool
+is_start (fill_act fill) = true
+is_start (remove_act close cap) = is_first_of close
+
+-- What it knows at a scan for the place that it fills: the cores before this one were scanned.
+pub record KnowsScan (setup : Setting) (t : Trace) (c : ℕ) (a : ActiveCall) (at by upto : ℕ) (act : ActOf) : Type 0 where
+  pub knows : KnowsAct setup t c a.call a.plan a.found upto act
+  pub core : by ≡ c
+  pub stamp : stamp_of_act act ≡ at
+  pub starts : is_start act ≡ true
+
+abbrev pub KnowsQuiet : Setting → Trace → ℕ → ActiveCall → Quiet → ActOf → Type 0
+KnowsQuiet setup t c a (AtCore at core upto page) act = KnowsScan setup t c a at core upto act
+KnowsQuiet setup t c a (AtFlush at upto) act = ⊥
+
+-- What an acquired count was due for.
+abbrev pub due_of : Acquired → Due
+due_of x = record { frame = x.pin.frame; change = x.change }
+
+-- The frame and the core of a count that is being acquired.
+abbrev pub pin_frame : Pin → ℕ
+pin_frame (AtLoad frame core) = frame
+pin_frame (AtCompare frame core count stamp) = frame
+
+abbrev pub pin_core : Pin → ℕ
+pin_core (AtLoad frame core) = core
+pin_core (AtCompare frame core count stamp) = core
+
+-- At the compare, the call's last step on the count's word has read there the word that is expected.
+pub record HasRead (t : Trace) (c frame core : ℕ) (count : ℤ) (stamp : ℕ) : Type 0 where
+  pub own : own_read t c (CountAt frame (counter_of core)) ≡ Some (word_of_count (unheld count stamp))
+  pub fits : CountFits (unheld count stamp)
+
+abbrev pub HasLoaded : Trace → ℕ → Pin → Type 0
+HasLoaded t c (AtLoad frame core) = Unit {0}
+HasLoaded t c (AtCompare frame core count stamp) = HasRead t c frame core count stamp
+
+-- The counts acquired so far are the first that the act changes; this one is the next, and is not among them.
+pub record KnowsCount (setup : Setting) (t : Trace) (c : ℕ) (a : ActiveCall) (pin : Pin) (change : ℤ) (act : ActOf) : Type 0 where
+  pub knows : KnowsAct setup t c a.call a.plan a.found setup.cores act
+  pub rest : List Due
+  pub due : dues act ≡ map due_of a.counts ++ record { frame = pin_frame pin; change = change } ∷ rest
+  pub core : pin_core pin ≡ c
+  pub new : (holds_counts None a.counts).marks (CountAt (pin_frame pin) (counter_of c)) ≡ false
+  pub loaded : HasLoaded t c pin
+  pub starts : is_start act ≡ true
+
+-- All counts that the act changes are acquired.
+pub record KnowsActing (setup : Setting) (t : Trace) (c : ℕ) (a : ActiveCall) (act : ActOf) : Type 0 where
+  pub knows : KnowsAct setup t c a.call a.plan a.found setup.cores act
+  pub all : dues act ≡ map due_of a.counts
 
 -- And of its work.
 abbrev pub KnowsWork : Setting → Trace → ℕ → ℕ → ActiveCall → Work → Type 0
 KnowsWork setup t c table a (Lookup look) = LooksFor setup t c table (next_of a.plan a.found) look
-KnowsWork setup t c table a (Act act) = KnowsAct setup t c a act
+KnowsWork setup t c table a (Scan q act) = KnowsQuiet setup t c a q act
+KnowsWork setup t c table a (Acquire pin change act) = KnowsCount setup t c a pin change act
+KnowsWork setup t c table a (Act act) = KnowsActing setup t c a act
 
 -- What a call knows that has entered and is not decided: its names have led to what it has found, and what it knows of its work.
 pub record KnowsUndecided (setup : Setting) (t : Trace) (c table : ℕ) (a : ActiveCall) (work : Work) : Type 0 where
   pub names : NamesAre setup t c table a.plan a.found
   pub knows : KnowsWork setup t c table a work
 
+-- The node of an entry that is still to be stored is relied on, near the call at a moment of it, and the call is one that changes places.
+pub record IsStored (setup : Setting) (t : Trace) (c : ℕ) (call : Call) (node index : ℕ) : Type 0 where
+  pub relies : Relies (state_after setup t) c node
+  pub near : WasAt (IsNearIn c call (EntryAt node index)) setup t c
+  pub places : changes_places call ≡ true
+
+abbrev pub KnowsStore : Setting → Trace → ℕ → Call → Close → Type 0
+KnowsStore setup t c call (close_compare node index word core) = ⊥
+KnowsStore setup t c call (AtDraw node index) = ⊥
+KnowsStore setup t c call (AtStore node index at) = IsStored setup t c call node index
+
 -- What a call knows that has still this to store.
-abbrev pub KnowsTail : Setting → Trace → ℕ → Tail → Type 0
-KnowsTail setup t c Nothing = Unit {0}
+abbrev pub KnowsTail : Setting → Trace → ℕ → Call → Tail → Type 0
+KnowsTail setup t c call Nothing = Unit {0}
+KnowsTail setup t c call (Quiesce close) = KnowsStore setup t c call close
 
 -- What a call knows at its stage. One that has made no step is in no trace.
 abbrev pub KnowsAt : Setting → Trace → ℕ → ℕ → ActiveCall → Stage → Type 0
 KnowsAt setup t c table a Enter = ⊥
 KnowsAt setup t c table a (Undecided work) = KnowsUndecided setup t c table a work
-KnowsAt setup t c table a (Decided r tail) = KnowsTail setup t c tail
+KnowsAt setup t c table a (Decided r drawn tail) = KnowsTail setup t c a.call tail
 KnowsAt setup t c table a (Leave r x) = IsLeave setup t c x
 
 abbrev pub Knows : Setting → Trace → ℕ → ℕ → ActiveCall → Type 0
@@ -158,14 +288,24 @@ Knows setup t c table a = KnowsAt setup t c table a a.stage
 abbrev pub phase_at : Call → Stage → Phase
 phase_at call Enter = Out
 phase_at call (Undecided work) = Open call
-phase_at call (Decided r tail) = history.Decided call r
+phase_at call (Decided r drawn tail) = history.Decided call r
 phase_at call (Leave r x) = history.Decided call r
 
--- Core c is in this call, and has made these steps of it.
+-- A count that a call of core c has acquired: it is the core's own, of a frame that is near the call at a moment of it, and was
+-- found within its range; and the call is one that changes references.
+pub record IsCount (setup : Setting) (t : Trace) (c : ℕ) (call : Call) (x : Acquired) : Type 0 where
+  pub counts : IsTrue (counts_references call)
+  pub core : x.pin.core ≡ c
+  pub fits : CountFits (unheld x.pin.word.count x.pin.word.stamp)
+  pub near : WasAt (IsNearIn c call (count_of x)) setup t c
+
+-- Core c is in this call, has made these steps of it, and has acquired these counts, none twice.
 pub record IsIn (setup : Setting) (t : Trace) (c table : ℕ) (a : ActiveCall) : Type 0 where
   pub phase : phase t c ≡ phase_at a.call a.stage
   pub steps : steps_in_call t c ≡ a.steps
   pub knows : Knows setup t c table a
+  pub counts : All (IsCount setup t c a.call) a.counts
+  pub apart : AreApart a.counts
 
 -- Core c is between calls, or in one.
 abbrev pub CallIs : Setting → Trace → ℕ → ℕ → Option ActiveCall → Type 0

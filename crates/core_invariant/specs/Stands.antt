@@ -1,9 +1,10 @@
 -- When the cores of a machine stand for a trace: what holds between two steps, whatever the calls.
-use Rattle.std.specs.Prelude.{◌≡◌, ◌≢◌, ◌+◌, ◌<◌, ◌≤◌, ℕ, [], Option, Some, None}
-use Rattle.spk_nums.specs.Capability.{Capability}
+use Rattle.std.specs.Prelude.{◌≡◌, ◌+◌, ◌<◌, ◌≤◌, ℕ, List, [], Option, Some, None}
 use Rattle.spk_nums.specs.Setting.{Setting}
-use Rattle.word_map.specs.Word.{Word}
-use Rattle.kernel_rules.specs.State.{Quiescing, Thing, State}
+use Rattle.frame_words.specs.Count.{count_of_word}
+use Rattle.frame_words.specs.declared.count_word.CountWord.{CountWord}
+use Rattle.word_map.specs.Word.{Word, CountAt}
+use Rattle.kernel_rules.specs.State.{Thing, FrameOf, State}
 use Rattle.kernel_rules.specs.References.{sum_below}
 use Rattle.kernel_history.specs.Trace.{Trace, Out, phase, calls_of, state_after}
 use Rattle.kernel_history.specs.Legal.{IsLegal}
@@ -14,44 +15,66 @@ use Rattle.kernel_history.specs.Footprint.{KeepsFootprints}
 use Rattle.kernel_history.specs.Alone.{KeepsFirst}
 use Rattle.kernel_history.specs.Stamps.{stamp, clock, exit_of, flush_stored}
 use Rattle.kernel_history.specs.Graces.{GraceIs, TimesAre}
-use Rattle.call_steps.specs.declared.stages.Act.{Act}
-use Rattle.call_steps.specs.declared.stages.Act.TheVariants.{Fill}
-use Rattle.call_steps.specs.declared.stages.Work.{Work}
-use Rattle.call_steps.specs.declared.stages.Work.TheVariants.{Lookup, Act as act_work}
-use Rattle.call_steps.specs.declared.stages.Tail.{Tail}
-use Rattle.call_steps.specs.declared.stages.Tail.TheVariants.{Nothing}
 use Rattle.call_steps.specs.declared.stages.Stage.{Stage}
 use Rattle.call_steps.specs.declared.stages.Stage.TheVariants.{Enter, Undecided, Decided, Leave}
 use Rattle.call_steps.specs.declared.stages.ActiveCall.{ActiveCall}
+use Rattle.spk_nums.specs.declared.replies.Reply.{Reply}
+use Rattle.spk_nums.specs.declared.replies.Reply.TheVariants.{Ok}
+use Rattle.stage_pins.specs.declared.held.Acquired.{Acquired}
+use Rattle.call_steps.specs.declared.stages.Act.{Act}
+use Rattle.call_steps.specs.declared.stages.Act.TheVariants.{Fill, Remove}
+use Rattle.call_steps.specs.declared.stages.Work.{Work}
+use Rattle.call_steps.specs.declared.stages.Work.TheVariants.{Lookup, Scan, Acquire, Act as act_work}
+use Rattle.call_steps.specs.declared.stages.Tail.{Tail}
+use Rattle.call_steps.specs.declared.stages.Tail.TheVariants.{Nothing, Quiesce}
 use Rattle.call_steps.specs.View.{Core}
-use Rattle.core_invariant.specs.Holding.{Holding, nothing, settled, MarkIs}
-use Rattle.core_invariant.specs.Words.{Times, WordIs}
+use Rattle.core_invariant.specs.Holding.{Holding, nothing, holds_counts, holds_closed, holds_drawn, settled, MarkIs}
+use Rattle.core_invariant.specs.Words.{Times, WordIs, CountsAre}
 use Rattle.core_invariant.specs.Knows.{CoreIs}
 
--- What a core holds where its call stands. No call marks a word yet.
-abbrev pub holds_act : Act → ℕ → Holding
-holds_act (Fill fill) c = nothing
+-- Whether a decided call has been carried out, and has then drawn a stamp.
+abbrev pub done_by : Reply → Option ℕ → Option (Option ℕ)
+done_by (Ok v) drawn = Some drawn
+done_by _ drawn = None
 
-abbrev pub holds_work : Work → ℕ → Holding
-holds_work (Lookup look) c = nothing
-holds_work (act_work act) c = holds_act act c
+abbrev pub is_done : Stage → Option (Option ℕ)
+is_done Enter = None
+is_done (Undecided work) = None
+is_done (Decided r drawn tail) = done_by r drawn
+is_done (Leave r x) = None
 
-abbrev pub holds_tail : Tail → ℕ → Holding
-holds_tail Nothing c = nothing
+-- The entry that a call has closed, at an act and at a tail.
+abbrev pub holds_act : Act → Holding → Holding
+holds_act (Fill fill) h = h
+holds_act (Remove close cap) h = holds_closed close cap h
 
-abbrev pub holds_at : Stage → ℕ → Holding
-holds_at Enter c = nothing
-holds_at (Undecided work) c = holds_work work c
-holds_at (Decided r tail) c = holds_tail tail c
-holds_at (Leave r x) c = nothing
+abbrev pub holds_tail : Tail → Holding → Holding
+holds_tail Nothing h = h
+holds_tail (Quiesce close) h = holds_drawn close h
 
-abbrev pub holds_in : Option ActiveCall → ℕ → Holding
-holds_in None c = nothing
-holds_in (Some a) c = holds_at a.stage c
+abbrev pub holds_work : Work → Holding → Holding
+holds_work (Lookup look) h = h
+holds_work (Scan q act) h = h
+holds_work (Acquire pin change act) h = h
+holds_work (act_work act) h = holds_act act h
+
+abbrev pub holds_stage : Stage → Holding → Holding
+holds_stage Enter h = h
+holds_stage (Undecided work) h = holds_work work h
+holds_stage (Decided r drawn tail) h = holds_tail tail h
+holds_stage (Leave r x) h = h
+
+-- What a core holds where its call stands: the counts that the call has acquired and not committed, and an entry that it has closed.
+abbrev pub holds_at : Stage → List Acquired → Holding
+holds_at stage counts = holds_stage stage (holds_counts (is_done stage) counts)
+
+abbrev pub holds_in : Option ActiveCall → Holding
+holds_in None = nothing
+holds_in (Some a) = holds_at a.stage a.counts
 
 -- What a core holds.
 abbrev pub holds : Core → Holding
-holds core = holds_in core.active core.own.core
+holds core = holds_in core.active
 
 -- What the cores hold.
 abbrev pub held_by : (ℕ → Core) → ℕ → Holding
@@ -60,6 +83,14 @@ held_by cores d = holds (cores d)
 -- The stamps after a trace.
 abbrev pub times_of : Setting → Trace → Times
 times_of setup t = record { stamp = stamp setup t; exit = exit_of t; flush = flush_stored t }
+
+-- What the settled word of a count shows.
+abbrev pub count_shown : Setting → (ℕ → Holding) → Trace → ℕ → ℕ → Option CountWord
+count_shown setup held t f d = count_of_word (settled setup held t (CountAt f d))
+
+-- The settled counts of a frame are its references after the trace.
+abbrev pub SumIs : Setting → (ℕ → Holding) → Trace → ℕ → Type 0
+SumIs setup held t f = CountsAre (state_after setup t) f (stamp setup t (FrameOf f)) (count_shown setup held t f)
 
 -- The core has made no step, and is in no call.
 pub record IsAway (core : Core) (t : Trace) (c : ℕ) : Type 0 where
@@ -85,13 +116,13 @@ pub record Stands (setup : Setting) (cores : ℕ → Core) (t : Trace) : Type 0 
   pub marks : (w : Word) (d : ℕ) → MarkIs setup (held_by cores) t w d
   pub marked : (w : Word) (d : ℕ) → marked_by setup t w ≡ Some d → HasMarked setup t w d
   pub words : (w : Word) → WordIs (state_after setup t) (times_of setup t) w (settled setup (held_by cores) t w)
+  -- the settled counts of each frame sum to the references to it
+  pub sums : (f : ℕ) → SumIs setup (held_by cores) t f
   -- a counted call draws at most one stamp; no core has left or flushed later than now; and grace periods go with stamps
   pub draws : clock setup t ≤ 1 + counted_in setup (state_after setup t)
   pub some_time : 1 ≤ clock setup t
   pub times : (c : ℕ) → TimesAre setup t c
   pub graces : (x : Thing) → GraceIs setup t x
-  -- for now: no call removes yet, so no place is quiescing
-  pub none_removed : (f i : ℕ) (k : Capability) → (state_after setup t).place f i ≢ Quiescing k
   -- each core of the machine is where its model says, and there is no other
   pub each : (c : ℕ) → c < setup.cores → CoreIs setup (cores c) t c
   pub away : (c : ℕ) → setup.cores ≤ c → IsAway (cores c) t c

@@ -23,8 +23,8 @@ use Rattle.turn_rule.specs.Seats.{TableValue, SeatValue}
 use Rattle.turn_rule.proofs.Traces.{program_stays}
 use Rattle.call_steps.specs.View.{Core}
 use Rattle.call_steps.specs.Cores.{started, end_of}
-use Rattle.flight.proofs.Alike.{like}
-use Rattle.flight.proofs.Final.{represents}
+use Rattle.flight.proofs.Alike.{like, like_counts}
+use Rattle.flight.proofs.Final.{represents, represents_counts}
 use Rattle.core_invariant.proofs.Sounds.{limits_of}
 use Rattle.core_kernel.specs.declared.core_run.CoreRun.{CoreRun}
 use Rattle.core_kernel.specs.Running.{run_of, running}
@@ -166,6 +166,10 @@ module _ (setup : Setting) (table : TableValue CoreRun) (booted : IsBooted setup
           let cores = cores_after setup (trace_of setup t) in
           let state : (c : ℕ) (h : c < setup.cores) → (program_at c h).0.state ≡ cores c = λ c h. a.runs c (program_at c h).0 (sym (end.program c) ∙ (program_at c h).1) in
           let between : (c : ℕ) → c < setup.cores → (cores c).active ≡ None = λ c h. ap (λ k. k.active) (sym (state c h)) ∙ (program_at c h).2 in
+          let stands = made_stands setup booted.setting (trace_of setup t) a.made in
+          let alike : (w : Word) → IsIn (shape_of setup) w → shared w ≡ w
+          → last_left setup (trace_of setup t) w ≡ word_in (shape_of setup) words w =
+          λ w is_in is_shared. sym (end.word (place_of (shape_of setup) w) ∙ a.words w (record { is_in = is_in; is_named = is_shared })) in
           record {
             trace = trace_of setup t;
             history = is_history setup booted.setting table.start booted.start t end.sound;
@@ -179,12 +183,17 @@ module _ (setup : Setting) (table : TableValue CoreRun) (booted : IsBooted setup
             represent =
                 like setup (state_after setup (trace_of setup t)) (last_left setup (trace_of setup t)) (word_in (shape_of setup) words) (λ c. end_of (cores c)) (end_in ends)
                 (ap (λ l. l.frames) (limits_of setup (trace_of setup t))) (ap (λ l. l.cores) (limits_of setup (trace_of setup t)))
-                (λ w is_in is_shared. sym (end.word (place_of (shape_of setup) w) ∙ a.words w (record { is_in = is_in; is_named = is_shared })))
+                alike
                 (λ c h. sym (
                 ap (λ l. end_in l c) ends_are ∙ ap (λ o. unwrap_or o no_end) (slice_get-map (λ (p : CoreRun). end_of p.state) programs c ∙ ap (option_map (λ (p : CoreRun). end_of p.state)) (program_at c h).1)
                 ∙ ap end_of (state c h)
                 ))
-                (represents setup booted.setting cores (trace_of setup t) (made_stands setup booted.setting (trace_of setup t) a.made) between);
+                (represents setup booted.setting cores (trace_of setup t) stands between);
+            counts =
+                like_counts setup booted.setting (state_after setup (trace_of setup t))
+                (last_left setup (trace_of setup t)) (word_in (shape_of setup) words)
+                (ap (λ l. l.frames) (limits_of setup (trace_of setup t))) (ap (λ l. l.cores) (limits_of setup (trace_of setup t))) alike
+                (represents_counts setup booted.setting cores (trace_of setup t) stands between);
             word_count = end.word_count ∙ booted.start.size;
             end_count = ap length ends_are ∙ length-map programs (λ p. end_of p.state) ∙ end.program_count ∙ booted.start.count;
           }

@@ -16,6 +16,7 @@ use Rattle.spk_nums.specs.Setting.{Setting}
 use Rattle.kernel_history.specs.BootWords.{shape_of}
 use Rattle.kernel_history.specs.Order.{HasCalls, list_of}
 use Rattle.kernel_history.specs.Text.{decisions_by}
+use Rattle.kernel_history.specs.Counts.{RepresentCounts}
 use Rattle.kernel_history.specs.FinalWords.{Represent, word_in, end_in}
 use Rattle.kernel_history.specs.Trace.{Trace, calls_of, state_after}
 use Rattle.core_kernel.specs.declared.whole.Ran.{Ran}
@@ -187,6 +188,8 @@ module _ (of : KernelValue) (seats : List CoreSeatValue) (all : AreAllSeats of s
         decisions = decisions ∙ ap (flat_map decided) (sym (take_all of.setup.cores after (let size = count in omega arith))) ∙ up_to of.setup.cores (omega arith);
         layout = layout;
         represent = subst (λ (z : List ℕ × List CoreEnd). Represent (word_in (shape_of of.setup) z.0) (end_in z.1) (state_after of.setup t)) (λ i. (sym words_are i, sym ends_are i)) end.represent;
+        counts = subst (λ (z : List ℕ). RepresentCounts (word_in (shape_of of.setup) z) (state_after of.setup t))
+            (sym words_are) end.counts;
         word_count = ap length words_are ∙ end.word_count;
         end_count = ap length ends_are ∙ end.end_count;
       }

@@ -5,6 +5,7 @@ use Rattle.spk_nums.specs.declared.replies.Reply.{Reply}
 use Rattle.spk_nums.specs.declared.translations.CoreEnd.{CoreEnd}
 use Rattle.word_map.specs.Places.{size_of}
 use Rattle.kernel_history.specs.BootWords.{shape_of}
+use Rattle.kernel_history.specs.Counts.{RepresentCounts}
 use Rattle.kernel_history.specs.FinalWords.{Represent, word_in, end_in}
 use Rattle.kernel_history.specs.Trace.{Trace, Out, phase, calls_of, state_after}
 use Rattle.flight.specs.Histories.{IsHistory}
@@ -46,12 +47,14 @@ pub record Meets (seat : CoreSeatValue) (note : CoreNoteValue) (met : CoreSeatVa
   pub kernel : met.kernel ≡ seat.kernel
 
 -- The words and ends are those after one history of the machine. It begins with what each seat has seen and has no
--- further step of the seat's core, and all its calls have returned. They represent the state that it leaves.
+-- further step of the seat's core, and all its calls have returned. They represent the state that it leaves, and the count words
+-- the references to its frames.
 pub record EndsAt (kernel : KernelValue) (seats : List CoreSeatValue) (words : List ℕ) (ends : List CoreEnd) : Type 0 where
   pub trace : Trace
   pub history : IsHistory kernel.setup trace
   pub begins : (k : ℕ) (s : CoreSeatValue) → slice_get seats k ≡ Some s → ExtendsByOthers s.core s.seen trace
   pub returned : (c : ℕ) → phase trace c ≡ Out
   pub represent : Represent (word_in (shape_of kernel.setup) words) (end_in ends) (state_after kernel.setup trace)
+  pub counts : RepresentCounts (word_in (shape_of kernel.setup) words) (state_after kernel.setup trace)
   pub word_count : length words ≡ size_of (shape_of kernel.setup)
   pub end_count : length ends ≡ kernel.setup.cores

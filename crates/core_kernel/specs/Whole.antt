@@ -6,6 +6,7 @@ use Rattle.spk_nums.specs.declared.replies.Decision.{Decision}
 use Rattle.spk_nums.specs.Setting.{Setting}
 use Rattle.word_map.specs.Places.{size_of}
 use Rattle.kernel_history.specs.BootWords.{shape_of}
+use Rattle.kernel_history.specs.Counts.{RepresentCounts}
 use Rattle.kernel_history.specs.FinalWords.{Represent, word_in, end_in}
 use Rattle.kernel_history.specs.Order.{HasCalls}
 use Rattle.kernel_history.specs.Text.{decisions_by}
@@ -48,7 +49,7 @@ pub record AreRunners (seats : List CoreSeatValue) (lists : List (List Call)) (r
   pub each : (k : ℕ) (r : RunnerValue) → slice_get runners k ≡ Some r → IsReady seats lists k r
 
 -- There is one history of the machine that has the calls of the lists once and in order; the decisions are its own, core 0's
--- first; and the closed words and ends represent the state that it leaves.
+-- first; and the closed words and ends represent the state that it leaves, the count words the references to its frames.
 pub record AreMade (setup : Setting) (lists : List (List Call)) (ran : Ran) : Type 0 where
   pub trace : Trace
   pub history : IsHistory setup trace
@@ -56,5 +57,6 @@ pub record AreMade (setup : Setting) (lists : List (List Call)) (ran : Ran) : Ty
   pub decisions : ran.decisions.items ≡ decisions_below trace setup.cores
   pub layout : ran.closed.layout ≡ shape_of setup
   pub represent : Represent (word_in (shape_of setup) ran.closed.words.items) (end_in ran.closed.ends.items) (state_after setup trace)
+  pub counts : RepresentCounts (word_in (shape_of setup) ran.closed.words.items) (state_after setup trace)
   pub word_count : length ran.closed.words.items ≡ size_of (shape_of setup)
   pub end_count : length ran.closed.ends.items ≡ setup.cores

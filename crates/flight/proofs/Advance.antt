@@ -1,5 +1,5 @@
 -- A step of any core leaves cores that stand for the trace with it.
-use Rattle.std.proofs.Common.{◌≡◌, inl, ℕ, ◌^◌, ◌<◌, ◌∷◌, Option, Some, None, arith, true, false, refl, sym, ap, subst}
+use Rattle.std.proofs.Common.{◌≡◌, ◌∙◌, inl, ℕ, ◌^◌, ◌<◌, ◌∷◌, Option, Some, None, List, [], arith, true, false, refl, sym, ap, subst}
 use Rattle.std.specs.Prelude.{IsSome}
 use Rattle.std.proofs.lemmas.Bool.{lt-ltb, false≢true}
 use Rattle.spk_nums.specs.Setting.{Setting, IsSetting}
@@ -8,61 +8,91 @@ use Rattle.spk_nums.specs.declared.replies.Reply.{Reply}
 use Rattle.word_map.specs.Word.{CoreAt, ClockAt}
 use Rattle.word_map.specs.Places.{IsIn as IsInShape}
 use Rattle.word_map.specs.Moves.{LoadOf, StoreOf, word_of, told_of}
-use Rattle.kernel_rules.specs.State.{put}
 use Rattle.kernel_history.specs.Trace.{Step, Trace, last_left}
 use Rattle.kernel_history.specs.Stamps.{clock}
 use Rattle.kernel_history.proofs.Steps.{clock_seen-own}
-use Rattle.call_steps.specs.declared.stages.Tail.TheVariants.{Nothing}
+use Rattle.call_steps.specs.declared.stages.Tail.TheVariants.{Nothing, Quiesce}
 use Rattle.call_steps.specs.declared.stages.Stage.{Stage}
 use Rattle.call_steps.specs.declared.stages.Stage.TheVariants.{Enter, Undecided, Decided, Leave}
 use Rattle.call_steps.specs.declared.stages.ActiveCall.{ActiveCall}
 use Rattle.call_steps.specs.View.{Core}
-use Rattle.call_steps.specs.Tails.{stamp_if}
-use Rattle.call_steps.specs.Steps.{core_word, stage_move, Took, GoesOn, Returns, went, took_at, took, took_enter, is_spent}
-use Rattle.call_steps.specs.Cores.{fresh, begun, move_in, absorbed_in, told_by, told_in}
+use Rattle.call_steps.specs.Fits.{IsActive}
+use Rattle.call_steps.specs.Tails.{tail_move, stamp_if, stamp_of, took_tail, tail_counts}
+use Rattle.stage_pins.specs.declared.held.Acquired.{Acquired}
+use Rattle.core_invariant.specs.Holding.{holds_counts}
+use Rattle.work_invariant.proofs.Acquiring.{commit_good}
+use Rattle.call_steps.specs.Steps.{core_word, stage_move, Took, GoesOn, Returns, went_with, took_at, took_enter, is_spent}
+use Rattle.call_steps.specs.Cores.{fresh, begun, told_by}
 use Rattle.call_steps.specs.Cores as cores_of
-use Rattle.call_steps.specs.Fits.{IsCore}
-use Rattle.core_invariant.specs.Events.{decided_in, returned_in}
 use Rattle.core_invariant.specs.Knows.{KnowsAt, Knows, CallIs}
-use Rattle.core_invariant.specs.Stands.{holds_at, Stands}
-use Rattle.core_invariant.proofs.Good.{stands_on}
-use Rattle.core_invariant.proofs.Loads.{Lands, step_to, is_active, loads_on}
+use Rattle.core_invariant.specs.Stands.{done_by, holds_at, Stands}
+use Rattle.core_invariant.proofs.Good.{IsGood, stands_on}
+use Rattle.core_invariant.proofs.Loads.{step_to, is_active, loads_on}
 use Rattle.core_invariant.proofs.Writes.{clock_small, leaves_on}
-use Rattle.core_invariant.proofs.Refusals.{step_with, GoodTook}
-use Rattle.flight.specs.Made.{MayBegin, step_at, step_of, core_after}
+use Rattle.core_invariant.proofs.Refusals.{GoodTook}
+use Rattle.flight.specs.Made.{turned, MayBegin, MayStep, step_at, step_of, core_after}
 use Rattle.flight.specs.Theorems.{found_by, StepsOn}
+use Rattle.flight.specs.Phases.{IsWord}
 use Rattle.flight.proofs.CoreFits.{begun_fits, after_fits}
 use Rattle.flight.proofs.Spelling.{stage_word}
+use Rattle.work_invariant.proofs.Removals.{store_good}
 use Rattle.work_invariant.proofs.Work.{work_good}
 use Rattle.flight.proofs.Entries.{enter_good}
 
-module _ (setup : Setting) (setting : IsSetting setup) (cores : ℕ → Core) (t : Trace) (stands : Stands setup cores t) (c : ℕ) (here : c < setup.cores) where
+-- The step of core c, which stands here with the call that may begin, is good for what it finds.
+abbrev pub StepGood : Setting → (ℕ → Core) → Trace → ℕ → Option Call → Core → Type 0
+StepGood setup cores t c enters core =
+    IsGood setup cores t (step_of c enters core (found_by setup t core)) (core_after core (found_by setup t core))
+
+module _ (setup : Setting) (setting : IsSetting setup) (cores : ℕ → Core) (t : Trace) (stands : Stands setup cores t) (c : ℕ)
+    (here : c < setup.cores) where
   -- what a call takes at its stage from the word of its move
   abbrev TakenAt : ActiveCall → Stage → Took
-  TakenAt a stage = took_at (cores c).own a stage (told_of (stage_move (cores c).own stage) (last_left setup t (word_of (stage_move (cores c).own stage))))
+  TakenAt a stage = took_at (cores c).own a stage (told_of (stage_move (cores c).own a.counts stage)
+      (last_left setup t (word_of (stage_move (cores c).own a.counts stage))))
 
   abbrev StageGood : ActiveCall → Stage → Type 0
-  StageGood a stage = GoodTook setup cores t c (stage_move (cores c).own stage) (TakenAt a stage)
+  StageGood a stage = GoodTook setup cores t c (stage_move (cores c).own a.counts stage) (TakenAt a stage)
 
   -- the clock is loaded for the exit
-  exit_good : (a : ActiveCall) (r : Reply) → (cores c).active ≡ Some a → a.stage ≡ Decided r Nothing → StageGood a (Decided r Nothing)
-  exit_good a r active at = subst Goal (sym (ap (λ b. stamp_if b (clock setup t)) (lt-ltb (clock setup t) (2 ^ 28) (clock_small setup setting cores t stands)))) loads
+  exit_good : (a : ActiveCall) (r : Reply) (drawn : Option ℕ) → (cores c).active ≡ Some a → a.stage ≡ Decided r drawn Nothing
+      → a.counts ≡ []
+      → GoodTook setup cores t c (LoadOf ClockAt) (GoesOn (went_with a [] (Leave r (stamp_of (clock setup t)))))
+  exit_good a r drawn active at none =
+      subst Goal (sym (ap (λ b. stamp_if b (clock setup t)) (lt-ltb (clock setup t) (2 ^ 28) (clock_small setup setting cores t stands))))
+      loads
     where
       Goal : ℕ → Type 0
-      Goal x = GoodTook setup cores t c (LoadOf ClockAt) (GoesOn (went a (Leave r x)))
+      Goal x = GoodTook setup cores t c (LoadOf ClockAt) (GoesOn (went_with a [] (Leave r x)))
 
       loads : Goal (clock setup t)
-      loads lands =
+      loads = subst (λ (xs : List Acquired). GoodTook setup cores t c (LoadOf ClockAt)
+          (GoesOn (went_with a xs (Leave r (clock setup t))))) none λ lands.
           let e : Step = step_to c None (LoadOf ClockAt) (clock setup t) None None in
           loads_on setup setting cores t stands c here a active (LoadOf ClockAt) a.found (Leave r (clock setup t))
           (record { of_call = record { moves = refl; near = inl tt }; kept = refl; apart = λ d. refl }) lands
-          (sym (ap (λ s. holds_at s (cores c).own.core) at)) (ap (Rattle.core_invariant.specs.Knows.phase_at a.call) at)
+          (ap (holds_counts None) none ∙ sym (ap (λ s. holds_at s a.counts) at ∙ ap (holds_counts (done_by r drawn)) none))
+          (ap (Rattle.core_invariant.specs.Knows.phase_at a.call) at)
           (λ carries. record {
             seen = clock_seen-own c e t refl;
             some = stands.some_time;
             low = omega arith;
             stays = λ x old. (let p = (stands.graces x).past in absurd (omega arith));
           })
+
+  -- a decided call commits its counts, and then loads the clock
+  decided_good : (a : ActiveCall) (r : Reply) (drawn : Option ℕ) → (cores c).active ≡ Some a → a.stage ≡ Decided r drawn Nothing
+      → StageGood a (Decided r drawn Nothing)
+  decided_good a r drawn active at = by a.counts refl
+    where
+      Goal : List Acquired → Type 0
+      Goal xs = GoodTook setup cores t c (tail_move r drawn Nothing xs)
+          (GoesOn (went_with a (tail_counts Nothing xs) (took_tail r drawn Nothing xs
+          (told_of (tail_move r drawn Nothing xs) (last_left setup t (word_of (tail_move r drawn Nothing xs)))))))
+
+      by : (xs : List Acquired) → a.counts ≡ xs → Goal xs
+      by [] is = exit_good a r drawn active at is
+      by (x ∷ xs) is = commit_good setup setting cores t stands c here a active r drawn at x xs is
 
   -- the core word is stored
   leave_good : (a : ActiveCall) (r : Reply) (x : ℕ) → (cores c).active ≡ Some a → a.stage ≡ Leave r x → StageGood a (Leave r x)
@@ -75,47 +105,50 @@ module _ (setup : Setting) (setting : IsSetting setup) (cores : ℕ → Core) (t
       leaves lands = leaves_on setup setting cores t stands c here a active r x at lands
 
   -- a further step of a call, by its stage
-  stage_good : (a : ActiveCall) (stage : Stage) → (cores c).active ≡ Some a → a.stage ≡ stage → KnowsAt setup t c (cores c).own.table a stage → StageGood a stage
+  stage_good : (a : ActiveCall) (stage : Stage) → (cores c).active ≡ Some a → a.stage ≡ stage
+      → KnowsAt setup t c (cores c).own.table a stage → StageGood a stage
   stage_good a Enter active at knows = absurd knows
   stage_good a (Undecided work) active at knows = work_good setup setting cores t stands c here a active work at knows
-  stage_good a (Decided r Nothing) active at knows = exit_good a r active at
+  stage_good a (Decided r drawn Nothing) active at knows = decided_good a r drawn active at
+  stage_good a (Decided r drawn (Quiesce close)) active at knows =
+      store_good setup setting cores t stands c here a active r drawn close at knows
   stage_good a (Leave r x) active at knows = leave_good a r x active at
 
   -- the step of a call
-  next_on : (a : ActiveCall) → (cores c).active ≡ Some a → Knows setup t c (cores c).own.table a
-      → Stands setup (put cores c (absorbed_in (cores c).own (Some a) (told_of (move_in (cores c).own (Some a)) (last_left setup t (word_of (move_in (cores c).own (Some a)))))))
-      (step_at c None (move_in (cores c).own (Some a)) (last_left setup t (word_of (move_in (cores c).own (Some a))))
-      (told_in (cores c).own (Some a) (told_of (move_in (cores c).own (Some a)) (last_left setup t (word_of (move_in (cores c).own (Some a)))))) ∷ t)
-  next_on a active knows = stands_on setup setting cores t stands
-      (step_with c (stage_move (cores c).own a.stage) (last_left setup t (word_of (stage_move (cores c).own a.stage))) (TakenAt a a.stage))
-      (cores_of.core_after (cores c).own (TakenAt a a.stage)) (stage_good a a.stage active refl knows (record {
-        fits = after_fits (cores c).own a _ (record { own = (stands.each c here).fits.own; active = is_active setup setting cores t stands c here a active });
-        is_in = subst (λ s. IsInShape s (word_of (stage_move (cores c).own a.stage))) (stands.each c here).shape
-            (stage_word (cores c).own a.stage (stands.each c here).fits.own.core (is_active setup setting cores t stands c here a active).stage).is_in;
-        is_named = (stage_word (cores c).own a.stage (stands.each c here).fits.own.core (is_active setup setting cores t stands c here a active).stage).is_named;
-      }))
+  next_good : (a : ActiveCall) → (cores c).active ≡ Some a → Knows setup t c (cores c).own.table a
+      → StepGood setup cores t c None (record { own = (cores c).own; active = Some a })
+  next_good a active knows = stage_good a a.stage active refl knows (record {
+    fits = after_fits (cores c).own a _ (record { own = (stands.each c here).fits.own; active = is });
+    is_in = subst (λ s. IsInShape s (word_of (stage_move (cores c).own a.counts a.stage))) (stands.each c here).shape word.is_in;
+    is_named = word.is_named;
+  })
+    where
+      is : IsActive (cores c).own a
+      is = is_active setup setting cores t stands c here a active
+
+      word : IsWord (cores c).own.layout (word_of (stage_move (cores c).own a.counts a.stage))
+      word = stage_word (cores c).own a.counts a.stage (stands.each c here).fits.own.core is.acquired is.stage
 
   -- a step that begins a call
-  first_on : (call : Call) (may : MayBegin call (cores c))
-      → Stands setup (put cores c (core_after (begun (cores c) call) (found_by setup t (begun (cores c) call)))) (step_of c (Some call) (begun (cores c) call) (found_by setup t (begun (cores c) call)) ∷ t)
-  first_on call may = subst Goal (sym (stands.each c here).number) base
+  first_good : (call : Call) → MayBegin call (cores c) → StepGood setup cores t c (Some call) (begun (cores c) call)
+  first_good call may = subst Goal (sym (stands.each c here).number) base
     where
       enters : Took
-      enters = took_enter (is_spent (cores c).own) (cores c).own.table (fresh call)
+      enters = took_enter (is_spent (cores c).own) (cores c).own (fresh call)
 
       Goal : ℕ → Type 0
-      Goal m = Stands setup (put cores c (cores_of.core_after (cores c).own enters))
-          (step_at c (Some call) (StoreOf (CoreAt m) (core_word true (cores c).own.exit)) (last_left setup t (CoreAt m)) (told_by enters) ∷ t)
+      Goal m = IsGood setup cores t
+          (step_at c (Some call) (StoreOf (CoreAt m) (core_word true (cores c).own.exit)) (last_left setup t (CoreAt m)) (told_by enters))
+          (cores_of.core_after (cores c).own enters)
 
       base : Goal c
-      base = stands_on setup setting cores t stands
-          (step_to c (Some call) (StoreOf (CoreAt c) (core_word true (cores c).own.exit)) (last_left setup t (CoreAt c)) (decided_in (told_by enters)) (returned_in (told_by enters)))
-          (cores_of.core_after (cores c).own enters) (enter_good setup setting cores t stands c here call may
+      base = enter_good setup setting cores t stands c here call may
           (record {
-            fits = after_fits (cores c).own (fresh call) (core_word true (cores c).own.exit) (begun_fits (cores c) call (stands.each c here).fits may.limits may.built);
+            fits = after_fits (cores c).own (fresh call) (core_word true (cores c).own.exit)
+                (begun_fits (cores c) call (stands.each c here).fits may.limits may.built);
             is_in = here;
             is_named = refl;
-          }))
+          })
 
 -- the turn of a core
 in_its_call : (setup : Setting) (t : Trace) (c table : ℕ) (o : Option ActiveCall) → CallIs setup t c table o → IsSome o
@@ -123,11 +156,17 @@ in_its_call : (setup : Setting) (t : Trace) (c table : ℕ) (o : Option ActiveCa
 in_its_call setup t c table None is some = absurd (false≢true some)
 in_its_call setup t c table (Some a) is some = (a, refl, is.knows)
 
-pub steps_on : StepsOn
-steps_on setup setting cores t stands c here None may =
+-- A step of any core is good, whether a call begins with it or goes on.
+pub good_on : (setup : Setting) → IsSetting setup → (cores : ℕ → Core) (t : Trace) → Stands setup cores t → (c : ℕ) → c < setup.cores
+    → (enters : Option Call) → MayStep enters (cores c) → StepGood setup cores t c enters (turned enters (cores c))
+good_on setup setting cores t stands c here None may =
     let a = in_its_call setup t c (cores c).own.table (cores c).active (stands.each c here).active may in
-    subst (λ o. Stands setup (put cores c (absorbed_in (cores c).own o (told_of (move_in (cores c).own o) (last_left setup t (word_of (move_in (cores c).own o))))))
-    (step_at c None (move_in (cores c).own o) (last_left setup t (word_of (move_in (cores c).own o)))
-    (told_in (cores c).own o (told_of (move_in (cores c).own o) (last_left setup t (word_of (move_in (cores c).own o))))) ∷ t))
-    (sym a.1) (next_on setup setting cores t stands c here a.0 a.1 a.2)
-steps_on setup setting cores t stands c here (Some call) may = first_on setup setting cores t stands c here call may
+    subst (λ o. StepGood setup cores t c None (record { own = (cores c).own; active = o })) (sym a.1)
+    (next_good setup setting cores t stands c here a.0 a.1 a.2)
+good_on setup setting cores t stands c here (Some call) may = first_good setup setting cores t stands c here call may
+
+pub steps_on : StepsOn
+steps_on setup setting cores t stands c here enters may =
+    let core : Core = turned enters (cores c) in
+    stands_on setup setting cores t stands (step_of c enters core (found_by setup t core)) (core_after core (found_by setup t core))
+    (good_on setup setting cores t stands c here enters may)

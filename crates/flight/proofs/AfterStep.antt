@@ -1,5 +1,5 @@
 -- What a core is after its step, whatever the call: it is on the same machine, and is between calls exactly where the step returned.
-use Rattle.std.proofs.Common.{◌≡◌, ℕ, Option, Some, None, IsSome, refl, subst}
+use Rattle.std.proofs.Common.{◌≡◌, ℕ, Option, Some, None, IsSome, refl}
 use Rattle.spk_nums.specs.declared.replies.Reply.{Reply}
 use Rattle.call_steps.specs.declared.stages.ActiveCall.{ActiveCall}
 use Rattle.call_steps.specs.Steps.{Took, GoesOn, Decides, Returns, took}
@@ -27,9 +27,11 @@ after_returns own (GoesOn a) none = absurd (cc)
 after_returns own (Decides r a) none = absurd (cc)
 after_returns own (Returns r x) none = (r, refl)
 
-absorbed_in_returns : (own : Own) (o : Option ActiveCall) (found : ℕ) → IsSome o → (absorbed_in own o found).active ≡ None → (r : Reply) × (returned_in (told_in own o found) ≡ Some r)
+absorbed_in_returns : (own : Own) (o : Option ActiveCall) (found : ℕ) → IsSome o → (absorbed_in own o found).active ≡ None
+    → (r : Reply) × (returned_in (told_in own o found) ≡ Some r)
 absorbed_in_returns own None found some none = absurd (cc)
 absorbed_in_returns own (Some a) found some none = after_returns own (took own a found) none
 
-pub absorbed_returns : (c : Core) (found : ℕ) → IsSome c.active → (absorbed c found).active ≡ None → (r : Reply) × (returned_in (told_of_step c found) ≡ Some r)
+pub absorbed_returns : (c : Core) (found : ℕ) → IsSome c.active → (absorbed c found).active ≡ None
+    → (r : Reply) × (returned_in (told_of_step c found) ≡ Some r)
 absorbed_returns c found some none = absorbed_in_returns c.own c.active found some none

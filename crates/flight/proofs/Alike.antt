@@ -1,11 +1,12 @@
--- What is closed represents what was left, where its words and ends are the same.
-use Rattle.std.proofs.Common.{◌≡◌, ℕ, ◌+◌, ◌<◌, List, [], ◌∷◌, length, get_or, arith, refl, sym, ◌∙◌, ap, subst, zero, suc}
-use Rattle.spk_nums.specs.Setting.{Setting}
+-- What is closed represents what was left, where its words and ends are the same; and so do its counts.
+use Rattle.std.proofs.Common.{◌≡◌, ℕ, ◌+ℤ◌, ◌+◌, ◌<◌, ◌≤◌, List, [], ◌∷◌, length, get_or, arith, refl, sym, ◌∙◌, ap, subst, zero, suc}
+use Rattle.spk_nums.specs.Setting.{Setting, IsSetting}
 use Rattle.spk_nums.specs.declared.translations.CoreEnd.{CoreEnd}
-use Rattle.word_map.specs.Word.{Word, EntryAt, FrameAt, CoreAt, LiveAt}
-use Rattle.word_map.specs.Places.{IsIn, shared}
+use Rattle.word_map.specs.Word.{Word, EntryAt, FrameAt, CountAt, CoreAt, LiveAt}
+use Rattle.word_map.specs.Places.{IsIn, shared, counter_of}
 use Rattle.entry_words.specs.EntryWord.{entry_of_word}
 use Rattle.frame_words.specs.Comp.{comp_of_word}
+use Rattle.frame_words.specs.Count.{count_of_word}
 use Rattle.frame_words.specs.Frame.{frame_of_word}
 use Rattle.frame_words.specs.Live.{live_of_word}
 use Rattle.frame_words.specs.Core.{core_of_word}
@@ -15,6 +16,7 @@ use Rattle.tcap_words.specs.Head.{head_of_word}
 use Rattle.tcap_words.specs.Quality.{quality_of_word}
 use Rattle.kernel_rules.specs.State.{Place, Object, Blank, Table, Leaf, Pages, Pleaf, Comp, Thread, Tcap, Frame, Untyped, User, Kernel, State}
 use Rattle.kernel_history.specs.BootWords.{shape_of}
+use Rattle.kernel_history.specs.Counts.{counters, count_at, count_in, count_sum, IsUnheld, RepresentCounts}
 use Rattle.kernel_history.specs.FinalWords.{Represent, AreEntries, AreObject, AreFrame, SaysPlace, SaysNumber, SaysOut}
 
 -- words that are alike say alike
@@ -50,16 +52,57 @@ module _ (word word' : ℕ → ℕ) (alike : (i : ℕ) → i < 64 → word i ≡
   like_frame (Kernel object) place are = like_object object place are
 
 -- the words of a machine of a setup, and the ends of its cores
-pub like : (setup : Setting) (s : State) (word word' : Word → ℕ) (end end' : ℕ → CoreEnd) → s.limits.frames ≡ setup.frames → s.limits.cores ≡ setup.cores →
-    ((w : Word) → IsIn (shape_of setup) w → shared w ≡ w → word w ≡ word' w) → ((c : ℕ) → c < setup.cores → end c ≡ end' c) → Represent word end s → Represent word' end' s
+pub like : (setup : Setting) (s : State) (word word' : Word → ℕ) (end end' : ℕ → CoreEnd) → s.limits.frames ≡ setup.frames
+    → s.limits.cores ≡ setup.cores →
+    ((w : Word) → IsIn (shape_of setup) w → shared w ≡ w → word w ≡ word' w) → ((c : ℕ) → c < setup.cores → end c ≡ end' c) → Represent
+    word end s → Represent word' end' s
 like setup s word word' end end' frames cores alike ends is = record {
-  objects = λ f h. like_frame (λ i. word (EntryAt f i)) (λ i. word' (EntryAt f i)) (λ i low. alike (EntryAt f i) (omega arith, low) refl) (s.frame f) (s.place f) (is.objects f h);
+  objects = λ f h. like_frame (λ i. word (EntryAt f i)) (λ i. word' (EntryAt f i)) (λ i low. alike (EntryAt f i) (omega arith, low) refl)
+      (s.frame f) (s.place f) (is.objects f h);
   bare = is.bare;
   kinds = λ f h. ap (λ (w : ℕ). frame_of_word w) (sym (alike (FrameAt f) (omega arith) refl)) ∙ is.kinds f h;
   numbers = λ l h. subst (λ (w : ℕ). SaysNumber (s.number l) (live_of_word w)) (alike (LiveAt l) h refl) (is.numbers l h);
   cores = λ c h. subst (λ (w : ℕ). SaysOut (core_of_word w)) (alike (CoreAt c) (omega arith) refl) (is.cores c h);
   ends = λ c h. sym (ends c (omega arith)) ∙ is.ends c h;
 }
+
+-- a frame's count words are those of cores that count for themselves
+record IsCounter (n c : ℕ) : Type 0 where
+  pub below : c < n
+  pub own : counter_of c ≡ c
+
+counter_at : (n k d : ℕ) → 1 ≤ n → k < length (counters n) → IsCounter n (get_or (counters n) k d)
+counter_at n zero d some h = record { below = omega arith; own = refl }
+counter_at n (suc k) d some h = absurd (omega arith)
+
+-- count words that are alike sum alike
+like_sum : (word word' : Word → ℕ) (f : ℕ) (cs : List ℕ)
+    → ((k d : ℕ) → k < length cs → word (CountAt f (get_or cs k d)) ≡ word' (CountAt f (get_or cs k d)))
+    → count_sum (count_at word f) cs ≡ count_sum (count_at word' f) cs
+like_sum word word' f [] alike = refl
+like_sum word word' f (c ∷ cs) alike =
+    ap (λ (w : ℕ). count_in (count_of_word w) +ℤ count_sum (count_at word f) cs) (alike zero zero (omega arith))
+    ∙ ap (λ z. count_in (count_at word' f c) +ℤ z) (like_sum word word' f cs (λ k d h. alike (suc k) d (omega arith)))
+
+-- the count words of a machine of a setup
+module _ (setup : Setting) (setting : IsSetting setup) (s : State) (word word' : Word → ℕ)
+    (frames : s.limits.frames ≡ setup.frames) (cores : s.limits.cores ≡ setup.cores)
+    (alike : (w : Word) → IsIn (shape_of setup) w → shared w ≡ w → word w ≡ word' w) where
+  abbrev cs : List ℕ
+  cs = counters s.limits.cores
+
+  like_count : (f k d : ℕ) → f < s.limits.frames → k < length cs → word (CountAt f (get_or cs k d)) ≡ word' (CountAt f (get_or cs k d))
+  like_count f k d h low =
+      let some = setting.some_core in
+      let is = counter_at s.limits.cores k d (omega arith) low in
+      let below = is.below in
+      alike (CountAt f (get_or cs k d)) (omega arith, omega arith) (ap (CountAt f) is.own)
+
+  pub like_counts : RepresentCounts word s → RepresentCounts word' s
+  like_counts is f h = record {
+    unheld = λ k d low. subst (λ (w : ℕ). IsUnheld (count_of_word w)) (like_count f k d h low) ((is f h).unheld k d low);
+    sum = sym (like_sum word word' f cs (λ k d low. like_count f k d h low)) ∙ (is f h).sum;
+  }
 
 -- an element that is there needs no default
 pub same_default : {X : Type 0} (xs : List X) (k : ℕ) (d e : X) → k < length xs → get_or xs k d ≡ get_or xs k e

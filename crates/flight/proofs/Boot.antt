@@ -1,5 +1,5 @@
 -- The start stands for no step.
-use Rattle.std.proofs.Common.{◌≡◌, inl, inr, ℕ, zero, suc, ◌+◌, ◌<◌, ◌≤◌, ◌==◌, ◌*◌, ◌-◌, ◌∷◌, nat_lt, length, slice_get, Bool, true, false, [], Option, Some, None, arith, refl, sym, ◌∙◌, ap, subst, IsTrue, if◌then◌else◌, pos}
+use Rattle.std.proofs.Common.{◌≡◌, inl, inr, ℕ, zero, suc, ◌+◌, ◌<◌, ◌≤◌, ◌==◌, ◌*◌, ◌-◌, ◌∷◌, nat_lt, length, slice_get, Bool, true, false, [], Option, Some, None, arith, refl, sym, ◌∙◌, ap, subst, IsTrue, if◌then◌else◌, pos, ◌+ℤ◌, max}
 use Rattle.std.proofs.lemmas.Bool.{cases_lt, false≢true, lt-ltb, eqb-true}
 use Rattle.spk_nums.specs.Capability.{Capability}
 use Rattle.spk_nums.specs.Setting.{Setting, IsSetting}
@@ -36,13 +36,17 @@ use Rattle.stage_look.specs.Shown.{CapNames}
 use Rattle.kernel_history.specs.Marking.{marked_by}
 use Rattle.core_invariant.specs.Holding.{settled_by}
 use Rattle.core_invariant.specs.Words.{PlaceIs, IsObjectWord, IsFrameWord, NumberIs, WordIs}
-use Rattle.core_invariant.specs.Stands.{held_by, times_of}
+use Rattle.core_invariant.specs.Stands.{held_by, times_of, count_shown, SumIs}
+use Rattle.core_invariant.specs.CountWords.{stamp_in}
+use Rattle.kernel_history.specs.Counts.{count_in}
+use Rattle.std.proofs.lemmas.Int.{ints}
 use Rattle.flight.specs.Made.{boot_cores}
 use Rattle.flight.specs.Theorems.{Boots}
 use Rattle.flight.proofs.CoreFits.{started_fits}
 
 -- A good capability names frames of the machine.
-good_names : (s : State) (k : Capability) → ((f : ℕ) → s.limits.frames ≤ f → s.frame f ≡ Untyped) → IsGood s k → CapNames s.limits.frames k
+good_names : (s : State) (k : Capability) → ((f : ℕ) → s.limits.frames ≤ f → s.frame f ≡ Untyped) → IsGood s k
+    → CapNames s.limits.frames k
 good_names s k beyond good = by_kind k.kind good.fit good.within
   where
     below : (j : Kind) → IsTrue (fits j (s.frame k.frame)) → (fits j Untyped ≡ false) → k.frame + 1 ≤ s.limits.frames
@@ -51,7 +55,8 @@ good_names s k beyond good = by_kind k.kind good.fit good.within
       | inr past ↦ absurd (false≢true (sym none ∙ sym (ap (fits j) (beyond k.frame past)) ∙ fit))
     ]
 
-    by_kind : (j : Kind) → IsTrue (fits j (s.frame k.frame)) → EndsWithin j k.frame k.arg s.limits.frames → Rattle.stage_look.specs.Shown.end_of_frames j k.frame k.arg ≤ s.limits.frames
+    by_kind : (j : Kind) → IsTrue (fits j (s.frame k.frame)) → EndsWithin j k.frame k.arg s.limits.frames
+        → Rattle.stage_look.specs.Shown.end_of_frames j k.frame k.arg ≤ s.limits.frames
     by_kind kind.Range fit within = within
     by_kind kind.Table fit within = below kind.Table fit refl
     by_kind kind.Leaf fit within = below kind.Leaf fit refl
@@ -82,13 +87,14 @@ with_stands : (o : Option Capability) → Stands (place_with o)
 with_stands None = free_stands
 with_stands (Some j) = holds_stands j
 
-pub start_stands : (setup : Setting) (f i : ℕ) → Stands (start_place setup f i)
+start_stands : (setup : Setting) (f i : ℕ) → Stands (start_place setup f i)
 start_stands setup f i =
     choose Stands (f == 0) _ _ (choose Stands (i == 0) _ _ (holds_stands _) free_stands)
     (choose Stands (f == 1) _ _ (with_stands (start_cap setup i)) free_stands)
 
 -- What a place of the start is in words.
-place_says : (n : ℕ) (p : Place) (o : Option Entry) → Stands p → ((k : Capability) → p ≡ Holds k → CapNames n k) → SaysPlace p o → PlaceIs n p 0 o
+place_says : (n : ℕ) (p : Place) (o : Option Entry) → Stands p → ((k : Capability) → p ≡ Holds k → CapNames n k) → SaysPlace p o
+    → PlaceIs n p 0 o
 place_says n Free o stands names h = h
 place_says n (Holds k) o stands names h = (h, names k refl)
 place_says n (Quiescing k) o stands names h = absurd (stands k refl)
@@ -118,17 +124,21 @@ module _ (setup : Setting) (setting : IsSetting setup) where
   names f i k is = good_names (start setup) k (start_sound setup setting).beyond ((start_sound setup setting).held f i k is)
 
   -- the words of nodes
-  module _ (f : ℕ) (says : (i : ℕ) → i < 64 → SaysPlace (start_place setup f i) (entry_of_word (word_of_entry (boot_entry (start_place setup f i))))) where
+  module _ (f : ℕ) (says : (i : ℕ) → i < 64 → SaysPlace (start_place setup f i)
+      (entry_of_word (word_of_entry (boot_entry (start_place setup f i))))) where
     node_marks : (i : ℕ) → entry_mark (entry_of_word (word_of_entry (boot_entry (start_place setup f i)))) ≡ None
     node_marks i = elim (cases_lt i 64) [
       | inl below ↦ place_unmarked (start_place setup f i) _ (start_stands setup f i) (says i below)
-      | inr past ↦ ap (λ p. entry_mark (entry_of_word (word_of_entry (boot_entry p)))) (past_free setup setting f i past) ∙ ap entry_mark (entries.spelling.reads entry.Free tt)
+      | inr past ↦ ap (λ p. entry_mark (entry_of_word (word_of_entry (boot_entry p)))) (past_free setup setting f i past) ∙ ap entry_mark
+          (entries.spelling.reads entry.Free tt)
     ]
 
-    node_says : (i : ℕ) → i < 64 → PlaceIs setup.frames (start_place setup f i) 0 (entry_of_word (word_of_entry (boot_entry (start_place setup f i))))
+    node_says : (i : ℕ) → i < 64
+        → PlaceIs setup.frames (start_place setup f i) 0 (entry_of_word (word_of_entry (boot_entry (start_place setup f i))))
     node_says i below = place_says setup.frames (start_place setup f i) _ (start_stands setup f i) (names f i) (says i below)
 
-  thread_value_mark : (o : Option ℕ) (depth : ℕ) → thread_mark (Some (Rattle.kernel_history.specs.ObjectWords.thread_value o depth)) ≡ None
+  thread_value_mark : (o : Option ℕ) (depth : ℕ)
+      → thread_mark (Some (Rattle.kernel_history.specs.ObjectWords.thread_value o depth)) ≡ None
   thread_value_mark None depth = refl
   thread_value_mark (Some c) depth = refl
 
@@ -147,9 +157,12 @@ module _ (setup : Setting) (setting : IsSetting setup) where
   object_marks f Pages h i = node_marks f h i
   object_marks f Pleaf h i = node_marks f h i
   object_marks f (Comp k) h i = refl
-  object_marks f (Thread t) h i = first_mark i (λ i. thread_mark (Rattle.tcap_words.specs.Thread.thread_of_word (boot_object (Thread t) (start_place setup f) i)))
+  object_marks f (Thread t) h i =
+      first_mark i (λ i. thread_mark (Rattle.tcap_words.specs.Thread.thread_of_word (boot_object (Thread t) (start_place setup f) i)))
       (ap thread_mark h.runs ∙ thread_value_mark t.runs_on (length t.stack))
-  object_marks f (Tcap q) h i = first_mark i (λ i. head_mark (Rattle.tcap_words.specs.Head.head_of_word (boot_object (Tcap q) (start_place setup f) i))) (ap head_mark h.head)
+  object_marks f (Tcap q) h i =
+      first_mark i (λ i. head_mark (Rattle.tcap_words.specs.Head.head_of_word (boot_object (Tcap q) (start_place setup f) i)))
+      (ap head_mark h.head)
 
   object_says : (f : ℕ) (x : Object) → AreObject x (start_place setup f) (λ i. boot_object x (start_place setup f) i)
       → (i : ℕ) → IsObjectWord setup.frames x (start_place setup f i) 0 i (boot_object x (start_place setup f) i)
@@ -163,13 +176,18 @@ module _ (setup : Setting) (setting : IsSetting setup) where
   object_says f (Comp k) h (suc (suc zero)) = h.live
   object_says f (Comp k) h (suc (suc (suc i))) = tt
   object_says f (Thread t) h zero = h.runs
-  object_says f (Thread t) h (suc i) = λ below. subst (λ (j : ℕ). Rattle.tcap_words.specs.Stack.stack_of_word (boot_object (Thread t) (start_place setup f) j) ≡ Some (record { 0 = Rattle.kernel_history.specs.ObjectWords.at_height t.stack i }))
+  object_says f (Thread t) h (suc i) =
+      λ below. subst (λ (j : ℕ). Rattle.tcap_words.specs.Stack.stack_of_word (boot_object (Thread t) (start_place setup f) j) ≡ Some
+      (record { 0 = Rattle.kernel_history.specs.ObjectWords.at_height t.stack i }))
       (next i) (h.stack i below)
   object_says f (Tcap q) h zero = record { version = h.version; says = h.head; most = h.most }
-  object_says f (Tcap q) h (suc i) = λ below. subst (λ (j : ℕ). Rattle.tcap_words.specs.Quality.quality_of_word (boot_object (Tcap q) (start_place setup f) j) ≡ Some (record { 0 = slice_get q.qualities i }))
+  object_says f (Tcap q) h (suc i) =
+      λ below. subst (λ (j : ℕ). Rattle.tcap_words.specs.Quality.quality_of_word (boot_object (Tcap q) (start_place setup f) j) ≡ Some
+      (record { 0 = slice_get q.qualities i }))
       (next i) (h.list i below)
 
-  frame_marks : (f : ℕ) (x : Frame) → AreFrame x (start_place setup f) (λ i. boot_frame x (start_place setup f) i) → (i : ℕ) → mark_in_frame x i (boot_frame x (start_place setup f) i) ≡ None
+  frame_marks : (f : ℕ) (x : Frame) → AreFrame x (start_place setup f) (λ i. boot_frame x (start_place setup f) i) → (i : ℕ)
+      → mark_in_frame x i (boot_frame x (start_place setup f) i) ≡ None
   frame_marks f Untyped h i = refl
   frame_marks f User h i = refl
   frame_marks f (Kernel x) h i = object_marks f x h i
@@ -181,16 +199,19 @@ module _ (setup : Setting) (setting : IsSetting setup) where
   frame_says f (Kernel x) h i = object_says f x h i
 
   -- the words of every frame, also past those of the machine
-  are_frame : (f : ℕ) → AreFrame (start_frame setup f) (start_place setup f) (λ i. boot_frame (start_frame setup f) (start_place setup f) i)
+  are_frame : (f : ℕ) → AreFrame (start_frame setup f) (start_place setup f)
+      (λ i. boot_frame (start_frame setup f) (start_place setup f) i)
   are_frame f = elim (cases_lt f setup.frames) [
     | inl here ↦ parts.objects f here
-    | inr past ↦ subst (λ x. AreFrame x (start_place setup f) (λ i. boot_frame x (start_place setup f) i)) (sym ((start_sound setup setting).beyond f past)) tt
+    | inr past ↦ subst (λ x. AreFrame x (start_place setup f) (λ i. boot_frame x (start_place setup f) i))
+        (sym ((start_sound setup setting).beyond f past)) tt
   ]
 
   kind_reads : (f : ℕ) → frame_of_word (boot_word setup (FrameAt f)) ≡ Some (frame_value (start_frame setup f))
   kind_reads f = elim (cases_lt f setup.frames) [
     | inl here ↦ parts.kinds f here
-    | inr past ↦ subst (λ x. frame_of_word (Rattle.frame_words.specs.Frame.word_of_frame (frame_value x)) ≡ Some (frame_value x)) (sym ((start_sound setup setting).beyond f past))
+    | inr past ↦ subst (λ x. frame_of_word (Rattle.frame_words.specs.Frame.word_of_frame (frame_value x)) ≡ Some (frame_value x))
+        (sym ((start_sound setup setting).beyond f past))
         (frames.spelling.reads (frame_value Untyped) (tt, omega arith))
   ]
 
@@ -199,8 +220,12 @@ module _ (setup : Setting) (setting : IsSetting setup) where
   frame_value_mark User = refl
   frame_value_mark (Kernel x) = refl
 
-  count_reads : (f n : ℕ) → n ≤ refs (start setup) f → count_of_word (Rattle.frame_words.specs.Count.word_of_count (record { hold = Unheld; count = pos n; stamp = 0 })) ≡ Some (record { hold = Unheld; count = pos n; stamp = 0 })
-  count_reads f n most = counts.spelling.reads (record { hold = Unheld; count = pos n; stamp = 0 }) (tt, (let m = refs_most setup setting f in omega (arith, m, most)), omega arith)
+  count_reads : (f n : ℕ) → n ≤ refs (start setup) f
+      → count_of_word (Rattle.frame_words.specs.Count.word_of_count (record { hold = Unheld; count = pos n; stamp = 0 })) ≡ Some
+      (record { hold = Unheld; count = pos n; stamp = 0 })
+  count_reads f n most =
+      counts.spelling.reads (record { hold = Unheld; count = pos n; stamp = 0 })
+      (tt, (let m = refs_most setup setting f in omega (arith, m, most)), omega arith)
 
   number_reads : (l : ℕ) → live_of_word (boot_word setup (LiveAt l)) ≡ Some (boot_live (start_number l))
   number_reads l = choose (λ x. live_of_word (Rattle.frame_words.specs.Live.word_of_live (boot_live x)) ≡ Some (boot_live x)) (l == 0) _ _
@@ -209,8 +234,10 @@ module _ (setup : Setting) (setting : IsSetting setup) where
   number_mark : (l : ℕ) → live_mark (Some (boot_live (start_number l))) ≡ None
   number_mark l = choose (λ x. live_mark (Some (boot_live x)) ≡ None) (l == 0) _ _ refl refl
 
-  number_says : (l : ℕ) → live_of_word (boot_word setup (LiveAt l)) ≡ Some (boot_live (start_number l)) → NumberIs (start_number l) 0 (live_of_word (boot_word setup (LiveAt l)))
-  number_says l is = subst (λ o. NumberIs (start_number l) 0 o) (sym is) (choose (λ x. NumberIs x 0 (Some (boot_live x))) (l == 0) _ _ refl refl)
+  number_says : (l : ℕ) → live_of_word (boot_word setup (LiveAt l)) ≡ Some (boot_live (start_number l))
+      → NumberIs (start_number l) 0 (live_of_word (boot_word setup (LiveAt l)))
+  number_says l is = subst (λ o. NumberIs (start_number l) 0 o) (sym is)
+      (choose (λ x. NumberIs x 0 (Some (boot_live x))) (l == 0) _ _ refl refl)
 
   least : (c n : ℕ) → (if c == 0 then n else 0) ≤ n
   least c n = choose (λ (x : ℕ). x ≤ n) (c == 0) n 0 (omega arith) (omega arith)
@@ -227,18 +254,40 @@ module _ (setup : Setting) (setting : IsSetting setup) where
   boot_says : (w : Word) → WordIs (start setup) (times_of setup []) w (boot_word setup w)
   boot_says (EntryAt f i) = frame_says f (start_frame setup f) (are_frame f) i
   boot_says (FrameAt f) = kind_reads f
-  boot_says (CountAt f c) = record { count = pos (if c == 0 then refs (start setup) f else 0); stamp = 0; says = count_reads f (if c == 0 then refs (start setup) f else 0) (least c (refs (start setup) f)) }
+  boot_says (CountAt f c) = record {
+    count = pos (if c == 0 then refs (start setup) f else 0);
+    stamp = 0;
+    says = count_reads f (if c == 0 then refs (start setup) f else 0) (least c (refs (start setup) f));
+    within = (let few = refs_most setup setting f in let part = least c (refs (start setup) f) in omega arith);
+  }
   boot_says (CoreAt c) = core_words.spelling.reads (record { inside = false; stamp = 0 }) (omega arith)
   boot_says (FlushAt c) = flushes.spelling.reads (record { stamp = 0 }) (omega arith)
   boot_says (LiveAt l) = number_says l (number_reads l)
   boot_says ClockAt = tt
+
+  -- the counts of the start are its references
+  boot_sums : (f : ℕ) → SumIs setup (held_by (boot_cores setup)) [] f
+  boot_sums f = record {
+    sum = ap (λ o. count_in o +ℤ pos 0) first ∙ plus_zero (refs (start setup) f);
+    newest = ap (λ o. max (stamp_in o) 0) first;
+  }
+    where
+      first : count_shown setup (held_by (boot_cores setup)) [] f 0 ≡ Some
+          (record { hold = Unheld; count = pos (refs (start setup) f); stamp = 0 })
+      first = ap (λ o. count_of_word (settled_by o (held_by (boot_cores setup)) (CountAt f 0) (boot_word setup (CountAt f 0))))
+          (boot_mark (CountAt f 0))
+          ∙ count_reads f (refs (start setup) f) (omega arith)
+
+      plus_zero : (n : ℕ) → pos n +ℤ pos 0 ≡ pos n
+      plus_zero n = omega (arith, ints)
 
   -- a core of the start
   thread_is : (c : ℕ) → c < setup.cores → thread_of (start setup) c ≡ record { stack = 3 ∷ []; runs_on = Some (4 + c - 4) }
   thread_is c here =
       ap thread_in (past_three setup (4 + c) (omega arith)
       ∙ ap (λ b. if b then Kernel (Thread (record { stack = 3 ∷ []; runs_on = Some (4 + c - 4) }))
-      else (if nat_lt (4 + c) (4 + 2 * setup.cores) then Kernel (Tcap (granted (slice_get setup.grants (4 + c - 4 - setup.cores)))) else Untyped))
+      else (if nat_lt (4 + c) (4 + 2 * setup.cores) then Kernel (Tcap (granted (slice_get setup.grants (4 + c - 4 - setup.cores)))) else
+      Untyped))
       (lt-ltb (4 + c) (4 + setup.cores) (omega (arith, here))))
 
 pub boots : Boots
@@ -250,12 +299,13 @@ boots setup setting = record {
   footprints = tt;
   marked = λ w d h. absurd (none_some d (sym (boot_mark setup setting w) ∙ h));
   marks = λ w d. record { owned = λ h. absurd (none_some d (sym (boot_mark setup setting w) ∙ h)); kept = λ h. absurd (false≢true h) };
-  words = λ w. subst (λ o. WordIs (start setup) (times_of setup []) w (settled_by o (held_by (boot_cores setup)) w (boot_word setup w))) (sym (boot_mark setup setting w)) (boot_says setup setting w);
+  words = λ w. subst (λ o. WordIs (start setup) (times_of setup []) w (settled_by o (held_by (boot_cores setup)) w (boot_word setup w)))
+      (sym (boot_mark setup setting w)) (boot_says setup setting w);
+  sums = boot_sums setup setting;
   draws = omega arith;
   some_time = omega arith;
   times = times_start setup;
   graces = grace_start setup;
-  none_removed = start_stands setup;
   each = λ c here. let whose = thread_is setup setting c here in record {
     fits = started_fits c setup setting here;
     number = refl;

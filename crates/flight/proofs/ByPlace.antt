@@ -26,5 +26,6 @@ told_is shape (StoreOf w new) found = refl
 told_is shape (AddOf w by) found = refl
 
 -- different words have different places
-pub apart_places : (shape : Shape) (w u : Word) → IsShape shape → IsWord shape w → IsWord shape u → w ≢ u → place_of shape w ≢ place_of shape u
+pub apart_places : (shape : Shape) (w u : Word) → IsShape shape → IsWord shape w → IsWord shape u → w ≢ u
+    → place_of shape w ≢ place_of shape u
 apart_places shape w u is h k other same = other (sym h.is_named ∙ (has_places shape is).distinct w u h.is_in k.is_in same ∙ k.is_named)

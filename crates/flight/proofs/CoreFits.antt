@@ -11,7 +11,7 @@ use Rattle.call_steps.specs.declared.stages.ActiveCall.{ActiveCall}
 use Rattle.call_steps.specs.View.{Core}
 use Rattle.call_steps.specs.Steps.{Took, GoesOn, Decides, Returns, took, told, call_after}
 use Rattle.call_steps.specs.Cores.{started, fresh, begun, core_after, absorbed_in, absorbed}
-use Rattle.call_steps.specs.Fits.{IsOwn, CallFits, IsCore, left_of, left_for, steps_left}
+use Rattle.call_steps.specs.Fits.{IsOwn, IsCore, left_of, left_for, steps_left}
 use Rattle.call_steps.proofs.Fitting.{took_fits, TookFits, goes_on, decides_on}
 use Rattle.call_steps.proofs.Fitting as fitting
 
@@ -34,7 +34,8 @@ started_fits c setting h below =
     }
 
 pub begun_fits : (core : Core) (call : Call) → IsCore core → InLimits call → IsBuilt call → IsCore (begun core call)
-begun_fits core call h limits built = fitting.begun_fits core.own call (fresh call).found (fresh call).plan h.own refl refl limits built
+begun_fits core call h limits built =
+    fitting.begun_fits core.own call (fresh call).found (fresh call).counts (fresh call).plan h.own refl refl refl limits built
 
 -- A core after its step, and how many steps are then to come.
 record GoesFurther (own : Own) (a : ActiveCall) (after : Core) : Type 0 where
@@ -42,21 +43,38 @@ record GoesFurther (own : Own) (a : ActiveCall) (after : Core) : Type 0 where
   fewer : steps_left after < left_of own.layout.cores a
 
 left_fits : (own : Own) (x : ℕ) → IsOwn own → IsOwn (record own { exit = x })
-left_fits own x h = record { shape = h.shape; core = h.core; thread = h.thread; comp = h.comp; table = h.table; pages = h.pages; tcap = h.tcap; most_calls = h.most_calls; made = h.made }
+left_fits own x h = record {
+  shape = h.shape;
+  core = h.core;
+  thread = h.thread;
+  comp = h.comp;
+  table = h.table;
+  pages = h.pages;
+  tcap =
+      h.tcap;
+  most_calls = h.most_calls;
+  made = h.made;
+}
 
-further : (own : Own) (a : ActiveCall) (found : ℕ) (k : Took) → took own a found ≡ k → IsCore (record { own = own; active = Some a }) → GoesFurther own a (core_after own k)
+further : (own : Own) (a : ActiveCall) (found : ℕ) (k : Took) → took own a found ≡ k → IsCore (record { own = own; active = Some a })
+    → GoesFurther own a (core_after own k)
 further own a found (GoesOn new) is h =
-    let on = goes_on own (Some a) a new found h refl (sym (ap told is)) (sym (ap (call_after a) is)) in record { fits = on.0; fewer = on.1 }
+    let on = goes_on own (Some a) a new found h refl (sym (ap told is)) (sym (ap (call_after a) is)) in record
+    { fits = on.0; fewer = on.1 }
 further own a found (Decides r new) is h =
-    let on = decides_on own (Some a) a new r (calls_counted r) found h refl (sym (ap told is)) (sym (ap (call_after a) is)) refl in record { fits = on.0; fewer = on.1 }
+    let on = decides_on own (Some a) a new r (calls_counted r) found h refl (sym (ap told is)) (sym (ap (call_after a) is)) refl in record
+    { fits = on.0; fewer = on.1 }
 further own a found (Returns r stamp) is h =
-    let some : 0 < left_of own.layout.cores a = subst (TookFits own (left_of own.layout.cores a) a) is (took_fits own a found h.own h.active) in
+    let some : 0 < left_of own.layout.cores a = subst (TookFits own (left_of own.layout.cores a) a) is
+    (took_fits own a found h.own h.active) in
     record { fits = record { own = left_fits own stamp h.own; active = tt }; fewer = some }
 
-pub after_fits : (own : Own) (a : ActiveCall) (found : ℕ) → IsCore (record { own = own; active = Some a }) → IsCore (core_after own (took own a found))
+pub after_fits : (own : Own) (a : ActiveCall) (found : ℕ) → IsCore (record { own = own; active = Some a })
+    → IsCore (core_after own (took own a found))
 after_fits own a found h = (further own a found (took own a found) refl h).fits
 
-fewer_in : (own : Own) (o : Option ActiveCall) (found : ℕ) → IsCore (record { own = own; active = o }) → IsSome o → steps_left (absorbed_in own o found) < left_for own.layout.cores o
+fewer_in : (own : Own) (o : Option ActiveCall) (found : ℕ) → IsCore (record { own = own; active = o }) → IsSome o
+    → steps_left (absorbed_in own o found) < left_for own.layout.cores o
 fewer_in own None found h some = absurd (cc)
 fewer_in own (Some a) found h some = (further own a found (took own a found) refl h).fewer
 

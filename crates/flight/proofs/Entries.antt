@@ -1,17 +1,17 @@
 -- The entry of a call is good: its calls are spent, its first name has no slot, or it looks that name up.
-use Rattle.std.proofs.Common.{◌≡◌, ℕ, ◌+◌, ◌<◌, ◌≤◌, ◌^◌, [], ◌∷◌, Bool, true, false, nat_le, Some, None, arith, refl, sym, ◌∙◌, ap, subst, IsTrue}
+use Rattle.std.proofs.Common.{◌≡◌, ℕ, ◌+◌, ◌<◌, ◌≤◌, [], ◌∷◌, Bool, true, false, nat_le, Some, None, arith, refl, sym, ◌∙◌, ap, subst}
 use Rattle.std.proofs.lemmas.Bool.{leb-true}
 use Rattle.spk_nums.specs.Setting.{Setting, IsSetting}
 use Rattle.spk_nums.specs.declared.kinds.Kind.{Kind}
 use Rattle.spk_nums.specs.declared.calls.Call.{Call}
-use Rattle.spk_nums.specs.declared.calls.Call.TheVariants.{Look as look_call, Copy}
+use Rattle.spk_nums.specs.declared.calls.Call.TheVariants.{Look as look_call, Copy, Remove, Shrink, Unmap}
 use Rattle.spk_nums.specs.declared.replies.Reply.TheVariants as reply
 use Rattle.supported_calls.specs.Built.{IsBuilt}
 use Rattle.word_map.specs.Word.{CoreAt}
 use Rattle.word_map.specs.Places.{IsIn as IsInShape}
 use Rattle.word_map.specs.Moves.{StoreOf}
 use Rattle.kernel_rules.specs.State.{State, comp_of}
-use Rattle.kernel_rules.specs.Access.{root_at, reached, has_no_slot, own}
+use Rattle.kernel_rules.specs.Access.{root_at}
 use Rattle.kernel_rules.specs.Relies.{Relies}
 use Rattle.kernel_rules.specs.GracePeriods.{entered}
 use Rattle.kernel_rules.specs.Rules.{RuleMay, Refused}
@@ -26,7 +26,7 @@ use Rattle.kernel_history.proofs.Stays.{relies_table, entered_comp}
 use Rattle.stage_look.specs.declared.look.Look.TheVariants.{AtRoot}
 use Rattle.call_plans.specs.GoesBy.{own_pages}
 use Rattle.call_plans.specs.PlanOf.{plan_for}
-use Rattle.call_plans.specs.After.{Next, NextName, next_of, NextMay}
+use Rattle.call_plans.specs.After.{NextName, next_of, NextMay}
 use Rattle.call_plans.proofs.CallsGoBy.{calls_go}
 use Rattle.call_plans.proofs.AfterNames.{next_may}
 use Rattle.call_steps.specs.declared.refusals.Refusal.TheVariants as refusal
@@ -52,7 +52,8 @@ use Rattle.plan_ways.specs.Laws.{NextRefused}
 use Rattle.plan_ways.proofs.Ways.{next_first}
 use Rattle.work_invariant.proofs.Findings.{past_slot, past_unreached, named_no_slot}
 
-module _ (setup : Setting) (setting : IsSetting setup) (cores : ℕ → Core) (t : Trace) (stands : Stands setup cores t) (c : ℕ) (here : c < setup.cores)
+module _ (setup : Setting) (setting : IsSetting setup) (cores : ℕ → Core) (t : Trace) (stands : Stands setup cores t) (c : ℕ)
+    (here : c < setup.cores)
     (call : Call) (may : MayBegin call (cores c)) where
   abbrev s : State
   s = state_after setup t
@@ -61,10 +62,12 @@ module _ (setup : Setting) (setting : IsSetting setup) (cores : ℕ → Core) (t
   was = last_left setup t (CoreAt c)
 
   abbrev step : Took → Step
-  step took = step_to c (Some call) (StoreOf (CoreAt c) (core_word true (cores c).own.exit)) was (decided_in (told_by took)) (returned_in (told_by took))
+  step took = step_to c (Some call) (StoreOf (CoreAt c) (core_word true (cores c).own.exit)) was (decided_in (told_by took))
+      (returned_in (told_by took))
 
   abbrev pub GoodEntry : Took → Type 0
-  GoodEntry took = Lands setup (core_after (cores c).own took) (CoreAt c) → IsGood setup cores t (step took) (core_after (cores c).own took)
+  GoodEntry took = Lands setup (core_after (cores c).own took) (CoreAt c) → IsGood setup cores t (step took)
+      (core_after (cores c).own took)
 
   same_count : ((entered s c).core c).counted ≡ (s.core c).counted
   same_count = ap (λ k. k.counted) (put_same s.core c (record (s.core c) { inside = true }) c refl)
@@ -78,7 +81,9 @@ module _ (setup : Setting) (setting : IsSetting setup) (cores : ℕ → Core) (t
   out = subst (CallIs setup t c (cores c).own.table) may.between (stands.each c here).active
 
   enters_spent : is_spent (cores c).own ≡ true → GoodEntry (landed (fresh call) (refuse refusal.CallsSpent))
-  enters_spent spent lands = enters_on setup setting cores t stands c here ((cores c).own.made + 0) call (Some reply.CallsSpent) (Decided reply.CallsSpent Nothing) may.between may.limits lands refl refl
+  enters_spent spent lands =
+      enters_on setup setting cores t stands c here ((cores c).own.made + 0) call (Some reply.CallsSpent)
+      (Decided reply.CallsSpent None Nothing) may.between may.limits lands refl refl
       (calm_entered s c)
       (record { begins = λ x. refl; ends = λ x. refl; flushes = refl; apart = λ d. refl; same = refl })
       (let made = (stands.each c here).works.made in let same = same_count in omega arith)
@@ -89,13 +94,16 @@ module _ (setup : Setting) (setting : IsSetting setup) (cores : ℕ → Core) (t
 
   enters_refused : is_spent (cores c).own ≡ false → RuleMay (entered s c) c (rule_of (entered s c) c call) reply.NoSlot
       → change_of (entered s c) c call ≡ Refused reply.NoSlot → GoodEntry (landed (fresh call) (refuse refusal.NoSlot))
-  enters_refused unspent rule first lands = enters_on setup setting cores t stands c here ((cores c).own.made + 1) call (Some reply.NoSlot) (Decided reply.NoSlot Nothing) may.between may.limits lands refl refl
+  enters_refused unspent rule first lands =
+      enters_on setup setting cores t stands c here ((cores c).own.made + 1) call (Some reply.NoSlot) (Decided reply.NoSlot None Nothing)
+      may.between may.limits lands refl refl
       (calm_then s (entered s c) (counted (entered s c) c) c (calm_entered s c) (calm_counted (entered s c) c))
       (record { begins = λ x. refl; ends = λ x. refl; flushes = refl; apart = λ d. refl; same = refl })
       (let made = (stands.each c here).works.made in
       let same = same_count in
       let more : ((counted (entered s c) c).core c).counted ≡ ((entered s c).core c).counted + 1 =
-      ap (λ k. k.counted) (put_same (entered s c).core c (record ((entered s c).core c) { counted = ((entered s c).core c).counted + 1 }) c refl) in
+      ap (λ k. k.counted) (put_same (entered s c).core c (record ((entered s c).core c) { counted = ((entered s c).core c).counted + 1 })
+      c refl) in
       omega arith)
       (λ g i. refl)
       (record { call = call; is_open = refl; permitted = (spent_is ∙ unspent, rule); justified = tt })
@@ -116,7 +124,8 @@ module _ (setup : Setting) (setting : IsSetting setup) (cores : ℕ → Core) (t
       is_in = is_in;
       is_named = refl;
       found = refl;
-      small = core_small true (cores c).own.exit (let a = (stands.times c).exit in let b = (stands.each c here).exit in let m = clock_small setup setting cores t stands in omega arith);
+      small = core_small true (cores c).own.exit (let a = (stands.times c).exit in let b = (stands.each c here).exit in let m =
+          clock_small setup setting cores t stands in omega arith);
       enters = (out, may.limits);
       in_call = not_out;
       decides = tt;
@@ -126,7 +135,8 @@ module _ (setup : Setting) (setting : IsSetting setup) (cores : ℕ → Core) (t
         not_out : Open call ≡ Out → ⊥
         not_out h = cc
 
-    first_looks : IsInShape (shape_of setup) (CoreAt c) → n ≤ 4095 → LooksUp setup (e ∷ t) c (own_in (cores c).own.table n) (AtRoot (cores c).own.table n)
+    first_looks : IsInShape (shape_of setup) (CoreAt c) → n ≤ 4095
+        → LooksUp setup (e ∷ t) c (own_in (cores c).own.table n) (AtRoot (cores c).own.table n)
     first_looks is_in within = record {
       relies = subst (λ (f : ℕ). Relies (entered s c) c f) (ap (λ k. k.table) (entered_comp s c) ∙ sym (stands.each c here).works.table)
           (relies_table setup setting (e ∷ t) (stands.legal, follows is_in) c call (phase-own c e t refl));
@@ -134,7 +144,9 @@ module _ (setup : Setting) (setting : IsSetting setup) (cores : ℕ → Core) (t
     }
 
     enters_looking : is_spent (cores c).own ≡ false → n ≤ 4095 → GoodEntry looking
-    enters_looking unspent within lands = enters_on setup setting cores t stands c here (cores c).own.made call None (Undecided (Lookup (AtRoot (cores c).own.table n))) may.between may.limits lands refl refl
+    enters_looking unspent within lands =
+        enters_on setup setting cores t stands c here (cores c).own.made call None (Undecided (Lookup (AtRoot (cores c).own.table n)))
+        may.between may.limits lands refl refl
         (calm_entered s c)
         (record { begins = λ x. refl; ends = λ x. refl; flushes = refl; apart = λ d. refl; same = refl })
         (let made = (stands.each c here).works.made in let same = same_count in omega arith)
@@ -143,37 +155,50 @@ module _ (setup : Setting) (setting : IsSetting setup) (cores : ℕ → Core) (t
         tt
         (record {
           names = tt;
-          knows = subst (λ x. LooksFor setup (e ∷ t) c (cores c).own.table x (AtRoot (cores c).own.table n)) (sym next) (first_looks lands.is_in within);
+          knows = subst (λ x. LooksFor setup (e ∷ t) c (cores c).own.table x (AtRoot (cores c).own.table n)) (sym next)
+              (first_looks lands.is_in within);
         })
 
     -- by whether its number is within range
     first_may : nat_le n 4095 ≡ false → RuleMay (entered s c) c (rule_of (entered s c) c call) reply.NoSlot
-    first_may past = next_may (entered s c) c (own_pages (entered s c) c) (plan_for call) (rule_of (entered s c) c call) [] (calls_go (entered s c) c call) tt reply.NoSlot
-        (subst (λ x. NextMay (entered s c) c (own_pages (entered s c) c) x reply.NoSlot) (sym next) (past_slot (entered s c) (root_at (comp_of (entered s c) c).table) n past))
+    first_may past = next_may (entered s c) c (own_pages (entered s c) c) (plan_for call) (rule_of (entered s c) c call) []
+        (calls_go (entered s c) c call) tt reply.NoSlot
+        (subst (λ x. NextMay (entered s c) c (own_pages (entered s c) c) x reply.NoSlot) (sym next)
+        (past_slot (entered s c) (root_at (comp_of (entered s c) c).table) n past))
 
     first_cause : nat_le n 4095 ≡ false → change_of (entered s c) c call ≡ Refused reply.NoSlot
-    first_cause past = next_first (entered s c) c (own_pages (entered s c) c) (plan_for call) (rule_of (entered s c) c call) [] (calls_go (entered s c) c call) tt reply.NoSlot
+    first_cause past = next_first (entered s c) c (own_pages (entered s c) c) (plan_for call) (rule_of (entered s c) c call) []
+        (calls_go (entered s c) c call) tt reply.NoSlot
         (subst (λ x. NextRefused (entered s c) c (own_pages (entered s c) c) x reply.NoSlot) (sym next)
         (named_no_slot (entered s c) c n wanted (past_unreached (entered s c) c (root_at (comp_of (entered s c) c).table) n past)))
 
-    enters_within : is_spent (cores c).own ≡ false → (within : Bool) → nat_le n 4095 ≡ within → GoodEntry (landed (fresh call) (looks_under within (cores c).own.table n))
+    enters_within : is_spent (cores c).own ≡ false → (within : Bool) → nat_le n 4095 ≡ within
+        → GoodEntry (landed (fresh call) (looks_under within (cores c).own.table n))
     enters_within unspent true is = enters_looking unspent (leb-true n 4095 is)
     enters_within unspent false is = enters_refused unspent (first_may is) (first_cause is)
 
-    pub enters_name : is_spent (cores c).own ≡ false → GoodEntry (landed (fresh call) (next_by (cores c).own.table (fresh call)))
-    enters_name unspent = subst (λ x. GoodEntry (landed (fresh call) (next_step (cores c).own.table call [] x))) (sym next) (enters_within unspent (nat_le n 4095) refl)
+    pub enters_name : is_spent (cores c).own ≡ false → GoodEntry (landed (fresh call) (next_by (cores c).own (fresh call)))
+    enters_name unspent =
+        subst (λ x. GoodEntry (landed (fresh call) (next_step (cores c).own call [] x))) (sym next)
+        (enters_within unspent (nat_le n 4095) refl)
 
 -- a call enters
-module _ (setup : Setting) (setting : IsSetting setup) (cores : ℕ → Core) (t : Trace) (stands : Stands setup cores t) (c : ℕ) (here : c < setup.cores) where
+module _ (setup : Setting) (setting : IsSetting setup) (cores : ℕ → Core) (t : Trace) (stands : Stands setup cores t) (c : ℕ)
+    (here : c < setup.cores) where
   enters_first : (call : Call) (may : MayBegin call (cores c)) → IsBuilt call → is_spent (cores c).own ≡ false
-      → GoodEntry setup setting cores t stands c here call may (landed (fresh call) (next_by (cores c).own.table (fresh call)))
+      → GoodEntry setup setting cores t stands c here call may (landed (fresh call) (next_by (cores c).own (fresh call)))
   enters_first (look_call a) may built unspent = enters_name setup setting cores t stands c here (look_call a) may a _ refl unspent
   enters_first (Copy a u b) may built unspent = enters_name setup setting cores t stands c here (Copy a u b) may a _ refl unspent
+  enters_first (Remove u b) may built unspent = enters_name setup setting cores t stands c here (Remove u b) may u _ refl unspent
+  enters_first (Shrink u i) may built unspent = enters_name setup setting cores t stands c here (Shrink u i) may u _ refl unspent
+  enters_first (Unmap p v) may built unspent = enters_name setup setting cores t stands c here (Unmap p v) may p _ refl unspent
   enters_first _ may built unspent = absurd built
 
-  pub enter_good : (call : Call) (may : MayBegin call (cores c)) → GoodEntry setup setting cores t stands c here call may (took_enter (is_spent (cores c).own) (cores c).own.table (fresh call))
+  pub enter_good : (call : Call) (may : MayBegin call (cores c))
+      → GoodEntry setup setting cores t stands c here call may (took_enter (is_spent (cores c).own) (cores c).own (fresh call))
   enter_good call may = by_spent (is_spent (cores c).own) refl
     where
-      by_spent : (spent : Bool) → is_spent (cores c).own ≡ spent → GoodEntry setup setting cores t stands c here call may (took_enter spent (cores c).own.table (fresh call))
+      by_spent : (spent : Bool) → is_spent (cores c).own ≡ spent
+          → GoodEntry setup setting cores t stands c here call may (took_enter spent (cores c).own (fresh call))
       by_spent true is = enters_spent setup setting cores t stands c here call may is
       by_spent false is = enters_first call may may.built is

@@ -1,6 +1,9 @@
 -- At each moment the words say what the state is; and where all cores are between calls, they represent it with the cores' ends.
-use Rattle.std.proofs.Common.{◌≡◌, ◌≢◌, ◌⊎◌, inl, inr, ℕ, suc, ◌+◌, ◌<◌, true, false, List, slice_get, Option, Some, None, arith, refl, sym, ◌∙◌, ap, subst, IsTrue}
+use Rattle.std.proofs.Common.{◌≡◌, ◌≢◌, ◌⊎◌, inl, inr, ℕ, suc, ◌+◌, ◌<◌, true, false, List, [], ◌∷◌, slice_get, Option, Some, None, arith, refl, sym, ◌∙◌, ap, subst, IsTrue}
 use Rattle.std.proofs.lemmas.Bool.{cases_lt, false≢true, true≢false}
+use Rattle.std.proofs.lemmas.List.Elements.{All-nil, All-cons}
+use Rattle.std.specs.Prelude.{All}
+use Rattle.spk_nums.specs.Setting.{Setting, IsSetting}
 use Rattle.spk_nums.specs.Capability.{Capability}
 use Rattle.spk_nums.specs.declared.translations.Translation.{Translation}
 use Rattle.spk_nums.specs.declared.translations.CoreEnd.{CoreEnd}
@@ -9,25 +12,31 @@ use Rattle.entry_words.specs.EntryWord.{entry_of_word}
 use Rattle.tcap_words.specs.Quality.{quality_of_word}
 use Rattle.tcap_words.specs.Stack.{stack_of_word}
 use Rattle.frame_words.specs.declared.live_word.LiveWord.{LiveWord}
-use Rattle.word_map.specs.Word.{Word, EntryAt, FrameAt, CoreAt, LiveAt}
+use Rattle.frame_words.specs.Count.{count_of_word}
+use Rattle.frame_words.specs.declared.count_word.CountWord.{CountWord}
+use Rattle.word_map.specs.Word.{Word, EntryAt, FrameAt, CountAt, CoreAt, LiveAt}
 use Rattle.kernel_rules.specs.State.{Place, Free, Holds, Quiescing, Blank, Table, Leaf, Pages, Pleaf, Comp, Thread, Tcap, Frame, Untyped, User, Kernel, Liveness, Unused, Live, Dead, PlaceOf, NumberOf, State}
 use Rattle.kernel_rules.specs.Access.{held_in}
 use Rattle.kernel_rules.specs.Relies.{is_node as is_sound_node}
+use Rattle.kernel_rules.specs.Start.{start}
+use Rattle.kernel_history.specs.Counts.{counters, count_at, IsUnheld, RepresentCounts}
 use Rattle.kernel_history.specs.ObjectWords.{is_node, at_height}
-use Rattle.kernel_history.specs.FinalWords.{SaysPlace, AreFrame, SaysNumber, end_of as end_in}
+use Rattle.kernel_history.specs.FinalWords.{SaysPlace, AreFrame, SaysNumber, Represent, end_of as end_in}
 use Rattle.kernel_history.specs.Moments.{EntrySays, CoreSays}
-use Rattle.kernel_history.specs.Trace.{Phase, Out, Open, Decided, phase, state_after, last_left}
+use Rattle.kernel_history.specs.Trace.{Trace, Phase, Out, Open, Decided, phase, state_after, last_left}
 use Rattle.kernel_history.specs.Stamps.{is_in, stamp, exit_of}
 use Rattle.kernel_history.proofs.Inside.{inside_is}
 use Rattle.kernel_history.proofs.Stays.{sound_of}
 use Rattle.call_steps.specs.View.{Core}
 use Rattle.call_steps.specs.Cores.{end_of}
 use Rattle.kernel_history.specs.Marking.{marked_by}
-use Rattle.core_invariant.specs.Holding.{settled_by}
-use Rattle.core_invariant.specs.Words.{PlaceIs, IsFrameWord, NumberIs, WordIs}
+use Rattle.core_invariant.specs.Holding.{settled_by, settled}
+use Rattle.core_invariant.specs.Words.{PlaceIs, IsFrameWord, SaysCount, count_room, NumberIs, WordIs}
 use Rattle.core_invariant.specs.Knows.{CallIs, WorksIn}
-use Rattle.core_invariant.specs.Stands.{held_by, times_of}
-use Rattle.flight.specs.Theorems.{SaysWords, Represents}
+use Rattle.core_invariant.specs.Stands.{held_by, times_of, count_shown, Stands as Invariant}
+use Rattle.flight.specs.Theorems.{SaysWords, AreBetween, Represents, RepresentsCounts}
+use Rattle.core_invariant.proofs.CountSums.{sum_same}
+use Rattle.core_invariant.proofs.Sounds.{limits_of}
 use Rattle.core_invariant.proofs.Markers.{marker_inside}
 use Rattle.core_invariant.proofs.Places.{IsMarked, IsPlain, place_reads}
 
@@ -80,9 +89,11 @@ says_words setup setting cores t stands = record { entries = entries; cores = co
         by_read (inl m) = inr (record {
           by = m.by;
           says = m.says;
-          in_call = inside_phase (phase t m.by) (sym (inside_is setup t m.by) ∙ marker_inside setup cores t stands (EntryAt f i) m.by m.mark);
+          in_call = inside_phase (phase t m.by) (sym (inside_is setup t m.by) ∙ marker_inside setup cores t stands (EntryAt f i) m.by
+              m.mark);
         })
-        by_read (inr p) = inl (says_place setup.frames ((state_after setup t).place f i) (stamp setup t (PlaceOf f i)) (entry_of_word (last_left setup t (EntryAt f i))) p.says)
+        by_read (inr p) = inl (says_place setup.frames ((state_after setup t).place f i) (stamp setup t (PlaceOf f i))
+            (entry_of_word (last_left setup t (EntryAt f i))) p.says)
 
     core_says : (c : ℕ) → c < setup.cores → CoreSays setup t c
     core_says c here = record {
@@ -98,7 +109,8 @@ next : (i : ℕ) → suc i ≡ 1 + i
 next i = omega arith
 
 -- The words of a frame, as those of its object.
-frame_parts : (n : ℕ) (x : Frame) (p : ℕ → Place) (r word : ℕ → ℕ) → ((i : ℕ) → IsFrameWord n x (p i) (r i) i (word i)) → AreFrame x p word
+frame_parts : (n : ℕ) (x : Frame) (p : ℕ → Place) (r word : ℕ → ℕ) → ((i : ℕ) → IsFrameWord n x (p i) (r i) i (word i))
+    → AreFrame x p word
 frame_parts n Untyped p r word h = tt
 frame_parts n User p r word h = tt
 frame_parts n (Kernel Blank) p r word h = tt
@@ -114,7 +126,8 @@ frame_parts n (Kernel (Thread t)) p r word h = record {
 frame_parts n (Kernel (Tcap q)) p r word h = let head = h 0 in record {
   version = head.version;
   head = head.says;
-  list = λ i below. subst (λ (j : ℕ). quality_of_word (word j) ≡ Some (record { 0 = slice_get q.qualities i })) (next i) (h (suc i) below);
+  list = λ i below. subst (λ (j : ℕ). quality_of_word (word j) ≡ Some (record { 0 = slice_get q.qualities i })) (next i)
+      (h (suc i) below);
   most = head.most;
 }
 
@@ -125,7 +138,8 @@ none_held (Holds k) h = absurd (h k refl)
 none_held (Quiescing k) h = refl
 
 end_with : ℕ → ℕ → ℕ → ℕ → ℕ → List Translation → CoreEnd
-end_with thread tcap comp spent owed cached = record { thread = thread; tcap = tcap; comp = comp; spent = spent; owed = owed; cached = cached }
+end_with thread tcap comp spent owed cached =
+    record { thread = thread; tcap = tcap; comp = comp; spent = spent; owed = owed; cached = cached }
 
 pub ends_are : (core : Core) (s : State) (c : ℕ) → WorksIn core.own s c → end_of core ≡ end_in s c
 unfolding end_with
@@ -137,42 +151,68 @@ ends_are core s c is =
     ∙ ap (λ (x : ℕ). end_with (s.core c).thread (s.core c).tcap (end_in s c).comp (s.core c).spent x core.own.cached) is.owed
     ∙ ap (λ x. end_with (s.core c).thread (s.core c).tcap (end_in s c).comp (s.core c).spent (s.core c).owed x) is.cached
 
+module _ (setup : Setting) (setting : IsSetting setup) (cores : ℕ → Core) (t : Trace) (stands : Invariant setup cores t)
+    (between : AreBetween setup cores) where
+  limits : (state_after setup t).limits ≡ (start setup).limits
+  limits = limits_of setup t
+
+  works : (c : ℕ) → c < (state_after setup t).limits.cores → WorksIn (cores c).own (state_after setup t) c
+  works c here = (stands.each c (subst (λ (n : ℕ). c < n) (ap (λ l. l.cores) limits) here)).works
+
+  out : (c : ℕ) → phase t c ≡ Out
+  out c = elim (cases_lt c setup.cores) [
+    | inl here ↦ subst (CallIs setup t c (cores c).own.table) (between c here) (stands.each c here).active
+    | inr past ↦ (stands.away c past).out
+  ]
+
+  outside : (c : ℕ) → ((state_after setup t).core c).inside ≡ false
+  outside c = inside_is setup t c ∙ ap is_in (out c)
+
+  unmarked : (w : Word) (o : Option ℕ) → marked_by setup t w ≡ o → marked_by setup t w ≡ None
+  unmarked w None is = is
+  unmarked w (Some d) is = absurd (true≢false (sym (marker_inside setup cores t stands w d is) ∙ outside d))
+
+  -- each word stands for itself
+  settled_is : (w : Word) → settled setup (held_by cores) t w ≡ last_left setup t w
+  settled_is w = ap (λ o. settled_by o (held_by cores) w (last_left setup t w)) (unmarked w (marked_by setup t w) refl)
+
+  word_is : (w : Word) → WordIs (state_after setup t) (times_of setup t) w (last_left setup t w)
+  word_is w = subst (WordIs (state_after setup t) (times_of setup t) w) (settled_is w) (stands.words w)
+
+  words_represent : Represent (last_left setup t) (λ c. end_of (cores c)) (state_after setup t)
+  words_represent = record {
+    objects = λ f here. frame_parts (state_after setup t).limits.frames ((state_after setup t).frame f) ((state_after setup t).place f)
+        (λ i. stamp setup t (PlaceOf f i)) (λ i. last_left setup t (EntryAt f i))
+        (λ i. word_is (EntryAt f i));
+    bare = λ f here none i below. none_held ((state_after setup t).place f i)
+        (λ k h. node_sound ((state_after setup t).frame f) ((sound_of setup setting t stands.legal).bare f i k h).0 none);
+    kinds = λ f here. word_is (FrameAt f);
+    numbers = λ l here. says_number ((state_after setup t).number l) (stamp setup t (NumberOf l)) _ (word_is (LiveAt l));
+    cores = λ c here. record {
+      stamp = exit_of t c;
+      says = stands.words (CoreAt c) ∙ ap
+          (λ b. Some (record { inside = b; stamp = exit_of t c })) (outside c);
+    };
+    ends = λ c here. ends_are (cores c) (state_after setup t) c (works c here);
+  }
+
+  unheld_is : (o : Option CountWord) (n : ℕ) → SaysCount n o → IsUnheld o
+  unheld_is o n says = subst IsUnheld (sym says.says) refl
+
+  every : (f : ℕ) (ds : List ℕ) → All (λ d. IsUnheld (count_at (last_left setup t) f d)) ds
+  every f [] = All-nil (λ d. IsUnheld (count_at (last_left setup t) f d))
+  every f (d ∷ ds) = All-cons (λ d. IsUnheld (count_at (last_left setup t) f d)) d ds
+      (unheld_is (count_at (last_left setup t) f d) (count_room (state_after setup t)) (word_is (CountAt f d))) (every f ds)
+
+  counts_represent : RepresentCounts (last_left setup t) (state_after setup t)
+  counts_represent f here = record {
+    unheld = every f (counters (state_after setup t).limits.cores);
+    sum = sum_same (count_shown setup (held_by cores) t f) (count_at (last_left setup t) f) (counters (state_after setup t).limits.cores)
+        (λ d. sym (ap count_of_word (settled_is (CountAt f d)))) ∙ (stands.sums f).sum;
+  }
+
 pub represents : Represents
-represents setup setting cores t stands between = record {
-  objects = λ f here. frame_parts (state_after setup t).limits.frames ((state_after setup t).frame f) ((state_after setup t).place f) (λ i. stamp setup t (PlaceOf f i)) (λ i. last_left setup t (EntryAt f i))
-      (λ i. word_is (EntryAt f i));
-  bare = λ f here none i below. none_held ((state_after setup t).place f i) (λ k h. node_sound ((state_after setup t).frame f) ((sound_of setup setting t stands.legal).bare f i k h).0 none);
-  kinds = λ f here. word_is (FrameAt f);
-  numbers = λ l here. says_number ((state_after setup t).number l) (stamp setup t (NumberOf l)) _ (word_is (LiveAt l));
-  cores = λ c here. record { stamp = exit_of t c; says = stands.words (CoreAt c) ∙ ap (λ b. Some (record { inside = b; stamp = exit_of t c })) (outside c) };
-  ends = λ c here. ends_are (cores c) (state_after setup t) c (works c here);
-}
-  where
-    limits : (state_after setup t).limits ≡ (Rattle.kernel_rules.specs.Start.start setup).limits
-    limits = Rattle.core_invariant.proofs.Sounds.limits_of setup t
+represents setup setting cores t stands between = words_represent setup setting cores t stands between
 
-    works : (c : ℕ) → c < (state_after setup t).limits.cores → WorksIn (cores c).own (state_after setup t) c
-    works c here = (stands.each c (subst (λ (n : ℕ). c < n) (ap (λ l. l.cores) limits) here)).works
-
-    idle : (c : ℕ) → (cores c).active ≡ None
-    idle c = elim (cases_lt c setup.cores) [
-      | inl here ↦ between c here
-      | inr past ↦ (stands.away c past).idle
-    ]
-
-    out : (c : ℕ) → phase t c ≡ Out
-    out c = elim (cases_lt c setup.cores) [
-      | inl here ↦ subst (CallIs setup t c (cores c).own.table) (between c here) (stands.each c here).active
-      | inr past ↦ (stands.away c past).out
-    ]
-
-    outside : (c : ℕ) → ((state_after setup t).core c).inside ≡ false
-    outside c = inside_is setup t c ∙ ap is_in (out c)
-
-    unmarked : (w : Word) (o : Option ℕ) → marked_by setup t w ≡ o → marked_by setup t w ≡ None
-    unmarked w None is = is
-    unmarked w (Some d) is = absurd (true≢false (sym (marker_inside setup cores t stands w d is) ∙ outside d))
-
-    word_is : (w : Word) → WordIs (state_after setup t) (times_of setup t) w (last_left setup t w)
-    word_is w = subst (λ o. WordIs (state_after setup t) (times_of setup t) w (settled_by o (held_by cores) w (last_left setup t w)))
-        (unmarked w (marked_by setup t w) refl) (stands.words w)
+pub represents_counts : RepresentsCounts
+represents_counts setup setting cores t stands between = counts_represent setup setting cores t stands between

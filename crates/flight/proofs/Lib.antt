@@ -5,6 +5,7 @@ pub mod Boot
 pub mod Advance
 pub mod Final
 pub mod Made
+pub mod Places
 pub mod Phases
 pub mod ByPlace
 pub mod AfterStep

@@ -2,36 +2,47 @@
 use Rattle.std.proofs.Common.{◌≡◌, ℕ, [], ◌∷◌, sym, ◌∙◌, ap, subst}
 use Rattle.spk_nums.specs.Setting.{Setting, IsSetting}
 use Rattle.word_map.specs.Moves.{word_of}
-use Rattle.kernel_rules.specs.State.{put}
 use Rattle.kernel_history.specs.Moments.{WordsSayAlong}
 use Rattle.kernel_history.specs.Trace.{Step, Trace, last_left}
 use Rattle.flight.specs.Made.{step_of, core_after, cores_after, core_at, IsMadeStep, IsMade}
 use Rattle.flight.specs.Histories.{MadeHistories}
+use Rattle.kernel_history.specs.Graces.{KeepsTime}
 use Rattle.core_invariant.specs.Stands.{Stands}
+use Rattle.core_invariant.proofs.Good.{IsGood, stands_on}
 use Rattle.flight.specs.Theorems.{found_by, MadeStands}
 use Rattle.flight.proofs.Boot.{boots}
-use Rattle.flight.proofs.Advance.{steps_on}
+use Rattle.flight.proofs.Advance.{good_on}
 use Rattle.flight.proofs.Final.{says_words}
 
 -- What a made step found is what its core finds.
 pub finds : (setup : Setting) (t : Trace) (e : Step) → IsMadeStep setup t e → e.found ≡ found_by setup t (core_at setup t e)
 finds setup t e step = step.found ∙ ap (λ m. last_left setup t (word_of m)) (ap (λ (x : Step). x.move) step.made)
 
--- The cores that stand for a trace stand for it with a made step.
-one_more : (setup : Setting) → IsSetting setup → (t : Trace) (e : Step) → IsMadeStep setup t e → Stands setup (cores_after setup t) t → Stands setup (cores_after setup (e ∷ t)) (e ∷ t)
-one_more setup lim t e step stands = subst (λ (x : Step). Stands setup (cores_after setup (e ∷ t)) (x ∷ t)) (sym step.made)
-    (subst Goal (sym (finds setup t e step)) (steps_on setup lim (cores_after setup t) t stands e.core step.is_core e.enters step.may))
+-- A made step is good.
+made_good : (setup : Setting) → IsSetting setup → (t : Trace) (e : Step) → IsMadeStep setup t e → Stands setup (cores_after setup t) t
+    → IsGood setup (cores_after setup t) t e (core_after (core_at setup t e) e.found)
+made_good setup lim t e step stands =
+    subst (λ (x : Step). IsGood setup (cores_after setup t) t x (core_after (core_at setup t e) e.found)) (sym step.made)
+    (subst Goal (sym (finds setup t e step)) (good_on setup lim (cores_after setup t) t stands e.core step.is_core e.enters step.may))
   where
     Goal : ℕ → Type 0
-    Goal found = Stands setup (put (cores_after setup t) e.core (core_after (core_at setup t e) found)) (step_of e.core e.enters (core_at setup t e) found ∷ t)
+    Goal found =
+        IsGood setup (cores_after setup t) t (step_of e.core e.enters (core_at setup t e) found) (core_after (core_at setup t e) found)
 
 pub made_stands : MadeStands
 made_stands setup lim [] made = boots setup lim
-made_stands setup lim (e ∷ t) made = one_more setup lim t e made.1 (made_stands setup lim t made.0)
+made_stands setup lim (e ∷ t) made =
+    let stands = made_stands setup lim t made.0 in
+    stands_on setup lim (cores_after setup t) t stands e (core_after (core_at setup t e) e.found) (made_good setup lim t e made.1 stands)
+
+-- A made step keeps time.
+pub made_times : (setup : Setting) → IsSetting setup → (t : Trace) (e : Step) → IsMade setup (e ∷ t) → KeepsTime setup t e
+made_times setup lim t e made = (made_good setup lim t e made.1 (made_stands setup lim t made.0)).time
 
 says_along : (setup : Setting) → IsSetting setup → (t : Trace) → IsMade setup t → WordsSayAlong setup t
 says_along setup lim [] made = says_words setup lim (cores_after setup []) [] (made_stands setup lim [] made)
-says_along setup lim (e ∷ t) made = (says_along setup lim t made.0, says_words setup lim (cores_after setup (e ∷ t)) (e ∷ t) (made_stands setup lim (e ∷ t) made))
+says_along setup lim (e ∷ t) made =
+    (says_along setup lim t made.0, says_words setup lim (cores_after setup (e ∷ t)) (e ∷ t) (made_stands setup lim (e ∷ t) made))
 
 pub made_histories : MadeHistories
 made_histories setup lim t made =

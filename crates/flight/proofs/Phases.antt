@@ -1,5 +1,5 @@
 -- After a trace that is the machine's, each core stands in its phase: a step of a call moves both alike.
-use Rattle.std.proofs.Common.{◌≡◌, ◌≢◌, ℕ, ◌<◌, ◌≤◌, arith, Bool, true, false, List, [], ◌∷◌, Option, Some, None, inl, inr, refl, sym, ◌∙◌, ap, subst}
+use Rattle.std.proofs.Common.{◌≡◌, ◌≢◌, ℕ, ◌<◌, arith, true, List, [], ◌∷◌, Option, Some, None, inl, inr, refl, sym, ◌∙◌, ap, subst}
 use Rattle.std.specs.Prelude.{IsSome, is_some}
 use Rattle.std.proofs.lemmas.Bool.{cases_eq, false≢true}
 use Rattle.spk_nums.specs.declared.calls.Call.{Call}
@@ -20,7 +20,7 @@ use Rattle.spk_nums.specs.Capability.{Capability}
 use Rattle.call_plans.specs.declared.plans.Plan.{Plan}
 use Rattle.core_invariant.specs.Events.{decided_in, returned_in}
 use Rattle.flight.specs.Decided.{is_decided_at, is_decided_in, Turns}
-use Rattle.flight.specs.Made.{turned, MayStep, core_after, cores_after, core_at, IsMade, IsMadeStep}
+use Rattle.flight.specs.Made.{turned, MayStep, core_after, cores_after, core_at, IsMadeStep}
 use Rattle.flight.specs.Phases.{IsInPhase, MadePhases, MadeOfItsCores, AreEvents, MadeEvents, DecidedIsReady}
 use Rattle.call_steps.specs.declared.stages.ActiveCall.{ActiveCall}
 use Rattle.call_steps.specs.declared.stages.Stage.{Stage}
@@ -48,7 +48,7 @@ is_decided_inside (decided_phase call r) is = λ e. cc
 decided_by : (s : Stage) → is_decided_at s ≡ is_some (reply_at s)
 decided_by Enter = refl
 decided_by (Undecided work) = refl
-decided_by (Decided r tail) = refl
+decided_by (Decided r drawn tail) = refl
 decided_by (Leave r x) = refl
 
 turns_by : (s : Stage) (k : Took) → laws.Turns (reply_at s) k → Turns (is_decided_at s) k
@@ -84,7 +84,8 @@ took_phase own f p (Returns r x) turns is = record {
 }
 
 in_flight : (own : Own) (o : Option ActiveCall) (p : Phase) (found : ℕ) → IsSome o → ((f : ActiveCall) → o ≡ Some f → IsInCall f p)
-    → IsInPhase (absorbed_in own o found) (after_return (returned_in (told_in own o found)) (after_decide (decided_in (told_in own o found)) p))
+    → IsInPhase (absorbed_in own o found) (after_return (returned_in (told_in own o found))
+    (after_decide (decided_in (told_in own o found)) p))
 in_flight own None p found some is = absurd (cc)
 in_flight own (Some f) p found some is = took_phase own f p (took own f found) (took_turns own f found) (is f refl)
 
@@ -96,9 +97,11 @@ inside_of core p is f at = record {
 }
 
 fresh_inside : (call : Call) (f : ActiveCall) → Some (fresh call) ≡ Some f → IsInCall f (Open call)
-fresh_inside call f at = subst (λ g. IsInCall g (Open call)) (same at) (record { inside = λ e. cc; decided = λ h. absurd (cc); was_decided = λ h. absurd h }) where
-  same : Some (fresh call) ≡ Some f → fresh call ≡ f
-  same e = cc
+fresh_inside call f at =
+    subst (λ g. IsInCall g (Open call)) (same at) (record { inside = λ e. cc; decided = λ h. absurd (cc); was_decided = λ h. absurd h })
+  where
+    same : Some (fresh call) ≡ Some f → fresh call ≡ f
+    same e = cc
 
 -- A core that makes a step stands in the phase after it, where it stood in that before.
 steps_phase : (core : Core) (p : Phase) (enters : Option Call) (found : ℕ) → IsInPhase core p → MayStep enters core
@@ -108,32 +111,40 @@ steps_phase : (core : Core) (p : Phase) (enters : Option Call) (found : ℕ) →
 steps_phase core p None found is may = in_flight core.own core.active p found may (inside_of core p is)
 steps_phase core p (Some call) found is may = in_flight core.own (Some (fresh call)) (Open call) found refl (fresh_inside call)
 
-module _ (setup : Setting) (t : Trace) (e : Step) (step : IsMadeStep setup t e) (before : (c : ℕ) → c < setup.cores → IsInPhase (cores_after setup t c) (phase t c)) where
+module _ (setup : Setting) (t : Trace) (e : Step) (step : IsMadeStep setup t e)
+    (before : (c : ℕ) → c < setup.cores → IsInPhase (cores_after setup t c) (phase t c)) where
   abbrev told_here : ℕ
   told_here = told_of (move_of (core_at setup t e)) e.found
 
   own : IsInPhase (core_after (core_at setup t e) e.found) (phase (e ∷ t) e.core)
   own =
       let is = steps_phase (cores_after setup t e.core) (phase t e.core) e.enters told_here (before e.core step.is_core) step.may in
-      let decides : decided_in (told_in (core_at setup t e).own (core_at setup t e).active told_here) ≡ e.decides = sym (ap (λ x. x.decides) step.made) in
-      let returns : returned_in (told_in (core_at setup t e).own (core_at setup t e).active told_here) ≡ e.returns = sym (ap (λ x. x.returns) step.made) in
+      let decides : decided_in (told_in (core_at setup t e).own (core_at setup t e).active told_here) ≡ e.decides = sym
+      (ap (λ x. x.decides) step.made) in
+      let returns : returned_in (told_in (core_at setup t e).own (core_at setup t e).active told_here) ≡ e.returns = sym
+      (ap (λ x. x.returns) step.made) in
       subst (λ p. IsInPhase (core_after (core_at setup t e) e.found) p) (sym (phase-own e.core e t refl))
-      (subst (λ r. IsInPhase (core_after (core_at setup t e) e.found) (after_return r (after_decide e.decides (after_enter e.enters (phase t e.core))))) returns
+      (subst (λ r. IsInPhase (core_after (core_at setup t e) e.found)
+      (after_return r (after_decide e.decides (after_enter e.enters (phase t e.core))))) returns
       (subst (λ d. IsInPhase (core_after (core_at setup t e) e.found)
-      (after_return (returned_in (told_in (core_at setup t e).own (core_at setup t e).active told_here)) (after_decide d (after_enter e.enters (phase t e.core))))) decides is))
+      (after_return (returned_in (told_in (core_at setup t e).own (core_at setup t e).active told_here))
+      (after_decide d (after_enter e.enters (phase t e.core))))) decides is))
 
   pub phases_on : (c : ℕ) → c < setup.cores → IsInPhase (cores_after setup (e ∷ t) c) (phase (e ∷ t) c)
   phases_on c here = elim (cases_eq c e.core) [
     | inl same ↦
-        subst (λ core. IsInPhase core (phase (e ∷ t) c)) (sym (put_same (cores_after setup t) e.core (core_after (core_at setup t e) e.found) c same))
+        subst (λ core. IsInPhase core (phase (e ∷ t) c)) (sym (put_same (cores_after setup t) e.core
+        (core_after (core_at setup t e) e.found) c same))
         (subst (λ (i : ℕ). IsInPhase (core_after (core_at setup t e) e.found) (phase (e ∷ t) i)) (sym same) own)
     | inr other ↦
-        subst (λ core. IsInPhase core (phase (e ∷ t) c)) (sym (put_other (cores_after setup t) e.core (core_after (core_at setup t e) e.found) c other))
+        subst (λ core. IsInPhase core (phase (e ∷ t) c)) (sym (put_other (cores_after setup t) e.core
+        (core_after (core_at setup t e) e.found) c other))
         (subst (λ p. IsInPhase (cores_after setup t c) p) (sym (phase-other c e t other)) (before c here))
   ]
 
 pub made_phases : MadePhases
-made_phases setup setting [] made c here = record { out = λ none. refl; in_call = λ some. absurd (some refl); decided = λ h. absurd (cc); was_decided = λ h. absurd h }
+made_phases setup setting [] made c here =
+    record { out = λ none. refl; in_call = λ some. absurd (some refl); decided = λ h. absurd (cc); was_decided = λ h. absurd h }
 made_phases setup setting (e ∷ t) made c here = phases_on setup t e made.1 (made_phases setup setting t made.0) c here
 
 -- What a step led to, and its events.
@@ -159,7 +170,8 @@ took_events own f (Returns r x) turns = record {
 }
 
 events_in : (own : Own) (o : Option ActiveCall) (found : ℕ) → IsSome o
-    → AreEvents (record { own = own; active = o }) (absorbed_in own o found) (decided_in (told_in own o found)) (returned_in (told_in own o found))
+    → AreEvents (record { own = own; active = o }) (absorbed_in own o found) (decided_in (told_in own o found))
+    (returned_in (told_in own o found))
 events_in own None found some = absurd (cc)
 events_in own (Some f) found some = took_events own f (took own f found) (took_turns own f found)
 
@@ -180,7 +192,7 @@ made_events setup t e step =
 stage_decided : (plan : Plan) (found : List Capability) (s : Stage) → is_decided_at s ≡ true → ready_at plan found s ≡ true
 stage_decided plan found Enter h = absurd (cc)
 stage_decided plan found (Undecided work) h = absurd (cc)
-stage_decided plan found (Decided r tail) h = refl
+stage_decided plan found (Decided r drawn tail) h = refl
 stage_decided plan found (Leave r x) h = refl
 
 flight_decided : (o : Option ActiveCall) → is_decided_in o ≡ true → ready_in o ≡ true

@@ -7,16 +7,34 @@ use Rattle.stage_look.specs.Lookup.{look_move}
 use Rattle.stage_look.specs.declared.look.Look.{Look}
 use Rattle.stage_look.specs.declared.look.Look.TheVariants.{AtRoot, AtLeaf, AtEntry}
 use Rattle.stage_look.proofs.LookLemmas.{look_is_in}
-use Rattle.call_steps.specs.Fits.{StageFits, CallFits}
+use Rattle.call_steps.specs.Fits.{TailFits, StageFits, CallFits}
 use Rattle.call_steps.specs.Cores.{move_in}
 use Rattle.call_steps.specs.declared.own.Own.{Own}
 use Rattle.call_steps.specs.declared.stages.Act.{Act}
-use Rattle.call_steps.specs.declared.stages.Act.TheVariants.{Fill}
-use Rattle.call_steps.specs.declared.stages.Work.TheVariants.{Lookup, Act as act_work}
+use Rattle.call_steps.specs.declared.stages.Act.TheVariants.{Fill, Remove}
+use Rattle.call_steps.specs.declared.stages.Work.TheVariants.{Lookup, Scan, Acquire, Act as act_work}
 use Rattle.call_steps.specs.declared.stages.Tail.{Tail}
-use Rattle.call_steps.specs.declared.stages.Tail.TheVariants.{Nothing}
+use Rattle.call_steps.specs.declared.stages.Tail.TheVariants.{Nothing, Quiesce}
 use Rattle.call_steps.specs.Acts.{ActFits, act_move}
 use Rattle.call_steps.specs.Tails.{tail_move}
+use Rattle.std.specs.Prelude.{List, [], ◌∷◌}
+use Rattle.std.proofs.lemmas.List.Elements.{All-head}
+use Rattle.spk_nums.specs.declared.replies.Reply.{Reply}
+use Rattle.stage_pins.specs.declared.pin.Pin.{Pin}
+use Rattle.stage_pins.specs.declared.pin.Pin.TheVariants.{AtLoad, AtCompare}
+use Rattle.stage_pins.specs.declared.held.Acquired.{Acquired}
+use Rattle.stage_pins.specs.Acquire.{pin_move}
+use Rattle.stage_pins.specs.Held.{commit_of, AcquiredFits, AllFit}
+use Rattle.stage_pins.proofs.PinLemmas.{pin_is_in, settle_is_in}
+use Rattle.stage_pins.proofs.HeldLemmas.{commit_fits}
+use Rattle.stage_quiet.specs.declared.close.Close.{Close}
+use Rattle.stage_quiet.specs.declared.close.Close.TheVariants.{AtCompare as close_compare, AtDraw, AtStore}
+use Rattle.stage_quiet.specs.declared.quiet.Quiet.{Quiet}
+use Rattle.stage_quiet.specs.declared.quiet.Quiet.TheVariants.{AtCore, AtFlush}
+use Rattle.stage_quiet.specs.Removal.{close_move}
+use Rattle.stage_quiet.specs.Scan.{quiet_move}
+use Rattle.stage_quiet.proofs.QuietLemmas.{quiet_is_in, close_is_in}
+use Rattle.call_steps.specs.Tails.{is_ok}
 use Rattle.call_steps.specs.Steps.{stage_move}
 use Rattle.flight.specs.Phases.{IsWord, MovesAreWords}
 use Rattle.call_steps.specs.declared.stages.ActiveCall.{ActiveCall}
@@ -28,38 +46,73 @@ look_named (AtRoot root number) = refl
 look_named (AtLeaf leaf number) = refl
 look_named (AtEntry root index) = refl
 
+quiet_named : (q : Quiet) → shared (word_of (quiet_move q)) ≡ word_of (quiet_move q)
+quiet_named (AtCore stamp core at page) = refl
+quiet_named (AtFlush stamp at) = refl
+
+close_named : (close : Close) → shared (word_of (close_move close)) ≡ word_of (close_move close)
+close_named (close_compare node entry word core) = refl
+close_named (AtDraw node entry) = refl
+close_named (AtStore node entry stamp) = refl
+
 act_named : (act : Act) → shared (word_of (act_move act)) ≡ word_of (act_move act)
 act_named (Fill fill) = refl
+act_named (Remove close cap) = close_named close
 
-tail_named : (tail : Tail) → shared (word_of (tail_move tail)) ≡ word_of (tail_move tail)
-tail_named Nothing = refl
+-- a count's word is that of its core's counter
+pin_named : (pin : Pin) → shared (word_of (pin_move pin)) ≡ word_of (pin_move pin)
+pin_named (AtLoad frame core) = refl
+pin_named (AtCompare frame core count stamp) = refl
 
-pub stage_named : (own : Own) (s : Stage) → shared (word_of (stage_move own s)) ≡ word_of (stage_move own s)
-stage_named own Enter = refl
-stage_named own (Undecided (Lookup look)) = look_named look
-stage_named own (Undecided (act_work act)) = act_named act
-stage_named own (Decided r tail) = tail_named tail
-stage_named own (Leave r x) = refl
+tail_named : (r : Reply) (drawn : Option ℕ) (tail : Tail) (counts : List Acquired)
+    → shared (word_of (tail_move r drawn tail counts)) ≡ word_of (tail_move r drawn tail counts)
+tail_named r drawn (Quiesce close) counts = close_named close
+tail_named r drawn Nothing [] = refl
+tail_named r drawn Nothing (x ∷ xs) = refl
+
+pub stage_named : (own : Own) (counts : List Acquired) (s : Stage)
+    → shared (word_of (stage_move own counts s)) ≡ word_of (stage_move own counts s)
+stage_named own counts Enter = refl
+stage_named own counts (Undecided (Lookup look)) = look_named look
+stage_named own counts (Undecided (Scan q act)) = quiet_named q
+stage_named own counts (Undecided (Acquire pin change act)) = pin_named pin
+stage_named own counts (Undecided (act_work act)) = act_named act
+stage_named own counts (Decided r drawn tail) = tail_named r drawn tail counts
+stage_named own counts (Leave r x) = refl
 
 act_in : (shape : Shape) (act : Act) → ActFits shape act → IsIn shape (word_of (act_move act))
 act_in shape (Fill fill) fits = (fits.node, fits.entry)
+act_in shape (Remove close cap) fits = close_is_in shape close fits.0
 
-tail_in : (shape : Shape) (tail : Tail) → IsIn shape (word_of (tail_move tail))
-tail_in shape Nothing = tt
+tail_in : (shape : Shape) (r : Reply) (drawn : Option ℕ) (tail : Tail) (counts : List Acquired) → TailFits shape tail
+    → AllFit shape counts
+    → IsIn shape (word_of (tail_move r drawn tail counts))
+tail_in shape r drawn (Quiesce close) counts fits fit = close_is_in shape close fits
+tail_in shape r drawn Nothing [] fits fit = tt
+tail_in shape r drawn Nothing (x ∷ xs) fits fit =
+    settle_is_in shape (commit_of (is_ok r) drawn x) (commit_fits shape (is_ok r) drawn x (All-head (AcquiredFits shape) x xs fit))
 
-stage_in : (own : Own) (s : Stage) → own.core < own.layout.cores → StageFits own.layout s → IsIn own.layout (word_of (stage_move own s))
-stage_in own Enter here fits = here
-stage_in own (Undecided (Lookup look)) here fits = look_is_in own.layout look fits
-stage_in own (Undecided (act_work act)) here fits = act_in own.layout act fits
-stage_in own (Decided r tail) here fits = tail_in own.layout tail
-stage_in own (Leave r x) here fits = here
+stage_in : (own : Own) (counts : List Acquired) (s : Stage) → own.core < own.layout.cores → AllFit own.layout counts
+    → StageFits own.layout s
+    → IsIn own.layout (word_of (stage_move own counts s))
+stage_in own counts Enter here acquired fits = here
+stage_in own counts (Undecided (Lookup look)) here acquired fits = look_is_in own.layout look fits
+stage_in own counts (Undecided (Scan q act)) here acquired fits = quiet_is_in own.layout q fits.0
+stage_in own counts (Undecided (Acquire pin change act)) here acquired fits = pin_is_in own.layout pin fits.0
+stage_in own counts (Undecided (act_work act)) here acquired fits = act_in own.layout act fits
+stage_in own counts (Decided r drawn tail) here acquired fits = tail_in own.layout r drawn tail counts fits acquired
+stage_in own counts (Leave r x) here acquired fits = here
 
-pub stage_word : (own : Own) (s : Stage) → own.core < own.layout.cores → StageFits own.layout s → IsWord own.layout (word_of (stage_move own s))
-stage_word own s here fits = record { is_in = stage_in own s here fits; is_named = stage_named own s }
+pub stage_word : (own : Own) (counts : List Acquired) (s : Stage) → own.core < own.layout.cores → AllFit own.layout counts
+    → StageFits own.layout s
+    → IsWord own.layout (word_of (stage_move own counts s))
+stage_word own counts s here acquired fits =
+    record { is_in = stage_in own counts s here acquired fits; is_named = stage_named own counts s }
 
-move_word : (own : Own) (o : Option ActiveCall) → own.core < own.layout.cores → CallFits own o → IsSome o → IsWord own.layout (word_of (move_in own o))
+move_word : (own : Own) (o : Option ActiveCall) → own.core < own.layout.cores → CallFits own o → IsSome o
+    → IsWord own.layout (word_of (move_in own o))
 move_word own None here fits some = absurd (cc)
-move_word own (Some a) here fits some = stage_word own a.stage here fits.stage
+move_word own (Some a) here fits some = stage_word own a.counts a.stage here fits.acquired fits.stage
 
 pub moves_are_words : MovesAreWords
 moves_are_words core fits some = move_word core.own core.active fits.own.core fits.active some

@@ -9,7 +9,7 @@ use Rattle.call_steps.specs.Steps.{Took, GoesOn, Decides, Returns}
 abbrev pub is_decided_at : Stage → Bool
 is_decided_at Enter = false
 is_decided_at (Undecided work) = false
-is_decided_at (Decided r tail) = true
+is_decided_at (Decided r drawn tail) = true
 is_decided_at (Leave r x) = true
 
 -- Whether there is a call that is decided.

@@ -2,4 +2,5 @@ pub mod Made
 pub mod Histories
 pub mod Decided
 pub mod Theorems
+pub mod Places
 pub mod Phases

@@ -5,7 +5,6 @@ use Rattle.supported_calls.specs.Built.{IsBuilt}
 use Rattle.spk_nums.specs.CallLimits.{InLimits}
 use Rattle.spk_nums.specs.Setting.{Setting}
 use Rattle.spk_nums.specs.declared.calls.Call.{Call}
-use Rattle.spk_nums.specs.declared.replies.Reply.{Reply}
 use Rattle.word_map.specs.Moves.{Move, word_of, told_of}
 use Rattle.kernel_rules.specs.State.{put}
 use Rattle.kernel_history.specs.Trace.{Step, Trace, last_left}

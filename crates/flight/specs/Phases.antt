@@ -31,7 +31,8 @@ pub record IsInPhase (core : Core) (p : Phase) : Type 0 where
 
 -- After a trace that is the machine's, each core stands in its phase.
 abbrev pub MadePhases : Type 0
-MadePhases = (setup : Setting) → IsSetting setup → (t : Trace) → IsMade setup t → (c : ℕ) → c < setup.cores → IsInPhase (cores_after setup t c) (phase t c)
+MadePhases = (setup : Setting) → IsSetting setup → (t : Trace) → IsMade setup t → (c : ℕ) → c < setup.cores → IsInPhase
+    (cores_after setup t c) (phase t c)
 
 -- No step of the trace is of this core.
 pub record IsNoneOf (t : Trace) (c : ℕ) : Type 0 where
@@ -52,7 +53,8 @@ pub record AreEvents (before after : Core) (decides returns : Option Reply) : Ty
 
 -- The events of a step of the machine are those of its core.
 abbrev pub MadeEvents : Type 0
-MadeEvents = (setup : Setting) (t : Trace) (e : Step) → IsMadeStep setup t e → AreEvents (core_at setup t e) (core_after (core_at setup t e) e.found) e.decides e.returns
+MadeEvents = (setup : Setting) (t : Trace) (e : Step) → IsMadeStep setup t e → AreEvents (core_at setup t e)
+    (core_after (core_at setup t e) e.found) e.decides e.returns
 
 -- A core whose call is decided is ready.
 abbrev pub DecidedIsReady : Type 0

@@ -1,14 +1,15 @@
 -- What is proved of the cores that stand for a trace.
-use Rattle.std.specs.Prelude.{Bool, ◌≡◌, ◌<◌, ℕ, true, false, [], ◌∷◌, Option, Some, None, IsSome}
+use Rattle.std.specs.Prelude.{◌≡◌, ◌<◌, ℕ, [], ◌∷◌, Option, None}
 use Rattle.spk_nums.specs.Setting.{Setting, IsSetting}
 use Rattle.spk_nums.specs.declared.calls.Call.{Call}
 use Rattle.word_map.specs.Moves.{word_of}
 use Rattle.kernel_rules.specs.State.{put}
 use Rattle.kernel_history.specs.Trace.{Trace, state_after, last_left}
+use Rattle.kernel_history.specs.Counts.{RepresentCounts}
 use Rattle.kernel_history.specs.FinalWords.{Represent}
 use Rattle.kernel_history.specs.Moments.{WordsSay}
 use Rattle.call_steps.specs.View.{Core}
-use Rattle.call_steps.specs.Cores.{move_of, ready_of, told_of_step, end_of}
+use Rattle.call_steps.specs.Cores.{move_of, end_of}
 use Rattle.flight.specs.Made.{boot_cores, turned, MayStep, step_of, core_after, cores_after, IsMade}
 use Rattle.core_invariant.specs.Stands.{Stands}
 
@@ -43,3 +44,8 @@ AreBetween setup cores = (c : ℕ) → c < setup.cores → (cores c).active ≡ 
 abbrev pub Represents : Type 0
 Represents = (setup : Setting) → IsSetting setup → (cores : ℕ → Core) (t : Trace) → Stands setup cores t → AreBetween setup cores
     → Represent (last_left setup t) (λ c. end_of (cores c)) (state_after setup t)
+
+-- And then no count is held, and those of each frame sum to the references to it.
+abbrev pub RepresentsCounts : Type 0
+RepresentsCounts = (setup : Setting) → IsSetting setup → (cores : ℕ → Core) (t : Trace) → Stands setup cores t → AreBetween setup cores
+    → RepresentCounts (last_left setup t) (state_after setup t)

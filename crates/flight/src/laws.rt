@@ -1,7 +1,8 @@
 //! What is proved of the step machine, as laws: cores that stand for a trace go on standing for it, step by step.
 
 ghost use Rattle.flight.specs.Histories.{MadeHistories};
-ghost use Rattle.flight.specs.Theorems.{Boots, StepsOn, MadeStands, SaysWords, Represents};
+ghost use Rattle.flight.specs.Places.{PlacesFound, ScannedCores};
+ghost use Rattle.flight.specs.Theorems.{Boots, StepsOn, MadeStands, SaysWords, Represents, RepresentsCounts};
 
 /// The start stands for no step.
 #[tactic(auto, using(crate::proofs::Boot::boots))]
@@ -38,4 +39,24 @@ pub fn says_words()
 #[tactic(auto, using(crate::proofs::Final::represents))]
 pub fn represents()
     ensures { Represents }
+{}
+
+/// Where all cores are between calls, no count is held, and the counts of each frame sum to the references to it.
+#[tactic(auto, using(crate::proofs::Final::represents_counts))]
+pub fn represents_counts()
+    ensures { RepresentsCounts }
+{}
+
+/// A place that an undecided call has found held may be used by its core still: it holds what was found, or it is quiescing and the
+/// core is among those for whom it waits.
+#[tactic(auto, using(crate::proofs::Places::places_found))]
+pub fn places_found()
+    ensures { PlacesFound }
+{}
+
+/// A core that a step has found out, or inside a call that it entered after a stamp, is waited for no longer in a grace period that
+/// began at that stamp.
+#[tactic(auto, using(crate::proofs::Places::scanned_cores))]
+pub fn scanned_cores()
+    ensures { ScannedCores }
 {}

@@ -8,4 +8,7 @@ mod laws;
 pub use call_steps::{
     Absorbed, ActiveCall, CoreState, decides_once, ready_decides, unready_refuses,
 };
-pub use laws::{boots, made_histories, made_stands, represents, says_words, steps_on};
+pub use laws::{
+    boots, made_histories, made_stands, places_found, represents, represents_counts, says_words,
+    scanned_cores, steps_on,
+};

@@ -1,15 +1,16 @@
--- The words and ends that a machine leaves represent the state that its traces leave.
+-- The words and ends that a machine leaves represent the state that its traces leave, and its count words the references.
 use Rattle.std.proofs.Common.{◌≡◌, ℕ, ◌<◌, List, [], ◌∷◌, length, get_or, map, None, arith, refl, sym, ◌∙◌, ap, zero, suc}
 use Rattle.spk_nums.specs.Setting.{Setting, IsSetting}
 use Rattle.kernel_history.specs.BootWords.{shape_of}
+use Rattle.kernel_history.specs.Counts.{RepresentCounts}
 use Rattle.kernel_history.specs.FinalWords.{Represent, word_in, end_in}
 use Rattle.kernel_history.specs.Trace.{Trace, state_after, last_left}
 use Rattle.call_steps.specs.Cores.{end_of}
 use Rattle.core_invariant.proofs.Sounds.{limits_of}
 use Rattle.flight.specs.Made.{cores_after}
-use Rattle.flight.proofs.Final.{represents}
+use Rattle.flight.proofs.Final.{represents, represents_counts}
 use Rattle.flight.proofs.Made.{made_stands}
-use Rattle.flight.proofs.Alike.{like}
+use Rattle.flight.proofs.Alike.{like, like_counts}
 use Rattle.lone_kernel.specs.declared.seats.Seat.{Seat}
 use Rattle.lone_kernel.specs.Machine.{Machine, core_at, fresh_seat}
 use Rattle.lone_kernel.specs.Stands.{StandsFor}
@@ -29,3 +30,12 @@ closes m setting count between t stands =
     (ap (λ l. l.frames) (limits_of m.setup t)) (ap (λ l. l.cores) (limits_of m.setup t))
     (λ w is_in is_shared. sym (stands.words w is_in is_shared)) (λ c h. ap end_of (sym (stands.cores c h)) ∙ end_at m.setup m.seats c (omega arith))
     (represents m.setup setting (cores_after m.setup t) t (made_stands m.setup setting t stands.made) (λ c h. ap (λ k. k.active) (sym (stands.cores c h)) ∙ between c h))
+
+pub closes_counts : (m : Machine) → IsSetting m.setup → ((c : ℕ) → c < m.setup.cores → (core_at m c).active ≡ None) →
+    (t : Trace) → StandsFor m t → RepresentCounts (word_in (shape_of m.setup) m.words) (state_after m.setup t)
+closes_counts m setting between t stands =
+    like_counts m.setup setting (state_after m.setup t) (last_left m.setup t) (word_in (shape_of m.setup) m.words)
+    (ap (λ l. l.frames) (limits_of m.setup t)) (ap (λ l. l.cores) (limits_of m.setup t))
+    (λ w is_in is_shared. sym (stands.words w is_in is_shared))
+    (represents_counts m.setup setting (cores_after m.setup t) t (made_stands m.setup setting t stands.made)
+    (λ c h. ap (λ k. k.active) (sym (stands.cores c h)) ∙ between c h))

@@ -13,6 +13,7 @@ ghost use Rattle.spk_nums.specs.WordSteps.{place_in};
 ghost use Rattle.word_map.specs.Places.{size_of, place_of, shared};
 ghost use Rattle.kernel_history.specs.Trace.{Trace, state_after, decision_at};
 ghost use Rattle.kernel_history.specs.FinalWords.{Represent, word_in, end_in};
+ghost use Rattle.kernel_history.specs.Counts.{RepresentCounts};
 ghost use Rattle.call_steps.specs.Fits.{IsCore, steps_left};
 ghost use Rattle.kernel_history.specs.BootWords.{shape_of};
 ghost use Rattle.call_steps.specs.Cores.{end_of};
@@ -269,12 +270,13 @@ impl LoneKernel {
     }
 
     /// The words and where each core ended. No core is in a call; only want of memory is refused. They represent the state
-    /// that each trace left for which the machine stood.
+    /// that each trace left for which the machine stood, and the count words the references to its frames.
     pub fn close(self, alloc: Global) -> Result<Closed, Memory>
         requires { (c : ℕ) → c < self.setup.cores → (core_at self c).active ≡ None }
         ensures layout { IfOk result (λ closed. closed.layout ≡ shape_of self.setup) }
         ensures size { IfOk result (λ closed. (length closed.words.items ≡ size_of (shape_of self.setup)) × (length closed.ends.items ≡ self.setup.cores)) }
         ensures represent { IfOk result (λ closed. (t : Trace) → StandsFor self t → Represent (word_in (shape_of self.setup) closed.words.items) (end_in closed.ends.items) (state_after self.setup t)) }
+        ensures counts { IfOk result (λ closed. (t : Trace) → StandsFor self t → RepresentCounts (word_in (shape_of self.setup) closed.words.items) (state_after self.setup t)) }
     {
         let ends = ends_of(alloc, &self.seats)?;
         Ok(Closed {

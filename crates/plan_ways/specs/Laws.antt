@@ -1,14 +1,21 @@
 -- What is proved of the ways of a call by its plan, where its first names have led to some capabilities.
-use Rattle.std.specs.Prelude.{◌≡◌, ℕ, true, List, [], Option, None, IsFalse}
+use Rattle.std.specs.Prelude.{◌≡◌, ℕ, true, List, [], Option, Some, None, IsFalse}
 use Rattle.spk_nums.specs.Capability.{Capability}
+use Rattle.spk_nums.specs.declared.calls.Call.{Call}
 use Rattle.spk_nums.specs.declared.replies.Reply.{Reply}
+use Rattle.word_map.specs.Word.{FrameAt, CountAt}
 use Rattle.kernel_rules.specs.State.{State, Thing}
 use Rattle.kernel_rules.specs.Access.{Slot, Target as place, own, reached}
 use Rattle.kernel_rules.specs.Rules.{Cause, Rule, Refused, named, vacant, held, mapped, outcome}
+use Rattle.kernel_rules.specs.References.{named_by}
 use Rattle.kernel_history.specs.Trace.{Trace}
 use Rattle.kernel_history.specs.Ways.{way_to, ways, wide_way_to, wide_ways, target_of, asked_of}
 use Rattle.kernel_history.specs.Justified.{is_slot_in, HasReached}
+use Rattle.kernel_history.specs.Footprint.{frames_named, is_one_of, IsNearIn}
+use Rattle.call_plans.specs.declared.plans.Nth.{Nth}
 use Rattle.call_plans.specs.declared.plans.Plan.{Plan}
+use Rattle.call_plans.specs.Plans.{at_place}
+use Rattle.call_plans.specs.PlanOf.{plan_for}
 use Rattle.call_plans.specs.GoesBy.{OwnPages, GoesBy}
 use Rattle.call_plans.specs.After.{rule_after, Leads, LeadsIn, Next, NextName, NextFree, NextHeld, NextOwn, NextNothing, next_of}
 use Rattle.call_plans.specs.Laws.{AfterNames}
@@ -57,6 +64,31 @@ NextRefused s c pages NextNothing r = ⊥
 -- Where the next look-up is refused, so is the call, and with that refusal.
 abbrev pub NextIsFirst : Type 0
 NextIsFirst = AfterNames λ s c pages plan rule ks. (r : Reply) → NextRefused s c pages (next_of plan ks) r → outcome s c rule ≡ Refused r
+
+-- A frame that is named by a capability to which a name has led is one of those to which the names of the rule lead.
+abbrev pub FoundAreNamed : Type 0
+FoundAreNamed = AfterNames λ s c pages plan rule ks.
+    (at : Nth) (k : Capability)
+    → at_place ks at ≡ Some k
+    → (f : ℕ)
+    → is_one_of f (named_by k.kind k.frame) ≡ true
+    → is_one_of f (frames_named s c rule) ≡ true
+
+-- The word of a frame and each of its count words are near a call of core c.
+pub record FrameIsNear (s : State) (c : ℕ) (call : Call) (f : ℕ) : Type 0 where
+  pub frame : IsNearIn c call (FrameAt f) s
+  pub count : (d : ℕ) → IsNearIn c call (CountAt f d) s
+
+-- A frame that is named by a capability to which a name of a call has led is near the call.
+abbrev pub FoundAreNear : Type 0
+FoundAreNear =
+    (s : State) (c : ℕ) (call : Call) (ks : List Capability)
+    → Leads (LeadsIn s c) (plan_for call).names [] ks
+    → (at : Nth) (k : Capability)
+    → at_place ks at ≡ Some k
+    → (f : ℕ)
+    → is_one_of f (named_by k.kind k.frame) ≡ true
+    → FrameIsNear s c call f
 
 -- A call that has gone the way to each of these names, and all ways of what is left, has gone all ways of the rule.
 abbrev pub AllWays : Type 0

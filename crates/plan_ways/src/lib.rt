@@ -1,7 +1,7 @@
 //! The ways of a call by its plan: what its names and target lead through, where some of its names have been found.
 #![tactic(auto)]
 
-ghost use Rattle.plan_ways.specs.Laws.{NextOnWay, TargetIsNext, AskedIsLeft, NextIsFirst, AllWays};
+ghost use Rattle.plan_ways.specs.Laws.{NextOnWay, TargetIsNext, AskedIsLeft, NextIsFirst, AllWays, FoundAreNamed, FoundAreNear};
 
 /// The way of the next look-up is on the wide ways of the rule.
 #[tactic(auto, using(crate::proofs::Ways::next_on_way))]
@@ -31,4 +31,16 @@ pub fn next_is_first()
 #[tactic(auto, using(crate::proofs::Ways::all_ways))]
 pub fn all_ways()
     ensures { AllWays }
+{}
+
+/// A frame to which a name has led is one of those to which the names of the rule lead.
+#[tactic(auto, using(crate::proofs::Near::named_near))]
+pub fn found_are_named()
+    ensures { FoundAreNamed }
+{}
+
+/// A frame to which a name of a call has led is near the call: its word and its counts.
+#[tactic(auto, using(crate::proofs::Near::found_near))]
+pub fn found_are_near()
+    ensures { FoundAreNear }
 {}

@@ -78,5 +78,11 @@ fn calls_know_their_limits(rt: HostRuntime) {
             a: CapId::new(65_535)
         })
     );
+    assert!(rt;
+        is_built(&Call::Remove {
+            t: id,
+            b: CapId::new(65_535)
+        })
+    );
     assert!(rt; !is_built(&Call::Flush));
 }

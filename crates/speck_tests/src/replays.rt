@@ -2,49 +2,16 @@
 
 ghost use Rattle.std.specs.Prelude.{◌≡◌};
 
-use byte_ends::{MemSink, MemSource, SureSink, SureSource};
+use crate::machine::{
+    AMPLE, Ends, FROM_ENTRIES, MACHINE, TO_ENTRIES, answers, is_counted, is_done, list_of, replays,
+};
+use byte_ends::{SureSink, SureSource};
 use core_kernel::FreeGate;
 use script_reader::Cause;
 use speck_run::{Status, speck};
 use std::alloc::Global;
 use std::test::Fail;
 use std::thread::Threads;
-
-const MACHINE: &str = "speck 1\ncores 2\nframes 32\ngrant 100 0 1\ngrant 100 0 1\n";
-
-// The tables of that machine's start, to the last entry of the leaf that holds its capabilities.
-const TO_ENTRIES: &str = "frame 0 table refs 2
-  0 link 1
-frame 1 leaf refs 1
-  0 range 8 24
-  1 table 0
-  2 pages 2
-  3 comp 3
-  4 thread 4
-  5 thread 5
-  12 tcap 6
-  13 tcap 7
-";
-
-// The tables behind the entries.
-const FROM_ENTRIES: &str = "frame 2 pages refs 2
-frame 3 comp refs 4
-  fields 0 2 0 1
-frame 4 thread refs 2
-  stack 3
-frame 5 thread refs 2
-  stack 3
-frame 6 tcap refs 2
-  budget 100
-  quality 0 1
-frame 7 tcap refs 2
-  budget 100
-  quality 0 1
-live 0 epoch 1 frame 3
-core 0 thread 4 tcap 6 comp 3 spent 0 owed 0
-core 1 thread 5 tcap 7 comp 3 spent 0 owed 0
-total 200
-";
 
 // The smallest machine, and the tables of its start.
 const ALONE: &str = "speck 1\ncores 1\nframes 8\ngrant 100 0 1\n";
@@ -79,78 +46,6 @@ const FRONT: &str =
 const COPIES: &str = "core 0\ncopy 0 1 20\ncore 1\ncopy 0 1 20\n";
 
 const COPIED: &str = "  20 range 8 24\n";
-
-// How bytes are moved: the most a read and a write, and the calls that fail.
-#[derive(Clone, Copy)]
-struct Ends {
-    read_most: usize,
-    write_most: usize,
-    read_fails: u32,
-    write_fails: u32,
-    room: usize,
-}
-
-const AMPLE: Ends = Ends {
-    read_most: 1_000_000,
-    write_most: 1_000_000,
-    read_fails: 0,
-    write_fails: 0,
-    room: 4096,
-};
-
-fn list_of(alloc: Global, words: &[&str]) -> Result<Vec<String>, Fail> {
-    let mut list = Vec::new(alloc);
-    for word in words {
-        let word = String::from_str(alloc, word)?;
-        list.push(word)?;
-    }
-    Ok(list)
-}
-
-// Whether the call ends with this status, and the sink then holds this text.
-fn answers<R: Threads + Sync>(
-    rt: &R,
-    alloc: Global,
-    words: &[&str],
-    input: &[u8],
-    ends: &Ends,
-    status: Status,
-    text: &str,
-) -> Result<bool, Fail> {
-    let words = list_of(alloc, words)?;
-    let bytes = Vec::from_slice(alloc, input)?;
-    let read_fails = Vec::from_slice(alloc, &[ends.read_fails])?;
-    let write_fails = Vec::from_slice(alloc, &[ends.write_fails])?;
-    let mut source = MemSource::new(bytes, ends.read_most.max(1), read_fails);
-    let mut sink = MemSink::new(alloc, ends.room, ends.write_most.max(1), write_fails)?;
-    let answer = speck(rt, alloc, &FreeGate, &words, &mut source, &mut sink);
-    Ok(answer == status && sink.bytes() == text.as_bytes())
-}
-
-// Whether the script of these lines behind the machine's ends with this status and text.
-fn replays<R: Threads + Sync>(
-    rt: &R,
-    alloc: Global,
-    lines: &str,
-    ends: &Ends,
-    status: Status,
-    text: &str,
-) -> Result<bool, Fail> {
-    let input = format!(in alloc; "{MACHINE}{lines}")?;
-    answers(rt, alloc, &["replay"], input.as_bytes(), ends, status, text)
-}
-
-// Whether the script of these lines ends with these reply lines and the start's tables, with these entry lines added.
-fn is_done<R: Threads + Sync>(
-    rt: &R,
-    alloc: Global,
-    lines: &str,
-    replies: &str,
-    added: &str,
-) -> Result<bool, Fail> {
-    let text = format!(in alloc; "{replies}{TO_ENTRIES}{added}{FROM_ENTRIES}")?;
-    replays(rt, alloc, lines, &AMPLE, Status::Done, text.as_str())
-}
 
 // Whether the script of these lines is told that this line is the first that is not built.
 fn is_not_built<R: Threads + Sync>(
@@ -255,6 +150,65 @@ fn a_copy_of_an_object_is_a_reference_to_it(rt: HostRuntime) -> Result<(), Fail>
             &AMPLE,
             Status::Done,
             &text
+        )?
+    );
+    Ok(())
+}
+
+#[test]
+fn two_cores_copy_one_component(rt: HostRuntime) -> Result<(), Fail> {
+    let alloc = rt.alloc();
+    let copies = "core 0\ncopy 3 1 20\ncore 1\ncopy 3 1 21\n";
+    // A copy of a component enters, loads six entries, loads the component's count and compares it; then it is ready. It holds
+    // the count until it has committed it, after its decision.
+    let rows = [
+        (
+            "order\n0< 1. 0.\n",
+            "1.1 copy 3 1 21 = busy 0\n0.1 copy 3 1 20 = ok\n",
+            "  20 comp 3\n",
+            5,
+        ),
+        (
+            "order\n1< 0. 1.\n",
+            "0.1 copy 3 1 20 = busy 1\n1.1 copy 3 1 21 = ok\n",
+            "  21 comp 3\n",
+            5,
+        ),
+        (
+            "order\n0! 1. 0.\n",
+            "0.1 copy 3 1 20 = ok\n1.1 copy 3 1 21 = busy 0\n",
+            "  20 comp 3\n",
+            5,
+        ),
+        (
+            "order\n0 0 0 0 0 0 0 0 1 1 1 1 1 1 1 1 0. 1.\n",
+            "0.1 copy 3 1 20 = ok\n1.1 copy 3 1 21 = raced\n",
+            "  20 comp 3\n",
+            5,
+        ),
+        (
+            "order\n0! 0 1. 0.\n",
+            "0.1 copy 3 1 20 = ok\n1.1 copy 3 1 21 = ok\n",
+            "  20 comp 3\n  21 comp 3\n",
+            6,
+        ),
+    ];
+    for (order, replies, added, refs) in rows {
+        let lines = format!(in alloc; "{copies}{order}")?;
+        assert!(rt;
+            is_counted(&rt, alloc, lines.as_str(), replies, added, refs)?,
+            "{order}"
+        );
+    }
+    // A copy that is refused gives the count back: the next one acquires it.
+    assert!(rt;
+        is_counted(
+            &rt,
+            alloc,
+            "core 0\ncopy 3 1 20\ncopy 3 1 21\ncore 1\ncopy 0 1 20\norder\n0< 1. 0.\n",
+            "1.1 copy 0 1 20 = ok\n0.1 copy 3 1 20 = raced\n0.2 copy 3 1 21 = ok\n",
+            "  20 range 8 24\n  21 comp 3\n",
+            5,
         )?
     );
     Ok(())
@@ -395,8 +349,14 @@ fn spaces_and_comments_are_passed_over(rt: HostRuntime) -> Result<(), Fail> {
 fn the_first_line_that_is_not_built_is_told(rt: HostRuntime) -> Result<(), Fail> {
     let rows = [
         ("core 0\nflush\n", 7),
-        ("core 0\nlook 64\ncopy 0 2 64\nlook 65535\nshrink 1 0\n", 10),
-        ("core 1\nlook 0\n\ncore 0\nremove 1 20\n", 10),
+        (
+            "core 0\nlook 64\ncopy 0 2 64\nlook 65535\ngrow 1 0 20\n",
+            10,
+        ),
+        (
+            "core 1\nlook 0\n\ncore 0\nremove 1 20\nretype 0 8 user\n",
+            11,
+        ),
         ("core 0\nmake tcap 0 8 1 20 0 5\norder\n0\n", 7),
         ("calls 4194304\nepochs 1\ncore 0\nret\n", 9),
     ];

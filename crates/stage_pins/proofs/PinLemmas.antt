@@ -1,68 +1,88 @@
 -- Acquiring a count stays on its word and within its range, whatever words are found.
 use Rattle.std.proofs.Common.{◌≡◌, ℕ, ℤ, pos, negsuc, ◌+ℤ◌, ◌<◌, ◌∙◌, Option, Some, None, refl, ap, sym, arith}
 use Rattle.std.proofs.lemmas.Int.{ints}
-use Rattle.spk_nums.specs.declared.steps.StageEnd.{StageEnd}
-use Rattle.spk_nums.specs.declared.steps.StageEnd.TheVariants.{Going, Decided, Done, Refuse}
+use Rattle.spk_nums.specs.declared.steps.StageEnd.TheVariants.{Going}
 use Rattle.frame_words.specs.Count.{NumberFits, word_of_count, count_of_word}
 use Rattle.frame_words.specs.declared.count_word.CountWord.{CountWord}
 use Rattle.frame_words.specs.declared.count_word.Hold.{Hold}
 use Rattle.frame_words.specs.declared.count_word.Hold.TheVariants as hold
 use Rattle.frame_words.proofs.CountLemmas as counts
 use Rattle.word_map.specs.Word.{CountAt}
-use Rattle.word_map.specs.Places.{Shape, IsIn}
+use Rattle.word_map.specs.Places.{Shape, IsIn, counter_of}
 use Rattle.word_map.specs.Moves.{word_of, StoreOf}
-use Rattle.stage_pins.specs.Counts.{unheld, in_field}
-use Rattle.stage_pins.specs.Acquire.{PinFits, PinnedFits, pinned_at, pin_move, expected_by, load_end, end_by_hold, after_hold, after_load, pin_after, pin_end}
+use Rattle.stage_pins.specs.Counts.{unheld, in_field, changed}
+use Rattle.stage_pins.specs.Acquire.{PinFits, pinned_at, pin_move, expected_by, pin_after, pin_end}
+use Rattle.stage_pins.specs.Acquire.{load_end, end_by_hold, after_hold, after_load}
 use Rattle.stage_pins.specs.Commit.{SettleFits, settle_move}
 use Rattle.stage_pins.specs.declared.pin.Pin.{Pin}
 use Rattle.stage_pins.specs.declared.pin.Pin.TheVariants.{AtLoad, AtCompare}
 use Rattle.stage_pins.specs.declared.settle.Settle.{Settle}
 
-after_hold_fits : (s : Shape) (frame core : ℕ) (count : ℤ) (stamp : ℕ) (h : Hold) → NumberFits count → frame < s.frames → core < s.cores → PinFits s (after_hold frame core count stamp h)
+after_hold_fits : (s : Shape) (frame core : ℕ) (count : ℤ) (stamp : ℕ) (h : Hold)
+    → NumberFits count → frame < s.frames → core < s.cores → PinFits s (after_hold frame core count stamp h)
 after_hold_fits s frame core count stamp hold.Unheld n f c = (f, c, n)
 after_hold_fits s frame core count stamp (hold.Pinned by) n f c = (f, c)
 after_hold_fits s frame core count stamp (hold.Closed by) n f c = (f, c)
 
-after_load_fits : (s : Shape) (frame core found : ℕ) (o : Option CountWord) → count_of_word found ≡ o → frame < s.frames → core < s.cores → PinFits s (after_load frame core o)
+after_load_fits : (s : Shape) (frame core found : ℕ) (o : Option CountWord) → count_of_word found ≡ o
+    → frame < s.frames → core < s.cores → PinFits s (after_load frame core o)
 after_load_fits s frame core found None is f c = (f, c)
-after_load_fits s frame core found (Some v) is f c = after_hold_fits s frame core v.count v.stamp v.hold (counts.spelling.spells found v is).0.1 f c
+after_load_fits s frame core found (Some v) is f c =
+    after_hold_fits s frame core v.count v.stamp v.hold (counts.spelling.spells found v is).0.1 f c
 
 -- it stays within the machine, and the count that it found is within its range
 pub after_fits : (s : Shape) (pin : Pin) (found : ℕ) → PinFits s pin → PinFits s (pin_after pin found)
 after_fits s (AtLoad frame core) found h = after_load_fits s frame core found (count_of_word found) refl h.0 h.1
 after_fits s (AtCompare frame core count stamp) found h = h
 
+-- the core that counts for a core is one of the machine
+counter_is_in : (s : Shape) (core : ℕ) → core < s.cores → counter_of core < s.cores
+counter_is_in s core h = omega (arith, h)
+
 -- its next step is on a word of the machine
 pub pin_is_in : (s : Shape) (pin : Pin) → PinFits s pin → IsIn s (word_of (pin_move pin))
-pin_is_in s (AtLoad frame core) h = h
-pin_is_in s (AtCompare frame core count stamp) h = (h.0, h.1)
+pin_is_in s (AtLoad frame core) h = (h.0, counter_is_in s core h.1)
+pin_is_in s (AtCompare frame core count stamp) h = (h.0, counter_is_in s core h.1)
 
 -- and so is the step that commits it
 pub settle_is_in : (s : Shape) (c : Settle) → SettleFits s c → IsIn s (word_of (settle_move c))
-settle_is_in s c h = (h.frame, h.core)
+settle_is_in s c h = (h.frame, counter_is_in s c.pin.core h.core)
 
 -- a count within its field stays what it is
 pub in_field_same : (z : ℤ) → NumberFits z → in_field z ≡ z
 in_field_same (pos n) h = ap pos (omega arith)
 in_field_same (negsuc n) h = ap negsuc (omega arith)
 
-expects_by_hold : (frame core found : ℕ) (v : CountWord) (h : Hold) → v.hold ≡ h → word_of_count v ≡ found → end_by_hold h ≡ Going → expected_by (pin_move (after_hold frame core v.count v.stamp h)) ≡ Some found
-expects_by_hold frame core found v hold.Unheld is spells goes = ap (λ k. Some (word_of_count (record { hold = k; count = v.count; stamp = v.stamp }))) (sym is) ∙ ap Some spells
+expects_by_hold : (frame core found : ℕ) (v : CountWord) (h : Hold) → v.hold ≡ h → word_of_count v ≡ found → end_by_hold h ≡ Going
+    → expected_by (pin_move (after_hold frame core v.count v.stamp h)) ≡ Some found
+expects_by_hold frame core found v hold.Unheld is spells goes =
+    ap (λ k. Some (word_of_count (record { hold = k; count = v.count; stamp = v.stamp }))) (sym is) ∙ ap Some spells
 expects_by_hold frame core found v (hold.Pinned by) is spells goes = absurd (cc)
 expects_by_hold frame core found v (hold.Closed by) is spells goes = absurd (cc)
 
-expects_by_load : (frame core found : ℕ) (o : Option CountWord) → count_of_word found ≡ o → load_end o ≡ Going → expected_by (pin_move (after_load frame core o)) ≡ Some found
+expects_by_load : (frame core found : ℕ) (o : Option CountWord) → count_of_word found ≡ o → load_end o ≡ Going
+    → expected_by (pin_move (after_load frame core o)) ≡ Some found
 expects_by_load frame core found None is goes = absurd (cc)
-expects_by_load frame core found (Some v) is goes = expects_by_hold frame core found v v.hold refl (counts.spelling.spells found v is).1 goes
+expects_by_load frame core found (Some v) is goes =
+    expects_by_hold frame core found v v.hold refl (counts.spelling.spells found v is).1 goes
 
 -- where the load goes on, the compare expects the word that was loaded
-pub expects_found : (frame core found : ℕ) → pin_end (AtLoad frame core) found ≡ Going → expected_by (pin_move (pin_after (AtLoad frame core) found)) ≡ Some found
+pub expects_found : (frame core found : ℕ) → pin_end (AtLoad frame core) found ≡ Going
+    → expected_by (pin_move (pin_after (AtLoad frame core) found)) ≡ Some found
 expects_found frame core found goes = expects_by_load frame core found (count_of_word found) refl goes
 
 plus_none : (z : ℤ) → z +ℤ pos 0 ≡ z
 plus_none (pos n) = ap pos (omega arith)
 plus_none (negsuc n) = grind (arith, ints)
 
+-- a count without a change is what it was
+pub changed_none : (count : ℤ) → NumberFits count → changed count (pos 0) ≡ count
+changed_none count h = ap in_field (plus_none count) ∙ in_field_same count h
+
 -- with no change and no stamp a commit gives back the word that was found
-pub gives_back : (frame core stamp : ℕ) (count : ℤ) → NumberFits count → settle_move (record { pin = pinned_at frame core count stamp; change = pos 0; stamp = None }) ≡ StoreOf (CountAt frame core) (word_of_count (unheld count stamp))
-gives_back frame core stamp count h = ap (λ k. StoreOf (CountAt frame core) (word_of_count (unheld k stamp))) (ap in_field (plus_none count) ∙ in_field_same count h)
+pub gives_back : (frame core stamp : ℕ) (count : ℤ) → NumberFits count
+    → settle_move (record { pin = pinned_at frame core count stamp; change = pos 0; stamp = None })
+    ≡ StoreOf (CountAt frame (counter_of core)) (word_of_count (unheld count stamp))
+gives_back frame core stamp count h =
+    ap (λ k. StoreOf (CountAt frame (counter_of core)) (word_of_count (unheld k stamp)))
+    (changed_none count h)

@@ -1,8 +1,11 @@
 //! Acquiring a count.
 //!
 //! **Why a count is acquired.** The references to a frame are counted in its count words. A call that changes them
-//! acquires its core's count word first, decides, and commits the word last. While it holds the word no core can
-//! freeze it, so a retype never sums a count that a decided call has still to change.
+//! acquires a count word first, decides, and commits the word last. While it holds the word no core can freeze it, so
+//! a retype never sums a count that a decided call has still to change.
+//!
+//! **Which word.** Each core has a counter, whose word it acquires; cores may share one. The core marks the word with
+//! its own number, so that another core can tell who holds it.
 //!
 //! **How.** The word is loaded. If a core holds it, that core is busy. Else a compare puts the acquired word in the
 //! place of the one that was found, and is lost where another core has changed the word in between.
@@ -59,6 +62,7 @@ impl Pin {
 
     /// The next step: the load of the count word, then its compare. The frame and the core are below the layout's.
     #[inline]
+    #[tactic(auto, unfolding(word_map::specs::Places::place_of))]
     pub fn next(&self, layout: &Layout) -> WordOp
         requires { PinFits layout.now self.now }
         ensures step { result ≡ op_of layout.now (pin_move self.now) }

@@ -7,7 +7,7 @@ ghost use Rattle.std.specs.Prelude.{◌≡◌, ◌<◌, ℕ, ℤ, pos, None};
 ghost use Rattle.spk_nums.specs.declared.steps.StageEnd.TheVariants.{Done};
 ghost use Rattle.frame_words.specs.Count.{NumberFits, word_of_count};
 ghost use Rattle.word_map.specs.Word.{CountAt};
-ghost use Rattle.word_map.specs.Places.{size_of};
+ghost use Rattle.word_map.specs.Places.{size_of, counter_of};
 ghost use Rattle.spk_nums.specs.WordSteps.{place_in};
 ghost use Rattle.word_map.specs.Moves.{op_of, StoreOf};
 ghost use Rattle.stage_pins.specs.Counts.{unheld, changed, later};
@@ -42,6 +42,7 @@ impl Settle {
     /// The step: the store of the count word, held by no core. A count that would leave its field stays at the
     /// field's end, and a stamp is never replaced by an earlier one. The frame and the core are below the layout's.
     #[inline]
+    #[tactic(auto, unfolding(word_map::specs::Places::place_of))]
     pub fn next(&self, layout: &Layout) -> WordOp
         requires { SettleFits layout.now self.now }
         ensures step { result ≡ op_of layout.now (settle_move self.now) }
@@ -113,7 +114,7 @@ fn later(stamp: Stamp, drawn: Option<Stamp>) -> Stamp
 
 /// With no change and no stamp a commit gives back the word that was found.
 pub fn gives_back_what_it_found()
-    ensures { (frame core stamp : ℕ) (count : ℤ) → NumberFits count → settle_move (record { pin = pinned_at frame core count stamp; change = pos 0; stamp = None }) ≡ StoreOf (CountAt frame core) (word_of_count (unheld count stamp)) }
+    ensures { (frame core stamp : ℕ) (count : ℤ) → NumberFits count → settle_move (record { pin = pinned_at frame core count stamp; change = pos 0; stamp = None }) ≡ StoreOf (CountAt frame (counter_of core)) (word_of_count (unheld count stamp)) }
 {}
 
 #[cfg(test)]

@@ -11,5 +11,12 @@ use spk_nums::Call;
 pub fn is_built(call: &Call) -> bool
     ensures { IsTrue result ↔ IsBuilt call.now }
 {
-    matches!(call, Call::Look { .. } | Call::Copy { .. })
+    matches!(
+        call,
+        Call::Look { .. }
+            | Call::Copy { .. }
+            | Call::Remove { .. }
+            | Call::Shrink { .. }
+            | Call::Unmap { .. }
+    )
 }

@@ -1,8 +1,6 @@
 -- The words and the ends determine the tables of the state that they represent.
-use Rattle.std.proofs.Common.{◌≡◌, ℕ, ◌<◌, ◌++◌, List, [], true, false, Option, None, refl, sym, ap, ◌∙◌, arith, length, append_assoc}
-use Rattle.std.specs.Prelude.{slice_index}
-use Rattle.std.proofs.lemmas.Bool.{true≢false, cases_Bool}
-use Rattle.std.proofs.Common.{inl, inr}
+use Rattle.std.proofs.Common.{◌≡◌, ℕ, ◌<◌, ◌++◌, List, [], true, Option, refl, sym, ap, ◌∙◌, arith, length, append_assoc}
+use Rattle.std.proofs.lemmas.Bool.{true≢false}
 use Rattle.spk_nums.specs.declared.translations.CoreEnd.{CoreEnd}
 use Rattle.entry_words.specs.declared.entry.Entry.{Entry}
 use Rattle.entry_words.specs.EntryWord.{entry_of_word}
@@ -11,16 +9,15 @@ use Rattle.frame_words.specs.declared.live_word.LiveWord.{LiveWord}
 use Rattle.word_map.specs.Word.{LiveAt}
 use Rattle.word_map.specs.Places.{Shape}
 use Rattle.kernel_rules.specs.State.{Place, Free, Holds, Quiescing, Object, Blank, Table, Leaf, Pages, Pleaf, Comp, Thread, Tcap, Frame, Untyped, User, Kernel, Liveness, Unused, Live, Dead, State, first_of_stack, thread_of, tcap_in}
-use Rattle.kernel_rules.specs.Access.{held_in}
-use Rattle.kernel_rules.specs.References.{place_names, frame_names, number_names, core_names, sum_below, times, node_refs, refs}
+use Rattle.kernel_rules.specs.References.{sum_below, refs}
 use Rattle.kernel_rules.specs.Laws.{ticks}
 use Rattle.kernel_history.specs.ObjectWords.{is_node, is_node_object}
 use Rattle.kernel_history.specs.FinalWords.{SaysPlace, AreEntries, AreFrame, SaysNumber, Represent, word_in, end_in}
+use Rattle.kernel_history.specs.Counts.{counters, count_at, count_sum, RepresentCounts}
 use Rattle.kernel_history.specs.Tables.{lines_below, frame_line, object_word, entry_line, object_lines, frame_lines, number_line, core_lines, total_line, tables_of}
 use Rattle.kernel_history.proofs.Sums.{sum_same}
-use Rattle.table_lines.specs.Counting.{AreCounts}
 use Rattle.table_lines.specs.Ends.{core_shown}
-use Rattle.table_report.specs.Shown.{place_shown, place_in, number_shown, frame_shown, words_of, frame_at, place_at, number_at, core_at, shown, frames_text, numbers_text, cores_text, tables_shown}
+use Rattle.table_report.specs.Shown.{place_shown, place_in, number_shown, frame_shown, words_of, frame_at, place_at, number_at, natural, counted_at, core_at, shown, frames_text, numbers_text, cores_text, tables_shown}
 use Rattle.table_lines.proofs.Lines.{lines_same}
 use Rattle.table_report.proofs.ShownObjects.{told, frame_is}
 
@@ -49,18 +46,6 @@ told_lines f (Kernel (Comp k)) place n = refl
 told_lines f (Kernel (Thread t)) place k = refl
 told_lines f (Kernel (Tcap q)) place k = refl
 
-told_names : (x : Frame) → frame_names (told x) ≡ frame_names x
-told_names Untyped = refl
-told_names User = refl
-told_names (Kernel Blank) = refl
-told_names (Kernel Table) = refl
-told_names (Kernel Leaf) = refl
-told_names (Kernel Pages) = refl
-told_names (Kernel Pleaf) = refl
-told_names (Kernel (Comp k)) = refl
-told_names (Kernel (Thread t)) = refl
-told_names (Kernel (Tcap q)) = refl
-
 told_budget : (x : Frame) → (tcap_in (told x)).budget ≡ (tcap_in x).budget
 told_budget Untyped = refl
 told_budget User = refl
@@ -86,21 +71,11 @@ entries_of (Kernel (Comp k)) place word node h = absurd (true≢false (sym node)
 entries_of (Kernel (Thread t)) place word node h = absurd (true≢false (sym node))
 entries_of (Kernel (Tcap q)) place word node h = absurd (true≢false (sym node))
 
--- What an entry says is what it shows: the line and the reference.
+-- The line of an entry is that of what it shows.
 says_line : (i : ℕ) (p : Place) (shown : Option Entry) → SaysPlace p shown → entry_line i (place_shown shown) ≡ entry_line i p
 says_line i Free shown h = ap (λ o. entry_line i (place_shown o)) h
 says_line i (Holds k) shown h = ap (λ o. entry_line i (place_shown o)) h
 says_line i (Quiescing k) shown h = ap (λ o. entry_line i (place_shown o)) h.says
-
-says_names : (p : Place) (shown : Option Entry) → SaysPlace p shown → place_names (place_shown shown) ≡ place_names p
-says_names Free shown h = ap (λ o. place_names (place_shown o)) h
-says_names (Holds k) shown h = ap (λ o. place_names (place_shown o)) h
-says_names (Quiescing k) shown h = ap (λ o. place_names (place_shown o)) h.says
-
-holds_none : (p : Place) → held_in p ≡ None → place_names p ≡ []
-holds_none Free h = refl
-holds_none (Holds k) h = absurd (cc)
-holds_none (Quiescing k) h = refl
 
 -- The lines of an object hang on the lines of its entries alone, and only where it is a node.
 object_lines_same : (object : Object) (p q : ℕ → Place) → (is_node_object object ≡ true → (i : ℕ) → i < 64 → entry_line i (p i) ≡ entry_line i (q i))
@@ -127,7 +102,7 @@ says_number (Dead epoch) shown h = ap number_shown h.says
 
 module _ (shape : Shape) (words : List ℕ) (ends : List CoreEnd) (s : State)
     (cores : s.limits.cores ≡ shape.cores) (frames : s.limits.frames ≡ shape.frames)
-    (h : Represent (word_in shape words) (end_in ends) s) where
+    (h : Represent (word_in shape words) (end_in ends) s) (represented : RepresentCounts (word_in shape words) s) where
   within : (f : ℕ) → f < shape.frames → f < s.limits.frames
   within f below = omega (arith, below, frames)
 
@@ -142,17 +117,8 @@ module _ (shape : Shape) (words : List ℕ) (ends : List CoreEnd) (s : State)
   node_place : (f i : ℕ) → f < shape.frames → is_node (s.frame f) ≡ true → place_at shape words f i ≡ place_shown (entry_of_word (words_of shape words f i))
   node_place f i below node = ap (λ b. place_in b (words_of shape words f i)) (node_told f below ∙ node)
 
-  bare_place : (f i : ℕ) → f < shape.frames → is_node (s.frame f) ≡ false → place_at shape words f i ≡ Free
-  bare_place f i below bare = ap (λ b. place_in b (words_of shape words f i)) (node_told f below ∙ bare)
-
   says : (f i : ℕ) → f < shape.frames → i < 64 → is_node (s.frame f) ≡ true → SaysPlace (s.place f i) (entry_of_word (words_of shape words f i))
   says f i below small node = entries_of (s.frame f) (s.place f) (words_of shape words f) node (h.objects f (within f below)) i small
-
-  names_told : (f i : ℕ) → f < shape.frames → i < 64 → place_names (place_at shape words f i) ≡ place_names (s.place f i)
-  names_told f i below small = elim (cases_Bool (is_node (s.frame f))) [
-    | inl node ↦ ap place_names (node_place f i below node) ∙ says_names (s.place f i) (entry_of_word (words_of shape words f i)) (says f i below small node)
-    | inr bare ↦ ap place_names (bare_place f i below bare) ∙ sym (holds_none (s.place f i) (h.bare f (within f below) bare i small))
-  ]
 
   lines_told : (f k n : ℕ) → f < shape.frames → k ≡ n → frame_lines f (frame_at shape words f) (place_at shape words f) k ≡ frame_lines f (s.frame f) (s.place f) n
   lines_told f k n below same =
@@ -162,21 +128,10 @@ module _ (shape : Shape) (words : List ℕ) (ends : List CoreEnd) (s : State)
       (λ node i small. ap (entry_line i) (node_place f i below node) ∙ says_line i (s.place f i) (entry_of_word (words_of shape words f i)) (says f i below small node))
       ∙ ap (frame_lines f (s.frame f) (s.place f)) same
 
-  refs_told : (f : ℕ) → refs (shown shape words ends) f ≡ refs s f
-  unfolding refs node_refs
-  refs_told f =
-      let a = sum_same (λ g. sum_below (λ i. times f (place_names (place_at shape words g i))) 64) (λ g. sum_below (λ i. times f (place_names (s.place g i))) 64) shape.frames
-      (λ g below. sum_same (λ i. times f (place_names (place_at shape words g i))) (λ i. times f (place_names (s.place g i))) 64 (λ i small. ap (times f) (names_told g i below small))) in
-      let b = sum_same (λ g. times f (frame_names (frame_at shape words g))) (λ g. times f (frame_names (s.frame g))) shape.frames
-      (λ g below. ap (λ x. times f (frame_names x)) (frame_told g below) ∙ ap (times f) (told_names (s.frame g))) in
-      let d = sum_same (λ c. times f (core_names (core_at ends c))) (λ c. times f (core_names (s.core c))) shape.cores
-      (λ c below. ap (λ e. times f (core_names (core_shown e))) (h.ends c (omega (arith, below, cores)))) in
-      let e = sum_same (λ l. times f (number_names (number_at shape words l))) (λ l. times f (number_names (s.number l))) 64
-      (λ l small. ap (λ x. times f (number_names x)) (says_number (s.number l) (live_of_word (word_in shape words (LiveAt l))) (h.numbers l small))) in
-      let fa = ap (sum_below (λ g. sum_below (λ i. times f (place_names (s.place g i))) 64)) frames in
-      let fb = ap (sum_below (λ g. times f (frame_names (s.frame g)))) frames in
-      let fd = ap (sum_below (λ c. times f (core_names (s.core c)))) cores in
-      omega (arith, a, b, d, e, fa, fb, fd)
+  refs_told : (f : ℕ) → f < shape.frames → counted_at shape words f ≡ refs s f
+  refs_told f below =
+      ap (λ n. natural (count_sum (count_at (word_in shape words) f) (counters n))) (sym cores)
+      ∙ ap natural (represented f (within f below)).sum
 
   ticks_told : ticks (shown shape words ends) ≡ ticks s
   ticks_told =
@@ -188,10 +143,11 @@ module _ (shape : Shape) (words : List ℕ) (ends : List CoreEnd) (s : State)
       let fb = ap (sum_below (λ c. (s.core c).spent)) cores in
       omega (arith, a, b, fa, fb)
 
-  frames_told : frames_text shape words (refs (shown shape words ends)) shape.frames ≡ lines_below (λ f. frame_lines f (s.frame f) (s.place f) (refs s f)) s.limits.frames
+  frames_told : frames_text shape words shape.frames ≡ lines_below (λ f. frame_lines f (s.frame f) (s.place f) (refs s f)) s.limits.frames
   frames_told =
-      lines_same (λ f. frame_lines f (frame_at shape words f) (place_at shape words f) (refs (shown shape words ends) f)) (λ f. frame_lines f (s.frame f) (s.place f) (refs s f)) shape.frames
-      (λ f below. lines_told f (refs (shown shape words ends) f) (refs s f) below (refs_told f))
+      lines_same (λ f. frame_lines f (frame_at shape words f) (place_at shape words f) (counted_at shape words f))
+      (λ f. frame_lines f (s.frame f) (s.place f) (refs s f)) shape.frames
+      (λ f below. lines_told f (counted_at shape words f) (refs s f) below (refs_told f below))
       ∙ ap (lines_below (λ f. frame_lines f (s.frame f) (s.place f) (refs s f))) (sym frames)
 
   numbers_told : numbers_text shape words 64 ≡ lines_below (λ l. number_line l (s.number l)) 64
@@ -213,22 +169,20 @@ module _ (shape : Shape) (words : List ℕ) (ends : List CoreEnd) (s : State)
       ++ (lines_below (λ c. core_lines c (s.core c) (first_of_stack (thread_of s c).stack)) s.limits.cores ++ total_line n))) ticks_told
 
 -- The text that the pieces make, one behind the other.
-pub whole_text : (shape : Shape) (words : List ℕ) (ends : List CoreEnd) (counts : List ℕ) (begun a b d e : List ℕ) (total : ℕ)
-    → AreCounts counts (refs (shown shape words ends)) shape.frames → length ends ≡ shape.cores → total ≡ ticks (shown shape words ends)
+pub whole_text : (shape : Shape) (words : List ℕ) (ends : List CoreEnd) (begun a b d e : List ℕ) (total : ℕ)
+    → length ends ≡ shape.cores → total ≡ ticks (shown shape words ends)
     → begun ≡ []
-    → a ≡ begun ++ frames_text shape words (slice_index counts) shape.frames
+    → a ≡ begun ++ frames_text shape words shape.frames
     → b ≡ a ++ numbers_text shape words 64
     → d ≡ b ++ cores_text ends (length ends)
     → e ≡ d ++ total_line total
     → e ≡ tables_shown shape words ends
-whole_text shape words ends counts begun a b d e total counted cores ticked none pa pb pd pe =
-    let f : List ℕ = frames_text shape words (refs (shown shape words ends)) shape.frames in
+whole_text shape words ends begun a b d e total cores ticked none pa pb pd pe =
+    let f : List ℕ = frames_text shape words shape.frames in
     let n : List ℕ = numbers_text shape words 64 in
     let c : List ℕ = cores_text ends shape.cores in
     let l : List ℕ = total_line (ticks (shown shape words ends)) in
-    let first : a ≡ f = pa ∙ ap (λ x. x ++ frames_text shape words (slice_index counts) shape.frames) none
-    ∙ lines_same (λ f. frame_lines f (frame_at shape words f) (place_at shape words f) (slice_index counts f)) (λ f. frame_lines f (frame_at shape words f) (place_at shape words f) (refs (shown shape words ends) f)) shape.frames
-    (λ f below. ap (frame_lines f (frame_at shape words f) (place_at shape words f)) (counted f below)) in
+    let first : a ≡ f = pa ∙ ap (λ x. x ++ f) none in
     let second : b ≡ f ++ n = pb ∙ ap (λ x. x ++ n) first in
     let third : d ≡ (f ++ n) ++ c = pd ∙ ap (λ x. x ++ cores_text ends (length ends)) second ∙ ap (λ k. (f ++ n) ++ cores_text ends k) cores in
     pe ∙ ap (λ x. x ++ total_line total) third ∙ ap (λ k. ((f ++ n) ++ c) ++ total_line k) ticked

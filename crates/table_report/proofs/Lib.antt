@@ -1,4 +1,4 @@
 pub mod Lines
-pub mod Adding
+pub mod Counted
 pub mod ShownObjects
 pub mod Determined

@@ -1,5 +1,5 @@
 -- Lines, stacks and lists, one more at a time.
-use Rattle.std.proofs.Common.{◌≡◌, ℕ, zero, suc, ◌+◌, ◌<◌, ◌++◌, List, [], Option, Some, None, refl, sym, ap, ◌∙◌, arith, append_assoc, append-nil, reverse, length, get_or}
+use Rattle.std.proofs.Common.{◌≡◌, ℕ, suc, ◌+◌, ◌<◌, ◌++◌, List, [], Option, Some, None, refl, sym, ap, ◌∙◌, arith, reverse, length, get_or}
 use Rattle.std.specs.Prelude.{option_to_list, unwrap_or}
 use Rattle.std.proofs.lemmas.Option.{slice_get-get_or}
 use Rattle.spk_nums.specs.declared.translations.CoreEnd.{CoreEnd}
@@ -10,7 +10,7 @@ use Rattle.std.proofs.lemmas.Grind.{flat_map-append}
 use Rattle.tcap_words.specs.Stack.{stack_of_word}
 use Rattle.tcap_words.specs.Quality.{quality_of_word}
 use Rattle.tcap_words.specs.declared.stack_word.StackWord.{StackWord}
-use Rattle.kernel_history.specs.Tables.{lines_below, number, quality_line}
+use Rattle.kernel_history.specs.Tables.{number, quality_line}
 use Rattle.table_report.specs.Shown.{stacked, listed, stack_shown, qualities_shown}
 
 pub stack_none : (word : ℕ → ℕ) → stack_shown word 0 ≡ []

@@ -1,5 +1,6 @@
 -- The state that words and ends show, whatever they are: a word that unpacks to nothing, or to a core's mark, shows nothing.
-use Rattle.std.specs.Prelude.{ℕ, zero, suc, ◌+◌, Bool, true, false, List, [], ◌++◌, Option, Some, None, option_to_list}
+-- A count word shows its count, whoever holds it.
+use Rattle.std.specs.Prelude.{ℕ, ℤ, pos, negsuc, zero, suc, ◌+◌, Bool, true, false, List, [], ◌++◌, Option, Some, None, option_to_list}
 use Rattle.spk_nums.specs.declared.kinds.FrameKind.{FrameKind}
 use Rattle.spk_nums.specs.declared.kinds.FrameKind.TheVariants as frame_kind
 use Rattle.spk_nums.specs.declared.kinds.Obj.{Obj}
@@ -25,11 +26,11 @@ use Rattle.word_map.specs.Word.{EntryAt, FrameAt, LiveAt}
 use Rattle.word_map.specs.Places.{Shape}
 use Rattle.kernel_rules.specs.State.{Place, Free, Holds, CompFields, Object, Blank, Table, Leaf, Pages, Pleaf, Comp, Thread, Tcap, Frame, Untyped, User, Kernel, Liveness, Unused, Live, Dead, Core, State}
 use Rattle.kernel_rules.specs.Start.{no_grace}
-use Rattle.kernel_rules.specs.References.{refs}
 use Rattle.kernel_rules.specs.Laws.{ticks}
 use Rattle.kernel_history.specs.ObjectWords.{is_node}
 use Rattle.table_lines.specs.Ends.{core_shown}
 use Rattle.kernel_history.specs.FinalWords.{word_in, end_in}
+use Rattle.kernel_history.specs.Counts.{counters, count_at, count_sum}
 use Rattle.kernel_history.specs.Tables.{lines_below, frame_lines, number_line, core_lines, total_line}
 
 -- The place that an entry shows: what was removed is not shown.
@@ -121,6 +122,15 @@ place_at shape words f i = place_in (is_node (frame_at shape words f)) (words_of
 abbrev pub number_at : Shape → List ℕ → ℕ → Liveness
 number_at shape words l = number_shown (live_of_word (word_in shape words (LiveAt l)))
 
+-- An integer as a natural number: 0 where it is negative.
+abbrev pub natural : ℤ → ℕ
+natural (pos n) = n
+natural (negsuc n) = 0
+
+-- The references to frame f that its count words show: the sum of their counts.
+abbrev pub counted_at : Shape → List ℕ → ℕ → ℕ
+counted_at shape words f = natural (count_sum (count_at (word_in shape words) f) (counters shape.cores))
+
 -- The core c that the ends show.
 abbrev pub core_at : List CoreEnd → ℕ → Core
 core_at ends c = core_shown (end_in ends c)
@@ -137,8 +147,8 @@ shown shape words ends = record {
 }
 
 -- The lines of the frames, with the references to each.
-abbrev pub frames_text : Shape → List ℕ → (ℕ → ℕ) → ℕ → List ℕ
-frames_text shape words counts n = lines_below (λ f. frame_lines f (frame_at shape words f) (place_at shape words f) (counts f)) n
+abbrev pub frames_text : Shape → List ℕ → ℕ → List ℕ
+frames_text shape words n = lines_below (λ f. frame_lines f (frame_at shape words f) (place_at shape words f) (counted_at shape words f)) n
 
 -- The lines of the liveness numbers.
 abbrev pub numbers_text : Shape → List ℕ → ℕ → List ℕ
@@ -151,7 +161,7 @@ cores_text ends n = lines_below (λ c. core_lines c (core_at ends c) (end_in end
 -- The tables of what the words and the ends show.
 abbrev pub tables_shown : Shape → List ℕ → List CoreEnd → List ℕ
 tables_shown shape words ends =
-    frames_text shape words (refs (shown shape words ends)) shape.frames
+    frames_text shape words shape.frames
     ++ (numbers_text shape words 64
     ++ (cores_text ends shape.cores
     ++ total_line (ticks (shown shape words ends))))

@@ -1,13 +1,14 @@
 //! The lines of frames, and the sum of their budgets.
 
-ghost use Rattle.std.specs.Prelude.{◌≡◌, ◌<◌, ◌≤◌, ◌^◌, ◌++◌, length, OnOk, string_bytes, slice_index};
+ghost use Rattle.std.specs.Prelude.{◌≡◌, ◌<◌, ◌≤◌, ◌^◌, ◌++◌, length, OnOk, string_bytes};
 ghost use Rattle.kernel_rules.specs.State.{tcap_in, Kernel};
 ghost use Rattle.kernel_rules.specs.References.{sum_below};
 ghost use Rattle.word_map.specs.Places.{size_of};
 ghost use Rattle.kernel_history.specs.Tables.{frame_line, frame_lines, object_lines, object_word};
-ghost use Rattle.table_report.specs.Shown.{object_shown, place_in, words_of, frame_at, place_at, frames_text};
+ghost use Rattle.table_report.specs.Shown.{object_shown, place_in, words_of, frame_at, place_at, counted_at, frames_text};
 ghost use Rattle.kernel_history.specs.ObjectWords.{is_node_object};
 
+use crate::counts::references;
 use crate::objects::{budget, push_comp, push_node, push_tcap, push_thread};
 use crate::words::{entry_word, frame_word};
 use frame_words::FrameWord;
@@ -69,18 +70,18 @@ fn push_kernel(
     push_object(text, layout, words, frame, object)
 }
 
-// Appends the lines of a frame, to which there are so many references.
+// Appends the lines of a frame.
 fn push_frame(
     text: &mut String,
     layout: &Layout,
     words: &[u64],
     frame: FrameNo,
-    refs: u64,
 ) -> Result<(), AllocError>
     requires size { length words.now ≡ size_of layout.now }
     requires frame_in { frame < layout.now.frames }
-    ensures { OnOk result (string_bytes text.new ≡ string_bytes text.old ++ frame_lines frame (frame_at layout.now words.now frame) (place_at layout.now words.now frame) refs) }
+    ensures { OnOk result (string_bytes text.new ≡ string_bytes text.old ++ frame_lines frame (frame_at layout.now words.now frame) (place_at layout.now words.now frame) (counted_at layout.now words.now frame)) }
 {
+    let refs = references(layout, words, frame);
     match FrameWord::unpack(frame_word(layout, words, frame)) {
         None => Ok(()),
         Some(word) => match word.kind {
@@ -91,25 +92,13 @@ fn push_frame(
     }
 }
 
-/// Appends the lines of all frames, to each of which there are as many references as `counts` says.
-pub fn push_frames(
-    text: &mut String,
-    layout: &Layout,
-    words: &[u64],
-    counts: &[u64],
-) -> Result<(), AllocError>
+/// Appends the lines of all frames.
+pub fn push_frames(text: &mut String, layout: &Layout, words: &[u64]) -> Result<(), AllocError>
     requires size { length words.now ≡ size_of layout.now }
-    requires counts { length counts.now ≡ layout.now.frames }
-    ensures { OnOk result (string_bytes text.new ≡ string_bytes text.old ++ frames_text layout.now words.now (slice_index counts.now) layout.now.frames) }
+    ensures { OnOk result (string_bytes text.new ≡ string_bytes text.old ++ frames_text layout.now words.now layout.now.frames) }
 {
     'frames: for frame in 0..layout.frames() {
-        push_frame(
-            text,
-            layout,
-            words,
-            FrameNo::new(frame),
-            counts[usize::from(frame)],
-        )?;
+        push_frame(text, layout, words, FrameNo::new(frame))?;
     }
     Ok(())
 }

@@ -1,12 +1,11 @@
 //! The printed tables of a machine in which no core is in a call.
 //!
-//! The tables are printed from the final words and the ends of the cores. The references to each frame are counted afresh
-//! from them, by one pass over entries, objects, ends and liveness words.
+//! The tables are printed from the final words and the ends of the cores. The references to each frame are those that its
+//! count words show.
 #![tactic(auto)]
 
-mod counting;
+mod counts;
 mod frames;
-mod names;
 mod objects;
 mod rest;
 mod whole;

@@ -4,10 +4,10 @@ ghost use Rattle.std.specs.Prelude.{◌≡◌, IfOk, length, string_bytes};
 ghost use Rattle.kernel_rules.specs.State.{State};
 ghost use Rattle.word_map.specs.Places.{size_of};
 ghost use Rattle.kernel_history.specs.FinalWords.{Represent, word_in, end_in};
+ghost use Rattle.kernel_history.specs.Counts.{RepresentCounts};
 ghost use Rattle.kernel_history.specs.Tables.{tables_of};
 ghost use Rattle.table_report.specs.Shown.{tables_shown};
 
-use crate::counting::references;
 use crate::frames::{budgets, push_frames};
 use crate::rest::{push_cores, push_numbers, spent};
 use spk_nums::{CoreEnd, Memory};
@@ -25,11 +25,10 @@ fn tables(
     requires ends { length ends.now ≡ layout.now.cores }
     ensures { IfOk result (λ text. string_bytes text ≡ tables_shown layout.now words.now ends.now) }
 {
-    let counts = references(alloc, layout, words, ends)?;
     let _cores = layout.cores();
     let total = u128::from(budgets(layout, words)) + spent(ends);
     let mut text = String::new(alloc);
-    push_frames(&mut text, layout, words, &counts)?;
+    push_frames(&mut text, layout, words)?;
     push_numbers(&mut text, layout, words)?;
     push_cores(alloc, &mut text, ends)?;
     push_total(&mut text, total)?;
@@ -37,8 +36,8 @@ fn tables(
 }
 
 /// The tables of a machine in which no core is in a call, by its final words and the ends of its cores: for each frame that is
-/// not untyped its line and those of its object, then the liveness numbers that are live or dead, then the cores with their
-/// translations, then the total of all ticks. Removed entries are not printed.
+/// not untyped its line, with the references that its count words show, and the lines of its object; then the liveness numbers
+/// that are live or dead, then the cores with their translations, then the total of all ticks. Removed entries are not printed.
 ///
 /// There are as many words as the layout has places, and an end for each core. A word that no value has is passed over.
 ///
@@ -50,8 +49,8 @@ pub fn report(alloc: Global, closed: &Closed) -> Result<String, Memory>
     requires ends { length closed.now.ends.items ≡ closed.now.layout.cores }
     // What is printed is what the words and the ends show, whatever they are.
     ensures shown { IfOk result (λ text. string_bytes text ≡ tables_shown closed.now.layout closed.now.words.items closed.now.ends.items) }
-    // It is the tables of every state that they represent.
-    ensures tables { IfOk result (λ text. (s : State) → s.limits.cores ≡ closed.now.layout.cores → s.limits.frames ≡ closed.now.layout.frames → Represent (word_in closed.now.layout closed.now.words.items) (end_in closed.now.ends.items) s → string_bytes text ≡ tables_of s) }
+    // It is the tables of every state that they represent, and whose references the count words represent.
+    ensures tables { IfOk result (λ text. (s : State) → s.limits.cores ≡ closed.now.layout.cores → s.limits.frames ≡ closed.now.layout.frames → Represent (word_in closed.now.layout closed.now.words.items) (end_in closed.now.ends.items) s → RepresentCounts (word_in closed.now.layout closed.now.words.items) s → string_bytes text ≡ tables_of s) }
 {
     let text = tables(alloc, &closed.layout, &closed.words, &closed.ends)?;
     Ok(text)

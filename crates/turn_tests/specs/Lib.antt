@@ -1,2 +1,4 @@
 pub mod Counter
 pub mod Counting
+pub mod Taker
+pub mod Taking

@@ -1,9 +1,13 @@
-//! Tests of what no clause says: that the calls succeed, and that cores that race still count.
+//! Tests of what no clause says: that the calls succeed, and that cores that race still count and take tickets.
+
+ghost use Rattle.turn_tests.specs.Taking.{IsOpen, MayTake};
 
 use crate::counter::Counter;
 use crate::counting::{count, count_in_two, tell};
+use crate::taker::{Side, Taker};
+use crate::taking::{take, take_in_two};
 use spk_nums::Memory;
-use turn_rule::{TurnTable, cross_threads};
+use turn_rule::{TurnSeat, TurnTable, cross_threads};
 
 #[test]
 fn two_cores_win_as_often_as_the_word_says(rt: HostRuntime) -> Result<(), Memory> {
@@ -35,5 +39,56 @@ fn a_core_learns_from_a_note(rt: HostRuntime) -> Result<(), Memory> {
     assert_eq!(rt; first[0].program().wins, 2);
     assert_eq!(rt; second[0].program().wins, 1);
     assert!(rt; !table.turn(&mut first[0]));
+    Ok(())
+}
+
+// Takes 3 tickets for the one core, 255 and none for the other, and 1 for the first again. It answers the tickets.
+fn take_in_turn(
+    table: &TurnTable<Taker>,
+    left: &mut TurnSeat<Taker>,
+    right: &mut TurnSeat<Taker>,
+) -> [u64; 4]
+    requires start { IsOpen table.now.start }
+    requires left { MayTake table.now left.old }
+    requires right { MayTake table.now right.old }
+{
+    let first = take(table, left, 3);
+    let second = take(table, right, 255);
+    let third = take(table, right, 0);
+    let fourth = take(table, left, 1);
+    [first, second, third, fourth]
+}
+
+#[test]
+fn tickets_come_in_order_and_are_read_back(rt: HostRuntime) -> Result<(), Memory> {
+    let words = vec![in rt.alloc(); 0; 3]?;
+    let takers = [Taker::new(Side::Left), Taker::new(Side::Right)];
+    let Ok(programs) = Vec::from_array(rt.alloc(), takers) else {
+        return Err(Memory);
+    };
+    let (table, mut seats) = TurnTable::new(rt.alloc(), words, programs)?;
+    let (left, right) = seats.as_mut_slice().split_at_mut(1);
+    let tickets = take_in_turn(&table, &mut left[0], &mut right[0]);
+    assert_eq!(rt; tickets.as_slice(), [0, 3, 258, 258].as_slice());
+    assert_eq!(rt; left[0].program().taken, 4);
+    assert_eq!(rt; right[0].program().last, 258);
+    Ok(())
+}
+
+#[test]
+fn two_cores_at_once_lose_no_ticket(rt: HostRuntime) -> Result<(), Memory> {
+    cross_threads::<Taker>();
+    let (words, programs) = take_in_two(&rt, rt.alloc(), 20_000)?;
+    let [left, right] = programs.as_slice() else {
+        return Err(Memory);
+    };
+    assert_eq!(rt;
+        words.as_slice(),
+        [160_000, left.last, right.last].as_slice()
+    );
+    assert_eq!(rt; left.taken, 60_000);
+    assert_eq!(rt; right.taken, 100_000);
+    // The last call of all took the last tickets.
+    assert!(rt; left.last == 159_997 || right.last == 159_995);
     Ok(())
 }

@@ -1,34 +1,31 @@
 -- A step of any look-up of a call is good: the look-up goes by the call's plan.
-use Rattle.std.proofs.Common.{◌≡◌, inl, inr, ℕ, suc, ◌<◌, ◌≤◌, ◌+◌, ◌==◌, length, arith, nat_le, nat_lt, ◌&&◌, Bool, true, false, if◌then◌else◌, IsTrue, List, [], ◌∷◌, ◌++◌, Option, Some, None, refl, sym, ◌∙◌, ap, subst}
-use Rattle.std.proofs.lemmas.Bool.{leb-true, leb-false, lt-ltb, eq-eqb}
+use Rattle.std.proofs.Common.{◌≡◌, ℕ, suc, ◌≢◌, ◌<◌, ◌≤◌, ◌+◌, map, length, arith, nat_le, Bool, true, false, if◌then◌else◌, IsTrue, List, [], ◌∷◌, ◌++◌, Option, Some, None, refl, sym, ◌∙◌, ap, subst}
+use Rattle.std.proofs.lemmas.Bool.{leb-true, eq-eqb}
 use Rattle.std.specs.Prelude.{IsSome}
 use Rattle.std.proofs.lemmas.List.Elements.{All-nil, All-append}
 use Rattle.spk_nums.specs.Capability.{Capability}
 use Rattle.spk_nums.specs.Setting.{Setting, IsSetting}
 use Rattle.spk_nums.specs.declared.kinds.Kind.{Kind}
 use Rattle.spk_nums.specs.declared.calls.Call.{Call}
-use Rattle.spk_nums.specs.declared.calls.Call.TheVariants.{Look as look_call, Copy}
+use Rattle.spk_nums.specs.declared.calls.Call.TheVariants.{Look as look_call, Copy, Remove, Shrink, Unmap}
 use Rattle.supported_calls.specs.Built.{IsBuilt}
 use Rattle.spk_nums.specs.declared.replies.Reply.{Reply}
 use Rattle.spk_nums.specs.declared.replies.Value.TheVariants.{Cap}
-use Rattle.spk_nums.specs.declared.kinds.Kind.TheVariants as kind
 use Rattle.spk_nums.specs.declared.replies.Reply.TheVariants as reply
 use Rattle.entry_words.specs.declared.entry.Entry.{Entry}
 use Rattle.entry_words.specs.declared.entry.Entry.TheVariants as entry
 use Rattle.entry_words.specs.EntryWord.{EntryFits, entry_of_word}
 use Rattle.word_map.specs.Word.{EntryAt}
 use Rattle.word_map.specs.Moves.{LoadOf, word_of}
-use Rattle.kernel_rules.specs.State.{State, Thing, Holds, PlaceOf, comp_of}
-use Rattle.kernel_rules.specs.Access.{Slot, Named, found, capability, any, root_at, place_at, held_in, reached, has_no_slot, own, Target as place, Under, InRoot}
-use Rattle.kernel_rules.specs.Rules.{RuleMay, Refused, IsFoundAnd, Does, outcome, answers, Found as Found_it, and_then, or_refuse, unless, not_vacant, named, vacant, held}
-use Rattle.kernel_rules.specs.CallRelation.{MayReply, rule_of, change_of, changed, counted, begins_in, begins, ends, flushes, state_by, are_calls_spent}
-use Rattle.kernel_rules.specs.CapabilityCalls.{look_rule}
+use Rattle.kernel_rules.specs.State.{State, PlaceOf, comp_of}
+use Rattle.kernel_rules.specs.Access.{Slot, Named, found, any, root_at, place_at, held_in, reached, has_no_slot, own, Target as place, Under, InRoot}
+use Rattle.kernel_rules.specs.Rules.{RuleMay, Refused, Found as Found_it, named, vacant, held}
+use Rattle.kernel_rules.specs.CallRelation.{MayReply, rule_of, change_of, counted, begins, ends, flushes, state_by, are_calls_spent}
 use Rattle.kernel_rules.proofs.Facts.{none_some, some_inj}
 use Rattle.kernel_rules.specs.Alone.{alone}
 use Rattle.kernel_history.specs.Trace.{Step, Trace, Open, phase, state_after, last_left, own_left}
 use Rattle.kernel_history.specs.Ways.{way_to, wide_way_to, wide_ways}
 use Rattle.kernel_history.specs.Justified.{is_slot_in, HasReached, IsJustified}
-use Rattle.kernel_history.specs.Alone.{IsAlone}
 use Rattle.kernel_history.proofs.AloneCalls.{refused_first, ok_first}
 use Rattle.kernel_history.proofs.Carries.{Carries}
 use Rattle.kernel_history.proofs.Stays.{relies_table}
@@ -37,7 +34,6 @@ use Rattle.stage_look.specs.Shown.{shown_in}
 use Rattle.stage_look.specs.Lookup.{look_move, found_at}
 use Rattle.stage_look.specs.declared.look.Look.{Look}
 use Rattle.stage_look.specs.declared.look.Look.TheVariants.{AtRoot, AtEntry}
-use Rattle.stage_look.specs.declared.look.Found.{Found}
 use Rattle.call_plans.specs.declared.plans.Nth.TheVariants.{First, Second}
 use Rattle.call_plans.specs.declared.plans.Name.{Name}
 use Rattle.call_plans.specs.declared.plans.Spot.{Spot}
@@ -45,129 +41,55 @@ use Rattle.call_plans.specs.declared.plans.Spot.TheVariants as spot_of
 use Rattle.call_plans.specs.declared.plans.Target.{Target}
 use Rattle.call_plans.specs.declared.plans.Target.TheVariants.{Nowhere, Free, Held, Own as own_page}
 use Rattle.call_plans.specs.declared.plans.Plan.{Plan}
-use Rattle.call_plans.specs.Plans.{head, at_place, pushed}
-use Rattle.call_plans.specs.PlanOf.{any_cap, of_kind, plan_for}
+use Rattle.call_plans.specs.Plans.{at_place}
+use Rattle.call_plans.specs.PlanOf.{any_cap, plan_for}
 use Rattle.call_plans.specs.GoesBy.{GoesBy, own_pages, earlier, wants, place_of}
 use Rattle.call_plans.specs.Rooted.{IsRooted}
 use Rattle.call_plans.specs.After.{with_found, names_after, Leads, LeadsIn, Next, NextName, NextFree, NextHeld, NextOwn, NextNothing, next_target, next_in, next_of, NextMay}
 use Rattle.call_plans.proofs.CallsGoBy.{calls_go}
 use Rattle.call_plans.proofs.RootedTargets.{rooted}
 use Rattle.call_plans.proofs.FewNames.{few_names}
-use Rattle.call_plans.proofs.Roots.{count_led, pushed_one, after_more}
+use Rattle.call_plans.proofs.Roots.{count_led, pushed_one}
 use Rattle.call_plans.proofs.AfterNames.{leads_by, one_more, NextBy, next_may}
 use Rattle.plan_ways.specs.Laws.{NextPlace, NextRefused}
 use Rattle.plan_ways.proofs.Ways.{next_on_way, next_first}
 use Rattle.call_steps.specs.declared.refusals.Refusal.TheVariants as refusal
 use Rattle.call_steps.specs.declared.lookups.Met.TheVariants.{Finds, Refused as met_refused}
 use Rattle.call_steps.specs.declared.stages.Work.{Work}
-use Rattle.call_steps.specs.declared.stages.Work.TheVariants.{Lookup, Act}
-use Rattle.call_steps.specs.declared.fills.Fill.{Fill}
-use Rattle.call_steps.specs.declared.stages.Act.TheVariants.{Fill as fill_act}
-use Rattle.call_steps.specs.declared.stages.Stage.TheVariants.{Undecided, Decided}
-use Rattle.call_steps.specs.declared.stages.Tail.TheVariants.{Nothing}
+use Rattle.call_steps.specs.declared.stages.Work.TheVariants.{Lookup}
+use Rattle.call_steps.specs.declared.stages.Stage.{Stage}
+use Rattle.call_steps.specs.declared.stages.Stage.TheVariants.{Undecided}
 use Rattle.call_steps.specs.declared.stages.ActiveCall.{ActiveCall}
-use Rattle.call_steps.specs.declared.stages.WorkStep.{WorkStep}
 use Rattle.call_steps.specs.declared.stages.WorkStep.TheVariants.{Goes}
-use Rattle.call_steps.specs.Acts.{refuse, fills_at, act_begun}
-use Rattle.call_steps.specs.Lookups.{looks_under, looks_entry, looks_at, next_step, met_name, met_free}
-use Rattle.call_steps.specs.Steps.{Took, landed, found_more, next_by as what_next, named_one, took_look, took_found}
+use Rattle.stage_pins.specs.declared.held.Acquired.{Acquired}
+use Rattle.call_steps.specs.declared.stages.Act.{Act as ActOf}
+use Rattle.call_steps.specs.Acts.{refuse, dues, next_work, scans, stamp_shown, filling, fills_at, removing, act_begun}
+use Rattle.call_steps.specs.Fits.{CountsAt}
+use Rattle.core_invariant.specs.Holding.{Holding, holds_counts}
+use Rattle.core_invariant.specs.Knows.{due_of, IsScanned, MayFill, KnowsAct, KnowsWork}
+use Rattle.work_invariant.proofs.Acquiring.{knows_next, next_holds}
+use Rattle.work_invariant.proofs.Scans.{ShowsSince, since_is, knows_scan}
+use Rattle.stage_quiet.specs.declared.quiet.Quiet.{Quiet}
+use Rattle.stage_quiet.specs.Scan.{quiet_scan}
+use Rattle.kernel_history.specs.Justified.{IsRemoved}
+use Rattle.kernel_history.specs.Stamps.{stamp}
+use Rattle.kernel_history.proofs.Carries.{was_now}
+use Rattle.call_steps.specs.Lookups.{looks_under, looks_entry, looks_at, next_step, met_name, met_free, met_held}
+use Rattle.call_steps.specs.Steps.{landed, found_more, next_by as what_next, named_one, took_look, took_found}
 use Rattle.call_steps.specs.View.{Core}
 use Rattle.call_steps.specs.Fits.{HasRoom}
-use Rattle.core_invariant.specs.Holding.{nothing}
-use Rattle.core_invariant.specs.Knows.{LooksUp, own_in, HasFound, NamesAre, LooksFor, KnowsUndecided, Knows, phase_at}
-use Rattle.core_invariant.specs.Stands.{holds_at, Stands}
+use Rattle.core_invariant.specs.Knows.{LooksUp, own_in, HasFound, NamesAre, LooksFor, KnowsUndecided, phase_at}
+use Rattle.core_invariant.specs.Stands.{holds_work, holds_at, holds_in, Stands}
 use Rattle.core_invariant.proofs.Carries.{names_on, own_kept}
-use Rattle.core_invariant.proofs.Loads.{OnlyLooks, step_to, next_at, inner, core_is, call_is, is_active, loads_on, decides_on}
-use Rattle.core_invariant.proofs.Refusals.{GoodTook, NobodyWaits, not_spent, refuses_empty, refuses_wrong, refuses_occupied}
+use Rattle.core_invariant.proofs.Loads.{OnlyLooks, step_to, next_at, core_is, call_is, is_active, loads_on, decides_on}
+use Rattle.core_invariant.proofs.Refusals.{GoodTook, not_spent, refuses_empty, refuses_wrong, refuses_occupied}
 use Rattle.work_invariant.proofs.Lookups.{Shows, ShowsHeld, Arrives, under_step, in_root_step}
 use Rattle.work_invariant.proofs.Findings.{own_is, past_slot, past_unreached, reaches_none, reaches_held, reaches_other, use_held, use_free, use_removed_at, named_of, named_no_slot, named_empty, named_wrong, found_named, way_gone, gone_with, arriving, reached_now, found_now}
 use Rattle.work_invariant.proofs.Next.{MayUse, spot_relies, Rest, ANameLeft, NoneLeft, rest_of, next_name, next_end}
+use Rattle.work_invariant.proofs.ByCall.{vacant_no_slot, vacant_occupied, held_no_slot, held_empty, past_entry, past_entry_unreached, no_own, one_left, first_same, Begins, begins_fill, BeginsRemoval, begins_removal, look_state, look_begins, look_answers}
 
--- A target is refused where it has no slot, and one that is to be free where it is held.
-vacant_no_slot : (s : State) (c : ℕ) (target : place) → reached s c target ≡ None → vacant s c target ≡ Refused reply.NoSlot
-vacant_no_slot s c target none = ap (λ o. and_then (or_refuse o reply.NoSlot) λ at. unless (not_vacant s c (PlaceOf at.node at.index) (place_at s at)) at) none
-
-vacant_occupied : (s : State) (c : ℕ) (target : place) (at : Slot) (i : Capability) → reached s c target ≡ Some at → place_at s at ≡ Holds i → vacant s c target ≡ Refused reply.Occupied
-vacant_occupied s c target at i is holds =
-    ap (λ o. and_then (or_refuse o reply.NoSlot) λ at. unless (not_vacant s c (PlaceOf at.node at.index) (place_at s at)) at) is
-    ∙ ap (λ p. unless (not_vacant s c (PlaceOf at.node at.index) p) at) holds
-
-held_no_slot : (s : State) (c : ℕ) (target : place) → reached s c target ≡ None → held s c target ≡ Refused reply.NoSlot
-held_no_slot s c target none = ap (λ o. and_then (or_refuse o reply.NoSlot) λ at. and_then (or_refuse (held_in (place_at s at)) reply.Empty) λ k. Found_it (at, k)) none
-
--- An entry past its range.
-past_entry : (i : ℕ) → nat_le i 63 ≡ false → IsTrue (nat_lt 63 i)
-past_entry i past = lt-ltb 63 i (leb-false i 63 past)
-
-past_entry_unreached : (s : State) (c : ℕ) (root : Named) (i : ℕ) → nat_le i 63 ≡ false → reached s c (InRoot root i) ≡ None
-past_entry_unreached s c root i past = by root.found
-  where
-    slot : Slot
-    slot = record { node = root.frame; index = i }
-
-    by : (b : Bool) → (if b && nat_le i 63 then Some slot else None) ≡ None
-    by true = ap (λ b. if b then Some slot else None) past
-    by false = refl
-
--- No call that is carried out looks up a page of its own, or a target that is to be held.
-no_own : (call : Call) → IsBuilt call → (v : ℕ) → (plan_for call).target ≡ own_page v → ⊥
-no_own (look_call a) built v is = cc
-no_own (Copy a u b) built v is = cc
-no_own call built v is = built
-
-no_held : (call : Call) → IsBuilt call → (spot : Spot) → (plan_for call).target ≡ Held spot → ⊥
-no_held (look_call a) built spot is = cc
-no_held (Copy a u b) built spot is = cc
-no_held call built spot is = built
-
--- What is looked up first is all that is looked up of one name.
-none_after : (ks : List Capability) → names_after [] ks ≡ []
-none_after [] = refl
-none_after (k ∷ ks) = refl
-
-one_left : (one name : Name) (rest : List Name) (ks : List Capability) → names_after (one ∷ []) ks ≡ name ∷ rest → ks ≡ []
-one_left one name rest [] is = refl
-one_left one name rest (k ∷ ks) is = absurd (not_none (sym (none_after ks) ∙ is))
-  where
-    not_none : [] ≡ name ∷ rest → ⊥
-    not_none h = cc
-
-first_same : (name : Name) (rest : List Name) (one : Name) → name ∷ rest ≡ one ∷ [] → name ≡ one
-first_same name rest one is = some_inj name one (ap head is)
-
--- The filling act of a call with a target that is to be free.
-record Begins (call : Call) (ks : List Capability) : Type 0 where
-  k : Capability
-  first : at_place ks First ≡ Some k
-  act : (f : Found) → act_begun call ks (Some f) ≡ fills_at k f
-
-begins_fill : (call : Call) → IsBuilt call → (spot : Spot) → (plan_for call).target ≡ Free spot → (ks : List Capability) → names_after (plan_for call).names ks ≡ [] → Begins call ks
-begins_fill (look_call a) built spot to ks none = absurd (not_free to)
-  where
-    not_free : Nowhere ≡ Free spot → ⊥
-    not_free h = cc
-begins_fill (Copy a u b) built spot to [] none = absurd (not_none none)
-  where
-    not_none : any_cap a ∷ of_kind kind.Table u ∷ [] ≡ [] → ⊥
-    not_none h = cc
-begins_fill (Copy a u b) built spot to (k ∷ ks) none = record { k = k; first = refl; act = λ f. refl }
-begins_fill call built spot to ks none = absurd built
-
--- A look that has found its capability answers it.
-module _ (s : State) (c a : ℕ) (k : Capability) (is : named s c a any ≡ Found_it k) where
-  look_change : change_of s c (look_call a) ≡ Found_it (answers s (Cap k))
-  look_change = ap (λ x. and_then x λ k. outcome s c (Does [] (answers s (Cap (capability (found k)))))) is
-
-  look_state : counted (changed s (change_of s c (look_call a))) c ≡ counted s c
-  look_state = ap (λ x. counted (changed s x) c) look_change
-
-  look_begins : (x : Thing) → begins_in (change_of s c (look_call a)) x ≡ false
-  look_begins x = ap (λ y. begins_in y x) look_change
-
-  look_answers : IsFoundAnd (outcome s c (look_rule s a)) (λ change. change.value ≡ Cap k)
-  look_answers = subst (λ x. IsFoundAnd x (λ change. change.value ≡ Cap k)) (sym look_change) refl
-
-module _ (setup : Setting) (setting : IsSetting setup) (cores : ℕ → Core) (t : Trace) (stands : Stands setup cores t) (c : ℕ) (here : c < setup.cores)
+module _ (setup : Setting) (setting : IsSetting setup) (cores : ℕ → Core) (t : Trace) (stands : Stands setup cores t) (c : ℕ)
+    (here : c < setup.cores)
     (a : ActiveCall) (active : (cores c).active ≡ Some a) (look : Look) (stage_is : a.stage ≡ Undecided (Lookup look))
     (has : KnowsUndecided setup t c (cores c).own.table a (Lookup look)) where
   abbrev s : State
@@ -191,18 +113,26 @@ module _ (setup : Setting) (setting : IsSetting setup) (cores : ℕ → Core) (t
   is_open : phase t c ≡ Open a.call
   is_open = (call_is setup setting cores t stands c here a active).phase ∙ opens
 
-  holds_none : holds_at a.stage (cores c).own.core ≡ nothing
-  holds_none = ap (λ x. holds_at x (cores c).own.core) stage_is
+  held_is : holds_in (Some a) ≡ holds_counts None a.counts
+  held_is = ap (λ s. holds_at s a.counts) stage_is
+
+  no_counts : a.counts ≡ []
+  no_counts = subst (CountsAt a.counts) stage_is (is_active setup setting cores t stands c here a active).counts
+
+  still : (fate : Option (Option ℕ)) → holds_counts fate a.counts ≡ holds_in (Some a)
+  still fate = ap (holds_counts fate) no_counts ∙ sym (ap (holds_counts None) no_counts) ∙ sym held_is
 
   goes_by : GoesBy (own_pages s c) a.plan (rule_of s c a.call)
   goes_by = subst (λ p. GoesBy (own_pages s c) p (rule_of s c a.call)) (sym plan_is) (calls_go s c a.call)
 
   leads : Leads (LeadsIn s c) a.plan.names [] a.found
-  leads = leads_by (λ n wanted k. HasFound setup t c (own_in table n) wanted k) (LeadsIn s c) (λ n wanted k had. found_named setup t c table n wanted k table_is had)
+  leads = leads_by (λ n wanted k. HasFound setup t c (own_in table n) wanted k) (LeadsIn s c)
+      (λ n wanted k had. found_named setup t c table n wanted k table_is had)
       a.plan.names [] a.found has.names
 
   uses : Leads (MayUse s c) a.plan.names [] a.found
-  uses = leads_by (λ n wanted k. HasFound setup t c (own_in table n) wanted k) (MayUse s c) (λ n wanted k had. record { at = had.at; usable = had.usable; kind = had.kind })
+  uses = leads_by (λ n wanted k. HasFound setup t c (own_in table n) wanted k) (MayUse s c)
+      (λ n wanted k had. record { at = had.at; usable = had.usable; kind = had.kind })
       a.plan.names [] a.found has.names
 
   -- what may be refused, what is the first cause, and which places are on the way, of a call whose names have led to these
@@ -213,22 +143,28 @@ module _ (setup : Setting) (setting : IsSetting setup) (cores : ℕ → Core) (t
     first : (r : Reply) → NextRefused s c (own_pages s c) (next_of a.plan ks) r → change_of s c a.call ≡ Refused r
     first r h = next_first s c (own_pages s c) a.plan (rule_of s c a.call) ks goes_by lead r h
 
-  way : (target : place) → NextPlace s c (next_of a.plan a.found) target → (g i : ℕ) → is_slot_in (wide_way_to s target) g i ≡ true → is_slot_in (wide_ways s c (rule_of s c a.call)) g i ≡ true
+  way : (target : place) → NextPlace s c (next_of a.plan a.found) target → (g i : ℕ) → is_slot_in (wide_way_to s target) g i ≡ true
+      → is_slot_in (wide_ways s c (rule_of s c a.call)) g i ≡ true
   way target is g i h = next_on_way s c (own_pages s c) a.plan (rule_of s c a.call) a.found goes_by leads target g i is h
 
   own_target : (n : ℕ) → own_in table n ≡ own s c n
   own_target n = own_is s c table n table_is
 
   -- a load that refuses with `no-slot` a call whose names have led to these
-  no_slot_with : (ks : List Capability) (at : Slot) → OnlyLooks setup t c a.call (LoadOf (EntryAt at.node at.index)) → RuleMay s c (rule_of s c a.call) reply.NoSlot
-      → change_of s c a.call ≡ Refused reply.NoSlot → GoodTook setup cores t c (LoadOf (EntryAt at.node at.index)) (landed (found_more a ks) (refuse refusal.NoSlot))
+  no_slot_with : (ks : List Capability) (at : Slot) → OnlyLooks setup t c a.call (LoadOf (EntryAt at.node at.index))
+      → RuleMay s c (rule_of s c a.call) reply.NoSlot
+      → change_of s c a.call ≡ Refused reply.NoSlot
+      → GoodTook setup cores t c (LoadOf (EntryAt at.node at.index)) (landed (found_more a ks) (refuse refusal.NoSlot))
   no_slot_with ks at looks may is lands =
-      let unspent : are_calls_spent s c ≡ false = not_spent setup (cores c) t c (core_is setup setting cores t stands c here a active) room in
-      decides_on setup setting cores t stands c here a active (LoadOf (EntryAt at.node at.index)) reply.NoSlot ks looks lands (sym holds_none) opens refl refl (λ x. refl) (λ x. refl) refl
+      let unspent : are_calls_spent s c ≡ false = not_spent setup (cores c) t c (core_is setup setting cores t stands c here a active)
+      room in
+      decides_on setup setting cores t stands c here a active (LoadOf (EntryAt at.node at.index)) reply.NoSlot ks looks lands (still None)
+      opens refl refl (λ x. refl) (λ x. refl) refl
       (unspent, may) tt (λ is_alone. refused_first s c a.call reply.NoSlot unspent is)
 
   -- One name more has led to k, at a slot of which the word was loaded: what comes next is good.
-  module _ (name : Name) (rest : List Name) (left : names_after a.plan.names a.found ≡ name ∷ rest) (at : Slot) (k : Capability) (arrives : Arrives setup t c (own_in table name.number) at)
+  module _ (name : Name) (rest : List Name) (left : names_after a.plan.names a.found ≡ name ∷ rest) (at : Slot) (k : Capability)
+      (arrives : Arrives setup t c (own_in table name.number) at)
       (shows : ShowsHeld setup.frames (place_at s at) k) (looks : OnlyLooks setup t c a.call (LoadOf (EntryAt at.node at.index)))
       (wanted : wants (with_found [] a.found) name.wanted k.kind ≡ true) where
     abbrev more : List Capability
@@ -237,9 +173,12 @@ module _ (setup : Setting) (setting : IsSetting setup) (cores : ℕ → Core) (t
     abbrev e : Step
     e = arriving setup t c (own_in table name.number) at (last_left setup t (EntryAt at.node at.index)) arrives
 
-    next_left : NextBy (λ n w j. HasFound setup (e ∷ t) c (own_in table n) w j) (next_in (with_found [] a.found) (names_after a.plan.names a.found) a.plan.target) k
-    next_left = subst (λ (names : List Name). NextBy (λ n w j. HasFound setup (e ∷ t) c (own_in table n) w j) (next_in (with_found [] a.found) names a.plan.target) k) (sym left)
-        (found_now setup t c (own_in table name.number) at (last_left setup t (EntryAt at.node at.index)) arrives (wants (with_found [] a.found) name.wanted) k shows.holds wanted shows.fits)
+    next_left : NextBy (λ n w j. HasFound setup (e ∷ t) c (own_in table n) w j)
+        (next_in (with_found [] a.found) (names_after a.plan.names a.found) a.plan.target) k
+    next_left = subst (λ (names : List Name). NextBy (λ n w j. HasFound setup (e ∷ t) c (own_in table n) w j)
+        (next_in (with_found [] a.found) names a.plan.target) k) (sym left)
+        (found_now setup t c (own_in table name.number) at (last_left setup t (EntryAt at.node at.index)) arrives
+        (wants (with_found [] a.found) name.wanted) k shows.holds wanted shows.fits)
 
     names_then : Carries setup t e c → NamesAre setup (e ∷ t) c table a.plan more
     names_then carries = one_more (λ n w j. HasFound setup (e ∷ t) c (own_in table n) w j) a.plan.names a.plan.target [] a.found k
@@ -258,104 +197,159 @@ module _ (setup : Setting) (setting : IsSetting setup) (cores : ℕ → Core) (t
 
     leads_then : Leads (LeadsIn s c) a.plan.names [] more
     leads_then = one_more (LeadsIn s c) a.plan.names a.plan.target [] a.found k leads
-        (subst (λ (names : List Name). NextBy (LeadsIn s c) (next_in (with_found [] a.found) names a.plan.target) k) (sym left) here_named)
+        (subst (λ (names : List Name). NextBy (LeadsIn s c) (next_in (with_found [] a.found) names a.plan.target) k) (sym left)
+        here_named)
 
     -- the next look-up begins
     looks_on_at : (next : Look) → ((carries : Carries setup t e c) → LooksFor setup (e ∷ t) c table (next_of a.plan more) next)
         → GoodTook setup cores t c (LoadOf (EntryAt at.node at.index)) (landed (found_more a more) (Goes (Lookup next)))
     looks_on_at next knows lands =
-        loads_on setup setting cores t stands c here a active (LoadOf (EntryAt at.node at.index)) more (Undecided (Lookup next)) looks lands (sym holds_none) opens
+        loads_on setup setting cores t stands c here a active (LoadOf (EntryAt at.node at.index)) more (Undecided (Lookup next)) looks
+        lands (still None) opens
         (λ carries. record { names = names_then carries; knows = knows carries })
 
     -- what the next is, said of the slot
-    under_good : (next : Next) → next_of a.plan more ≡ next → (root : Named) (n : ℕ) → root.found ≡ true → Rattle.kernel_rules.specs.Relies.Relies s c root.frame
+    under_good : (next : Next) → next_of a.plan more ≡ next → (root : Named) (n : ℕ) → root.found ≡ true
+        → Rattle.kernel_rules.specs.Relies.Relies s c root.frame
         → (((look : Look) → LooksUp setup (e ∷ t) c (Under root n) look → LooksFor setup (e ∷ t) c table next look))
-        → (nat_le n 4095 ≡ false → NextMay s c (own_pages s c) next reply.NoSlot) → (nat_le n 4095 ≡ false → NextRefused s c (own_pages s c) next reply.NoSlot)
-        → GoodTook setup cores t c (LoadOf (EntryAt at.node at.index)) (landed (found_more a more) (looks_under (nat_le n 4095) root.frame n))
+        → (nat_le n 4095 ≡ false → NextMay s c (own_pages s c) next reply.NoSlot)
+        → (nat_le n 4095 ≡ false → NextRefused s c (own_pages s c) next reply.NoSlot)
+        → GoodTook setup cores t c (LoadOf (EntryAt at.node at.index))
+        (landed (found_more a more) (looks_under (nat_le n 4095) root.frame n))
     under_good next is root n found relies for may_not refused = by (nat_le n 4095) refl
       where
-        by : (within : Bool) → nat_le n 4095 ≡ within → GoodTook setup cores t c (LoadOf (EntryAt at.node at.index)) (landed (found_more a more) (looks_under within root.frame n))
-        by true within = looks_on_at (AtRoot root.frame n) (λ carries. subst (λ x. LooksFor setup (e ∷ t) c table x (AtRoot root.frame n)) (sym is)
-            (for (AtRoot root.frame n) (record { relies = relies; at = record { found = found; frame = refl; same = refl; within = leb-true n 4095 within } })))
-        by false past = no_slot_with more at looks (may more leads_then reply.NoSlot (subst (λ x. NextMay s c (own_pages s c) x reply.NoSlot) (sym is) (may_not past)))
+        by : (within : Bool) → nat_le n 4095 ≡ within
+            → GoodTook setup cores t c (LoadOf (EntryAt at.node at.index)) (landed (found_more a more) (looks_under within root.frame n))
+        by true within = looks_on_at (AtRoot root.frame n) (λ carries. subst (λ x. LooksFor setup (e ∷ t) c table x (AtRoot root.frame n))
+            (sym is)
+            (for (AtRoot root.frame n) (record {
+              relies = relies;
+              at = record
+                  { found = found; frame = refl; same = refl; within = leb-true n 4095 within };
+            })))
+        by false past = no_slot_with more at looks (may more leads_then reply.NoSlot
+            (subst (λ x. NextMay s c (own_pages s c) x reply.NoSlot) (sym is) (may_not past)))
             (first more leads_then reply.NoSlot (subst (λ x. NextRefused s c (own_pages s c) x reply.NoSlot) (sym is) (refused past)))
 
-    entry_good : (next : Next) → next_of a.plan more ≡ next → (root : Named) (i : ℕ) → root.found ≡ true → Rattle.kernel_rules.specs.Relies.Relies s c root.frame
+    entry_good : (next : Next) → next_of a.plan more ≡ next → (root : Named) (i : ℕ) → root.found ≡ true
+        → Rattle.kernel_rules.specs.Relies.Relies s c root.frame
         → (((look : Look) → LooksUp setup (e ∷ t) c (InRoot root i) look → LooksFor setup (e ∷ t) c table next look))
-        → (nat_le i 63 ≡ false → NextMay s c (own_pages s c) next reply.NoSlot) → (nat_le i 63 ≡ false → NextRefused s c (own_pages s c) next reply.NoSlot)
-        → GoodTook setup cores t c (LoadOf (EntryAt at.node at.index)) (landed (found_more a more) (looks_entry (nat_le i 63) root.frame i))
+        → (nat_le i 63 ≡ false → NextMay s c (own_pages s c) next reply.NoSlot)
+        → (nat_le i 63 ≡ false → NextRefused s c (own_pages s c) next reply.NoSlot)
+        → GoodTook setup cores t c (LoadOf (EntryAt at.node at.index))
+        (landed (found_more a more) (looks_entry (nat_le i 63) root.frame i))
     entry_good next is root i found relies for may_not refused = by (nat_le i 63) refl
       where
-        by : (within : Bool) → nat_le i 63 ≡ within → GoodTook setup cores t c (LoadOf (EntryAt at.node at.index)) (landed (found_more a more) (looks_entry within root.frame i))
-        by true within = looks_on_at (AtEntry root.frame i) (λ carries. subst (λ x. LooksFor setup (e ∷ t) c table x (AtEntry root.frame i)) (sym is)
-            (for (AtEntry root.frame i) (record { relies = relies; at = record { found = found; frame = refl; same = refl; within = leb-true i 63 within } })))
-        by false past = no_slot_with more at looks (may more leads_then reply.NoSlot (subst (λ x. NextMay s c (own_pages s c) x reply.NoSlot) (sym is) (may_not past)))
+        by : (within : Bool) → nat_le i 63 ≡ within
+            → GoodTook setup cores t c (LoadOf (EntryAt at.node at.index)) (landed (found_more a more) (looks_entry within root.frame i))
+        by true within = looks_on_at (AtEntry root.frame i) (λ carries. subst
+            (λ x. LooksFor setup (e ∷ t) c table x (AtEntry root.frame i)) (sym is)
+            (for (AtEntry root.frame i) (record {
+              relies = relies;
+              at = record
+                  { found = found; frame = refl; same = refl; within = leb-true i 63 within };
+            })))
+        by false past = no_slot_with more at looks (may more leads_then reply.NoSlot
+            (subst (λ x. NextMay s c (own_pages s c) x reply.NoSlot) (sym is) (may_not past)))
             (first more leads_then reply.NoSlot (subst (λ x. NextRefused s c (own_pages s c) x reply.NoSlot) (sym is) (refused past)))
 
     -- the target is looked up next
     is_rooted : (target : Target) → a.plan.target ≡ target → IsRooted a.plan.names target
     is_rooted target to = subst (IsRooted a.plan.names) to (subst (λ p. IsRooted p.names p.target) (sym plan_is) (rooted a.call))
 
-    free_good : (spot : Spot) → a.plan.target ≡ Free spot → names_after a.plan.names more ≡ [] → next_of a.plan more ≡ NextFree (place_of (with_found [] more) spot)
-        → GoodTook setup cores t c (LoadOf (EntryAt at.node at.index)) (landed (found_more a more) (looks_at (place_of (with_found [] more) spot)))
+    free_good : (spot : Spot) → a.plan.target ≡ Free spot → names_after a.plan.names more ≡ []
+        → next_of a.plan more ≡ NextFree (place_of (with_found [] more) spot)
+        → GoodTook setup cores t c (LoadOf (EntryAt at.node at.index))
+        (landed (found_more a more) (looks_at (place_of (with_found [] more) spot)))
     free_good (spot_of.Under i n) to none is =
-        let root = spot_relies setup setting t stands.legal c a.call is_open a.plan more (spot_of.Under i n) (is_rooted (Free (spot_of.Under i n)) to) uses_then none in
-        under_good (NextFree (Under (earlier (with_found [] more) i) n)) is (earlier (with_found [] more) i) n root.1 root.0 (λ look looks. looks)
-        (λ past. past_slot s (earlier (with_found [] more) i) n past) (λ past. vacant_no_slot s c (Under (earlier (with_found [] more) i) n) (past_unreached s c (earlier (with_found [] more) i) n past))
+        let root = spot_relies setup setting t stands.legal c a.call is_open a.plan more (spot_of.Under i n)
+        (is_rooted (Free (spot_of.Under i n)) to) uses_then none in
+        under_good (NextFree (Under (earlier (with_found [] more) i) n)) is (earlier (with_found [] more) i) n root.1 root.0
+        (λ look looks. looks)
+        (λ past. past_slot s (earlier (with_found [] more) i) n past)
+        (λ past. vacant_no_slot s c (Under (earlier (with_found [] more) i) n)
+        (past_unreached s c (earlier (with_found [] more) i) n past))
     free_good (spot_of.InRoot i x) to none is =
-        let root = spot_relies setup setting t stands.legal c a.call is_open a.plan more (spot_of.InRoot i x) (is_rooted (Free (spot_of.InRoot i x)) to) uses_then none in
-        entry_good (NextFree (InRoot (earlier (with_found [] more) i) x)) is (earlier (with_found [] more) i) x root.1 root.0 (λ look looks. looks)
-        (λ past. past_entry x past) (λ past. vacant_no_slot s c (InRoot (earlier (with_found [] more) i) x) (past_entry_unreached s c (earlier (with_found [] more) i) x past))
+        let root = spot_relies setup setting t stands.legal c a.call is_open a.plan more (spot_of.InRoot i x)
+        (is_rooted (Free (spot_of.InRoot i x)) to) uses_then none in
+        entry_good (NextFree (InRoot (earlier (with_found [] more) i) x)) is (earlier (with_found [] more) i) x root.1 root.0
+        (λ look looks. looks)
+        (λ past. past_entry x past) (λ past. vacant_no_slot s c (InRoot (earlier (with_found [] more) i) x)
+        (past_entry_unreached s c (earlier (with_found [] more) i) x past))
 
-    held_good : (spot : Spot) → a.plan.target ≡ Held spot → names_after a.plan.names more ≡ [] → next_of a.plan more ≡ NextHeld (place_of (with_found [] more) spot)
-        → GoodTook setup cores t c (LoadOf (EntryAt at.node at.index)) (landed (found_more a more) (looks_at (place_of (with_found [] more) spot)))
+    held_good : (spot : Spot) → a.plan.target ≡ Held spot → names_after a.plan.names more ≡ []
+        → next_of a.plan more ≡ NextHeld (place_of (with_found [] more) spot)
+        → GoodTook setup cores t c (LoadOf (EntryAt at.node at.index))
+        (landed (found_more a more) (looks_at (place_of (with_found [] more) spot)))
     held_good (spot_of.Under i n) to none is =
-        let root = spot_relies setup setting t stands.legal c a.call is_open a.plan more (spot_of.Under i n) (is_rooted (Held (spot_of.Under i n)) to) uses_then none in
-        under_good (NextHeld (Under (earlier (with_found [] more) i) n)) is (earlier (with_found [] more) i) n root.1 root.0 (λ look looks. looks)
-        (λ past. past_slot s (earlier (with_found [] more) i) n past) (λ past. held_no_slot s c (Under (earlier (with_found [] more) i) n) (past_unreached s c (earlier (with_found [] more) i) n past))
+        let root = spot_relies setup setting t stands.legal c a.call is_open a.plan more (spot_of.Under i n)
+        (is_rooted (Held (spot_of.Under i n)) to) uses_then none in
+        under_good (NextHeld (Under (earlier (with_found [] more) i) n)) is (earlier (with_found [] more) i) n root.1 root.0
+        (λ look looks. looks)
+        (λ past. past_slot s (earlier (with_found [] more) i) n past)
+        (λ past. held_no_slot s c (Under (earlier (with_found [] more) i) n)
+        (past_unreached s c (earlier (with_found [] more) i) n past))
     held_good (spot_of.InRoot i x) to none is =
-        let root = spot_relies setup setting t stands.legal c a.call is_open a.plan more (spot_of.InRoot i x) (is_rooted (Held (spot_of.InRoot i x)) to) uses_then none in
-        entry_good (NextHeld (InRoot (earlier (with_found [] more) i) x)) is (earlier (with_found [] more) i) x root.1 root.0 (λ look looks. looks)
-        (λ past. past_entry x past) (λ past. held_no_slot s c (InRoot (earlier (with_found [] more) i) x) (past_entry_unreached s c (earlier (with_found [] more) i) x past))
+        let root = spot_relies setup setting t stands.legal c a.call is_open a.plan more (spot_of.InRoot i x)
+        (is_rooted (Held (spot_of.InRoot i x)) to) uses_then none in
+        entry_good (NextHeld (InRoot (earlier (with_found [] more) i) x)) is (earlier (with_found [] more) i) x root.1 root.0
+        (λ look looks. looks)
+        (λ past. past_entry x past) (λ past. held_no_slot s c (InRoot (earlier (with_found [] more) i) x)
+        (past_entry_unreached s c (earlier (with_found [] more) i) x past))
 
     target_good : (target : Target) → a.plan.target ≡ target → names_after a.plan.names more ≡ []
-        → (target ≡ Nowhere → GoodTook setup cores t c (LoadOf (EntryAt at.node at.index)) (landed (found_more a more) (act_begun a.call more None)))
-        → GoodTook setup cores t c (LoadOf (EntryAt at.node at.index)) (landed (found_more a more) (next_step table a.call more (next_target (with_found [] more) target)))
+        → (target ≡ Nowhere → GoodTook setup cores t c (LoadOf (EntryAt at.node at.index))
+        (landed (found_more a more) (act_begun (cores c).own a.call more None)))
+        → GoodTook setup cores t c (LoadOf (EntryAt at.node at.index))
+        (landed (found_more a more) (next_step (cores c).own a.call more (next_target (with_found [] more) target)))
     target_good Nowhere to none acts = acts refl
     target_good (Free spot) to none acts = free_good spot to none (next_end a.plan more (Free spot) none to)
     target_good (Held spot) to none acts = held_good spot to none (next_end a.plan more (Held spot) none to)
-    target_good (own_page v) to none acts = absurd (no_own a.call (is_active setup setting cores t stands c here a active).built v (ap (λ (p : Plan). p.target) (sym plan_is) ∙ to))
+    target_good (own_page v) to none acts =
+        absurd (no_own a.call (is_active setup setting cores t stands c here a active).built v
+        (ap (λ (p : Plan). p.target) (sym plan_is) ∙ to))
 
-    next_good : (a.plan.target ≡ Nowhere → names_after a.plan.names more ≡ [] → GoodTook setup cores t c (LoadOf (EntryAt at.node at.index)) (landed (found_more a more) (act_begun a.call more None)))
-        → GoodTook setup cores t c (LoadOf (EntryAt at.node at.index)) (landed (found_more a more) (what_next table (found_more a more)))
+    next_good : (a.plan.target ≡ Nowhere → names_after a.plan.names more ≡ []
+        → GoodTook setup cores t c (LoadOf (EntryAt at.node at.index))
+        (landed (found_more a more) (act_begun (cores c).own a.call more None)))
+        → GoodTook setup cores t c (LoadOf (EntryAt at.node at.index))
+        (landed (found_more a more) (what_next (cores c).own (found_more a more)))
     next_good acts = by (rest_of a.plan more)
       where
         Goal : Next → Type 0
-        Goal next = GoodTook setup cores t c (LoadOf (EntryAt at.node at.index)) (landed (found_more a more) (next_step table a.call more next))
+        Goal next = GoodTook setup cores t c (LoadOf (EntryAt at.node at.index))
+            (landed (found_more a more) (next_step (cores c).own a.call more next))
 
         by : Rest a.plan more → Goal (next_of a.plan more)
         by (ANameLeft name2 rest2 is) =
             let next = next_name a.plan more name2 rest2 is in
-            subst Goal (sym next) (under_good (NextName name2.number (wants (with_found [] more) name2.wanted)) next (root_at table) name2.number refl
-            (subst (Rattle.kernel_rules.specs.Relies.Relies s c) (sym table_is) (relies_table setup setting t stands.legal c a.call is_open))
+            subst Goal (sym next) (under_good (NextName name2.number (wants (with_found [] more) name2.wanted)) next (root_at table)
+            name2.number refl
+            (subst (Rattle.kernel_rules.specs.Relies.Relies s c) (sym table_is)
+            (relies_table setup setting t stands.legal c a.call is_open))
             (λ look looks. looks)
             (λ past. subst (λ x. IsTrue (has_no_slot s x)) (own_target name2.number) (past_slot s (root_at table) name2.number past))
-            (λ past. named_no_slot s c name2.number (wants (with_found [] more) name2.wanted) (ap (reached s c) (sym (own_target name2.number)) ∙ past_unreached s c (root_at table) name2.number past)))
-        by (NoneLeft none) = subst Goal (sym (next_end a.plan more a.plan.target none refl)) (target_good a.plan.target refl none (λ nowhere. acts nowhere none))
+            (λ past. named_no_slot s c name2.number (wants (with_found [] more) name2.wanted)
+            (ap (reached s c) (sym (own_target name2.number)) ∙ past_unreached s c (root_at table) name2.number past)))
+        by (NoneLeft none) = subst Goal (sym (next_end a.plan more a.plan.target none refl))
+            (target_good a.plan.target refl none (λ nowhere. acts nowhere none))
 
     -- a look answers what its name has led to
     acts_at_name : (call : Call) → a.call ≡ call → IsBuilt call → (plan_for call).target ≡ Nowhere
-        → GoodTook setup cores t c (LoadOf (EntryAt at.node at.index)) (landed (found_more a more) (act_begun call more None))
+        → GoodTook setup cores t c (LoadOf (EntryAt at.node at.index))
+        (landed (found_more a more) (act_begun (cores c).own call more None))
     acts_at_name (look_call n) is built nowhere = subst Goal (sym (ap (λ ks. ks ++ k ∷ []) none_found)) answers_it
       where
         Goal : List Capability → Type 0
-        Goal ks = GoodTook setup cores t c (LoadOf (EntryAt at.node at.index)) (landed (found_more a ks) (act_begun (look_call n) ks None))
+        Goal ks = GoodTook setup cores t c (LoadOf (EntryAt at.node at.index))
+            (landed (found_more a ks) (act_begun (cores c).own (look_call n) ks None))
 
         plan_look : a.plan ≡ plan_for (look_call n)
         plan_look = plan_is ∙ ap plan_for is
 
         none_found : a.found ≡ []
-        none_found = one_left (any_cap n) name rest a.found (subst (λ (p : Plan). names_after p.names a.found ≡ name ∷ rest) plan_look left)
+        none_found = one_left (any_cap n) name rest a.found (subst (λ (p : Plan). names_after p.names a.found ≡ name ∷ rest) plan_look
+            left)
 
         name_is : named s c n any ≡ Found_it k
         name_is = (subst (λ (ks : List Capability). Leads (LeadsIn s c) (any_cap n ∷ []) [] ks) (ap (λ ks. ks ++ k ∷ []) none_found)
@@ -365,39 +359,59 @@ module _ (setup : Setting) (setting : IsSetting setup) (cores : ℕ → Core) (t
         arrives_n = subst (λ (m : ℕ). Arrives setup t c (own_in table m) at) (ap (λ (x : Name). x.number) name_eq) arrives
           where
             name_eq : name ≡ any_cap n
-            name_eq = first_same name rest (any_cap n) (sym (subst (λ (ks : List Capability). names_after (any_cap n ∷ []) ks ≡ name ∷ rest) none_found
+            name_eq = first_same name rest (any_cap n) (sym (subst
+                (λ (ks : List Capability). names_after (any_cap n ∷ []) ks ≡ name ∷ rest) none_found
                 (subst (λ (p : Plan). names_after p.names a.found ≡ name ∷ rest) plan_look left)))
 
         answers_it : Goal (k ∷ [])
         answers_it lands =
-            let e2 : Step = step_to c None (LoadOf (EntryAt at.node at.index)) (last_left setup t (EntryAt at.node at.index)) (Some (reply.Ok (Cap k))) None in
+            let e2 : Step = step_to c None (LoadOf (EntryAt at.node at.index)) (last_left setup t (EntryAt at.node at.index))
+            (Some (reply.Ok (Cap k))) None in
             let permitted : MayReply s c (look_call n) (reply.Ok (Cap k)) =
             (not_spent setup (cores c) t c (core_is setup setting cores t stands c here a active) room, look_answers s c n k name_is) in
-            decides_on setup setting cores t stands c here a active (LoadOf (EntryAt at.node at.index)) (reply.Ok (Cap k)) (k ∷ []) looks lands (sym holds_none) opens
+            decides_on setup setting cores t stands c here a active (LoadOf (EntryAt at.node at.index)) (reply.Ok (Cap k)) (k ∷ []) looks
+            lands (still (Some None)) opens
             (subst (λ x. state_by s c x (reply.Ok (Cap k)) ≡ counted s c) (sym is) (look_state s c n k name_is)) refl
             (λ x. subst (λ y. begins s c y (reply.Ok (Cap k)) x ≡ false) (sym is) (look_begins s c n k name_is x))
-            (λ x. subst (λ y. ends y (reply.Ok (Cap k)) x ≡ false) (sym is) refl) (subst (λ y. flushes y (reply.Ok (Cap k)) ≡ false) (sym is) refl)
+            (λ x. subst (λ y. ends y (reply.Ok (Cap k)) x ≡ false) (sym is) refl)
+            (subst (λ y. flushes y (reply.Ok (Cap k)) ≡ false) (sym is) refl)
             (subst (λ x. MayReply s c x (reply.Ok (Cap k))) (sym is) permitted)
             (subst (λ x. IsJustified setup t e2 x (reply.Ok (Cap k))) (sym is)
             (All-append (λ (x : Slot). IsSome (own_left (e2 ∷ t) c (EntryAt x.node x.index))) (way_to s c (own s c n)) []
             (subst (λ x. HasReached (e2 ∷ t) c (way_to s c x)) (own_target n)
-            (way_gone setup t (e2 ∷ t) c (own_in table n) at arrives_n.reached (gone_with setup t c (own_in table n) at e2 refl refl (own_kept t e2 c refl refl) arrives_n)))
+            (way_gone setup t (e2 ∷ t) c (own_in table n) at arrives_n.reached
+            (gone_with setup t c (own_in table n) at e2 refl refl (own_kept t e2 c refl refl) arrives_n)))
             (All-nil (λ (x : Slot). IsSome (own_left (e2 ∷ t) c (EntryAt x.node x.index))))))
             (λ is_alone. subst (λ x. reply.Ok (Cap k) ≡ alone s c x) (sym is) (ok_first s c (look_call n) (Cap k) permitted))
     acts_at_name (Copy b u v) is built nowhere = absurd (not_nowhere nowhere)
       where
         not_nowhere : Free (spot_of.Under Second v) ≡ Nowhere → ⊥
         not_nowhere h = cc
+    acts_at_name (Remove u v) is built nowhere = absurd (not_nowhere nowhere)
+      where
+        not_nowhere : Held (spot_of.Under First v) ≡ Nowhere → ⊥
+        not_nowhere h = cc
+    acts_at_name (Shrink u i) is built nowhere = absurd (not_nowhere nowhere)
+      where
+        not_nowhere : Held (spot_of.InRoot First i) ≡ Nowhere → ⊥
+        not_nowhere h = cc
+    acts_at_name (Unmap p v) is built nowhere = absurd (not_nowhere nowhere)
+      where
+        not_nowhere : Held (spot_of.Under First v) ≡ Nowhere → ⊥
+        not_nowhere h = cc
     acts_at_name call is built nowhere = absurd built
 
     -- the name is found
-    found_good : GoodTook setup cores t c (LoadOf (EntryAt at.node at.index)) (named_one table a (Finds k))
-    found_good = subst (λ ks. GoodTook setup cores t c (LoadOf (EntryAt at.node at.index)) (landed (found_more a ks) (what_next table (found_more a ks)))) (sym (pushed_one a.found k few))
-        (next_good (λ nowhere none. acts_at_name a.call refl (is_active setup setting cores t stands c here a active).built (ap (λ (p : Plan). p.target) (sym plan_is) ∙ nowhere)))
+    found_good : GoodTook setup cores t c (LoadOf (EntryAt at.node at.index)) (named_one (cores c).own a (Finds k))
+    found_good = subst (λ ks. GoodTook setup cores t c (LoadOf (EntryAt at.node at.index))
+        (landed (found_more a ks) (what_next (cores c).own (found_more a ks)))) (sym (pushed_one a.found k few))
+        (next_good (λ nowhere none. acts_at_name a.call refl (is_active setup setting cores t stands c here a active).built
+        (ap (λ (p : Plan). p.target) (sym plan_is) ∙ nowhere)))
       where
         few : length a.found < 4
         few =
-            let counted : length a.found + length (names_after a.plan.names a.found) ≡ length a.plan.names = count_led (LeadsIn s c) a.plan.names [] a.found leads in
+            let counted : length a.found + length (names_after a.plan.names a.found) ≡ length a.plan.names = count_led (LeadsIn s c)
+            a.plan.names [] a.found leads in
             let most : length a.plan.names ≤ 4 = subst (λ (p : Plan). length p.names ≤ 4) (sym plan_is) (few_names a.call) in
             let one : length (names_after a.plan.names a.found) ≡ suc (length rest) = ap length left in
             omega arith
@@ -416,40 +430,50 @@ module _ (setup : Setting) (setting : IsSetting setup) (cores : ℕ → Core) (t
     first_here : (r : Reply) → named s c name.number wanted_of ≡ Refused r → change_of s c a.call ≡ Refused r
     first_here r h = first a.found leads r (subst (λ x. NextRefused s c (own_pages s c) x r) (sym next) h)
 
-    module _ (at : Slot) (arrives : Arrives setup t c (own_in table name.number) at) (looks : OnlyLooks setup t c a.call (LoadOf (EntryAt at.node at.index))) where
+    module _ (at : Slot) (arrives : Arrives setup t c (own_in table name.number) at)
+        (looks : OnlyLooks setup t c a.call (LoadOf (EntryAt at.node at.index))) where
       reach : reached s c (own s c name.number) ≡ Some at
       reach = ap (reached s c) (sym (own_target name.number)) ∙ arrives.reached
 
       held_name : (k : Capability) → ShowsHeld setup.frames (place_at s at) k → (wanted : Bool) → wanted_of k.kind ≡ wanted
-          → GoodTook setup cores t c (LoadOf (EntryAt at.node at.index)) (named_one table a (if wanted then Finds k else met_refused refusal.WrongCap))
+          → GoodTook setup cores t c (LoadOf (EntryAt at.node at.index))
+          (named_one (cores c).own a (if wanted then Finds k else met_refused refusal.WrongCap))
       held_name k shows true is = found_good name rest left at k arrives shows looks is
-      held_name k shows false is = refuses_wrong setup setting cores t stands c here a active opens holds_none room (LoadOf (EntryAt at.node at.index)) looks
+      held_name k shows false is =
+          refuses_wrong setup setting cores t stands c here a active opens held_is room (LoadOf (EntryAt at.node at.index)) looks
           (may_here reply.WrongCap (reaches_other s c (own s c name.number) at k wanted_of reach shows.holds is))
           (λ nobody. first_here reply.WrongCap (named_wrong s c name.number wanted_of at k reach (use_held s c at k shows.holds) is))
 
-      name_good : (v : Entry) → Shows setup.frames (place_at s at) v → GoodTook setup cores t c (LoadOf (EntryAt at.node at.index)) (named_one table a (met_name wanted_of v))
-      name_good entry.Free shows = refuses_empty setup setting cores t stands c here a active opens holds_none room (LoadOf (EntryAt at.node at.index)) looks
+      name_good : (v : Entry) → Shows setup.frames (place_at s at) v
+          → GoodTook setup cores t c (LoadOf (EntryAt at.node at.index)) (named_one (cores c).own a (met_name wanted_of v))
+      name_good entry.Free shows =
+          refuses_empty setup setting cores t stands c here a active opens held_is room (LoadOf (EntryAt at.node at.index)) looks
           (may_here reply.Empty (reaches_none s c (own s c name.number) at reach (ap held_in shows)))
           (λ nobody. first_here reply.Empty (named_empty s c name.number wanted_of at reach (use_free s c at shows)))
       name_good (entry.Held k) shows = held_name k shows (wanted_of k.kind) refl
       name_good (entry.Closing d) shows = absurd shows
-      name_good (entry.Quiescing x) shows = refuses_empty setup setting cores t stands c here a active opens holds_none room (LoadOf (EntryAt at.node at.index)) looks
+      name_good (entry.Quiescing x) shows =
+          refuses_empty setup setting cores t stands c here a active opens held_is room (LoadOf (EntryAt at.node at.index)) looks
           (may_here reply.Empty (reaches_none s c (own s c name.number) at reach (ap held_in shows.removed)))
-          (λ nobody. first_here reply.Empty (named_empty s c name.number wanted_of at reach (use_removed_at s c at shows.held shows.removed nobody)))
+          (λ nobody. first_here reply.Empty (named_empty s c name.number wanted_of at reach
+          (use_removed_at s c at shows.held shows.removed nobody)))
 
     pub name_step : LooksUp setup t c (own_in table name.number) look
-        → GoodTook setup cores t c (look_move look) (took_look table a look (last_left setup t (word_of (look_move look))) (shown_in setup.frames (last_left setup t (word_of (look_move look)))))
+        → GoodTook setup cores t c (look_move look) (took_look (cores c).own a look (last_left setup t (word_of (look_move look)))
+        (shown_in setup.frames (last_left setup t (word_of (look_move look)))))
     name_step looks =
         under_step setup setting cores t stands c here a active (root_at table) name.number is_open
         (λ h. may_here reply.NoSlot (subst (λ x. IsTrue (has_no_slot s x)) (own_target name.number) h))
-        (λ none. first_here reply.NoSlot (named_no_slot s c name.number wanted_of (ap (reached s c) (sym (own_target name.number)) ∙ none)))
+        (λ none. first_here reply.NoSlot (named_no_slot s c name.number wanted_of
+        (ap (reached s c) (sym (own_target name.number)) ∙ none)))
         (λ g i h. way (own s c name.number) (subst (λ x. NextPlace s c x (own s c name.number)) (sym next) refl) g i
         (subst (λ x. is_slot_in (wide_way_to s x) g i ≡ true) (own_target name.number) h))
         (λ e look2 carries up. record {
           names = names_on setup setting t e stands.legal c a.call is_open carries table a.plan a.found has.names;
           knows = subst (λ x. LooksFor setup (e ∷ t) c table x look2) (sym next) up;
         })
-        (λ at v arrives reads shows only. subst (λ x. GoodTook setup cores t c (LoadOf (EntryAt at.node at.index)) (took_found table a x (found_at at.node at.index (last_left setup t (EntryAt at.node at.index)) v)))
+        (λ at v arrives reads shows only. subst (λ x. GoodTook setup cores t c (LoadOf (EntryAt at.node at.index))
+        (took_found (cores c).own a x (found_at at.node at.index (last_left setup t (EntryAt at.node at.index)) v)))
         (sym next) (name_good at arrives only v shows))
         room look stage_is looks
 
@@ -467,95 +491,303 @@ module _ (setup : Setting) (setting : IsSetting setup) (cores : ℕ → Core) (t
     first_free : (r : Reply) → vacant s c target ≡ Refused r → change_of s c a.call ≡ Refused r
     first_free r h = first a.found leads r (subst (λ x. NextRefused s c (own_pages s c) x r) (sym next_free) h)
 
-    begins_with : Begins a.call a.found
-    begins_with = begins_fill a.call (is_active setup setting cores t stands c here a active).built spot (ap (λ (p : Plan). p.target) (sym plan_is) ∙ to) a.found
+    begins_with : Begins (cores c).own a.call a.found
+    begins_with = begins_fill (cores c).own a.call (is_active setup setting cores t stands c here a active).built spot
+        (ap (λ (p : Plan). p.target) (sym plan_is) ∙ to) a.found
         (subst (λ (p : Plan). names_after p.names a.found ≡ []) plan_is none)
 
     first_fits : EntryFits (entry.Held begins_with.k)
     first_fits = fits_of a.plan.names a.found begins_with.k has.names begins_with.first
       where
-        fits_of : (names : List Name) (ks : List Capability) (k : Capability) → Leads (λ n wanted k. HasFound setup t c (own_in table n) wanted k) names [] ks → at_place ks First ≡ Some k → EntryFits (entry.Held k)
+        fits_of : (names : List Name) (ks : List Capability) (k : Capability)
+            → Leads (λ n wanted k. HasFound setup t c (own_in table n) wanted k) names [] ks → at_place ks First ≡ Some k
+            → EntryFits (entry.Held k)
         fits_of names [] k led is = absurd (none_some k is)
         fits_of [] (j ∷ ks) k led is = absurd led
         fits_of (name ∷ names) (j ∷ ks) k led is = subst (λ (x : Capability). EntryFits (entry.Held x)) (some_inj j k is) led.0.fits
 
-    fills_next : (at : Slot) → Arrives setup t c target at → entry_of_word (last_left setup t (EntryAt at.node at.index)) ≡ Some entry.Free
+    -- the filling act of a place whose word shows that it may be filled, once the cores below `upto` were scanned
+    module _ (at : Slot) (arrives : Arrives setup t c target at) (v : Entry)
+        (reads : entry_of_word (last_left setup t (EntryAt at.node at.index)) ≡ Some v) where
+      abbrev word : ℕ
+      word = last_left setup t (EntryAt at.node at.index)
+
+      abbrev load : Step
+      load = arriving setup t c target at word arrives
+
+      abbrev act : ActOf
+      act = filling begins_with.k (found_at at.node at.index word v)
+
+      fill_known : (upto : ℕ) → MayFill setup (load ∷ t) c (PlaceOf at.node at.index) upto (Some v)
+          → KnowsAct setup (load ∷ t) c a.call a.plan a.found upto act
+      fill_known upto may = record {
+        target = target;
+        next = next_free;
+        way = reached_now setup t c target at word arrives;
+        own = own_read-here c load t refl (EntryAt at.node at.index) refl ∙ ap (λ b. if b then Some word else None)
+            (eq-eqb word word refl);
+        vacant = subst (MayFill setup (load ∷ t) c (PlaceOf at.node at.index) upto) (sym reads) may;
+        fits = first_fits;
+        puts = begins_with.puts;
+      }
+
+      fill_next : (stage : Stage) → KnowsAct setup (load ∷ t) c a.call a.plan a.found setup.cores act
+          → KnowsWork setup (load ∷ t) c table (next_at a a.found stage) (next_work (cores c).own.core 0 act)
+      fill_next stage knows =
+          knows_next setup (load ∷ t) c table (next_at a a.found stage) (cores c).own.core act (dues act) (stands.each c here).number
+          knows
+          (ap (λ (xs : List Acquired). map due_of xs ++ dues act) (sym no_counts)) 0
+          (ap (λ (xs : List Acquired). length xs) (sym no_counts)) refl
+
+    -- it is free
+    fills_free : (at : Slot) (arrives : Arrives setup t c target at)
+        (reads : entry_of_word (last_left setup t (EntryAt at.node at.index)) ≡ Some entry.Free)
         → OnlyLooks setup t c a.call (LoadOf (EntryAt at.node at.index))
         → GoodTook setup cores t c (LoadOf (EntryAt at.node at.index))
-        (landed a (fills_at begins_with.k (found_at at.node at.index (last_left setup t (EntryAt at.node at.index)) entry.Free)))
-    fills_next at arrives reads looks lands =
-        let word = last_left setup t (EntryAt at.node at.index) in
-        let e : Step = arriving setup t c target at word arrives in
+        (landed a (fills_at (cores c).own begins_with.k (found_at at.node at.index (last_left setup t (EntryAt at.node at.index))
+        entry.Free)))
+    fills_free at arrives reads looks lands =
         loads_on setup setting cores t stands c here a active (LoadOf (EntryAt at.node at.index)) a.found
-        (Undecided (Act (fill_act (record { node = at.node; entry = at.index; word = word; cap = begins_with.k })))) looks lands (sym holds_none) opens
+        (Undecided (next_work (cores c).own.core 0 (act at arrives entry.Free reads))) looks lands
+        (next_holds (cores c).own.core 0 (act at arrives entry.Free reads) (holds_counts None a.counts) refl ∙ sym held_is) opens
         (λ carries. record {
-          names = names_on setup setting t e stands.legal c a.call is_open carries table a.plan a.found has.names;
-          knows = record {
-            target = target;
-            next = next_free;
-            way = reached_now setup t c target at word arrives;
-            own = own_read-here c e t refl (EntryAt at.node at.index) refl ∙ ap (λ b. if b then Some word else None) (eq-eqb word word refl);
-            free = reads;
-            fits = first_fits;
-            puts = λ p node index same. begins_with.act p ∙ ap (λ (f : Fill). Goes (Act (fill_act f)))
-                (λ i. record { node = node i; entry = index i; word = same i; cap = begins_with.k });
-          };
+          names = names_on setup setting t (load at arrives entry.Free reads) stands.legal c a.call is_open carries table a.plan a.found
+              has.names;
+          knows = fill_next at arrives entry.Free reads (Undecided (next_work (cores c).own.core 0 (act at arrives entry.Free reads)))
+              (fill_known at arrives entry.Free reads setup.cores tt);
         })
 
-    free_at : (at : Slot) (v : Entry) → Arrives setup t c target at → entry_of_word (last_left setup t (EntryAt at.node at.index)) ≡ Some v → Shows setup.frames (place_at s at) v
+    -- it is quiescing: the other cores are scanned first
+    fills_removed : (at : Slot) (arrives : Arrives setup t c target at) (x : ℕ)
+        (reads : entry_of_word (last_left setup t (EntryAt at.node at.index)) ≡ Some (entry.Quiescing x))
         → OnlyLooks setup t c a.call (LoadOf (EntryAt at.node at.index))
-        → GoodTook setup cores t c (LoadOf (EntryAt at.node at.index)) (landed a (met_free a.call a.found (found_at at.node at.index (last_left setup t (EntryAt at.node at.index)) v) v))
+        → GoodTook setup cores t c (LoadOf (EntryAt at.node at.index))
+        (landed a (fills_at (cores c).own begins_with.k (found_at at.node at.index (last_left setup t (EntryAt at.node at.index))
+        (entry.Quiescing x))))
+    fills_removed at arrives x reads looks =
+        subst (λ (n : ℕ). GoodTook setup cores t c (LoadOf (EntryAt at.node at.index))
+        (landed a (Goes (scans (cores c).own.core (quiet_scan x (cores c).own.core n false) the_act))))
+        (sym (ap (λ s. s.cores) (stands.each c here).shape)) scanning
+      where
+        the_act : ActOf
+        the_act = act at arrives (entry.Quiescing x) reads
+
+        the_load : Step
+        the_load = load at arrives (entry.Quiescing x) reads
+
+        the_work : Work
+        the_work = scans (cores c).own.core (quiet_scan x (cores c).own.core setup.cores false) the_act
+
+        since : ShowsSince (s.place at.node at.index) (stamp setup t (PlaceOf at.node at.index)) x
+        since = since_is setup.frames (s.place at.node at.index) (stamp setup t (PlaceOf at.node at.index)) x _ arrives.plain.says reads
+
+        scanned : (upto : ℕ) → ((d : ℕ) → d < upto → d ≢ c → ⊥) → IsScanned setup (the_load ∷ t) c (PlaceOf at.node at.index) x upto
+        scanned upto none = record {
+          some = since.drawn;
+          past = (let p = (stands.graces (PlaceOf at.node at.index)).past in let q = since.same in omega arith);
+          rises = (let q = since.same in omega arith);
+          was_removed = was_now (IsRemoved (PlaceOf at.node at.index)) setup t the_load c since.removed;
+          passed = λ d below other. absurd (none d below other);
+        }
+
+        scans_hold : (o : Option Quiet) (h : Holding) → holds_work (scans (cores c).own.core o the_act) h ≡ h
+        scans_hold None h = next_holds (cores c).own.core 0 the_act h refl
+        scans_hold (Some q) h = refl
+
+        scanning : GoodTook setup cores t c (LoadOf (EntryAt at.node at.index)) (landed a (Goes the_work))
+        scanning lands =
+            loads_on setup setting cores t stands c here a active (LoadOf (EntryAt at.node at.index)) a.found (Undecided the_work) looks
+            lands
+            (scans_hold (quiet_scan x (cores c).own.core setup.cores false) (holds_counts None a.counts) ∙ sym held_is) opens
+            (λ carries. record {
+              names = names_on setup setting t the_load stands.legal c a.call is_open carries table a.plan a.found has.names;
+              knows = knows_scan setup (the_load ∷ t) c table (next_at a a.found (Undecided the_work)) (cores c).own.core x the_act
+                  (stands.each c here).number here since.drawn
+                  (ap stamp_shown reads) (λ upto none. fill_known at arrives (entry.Quiescing x) reads upto (scanned upto none))
+                  (fill_next at arrives (entry.Quiescing x) reads (Undecided the_work)) refl;
+            })
+
+    free_at : (at : Slot) (v : Entry) → Arrives setup t c target at
+        → entry_of_word (last_left setup t (EntryAt at.node at.index)) ≡ Some v → Shows setup.frames (place_at s at) v
+        → OnlyLooks setup t c a.call (LoadOf (EntryAt at.node at.index))
+        → GoodTook setup cores t c (LoadOf (EntryAt at.node at.index))
+        (landed a (met_free (cores c).own a.call a.found (found_at at.node at.index (last_left setup t (EntryAt at.node at.index)) v)
+        v))
     free_at at entry.Free arrives reads shows looks =
-        subst (λ step. GoodTook setup cores t c (LoadOf (EntryAt at.node at.index)) (landed a step)) (sym (begins_with.act _)) (fills_next at arrives reads looks)
-    free_at at (entry.Held k) arrives reads shows looks = refuses_occupied setup setting cores t stands c here a active opens holds_none room (LoadOf (EntryAt at.node at.index)) looks
+        subst (λ step. GoodTook setup cores t c (LoadOf (EntryAt at.node at.index)) (landed a step)) (sym (begins_with.act _))
+        (fills_free at arrives reads looks)
+    free_at at (entry.Held k) arrives reads shows looks =
+        refuses_occupied setup setting cores t stands c here a active opens held_is room (LoadOf (EntryAt at.node at.index)) looks
         (may_free reply.Occupied (reaches_held s c target at k arrives.reached shows.holds))
         (λ nobody. first_free reply.Occupied (vacant_occupied s c target at k arrives.reached shows.holds))
     free_at at (entry.Closing d) arrives reads shows looks = absurd shows
-    free_at at (entry.Quiescing x) arrives reads shows looks = absurd (stands.none_removed at.node at.index shows.held shows.removed)
+    free_at at (entry.Quiescing x) arrives reads shows looks =
+        subst (λ step. GoodTook setup cores t c (LoadOf (EntryAt at.node at.index)) (landed a step)) (sym (begins_with.act _))
+        (fills_removed at arrives x reads looks)
 
-  free_step : (spot : Spot) (to : a.plan.target ≡ Free spot) (none : names_after a.plan.names a.found ≡ []) → LooksUp setup t c (place_of (with_found [] a.found) spot) look
-      → GoodTook setup cores t c (look_move look) (took_look table a look (last_left setup t (word_of (look_move look))) (shown_in setup.frames (last_left setup t (word_of (look_move look)))))
+  free_step : (spot : Spot) (to : a.plan.target ≡ Free spot) (none : names_after a.plan.names a.found ≡ [])
+      → LooksUp setup t c (place_of (with_found [] a.found) spot) look
+      → GoodTook setup cores t c (look_move look) (took_look (cores c).own a look (last_left setup t (word_of (look_move look)))
+      (shown_in setup.frames (last_left setup t (word_of (look_move look)))))
   free_step (spot_of.Under i n) to none looks =
       let spot = spot_of.Under i n in
       let next = next_free spot to none in
       under_step setup setting cores t stands c here a active (earlier (with_found [] a.found) i) n is_open
-      (λ h. may_free spot to none reply.NoSlot h) (λ out. first_free spot to none reply.NoSlot (vacant_no_slot s c (target spot to none) out))
+      (λ h. may_free spot to none reply.NoSlot h) (λ out. first_free spot to none reply.NoSlot
+      (vacant_no_slot s c (target spot to none) out))
       (λ g j h. way (target spot to none) (subst (λ x. NextPlace s c x (target spot to none)) (sym next) refl) g j h)
       (λ e look2 carries up. record {
         names = names_on setup setting t e stands.legal c a.call is_open carries table a.plan a.found has.names;
         knows = subst (λ x. LooksFor setup (e ∷ t) c table x look2) (sym next) up;
       })
-      (λ at v arrives reads shows only. subst (λ x. GoodTook setup cores t c (LoadOf (EntryAt at.node at.index)) (took_found table a x (found_at at.node at.index (last_left setup t (EntryAt at.node at.index)) v)))
+      (λ at v arrives reads shows only. subst (λ x. GoodTook setup cores t c (LoadOf (EntryAt at.node at.index))
+      (took_found (cores c).own a x (found_at at.node at.index (last_left setup t (EntryAt at.node at.index)) v)))
       (sym next) (free_at spot to none at v arrives reads shows only))
       room look stage_is looks
   free_step (spot_of.InRoot i x) to none looks =
       let spot = spot_of.InRoot i x in
       let next = next_free spot to none in
       in_root_step setup setting cores t stands c here a active (earlier (with_found [] a.found) i) x is_open
-      (λ h. may_free spot to none reply.NoSlot h) (λ out. first_free spot to none reply.NoSlot (vacant_no_slot s c (target spot to none) out))
+      (λ h. may_free spot to none reply.NoSlot h) (λ out. first_free spot to none reply.NoSlot
+      (vacant_no_slot s c (target spot to none) out))
       (λ g j h. way (target spot to none) (subst (λ y. NextPlace s c y (target spot to none)) (sym next) refl) g j h)
       (λ e look2 carries up. record {
         names = names_on setup setting t e stands.legal c a.call is_open carries table a.plan a.found has.names;
         knows = subst (λ y. LooksFor setup (e ∷ t) c table y look2) (sym next) up;
       })
-      (λ at v arrives reads shows only. subst (λ y. GoodTook setup cores t c (LoadOf (EntryAt at.node at.index)) (took_found table a y (found_at at.node at.index (last_left setup t (EntryAt at.node at.index)) v)))
+      (λ at v arrives reads shows only. subst (λ y. GoodTook setup cores t c (LoadOf (EntryAt at.node at.index))
+      (took_found (cores c).own a y (found_at at.node at.index (last_left setup t (EntryAt at.node at.index)) v)))
       (sym next) (free_at spot to none at v arrives reads shows only))
       room look stage_is looks
 
-  pub lookup_good : GoodTook setup cores t c (look_move look) (took_look table a look (last_left setup t (word_of (look_move look))) (shown_in setup.frames (last_left setup t (word_of (look_move look)))))
+  -- A target that is to be held is looked up.
+  module _ (spot : Spot) (to : a.plan.target ≡ Held spot) (none : names_after a.plan.names a.found ≡ []) where
+    abbrev held_target : place
+    held_target = place_of (with_found [] a.found) spot
+
+    next_held : next_of a.plan a.found ≡ NextHeld held_target
+    next_held = next_end a.plan a.found (Held spot) none to
+
+    may_held : (r : Reply) → NextMay s c (own_pages s c) (NextHeld held_target) r → RuleMay s c (rule_of s c a.call) r
+    may_held r h = may a.found leads r (subst (λ x. NextMay s c (own_pages s c) x r) (sym next_held) h)
+
+    first_held : (r : Reply) → held s c held_target ≡ Refused r → change_of s c a.call ≡ Refused r
+    first_held r h = first a.found leads r (subst (λ x. NextRefused s c (own_pages s c) x r) (sym next_held) h)
+
+    begins_by : BeginsRemoval (cores c).own a.call a.found
+    begins_by = begins_removal (cores c).own a.call (is_active setup setting cores t stands c here a active).built spot
+        (ap (λ (p : Plan). p.target) (sym plan_is) ∙ to) a.found
+
+    removes_next : (at : Slot) (arrives : Arrives setup t c held_target at) (k : Capability)
+        → entry_of_word (last_left setup t (EntryAt at.node at.index)) ≡ Some (entry.Held k)
+        → ShowsHeld setup.frames (place_at s at) k → OnlyLooks setup t c a.call (LoadOf (EntryAt at.node at.index))
+        → GoodTook setup cores t c (LoadOf (EntryAt at.node at.index))
+        (landed a (Goes (next_work (cores c).own.core 0 (removing (cores c).own.core k
+        (found_at at.node at.index (last_left setup t (EntryAt at.node at.index)) (entry.Held k))))))
+    removes_next at arrives k reads shows looks lands =
+        let word = last_left setup t (EntryAt at.node at.index) in
+        let e : Step = arriving setup t c held_target at word arrives in
+        let act : ActOf = removing (cores c).own.core k (found_at at.node at.index word (entry.Held k)) in
+        loads_on setup setting cores t stands c here a active (LoadOf (EntryAt at.node at.index)) a.found
+        (Undecided (next_work (cores c).own.core 0 act)) looks lands
+        (next_holds (cores c).own.core 0 act (holds_counts None a.counts) refl ∙ sym held_is) opens
+        (λ carries. record {
+          names = names_on setup setting t e stands.legal c a.call is_open carries table a.plan a.found has.names;
+          knows = knows_next setup (e ∷ t) c table (next_at a a.found (Undecided (next_work (cores c).own.core 0 act))) (cores c).own.core
+              act (dues act) (stands.each c here).number
+              (record {
+                removal = record {
+                  target = held_target;
+                  next = next_held;
+                  way = reached_now setup t c held_target at word arrives;
+                  usable = use_held s c at k shows.holds;
+                  fits = shows.fits;
+                  removes = begins_by.removes;
+                };
+                own = own_read-here c e t refl (EntryAt at.node at.index) refl ∙ ap (λ b. if b then Some word else None)
+                    (eq-eqb word word refl);
+                held = reads;
+                core = (stands.each c here).number;
+              })
+              (ap (λ (xs : List Acquired). map due_of xs ++ dues act) (sym no_counts)) 0
+              (ap (λ (xs : List Acquired). length xs) (sym no_counts)) refl;
+        })
+
+    held_at : (at : Slot) (v : Entry) → Arrives setup t c held_target at
+        → entry_of_word (last_left setup t (EntryAt at.node at.index)) ≡ Some v → Shows setup.frames (place_at s at) v
+        → OnlyLooks setup t c a.call (LoadOf (EntryAt at.node at.index))
+        → GoodTook setup cores t c (LoadOf (EntryAt at.node at.index))
+        (landed a (met_held (cores c).own a.call a.found (found_at at.node at.index (last_left setup t (EntryAt at.node at.index)) v)
+        v))
+    held_at at entry.Free arrives reads shows looks =
+        refuses_empty setup setting cores t stands c here a active opens held_is room (LoadOf (EntryAt at.node at.index)) looks
+        (may_held reply.Empty (reaches_none s c held_target at arrives.reached (ap held_in shows)))
+        (λ nobody. first_held reply.Empty (held_empty s c held_target at arrives.reached (ap held_in shows)))
+    held_at at (entry.Held k) arrives reads shows looks =
+        subst (λ step. GoodTook setup cores t c (LoadOf (EntryAt at.node at.index)) (landed a step)) (sym (begins_by.act _))
+        (removes_next at arrives k reads shows looks)
+    held_at at (entry.Closing d) arrives reads shows looks = absurd shows
+    held_at at (entry.Quiescing x) arrives reads shows looks =
+        refuses_empty setup setting cores t stands c here a active opens held_is room (LoadOf (EntryAt at.node at.index)) looks
+        (may_held reply.Empty (reaches_none s c held_target at arrives.reached (ap held_in shows.removed)))
+        (λ nobody. first_held reply.Empty (held_empty s c held_target at arrives.reached (ap held_in shows.removed)))
+
+  held_step : (spot : Spot) (to : a.plan.target ≡ Held spot) (none : names_after a.plan.names a.found ≡ [])
+      → LooksUp setup t c (place_of (with_found [] a.found) spot) look
+      → GoodTook setup cores t c (look_move look) (took_look (cores c).own a look (last_left setup t (word_of (look_move look)))
+      (shown_in setup.frames (last_left setup t (word_of (look_move look)))))
+  held_step (spot_of.Under i n) to none looks =
+      let spot = spot_of.Under i n in
+      let next = next_held spot to none in
+      under_step setup setting cores t stands c here a active (earlier (with_found [] a.found) i) n is_open
+      (λ h. may_held spot to none reply.NoSlot h) (λ out. first_held spot to none reply.NoSlot
+      (held_no_slot s c (held_target spot to none) out))
+      (λ g j h. way (held_target spot to none) (subst (λ x. NextPlace s c x (held_target spot to none)) (sym next) refl) g j h)
+      (λ e look2 carries up. record {
+        names = names_on setup setting t e stands.legal c a.call is_open carries table a.plan a.found has.names;
+        knows = subst (λ x. LooksFor setup (e ∷ t) c table x look2) (sym next) up;
+      })
+      (λ at v arrives reads shows only. subst (λ x. GoodTook setup cores t c (LoadOf (EntryAt at.node at.index))
+      (took_found (cores c).own a x (found_at at.node at.index (last_left setup t (EntryAt at.node at.index)) v)))
+      (sym next) (held_at spot to none at v arrives reads shows only))
+      room look stage_is looks
+  held_step (spot_of.InRoot i x) to none looks =
+      let spot = spot_of.InRoot i x in
+      let next = next_held spot to none in
+      in_root_step setup setting cores t stands c here a active (earlier (with_found [] a.found) i) x is_open
+      (λ h. may_held spot to none reply.NoSlot h) (λ out. first_held spot to none reply.NoSlot
+      (held_no_slot s c (held_target spot to none) out))
+      (λ g j h. way (held_target spot to none) (subst (λ y. NextPlace s c y (held_target spot to none)) (sym next) refl) g j h)
+      (λ e look2 carries up. record {
+        names = names_on setup setting t e stands.legal c a.call is_open carries table a.plan a.found has.names;
+        knows = subst (λ y. LooksFor setup (e ∷ t) c table y look2) (sym next) up;
+      })
+      (λ at v arrives reads shows only. subst (λ y. GoodTook setup cores t c (LoadOf (EntryAt at.node at.index))
+      (took_found (cores c).own a y (found_at at.node at.index (last_left setup t (EntryAt at.node at.index)) v)))
+      (sym next) (held_at spot to none at v arrives reads shows only))
+      room look stage_is looks
+
+  pub lookup_good : GoodTook setup cores t c (look_move look) (took_look (cores c).own a look
+      (last_left setup t (word_of (look_move look))) (shown_in setup.frames (last_left setup t (word_of (look_move look)))))
   lookup_good = by (rest_of a.plan a.found)
     where
       for : (next : Next) → next_of a.plan a.found ≡ next → LooksFor setup t c table next look
       for next is = subst (λ x. LooksFor setup t c table x look) is has.knows
 
       by_target : (to : Target) → a.plan.target ≡ to → names_after a.plan.names a.found ≡ []
-          → GoodTook setup cores t c (look_move look) (took_look table a look (last_left setup t (word_of (look_move look))) (shown_in setup.frames (last_left setup t (word_of (look_move look)))))
+          → GoodTook setup cores t c (look_move look) (took_look (cores c).own a look (last_left setup t (word_of (look_move look)))
+          (shown_in setup.frames (last_left setup t (word_of (look_move look)))))
       by_target Nowhere to none = absurd (for NextNothing (next_end a.plan a.found Nowhere none to))
-      by_target (Free spot) to none = free_step spot to none (for (NextFree (place_of (with_found [] a.found) spot)) (next_end a.plan a.found (Free spot) none to))
-      by_target (Held spot) to none = absurd (no_held a.call (is_active setup setting cores t stands c here a active).built spot (ap (λ (p : Plan). p.target) (sym plan_is) ∙ to))
+      by_target (Free spot) to none =
+          free_step spot to none (for (NextFree (place_of (with_found [] a.found) spot)) (next_end a.plan a.found (Free spot) none to))
+      by_target (Held spot) to none =
+          held_step spot to none (for (NextHeld (place_of (with_found [] a.found) spot)) (next_end a.plan a.found (Held spot) none to))
       by_target (own_page v) to none = absurd (for (NextOwn v) (next_end a.plan a.found (own_page v) none to))
 
       by : Rest a.plan a.found
-          → GoodTook setup cores t c (look_move look) (took_look table a look (last_left setup t (word_of (look_move look))) (shown_in setup.frames (last_left setup t (word_of (look_move look)))))
-      by (ANameLeft name rest left) = name_step name rest left (for (NextName name.number (wants (with_found [] a.found) name.wanted)) (next_name a.plan a.found name rest left))
+          → GoodTook setup cores t c (look_move look) (took_look (cores c).own a look (last_left setup t (word_of (look_move look)))
+          (shown_in setup.frames (last_left setup t (word_of (look_move look)))))
+      by (ANameLeft name rest left) =
+          name_step name rest left (for (NextName name.number (wants (with_found [] a.found) name.wanted))
+          (next_name a.plan a.found name rest left))
       by (NoneLeft none) = by_target a.plan.target refl none

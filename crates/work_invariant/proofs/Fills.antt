@@ -1,53 +1,48 @@
 -- The filling compare of a copy is good: it is lost to another core, or the place is free and takes the capability.
-use Rattle.std.proofs.Common.{◌≡◌, ◌≢◌, ◌⊎◌, inl, inr, ℕ, ◌+◌, ◌^◌, ◌/◌, ◌%◌, ◌<◌, ◌==◌, ◌&&◌, nat_le, if◌then◌else◌, ◌++◌, ◌∷◌, [], Bool, true, false, List, Option, Some, None, arith, refl, sym, ◌∙◌, ap, subst, IsTrue}
-use Rattle.std.specs.Prelude.{IsSome, option_to_list}
+use Rattle.std.proofs.Common.{◌≡◌, ◌≢◌, ◌⊎◌, inl, inr, ℕ, pos, length, ◌≤◌, ◌+◌, ◌^◌, ◌/◌, ◌%◌, ◌<◌, ◌==◌, ◌&&◌, nat_le, if◌then◌else◌, ◌∷◌, [], Bool, true, false, List, Option, Some, None, arith, refl, sym, ◌∙◌, ap, subst, IsTrue}
+use Rattle.std.specs.Prelude.{option_to_list}
 use Rattle.std.proofs.lemmas.Bool.{eqb-true, eqb-false, eq-eqb, false≢true}
-use Rattle.std.proofs.lemmas.List.Elements.{All-append}
 use Rattle.spk_nums.specs.Capability.{Capability}
 use Rattle.spk_nums.specs.Setting.{Setting, IsSetting}
 use Rattle.spk_nums.specs.declared.kinds.Kind.TheVariants as kind
 use Rattle.spk_nums.specs.declared.calls.Call.{Call}
-use Rattle.spk_nums.specs.declared.calls.Call.TheVariants.{Look, Copy}
+use Rattle.spk_nums.specs.declared.calls.Call.TheVariants.{Look, Copy, Remove, Shrink, Unmap}
 use Rattle.spk_nums.specs.declared.kinds.Kind.{Kind}
 use Rattle.supported_calls.specs.Built.{IsBuilt}
 use Rattle.spk_nums.specs.declared.replies.Value.TheVariants.{Nothing}
 use Rattle.spk_nums.specs.declared.replies.Reply.TheVariants as reply
 use Rattle.entry_words.specs.declared.entry.Entry.{Entry}
-use Rattle.entry_words.specs.declared.entry.Entry.TheVariants.{Free, Held, Closing, Quiescing}
+use Rattle.entry_words.specs.declared.entry.Entry.TheVariants.{Free, Held, Quiescing}
 use Rattle.entry_words.specs.EntryWord.{EntryFits, word_of_entry, entry_of_word}
 use Rattle.entry_words.proofs.Spelling.{spelling}
-use Rattle.word_map.specs.Word.{EntryAt}
+use Rattle.word_map.specs.Word.{Word, EntryAt, CountAt}
 use Rattle.word_map.specs.Moves.{Move, CompareOf, left_of}
 use Rattle.spk_nums.specs.WordSteps.{left_if}
-use Rattle.kernel_rules.specs.State.{Place, comp_of, Free as Vacant, Holds, Quiescing as Removed, Frame, Kernel, Table, Leaf, Pages, Pleaf, Thing, PlaceOf, State, with_place}
-use Rattle.kernel_rules.specs.Access.{Slot, Named, found, Target, Under, InRoot, place_at, usable_in, linked, slot_in, root_slot, reached, own}
-use Rattle.kernel_rules.specs.Rules.{Found, IsFoundAnd, Vacant as to_be_free, Does, Name, and_then, or_refuse, unless, not_vacant, named, name_of, vacant, outcome, fills}
-use Rattle.kernel_rules.specs.CapabilityCalls.{copy_rule}
-use Rattle.kernel_rules.specs.CallRelation.{MayReply, rule_of, ends_by, flushes_by, changed, change_of, counted, begins_in, state_by}
+use Rattle.kernel_rules.specs.State.{Place, comp_of, Free as Vacant, Holds, Quiescing as Removed, Frame, Kernel, Table, Leaf, Pages, Pleaf, Thing, PlaceOf, FrameOf, State, with_place}
+use Rattle.kernel_rules.specs.Access.{Slot, found, Target, Under, InRoot, only, place_at, usable_in, linked, slot_in, root_slot, reached, own}
+use Rattle.kernel_rules.specs.Rules.{Found, IsFoundAnd, Vacant as to_be_free, Does, and_then, or_refuse, unless, not_vacant, named, outcome, fills}
+use Rattle.kernel_rules.specs.CallRelation.{MayReply, rule_of, ends_by, flushes_by, changed, change_of, counted, begins_in}
 use Rattle.kernel_rules.specs.Laws.{calls_counted}
 use Rattle.kernel_rules.specs.Relies.{is_node}
 use Rattle.kernel_rules.proofs.Within.{put_same}
 use Rattle.kernel_rules.proofs.Apart.{slot_is, place_here, place_there}
-use Rattle.kernel_history.specs.Trace.{Step, Trace, Open, phase, state_after, state_decided_in, last_left, own_left, own_read}
+use Rattle.kernel_history.specs.Trace.{Step, Trace, Open, phase, state_after, state_decided_in, last_left}
 use Rattle.kernel_history.specs.Ways.{capability_in, led_to, root_passed, way_to, wide_way_to, ways, wide_ways, target_of}
 use Rattle.kernel_history.specs.Discipline.{changes_places, changes_in_frame}
 use Rattle.kernel_history.specs.Justified.{is_slot_in, HasReached, IsSlot}
 use Rattle.kernel_history.proofs.AloneCalls.{ok_first}
-use Rattle.kernel_history.specs.Marks.{entry_mark, mark_in_frame}
+use Rattle.kernel_history.specs.Marks.{entry_mark, mark_in_frame, mark_of}
+use Rattle.kernel_history.specs.Legal.{IsLegal}
+use Rattle.kernel_history.specs.Marking.{marked_by}
 use Rattle.kernel_history.specs.Stamps.{begins_in as begins_then, ends_in, flushes_in, stamp}
 use Rattle.stage_look.specs.Shown.{CapNames}
-use Rattle.call_plans.specs.Plans.{at_place}
-use Rattle.call_plans.specs.declared.plans.Nth.TheVariants.{Second}
-use Rattle.call_plans.specs.declared.plans.Name.{Name as PlanName}
 use Rattle.call_plans.specs.declared.plans.Plan.{Plan}
-use Rattle.call_plans.specs.declared.plans.Spot.TheVariants as spot_of
 use Rattle.call_plans.specs.PlanOf.{any_cap, of_kind, plan_for}
 use Rattle.call_plans.specs.GoesBy.{GoesBy, own_pages}
 use Rattle.call_plans.proofs.CallsGoBy.{calls_go}
 use Rattle.call_plans.proofs.AfterNames.{leads_by, outcome_left}
 use Rattle.plan_ways.specs.Laws.{NextPlace, IsTargetOf}
 use Rattle.plan_ways.proofs.Ways.{next_on_way, target_is, all_ways}
-use Rattle.stage_look.specs.declared.look.Found.{Found as Place_found}
 use Rattle.call_plans.specs.After.{rule_after, names_after, Leads, LeadsIn, NextName, NextFree, next_of}
 use Rattle.call_steps.specs.declared.fills.Fill.{Fill}
 use Rattle.call_steps.specs.declared.stages.Act.TheVariants.{Fill as fill_act}
@@ -55,21 +50,30 @@ use Rattle.call_steps.specs.declared.stages.Work.TheVariants.{Act}
 use Rattle.call_steps.specs.declared.stages.Tail.TheVariants.{Nothing as no_tail}
 use Rattle.call_steps.specs.declared.stages.Stage.TheVariants.{Undecided, Decided}
 use Rattle.call_steps.specs.declared.stages.ActiveCall.{ActiveCall}
-use Rattle.call_steps.specs.declared.stages.WorkStep.{WorkStep}
-use Rattle.call_steps.specs.declared.stages.WorkStep.TheVariants.{Goes}
 use Rattle.call_steps.specs.Fills.{FillFits, filled_if, fill_move}
-use Rattle.call_steps.specs.Acts.{looked, act_begun}
+use Rattle.call_steps.specs.Acts.{cap_dues, put_by}
+use Rattle.call_steps.proofs.StepsFit.{one_due}
+use Rattle.kernel_rules.specs.References.{named_by, times, refs}
+use Rattle.core_invariant.proofs.Calm.{room_grows}
+use Rattle.core_invariant.proofs.CountSums.{fill_refs}
+use Rattle.core_invariant.proofs.Sounds.{limits_of}
+use Rattle.work_invariant.proofs.CountChanges.{counts_commit, counts_sum}
+use Rattle.work_invariant.proofs.Acquiring.{plan_leads}
+use Rattle.work_invariant.proofs.Vacancy.{in_leaf, IsVacant, vacant_by}
+use Rattle.core_invariant.specs.Holding.{holds_counts}
+use Rattle.core_invariant.specs.CountWords.{IsWithin}
+use Rattle.core_invariant.proofs.Writes.{same_marks}
+use Rattle.std.proofs.Common.{◌+ℤ◌, max}
 use Rattle.call_steps.specs.Steps.{landed}
 use Rattle.call_steps.specs.View.{Core}
 use Rattle.call_steps.specs.Fits.{StageFits, HasRoom}
-use Rattle.core_invariant.specs.Holding.{nothing}
 use Rattle.core_invariant.specs.Words.{PlaceIs, IsFrameWord, WordIs}
-use Rattle.core_invariant.specs.Knows.{HasFound, IsReached, IsFill, KnowsUndecided, own_in, phase_at}
-use Rattle.core_invariant.specs.Stands.{holds_at, times_of, Stands}
+use Rattle.core_invariant.specs.Knows.{HasFound, MayFill, KnowsUndecided, own_in, phase_at}
+use Rattle.core_invariant.specs.Stands.{holds_at, holds_in, holds, times_of, Stands}
 use Rattle.core_invariant.proofs.Carries.{own_kept, slot_relies}
-use Rattle.core_invariant.proofs.Loads.{IsOfCall, inner, call_is, is_active}
+use Rattle.core_invariant.proofs.Loads.{IsOfCall, next_at, core_at, inner, call_is, is_active}
 use Rattle.core_invariant.proofs.Writes.{writes_entry}
-use Rattle.core_invariant.proofs.Calm.{IsCalm, calm_core, IsPlain}
+use Rattle.core_invariant.proofs.Calm.{IsCalm, calm_core, IsPlain, plain_stamp}
 use Rattle.core_invariant.proofs.Places.{IsMarked, IsPlain as IsUnmarked, node_mark, place_reads}
 use Rattle.core_invariant.proofs.Refusals.{GoodTook, not_spent, refuses_raced}
 use Rattle.work_invariant.proofs.Lookups.{slot_right, slot_one, near_way}
@@ -80,16 +84,19 @@ use Rattle.work_invariant.proofs.Next.{Rest, ANameLeft, NoneLeft, rest_of, next_
 record Puts (s : State) (c : ℕ) (call : Call) (ks : List Capability) (target : Target) (k : Capability) : Type 0 where
   rule : rule_after (rule_of s c call) ks ≡ to_be_free target (λ at. Does [] (fills s at k))
   places : changes_places call ≡ true
+  leaf : (setup : Setting) → IsSetting setup → (t : Trace) → IsLegal setup t → phase t c ≡ Open call → s ≡ state_after setup t
+      → (at : Slot) → reached s c target ≡ Some at → s.frame at.node ≡ Kernel Leaf
   ends : (x : Thing) → ends_by call x ≡ false
   flushes : flushes_by call ≡ false
 
 -- The outcome of what is left of such a rule, where its target is free.
-puts_it : (s : State) (c : ℕ) (target : Target) (k : Capability) (at : Slot) → reached s c target ≡ Some at → place_at s at ≡ Vacant
+puts_it : (s : State) (c : ℕ) (target : Target) (k : Capability) (at : Slot) → reached s c target ≡ Some at
+    → not_vacant s c (PlaceOf at.node at.index) (place_at s at) ≡ None
     → outcome s c (to_be_free target (λ at. Does [] (fills s at k))) ≡ Found (fills s at k)
 puts_it s c target k at reached_at free =
     ap (λ x. and_then x λ at. outcome s c (Does [] (fills s at k)))
     (ap (λ o. and_then (or_refuse o reply.NoSlot) λ at. unless (not_vacant s c (PlaceOf at.node at.index) (place_at s at)) at) reached_at
-    ∙ ap (λ p. unless (not_vacant s c (PlaceOf at.node at.index) p) at) free)
+    ∙ ap (λ o. unless o at) free)
 
 -- A word that says that it is free is that of a free place.
 free_place : (n : ℕ) (p : Place) (r : ℕ) (o : Option Entry) → PlaceIs n p r o → o ≡ Some Free → p ≡ Vacant
@@ -104,7 +111,8 @@ free_place n (Removed k) r o is free = absurd (not_free r (sym is.says ∙ free)
     not_free r h = cc
 
 -- The word of a place of a node.
-node_word : (n : ℕ) (x : Frame) (p : Place) (r i v : ℕ) → IsTrue (is_node x) → PlaceIs n p r (entry_of_word v) → IsFrameWord n x p r i v
+pub node_word : (n : ℕ) (x : Frame) (p : Place) (r i v : ℕ) → IsTrue (is_node x) → PlaceIs n p r (entry_of_word v)
+    → IsFrameWord n x p r i v
 node_word n (Kernel Table) p r i v node h = λ below. h
 node_word n (Kernel Leaf) p r i v node h = λ below. h
 node_word n (Kernel Pages) p r i v node h = λ below. h
@@ -112,7 +120,7 @@ node_word n (Kernel Pleaf) p r i v node h = λ below. h
 node_word n _ p r i v node h = absurd (false≢true node)
 
 -- A call that changes places changes those of nodes.
-changes_node : (call : Call) (x : Frame) → changes_places call ≡ true → IsTrue (is_node x) → IsTrue (changes_in_frame call x)
+pub changes_node : (call : Call) (x : Frame) → changes_places call ≡ true → IsTrue (is_node x) → IsTrue (changes_in_frame call x)
 changes_node call (Kernel Table) places node = places
 changes_node call (Kernel Leaf) places node = places
 changes_node call (Kernel Pages) places node = places
@@ -128,19 +136,24 @@ leads_like (Removed k) true b i at h = h
 leads_like (Removed k) false true i at h = absurd (cc)
 leads_like (Removed k) false false i at h = h
 
-target_way : (s : State) (c : ℕ) (target : Target) (at : Slot) → reached s c target ≡ Some at → is_slot_in (wide_way_to s target) at.node at.index ≡ true
-target_way s c (Under table n) at is = slot_right (root_passed (Under table n)) (option_to_list (led_to s (Under table n))) at.node at.index
+pub target_way : (s : State) (c : ℕ) (target : Target) (at : Slot) → reached s c target ≡ Some at
+    → is_slot_in (wide_way_to s target) at.node at.index ≡ true
+target_way s c (Under table n) at is =
+    slot_right (root_passed (Under table n)) (option_to_list (led_to s (Under table n))) at.node at.index
     (ap (λ o. is_slot_in (option_to_list o) at.node at.index)
-    (leads_like (place_at s (root_slot table.frame n)) ((s.grace (PlaceOf table.frame (n / 64))).waits c) (table.found && nat_le n 4095) (n % 64) at is)
+    (leads_like (place_at s (root_slot table.frame n)) ((s.grace (PlaceOf table.frame (n / 64))).waits c) (table.found && nat_le n 4095)
+    (n % 64) at is)
     ∙ slot_one at.node at.index)
-target_way s c (InRoot table i) at is = slot_right (root_passed (InRoot table i)) (option_to_list (led_to s (InRoot table i))) at.node at.index
+target_way s c (InRoot table i) at is =
+    slot_right (root_passed (InRoot table i)) (option_to_list (led_to s (InRoot table i))) at.node at.index
     (ap (λ o. is_slot_in (option_to_list o) at.node at.index) is ∙ slot_one at.node at.index)
 
-module _ (setup : Setting) (setting : IsSetting setup) (cores : ℕ → Core) (t : Trace) (stands : Stands setup cores t) (c : ℕ) (here : c < setup.cores)
+module _ (setup : Setting) (setting : IsSetting setup) (cores : ℕ → Core) (t : Trace) (stands : Stands setup cores t) (c : ℕ)
+    (here : c < setup.cores)
     (a : ActiveCall) (node index word : ℕ) (k : Capability) (active : (cores c).active ≡ Some a)
     (stage_is : a.stage ≡ Undecided (Act (fill_act (record { node = node; entry = index; word = word; cap = k }))))
     (has : KnowsUndecided setup t c (cores c).own.table a (Act (fill_act (record { node = node; entry = index; word = word; cap = k }))))
-    (puts : Puts (state_after setup t) c a.call a.found has.knows.target k) where
+    (puts : Puts (state_after setup t) c a.call a.found has.knows.knows.target k) where
   abbrev s : State
   s = state_after setup t
 
@@ -151,13 +164,13 @@ module _ (setup : Setting) (setting : IsSetting setup) (cores : ℕ → Core) (t
   was = last_left setup t (EntryAt node index)
 
   fits : EntryFits (Held k)
-  fits = has.knows.fits
+  fits = has.knows.knows.fits
 
   opens : phase_at a.call a.stage ≡ Open a.call
   opens = ap (phase_at a.call) stage_is
 
-  holds_none : holds_at a.stage (cores c).own.core ≡ nothing
-  holds_none = ap (λ y. holds_at y (cores c).own.core) stage_is
+  held_is : holds_in (Some a) ≡ holds_counts None a.counts
+  held_is = ap (λ s. holds_at s a.counts) stage_is
 
   room : (cores c).own.made < (cores c).own.limit
   room = subst (HasRoom (cores c).own.made (cores c).own.limit) stage_is (is_active setup setting cores t stands c here a active).room
@@ -169,7 +182,8 @@ module _ (setup : Setting) (setting : IsSetting setup) (cores : ℕ → Core) (t
   table_is = (stands.each c here).works.table
 
   goes_by : GoesBy (own_pages s c) a.plan (rule_of s c a.call)
-  goes_by = subst (λ p. GoesBy (own_pages s c) p (rule_of s c a.call)) (sym (is_active setup setting cores t stands c here a active).plan) (calls_go s c a.call)
+  goes_by = subst (λ p. GoesBy (own_pages s c) p (rule_of s c a.call)) (sym (is_active setup setting cores t stands c here a active).plan)
+      (calls_go s c a.call)
 
   leads : Leads (LeadsIn s c) a.plan.names [] a.found
   leads = leads_by (λ n wanted q. HasFound setup t c (own_in (cores c).own.table n) wanted q) (LeadsIn s c)
@@ -179,19 +193,21 @@ module _ (setup : Setting) (setting : IsSetting setup) (cores : ℕ → Core) (t
   fits_in = subst (StageFits (cores c).own.layout) stage_is (is_active setup setting cores t stands c here a active).stage
 
   in_node : IsTrue (is_node (s.frame node))
-  in_node = (slot_relies setup setting t stands.legal c a.call is_open has.knows.target slot has.knows.way).node
+  in_node = (slot_relies setup setting t stands.legal c a.call is_open has.knows.knows.target slot has.knows.knows.way).node
 
   target_slot : target_of s c (rule_of s c a.call) ≡ Some slot
-  target_slot = subst (λ x. IsTargetOf s c x (target_of s c (rule_of s c a.call))) has.knows.next (target_is s c (own_pages s c) a.plan (rule_of s c a.call) a.found goes_by leads)
-      ∙ has.knows.way.reached
+  target_slot = subst (λ x. IsTargetOf s c x (target_of s c (rule_of s c a.call))) has.knows.knows.next
+      (target_is s c (own_pages s c) a.plan (rule_of s c a.call) a.found goes_by leads)
+      ∙ has.knows.knows.way.reached
 
   -- the compare is one of the call, on a place of its way
   abbrev compare : Move
   compare = CompareOf (EntryAt node index) word (word_of_entry (Held k))
 
   on_way : is_slot_in (wide_ways s c (rule_of s c a.call)) node index ≡ true
-  on_way = next_on_way s c (own_pages s c) a.plan (rule_of s c a.call) a.found goes_by leads has.knows.target node index
-      (subst (λ x. NextPlace s c x has.knows.target) (sym has.knows.next) refl) (target_way s c has.knows.target slot has.knows.way.reached)
+  on_way = next_on_way s c (own_pages s c) a.plan (rule_of s c a.call) a.found goes_by leads has.knows.knows.target node index
+      (subst (λ x. NextPlace s c x has.knows.knows.target) (sym has.knows.knows.next) refl)
+      (target_way s c has.knows.knows.target slot has.knows.knows.way.reached)
 
   of_call : IsOfCall setup t c a.call compare
   of_call = record { moves = changes_node a.call (s.frame node) puts.places in_node; near = inl (near_way s c a.call node index on_way) }
@@ -199,13 +215,13 @@ module _ (setup : Setting) (setting : IsSetting setup) (cores : ℕ → Core) (t
   -- lost
   lost : (was == word) ≡ false → GoodTook setup cores t c compare (landed a (filled_if false))
   lost other =
-      refuses_raced setup setting cores t stands c here a active opens holds_none room compare
+      refuses_raced setup setting cores t stands c here a active opens held_is room compare
       (record { of_call = of_call; kept = kept; apart = λ d. refl })
       (record {
         at = inl (subst (λ o. IsSlot o node index) (sym target_slot) (refl, refl));
         reads = eq-eqb (left_of compare was) was kept;
         own = word;
-        has_read = has.knows.own;
+        has_read = has.knows.knows.own;
         changed = eqb-false was word other;
       })
     where
@@ -226,31 +242,33 @@ module _ (setup : Setting) (setting : IsSetting setup) (cores : ℕ → Core) (t
     abbrev e : Step
     e = inner setup setting cores t stands c here a active compare (Some (reply.Ok Nothing)) None
 
-    says_free : entry_of_word was ≡ Some Free
-    says_free = ap entry_of_word same ∙ has.knows.free
+    may : MayFill setup t c (PlaceOf node index) setup.cores (entry_of_word was)
+    may = subst (MayFill setup t c (PlaceOf node index) setup.cores) (sym (ap entry_of_word same)) has.knows.knows.vacant
 
     unmarked : IsUnmarked setup t node index
     unmarked = by_read (place_reads setup cores t stands node index in_node fits_in.entry)
       where
-        not_free : (d : ℕ) → Some (Closing d) ≡ Some Free → ⊥
-        not_free d h = cc
-
         by_read : IsMarked setup t node index ⊎ IsUnmarked setup t node index → IsUnmarked setup t node index
-        by_read (inl m) = absurd (not_free m.by (sym m.says ∙ says_free))
+        by_read (inl m) = absurd (subst (MayFill setup t c (PlaceOf node index) setup.cores) m.says may)
         by_read (inr p) = p
 
-    free : place_at s slot ≡ Vacant
-    free = free_place setup.frames (s.place node index) (stamp setup t (PlaceOf node index)) (entry_of_word was) unmarked.says says_free
+    leaf : s.frame node ≡ Kernel Leaf
+    leaf = puts.leaf setup setting t stands.legal is_open refl slot has.knows.knows.way.reached
+
+    empty : IsVacant s c node index
+    empty = vacant_by setup setting t stands.legal stands.graces c node index leaf (ap (λ l. l.cores) (limits_of setup t)) setup.frames
+        (entry_of_word was) unmarked.says may
 
     change : change_of s c a.call ≡ Found (fills s slot k)
     change = outcome_left s c (own_pages s c) a.plan (rule_of s c a.call) a.found goes_by leads ∙ ap (outcome s c) puts.rule
-        ∙ puts_it s c has.knows.target k slot has.knows.way.reached free
+        ∙ puts_it s c has.knows.knows.target k slot has.knows.knows.way.reached empty.vacant
 
     now : state_after setup (e ∷ t) ≡ counted (with_place s node index (Holds k)) c
     now = ap (λ p. state_decided_in p (reply.Ok Nothing) s c) is_open ∙ ap (λ x. counted (changed s x) c) change
 
     calm : IsCalm s (state_after setup (e ∷ t)) c
-    calm = subst (λ x. IsCalm s x c) (sym now) (calm_core s (counted (with_place s node index (Holds k)) c) c _ refl (λ g. refl) (λ l. refl) refl refl (omega arith))
+    calm = subst (λ x. IsCalm s x c) (sym now) (calm_core s (counted (with_place s node index (Holds k)) c) c _ refl (λ g. refl)
+        (λ l. refl) refl refl (omega arith))
 
     plain : IsPlain setup t e
     plain = record {
@@ -264,13 +282,15 @@ module _ (setup : Setting) (setting : IsSetting setup) (cores : ℕ → Core) (t
     counts : (cores c).own.made + calls_counted (reply.Ok Nothing) ≡ ((state_after setup (e ∷ t)).core c).counted
     counts =
         let made = (stands.each c here).works.made in
-        let x : ((state_after setup (e ∷ t)).core c).counted ≡ ((counted (with_place s node index (Holds k)) c).core c).counted = ap (λ y. (y.core c).counted) now in
+        let x : ((state_after setup (e ∷ t)).core c).counted ≡ ((counted (with_place s node index (Holds k)) c).core c).counted = ap
+        (λ y. (y.core c).counted) now in
         let y : ((counted (with_place s node index (Holds k)) c).core c).counted ≡ (s.core c).counted + 1 =
         ap (λ z. z.counted) (put_same s.core c (record (s.core c) { counted = (s.core c).counted + 1 }) c refl) in
         omega arith
 
     -- a slot is the target's, or its place is as it was
-    by_slot : (g i : ℕ) (same_slot : Bool) → (g == node && i == index) ≡ same_slot → ((g ≡ node) × (i ≡ index)) ⊎ ((g == node && i == index) ≡ false)
+    by_slot : (g i : ℕ) (same_slot : Bool) → (g == node && i == index) ≡ same_slot
+        → ((g ≡ node) × (i ≡ index)) ⊎ ((g == node && i == index) ≡ false)
     by_slot g i true is = inl (slot_is g node i index is)
     by_slot g i false is = inr is
 
@@ -286,39 +306,38 @@ module _ (setup : Setting) (setting : IsSetting setup) (cores : ℕ → Core) (t
       | inr other ↦ there g i other
     ]
 
-    removed : (g i : ℕ) (q : Capability) → (state_after setup (e ∷ t)).place g i ≢ Removed q
-    removed g i q h = elim (by_slot g i (g == node && i == index) refl) [
-      | inl is ↦ absurd (not_removed (sym (here_now g i is.0 is.1) ∙ h))
-      | inr other ↦ absurd (stands.none_removed g i q (sym (there g i other) ∙ h))
-    ]
-      where
-        not_removed : Holds k ≡ Removed q → ⊥
-        not_removed h = cc
-
     new_says : entry_of_word new ≡ Some (Held k)
     new_says = spelling.reads (Held k) fits
 
     word_now : WordIs (state_after setup (e ∷ t)) (times_of setup (e ∷ t)) (EntryAt node index) new
-    word_now = node_word (state_after setup (e ∷ t)).limits.frames ((state_after setup (e ∷ t)).frame node) ((state_after setup (e ∷ t)).place node index)
+    word_now = node_word (state_after setup (e ∷ t)).limits.frames ((state_after setup (e ∷ t)).frame node)
+        ((state_after setup (e ∷ t)).place node index)
         (stamp setup (e ∷ t) (PlaceOf node index)) index new
         (subst (λ x. IsTrue (is_node x)) (sym (calm.frame node)) in_node)
-        (subst (λ p. PlaceIs (state_after setup (e ∷ t)).limits.frames p (stamp setup (e ∷ t) (PlaceOf node index)) (entry_of_word new)) (sym (here_now node index refl refl))
-        (new_says, subst (λ n. CapNames n k) (ap (λ x. x.frames) (stands.each c here).shape ∙ sym (ap (λ l. l.frames) (calm.limits ∙ Rattle.core_invariant.proofs.Sounds.limits_of setup t))) fits_in.cap))
+        (subst (λ p. PlaceIs (state_after setup (e ∷ t)).limits.frames p (stamp setup (e ∷ t) (PlaceOf node index)) (entry_of_word new))
+        (sym (here_now node index refl refl)) (
+          new_says,
+          subst (λ n. CapNames n k) (ap (λ x. x.frames) (stands.each c here).shape ∙ sym
+              (ap (λ l. l.frames) (calm.limits ∙ limits_of setup t))) fits_in.cap,
+        ))
 
     -- all places of the call's ways are gone
     gone : HasReached (e ∷ t) c (ways s c (rule_of s c a.call))
     gone = all_ways s c (own_pages s c) (e ∷ t) a.plan (rule_of s c a.call) a.found goes_by
-        (leads_by (λ n wanted q. HasFound setup t c (own_in (cores c).own.table n) wanted q) (λ n wanted q. LeadsIn s c n wanted q × HasReached (e ∷ t) c (way_to s c (own s c n)))
+        (leads_by (λ n wanted q. HasFound setup t c (own_in (cores c).own.table n) wanted q)
+        (λ n wanted q. LeadsIn s c n wanted q × HasReached (e ∷ t) c (way_to s c (own s c n)))
         own_gone a.plan.names [] a.found has.names)
         (subst (λ x. HasReached (e ∷ t) c (ways s c x)) (sym puts.rule)
-        (way_gone setup t (e ∷ t) c has.knows.target slot has.knows.way.reached (λ n d h. own_kept t e c refl refl _ (has.knows.way.stepped n d h))))
+        (way_gone setup t (e ∷ t) c has.knows.knows.target slot has.knows.knows.way.reached
+        (λ n d h. own_kept t e c refl refl _ (has.knows.knows.way.stepped n d h))))
       where
         own_gone : (n : ℕ) (wanted : Kind → Bool) (q : Capability) → HasFound setup t c (own_in (cores c).own.table n) wanted q
             → LeadsIn s c n wanted q × HasReached (e ∷ t) c (way_to s c (own s c n))
         own_gone n wanted q had = (
           found_named setup t c (cores c).own.table n wanted q table_is had,
           subst (λ x. HasReached (e ∷ t) c (way_to s c x)) (own_is s c (cores c).own.table n table_is)
-              (way_gone setup t (e ∷ t) c (own_in (cores c).own.table n) had.at had.way.reached (λ m d h. own_kept t e c refl refl _ (had.way.stepped m d h))),
+              (way_gone setup t (e ∷ t) c (own_in (cores c).own.table n) had.at had.way.reached
+              (λ m d h. own_kept t e c refl refl _ (had.way.stepped m d h))),
         )
 
     permitted : MayReply s c a.call (reply.Ok Nothing)
@@ -327,13 +346,81 @@ module _ (setup : Setting) (setting : IsSetting setup) (cores : ℕ → Core) (t
       subst (λ x. IsFoundAnd x (λ y. y.value ≡ Nothing)) (sym change) refl,
     )
 
+    -- what it makes of the counts
+    abbrev after : Core
+    after = core_at (cores c) ((cores c).own.made + calls_counted (reply.Ok Nothing))
+        (next_at a a.found (Decided (reply.Ok Nothing) None no_tail))
+
+    bare_now : mark_of s (EntryAt node index) (left_of compare was) ≡ None
+    bare_now = ap (mark_in_frame (s.frame node) index) leaves ∙ node_mark (s.frame node) index new in_node ∙ ap entry_mark new_says
+
+    no_count : (f d : ℕ) → CountAt f d ≢ EntryAt node index
+    no_count f d h = cc
+
+    few : length (cap_dues k (pos 1)) ≤ 1
+    few = one_due (fill_act (record { node = node; entry = index; word = word; cap = k }))
+
+    node_below : node < s.limits.frames
+    node_below = subst (λ (n : ℕ). node < n) (ap (λ x. x.frames) (stands.each c here).shape ∙ sym
+        (ap (λ l. l.frames) (limits_of setup t))) fits_in.node
+
+    core_below : c < s.limits.cores
+    core_below = subst (λ (n : ℕ). c < n) (sym (ap (λ l. l.cores) (limits_of setup t))) here
+
+    grows : (f : ℕ) → refs (state_after setup (e ∷ t)) f ≡ refs s f + times f (named_by k.kind k.frame)
+    grows f = ap (λ x. refs x f) now ∙ fill_refs s c node index k node_below fits_in.entry empty.names f
+
+    one_more : ((state_after setup (e ∷ t)).core c).counted ≡ (s.core c).counted + 1
+    one_more =
+        let made = (stands.each c here).works.made in
+        let same = counts in
+        omega arith
+
+    one_small : IsWithin (pos 1) 1
+    one_small = omega arith
+
+    none_small : 0 < 2 ^ 28
+    none_small = omega arith
+
+    max_zero : (n : ℕ) → n ≡ max n 0
+    max_zero n = omega arith
+
+    grows_one : (f : ℕ) → times f (named_by k.kind k.frame) ≡ 1 → pos (refs (state_after setup (e ∷ t)) f) ≡ pos (refs s f) +ℤ pos 1
+    grows_one f one = ap (λ (n : ℕ). pos n) (let more = grows f in sum_is (refs s f) (refs (state_after setup (e ∷ t)) f) (omega arith))
+      where
+        sum_is : (x y : ℕ) → y ≡ x + 1 → y ≡ x + 1
+        sum_is x y h = h
+
+    before : holds (cores c) ≡ holds_counts None a.counts
+    before = ap holds_in active ∙ held_is
+
+    before_count : (f d : ℕ) → ((holds (cores c)).marks (CountAt f d) ≡ (holds_counts None a.counts).marks (CountAt f d))
+        × ((holds (cores c)).stands (CountAt f d) ≡ (holds_counts None a.counts).stands (CountAt f d))
+    before_count f d = (ap (λ h. h.marks (CountAt f d)) before, ap (λ h. h.stands (CountAt f d)) before)
+
+    still : (w : Word) → (holds after).marks w ≡ (holds (cores c)).marks w
+    still w = same_marks (Some None) None a.counts w ∙ sym (ap (λ h. h.marks w) before)
+
+    own_marked : (w : Word) → marked_by setup t w ≡ Some c → (holds_counts None a.counts).marks w ≡ true
+    own_marked w is = sym (ap (λ h. h.marks w) before) ∙ (stands.marks w c).owned is
+
     won : GoodTook setup cores t c compare (landed a (filled_if true))
-    won lands = writes_entry setup setting cores t stands c here a active compare node index ((cores c).own.made + calls_counted (reply.Ok Nothing)) (reply.Ok Nothing) a.found (Decided (reply.Ok Nothing) no_tail)
-        refl unmarked.mark
-        (ap (mark_in_frame (s.frame node) index) leaves ∙ node_mark (s.frame node) index new in_node ∙ ap entry_mark new_says)
+    won lands = writes_entry setup setting cores t stands c here a active compare node index
+        ((cores c).own.made + calls_counted (reply.Ok Nothing)) (reply.Ok Nothing) a.found (Decided (reply.Ok Nothing) None no_tail)
+        refl unmarked.mark bare_now
         (subst (λ (n : ℕ). n < 2 ^ 64) (sym leaves) (spelling.small (Held k) fits))
-        of_call lands (sym holds_none) opens refl calm plain counts elsewhere removed
+        of_call lands opens refl refl calm plain counts elsewhere
         (subst (WordIs (state_after setup (e ∷ t)) (times_of setup (e ∷ t)) (EntryAt node index)) (sym leaves) word_now)
+        held_is (λ w own. counts_commit setup setting cores t stands c here a active (pos 1) one_small None none_small
+        (named_by k.kind k.frame) few has.knows.all compare
+        (reply.Ok Nothing) after still before_count (λ f d. refl) calm.frame unmarked.mark bare_now no_count
+        (room_grows s (state_after setup (e ∷ t)) c calm core_below one_more) w (own_marked w own))
+        (counts_sum setup setting cores t stands c here a active (pos 1) one_small None none_small (named_by k.kind k.frame) few
+        has.knows.all compare
+        (reply.Ok Nothing) after still before_count (λ f d. refl) calm.frame unmarked.mark bare_now no_count
+        (ap (λ l. l.cores) calm.limits)
+        (λ f none. ((let more = grows f in omega arith), plain_stamp setup t e plain (FrameOf f)))
+        (λ f one. (grows_one f one, plain_stamp setup t e plain (FrameOf f) ∙ max_zero (stamp setup t (FrameOf f)))))
         (record { call = a.call; is_open = is_open; permitted = permitted; justified = gone })
         (λ is_alone. ok_first s c a.call Nothing permitted)
         tt
@@ -346,39 +433,46 @@ module _ (setup : Setting) (setting : IsSetting setup) (cores : ℕ → Core) (t
       by_test true is = won is
       by_test false is = lost is
 
--- What a filling act puts.
-abbrev cap_in : WorkStep → Capability → Capability
-cap_in (Goes (Act (fill_act fill))) other = fill.cap
-cap_in _ other = other
-
 target_in : (p q : Target) → NextFree p ≡ NextFree q → p ≡ q
 target_in p q is = cc
 
--- What the act of a call begins with is what its rule puts: a line a call that fills.
-module _ (s : State) (c : ℕ) (fill : Fill) (target : Target) (place : Place_found) where
-  puts_by : (call : Call) → IsBuilt call → (P : ℕ → (Kind → Bool) → Capability → Type 0) (ks : List Capability) → Leads P (plan_for call).names [] ks → names_after (plan_for call).names ks ≡ []
-      → next_of (plan_for call) ks ≡ NextFree target → act_begun call ks (Some place) ≡ Goes (Act (fill_act fill)) → Puts s c call ks target fill.cap
-  puts_by (Copy a u b) built P (k ∷ j ∷ []) lead none next act =
-      subst (λ (q : Capability). Puts s c (Copy a u b) (k ∷ j ∷ []) target q) (ap (λ step. cap_in step k) act)
-      (subst (λ p. Puts s c (Copy a u b) (k ∷ j ∷ []) p k) (target_in (Under (found j) b) target next)
-      (record { rule = refl; places = refl; ends = λ x. refl; flushes = refl }))
-  puts_by (Copy a u b) built P [] lead none next act = absurd (not_none none)
-    where
-      not_none : any_cap a ∷ of_kind kind.Table u ∷ [] ≡ [] → ⊥
-      not_none h = cc
-  puts_by (Copy a u b) built P (k ∷ []) lead none next act = absurd (not_none none)
-    where
-      not_none : of_kind kind.Table u ∷ [] ≡ [] → ⊥
-      not_none h = cc
-  puts_by (Copy a u b) built P (k ∷ j ∷ i ∷ ks) lead none next act = absurd lead.1.1
-  puts_by (Look a) built P ks lead none next act = absurd (not_fill _ act)
-    where
-      not_fill : (o : Option Capability) → looked o ≡ Goes (Act (fill_act fill)) → ⊥
-      not_fill None h = cc
-      not_fill (Some k) h = cc
-  puts_by call built P ks lead none next act = absurd built
+cap_same : (k j : Capability) → Some k ≡ Some j → k ≡ j
+cap_same k j is = cc
 
-module _ (setup : Setting) (setting : IsSetting setup) (cores : ℕ → Core) (t : Trace) (stands : Stands setup cores t) (c : ℕ) (here : c < setup.cores)
+-- What a call puts at its target is what its rule puts there: a line a call that fills.
+puts_by : (s : State) (c : ℕ) (target : Target) (q : Capability) (call : Call) → IsBuilt call → (ks : List Capability)
+    → Leads (LeadsIn s c) (plan_for call).names [] ks → names_after (plan_for call).names ks ≡ []
+    → next_of (plan_for call) ks ≡ NextFree target → put_by call ks ≡ Some q → Puts s c call ks target q
+puts_by s c target q (Copy a u b) built (k ∷ j ∷ []) lead none next puts =
+    subst (λ (q : Capability). Puts s c (Copy a u b) (k ∷ j ∷ []) target q) (cap_same k q puts)
+    (subst (λ p. Puts s c (Copy a u b) (k ∷ j ∷ []) p k) (target_in (Under (found j) b) target next)
+    (record {
+      rule = refl;
+      places = refl;
+      leaf = λ setup setting t legal in_call same at is. subst (λ x. x.frame at.node ≡ Kernel Leaf) (sym same)
+          (in_leaf setup setting t legal c (Copy a u b) in_call u b j at
+          (subst (λ x. named x c u (only kind.Table) ≡ Found j) same lead.1.0)
+          (subst (λ x. reached x c (Under (found j) b) ≡ Some at) same is));
+      ends = λ x. refl;
+      flushes = refl;
+    }))
+puts_by s c target q (Copy a u b) built [] lead none next puts = absurd (not_none none)
+  where
+    not_none : any_cap a ∷ of_kind kind.Table u ∷ [] ≡ [] → ⊥
+    not_none h = cc
+puts_by s c target q (Copy a u b) built (k ∷ []) lead none next puts = absurd (not_none none)
+  where
+    not_none : of_kind kind.Table u ∷ [] ≡ [] → ⊥
+    not_none h = cc
+puts_by s c target q (Copy a u b) built (k ∷ j ∷ i ∷ ks) lead none next puts = absurd lead.1.1
+puts_by s c target q (Look a) built ks lead none next puts = absurd (cc)
+puts_by s c target q (Remove u b) built ks lead none next puts = absurd (cc)
+puts_by s c target q (Shrink u i) built ks lead none next puts = absurd (cc)
+puts_by s c target q (Unmap p v) built ks lead none next puts = absurd (cc)
+puts_by s c target q call built ks lead none next puts = absurd built
+
+module _ (setup : Setting) (setting : IsSetting setup) (cores : ℕ → Core) (t : Trace) (stands : Stands setup cores t) (c : ℕ)
+    (here : c < setup.cores)
     (a : ActiveCall) (fill : Fill) (active : (cores c).active ≡ Some a) (stage_is : a.stage ≡ Undecided (Act (fill_act fill)))
     (has : KnowsUndecided setup t c (cores c).own.table a (Act (fill_act fill))) where
   plan_is : a.plan ≡ plan_for a.call
@@ -391,17 +485,17 @@ module _ (setup : Setting) (setting : IsSetting setup) (cores : ℕ → Core) (t
       not_free n wanted target h = cc
 
       by : Rest a.plan a.found → names_after a.plan.names a.found ≡ []
-      by (ANameLeft name rest is) = absurd (not_free _ _ has.knows.target (sym (next_name a.plan a.found name rest is) ∙ has.knows.next))
+      by (ANameLeft name rest is) =
+          absurd (not_free _ _ has.knows.knows.target (sym (next_name a.plan a.found name rest is) ∙ has.knows.knows.next))
       by (NoneLeft none) = none
 
-  abbrev place : Place_found
-  place = record { node = fill.node; entry = fill.entry; word = fill.word; value = Free }
-
-  pub fill_good : GoodTook setup cores t c (fill_move fill) (landed a (filled_if (last_left setup t (EntryAt fill.node fill.entry) == fill.word)))
+  pub fill_good : GoodTook setup cores t c (fill_move fill) (landed a
+      (filled_if (last_left setup t (EntryAt fill.node fill.entry) == fill.word)))
   fill_good = compare_good setup setting cores t stands c here a fill.node fill.entry fill.word fill.cap active stage_is has
-      (puts_by (state_after setup t) c fill has.knows.target place a.call (is_active setup setting cores t stands c here a active).built
-      (λ n wanted q. HasFound setup t c (own_in (cores c).own.table n) wanted q) a.found
-      (subst (λ (p : Plan). Leads (λ n wanted q. HasFound setup t c (own_in (cores c).own.table n) wanted q) p.names [] a.found) plan_is has.names)
+      (puts_by (state_after setup t) c has.knows.knows.target fill.cap a.call
+      (is_active setup setting cores t stands c here a active).built
+      a.found (subst (λ (p : Plan). Leads (LeadsIn (state_after setup t) c) p.names [] a.found) plan_is
+      (plan_leads setup setting cores t stands c here a active has.names))
       (subst (λ (p : Plan). names_after p.names a.found ≡ []) plan_is none_left)
-      (ap (λ p. next_of p a.found) (sym plan_is) ∙ has.knows.next)
-      (has.knows.puts place refl refl refl))
+      (ap (λ p. next_of p a.found) (sym plan_is) ∙ has.knows.knows.next)
+      has.knows.knows.puts)

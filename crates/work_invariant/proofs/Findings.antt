@@ -30,29 +30,37 @@ own_is s c table n is = ap (λ (x : ℕ). own_in x n) is
 
 -- A number past its range has no slot.
 pub past_slot : (s : State) (table : Named) (n : ℕ) → nat_le n 4095 ≡ false → IsTrue (has_no_slot s (Under table n))
-past_slot s table n past = ap (λ b. b || (table.found && not (Rattle.kernel_rules.specs.Access.holds_link (place_at s (Rattle.kernel_rules.specs.Access.root_slot table.frame n))))) (lt-ltb 4095 n (leb-false n 4095 past))
+past_slot s table n past =
+    ap (λ b. b || (table.found && not (Rattle.kernel_rules.specs.Access.holds_link
+    (place_at s (Rattle.kernel_rules.specs.Access.root_slot table.frame n))))) (lt-ltb 4095 n (leb-false n 4095 past))
 
 -- A place that is reached holds nothing, or something, or a capability of another kind.
 some_and : {A : Type 0} (P : A → Type 0) (o : Option A) (x : A) → o ≡ Some x → P x → IsSomeAnd o P
 some_and P o x is h = subst (λ q. IsSomeAnd q P) (sym is) h
 
-pub reaches_none : (s : State) (c : ℕ) (target : Target) (at : Slot) → reached s c target ≡ Some at → held_in (place_at s at) ≡ None → ReachesNone s c target
-reaches_none s c target at is none = some_and (λ at. IsFalse (is_some (held_in (place_at s at)))) (reached s c target) at is (ap is_some none)
+pub reaches_none : (s : State) (c : ℕ) (target : Target) (at : Slot) → reached s c target ≡ Some at → held_in (place_at s at) ≡ None
+    → ReachesNone s c target
+reaches_none s c target at is none =
+    some_and (λ at. IsFalse (is_some (held_in (place_at s at)))) (reached s c target) at is (ap is_some none)
 
-pub reaches_held : (s : State) (c : ℕ) (target : Target) (at : Slot) (k : Capability) → reached s c target ≡ Some at → place_at s at ≡ Holds k → ReachesHeld s c target
-reaches_held s c target at k is holds = some_and (λ at. IsTrue (is_some (held_in (place_at s at)))) (reached s c target) at is (ap (λ p. is_some (held_in p)) holds)
+pub reaches_held : (s : State) (c : ℕ) (target : Target) (at : Slot) (k : Capability) → reached s c target ≡ Some at
+    → place_at s at ≡ Holds k → ReachesHeld s c target
+reaches_held s c target at k is holds =
+    some_and (λ at. IsTrue (is_some (held_in (place_at s at)))) (reached s c target) at is (ap (λ p. is_some (held_in p)) holds)
 
 pub use_held : (s : State) (c : ℕ) (at : Slot) (k : Capability) → place_at s at ≡ Holds k → usable s c at ≡ Some k
 use_held s c at k holds = ap (λ p. usable_in p ((s.grace (PlaceOf at.node at.index)).waits c)) holds
 
-pub reaches_other : (s : State) (c : ℕ) (target : Target) (at : Slot) (k : Capability) (wanted : Kind → Bool) → reached s c target ≡ Some at → place_at s at ≡ Holds k
+pub reaches_other : (s : State) (c : ℕ) (target : Target) (at : Slot) (k : Capability) (wanted : Kind → Bool)
+    → reached s c target ≡ Some at → place_at s at ≡ Holds k
     → wanted k.kind ≡ false → ReachesOther s c target wanted
 reaches_other s c target at k wanted is holds other =
     some_and (λ at. IsSomeAnd (usable s c at) λ k. IsFalse (wanted k.kind)) (reached s c target) at is
     (some_and (λ k. IsFalse (wanted k.kind)) (usable s c at) k (use_held s c at k holds) other)
 
 -- A name is found where its target reaches a slot at which a capability of the wanted kind may be used.
-pub named_of : (s : State) (c n : ℕ) (wanted : Kind → Bool) (at : Slot) (k : Capability) → reached s c (own s c n) ≡ Some at → usable s c at ≡ Some k
+pub named_of : (s : State) (c n : ℕ) (wanted : Kind → Bool) (at : Slot) (k : Capability) → reached s c (own s c n) ≡ Some at
+    → usable s c at ≡ Some k
     → wanted k.kind ≡ true → named s c n wanted ≡ Found k
 named_of s c n wanted at k r u w =
     ap (λ x. and_then (or_refuse x reply.NoSlot) λ at. and_then (or_refuse (usable s c at) reply.Empty) λ k. of_kind wanted k) r
@@ -60,16 +68,19 @@ named_of s c n wanted at k r u w =
     ∙ ap (λ b. if b then Found k else Refused reply.WrongCap) w
 
 -- And refused where it reaches no slot, may use nothing there, or a capability of another kind.
-pub named_no_slot : (s : State) (c n : ℕ) (wanted : Kind → Bool) → reached s c (own s c n) ≡ None → named s c n wanted ≡ Refused reply.NoSlot
+pub named_no_slot : (s : State) (c n : ℕ) (wanted : Kind → Bool) → reached s c (own s c n) ≡ None
+    → named s c n wanted ≡ Refused reply.NoSlot
 named_no_slot s c n wanted r =
     ap (λ x. and_then (or_refuse x reply.NoSlot) λ at. and_then (or_refuse (usable s c at) reply.Empty) λ k. of_kind wanted k) r
 
-pub named_empty : (s : State) (c n : ℕ) (wanted : Kind → Bool) (at : Slot) → reached s c (own s c n) ≡ Some at → usable s c at ≡ None → named s c n wanted ≡ Refused reply.Empty
+pub named_empty : (s : State) (c n : ℕ) (wanted : Kind → Bool) (at : Slot) → reached s c (own s c n) ≡ Some at → usable s c at ≡ None
+    → named s c n wanted ≡ Refused reply.Empty
 named_empty s c n wanted at r u =
     ap (λ x. and_then (or_refuse x reply.NoSlot) λ at. and_then (or_refuse (usable s c at) reply.Empty) λ k. of_kind wanted k) r
     ∙ ap (λ x. and_then (or_refuse x reply.Empty) λ k. of_kind wanted k) u
 
-pub named_wrong : (s : State) (c n : ℕ) (wanted : Kind → Bool) (at : Slot) (k : Capability) → reached s c (own s c n) ≡ Some at → usable s c at ≡ Some k
+pub named_wrong : (s : State) (c n : ℕ) (wanted : Kind → Bool) (at : Slot) (k : Capability) → reached s c (own s c n) ≡ Some at
+    → usable s c at ≡ Some k
     → wanted k.kind ≡ false → named s c n wanted ≡ Refused reply.WrongCap
 named_wrong s c n wanted at k r u w =
     ap (λ x. and_then (or_refuse x reply.NoSlot) λ at. and_then (or_refuse (usable s c at) reply.Empty) λ k. of_kind wanted k) r
@@ -80,8 +91,13 @@ named_wrong s c n wanted at k r u w =
 pub past_unreached : (s : State) (c : ℕ) (table : Named) (n : ℕ) → nat_le n 4095 ≡ false → reached s c (Under table n) ≡ None
 past_unreached s c table n past = by_found table.found
   where
-    by_found : (b : Bool) → (if b && nat_le n 4095 then Rattle.kernel_rules.specs.Access.slot_in (Rattle.kernel_rules.specs.Access.linked (usable s c (Rattle.kernel_rules.specs.Access.root_slot table.frame n))) (n % 64) else None) ≡ None
-    by_found true = ap (λ b. if b then Rattle.kernel_rules.specs.Access.slot_in (Rattle.kernel_rules.specs.Access.linked (usable s c (Rattle.kernel_rules.specs.Access.root_slot table.frame n))) (n % 64) else None) past
+    by_found : (b : Bool)
+        → (if b && nat_le n 4095 then Rattle.kernel_rules.specs.Access.slot_in
+        (Rattle.kernel_rules.specs.Access.linked (usable s c (Rattle.kernel_rules.specs.Access.root_slot table.frame n))) (n % 64) else
+        None) ≡ None
+    by_found true = ap (λ b. if b then Rattle.kernel_rules.specs.Access.slot_in
+        (Rattle.kernel_rules.specs.Access.linked (usable s c (Rattle.kernel_rules.specs.Access.root_slot table.frame n))) (n % 64) else
+        None) past
     by_found false = refl
 
 -- Of a free place nothing may be used, nor of one that is removed where the core does not wait.
@@ -89,28 +105,33 @@ pub use_free : (s : State) (c : ℕ) (at : Slot) → place_at s at ≡ Vacant �
 use_free s c at is = ap (λ p. usable_in p ((s.grace (PlaceOf at.node at.index)).waits c)) is
 
 pub use_removed_at : (s : State) (c : ℕ) (at : Slot) (k : Capability) → place_at s at ≡ Removed k → NobodyWaits s → usable s c at ≡ None
-use_removed_at s c at k is nobody = use_removed (place_at s at) k ((s.grace (PlaceOf at.node at.index)).waits c) is (nobody (PlaceOf at.node at.index) c)
+use_removed_at s c at k is nobody =
+    use_removed (place_at s at) k ((s.grace (PlaceOf at.node at.index)).waits c) is (nobody (PlaceOf at.node at.index) c)
 
-pub found_named : (setup : Setting) (t : Trace) (c table n : ℕ) (wanted : Kind → Bool) (k : Capability) → table ≡ (comp_of (state_after setup t) c).table
+pub found_named : (setup : Setting) (t : Trace) (c table n : ℕ) (wanted : Kind → Bool) (k : Capability)
+    → table ≡ (comp_of (state_after setup t) c).table
     → HasFound setup t c (own_in table n) wanted k → named (state_after setup t) c n wanted ≡ Found k
 found_named setup t c table n wanted k is has =
     named_of (state_after setup t) c n wanted has.at k
     (ap (reached (state_after setup t) c) (sym (own_is (state_after setup t) c table n is)) ∙ has.way.reached) has.usable has.kind
 
 -- The places of a way that a call has gone.
-pub way_gone : (setup : Setting) (t : Trace) (d : Trace) (c : ℕ) (target : Target) (at : Slot) → reached (state_after setup t) c target ≡ Some at
+pub way_gone : (setup : Setting) (t : Trace) (d : Trace) (c : ℕ) (target : Target) (at : Slot)
+    → reached (state_after setup t) c target ≡ Some at
     → HasReached d c (root_passed target ++ at ∷ []) → HasReached d c (way_to (state_after setup t) c target)
 way_gone setup t d c target at is had = subst (λ o. HasReached d c (root_passed target ++ option_to_list o)) (sym is) had
 
 -- The call has gone the whole way with the step that arrives.
-pub gone_with : (setup : Setting) (t : Trace) (c : ℕ) (target : Target) (at : Slot) (e : Step) → c ≡ e.core → EntryAt at.node at.index ≡ word_of e.move
+pub gone_with : (setup : Setting) (t : Trace) (c : ℕ) (target : Target) (at : Slot) (e : Step) → c ≡ e.core
+    → EntryAt at.node at.index ≡ word_of e.move
     → ((w : Rattle.word_map.specs.Word.Word) → IsSome (own_left t c w) → IsSome (own_left (e ∷ t) c w)) → Arrives setup t c target at
     → HasReached (e ∷ t) c (root_passed target ++ at ∷ [])
 gone_with setup t c target at e own word stays arrives =
     All-append (λ (x : Slot). IsSome (own_left (e ∷ t) c (EntryAt x.node x.index))) (root_passed target) (at ∷ [])
     (λ k d h. stays _ (arrives.passed k d h))
     (All-cons (λ (x : Slot). IsSome (own_left (e ∷ t) c (EntryAt x.node x.index))) at []
-    (ap is_some (own_left-here c e t own (EntryAt at.node at.index) word)) (All-nil (λ (x : Slot). IsSome (own_left (e ∷ t) c (EntryAt x.node x.index)))))
+    (ap is_some (own_left-here c e t own (EntryAt at.node at.index) word))
+    (All-nil (λ (x : Slot). IsSome (own_left (e ∷ t) c (EntryAt x.node x.index)))))
 
 -- The undecided load at which it arrives.
 module _ (setup : Setting) (t : Trace) (c : ℕ) (target : Target) (at : Slot) (found : ℕ) (arrives : Arrives setup t c target at) where
@@ -124,6 +145,8 @@ module _ (setup : Setting) (t : Trace) (c : ℕ) (target : Target) (at : Slot) (
     stepped = gone_with setup t c target at arriving refl refl (own_kept t arriving c refl refl) arrives;
   }
 
-  pub found_now : (wanted : Kind → Bool) (k : Capability) → place_at (state_after setup t) at ≡ Holds k → wanted k.kind ≡ true → EntryFits (Held k)
+  pub found_now : (wanted : Kind → Bool) (k : Capability) → place_at (state_after setup t) at ≡ Holds k → wanted k.kind ≡ true
+      → EntryFits (Held k)
       → HasFound setup (arriving ∷ t) c target wanted k
-  found_now wanted k holds kind fits = record { at = at; way = reached_now; usable = use_held (state_after setup t) c at k holds; kind = kind; fits = fits }
+  found_now wanted k holds kind fits =
+      record { at = at; way = reached_now; usable = use_held (state_after setup t) c at k holds; kind = kind; fits = fits }

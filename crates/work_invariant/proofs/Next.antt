@@ -1,34 +1,26 @@
 -- What comes next of a call that goes by its plan, where its names have led to some capabilities.
-use Rattle.std.proofs.Common.{◌≡◌, inl, inr, ℕ, ◌<◌, ◌≤◌, ◌+◌, ◌||◌, length, arith, Bool, true, false, IsTrue, IsSomeAnd, List, [], ◌∷◌, ◌++◌, Option, Some, None, refl, sym, ◌∙◌, ap, subst}
+use Rattle.std.proofs.Common.{◌≡◌, ℕ, Bool, true, IsTrue, IsSomeAnd, List, [], ◌∷◌, Option, Some, None, refl, sym, ◌∙◌, ap, subst}
 use Rattle.spk_nums.specs.Capability.{Capability}
 use Rattle.spk_nums.specs.Setting.{Setting, IsSetting}
 use Rattle.spk_nums.specs.declared.kinds.Kind.{Kind}
 use Rattle.spk_nums.specs.declared.kinds.Kind.TheVariants as kind
 use Rattle.spk_nums.specs.declared.calls.Call.{Call}
-use Rattle.spk_nums.specs.declared.calls.Call.TheVariants.{Look as look_call, Copy}
-use Rattle.supported_calls.specs.Built.{IsBuilt}
 use Rattle.kernel_rules.specs.State.{State}
-use Rattle.kernel_rules.specs.Access.{Slot, Named, found, root, usable, only, any, Target as place}
+use Rattle.kernel_rules.specs.Access.{Slot, Named, root, usable}
 use Rattle.kernel_rules.specs.Relies.{Relies}
 use Rattle.kernel_rules.proofs.Stays.{names_node}
-use Rattle.kernel_rules.proofs.Facts.{none_some}
 use Rattle.kernel_history.specs.Trace.{Trace, Open, phase, state_after}
 use Rattle.kernel_history.specs.Legal.{IsLegal}
 use Rattle.kernel_history.proofs.Stays.{relies_usable}
-use Rattle.call_plans.specs.declared.plans.Nth.{Nth}
 use Rattle.call_plans.specs.declared.plans.Name.{Name}
 use Rattle.call_plans.specs.declared.plans.Spot.{Spot}
-use Rattle.call_plans.specs.declared.plans.Spot.TheVariants.{Under, InRoot}
 use Rattle.call_plans.specs.declared.plans.Target.{Target}
-use Rattle.call_plans.specs.declared.plans.Target.TheVariants.{Nowhere, Free, Held, Own}
 use Rattle.call_plans.specs.declared.plans.Plan.{Plan}
-use Rattle.call_plans.specs.Plans.{head, at_place}
-use Rattle.call_plans.specs.PlanOf.{plan_for}
-use Rattle.call_plans.specs.GoesBy.{earlier, wants, place_of}
-use Rattle.call_plans.specs.After.{with_found, names_after, Leads, Next, NextName, NextFree, NextHeld, NextOwn, NextNothing, next_by, next_in, next_target, next_of}
-use Rattle.call_plans.specs.Rooted.{root_of, WantsRoot, RootIs, IsRooted}
+use Rattle.call_plans.specs.Plans.{at_place}
+use Rattle.call_plans.specs.GoesBy.{earlier, wants}
+use Rattle.call_plans.specs.After.{with_found, names_after, Leads, NextName, next_in, next_target, next_of}
+use Rattle.call_plans.specs.Rooted.{root_of, WantsRoot, RootIs}
 use Rattle.call_plans.proofs.Roots.{earlier_is, Led, nth_led}
-use Rattle.call_plans.proofs.RootedTargets.{rooted}
 
 -- The core may use this capability, of a wanted kind, at some slot.
 pub record MayUse (s : State) (c n : ℕ) (wanted : Kind → Bool) (k : Capability) : Type 0 where
@@ -44,21 +36,28 @@ root_names k is = absurd (cc)
 
 -- The root of a spot, where all names are found, is relied on.
 abbrev pub SpotRelies : State → ℕ → List Capability → Spot → Type 0
-SpotRelies s c ks spot = Relies s c (earlier (with_found [] ks) (root_of spot)).frame × ((earlier (with_found [] ks) (root_of spot)).found ≡ true)
+SpotRelies s c ks spot =
+    Relies s c (earlier (with_found [] ks) (root_of spot)).frame × ((earlier (with_found [] ks) (root_of spot)).found ≡ true)
 
-module _ (setup : Setting) (setting : IsSetting setup) (t : Trace) (legal : IsLegal setup t) (c : ℕ) (call : Call) (is_open : phase t c ≡ Open call) where
-  spot_by : (plan : Plan) (ks : List Capability) (spot : Spot) (o : Option Name) → at_place plan.names (root_of spot) ≡ o → IsSomeAnd o (λ name. WantsRoot name.wanted)
-      → Leads (MayUse (state_after setup t) c) plan.names [] ks → names_after plan.names ks ≡ [] → SpotRelies (state_after setup t) c ks spot
+module _ (setup : Setting) (setting : IsSetting setup) (t : Trace) (legal : IsLegal setup t) (c : ℕ) (call : Call)
+    (is_open : phase t c ≡ Open call) where
+  spot_by : (plan : Plan) (ks : List Capability) (spot : Spot) (o : Option Name) → at_place plan.names (root_of spot) ≡ o
+      → IsSomeAnd o (λ name. WantsRoot name.wanted)
+      → Leads (MayUse (state_after setup t) c) plan.names [] ks → names_after plan.names ks ≡ []
+      → SpotRelies (state_after setup t) c ks spot
   spot_by plan ks spot None is wants leads none = absurd wants
   spot_by plan ks spot (Some name) is wants leads none =
-      let led : Led (MayUse (state_after setup t) c) name (at_place ks (root_of spot)) = nth_led (MayUse (state_after setup t) c) plan.names ks (root_of spot) name leads none is in
+      let led : Led (MayUse (state_after setup t) c) name (at_place ks (root_of spot)) = nth_led (MayUse (state_after setup t) c)
+      plan.names ks (root_of spot) name leads none is in
       let root_is = earlier_is ks (root_of spot) led.k led.is in (
         subst (Relies (state_after setup t) c) (sym (ap (λ (x : Named). x.frame) root_is))
-            (relies_usable setup setting t legal c call is_open led.leads.at led.k (root_names led.k.kind (wants led.caps led.k.kind led.leads.kind)) led.leads.usable),
+            (relies_usable setup setting t legal c call is_open led.leads.at led.k
+            (root_names led.k.kind (wants led.caps led.k.kind led.leads.kind)) led.leads.usable),
         ap (λ (x : Named). x.found) root_is,
       )
 
-  pub spot_relies : (plan : Plan) (ks : List Capability) (spot : Spot) → RootIs plan.names spot → Leads (MayUse (state_after setup t) c) plan.names [] ks → names_after plan.names ks ≡ []
+  pub spot_relies : (plan : Plan) (ks : List Capability) (spot : Spot) → RootIs plan.names spot
+      → Leads (MayUse (state_after setup t) c) plan.names [] ks → names_after plan.names ks ≡ []
       → SpotRelies (state_after setup t) c ks spot
   spot_relies plan ks spot wants leads none = spot_by plan ks spot _ refl wants leads none
 
@@ -78,5 +77,6 @@ pub next_name : (plan : Plan) (ks : List Capability) (name : Name) (rest : List 
     → next_of plan ks ≡ NextName name.number (wants (with_found [] ks) name.wanted)
 next_name plan ks name rest is = ap (λ names. next_in (with_found [] ks) names plan.target) is
 
-pub next_end : (plan : Plan) (ks : List Capability) (target : Target) → names_after plan.names ks ≡ [] → plan.target ≡ target → next_of plan ks ≡ next_target (with_found [] ks) target
+pub next_end : (plan : Plan) (ks : List Capability) (target : Target) → names_after plan.names ks ≡ [] → plan.target ≡ target
+    → next_of plan ks ≡ next_target (with_found [] ks) target
 next_end plan ks target is to = ap (λ names. next_in (with_found [] ks) names plan.target) is ∙ ap (next_target (with_found [] ks)) to

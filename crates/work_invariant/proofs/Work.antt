@@ -7,9 +7,9 @@ use Rattle.stage_look.specs.Shown.{shown_in}
 use Rattle.stage_look.specs.Lookup.{look_move}
 use Rattle.stage_look.specs.declared.look.Look.{Look}
 use Rattle.stage_look.specs.declared.look.Look.TheVariants.{AtRoot, AtLeaf, AtEntry}
-use Rattle.call_steps.specs.declared.stages.Act.TheVariants.{Fill as fill_act}
+use Rattle.call_steps.specs.declared.stages.Act.TheVariants.{Fill as fill_act, Remove as remove_act}
 use Rattle.call_steps.specs.declared.stages.Work.{Work}
-use Rattle.call_steps.specs.declared.stages.Work.TheVariants.{Lookup, Act}
+use Rattle.call_steps.specs.declared.stages.Work.TheVariants.{Lookup, Scan, Acquire, Act}
 use Rattle.call_steps.specs.declared.stages.Stage.TheVariants.{Undecided}
 use Rattle.call_steps.specs.declared.stages.ActiveCall.{ActiveCall}
 use Rattle.call_steps.specs.View.{Core}
@@ -17,20 +17,42 @@ use Rattle.call_steps.specs.Steps.{work_move, took_look, took_work}
 use Rattle.core_invariant.specs.Knows.{KnowsUndecided}
 use Rattle.core_invariant.specs.Stands.{Stands}
 use Rattle.core_invariant.proofs.Refusals.{GoodTook}
+use Rattle.stage_pins.specs.declared.pin.Pin.TheVariants.{AtLoad, AtCompare}
+use Rattle.work_invariant.proofs.Acquiring.{acquire_good}
 use Rattle.work_invariant.proofs.ByPlan.{lookup_good}
 use Rattle.work_invariant.proofs.Fills.{fill_good}
+use Rattle.work_invariant.proofs.Removals.{remove_good}
+use Rattle.work_invariant.proofs.ScanSteps.{scan_good}
 
-look_good : (setup : Setting) → IsSetting setup → (cores : ℕ → Core) (t : Trace) → Stands setup cores t → (c : ℕ) → c < setup.cores → (a : ActiveCall) → (cores c).active ≡ Some a
+look_good : (setup : Setting) → IsSetting setup → (cores : ℕ → Core) (t : Trace) → Stands setup cores t → (c : ℕ) → c < setup.cores
+    → (a : ActiveCall) → (cores c).active ≡ Some a
     → (look : Look) → a.stage ≡ Undecided (Lookup look) → KnowsUndecided setup t c (cores c).own.table a (Lookup look)
-    → GoodTook setup cores t c (look_move look) (took_look (cores c).own.table a look (last_left setup t (word_of (look_move look))) (shown_in (cores c).own.layout.frames (last_left setup t (word_of (look_move look)))))
+    → GoodTook setup cores t c (look_move look) (took_look (cores c).own a look (last_left setup t (word_of (look_move look)))
+    (shown_in (cores c).own.layout.frames (last_left setup t (word_of (look_move look)))))
 look_good setup setting cores t stands c here a active look is knows =
-    subst (λ (n : ℕ). GoodTook setup cores t c (look_move look) (took_look (cores c).own.table a look (last_left setup t (word_of (look_move look))) (shown_in n (last_left setup t (word_of (look_move look))))))
+    subst (λ (n : ℕ). GoodTook setup cores t c (look_move look)
+    (took_look (cores c).own a look (last_left setup t (word_of (look_move look)))
+    (shown_in n (last_left setup t (word_of (look_move look))))))
     (sym (ap (λ s. s.frames) (stands.each c here).shape)) (lookup_good setup setting cores t stands c here a active look is knows)
 
-pub work_good : (setup : Setting) → IsSetting setup → (cores : ℕ → Core) (t : Trace) → Stands setup cores t → (c : ℕ) → c < setup.cores → (a : ActiveCall) → (cores c).active ≡ Some a
+pub work_good : (setup : Setting) → IsSetting setup → (cores : ℕ → Core) (t : Trace) → Stands setup cores t → (c : ℕ) → c < setup.cores
+    → (a : ActiveCall) → (cores c).active ≡ Some a
     → (work : Work) → a.stage ≡ Undecided work → KnowsUndecided setup t c (cores c).own.table a work
-    → GoodTook setup cores t c (work_move work) (took_work (cores c).own a work (told_of (work_move work) (last_left setup t (word_of (work_move work)))))
-work_good setup setting cores t stands c here a active (Lookup (AtRoot top number)) is knows = look_good setup setting cores t stands c here a active (AtRoot top number) is knows
-work_good setup setting cores t stands c here a active (Lookup (AtLeaf leaf number)) is knows = look_good setup setting cores t stands c here a active (AtLeaf leaf number) is knows
-work_good setup setting cores t stands c here a active (Lookup (AtEntry top index)) is knows = look_good setup setting cores t stands c here a active (AtEntry top index) is knows
-work_good setup setting cores t stands c here a active (Act (fill_act fill)) is knows = fill_good setup setting cores t stands c here a fill active is knows
+    → GoodTook setup cores t c (work_move work) (took_work (cores c).own a work
+    (told_of (work_move work) (last_left setup t (word_of (work_move work)))))
+work_good setup setting cores t stands c here a active (Lookup (AtRoot top number)) is knows =
+    look_good setup setting cores t stands c here a active (AtRoot top number) is knows
+work_good setup setting cores t stands c here a active (Lookup (AtLeaf leaf number)) is knows =
+    look_good setup setting cores t stands c here a active (AtLeaf leaf number) is knows
+work_good setup setting cores t stands c here a active (Lookup (AtEntry top index)) is knows =
+    look_good setup setting cores t stands c here a active (AtEntry top index) is knows
+work_good setup setting cores t stands c here a active (Acquire (AtLoad frame core) change act) is knows =
+    acquire_good setup setting cores t stands c here a active (AtLoad frame core) change act is knows
+work_good setup setting cores t stands c here a active (Acquire (AtCompare frame core count stamp) change act) is knows =
+    acquire_good setup setting cores t stands c here a active (AtCompare frame core count stamp) change act is knows
+work_good setup setting cores t stands c here a active (Act (fill_act fill)) is knows =
+    fill_good setup setting cores t stands c here a fill active is knows
+work_good setup setting cores t stands c here a active (Act (remove_act close cap)) is knows =
+    remove_good setup setting cores t stands c here a active close cap is knows
+work_good setup setting cores t stands c here a active (Scan q act) is knows =
+    scan_good setup setting cores t stands c here a active q act is knows

@@ -4,6 +4,7 @@ use Rattle.std.proofs.lemmas.List.{length-map}
 use Rattle.word_map.specs.Places.{Shape}
 use Rattle.kernel_history.specs.Trace.{state_after}
 use Rattle.kernel_history.specs.Tables.{tables_of}
+use Rattle.kernel_history.specs.Counts.{RepresentCounts}
 use Rattle.kernel_history.specs.FinalWords.{Represent, word_in, end_in}
 use Rattle.spk_nums.specs.Setting.{IsSetting}
 use Rattle.core_invariant.proofs.Sounds.{limits_of}
@@ -39,7 +40,9 @@ returns c =
     c.in_ok-tables.ensures.tables (state_after ended.setup r.trace)
     (ap (λ l. l.cores) limits ∙ sym (ap (λ (s : Shape). s.cores) done.layout))
     (ap (λ l. l.frames) limits ∙ sym (ap (λ (s : Shape). s.frames) done.layout))
-    (subst (λ (s : Shape). Represent (word_in s closed.words.items) (end_in closed.ends.items) (state_after ended.setup r.trace)) (sym done.layout) (done.represent r.trace r.stands)) in
+    (subst (λ (s : Shape). Represent (word_in s closed.words.items) (end_in closed.ends.items) (state_after ended.setup r.trace)) (sym done.layout) (done.represent r.trace r.stands))
+    (subst (λ (s : Shape). RepresentCounts (word_in s closed.words.items) (state_after ended.setup r.trace))
+    (sym done.layout) (done.counts r.trace r.stands)) in
     let same_lists = c.lists.ensures ∙ ran.lists ∙ followed.lists ∙ booted.lists in
     let is : string_bytes c.push_str.new.self ≡ lines_of lists ended.decisions ++ string_bytes c.in_ok-tables.tables =
     c.in_ok-push_str.ensures.bytes

@@ -1,6 +1,7 @@
 use Rattle.std.proofs.Common.{◌≡◌, ◌++◌, ◌∙◌, Some, map, sym, ap, subst, All}
 use Rattle.std.specs.Prelude.{string_bytes, IfSome}
 use Rattle.word_map.specs.Places.{Shape}
+use Rattle.kernel_history.specs.Counts.{RepresentCounts}
 use Rattle.kernel_history.specs.FinalWords.{Represent, word_in, end_in}
 use Rattle.kernel_history.specs.Tables.{tables_of}
 use Rattle.kernel_history.specs.Trace.{state_after}
@@ -27,7 +28,9 @@ returns-clause-text g c =
     c.in_ok-tables.ensures.tables (state_after setup made.trace)
     (ap (λ l. l.cores) limits ∙ sym (ap (λ (s : Shape). s.cores) made.layout))
     (ap (λ l. l.frames) limits ∙ sym (ap (λ (s : Shape). s.frames) made.layout))
-    (subst (λ (s : Shape). Represent (word_in s ran.closed.words.items) (end_in ran.closed.ends.items) (state_after setup made.trace)) (sym made.layout) made.represent) in
+    (subst (λ (s : Shape). Represent (word_in s ran.closed.words.items) (end_in ran.closed.ends.items) (state_after setup made.trace)) (sym made.layout) made.represent)
+    (subst (λ (s : Shape). RepresentCounts (word_in s ran.closed.words.items) (state_after setup made.trace))
+    (sym made.layout) made.counts) in
     let is : string_bytes c.push_str.new.self ≡ lines_of given ran.decisions.items ++ string_bytes c.in_ok-tables.tables =
     c.in_ok-push_str.ensures.bytes
     ∙ ap (λ x. x ++ c.deref-4.result.now)

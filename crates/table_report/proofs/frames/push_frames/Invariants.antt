@@ -1,7 +1,7 @@
 use Rattle.std.proofs.Common.{◌≡◌, ◌++◌}
-use Rattle.std.specs.Prelude.{string_bytes, slice_index}
+use Rattle.std.specs.Prelude.{string_bytes}
 use Rattle.table_report.specs.Shown.{frames_text}
 use Rattle.table_report.proofs.frames.push_frames.Given as goal
 
 abbrev pub invariant-frames : goal.invariant-frames
-invariant-frames l = string_bytes l.text ≡ string_bytes l.initial.text ++ frames_text l.layout l.words (slice_index l.counts) l.frame
+invariant-frames l = string_bytes l.text ≡ string_bytes l.initial.text ++ frames_text l.layout l.words l.frame

@@ -10,6 +10,6 @@ returns-clause-shown c =
     ∙ ap (tables_shown c.args.closed.now.layout c.args.closed.now.words.items) c.deref-2.ensures.value
 
 pub returns-clause-tables : goal.returns-clause-tables
-returns-clause-tables c = λ s cores frames represents.
+returns-clause-tables c = λ s cores frames represents counted.
     returns-clause-shown c
-    ∙ determined c.args.closed.now.layout c.args.closed.now.words.items c.args.closed.now.ends.items s cores frames represents
+    ∙ determined c.args.closed.now.layout c.args.closed.now.words.items c.args.closed.now.ends.items s cores frames represents counted

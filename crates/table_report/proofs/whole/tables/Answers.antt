@@ -12,7 +12,7 @@ returns c =
     let cores = ap (sum_below (λ k. (core_at c.args.ends.now k).spent)) c.requires.ends in
     let total : c.from.result + c.spent.result ≡ ticks (shown shape c.args.words.now c.args.ends.now) =
     omega (arith, c.from.ensures, c.budgets.ensures.sum, c.spent.ensures.sum, cores) in
-    whole_text shape c.args.words.now c.args.ends.now c.in_ok-counts.counts.items (string_bytes c.new-text.result)
+    whole_text shape c.args.words.now c.args.ends.now (string_bytes c.new-text.result)
     (string_bytes c.push_frames.new.text) (string_bytes c.push_numbers.new.text) (string_bytes c.push_cores.new.text) (string_bytes c.push_total.new.text)
-    (c.from.result + c.spent.result) c.in_ok-counts.ensures.counts c.requires.ends total c.new-text.ensures.bytes
-    (rw c.deref.ensures.value at c.in_ok-push_frames.ensures) c.in_ok-push_numbers.ensures c.in_ok-push_cores.ensures c.in_ok-push_total.ensures
+    (c.from.result + c.spent.result) c.requires.ends total c.new-text.ensures.bytes
+    c.in_ok-push_frames.ensures c.in_ok-push_numbers.ensures c.in_ok-push_cores.ensures c.in_ok-push_total.ensures

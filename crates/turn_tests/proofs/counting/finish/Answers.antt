@@ -1,6 +1,8 @@
 use Rattle.std.proofs.Common.{◌<◌, ◌∙◌, length, arith}
 use Rattle.std.proofs.lemmas.List.{get_or_default}
-use Rattle.turn_tests.proofs.Wins.{counts_wins}
+use Rattle.turn_tests.specs.Counter.{counter_steps}
+use Rattle.turn_tests.proofs.Scores.{counts_scores}
+use Rattle.turn_tests.proofs.Wins.{wins_score}
 use Rattle.turn_tests.proofs.counting.finish.Goals as goal
 
 pub returns : goal.returns
@@ -8,4 +10,6 @@ returns c =
     let end = c.in_ok-words.ensures in
     let count = end.word_count in
     let inside : 0 < length c.in_ok-words.words.items = omega arith in
-    counts_wins c.args.table.start end.trace end.sound c.requires.counts c.index.result.now (c.index.ensures ∙ get_or_default c.in_ok-words.words.items 0 c.index.result.now 0 inside ∙ end.word 0) c.in_ok-words.programs.items end.program end.program_count
+    let word = c.index.ensures ∙ get_or_default c.in_ok-words.words.items 0 c.index.result.now 0 inside ∙ end.word 0 in
+    counts_scores counter_steps (λ p. p.wins) wins_score c.args.table.start end.trace end.sound c.requires.counts c.index.result.now word
+    c.in_ok-words.programs.items end.program end.program_count

@@ -1,12 +1,13 @@
 use Rattle.std.proofs.Common.{◌<◌, [], length, get_or, map, arith, sym, ◌∙◌, ap, subst}
 use Rattle.spk_nums.specs.Setting.{IsSetting}
 use Rattle.kernel_history.specs.BootWords.{shape_of}
+use Rattle.kernel_history.specs.Counts.{RepresentCounts}
 use Rattle.kernel_history.specs.FinalWords.{Represent, word_in, end_in}
 use Rattle.kernel_history.specs.Trace.{state_after}
 use Rattle.call_steps.specs.Cores.{end_of}
 use Rattle.lone_kernel.specs.Machine.{fresh_seat, IsFit}
 use Rattle.flight.proofs.Alike.{same_default}
-use Rattle.lone_kernel.proofs.Close.{closes}
+use Rattle.lone_kernel.proofs.Close.{closes, closes_counts}
 use Rattle.lone_kernel.proofs.lone.LoneKernel.close.Goals as goal
 
 pub ends_of-requires : goal.ends_of-requires
@@ -28,3 +29,10 @@ returns-clause-represent c t stands =
     subst (λ w. Represent (word_in (shape_of m.setup) w) (end_in c.in_ok-ends.ends.items) (state_after m.setup t)) (sym (ap (λ x. x.words) c.self.view_is))
     (subst (λ e. Represent (word_in (shape_of m.setup) m.words) (end_in e) (state_after m.setup t)) (sym ends)
     (closes m (subst IsSetting setting c.self.invariant.2) fit.seats c.requires t stands))
+
+pub returns-clause-counts : goal.returns-clause-counts
+returns-clause-counts c t stands =
+    let m = c.args.self in
+    let setting = ap (λ x. x.setup) c.self.view_is in
+    subst (λ w. RepresentCounts (word_in (shape_of m.setup) w) (state_after m.setup t)) (sym (ap (λ x. x.words) c.self.view_is))
+    (closes_counts m (subst IsSetting setting c.self.invariant.2) c.requires t stands)

@@ -1,0 +1,123 @@
+-- The way in which a call draws a stamp by raising the clock, and is decided: grace periods begin at the stamp.
+use Rattle.std.proofs.Common.{◌≡◌, ◌≢◌, ℕ, ◌+◌, ◌%◌, ◌^◌, ◌<◌, true, false, if◌then◌else◌, ◌∷◌, Some, None, IsTrue, inl, arith, refl, sym, ◌∙◌, ap, subst}
+use Rattle.spk_nums.specs.Setting.{Setting, IsSetting}
+use Rattle.spk_nums.specs.declared.replies.Reply.{Reply}
+use Rattle.word_map.specs.Word.{Word, ClockAt}
+use Rattle.word_map.specs.Moves.{AddOf, Move}
+use Rattle.kernel_rules.specs.State.{put}
+use Rattle.kernel_rules.specs.Alone.{alone}
+use Rattle.kernel_history.specs.Trace.{Step, Trace, Open, Decided, phase, after_decide, state_after}
+use Rattle.kernel_history.specs.Alone.{IsAlone, IsFirst}
+use Rattle.kernel_history.specs.Discipline.{raises_clock}
+use Rattle.kernel_history.specs.Legal.{MayDecide}
+use Rattle.kernel_history.specs.Marking.{marked_by}
+use Rattle.kernel_history.specs.Stamps.{flushes_at, clock, flush_of}
+use Rattle.kernel_history.proofs.Steps.{phase-own, steps_in_call-own, flush_of-own, flush_stored-own}
+use Rattle.call_steps.specs.declared.stages.Stage.{Stage}
+use Rattle.call_steps.specs.declared.stages.ActiveCall.{ActiveCall}
+use Rattle.call_steps.specs.View.{Core}
+use Rattle.core_invariant.specs.Words.{WordIs}
+use Rattle.core_invariant.specs.Knows.{phase_at, Knows, CoreIs}
+use Rattle.core_invariant.specs.Stands.{holds, held_by, times_of, SumIs, Stands}
+use Rattle.core_invariant.proofs.WordFrames.{SameFor, marks_own, carry_marks, carry_words}
+use Rattle.core_invariant.proofs.Calm.{IsCalm, calm_own, counted_grows, plain_exit}
+use Rattle.core_invariant.proofs.Carries.{counts_on}
+use Rattle.core_invariant.proofs.Good.{IsGood}
+use Rattle.core_invariant.proofs.Writes.{clock_small}
+use Rattle.core_invariant.proofs.Loads.{Lands, core_at, next_at, core_is, call_is, in_call, inner, inner_within, inner_disciplined, inner_near}
+
+module _ (setup : Setting) (setting : IsSetting setup) (cores : ℕ → Core) (t : Trace) (stands : Stands setup cores t) (c : ℕ)
+    (here : c < setup.cores)
+    (a : ActiveCall) (active : (cores c).active ≡ Some a) (r : Reply) (stage : Stage) (made : ℕ) where
+  abbrev pub draw : Move
+  draw = AddOf ClockAt 1
+
+  abbrev pub e : Step
+  e = inner setup setting cores t stands c here a active draw (Some r) None
+
+  abbrev pub after : Core
+  after = core_at (cores c) made (next_at a a.found stage)
+
+  none_some : (d : ℕ) → None ≡ Some d → ⊥
+  none_some d h = cc
+
+  pub raised : clock setup (e ∷ t) ≡ clock setup t + 1
+  raised = within_word (clock setup t + 1) (let low = clock_small setup setting cores t stands in omega arith)
+    where
+      within_word : (n : ℕ) → n < 2 ^ 64 → n % 2 ^ 64 ≡ n
+      within_word n small = omega arith
+
+  pub draws_on : IsTrue (raises_clock a.call) → Lands setup after ClockAt
+      → ((w : Word) → (holds after).marks w ≡ (holds (cores c)).marks w)
+      → phase_at a.call a.stage ≡ Open a.call → phase_at a.call stage ≡ Decided a.call r
+      → IsCalm (state_after setup t) (state_after setup (e ∷ t)) c
+      → ((state_after setup (e ∷ t)).core c).counted ≡ ((state_after setup t).core c).counted + 1
+      → made ≡ ((state_after setup (e ∷ t)).core c).counted
+      → flushes_at t e ≡ false
+      → ((w : Word) → w ≢ ClockAt → marked_by setup t w ≢ Some c
+      → SameFor (state_after setup t) (state_after setup (e ∷ t)) (times_of setup t) (times_of setup (e ∷ t)) w)
+      → ((w : Word) → marked_by setup t w ≡ Some c
+      → WordIs (state_after setup (e ∷ t)) (times_of setup (e ∷ t)) w ((holds after).stands w))
+      → ((f : ℕ) → SumIs setup (held_by (put cores c after)) (e ∷ t) f)
+      → MayDecide setup t e (Some r) (phase t c)
+      → (IsAlone t e → r ≡ alone (state_after setup t) c a.call)
+      → Knows setup (e ∷ t) c (cores c).own.table (next_at a a.found stage)
+      → IsGood setup cores t e after
+  draws_on raises lands still opens closes calm more counts no_flush same held sums may first knows =
+      let marks = carry_marks setup cores t e after still calm.frame refl refl stands.marks in
+      let is : CoreIs setup (cores c) t c = core_is setup setting cores t stands c here a active in
+      let low = clock_small setup setting cores t stands in
+      record {
+        follows = record {
+          is_core = here;
+          is_in = lands.is_in;
+          is_named = lands.is_named;
+          found = refl;
+          small = subst (λ (n : ℕ). n < 2 ^ 64) (sym raised) (omega arith);
+          enters = tt;
+          in_call = in_call setup setting cores t stands c here a active;
+          decides = may;
+          returns = tt;
+        };
+        within = inner_within setup setting cores t stands c here a active draw (Some r) None;
+        alone = λ is_alone. subst (IsFirst setup t e (Some r)) (sym
+            ((call_is setup setting cores t stands c here a active).phase ∙ opens)) (first is_alone);
+        disciplined = inner_disciplined setup setting cores t stands c here a active draw (Some r) None
+            (record { moves = (raises, refl); near = inl tt })
+            (marks_own setup cores t e after (λ w there. still w) stands.marks marks) (λ d m other. absurd (none_some d m));
+        near = inner_near setup setting cores t stands c here a active draw (Some r) None
+            (record { moves = (raises, refl); near = inl tt });
+        marks = marks;
+        words = carry_words setup cores t e after still calm.frame refl refl same tt held stands.words;
+        sums = sums;
+        draws = (let d = stands.draws in let b = raised in let g = counted_grows setup (state_after setup t) (state_after setup (e ∷ t)) c
+            calm here more in omega arith);
+        time = record {
+          rises = (let b = raised in omega arith);
+          draws = λ x is. (refl, (let b = raised in omega arith));
+          flushes = λ is. absurd (true_false (sym no_flush ∙ is));
+        };
+        leaves = tt;
+        own = record {
+          fits = lands.fits;
+          number = is.number;
+          shape = is.shape;
+          limit = is.limit;
+          works = calm_own (state_after setup t) (state_after setup (e ∷ t)) c (cores c).own after.own calm
+              (ap (λ (m : ℕ). record (cores c).own { made = m }) counts) is.works;
+          exit = is.exit ∙ sym (plain_exit t e refl c);
+          flushed = flush_stored-own c e t refl ∙ is.flushed ∙ sym
+              (flush_of-own c e t refl ∙ ap (λ b. if b then clock setup t else flush_of t c) no_flush);
+          active = record {
+            phase = phase-own c e t refl ∙ ap (after_decide (Some r))
+                ((call_is setup setting cores t stands c here a active).phase ∙ opens) ∙ sym closes;
+            steps = steps_in_call-own c e t refl ∙ ap (λ (n : ℕ). n + 1) (call_is setup setting cores t stands c here a active).steps;
+            knows = knows;
+            counts = counts_on setup t e c a.call (λ own. refl) a.counts (call_is setup setting cores t stands c here a active).counts;
+            apart = (call_is setup setting cores t stands c here a active).apart;
+          };
+        };
+      }
+    where
+      true_false : false ≡ true → ⊥
+      true_false h = cc

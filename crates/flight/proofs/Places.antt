@@ -1,0 +1,308 @@
+-- What an undecided call has found held stays usable; and whom a scan has passed is waited for no longer.
+use Rattle.std.proofs.Common.{◌≡◌, ◌⊎◌, inl, inr, ℕ, ◌<◌, ◌/◌, ◌&&◌, Bool, true, false, cond, [], ◌∷◌, ◌++◌, Option, Some, None, refl, sym, ◌∙◌, ap, subst}
+use Rattle.std.specs.Prelude.{is_some}
+use Rattle.std.proofs.lemmas.Bool.{cases_eq, eqb-true, false≢true}
+use Rattle.spk_nums.specs.Capability.{Capability}
+use Rattle.spk_nums.specs.Setting.{Setting, IsSetting}
+use Rattle.spk_nums.specs.declared.calls.Call.{Call}
+use Rattle.spk_nums.specs.declared.replies.Reply.{Reply}
+use Rattle.entry_words.specs.declared.entry.Entry.TheVariants.{Held, Closing}
+use Rattle.entry_words.specs.EntryWord.{entry_of_word}
+use Rattle.frame_words.specs.Core.{core_of_word}
+use Rattle.frame_words.specs.declared.core_word.CoreWord.{CoreWord}
+use Rattle.word_map.specs.Word.{Word, EntryAt, CoreAt}
+use Rattle.word_map.specs.Moves.{word_of, left_of}
+use Rattle.word_map.specs.Places.{IsIn}
+use Rattle.kernel_rules.specs.State.{Thing, PlaceOf}
+use Rattle.kernel_rules.specs.Access.{Target, Under, InRoot, usable_in}
+use Rattle.kernel_rules.specs.Relies.{Relies}
+use Rattle.kernel_rules.proofs.Facts.{some_inj, none_some}
+use Rattle.kernel_history.specs.Trace.{Step, Trace, Phase, Out, Open, Decided as decided_phase, phase, after_enter, after_decide, after_return, state_after, last_left, own_read, only_reads}
+use Rattle.kernel_history.specs.Graces.{KeepsTime}
+use Rattle.kernel_history.specs.Legal.{IsLegal, MayFollow}
+use Rattle.kernel_history.specs.Stamps.{stamp, clock, exit_of}
+use Rattle.kernel_history.proofs.Names.{cases_word}
+use Rattle.kernel_history.proofs.Stays.{Stays, stays_other, stays_plain, relies_reached}
+use Rattle.kernel_history.proofs.Steps.{phase-own, phase-other, own_read-here, own_read-there, own_read-other, last_left-here}
+use Rattle.kernel_history.proofs.Waiting.{Passed, out_passed, later_passed, still_past, passed_on}
+use Rattle.stage_look.specs.Lookup.{look_move}
+use Rattle.stage_look.specs.declared.look.Look.{Look}
+use Rattle.stage_look.specs.declared.look.Look.TheVariants.{AtRoot, AtLeaf, AtEntry}
+use Rattle.stage_pins.specs.declared.pin.Pin.TheVariants.{AtLoad, AtCompare as pin_compare}
+use Rattle.stage_quiet.specs.declared.close.Close.{Close}
+use Rattle.stage_quiet.specs.declared.close.Close.TheVariants.{AtCompare, AtDraw, AtStore}
+use Rattle.stage_quiet.specs.declared.quiet.Quiet.TheVariants.{AtCore, AtFlush}
+use Rattle.stage_quiet.specs.Removal.{close_move}
+use Rattle.call_plans.specs.After.{Next, NextName, NextFree, NextHeld, NextOwn, NextNothing, next_of}
+use Rattle.call_steps.specs.declared.own.Own.{Own}
+use Rattle.call_steps.specs.declared.stages.Act.TheVariants.{Fill, Remove}
+use Rattle.call_steps.specs.declared.stages.Work.{Work}
+use Rattle.call_steps.specs.declared.stages.Work.TheVariants.{Lookup, Scan, Acquire, Act}
+use Rattle.call_steps.specs.declared.stages.Stage.{Stage}
+use Rattle.call_steps.specs.declared.stages.Stage.TheVariants.{Enter, Undecided, Decided, Leave}
+use Rattle.call_steps.specs.declared.stages.ActiveCall.{ActiveCall}
+use Rattle.call_steps.specs.Steps.{work_move, stage_move}
+use Rattle.call_steps.specs.Cores.{move_in, move_of}
+use Rattle.call_steps.specs.View.{Core}
+use Rattle.core_invariant.specs.Knows.{LooksUp, own_in, LooksFor, KnowsClose, KnowsWork, KnowsAt, CallIs, phase_at}
+use Rattle.core_invariant.specs.Stands.{Stands}
+use Rattle.core_invariant.proofs.Carries.{slot_relies}
+use Rattle.core_invariant.proofs.Places.{IsMarked, IsPlain, place_reads}
+use Rattle.work_invariant.proofs.Lookups.{leaf_reached}
+use Rattle.work_invariant.proofs.Removals.{holds_place}
+use Rattle.flight.specs.Made.{turned, MayStep, cores_after, core_at, IsMade}
+use Rattle.flight.specs.Places.{MayUse, PlacesFound, ShowsPassed, ScannedCores}
+use Rattle.flight.proofs.Made.{made_stands, made_times}
+use Rattle.flight.proofs.Spelling.{moves_are_words}
+
+-- The frame of an entry's word.
+abbrev frame_in : Word → ℕ
+frame_in (EntryAt f i) = f
+frame_in _ = 0
+
+-- A call that is open after a step without an entry was so before it, and the step has neither decided nor returned it.
+record WasOpen (decides returns : Option Reply) (p : Phase) (call : Call) : Type 0 where
+  pub no_decision : decides ≡ None
+  pub no_return : returns ≡ None
+  pub before : p ≡ Open call
+
+was_open : (d r : Option Reply) (p : Phase) (call : Call) → after_return r (after_decide d p) ≡ Open call → WasOpen d r p call
+was_open None None p call is = record { no_decision = refl; no_return = refl; before = is }
+was_open (Some q) None Out call is = absurd (cc)
+was_open (Some q) None (Open other) call is = absurd (cc)
+was_open (Some q) None (decided_phase other v) call is = absurd (cc)
+was_open d (Some r) p call is = absurd (cc)
+
+-- An undecided call relies on the node of the entry on which it steps next.
+module _ (setup : Setting) (setting : IsSetting setup) (t : Trace) (cores : ℕ → Core) (stands : Stands setup cores t)
+    (c : ℕ) (call : Call) (is_open : phase t c ≡ Open call) (f i : ℕ) where
+  abbrev Rests : Type 0
+  Rests = Relies (state_after setup t) c f
+
+  of_frame : (g j : ℕ) → EntryAt g j ≡ EntryAt f i → Relies (state_after setup t) c g → Rests
+  of_frame g j on = subst (Relies (state_after setup t) c) (ap frame_in on)
+
+  by_look : (target : Target) (look : Look) → LooksUp setup t c target look → word_of (look_move look) ≡ EntryAt f i → Rests
+  by_look (Under table n) (AtRoot root number) looks on =
+      of_frame root (number / 64) on (subst (Relies (state_after setup t) c) looks.at.frame looks.relies)
+  by_look (Under table n) (AtLeaf leaf number) looks on = of_frame leaf _ on
+      (relies_reached setup setting t stands.legal c call is_open table n _
+      (leaf_reached (state_after setup t) c table n leaf looks.at.found looks.at.within looks.at.link))
+  by_look (Under table n) (AtEntry root index) looks on = absurd looks.at
+  by_look (InRoot table j) (AtRoot root number) looks on = absurd looks.at
+  by_look (InRoot table j) (AtLeaf leaf number) looks on = absurd looks.at
+  by_look (InRoot table j) (AtEntry root index) looks on =
+      of_frame root index on (subst (Relies (state_after setup t) c) looks.at.frame looks.relies)
+
+  by_next : (table : ℕ) (next : Next) (look : Look) → LooksFor setup t c table next look → word_of (look_move look) ≡ EntryAt f i → Rests
+  by_next table (NextName n wanted) look looks on = by_look (own_in table n) look looks on
+  by_next table (NextFree target) look looks on = by_look target look looks on
+  by_next table (NextHeld target) look looks on = by_look target look looks on
+  by_next table (NextOwn v) look looks on = absurd looks
+  by_next table NextNothing look looks on = absurd looks
+
+  by_close : (a : ActiveCall) (close : Close) (cap : Capability) → KnowsClose setup t c a.call a.plan a.found close cap
+      → word_of (close_move close) ≡ EntryAt f i → Rests
+  by_close a (AtCompare node index word by) cap has on = of_frame node index on
+      (slot_relies setup setting t stands.legal c call is_open has.removal.target (record { node = node; index = index }) has.removal.way)
+  by_close a (AtDraw node index) cap has on = absurd (cc)
+  by_close a (AtStore node index at) cap has on = absurd has
+
+  by_work : (table : ℕ) (a : ActiveCall) (work : Work) → KnowsWork setup t c table a work → word_of (work_move work) ≡ EntryAt f i → Rests
+  by_work table a (Lookup look) has on = by_next table (next_of a.plan a.found) look has on
+  by_work table a (Scan (AtCore at by upto page) act) has on = absurd (cc)
+  by_work table a (Scan (AtFlush at upto) act) has on = absurd (cc)
+  by_work table a (Acquire (AtLoad frame core) change act) has on = absurd (cc)
+  by_work table a (Acquire (pin_compare frame core count stamp) change act) has on = absurd (cc)
+  by_work table a (Act (Fill fill)) has on = of_frame fill.node fill.entry on
+      (slot_relies setup setting t stands.legal c call is_open has.knows.target (record { node = fill.node; index = fill.entry })
+      has.knows.way)
+  by_work table a (Act (Remove close cap)) has on = by_close a close cap has.knows on
+
+  by_stage : (table : ℕ) (own : Own) (a : ActiveCall) (stage : Stage) → phase_at a.call stage ≡ Open call
+      → KnowsAt setup t c table a stage
+      → word_of (stage_move own a.counts stage) ≡ EntryAt f i → Rests
+  by_stage table own a Enter is has on = absurd has
+  by_stage table own a (Undecided work) is has on = by_work table a work has.knows on
+  by_stage table own a (Decided r drawn tail) is has on = absurd (cc)
+  by_stage table own a (Leave r x) is has on = absurd (cc)
+
+  step_relies : (table : ℕ) (own : Own) (o : Option ActiveCall) → CallIs setup t c table o → word_of (move_in own o) ≡ EntryAt f i → Rests
+  step_relies table own None is on = absurd (cc)
+  step_relies table own (Some a) is on = by_stage table own a a.stage (sym is.phase ∙ is_open) is.knows on
+
+-- A step has read what it has found and left.
+record HasReadIt (e : Step) (w : ℕ) : Type 0 where
+  pub found : e.found ≡ w
+  pub left : left_of e.move e.found ≡ e.found
+
+and_right : (a b : Bool) → (a && b) ≡ true → b ≡ true
+and_right true b h = h
+and_right false b h = absurd (false≢true h)
+
+has_read : (e : Step) (w : ℕ) (b : Bool) → only_reads e ≡ b → cond b (Some e.found) None ≡ Some w → HasReadIt e w
+has_read e w true is h = record { found = some_inj e.found w h; left = eqb-true (left_of e.move e.found) e.found (and_right _ _ is) }
+has_read e w false is h = absurd (none_some w h)
+
+-- What a call had read before a step that leaves it so; and that step begins no call.
+entered_none : (o : Option Call) (r : Option ℕ) (w : ℕ) → cond (is_some o) None r ≡ Some w → (o ≡ None) × (r ≡ Some w)
+entered_none None r w h = (refl, h)
+entered_none (Some call) r w h = absurd (none_some w h)
+
+-- What an undecided call has found held, its core may use still.
+abbrev FoundLasts : Setting → Trace → Type 0
+FoundLasts setup t = (c : ℕ) (call : Call) → phase t c ≡ Open call → (f i w : ℕ) (k : Capability)
+    → own_read t c (EntryAt f i) ≡ Some w → entry_of_word w ≡ Some (Held k)
+    → MayUse (state_after setup t) c (record { node = f; index = i }) k
+
+module _ (setup : Setting) (setting : IsSetting setup) where
+  -- what a call may use, it may use after a step through which it stays
+  kept : (t : Trace) (e : Step) (c f i : ℕ) (k : Capability) → Stays setup t e c
+      → MayUse (state_after setup t) c (record { node = f; index = i }) k
+      → MayUse (state_after setup (e ∷ t)) c (record { node = f; index = i }) k
+  kept t e c f i k stays may = record {
+    relies = stays.relies f may.relies;
+    usable = stays.usable (record { node = f; index = i }) k may.relies may.usable;
+  }
+
+  -- what an unmarked word of a node says to be held is usable
+  holds_it : (t : Trace) → IsMade setup t → (c f i : ℕ) (k : Capability) → Relies (state_after setup t) c f → i < 64
+      → entry_of_word (last_left setup t (EntryAt f i)) ≡ Some (Held k)
+      → MayUse (state_after setup t) c (record { node = f; index = i }) k
+  holds_it t made c f i k relies below held =
+      by_read (place_reads setup (cores_after setup t) t (made_stands setup setting t made) f i relies.node below)
+    where
+      by_read : IsMarked setup t f i ⊎ IsPlain setup t f i → MayUse (state_after setup t) c (record { node = f; index = i }) k
+      by_read (inl m) = absurd (not_closing (sym m.says ∙ held))
+        where
+          not_closing : Some (Closing m.by) ≡ Some (Held k) → ⊥
+          not_closing h = cc
+      by_read (inr p) = record {
+        relies = relies;
+        usable = ap (λ q. usable_in q (((state_after setup t).grace (PlaceOf f i)).waits c))
+            (holds_place setup.frames ((state_after setup t).place f i) (stamp setup t (PlaceOf f i))
+            (entry_of_word (last_left setup t (EntryAt f i))) k p.says held);
+      }
+
+  -- a step within a call is made by the call of its core
+  module _ (t : Trace) (e : Step) (made : IsMade setup (e ∷ t)) where
+    stands : Stands setup (cores_after setup t) t
+    stands = made_stands setup setting t made.0
+
+    move_is : e.move ≡ move_of (core_at setup t e)
+    move_is = ap (λ (x : Step). x.move) made.1.made
+
+    -- a call that begins steps on no entry
+    enters_none : (o : Option Call) → e.enters ≡ o → (f i : ℕ) → EntryAt f i ≡ word_of e.move → e.enters ≡ None
+    enters_none None is f i on = is
+    enters_none (Some call) is f i on =
+        absurd (apart (on ∙ ap word_of move_is ∙ ap (λ o. word_of (move_of (turned o (cores_after setup t e.core)))) is))
+      where
+        apart : EntryAt f i ≡ CoreAt (cores_after setup t e.core).own.core → ⊥
+        apart h = cc
+
+    -- its own step on the entry itself
+    read_now : (call : Call) → phase t e.core ≡ Open call → Stays setup t e e.core → e.enters ≡ None → (f i w : ℕ) (k : Capability)
+        → EntryAt f i ≡ word_of e.move → HasReadIt e w
+        → entry_of_word w ≡ Some (Held k) → MayUse (state_after setup (e ∷ t)) e.core (record { node = f; index = i }) k
+    read_now call is_open stays no_entry f i w k on read held = holds_it (e ∷ t) made e.core f i k (stays.relies f relies) word.1
+        (ap entry_of_word (last_left-here setup (EntryAt f i) e t on ∙ read.left ∙ read.found) ∙ held)
+      where
+        core : Core
+        core = cores_after setup t e.core
+
+        moves : word_of (move_of core) ≡ EntryAt f i
+        moves = sym (on ∙ ap word_of move_is ∙ ap (λ o. word_of (move_of (turned o core))) no_entry)
+
+        word : (f < core.own.layout.frames) × (i < 64)
+        word = subst (IsIn core.own.layout) moves
+            (moves_are_words core (stands.each e.core made.1.is_core).fits (subst (λ o. MayStep o core) no_entry made.1.may)).is_in
+
+        relies : Relies (state_after setup t) e.core f
+        relies = step_relies setup setting t (cores_after setup t) stands e.core call is_open f i core.own.table core.own core.active
+            (stands.each e.core made.1.is_core).active moves
+
+  -- what holds before a step within a call or beside it holds after it
+  lasts_on : (t : Trace) (e : Step) → IsMade setup (e ∷ t) → FoundLasts setup t → FoundLasts setup (e ∷ t)
+  lasts_on t e made lasts c call is f i w k own held = elim (cases_eq c e.core) [
+    | inr other ↦ (let before : phase t c ≡ Open call = sym (phase-other c e t other) ∙ is in
+        let legal : IsLegal setup (e ∷ t) = (made_stands setup setting (e ∷ t) made).legal in
+        kept t e c f i k (stays_other setup setting t legal.0 e legal.1 c other call before)
+        (lasts c call before f i w k (sym (own_read-other c e t other (EntryAt f i)) ∙ own) held))
+    | inl same ↦ subst (λ (d : ℕ). MayUse (state_after setup (e ∷ t)) d (record { node = f; index = i }) k) (sym same)
+        (by_own (subst (λ (d : ℕ). phase (e ∷ t) d ≡ Open call) same is)
+        (subst (λ (d : ℕ). own_read (e ∷ t) d (EntryAt f i) ≡ Some w) same own))
+  ] where
+    opened : e.enters ≡ None → phase (e ∷ t) e.core ≡ Open call → WasOpen e.decides e.returns (phase t e.core) call
+    opened no_entry now = was_open e.decides e.returns (phase t e.core) call
+        (ap (λ o. after_return e.returns (after_decide e.decides (after_enter o (phase t e.core)))) (sym no_entry)
+        ∙ sym (phase-own e.core e t refl) ∙ now)
+
+    through : e.enters ≡ None → WasOpen e.decides e.returns (phase t e.core) call → Stays setup t e e.core
+    through no_entry was = stays_plain setup t e e.core no_entry was.no_decision was.no_return
+
+    by_own : phase (e ∷ t) e.core ≡ Open call → own_read (e ∷ t) e.core (EntryAt f i) ≡ Some w
+        → MayUse (state_after setup (e ∷ t)) e.core (record { node = f; index = i }) k
+    by_own now read = elim (cases_word (EntryAt f i) (word_of e.move)) [
+      | inl on ↦ (let no_entry : e.enters ≡ None = enters_none t e made e.enters refl f i on in
+          let was : WasOpen e.decides e.returns (phase t e.core) call = opened no_entry now in
+          read_now t e made call was.before (through no_entry was) no_entry f i w k on
+          (has_read e w (only_reads e) refl (sym (own_read-here e.core e t refl (EntryAt f i) on) ∙ read)) held)
+      | inr there ↦ (let had : (e.enters ≡ None) × (own_read t e.core (EntryAt f i) ≡ Some w) =
+          entered_none e.enters (own_read t e.core (EntryAt f i)) w (sym (own_read-there e.core e t refl (EntryAt f i) there) ∙ read) in
+          let was : WasOpen e.decides e.returns (phase t e.core) call = opened had.0 now in
+          kept t e e.core f i k (through had.0 was) (lasts e.core call was.before f i w k had.1 held))
+    ]
+
+  lasts_along : (t : Trace) → IsMade setup t → FoundLasts setup t
+  lasts_along [] made = λ c call is f i w k own held. absurd (none_some w own)
+  lasts_along (e ∷ t) made = lasts_on t e made (lasts_along t made.0)
+
+pub places_found : PlacesFound
+places_found setup setting t made c call is f i w k own held node = lasts_along setup setting t made c call is f i w k own held
+
+-- A scan for a stamp that is past has passed a core.
+record HasPassed (setup : Setting) (t : Trace) (x : Thing) (at d : ℕ) : Type 0 where
+  pub past : at < clock setup t
+  pub passed : Passed setup t x at d
+
+module _ (setup : Setting) (setting : IsSetting setup) where
+  -- it has passed the core after each further step
+  passes_on : (t : Trace) (e : Step) → IsMade setup (e ∷ t) → (x : Thing) (at d : ℕ) → HasPassed setup t x at d
+      → HasPassed setup (e ∷ t) x at d
+  passes_on t e made x at d has =
+      let stands : Stands setup (cores_after setup t) t = made_stands setup setting t made.0 in
+      let follows : MayFollow setup t e = (made_stands setup setting (e ∷ t) made).legal.1 in
+      let time : KeepsTime setup t e = made_times setup setting t e made in
+      record {
+        past = still_past setup t e follows time stands.graces at has.past;
+        passed = passed_on setup t e follows time stands.graces x at d has.past has.passed;
+      }
+
+  -- before the step that finds the core's word, the core does not wait
+  passes : (t : Trace) (e : Step) → IsMade setup (e ∷ t) → (d : ℕ) (v : CoreWord) → word_of e.move ≡ CoreAt d
+      → core_of_word e.found ≡ Some v → (at : ℕ) → ShowsPassed v at → (x : Thing) → Passed setup t x at d
+  passes t e made d v on shows at passed x = by_word passed
+    where
+      stands : Stands setup (cores_after setup t) t
+      stands = made_stands setup setting t made.0
+
+      says : v ≡ record { inside = ((state_after setup t).core d).inside; stamp = exit_of t d }
+      says = some_inj v _ (sym shows ∙ ap core_of_word (made.1.found ∙ ap (last_left setup t) on) ∙ stands.words (CoreAt d))
+
+      by_word : ShowsPassed v at → Passed setup t x at d
+      by_word (inl out) = out_passed setup t x (stands.graces x) d at (sym (ap (λ (k : CoreWord). k.inside) says) ∙ out)
+      by_word (inr later) =
+          later_passed setup t x (stands.graces x) d at (subst (λ (n : ℕ). at < n) (ap (λ (k : CoreWord). k.stamp) says) later)
+
+  passes_along : (u t : Trace) (e : Step) → IsMade setup (u ++ e ∷ t) → (d : ℕ) (v : CoreWord) → word_of e.move ≡ CoreAt d
+      → core_of_word e.found ≡ Some v → (at : ℕ) → at < clock setup t → ShowsPassed v at → (x : Thing)
+      → HasPassed setup (u ++ e ∷ t) x at d
+  passes_along [] t e made d v on shows at past passed x =
+      passes_on t e made x at d (record { past = past; passed = passes t e made d v on shows at passed x })
+  passes_along (g ∷ u) t e made d v on shows at past passed x =
+      passes_on (u ++ e ∷ t) g made x at d (passes_along u t e made.0 d v on shows at past passed x)
+
+pub scanned_cores : ScannedCores
+scanned_cores setup setting u t e made d v on shows at past passed x is =
+    (passes_along setup setting u t e made d v on shows at past passed x).passed is

@@ -1,0 +1,15 @@
+use Rattle.std.proofs.Common.{arith}
+use Rattle.std.proofs.lemmas.Int.{ints, to_z-of_z}
+use Rattle.kernel_history.specs.FinalWords.{word_in}
+use Rattle.kernel_history.specs.Counts.{count_at}
+use Rattle.table_report.proofs.Counted.{sum_more}
+use Rattle.table_report.proofs.counts.count_sum.Goals as goal
+
+pub counters-preserved : goal.counters-preserved
+counters-preserved c =
+    let m = sum_more (count_at (word_in c.args.layout.now c.args.words.now) c.args.frame) c.counters.counter in
+    record {
+      sum = grind (arith, ints, to_z-of_z, m);
+      least = omega (arith, ints);
+      most = omega (arith, ints);
+    }

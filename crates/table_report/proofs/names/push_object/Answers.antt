@@ -1,4 +1,0 @@
-use Rattle.table_report.proofs.names.push_object.Goals as goal
-
-pub returns-in-Thread : goal.returns-in-Thread
-returns-in-Thread c = rw c.in-Thread.is c.push_stack.ensures

@@ -1,0 +1,41 @@
+-- How a core that takes tickets goes on.
+use Rattle.std.specs.Prelude.{ℕ, ◌+◌, ◌%◌, ◌^◌, Option, Some, None}
+use Rattle.spk_nums.specs.declared.steps.WordOp.{WordOp}
+use Rattle.spk_nums.specs.declared.steps.WordOp.TheVariants.{Load, Store, Add}
+use Rattle.turn_rule.specs.Steps.{Steps}
+use Rattle.turn_tests.specs.declared.taker.Side.{Side}
+use Rattle.turn_tests.specs.declared.taker.Side.TheVariants.{Left, Right}
+use Rattle.turn_tests.specs.declared.taker.Phase.{Phase}
+use Rattle.turn_tests.specs.declared.taker.Phase.TheVariants.{Idle, Takes, Shows, ReadsBack}
+use Rattle.turn_tests.specs.declared.taker.Taker.{Taker}
+
+abbrev pub taker : Side → Phase → ℕ → ℕ → Taker
+taker side phase taken last = record { side = side; phase = phase; taken = taken; last = last }
+
+-- where the core's own word is
+abbrev pub place_of : Side → ℕ
+place_of Left = 1
+place_of Right = 2
+
+-- an add on the word of all cores, and a store and a load of the core's own
+abbrev pub next_in : Side → Phase → Option WordOp
+next_in side Idle = None
+next_in side (Takes count) = Some (Add 0 count)
+next_in side (Shows ticket) = Some (Store (place_of side) ticket)
+next_in side (ReadsBack ticket) = Some (Load (place_of side))
+
+-- once the step was told n
+abbrev pub after_in : Side → Phase → ℕ → ℕ → ℕ → Taker
+after_in side Idle taken last n = taker side Idle taken last
+after_in side (Takes count) taken last n = taker side (Shows n) ((taken + count) % 2 ^ 64) last
+after_in side (Shows ticket) taken last n = taker side (ReadsBack n) taken last
+after_in side (ReadsBack ticket) taken last n = taker side Idle taken n
+
+abbrev pub taker_steps : Steps Taker ℕ
+taker_steps = record {
+  next = λ p. next_in p.side p.phase;
+  after = λ p n. after_in p.side p.phase p.taken p.last n;
+  fit = λ p call. Unit {0};
+  begun = λ p call. taker p.side (Takes call) p.taken p.last;
+  size = λ p. 3;
+}

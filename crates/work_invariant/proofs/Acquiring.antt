@@ -1,0 +1,629 @@
+-- A step by which a call acquires a count that its act changes is good: the count is held by another core, is lost to another core, or
+-- is acquired; and so is the step by which a decided call commits it.
+use Rattle.std.proofs.Common.{◌≡◌, ◌≢◌, ℕ, suc, ℤ, pos, negsuc, ◌+◌, ◌++◌, ◌==◌, ◌^◌, ◌<◌, ◌||◌, map, slice_get, length, length-append, Bool, true, false, if◌then◌else◌, cond, List, [], ◌∷◌, Option, Some, None, IsTrue, inl, inr, arith, refl, sym, ◌∙◌, ap, subst, lt-ltb}
+use Rattle.std.specs.Prelude.{All, is_some}
+use Rattle.std.proofs.lemmas.Bool.{false≢true, eq-eqb, eqb-true, eqb-false}
+use Rattle.std.proofs.lemmas.List.Elements.{All-nil, All-cons, All-head, All-tail, All-append}
+use Rattle.spk_nums.specs.Setting.{Setting, IsSetting}
+use Rattle.spk_nums.specs.Capability.{Capability}
+use Rattle.spk_nums.specs.declared.calls.Call.{Call}
+use Rattle.spk_nums.specs.declared.calls.Call.TheVariants.{Look, Copy, Remove, Shrink, Unmap}
+use Rattle.spk_nums.specs.declared.replies.Reply.{Reply}
+use Rattle.spk_nums.specs.declared.replies.Reply.TheVariants as reply
+use Rattle.supported_calls.specs.Built.{IsBuilt}
+use Rattle.frame_words.specs.Count.{CountFits, word_of_count, count_of_word}
+use Rattle.frame_words.specs.declared.count_word.CountWord.{CountWord}
+use Rattle.frame_words.specs.declared.count_word.Hold.{Hold}
+use Rattle.frame_words.specs.declared.count_word.Hold.TheVariants as hold
+use Rattle.frame_words.proofs.CountLemmas as counts
+use Rattle.spk_nums.specs.WordSteps.{left_if}
+use Rattle.word_map.specs.Word.{Word, EntryAt, CountAt, ClockAt}
+use Rattle.word_map.specs.Places.{counter_of}
+use Rattle.word_map.specs.Moves.{Move, LoadOf, CompareOf, StoreOf, word_of, left_of}
+use Rattle.kernel_rules.specs.State.{Place, Free as Vacant, Holds, Quiescing as Removed, PlaceOf, State, put}
+use Rattle.kernel_rules.specs.References.{named_by}
+use Rattle.kernel_rules.proofs.Within.{put_same}
+use Rattle.kernel_history.specs.Marks.{count_mark}
+use Rattle.kernel_history.specs.Marking.{marked_by}
+use Rattle.kernel_history.specs.Discipline.{counts_references, changes_places, raises_clock}
+use Rattle.kernel_history.specs.Footprint.{IsNearIn, frame_of_cap, frame_at_slot, frame_argument, frames_named, is_one_of, frames_near}
+use Rattle.kernel_history.specs.Ways.{capability_in, target_of}
+use Rattle.kernel_rules.specs.CallRelation.{rule_of}
+use Rattle.kernel_rules.specs.Access.{usable_in}
+use Rattle.stage_quiet.specs.declared.close.Close.{Close}
+use Rattle.stage_quiet.specs.declared.close.Close.TheVariants.{AtCompare as close_compare, AtDraw, AtStore}
+use Rattle.kernel_history.specs.Trace.{Step, Trace, Open, phase, state_after, last_left, own_read}
+use Rattle.kernel_history.proofs.Carries.{was_now}
+use Rattle.kernel_history.proofs.Steps.{own_read-here, own_read-there}
+use Rattle.stage_pins.specs.Counts.{unheld, acquired}
+use Rattle.stage_pins.specs.Acquire.{load_end, pinned_at, compare_end, pin_move, pin_end, pin_after, after_load}
+use Rattle.stage_pins.specs.Commit.{settled_word}
+use Rattle.stage_pins.specs.Held.{commit_of}
+use Rattle.stage_pins.specs.declared.pin.Pin.{Pin}
+use Rattle.stage_pins.specs.declared.pin.Pin.TheVariants.{AtLoad, AtCompare}
+use Rattle.stage_pins.specs.declared.held.Acquired.{Acquired}
+use Rattle.stage_pins.proofs.PinLemmas.{changed_none}
+use Rattle.call_plans.specs.declared.plans.Nth.TheVariants.{First}
+use Rattle.call_plans.specs.PlanOf.{plan_for}
+use Rattle.call_plans.specs.After.{Leads, LeadsIn}
+use Rattle.call_plans.specs.declared.plans.Plan.{Plan}
+use Rattle.call_plans.proofs.AfterNames.{leads_by}
+use Rattle.plan_ways.specs.Laws.{IsTargetOf}
+use Rattle.plan_ways.proofs.Ways.{target_is}
+use Rattle.plan_ways.proofs.Near.{one_left, one_right, near_about, near_found}
+use Rattle.call_plans.specs.GoesBy.{GoesBy, own_pages}
+use Rattle.call_plans.proofs.CallsGoBy.{calls_go}
+use Rattle.work_invariant.proofs.Findings.{found_named}
+use Rattle.call_steps.specs.declared.refusals.Refusal.TheVariants as refusal
+use Rattle.call_steps.specs.declared.stages.Due.{Due}
+use Rattle.call_steps.specs.declared.stages.Act.{Act as ActOf}
+use Rattle.call_steps.specs.declared.stages.Act.TheVariants.{Fill as fill_act, Remove as remove_act}
+use Rattle.call_steps.specs.declared.stages.Tail.TheVariants.{Nothing}
+use Rattle.call_steps.specs.declared.stages.Work.TheVariants.{Acquire}
+use Rattle.call_steps.specs.declared.stages.Stage.TheVariants.{Undecided, Decided}
+use Rattle.call_steps.specs.declared.stages.ActiveCall.{ActiveCall}
+use Rattle.call_steps.specs.declared.stages.WorkStep.TheVariants.{Goes, Acquires}
+use Rattle.call_steps.specs.Acts.{refuse, dues, acquires, next_work, put_by, removes_by}
+use Rattle.call_steps.specs.Fits.{CountsAt, HasRoom}
+use Rattle.call_steps.specs.Steps.{GoesOn, landed, went_with, took_count}
+use Rattle.call_steps.specs.Tails.{is_ok}
+use Rattle.call_steps.specs.View.{Core}
+use Rattle.call_steps.proofs.StepsFit.{one_due}
+use Rattle.core_invariant.specs.Holding.{Holding, count_of, committed, holds_counts, AreApart, settled_by, settled}
+use Rattle.core_invariant.specs.Words.{SaysCount, count_room}
+use Rattle.core_invariant.specs.Knows.{own_in, HasFound, NamesAre, due_of, pin_frame, pin_core, is_start, IsRemoval, KnowsClose, KnowsAct, KnowsWork, KnowsUndecided, IsCount, HasRead, phase_at}
+use Rattle.core_invariant.specs.Stands.{done_by, holds_act, holds_work, holds_at, holds_in, holds, held_by, Stands}
+use Rattle.core_invariant.proofs.Carries.{names_on, act_on, counts_on}
+use Rattle.core_invariant.proofs.Writes.{same_marks}
+use Rattle.core_invariant.proofs.Good.{IsGood}
+use Rattle.core_invariant.proofs.Counting as counters
+use Rattle.core_invariant.proofs.Loads.{IsOfCall, Lands, step_to, core_at, inner, call_is, is_active, loads_on}
+use Rattle.core_invariant.proofs.Refusals.{GoodTook, refuses_raced, refuses_busy}
+
+-- What stands in a list after those before it.
+get_after : {A : Type 0} (xs : List A) (x : A) (ys : List A) → slice_get (xs ++ x ∷ ys) (length xs) ≡ Some x
+get_after [] x ys = refl
+get_after (z ∷ zs) x ys = get_after zs x ys
+
+get_none : {A : Type 0} (xs : List A) → slice_get (xs ++ []) (length xs) ≡ None
+get_none [] = refl
+get_none (z ∷ zs) = get_none zs
+
+after_none : {A : Type 0} (xs : List A) → xs ++ [] ≡ xs
+after_none [] = refl
+after_none (z ∷ zs) = ap (λ ys. z ∷ ys) (after_none zs)
+
+after_one : {A : Type 0} (xs : List A) (x : A) (ys : List A) → (xs ++ x ∷ []) ++ ys ≡ xs ++ x ∷ ys
+after_one [] x ys = refl
+after_one (z ∷ zs) x ys = ap (λ qs. z ∷ qs) (after_one zs x ys)
+
+map_more : (xs : List Acquired) (x : Acquired) → map due_of (xs ++ x ∷ []) ≡ map due_of xs ++ due_of x ∷ []
+map_more [] x = refl
+map_more (z ∷ zs) x = ap (λ ys. due_of z ∷ ys) (map_more zs x)
+
+map_length : (xs : List Acquired) → length (map due_of xs) ≡ length xs
+map_length [] = refl
+map_length (z ∷ zs) = ap (λ (n : ℕ). suc n) (map_length zs)
+
+no_length : (xs : List Acquired) → length xs ≡ 0 → xs ≡ []
+no_length [] none = refl
+no_length (x ∷ xs) none = absurd (omega arith)
+
+-- What a call knows that has acquired the first of the counts which its act changes: it acquires the next, or goes on to its act.
+pub knows_next : (setup : Setting) (t : Trace) (c table : ℕ) (a : ActiveCall) (core : ℕ) (act : ActOf) (rest : List Due) → core ≡ c
+    → KnowsAct setup t c a.call a.plan a.found setup.cores act
+    → dues act ≡ map due_of a.counts ++ rest → (n : ℕ) → n ≡ length a.counts → is_start act ≡ true
+    → KnowsWork setup t c table a (next_work core n act)
+knows_next setup t c table a core act [] own knows prefix n is starts =
+    subst (λ o. KnowsWork setup t c table a (acquires core act o))
+    (sym (ap (slice_get (dues act)) (is ∙ sym (map_length a.counts)) ∙ ap (λ ds. slice_get ds (length (map due_of a.counts))) prefix ∙
+    get_none (map due_of a.counts)))
+    (record { knows = knows; all = prefix ∙ after_none (map due_of a.counts) })
+knows_next setup t c table a core act (d ∷ ds) own knows prefix n is starts =
+    subst (λ o. KnowsWork setup t c table a (acquires core act o))
+    (sym (ap (slice_get (dues act)) (is ∙ sym (map_length a.counts)) ∙ ap (λ ds. slice_get ds (length (map due_of a.counts))) prefix ∙
+    get_after (map due_of a.counts) d ds))
+    (record {
+      knows = knows;
+      rest = ds;
+      due = prefix;
+      core = own;
+      new = ap
+          (λ (xs : List Acquired). (holds_counts None xs).marks (CountAt d.frame (counter_of c))) none;
+      loaded = tt;
+      starts = starts;
+    })
+  where
+    none : a.counts ≡ []
+    none = no_length a.counts
+        (let one = one_due act in
+        let all : length (dues act) ≡ length (map due_of a.counts) + suc (length ds) = ap length prefix ∙ length-append
+        (map due_of a.counts) (d ∷ ds) in
+        let same = map_length a.counts in
+        omega arith)
+
+-- Before its first step an act holds nothing, and so does the acquiring of its counts.
+start_holds : (act : ActOf) (h : Holding) → is_start act ≡ true → holds_act act h ≡ h
+start_holds (fill_act fill) h is = refl
+start_holds (remove_act (close_compare node index word by) cap) h is = refl
+start_holds (remove_act (AtDraw node index) cap) h is = absurd (false≢true is)
+start_holds (remove_act (AtStore node index x) cap) h is = absurd (false≢true is)
+
+acquires_holds : (core : ℕ) (act : ActOf) (o : Option Due) (h : Holding) → is_start act ≡ true → holds_work (acquires core act o) h ≡ h
+acquires_holds core act None h is = start_holds act h is
+acquires_holds core act (Some due) h is = refl
+
+pub next_holds : (core n : ℕ) (act : ActOf) (h : Holding) → is_start act ≡ true → holds_work (next_work core n act) h ≡ h
+next_holds core n act h is = acquires_holds core act (slice_get (dues act) n) h is
+
+-- The frame of a count that is due is one that the capability names.
+due_named : (fs : List ℕ) (z : ℤ) (xs : List Due) (d : Due) (rest : List Due)
+    → map (λ f. record { frame = f; change = z }) fs ≡ xs ++ d ∷ rest → is_one_of d.frame fs ≡ true
+due_named [] z [] d rest is = absurd (cc)
+due_named [] z (x ∷ xs) d rest is = absurd (cc)
+due_named (f ∷ fs) z [] d rest is =
+    ap (λ b. b || is_one_of d.frame fs) (eq-eqb f d.frame (ap (λ (x : Due). x.frame) (head_same _ _ _ _ is)))
+  where
+    head_same : (x y : Due) (xs ys : List Due) → x ∷ xs ≡ y ∷ ys → x ≡ y
+    head_same x y xs ys h = cc
+due_named (f ∷ fs) z (x ∷ xs) d rest is = later (f == d.frame) (due_named fs z xs d rest (tail_same _ _ _ _ is))
+  where
+    tail_same : (x y : Due) (xs ys : List Due) → x ∷ xs ≡ y ∷ ys → xs ≡ ys
+    tail_same x y xs ys h = cc
+
+    later : (b : Bool) → is_one_of d.frame fs ≡ true → (b || is_one_of d.frame fs) ≡ true
+    later true h = refl
+    later false h = h
+
+-- A call that fills its target changes references, and the frame that it names there is near it: a line a call.
+put_counts : (call : Call) → IsBuilt call → (ks : List Capability) (k : Capability) → put_by call ks ≡ Some k
+    → IsTrue (counts_references call)
+put_counts (Look a) built ks k puts = absurd (cc)
+put_counts (Copy a u b) built ks k puts = refl
+put_counts (Remove u b) built ks k puts = absurd (cc)
+put_counts (Shrink u i) built ks k puts = absurd (cc)
+put_counts (Unmap p v) built ks k puts = absurd (cc)
+put_counts call built ks k puts = absurd built
+
+put_near : (s : State) (c : ℕ) (call : Call) → IsBuilt call → (ks : List Capability) (k : Capability) → put_by call ks ≡ Some k
+    → Leads (LeadsIn s c) (plan_for call).names [] ks
+    → (f : ℕ) → is_one_of f (named_by k.kind k.frame) ≡ true → is_one_of f (frames_near s c call) ≡ true
+put_near s c (Look a) built ks k puts lead f names_it = absurd (cc)
+put_near s c (Copy a u b) built ks k puts lead f names_it = near_found s c (Copy a u b) ks lead First k puts f names_it
+put_near s c (Remove u b) built ks k puts lead f names_it = absurd (cc)
+put_near s c (Shrink u i) built ks k puts lead f names_it = absurd (cc)
+put_near s c (Unmap p v) built ks k puts lead f names_it = absurd (cc)
+put_near s c call built ks k puts lead f names_it = absurd built
+
+-- The word of an acquired count stands for the word that was found.
+stands_found : (frame core : ℕ) (count change : ℤ) (stamp : ℕ) → CountFits (unheld count stamp)
+    → committed None (record { pin = pinned_at frame core count stamp; change = change }) ≡ word_of_count (unheld count stamp)
+stands_found frame core count change stamp fits = ap (λ z. word_of_count (unheld z stamp)) (changed_none count fits.1)
+
+some_inj : (x y : ℕ) → Some x ≡ Some y → x ≡ y
+some_inj x y h = cc
+
+none_some : (x : ℕ) → None ≡ Some x → ⊥
+none_some x h = cc
+
+-- A count is not the clock.
+not_clock : (f d : ℕ) → ClockAt ≢ CountAt f d
+not_clock f d h = cc
+
+-- What a count stands for when its call is decided is what its commit stores.
+stored_by : (r : Reply) (drawn : Option ℕ) (x : Acquired)
+    → committed (done_by r drawn) x ≡ word_of_count (settled_word (commit_of (is_ok r) drawn x))
+stored_by (reply.Ok v) drawn x = refl
+stored_by r drawn x = refl
+
+-- A call acquires a count.
+module _ (setup : Setting) (setting : IsSetting setup) (cores : ℕ → Core) (t : Trace) (stands : Stands setup cores t) (c : ℕ)
+    (here : c < setup.cores)
+    (a : ActiveCall) (active : (cores c).active ≡ Some a) (frame d : ℕ) (pin : Pin) (change : ℤ) (act : ActOf)
+    (frame_is : pin_frame pin ≡ frame) (core_is : pin_core pin ≡ d)
+    (stage_is : a.stage ≡ Undecided (Acquire pin change act)) (has : KnowsUndecided setup t c (cores c).own.table a
+    (Acquire pin change act))
+    (counting : IsTrue (counts_references a.call)) (near : (b : ℕ) → IsNearIn c a.call (CountAt frame b) (state_after setup t)) where
+  abbrev s : State
+  s = state_after setup t
+
+  abbrev at : Word
+  at = CountAt frame (counter_of d)
+
+  abbrev was : ℕ
+  was = last_left setup t at
+
+  own_core : d ≡ c
+  own_core = sym core_is ∙ has.knows.core
+
+  held_is : holds_in (Some a) ≡ holds_counts None a.counts
+  held_is = ap (λ s. holds_at s a.counts) stage_is
+
+  opens : phase_at a.call a.stage ≡ Open a.call
+  opens = ap (phase_at a.call) stage_is
+
+  is_open : phase t c ≡ Open a.call
+  is_open = (call_is setup setting cores t stands c here a active).phase ∙ opens
+
+  room : (cores c).own.made < (cores c).own.limit
+  room = subst (HasRoom (cores c).own.made (cores c).own.limit) stage_is (is_active setup setting cores t stands c here a active).room
+
+  few : length a.counts < 4
+  few =
+      let waits : length a.counts < length (dues act) = subst (CountsAt a.counts) stage_is
+      (is_active setup setting cores t stands c here a active).counts in
+      let one = one_due act in
+      omega arith
+
+  -- the core has not acquired it yet
+  new : (holds_counts None a.counts).marks at ≡ false
+  new = subst (λ (f : ℕ). (holds_counts None a.counts).marks (CountAt f (counter_of d)) ≡ false) frame_is
+      (subst (λ (e : ℕ). (holds_counts None a.counts).marks (CountAt (pin_frame pin) (counter_of e)) ≡ false) (sym own_core)
+      has.knows.new)
+
+  -- the word of a count that carries no mark
+  says : marked_by setup t at ≡ None → SaysCount (count_room s) (count_of_word was)
+  says is = subst (λ o. SaysCount (count_room s) (count_of_word (settled_by o (held_by cores) at was))) is (stands.words at)
+
+  -- a step on it leaves what was read of entries
+  entries_kept : (e : Step) → c ≡ e.core → e.enters ≡ None → word_of e.move ≡ at → (f i : ℕ)
+      → own_read (e ∷ t) c (EntryAt f i) ≡ own_read t c (EntryAt f i)
+  entries_kept e own none is f i =
+      own_read-there c e t own (EntryAt f i) (λ h. entry_apart f i (h ∙ is)) ∙ ap
+      (λ o. cond (is_some o) None (own_read t c (EntryAt f i))) none
+    where
+      entry_apart : (f i : ℕ) → EntryAt f i ≡ at → ⊥
+      entry_apart f i h = cc
+
+  -- it is held by another core
+  held_good : (b : ℕ) → marked_by setup t at ≡ Some b → GoodTook setup cores t c (LoadOf at) (landed a (refuse (refusal.Busy b)))
+  held_good b mark = refuses_busy setup setting cores t stands c here a active opens held_is room (LoadOf at)
+      (record { of_call = record { moves = counting; near = inl (near (counter_of d)) }; kept = refl; apart = λ e. refl }) b new mark tt
+
+  -- it is loaded, and held by none
+  free_good : (count : ℤ) (stamp : ℕ) → count_of_word was ≡ Some (unheld count stamp) → pin ≡ AtLoad frame d
+      → GoodTook setup cores t c (LoadOf at) (landed a (Goes (Acquire (AtCompare frame d count stamp) change act)))
+  free_good count stamp reads is lands =
+      let e : Step = step_to c None (LoadOf at) was None None in
+      let spells = counts.spelling.spells was (unheld count stamp) reads in
+      loads_on setup setting cores t stands c here a active (LoadOf at) a.found
+      (Undecided (Acquire (AtCompare frame d count stamp) change act))
+      (record { of_call = record { moves = counting; near = inl (near (counter_of d)) }; kept = refl; apart = λ b. refl }) lands
+      (sym held_is) opens
+      (λ carries. record {
+        names = names_on setup setting t e stands.legal c a.call is_open carries (cores c).own.table a.plan a.found has.names;
+        knows = record {
+          knows = act_on setup setting t e stands.legal c a.call is_open carries a.call a.plan a.found setup.cores act
+              (entries_kept e refl refl refl) has.knows.knows;
+          rest = has.knows.rest;
+          due = has.knows.due ∙ ap (λ (f : ℕ). map due_of a.counts ++ record { frame = f; change = change } ∷ has.knows.rest) frame_is;
+          core = own_core;
+          new = subst (λ (b : ℕ). (holds_counts None a.counts).marks (CountAt frame (counter_of b)) ≡ false) own_core new;
+          loaded = record {
+            own = own_read-here c e t refl at refl ∙ ap (λ b. if b then Some was else None) (eq-eqb was was refl) ∙ ap (λ (n : ℕ). Some n)
+                (sym spells.1);
+            fits = spells.0;
+          };
+          starts = has.knows.starts;
+        };
+      })
+
+  -- what the load leads to
+  load_good : pin ≡ AtLoad frame d → GoodTook setup cores t c (LoadOf at)
+      (landed a (took_count (cores c).own.core (length a.counts) change act (after_load frame d (count_of_word was))
+      (load_end (count_of_word was))))
+  load_good is = by (count_of_word was) refl
+    where
+      Goal : Option CountWord → Type 0
+      Goal o = GoodTook setup cores t c (LoadOf at) (landed a (took_count (cores c).own.core (length a.counts) change act
+          (after_load frame d o) (load_end o)))
+
+      none_says : (o : Option CountWord) → SaysCount (count_room s) o → o ≡ None → ⊥
+      none_says None says is = absurd (not_some _ says.says)
+        where
+          not_some : (v : CountWord) → None ≡ Some v → ⊥
+          not_some v h = cc
+      none_says (Some v) says is = cc
+
+      by_hold : (h : Hold) (count : ℤ) (stamp : ℕ) → count_of_word was ≡ Some (record { hold = h; count = count; stamp = stamp })
+          → Goal (Some (record { hold = h; count = count; stamp = stamp }))
+      by_hold hold.Unheld count stamp reads = free_good count stamp reads is
+      by_hold (hold.Pinned b) count stamp reads = held_good b (ap count_mark reads)
+      by_hold (hold.Closed b) count stamp reads = held_good b (ap count_mark reads)
+
+      by : (o : Option CountWord) → count_of_word was ≡ o → Goal o
+      by None reads = absurd (none_says (count_of_word was) (says (ap count_mark reads)) reads)
+      by (Some v) reads = by_hold v.hold v.count v.stamp reads
+
+  -- the compare
+  module _ (count : ℤ) (stamp : ℕ) (loaded : HasRead t c frame d count stamp) (pin_is : pin ≡ AtCompare frame d count stamp) where
+    abbrev expected : ℕ
+    expected = word_of_count (unheld count stamp)
+
+    abbrev held_word : ℕ
+    held_word = word_of_count (acquired d count stamp)
+
+    abbrev compare : Move
+    compare = CompareOf at expected held_word
+
+    abbrev x : Acquired
+    x = record { pin = pinned_at frame d count stamp; change = change }
+
+    of_call : IsOfCall setup t c a.call compare
+    of_call = record { moves = counting; near = inl (near (counter_of d)) }
+
+    count_lost : (was == expected) ≡ false → GoodTook setup cores t c compare (landed a (refuse refusal.Raced))
+    count_lost other =
+        refuses_raced setup setting cores t stands c here a active opens held_is room compare
+        (record { of_call = of_call; kept = kept; apart = λ e. refl })
+        (record {
+          at = tt;
+          reads = eq-eqb (left_of compare was) was kept;
+          own = expected;
+          has_read = loaded.own;
+          changed = eqb-false was
+              expected other;
+        })
+      where
+        kept : left_of compare was ≡ was
+        kept = ap (λ b. left_if b was held_word) other
+
+    module _ (equal : (was == expected) ≡ true) where
+      same : was ≡ expected
+      same = eqb-true was expected equal
+
+      leaves : left_of compare was ≡ held_word
+      leaves = ap (λ b. left_if b was held_word) equal
+
+      reads : count_of_word was ≡ Some (unheld count stamp)
+      reads = ap count_of_word same ∙ counts.spelling.reads (unheld count stamp) loaded.fits
+
+      unmarked : marked_by setup t at ≡ None
+      unmarked = ap count_mark reads
+
+      held_fits : CountFits (acquired d count stamp)
+      held_fits = (
+        (let below : c < setup.cores = here in let most = setting.most_cores in let own = own_core in omega arith),
+        loaded.fits.1,
+        loaded.fits.2,
+      )
+
+      abbrev grown : List Acquired
+      grown = a.counts ++ x ∷ []
+
+      abbrev more : List Acquired → ActiveCall
+      more xs = went_with a xs (Undecided (next_work (cores c).own.core (length a.counts + 1) act))
+
+      won : Lands setup (core_at (cores c) (cores c).own.made (more grown)) at
+          → IsGood setup cores t (inner setup setting cores t stands c here a active compare None None)
+          (core_at (cores c) (cores c).own.made (more grown))
+      won lands =
+          let e : Step = inner setup setting cores t stands c here a active compare None None in
+          let after : Core = core_at (cores c) (cores c).own.made (more grown) in
+          let after_is : holds after ≡ holds_counts None grown = next_holds (cores c).own.core (length a.counts + 1) act
+          (holds_counts None grown) has.knows.starts in
+          counters.holds_on setup setting cores t stands c here a active compare (more grown) (λ b. refl) (not_clock frame (counter_of d))
+          refl of_call lands
+          (subst (λ (n : ℕ). n < 2 ^ 64) (sym leaves) (counts.spelling.small (acquired d count stamp) held_fits))
+          (λ w there.
+          let rest = counters.more_elsewhere None a.counts x w there in
+          let before : holds (cores c) ≡ holds_counts None a.counts = ap holds_in active ∙ held_is in (
+            ap (λ h. h.marks w) after_is ∙ rest.0 ∙ sym (ap (λ h. h.marks w) before),
+            ap (λ h. h.stands w) after_is ∙ rest.1 ∙ sym
+                (ap (λ h. h.stands w) before),
+          ))
+          (ap (λ (n : ℕ). count_mark (count_of_word n)) leaves ∙ ap count_mark (counts.spelling.reads (acquired d count stamp) held_fits)
+          ∙ ap (λ (e : ℕ). Some e) own_core ∙ sym (ap (λ b. if b then Some c else None)
+          (ap (λ h. h.marks at) after_is ∙ counters.more_marked None a.counts x)))
+          (λ b other is. none_some b (sym unmarked ∙ is))
+          (ap (λ b. settled_by (if b then Some c else None) (held_by (put cores c after)) at (left_of compare was))
+          (ap (λ h. h.marks at) after_is ∙ counters.more_marked None a.counts x)
+          ∙ ap (λ k. (holds k).stands at) (put_same cores c after c refl) ∙ ap (λ h. h.stands at) after_is
+          ∙ counters.more_stands None a.counts x new ∙ stands_found frame d count change stamp loaded.fits ∙ sym same
+          ∙ sym (ap (λ o. settled_by o (held_by cores) at was) unmarked))
+          opens
+          (λ carries. record {
+            names = names_on setup setting t e stands.legal c a.call is_open carries (cores c).own.table a.plan a.found has.names;
+            knows = knows_next setup (e ∷ t) c (cores c).own.table (more grown) (cores c).own.core act has.knows.rest
+                (stands.each c here).number
+                (act_on setup setting t e stands.legal c a.call is_open carries a.call a.plan a.found setup.cores act
+                (entries_kept e refl refl refl) has.knows.knows)
+                (has.knows.due ∙ ap (λ (f : ℕ). map due_of a.counts ++ record { frame = f; change = change } ∷ has.knows.rest) frame_is
+                ∙ sym (ap (λ ds. ds ++ has.knows.rest) (map_more a.counts x) ∙ after_one (map due_of a.counts) (due_of x) has.knows.rest))
+                (length a.counts + 1) (sym (length-append a.counts (x ∷ []))) has.knows.starts;
+          })
+          (All-append (IsCount setup (e ∷ t) c a.call) a.counts (x ∷ [])
+          (counts_on setup t e c a.call (λ own. refl) a.counts (call_is setup setting cores t stands c here a active).counts)
+          (All-cons (IsCount setup (e ∷ t) c a.call) x [] (record {
+            counts = counting;
+            core = own_core;
+            fits = loaded.fits;
+            near = was_now (IsNearIn c a.call at) setup t e c (near (counter_of d));
+          }) (All-nil (IsCount setup (e ∷ t) c a.call))))
+          (counters.more_apart a.counts x (call_is setup setting cores t stands c here a active).apart new)
+
+      count_won : GoodTook setup cores t c compare (landed a (Acquires x (next_work (cores c).own.core (length a.counts + 1) act)))
+      count_won = subst (λ (xs : List Acquired). GoodTook setup cores t c compare (GoesOn (more xs)))
+          (sym (ap (λ b. if b then grown else a.counts) (lt-ltb (length a.counts) 4 few))) won
+
+    compare_good : GoodTook setup cores t c compare
+        (landed a (took_count (cores c).own.core (length a.counts) change act (AtCompare frame d count stamp)
+        (compare_end (was == expected) (pinned_at frame d count stamp))))
+    compare_good = by (was == expected) refl
+      where
+        by : (b : Bool) → (was == expected) ≡ b
+            → GoodTook setup cores t c compare (landed a (took_count (cores c).own.core (length a.counts) change act
+            (AtCompare frame d count stamp) (compare_end b (pinned_at frame d count stamp))))
+        by true equal = count_won equal
+        by false other = count_lost other
+
+-- A step by which a call acquires a count is good, where its frame is near the call.
+acquire_near : (setup : Setting) → IsSetting setup → (cores : ℕ → Core) (t : Trace) → Stands setup cores t → (c : ℕ) → c < setup.cores
+    → (a : ActiveCall) → (cores c).active ≡ Some a
+    → (pin : Pin) (change : ℤ) (act : ActOf) → a.stage ≡ Undecided (Acquire pin change act)
+    → KnowsUndecided setup t c (cores c).own.table a (Acquire pin change act)
+    → IsTrue (counts_references a.call) → ((b : ℕ) → IsNearIn c a.call (CountAt (pin_frame pin) b) (state_after setup t))
+    → GoodTook setup cores t c (pin_move pin)
+    (landed a (took_count (cores c).own.core (length a.counts) change act (pin_after pin (last_left setup t (word_of (pin_move pin))))
+    (pin_end pin (last_left setup t (word_of (pin_move pin))))))
+acquire_near setup setting cores t stands c here a active (AtLoad frame d) change act is has counting near =
+    load_good setup setting cores t stands c here a active frame d (AtLoad frame d) change act refl refl is has counting near refl
+acquire_near setup setting cores t stands c here a active (AtCompare frame d count stamp) change act is has counting near =
+    compare_good setup setting cores t stands c here a active frame d (AtCompare frame d count stamp) change act refl refl is has counting
+    near count stamp has.knows.loaded refl
+
+-- A call that removes what its target holds changes references and places, and raises the clock: a line a call.
+pub removal_counts : (call : Call) → removes_by call ≡ true → IsTrue (counts_references call)
+removal_counts (Remove u b) is = refl
+removal_counts (Shrink u i) is = refl
+removal_counts (Unmap p v) is = refl
+removal_counts call is = absurd (false≢true is)
+
+pub removal_places : (call : Call) → removes_by call ≡ true → changes_places call ≡ true
+removal_places (Remove u b) is = refl
+removal_places (Shrink u i) is = refl
+removal_places (Unmap p v) is = refl
+removal_places call is = absurd (false≢true is)
+
+pub removal_raises : (call : Call) → removes_by call ≡ true → IsTrue (raises_clock call)
+removal_raises (Remove u b) is = refl
+removal_raises (Shrink u i) is = refl
+removal_raises (Unmap p v) is = refl
+removal_raises call is = absurd (false≢true is)
+
+-- What may be used at a place is what it holds, or held.
+usable_is : (p : Place) (waits : Bool) (k : Capability) → usable_in p waits ≡ Some k → capability_in p ≡ Some k
+usable_is Vacant waits k is = absurd (cc)
+usable_is (Holds j) waits k is = is
+usable_is (Removed j) true k is = is
+usable_is (Removed j) false k is = absurd (cc)
+
+module _ (setup : Setting) (setting : IsSetting setup) (cores : ℕ → Core) (t : Trace) (stands : Stands setup cores t) (c : ℕ)
+    (here : c < setup.cores)
+    (a : ActiveCall) (active : (cores c).active ≡ Some a) (names : NamesAre setup t c (cores c).own.table a.plan a.found) where
+  abbrev now : State
+  now = state_after setup t
+
+  pub plan_leads : Leads (LeadsIn now c) a.plan.names [] a.found
+  plan_leads = leads_by (λ n wanted k. HasFound setup t c (own_in (cores c).own.table n) wanted k) (LeadsIn now c)
+      (λ n wanted k had. found_named setup t c (cores c).own.table n wanted k (stands.each c here).works.table had) a.plan.names []
+      a.found names
+
+  call_leads : Leads (LeadsIn now c) (plan_for a.call).names [] a.found
+  call_leads = subst (λ (p : Plan). Leads (LeadsIn now c) p.names [] a.found)
+      (is_active setup setting cores t stands c here a active).plan plan_leads
+
+  pub goes_by : GoesBy (own_pages now c) a.plan (rule_of now c a.call)
+  goes_by = subst (λ p. GoesBy (own_pages now c) p (rule_of now c a.call))
+      (sym (is_active setup setting cores t stands c here a active).plan) (calls_go now c a.call)
+
+  -- the frame of what is removed is near
+  removed_near : (node index : ℕ) (cap : Capability) → IsRemoval setup t c a.call a.plan a.found node index cap → (f : ℕ)
+      → is_one_of f (named_by cap.kind cap.frame) ≡ true
+      → is_one_of f (frames_near now c a.call) ≡ true
+  removed_near node index cap has f names_it = near_about now c a.call f
+      (one_right f (frames_named now c (rule_of now c a.call)) (frame_at_slot now (target_of now c (rule_of now c a.call)) ++
+      frame_argument a.call)
+      (one_left f (frame_at_slot now (target_of now c (rule_of now c a.call))) (frame_argument a.call)
+      (subst (λ o. is_one_of f (frame_at_slot now o) ≡ true) (sym slot)
+      (subst (λ o. is_one_of f (frame_of_cap o) ≡ true) (sym (usable_is (now.place node index) ((now.grace (PlaceOf node index)).waits c)
+      cap has.usable)) names_it))))
+    where
+      slot : target_of now c (rule_of now c a.call) ≡ Some (record { node = node; index = index })
+      slot = subst (λ x. IsTargetOf now c x (target_of now c (rule_of now c a.call))) has.next
+          (target_is now c (own_pages now c) a.plan (rule_of now c a.call) a.found goes_by plan_leads) ∙ has.way.reached
+
+  removal_near : (close : Close) (cap : Capability) → KnowsClose setup t c a.call a.plan a.found close cap → (f : ℕ)
+      → is_one_of f (named_by cap.kind cap.frame) ≡ true
+      → is_one_of f (frames_near now c a.call) ≡ true
+  removal_near (close_compare node index word by) cap has = removed_near node index cap has.removal
+  removal_near (AtDraw node index) cap has = removed_near node index cap has
+  removal_near (AtStore node index at) cap has = absurd has
+
+  removal_does : (close : Close) (cap : Capability) → KnowsClose setup t c a.call a.plan a.found close cap → removes_by a.call ≡ true
+  removal_does (close_compare node index word by) cap has = has.removal.removes
+  removal_does (AtDraw node index) cap has = has.removes
+  removal_does (AtStore node index at) cap has = absurd has
+
+-- The frame of a count that an act changes is near the call, which is one that changes references.
+pub acquire_good : (setup : Setting) → IsSetting setup → (cores : ℕ → Core) (t : Trace) → Stands setup cores t → (c : ℕ) → c < setup.cores
+    → (a : ActiveCall) → (cores c).active ≡ Some a
+    → (pin : Pin) (change : ℤ) (act : ActOf) → a.stage ≡ Undecided (Acquire pin change act)
+    → KnowsUndecided setup t c (cores c).own.table a (Acquire pin change act)
+    → GoodTook setup cores t c (pin_move pin)
+    (landed a (took_count (cores c).own.core (length a.counts) change act (pin_after pin (last_left setup t (word_of (pin_move pin))))
+    (pin_end pin (last_left setup t (word_of (pin_move pin))))))
+acquire_good setup setting cores t stands c here a active pin change (fill_act fill) is has =
+    acquire_near setup setting cores t stands c here a active pin change (fill_act fill) is has
+    (put_counts a.call (is_active setup setting cores t stands c here a active).built a.found fill.cap has.knows.knows.puts)
+    (λ b. put_near (state_after setup t) c a.call (is_active setup setting cores t stands c here a active).built a.found fill.cap
+    has.knows.knows.puts
+    (call_leads setup setting cores t stands c here a active has.names) (pin_frame pin)
+    (due_named (named_by fill.cap.kind fill.cap.frame) (pos 1) (map due_of a.counts) (record { frame = pin_frame pin; change = change })
+    has.knows.rest has.knows.due))
+acquire_good setup setting cores t stands c here a active pin change (remove_act close cap) is has =
+    acquire_near setup setting cores t stands c here a active pin change (remove_act close cap) is has
+    (removal_counts a.call (removal_does setup setting cores t stands c here a active has.names close cap has.knows.knows))
+    (λ b. removal_near setup setting cores t stands c here a active has.names close cap has.knows.knows (pin_frame pin)
+    (due_named (named_by cap.kind cap.frame) (negsuc 0) (map due_of a.counts) (record { frame = pin_frame pin; change = change })
+    has.knows.rest has.knows.due))
+
+-- A decided call commits its earliest count.
+module _ (setup : Setting) (setting : IsSetting setup) (cores : ℕ → Core) (t : Trace) (stands : Stands setup cores t) (c : ℕ)
+    (here : c < setup.cores)
+    (a : ActiveCall) (active : (cores c).active ≡ Some a) (r : Reply) (drawn : Option ℕ) (stage_is : a.stage ≡ Decided r drawn Nothing)
+    (x : Acquired) (xs : List Acquired) (counts_are : a.counts ≡ x ∷ xs) where
+  abbrev stored : ℕ
+  stored = word_of_count (settled_word (commit_of (is_ok r) drawn x))
+
+  abbrev store : Move
+  store = StoreOf (count_of x) stored
+
+  holds_is : holds (cores c) ≡ holds_counts (done_by r drawn) (x ∷ xs)
+  holds_is = ap holds_in active ∙ ap (λ stage. holds_at stage a.counts) stage_is ∙ ap (holds_counts (done_by r drawn)) counts_are
+
+  stored_is : committed (done_by r drawn) x ≡ stored
+  stored_is = stored_by r drawn x
+
+  own_mark : marked_by setup t (count_of x) ≡ Some c
+  own_mark = (stands.marks (count_of x) c).kept (ap (λ h. h.marks (count_of x)) holds_is ∙ counters.first_marked (done_by r drawn) x xs)
+
+  settles : settled setup (held_by cores) t (count_of x) ≡ stored
+  settles = ap (λ o. settled_by o (held_by cores) (count_of x) (last_left setup t (count_of x))) own_mark
+      ∙ ap (λ h. h.stands (count_of x)) holds_is ∙ counters.first_stands (done_by r drawn) x xs ∙ stored_is
+
+  stored_says : SaysCount (count_room (state_after setup t)) (count_of_word stored)
+  stored_says = subst (λ (n : ℕ). SaysCount (count_room (state_after setup t)) (count_of_word n)) settles (stands.words (count_of x))
+
+  apart : AreApart (x ∷ xs)
+  apart = subst AreApart counts_are (call_is setup setting cores t stands c here a active).apart
+
+  known : All (IsCount setup t c a.call) (x ∷ xs)
+  known = subst (All (IsCount setup t c a.call)) counts_are (call_is setup setting cores t stands c here a active).counts
+
+  first : IsCount setup t c a.call x
+  first = All-head (IsCount setup t c a.call) x xs known
+
+  bare : (holds_counts (done_by r drawn) xs).marks (count_of x) ≡ false
+  bare = same_marks (done_by r drawn) None xs (count_of x) ∙ apart.0
+
+  pub commit_good : GoodTook setup cores t c store (GoesOn (went_with a xs (Decided r drawn Nothing)))
+  commit_good lands =
+      let next : ActiveCall = went_with a xs (Decided r drawn Nothing) in
+      let e : Step = inner setup setting cores t stands c here a active store None None in
+      let after : Core = core_at (cores c) (cores c).own.made next in
+      let spells = counts.spelling.spells stored _ stored_says.says in
+      counters.holds_on setup setting cores t stands c here a active store next (λ b. refl)
+      (not_clock x.pin.frame (counter_of x.pin.core)) refl
+      (record { moves = first.counts; near = inr first.near }) lands
+      (subst (λ (n : ℕ). n < 2 ^ 64) spells.1 (counts.spelling.small _ spells.0))
+      (λ w there.
+      let rest = counters.rest_elsewhere (done_by r drawn) x xs w there in
+      (rest.0 ∙ sym (ap (λ h. h.marks w) holds_is), rest.1 ∙ sym (ap (λ h. h.stands w) holds_is)))
+      (ap count_mark stored_says.says ∙ sym (ap (λ b. if b then Some c else None) bare))
+      (λ b other is. other (sym (some_inj c b (sym own_mark ∙ is))))
+      (ap (λ b. settled_by (if b then Some c else None) (held_by (put cores c after)) (count_of x) stored) bare ∙ sym settles)
+      (ap (phase_at a.call) stage_is)
+      (λ carries. tt)
+      (counts_on setup t e c a.call (λ own. refl) xs (All-tail (IsCount setup t c a.call) x xs known))
+      apart.1

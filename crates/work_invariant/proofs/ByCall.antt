@@ -1,0 +1,154 @@
+-- What look-ups end in, call by call: the causes that refuse a target, the act that begins at one, and what a look answers.
+use Rattle.std.proofs.Common.{◌≡◌, ℕ, nat_le, nat_lt, ◌&&◌, Bool, true, false, if◌then◌else◌, IsTrue, List, [], ◌∷◌, Some, None, refl, sym, ◌∙◌, ap, subst}
+use Rattle.std.proofs.lemmas.Bool.{leb-false, lt-ltb}
+use Rattle.spk_nums.specs.Capability.{Capability}
+use Rattle.spk_nums.specs.declared.calls.Call.{Call}
+use Rattle.spk_nums.specs.declared.calls.Call.TheVariants.{Look as look_call, Copy, Remove, Shrink, Unmap}
+use Rattle.supported_calls.specs.Built.{IsBuilt}
+use Rattle.spk_nums.specs.declared.replies.Value.TheVariants.{Cap}
+use Rattle.spk_nums.specs.declared.kinds.Kind.TheVariants as kind
+use Rattle.spk_nums.specs.declared.replies.Reply.TheVariants as reply
+use Rattle.kernel_rules.specs.State.{State, Thing, Holds, PlaceOf}
+use Rattle.kernel_rules.specs.Access.{Slot, Named, found, capability, any, place_at, held_in, reached, own, Target as place, InRoot}
+use Rattle.kernel_rules.specs.Rules.{Refused, IsFoundAnd, Does, outcome, answers, Found as Found_it, and_then, or_refuse, unless, not_vacant, named, vacant, held}
+use Rattle.kernel_rules.specs.CallRelation.{change_of, changed, counted, begins_in}
+use Rattle.kernel_rules.specs.CapabilityCalls.{look_rule}
+use Rattle.kernel_rules.proofs.Facts.{some_inj}
+use Rattle.stage_look.specs.declared.look.Found.{Found}
+use Rattle.call_plans.specs.declared.plans.Nth.TheVariants.{First, Second}
+use Rattle.call_plans.specs.declared.plans.Name.{Name}
+use Rattle.call_plans.specs.declared.plans.Spot.{Spot}
+use Rattle.call_plans.specs.declared.plans.Spot.TheVariants as spot_of
+use Rattle.call_plans.specs.declared.plans.Target.TheVariants.{Nowhere, Free, Held, Own as own_page}
+use Rattle.call_plans.specs.Plans.{head, at_place}
+use Rattle.call_plans.specs.PlanOf.{any_cap, of_kind, plan_for}
+use Rattle.call_plans.specs.After.{names_after}
+use Rattle.call_steps.specs.Acts.{fills_at, removes_at, put_by, removes_by, act_begun}
+use Rattle.call_steps.specs.declared.own.Own.{Own}
+
+-- A target is refused where it has no slot, and one that is to be free where it is held.
+pub vacant_no_slot : (s : State) (c : ℕ) (target : place) → reached s c target ≡ None → vacant s c target ≡ Refused reply.NoSlot
+vacant_no_slot s c target none =
+    ap (λ o. and_then (or_refuse o reply.NoSlot) λ at. unless (not_vacant s c (PlaceOf at.node at.index) (place_at s at)) at) none
+
+pub vacant_occupied : (s : State) (c : ℕ) (target : place) (at : Slot) (i : Capability) → reached s c target ≡ Some at
+    → place_at s at ≡ Holds i → vacant s c target ≡ Refused reply.Occupied
+vacant_occupied s c target at i is holds =
+    ap (λ o. and_then (or_refuse o reply.NoSlot) λ at. unless (not_vacant s c (PlaceOf at.node at.index) (place_at s at)) at) is
+    ∙ ap (λ p. unless (not_vacant s c (PlaceOf at.node at.index) p) at) holds
+
+pub held_no_slot : (s : State) (c : ℕ) (target : place) → reached s c target ≡ None → held s c target ≡ Refused reply.NoSlot
+held_no_slot s c target none =
+    ap (λ o. and_then (or_refuse o reply.NoSlot) λ at. and_then (or_refuse (held_in (place_at s at)) reply.Empty) λ k. Found_it (at, k))
+    none
+
+pub held_empty : (s : State) (c : ℕ) (target : place) (at : Slot) → reached s c target ≡ Some at → held_in (place_at s at) ≡ None
+    → held s c target ≡ Refused reply.Empty
+held_empty s c target at is empty =
+    ap (λ o. and_then (or_refuse o reply.NoSlot) λ at. and_then (or_refuse (held_in (place_at s at)) reply.Empty) λ k. Found_it (at, k)) is
+    ∙ ap (λ o. and_then (or_refuse o reply.Empty) λ k. Found_it (at, k)) empty
+
+-- An entry past its range.
+pub past_entry : (i : ℕ) → nat_le i 63 ≡ false → IsTrue (nat_lt 63 i)
+past_entry i past = lt-ltb 63 i (leb-false i 63 past)
+
+pub past_entry_unreached : (s : State) (c : ℕ) (root : Named) (i : ℕ) → nat_le i 63 ≡ false → reached s c (InRoot root i) ≡ None
+past_entry_unreached s c root i past = by root.found
+  where
+    slot : Slot
+    slot = record { node = root.frame; index = i }
+
+    by : (b : Bool) → (if b && nat_le i 63 then Some slot else None) ≡ None
+    by true = ap (λ b. if b then Some slot else None) past
+    by false = refl
+
+-- No call that is carried out looks up a page of its own.
+pub no_own : (call : Call) → IsBuilt call → (v : ℕ) → (plan_for call).target ≡ own_page v → ⊥
+no_own (look_call a) built v is = cc
+no_own (Copy a u b) built v is = cc
+no_own (Remove u b) built v is = cc
+no_own (Shrink u i) built v is = cc
+no_own (Unmap p n) built v is = cc
+no_own call built v is = built
+
+-- What is looked up first is all that is looked up of one name.
+pub none_after : (ks : List Capability) → names_after [] ks ≡ []
+none_after [] = refl
+none_after (k ∷ ks) = refl
+
+pub one_left : (one name : Name) (rest : List Name) (ks : List Capability) → names_after (one ∷ []) ks ≡ name ∷ rest → ks ≡ []
+one_left one name rest [] is = refl
+one_left one name rest (k ∷ ks) is = absurd (not_none (sym (none_after ks) ∙ is))
+  where
+    not_none : [] ≡ name ∷ rest → ⊥
+    not_none h = cc
+
+pub first_same : (name : Name) (rest : List Name) (one : Name) → name ∷ rest ≡ one ∷ [] → name ≡ one
+first_same name rest one is = some_inj name one (ap head is)
+
+-- The filling act of a core's call with a target that is to be free.
+pub record Begins (own : Own) (call : Call) (ks : List Capability) : Type 0 where
+  pub k : Capability
+  pub first : at_place ks First ≡ Some k
+  pub puts : put_by call ks ≡ Some k
+  pub act : (f : Found) → act_begun own call ks (Some f) ≡ fills_at own k f
+
+pub begins_fill : (own : Own) (call : Call) → IsBuilt call → (spot : Spot) → (plan_for call).target ≡ Free spot → (ks : List Capability)
+    → names_after (plan_for call).names ks ≡ []
+    → Begins own call ks
+begins_fill own (look_call a) built spot to ks none = absurd (not_free to)
+  where
+    not_free : Nowhere ≡ Free spot → ⊥
+    not_free h = cc
+begins_fill own (Copy a u b) built spot to [] none = absurd (not_none none)
+  where
+    not_none : any_cap a ∷ of_kind kind.Table u ∷ [] ≡ [] → ⊥
+    not_none h = cc
+begins_fill own (Copy a u b) built spot to (k ∷ ks) none = record { k = k; first = refl; puts = refl; act = λ f. refl }
+begins_fill own (Remove u b) built spot to ks none = absurd (not_free to)
+  where
+    not_free : Held (spot_of.Under First b) ≡ Free spot → ⊥
+    not_free h = cc
+begins_fill own (Shrink u i) built spot to ks none = absurd (not_free to)
+  where
+    not_free : Held (spot_of.InRoot First i) ≡ Free spot → ⊥
+    not_free h = cc
+begins_fill own (Unmap p v) built spot to ks none = absurd (not_free to)
+  where
+    not_free : Held (spot_of.Under First v) ≡ Free spot → ⊥
+    not_free h = cc
+begins_fill own call built spot to ks none = absurd built
+
+-- The removing act of a core's call with a target that is to be held.
+pub record BeginsRemoval (own : Own) (call : Call) (ks : List Capability) : Type 0 where
+  pub removes : removes_by call ≡ true
+  pub act : (f : Found) → act_begun own call ks (Some f) ≡ removes_at own.core (Some f)
+
+pub begins_removal : (own : Own) (call : Call) → IsBuilt call → (spot : Spot) → (plan_for call).target ≡ Held spot → (ks : List Capability)
+    → BeginsRemoval own call ks
+begins_removal own (look_call a) built spot to ks = absurd (not_held to)
+  where
+    not_held : Nowhere ≡ Held spot → ⊥
+    not_held h = cc
+begins_removal own (Copy a u b) built spot to ks = absurd (not_held to)
+  where
+    not_held : Free (spot_of.Under Second b) ≡ Held spot → ⊥
+    not_held h = cc
+begins_removal own (Remove u b) built spot to ks = record { removes = refl; act = λ f. refl }
+begins_removal own (Shrink u i) built spot to ks = record { removes = refl; act = λ f. refl }
+begins_removal own (Unmap p v) built spot to ks = record { removes = refl; act = λ f. refl }
+begins_removal own call built spot to ks = absurd built
+
+-- A look that has found its capability answers it.
+module _ (s : State) (c a : ℕ) (k : Capability) (is : named s c a any ≡ Found_it k) where
+  pub look_change : change_of s c (look_call a) ≡ Found_it (answers s (Cap k))
+  look_change = ap (λ x. and_then x λ k. outcome s c (Does [] (answers s (Cap (capability (found k)))))) is
+
+  pub look_state : counted (changed s (change_of s c (look_call a))) c ≡ counted s c
+  look_state = ap (λ x. counted (changed s x) c) look_change
+
+  pub look_begins : (x : Thing) → begins_in (change_of s c (look_call a)) x ≡ false
+  look_begins x = ap (λ y. begins_in y x) look_change
+
+  pub look_answers : IsFoundAnd (outcome s c (look_rule s a)) (λ change. change.value ≡ Cap k)
+  look_answers = subst (λ x. IsFoundAnd x (λ change. change.value ≡ Cap k)) (sym look_change) refl

@@ -1,0 +1,307 @@
+-- A step of a scan for a place that is quiescing is good: it is refused by a core that may still use what was removed, or goes on to the
+-- next core, and from the last to the counts of the act.
+use Rattle.std.proofs.Common.{◌≡◌, ◌≢◌, ◌⊎◌, ℕ, ◌<◌, ◌≤◌, ◌&&◌, ◌++◌, nat_lt, nat_le, if◌then◌else◌, map, length, Bool, true, false, List, [], ◌∷◌, Option, Some, None, IsTrue, inl, inr, arith, refl, sym, ◌∙◌, ap, subst}
+use Rattle.std.specs.Prelude.{IsSomeAnd, ◌==◌, ◌||◌}
+use Rattle.std.specs.List.{list_any}
+use Rattle.std.proofs.lemmas.Bool.{eq-eqb, ltb-false, leb-true, leb-false}
+use Rattle.spk_nums.specs.Setting.{Setting, IsSetting}
+use Rattle.spk_nums.specs.declared.replies.Reply.TheVariants as reply
+use Rattle.entry_words.specs.EntryWord.{entry_of_word}
+use Rattle.entry_words.specs.declared.entry.Entry.{Entry}
+use Rattle.entry_words.specs.declared.entry.Entry.TheVariants as entry
+use Rattle.frame_words.specs.Core.{core_of_word}
+use Rattle.frame_words.specs.declared.core_word.CoreWord.{CoreWord}
+use Rattle.word_map.specs.Word.{EntryAt, CoreAt}
+use Rattle.word_map.specs.Moves.{LoadOf, word_of, told_of}
+use Rattle.kernel_rules.specs.State.{Thing, PlaceOf, State}
+use Rattle.kernel_rules.specs.Access.{Slot, Target, reached}
+use Rattle.kernel_rules.specs.CallRelation.{rule_of}
+use Rattle.kernel_rules.specs.GracePeriods.{same_thing, MayWait}
+use Rattle.kernel_rules.specs.Rules.{RuleMay, Rule}
+use Rattle.kernel_rules.specs.Rules as rules
+use Rattle.kernel_history.specs.Justified.{IsRemoved, IsWaiting}
+use Rattle.kernel_history.specs.Stamps.{exit_of}
+use Rattle.kernel_history.specs.Trace.{Step, Trace, Open, phase, state_after, last_left}
+use Rattle.kernel_history.specs.Ways.{waited_in, thing_at, asked_of}
+use Rattle.kernel_history.proofs.Carries.{Carries, was_before}
+use Rattle.kernel_history.proofs.Laws.{not_inside}
+use Rattle.kernel_history.proofs.Steps.{own_read-there}
+use Rattle.kernel_history.proofs.Waiting.{out_passed, later_passed, may_wait}
+use Rattle.stage_quiet.specs.declared.quiet.Quiet.{Quiet}
+use Rattle.stage_quiet.specs.declared.quiet.Quiet.TheVariants.{AtCore, AtFlush}
+use Rattle.stage_quiet.specs.Scan.{next_other, core_scan, flush_scan, quiet_move, core_refuses, scan_end, scan_after, quiet_next, quiet_end, quiet_after}
+use Rattle.call_plans.specs.GoesBy.{GoesBy, OwnPages, own_pages}
+use Rattle.call_plans.specs.After.{Leads, LeadsIn, NextFree, rule_after, NextMay}
+use Rattle.call_plans.proofs.AfterNames.{Begins, left_begins, next_may}
+use Rattle.plan_ways.proofs.Ways.{asked_left}
+use Rattle.call_steps.specs.declared.fills.Fill.{Fill}
+use Rattle.call_steps.specs.declared.refusals.Refusal.TheVariants as refusal
+use Rattle.call_steps.specs.declared.stages.Act.{Act as ActOf}
+use Rattle.call_steps.specs.declared.stages.Act.TheVariants.{Fill as fill_act, Remove as remove_act}
+use Rattle.call_steps.specs.declared.stages.Work.TheVariants.{Scan}
+use Rattle.call_steps.specs.declared.stages.Stage.{Stage}
+use Rattle.call_steps.specs.declared.stages.Stage.TheVariants.{Undecided}
+use Rattle.call_steps.specs.declared.stages.ActiveCall.{ActiveCall}
+use Rattle.call_steps.specs.declared.stages.WorkStep.TheVariants.{Goes}
+use Rattle.call_steps.specs.Acts.{refuse, dues, next_work, stamp_shown}
+use Rattle.call_steps.specs.Fits.{StageFits, CountsAt, HasRoom}
+use Rattle.call_steps.specs.Steps.{landed, took_scan}
+use Rattle.call_steps.specs.View.{Core}
+use Rattle.stage_pins.specs.declared.held.Acquired.{Acquired}
+use Rattle.core_invariant.specs.Holding.{holds_counts}
+use Rattle.core_invariant.specs.Knows.{due_of, HasPassed, IsScanned, MayFill, KnowsAct, KnowsUndecided, phase_at}
+use Rattle.core_invariant.specs.Stands.{holds_at, holds_in, Stands}
+use Rattle.core_invariant.proofs.Carries.{names_on, act_on}
+use Rattle.core_invariant.proofs.Loads.{OnlyLooks, step_to, next_at, inner, core_is, call_is, is_active, loads_on, decides_on}
+use Rattle.core_invariant.proofs.Refusals.{GoodTook, not_spent}
+use Rattle.core_invariant.proofs.Sounds.{limits_of}
+use Rattle.work_invariant.proofs.Acquiring.{knows_next, next_holds, plan_leads, goes_by}
+use Rattle.work_invariant.proofs.Scans.{before_next}
+
+-- A word that may be filled, and since whose stamp is scanned, says that it is quiescing since then.
+record IsScanFor (setup : Setting) (t : Trace) (c : ℕ) (thing : Thing) (x upto : ℕ) (o : Option Entry) : Type 0 where
+  shows : o ≡ Some (entry.Quiescing x)
+  scanned : IsScanned setup t c thing x upto
+
+scan_for : (setup : Setting) (t : Trace) (c : ℕ) (thing : Thing) (x upto : ℕ) (o : Option Entry) → stamp_shown o ≡ x → 1 ≤ x
+    → MayFill setup t c thing upto o
+    → IsScanFor setup t c thing x upto o
+scan_for setup t c thing x upto None is some may = absurd may
+scan_for setup t c thing x upto (Some entry.Free) is some may = absurd (omega arith)
+scan_for setup t c thing x upto (Some (entry.Held k)) is some may = absurd may
+scan_for setup t c thing x upto (Some (entry.Closing by)) is some may = absurd may
+scan_for setup t c thing x upto (Some (entry.Quiescing y)) is some may =
+    record { shows = ap (λ (n : ℕ). Some (entry.Quiescing n)) is; scanned = subst (λ (n : ℕ). IsScanned setup t c thing n upto) is may }
+
+-- A rule whose target is to be free asks for the grace period of the target's place.
+asks_for : (s : State) (c : ℕ) (pages : OwnPages) (target : Target) (rule : Rule) (at : Slot) → Begins pages (NextFree target) rule
+    → reached s c target ≡ Some at
+    → IsTrue (list_any (same_thing (PlaceOf at.node at.index)) (asked_of waited_in s c rule))
+asks_for s c pages target (rules.Vacant u rest) at is way =
+    subst (λ o. IsTrue (list_any (same_thing (PlaceOf at.node at.index)) (thing_at o ++ asked_of waited_in s c (rest (rules.slot_of o)))))
+    (sym (ap (reached s c) is ∙ way)) (same (list_any (same_thing (PlaceOf at.node at.index)) (asked_of waited_in s c (rest at))))
+  where
+    same : (later : Bool) → IsTrue ((at.node == at.node && at.index == at.index) || later)
+    same later = ap (λ b. (b && at.index == at.index) || later) (eq-eqb at.node at.node refl) ∙ ap (λ b. b || later)
+        (eq-eqb at.index at.index refl)
+asks_for s c pages target _ at is way = absurd is
+
+module _ (setup : Setting) (setting : IsSetting setup) (cores : ℕ → Core) (t : Trace) (stands : Stands setup cores t) (c : ℕ)
+    (here : c < setup.cores)
+    (a : ActiveCall) (active : (cores c).active ≡ Some a) (x by at : ℕ) (page : Bool) (fill : Fill)
+    (stage_is : a.stage ≡ Undecided (Scan (AtCore x by at page) (fill_act fill)))
+    (has : KnowsUndecided setup t c (cores c).own.table a (Scan (AtCore x by at page) (fill_act fill))) where
+  abbrev s : State
+  s = state_after setup t
+
+  abbrev act : ActOf
+  act = fill_act fill
+
+  abbrev slot : Slot
+  slot = record { node = fill.node; index = fill.entry }
+
+  abbrev thing : Thing
+  thing = PlaceOf fill.node fill.entry
+
+  abbrev was : ℕ
+  was = last_left setup t (CoreAt at)
+
+  fits : StageFits (cores c).own.layout (Undecided (Scan (AtCore x by at page) (fill_act fill)))
+  fits = subst (StageFits (cores c).own.layout) stage_is (is_active setup setting cores t stands c here a active).stage
+
+  below : at < setup.cores
+  below = subst (λ (n : ℕ). at < n) (ap (λ s. s.cores) (stands.each c here).shape) fits.0.0
+
+  other : at ≢ c
+  other same = fits.0.1 (same ∙ sym has.knows.core)
+
+  drawn : 1 ≤ x
+  drawn = fits.1.2
+
+  no_counts : a.counts ≡ []
+  no_counts = subst (CountsAt a.counts) stage_is (is_active setup setting cores t stands c here a active).counts
+
+  held_is : holds_in (Some a) ≡ holds_counts None a.counts
+  held_is = ap (λ s. holds_at s a.counts) stage_is
+
+  opens : phase_at a.call a.stage ≡ Open a.call
+  opens = ap (phase_at a.call) stage_is
+
+  is_open : phase t c ≡ Open a.call
+  is_open = (call_is setup setting cores t stands c here a active).phase ∙ opens
+
+  room : (cores c).own.made < (cores c).own.limit
+  room = subst (HasRoom (cores c).own.made (cores c).own.limit) stage_is (is_active setup setting cores t stands c here a active).room
+
+  scan : IsScanFor setup t c thing x at (entry_of_word fill.word)
+  scan = scan_for setup t c thing x at (entry_of_word fill.word) has.knows.stamp drawn has.knows.knows.vacant
+
+  looks : OnlyLooks setup t c a.call (LoadOf (CoreAt at))
+  looks = record { of_call = record { moves = refl; near = inl tt }; kept = refl; apart = λ d. refl }
+
+  -- The core may still use what was removed.
+  module _ (inside : (s.core at).inside ≡ true) (early : exit_of t at ≤ x) where
+    abbrev e : Step
+    e = inner setup setting cores t stands c here a active (LoadOf (CoreAt at)) (Some (reply.Quiescing at)) None
+
+    waits : MayWait s c thing at
+    waits = record {
+      is_core = subst (λ (n : ℕ). at < n) (sym (ap (λ l. l.cores) (limits_of setup t))) below;
+      other = other;
+      is_inside = inside;
+      not_passed = may_wait setup t thing (stands.graces thing) at x (let d = drawn in omega arith) scan.scanned.rises early;
+    }
+
+    leads : Leads (LeadsIn s c) a.plan.names [] a.found
+    leads = plan_leads setup setting cores t stands c here a active has.names
+
+    by_plan : GoesBy (own_pages s c) a.plan (rule_of s c a.call)
+    by_plan = goes_by setup setting cores t stands c here a active has.names
+
+    may : RuleMay s c (rule_of s c a.call) (reply.Quiescing at)
+    may = next_may s c (own_pages s c) a.plan (rule_of s c a.call) a.found by_plan leads (reply.Quiescing at)
+        (subst (λ n. NextMay s c (own_pages s c) n (reply.Quiescing at)) (sym has.knows.knows.next)
+        (subst (λ o. IsSomeAnd o (λ at2. MayWait s c (PlaceOf at2.node at2.index) at)) (sym has.knows.knows.way.reached) waits))
+
+    justified : IsWaiting setup t e s (rule_of s c a.call) at
+    justified = record {
+      thing = thing;
+      asked = subst (λ things. IsTrue (list_any (same_thing thing) things))
+          (sym (asked_left s c (own_pages s c) a.plan (rule_of s c a.call) a.found by_plan leads waited_in))
+          (asks_for s c (own_pages s c) has.knows.knows.target (rule_after (rule_of s c a.call) a.found) slot
+          (subst (λ n. Begins (own_pages s c) n (rule_after (rule_of s c a.call) a.found)) has.knows.knows.next
+          (left_begins s c (own_pages s c) a.plan (rule_of s c a.call) a.found by_plan leads)) has.knows.knows.way.reached);
+      may_wait = waits;
+      was_removed = was_before (IsRemoved thing) setup t e refl scan.scanned.was_removed;
+    }
+
+    still_inside : GoodTook setup cores t c (LoadOf (CoreAt at)) (landed a (refuse (refusal.Quiescing at)))
+    still_inside lands = decides_on setup setting cores t stands c here a active (LoadOf (CoreAt at)) (reply.Quiescing at) a.found looks
+        lands (sym held_is) opens refl refl
+        (λ x. refl) (λ x. refl) refl (not_spent setup (cores c) t c (core_is setup setting cores t stands c here a active) room, may)
+        justified
+        (λ is_alone. absurd (not_inside setup t e refl is_alone at other inside))
+
+  -- The core has passed.
+  module _ (passed : HasPassed setup t thing x at) where
+    more : (upto : ℕ) → ((d : ℕ) → d < upto → d ≢ c → (d < at) ⊎ (d ≡ at)) → KnowsAct setup t c a.call a.plan a.found upto act
+    more upto before = record {
+      target = has.knows.knows.target;
+      next = has.knows.knows.next;
+      way = has.knows.knows.way;
+      own = has.knows.knows.own;
+      fits = has.knows.knows.fits;
+      puts = has.knows.knows.puts;
+      vacant = subst (MayFill setup t c thing upto) (sym scan.shows) (record {
+        some = scan.scanned.some;
+        past = scan.scanned.past;
+        rises = scan.scanned.rises;
+        was_removed = scan.scanned.was_removed;
+        passed = λ d under apart. elim (before d under apart) [
+          | inl earlier ↦ scan.scanned.passed d earlier apart
+          | inr same ↦ subst (HasPassed setup t thing x) (sym same) passed
+        ];
+      });
+    }
+
+    entry_apart : (f i : ℕ) → EntryAt f i ≢ CoreAt at
+    entry_apart f i h = cc
+
+    carried : (upto : ℕ) → ((d : ℕ) → d < upto → d ≢ c → (d < at) ⊎ (d ≡ at))
+        → Carries setup t (step_to c None (LoadOf (CoreAt at)) was None None) c
+        → KnowsAct setup (step_to c None (LoadOf (CoreAt at)) was None None ∷ t) c a.call a.plan a.found upto act
+    carried upto before carries =
+        let e : Step = step_to c None (LoadOf (CoreAt at)) was None None in
+        act_on setup setting t e stands.legal c a.call is_open carries a.call a.plan a.found upto act
+        (λ f i. own_read-there c e t refl (EntryAt f i) (entry_apart f i)) (more upto before)
+
+    -- the next core is scanned
+    goes_on : GoodTook setup cores t c (LoadOf (CoreAt at)) (landed a (Goes (Scan (AtCore x by (next_other by at) page) act)))
+    goes_on lands =
+        let e : Step = step_to c None (LoadOf (CoreAt at)) was None None in
+        loads_on setup setting cores t stands c here a active (LoadOf (CoreAt at)) a.found
+        (Undecided (Scan (AtCore x by (next_other by at) page) act)) looks lands (sym held_is) opens
+        (λ carries. record {
+          names = names_on setup setting t e stands.legal c a.call is_open carries (cores c).own.table a.plan a.found has.names;
+          knows = record {
+            knows = carried (next_other by at)
+                (λ d under apart. before_next c at d (subst (λ (n : ℕ). d < next_other n at) has.knows.core under) apart) carries;
+            core = has.knows.core;
+            stamp = has.knows.stamp;
+            starts = has.knows.starts;
+          };
+        })
+
+    -- there is none: the counts of the act are acquired
+    ends : setup.cores ≤ next_other by at
+        → GoodTook setup cores t c (LoadOf (CoreAt at)) (landed a (Goes (next_work (cores c).own.core 0 act)))
+    ends last lands =
+        let e : Step = step_to c None (LoadOf (CoreAt at)) was None None in
+        let stage : Stage = Undecided (next_work (cores c).own.core 0 act) in
+        loads_on setup setting cores t stands c here a active (LoadOf (CoreAt at)) a.found stage looks lands
+        (next_holds (cores c).own.core 0 act (holds_counts None a.counts) refl ∙ sym held_is) opens
+        (λ carries. record {
+          names = names_on setup setting t e stands.legal c a.call is_open carries (cores c).own.table a.plan a.found has.names;
+          knows = knows_next setup (e ∷ t) c (cores c).own.table (next_at a a.found stage) (cores c).own.core act (dues act)
+              (stands.each c here).number
+              (carried setup.cores (λ d under apart. before_next c at d (below_next d under) apart) carries)
+              (ap (λ (xs : List Acquired). map due_of xs ++ dues act) (sym no_counts)) 0
+              (ap (λ (xs : List Acquired). length xs) (sym no_counts)) refl;
+        })
+      where
+        below_next : (d : ℕ) → d < setup.cores → d < next_other c at
+        below_next d under = subst (λ (n : ℕ). d < next_other n at) has.knows.core (omega arith)
+
+    is_capabilities : page ≡ false
+    is_capabilities = fits.1.1
+
+    abbrev After : Option Quiet → Type 0
+    After next = GoodTook setup cores t c (LoadOf (CoreAt at)) (landed a
+        (took_scan (cores c).own.core act (scan_after (AtCore x by at page) None next) (scan_end None next)))
+
+    has_passed : After (quiet_next setup.cores (AtCore x by at page))
+    has_passed = by_next (nat_lt (next_other by at) setup.cores) refl
+      where
+        by_next : (there : Bool) → nat_lt (next_other by at) setup.cores ≡ there → After (core_scan there x by (next_other by at) page)
+        by_next true is = goes_on
+        by_next false is = subst (λ p. After (flush_scan p x)) (sym is_capabilities) (ends (ltb-false (next_other by at) setup.cores is))
+
+  abbrev Judged : Option CoreWord → Type 0
+  Judged o = GoodTook setup cores t c (LoadOf (CoreAt at)) (landed a (took_scan (cores c).own.core act
+      (scan_after (AtCore x by at page) (core_refuses x at o) (quiet_next setup.cores (AtCore x by at page)))
+      (scan_end (core_refuses x at o) (quiet_next setup.cores (AtCore x by at page)))))
+
+  word_is : core_of_word was ≡ Some (record { inside = (s.core at).inside; stamp = exit_of t at })
+  word_is = stands.words (CoreAt at)
+
+  pub core_good : GoodTook setup cores t c (LoadOf (CoreAt at))
+      (landed a (took_scan (cores c).own.core act (quiet_after setup.cores (AtCore x by at page) was)
+      (quiet_end setup.cores (AtCore x by at page) was)))
+  core_good = subst Judged (sym word_is) (by_inside (s.core at).inside refl (nat_le (exit_of t at) x) refl)
+    where
+      by_inside : (inside : Bool) → (s.core at).inside ≡ inside → (early : Bool) → nat_le (exit_of t at) x ≡ early
+          → GoodTook setup cores t c (LoadOf (CoreAt at)) (landed a (took_scan (cores c).own.core act
+          (scan_after (AtCore x by at page) (if inside && early then Some (reply.Quiescing at) else None)
+          (quiet_next setup.cores (AtCore x by at page)))
+          (scan_end (if inside && early then Some (reply.Quiescing at) else None) (quiet_next setup.cores (AtCore x by at page)))))
+      by_inside false is early le = has_passed (out_passed setup t thing (stands.graces thing) at x is)
+      by_inside true is true le = still_inside is (leb-true (exit_of t at) x le)
+      by_inside true is false le = has_passed (later_passed setup t thing (stands.graces thing) at x (leb-false (exit_of t at) x le))
+
+-- The step of a scan, whatever it scans and whatever is then done.
+pub scan_good : (setup : Setting) → IsSetting setup → (cores : ℕ → Core) (t : Trace) → Stands setup cores t → (c : ℕ) → c < setup.cores
+    → (a : ActiveCall) → (cores c).active ≡ Some a
+    → (q : Quiet) (act : ActOf) → a.stage ≡ Undecided (Scan q act) → KnowsUndecided setup t c (cores c).own.table a (Scan q act)
+    → GoodTook setup cores t c (quiet_move q) (landed a (took_scan (cores c).own.core act
+    (quiet_after (cores c).own.layout.cores q (told_of (quiet_move q) (last_left setup t (word_of (quiet_move q)))))
+    (quiet_end (cores c).own.layout.cores q (told_of (quiet_move q) (last_left setup t (word_of (quiet_move q)))))))
+scan_good setup setting cores t stands c here a active (AtFlush x at) act is knows = absurd knows.knows
+scan_good setup setting cores t stands c here a active (AtCore x by at page) (remove_act close cap) is knows =
+    absurd (let none : 0 ≡ x = knows.knows.stamp in let some = (subst (StageFits (cores c).own.layout) is
+    (is_active setup setting cores t stands c here a active).stage).1.2 in omega arith)
+scan_good setup setting cores t stands c here a active (AtCore x by at page) (fill_act fill) is knows =
+    subst (λ (n : ℕ). GoodTook setup cores t c (LoadOf (CoreAt at)) (landed a (took_scan (cores c).own.core (fill_act fill)
+    (quiet_after n (AtCore x by at page) (last_left setup t (CoreAt at)))
+    (quiet_end n (AtCore x by at page) (last_left setup t (CoreAt at))))))
+    (sym (ap (λ s. s.cores) (stands.each c here).shape)) (core_good setup setting cores t stands c here a active x by at page fill is
+    knows)

@@ -1,0 +1,190 @@
+-- A place that a call may fill is vacant for it: it is free, or no other core waits in its grace period, and none is to flush it.
+use Rattle.std.proofs.Common.{◌≡◌, ◌≢◌, ℕ, zero, suc, find, cond, ◌+◌, ◌<◌, ◌≤◌, ◌==◌, ◌&&◌, not, inl, inr, Bool, true, false, [], Option, Some, None, IsTrue, arith, refl, sym, ◌∙◌, ap, subst}
+use Rattle.std.proofs.lemmas.Bool.{false≢true, eqb-false}
+use Rattle.std.specs.List.{range_with_len}
+use Rattle.kernel_history.proofs.GraceSteps.{cases_bool}
+use Rattle.spk_nums.specs.Setting.{Setting, IsSetting}
+use Rattle.spk_nums.specs.Capability.{Capability}
+use Rattle.spk_nums.specs.declared.kinds.Kind.TheVariants as kind
+use Rattle.spk_nums.specs.declared.calls.Call.{Call}
+use Rattle.entry_words.specs.declared.entry.Entry.{Entry}
+use Rattle.entry_words.specs.declared.entry.Entry.TheVariants as entry
+use Rattle.kernel_rules.specs.State.{Place, Free, Holds, Quiescing, Table, Leaf, Frame, Kernel, Thing, PlaceOf, State}
+use Rattle.kernel_rules.specs.Access.{Slot, found, Under, only, reached}
+use Rattle.kernel_rules.specs.Fitting.{fits}
+use Rattle.kernel_rules.specs.GracePeriods.{is_paging, lowest, other_waiting, quiescing_by, unflushed_by}
+use Rattle.kernel_rules.specs.References.{place_names}
+use Rattle.kernel_rules.specs.Rules.{Found, named, first_of, waits_of, flushes_of, not_vacant}
+use Rattle.kernel_rules.specs.Relies.{is_node as is_fixed_node}
+use Rattle.kernel_rules.proofs.Facts.{named_fit}
+use Rattle.kernel_rules.proofs.SoundCalls.{IsOpen}
+use Rattle.kernel_rules.proofs.SoundRuns.{opened}
+use Rattle.kernel_laws.specs.Nodes.{leads_to}
+use Rattle.kernel_laws.proofs.NodeSteps.{IsFitted}
+use Rattle.kernel_laws.proofs.NodesLaw.{runs_fit, leaf_fits}
+use Rattle.kernel_history.specs.Events.{events_of}
+use Rattle.kernel_history.specs.Graces.{GraceIs}
+use Rattle.kernel_history.specs.Legal.{IsLegal}
+use Rattle.kernel_history.specs.ObjectWords.{is_node}
+use Rattle.kernel_history.specs.Stamps.{stamp}
+use Rattle.kernel_history.specs.Trace.{Trace, Open, phase, state_after}
+use Rattle.kernel_history.proofs.Awaits.{awaits_are}
+use Rattle.kernel_history.proofs.Events.{state_is, run_of}
+use Rattle.kernel_history.proofs.Stays.{sound_of, opened_is}
+use Rattle.core_invariant.specs.Words.{PlaceIs}
+use Rattle.core_invariant.specs.Knows.{IsScanned, MayFill}
+
+-- The slot that core c reaches under a table of capabilities is in a leaf of capabilities.
+table_leaf : (x : Frame) → IsTrue (fits kind.Table x) → (y : Frame) → IsTrue (leads_to x y) → y ≡ Kernel Leaf
+table_leaf (Kernel Table) fit (Kernel Leaf) leads = refl
+table_leaf (Kernel Table) fit _ leads = absurd (false≢true leads)
+table_leaf _ fit y leads = absurd (false≢true fit)
+
+table_node : (x : Frame) → IsTrue (fits kind.Table x) → IsTrue (is_fixed_node x)
+table_node (Kernel Table) fit = refl
+table_node _ fit = absurd (false≢true fit)
+
+pub in_leaf : (setup : Setting) → IsSetting setup → (t : Trace) → IsLegal setup t → (c : ℕ) (call : Call) → phase t c ≡ Open call
+    → (n b : ℕ) (table : Capability) (at : Slot)
+    → named (state_after setup t) c n (only kind.Table) ≡ Found table → reached (state_after setup t) c (Under (found table) b) ≡ Some at
+    → (state_after setup t).frame at.node ≡ Kernel Leaf
+in_leaf setup setting t legal c call is n b table at names reaches =
+    table_leaf (s.frame table.frame) fit (s.frame at.node) (leaf_fits s o c is_open fitted (found table) b at
+    (table_node (s.frame table.frame) fit) reaches)
+  where
+    s : State
+    s = state_after setup t
+
+    o : ℕ → Bool
+    o = opened (events_of t)
+
+    is_open : IsOpen s o c
+    is_open = record { sound = sound_of setup setting t legal; is = opened_is t c call is }
+
+    fitted : IsFitted s o
+    fitted = subst (λ x. IsFitted x o) (sym (state_is setup t)) (runs_fit setup setting (events_of t) (run_of setup t legal))
+
+    fit : IsTrue (fits kind.Table (s.frame table.frame))
+    fit = named_fit s o c n kind.Table table is_open.sound is_open.is names
+
+-- What is found in a range of numbers passes the test, and is below the range's end.
+find_in : (p : ℕ → Bool) (a n e : ℕ) → find p (range_with_len a n) ≡ Some e → (p e ≡ true) × (e < a + n)
+find_in p a zero e h = absurd (cc)
+find_in p a (suc n) e h = tested (find_in p (a + 1) n e) (p a) refl h
+  where
+    some_inj : Some a ≡ Some e → a ≡ e
+    some_inj q = cc
+
+    later : (p e ≡ true) × (e < (a + 1) + n) → (p e ≡ true) × (e < a + suc n)
+    later r = (r.0, (let q = r.1 in omega (arith, q)))
+
+    tested : (find p (range_with_len (a + 1) n) ≡ Some e → (p e ≡ true) × (e < (a + 1) + n))
+        → (t : Bool) → p a ≡ t → cond t (Some a) (find p (range_with_len (a + 1) n)) ≡ Some e → (p e ≡ true) × (e < a + suc n)
+    tested more true t q = (ap p (sym (some_inj q)) ∙ t, (let k = some_inj q in omega (arith, k)))
+    tested more false t q = later (more q)
+
+-- No other core waits, where each has passed; and none is unflushed where flushes are not awaited.
+both : (a b : Bool) → (a && b) ≡ true → (a ≡ true) × (b ≡ true)
+both true b h = (refl, h)
+both false b h = absurd (false≢true h)
+
+differs : (d c : ℕ) (b : Bool) → (d == c) ≡ b → not b ≡ true → d ≢ c
+differs d c false is h = eqb-false d c is
+differs d c true is h = absurd (false≢true h)
+
+pub none_waits : (s : State) (c : ℕ) (x : Thing) → ((d : ℕ) → d < s.limits.cores → d ≢ c → (s.grace x).waits d ≡ false)
+    → waits_of s c x ≡ None
+none_waits s c x passed = by (other_waiting s c x) refl
+  where
+    by : (o : Option ℕ) → other_waiting s c x ≡ o → quiescing_by o ≡ None
+    by None is = refl
+    by (Some e) is =
+        let at = find_in (λ e. (s.grace x).waits e && not (e == c)) 0 s.limits.cores e is in
+        let p = both ((s.grace x).waits e) (not (e == c)) at.0 in
+        absurd (false≢true (sym (passed e (let q = at.1 in omega (arith, q)) (differs e c (e == c) refl p.1)) ∙ p.0))
+
+none_unflushed : (s : State) (x : Thing) → ((d : ℕ) → (s.grace x).unflushed d ≡ false) → flushes_of s x ≡ None
+none_unflushed s x flushed = by (lowest s (s.grace x).unflushed) refl
+  where
+    by : (o : Option ℕ) → lowest s (s.grace x).unflushed ≡ o → unflushed_by o ≡ None
+    by None is = refl
+    by (Some e) is = absurd (false≢true (sym (flushed e) ∙ (find_in (s.grace x).unflushed 0 s.limits.cores e is).0))
+
+leaf_node : (x : Frame) → x ≡ Kernel Leaf → IsTrue (is_node x)
+leaf_node x is = ap is_node is
+
+-- A place that holds nothing and may be filled.
+pub record IsVacant (s : State) (c node index : ℕ) : Type 0 where
+  pub vacant : not_vacant s c (PlaceOf node index) (s.place node index) ≡ None
+  pub names : place_names (s.place node index) ≡ []
+
+module _ (setup : Setting) (setting : IsSetting setup) (t : Trace) (legal : IsLegal setup t) (graces : (x : Thing) → GraceIs setup t x)
+    (c node index : ℕ)
+    (leaf : (state_after setup t).frame node ≡ Kernel Leaf) (cores : (state_after setup t).limits.cores ≡ setup.cores) where
+  abbrev s : State
+  s = state_after setup t
+
+  abbrev thing : Thing
+  thing = PlaceOf node index
+
+  some_entry : (v u : Entry) → Some v ≡ Some u → v ≡ u
+  some_entry v u h = cc
+
+  stamp_same : (x y : ℕ) → Some (entry.Quiescing x) ≡ Some (entry.Quiescing y) → x ≡ y
+  stamp_same x y h = cc
+
+  free_is : (n : ℕ) (p : Place) (r : ℕ) → PlaceIs n p r (Some entry.Free) → p ≡ Free
+  free_is n Free r is = refl
+  free_is n (Holds k) r is = absurd (not_free k is.0)
+    where
+      not_free : (k : Capability) → Some entry.Free ≡ Some (entry.Held k) → ⊥
+      not_free k h = cc
+  free_is n (Quiescing k) r is = absurd (not_free r is.says)
+    where
+      not_free : (r : ℕ) → Some entry.Free ≡ Some (entry.Quiescing r) → ⊥
+      not_free r h = cc
+
+  record IsRemovedSince (p : Place) (r x : ℕ) : Type 0 where
+    cap : Capability
+    place : p ≡ Quiescing cap
+    since : r ≡ x
+
+  removed_is : (n : ℕ) (p : Place) (r x : ℕ) → PlaceIs n p r (Some (entry.Quiescing x)) → IsRemovedSince p r x
+  removed_is n Free r x is = absurd (not_free is)
+    where
+      not_free : Some (entry.Quiescing x) ≡ Some entry.Free → ⊥
+      not_free h = cc
+  removed_is n (Holds k) r x is = absurd (not_held is.0)
+    where
+      not_held : Some (entry.Quiescing x) ≡ Some (entry.Held k) → ⊥
+      not_held h = cc
+  removed_is n (Quiescing k) r x is = record { cap = k; place = refl; since = sym (stamp_same x r is.says) }
+
+  -- its grace period waits for no flush
+  flushed : 1 ≤ stamp setup t thing → (d : ℕ) → (s.grace thing).unflushed d ≡ false
+  flushed some d = elim (cases_bool ((s.grace thing).unflushed d)) [
+    | inl is ↦ absurd (false≢true (sym (ap is_paging leaf) ∙ sym
+        ((awaits_are setup setting t legal node).place index (leaf_node (s.frame node) leaf) some)
+        ∙ ((graces thing).flushes d).awaited is))
+    | inr none ↦ none
+  ]
+
+  scanned_vacant : (x : ℕ) → IsRemovedSince (s.place node index) (stamp setup t thing) x → IsScanned setup t c thing x setup.cores
+      → IsVacant s c node index
+  scanned_vacant x removed scanned = record {
+    vacant = ap (not_vacant s c thing) removed.place
+        ∙ ap (λ o. first_of o (flushes_of s thing)) (none_waits s c thing
+        (λ d below other. scanned.passed d (subst (λ (n : ℕ). d < n) cores below) other removed.since))
+        ∙ none_unflushed s thing (flushed (let a = removed.since in let b = scanned.some in omega arith));
+    names = ap place_names removed.place;
+  }
+
+  pub vacant_by : (n : ℕ) (o : Option Entry) → PlaceIs n (s.place node index) (stamp setup t thing) o
+      → MayFill setup t c thing setup.cores o → IsVacant s c node index
+  vacant_by n None is may = absurd may
+  vacant_by n (Some entry.Free) is may =
+      let free = free_is n (s.place node index) (stamp setup t thing) is in record
+      { vacant = ap (not_vacant s c thing) free; names = ap place_names free }
+  vacant_by n (Some (entry.Held k)) is may = absurd may
+  vacant_by n (Some (entry.Closing by)) is may = absurd may
+  vacant_by n (Some (entry.Quiescing x)) is may = scanned_vacant x (removed_is n (s.place node index) (stamp setup t thing) x is) may
