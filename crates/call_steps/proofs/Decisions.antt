@@ -35,48 +35,32 @@ use Rattle.call_plans.specs.declared.plans.Target.{Target}
 use Rattle.call_plans.specs.declared.plans.Target.TheVariants.{Nowhere}
 use Rattle.call_plans.specs.declared.plans.Plan.{Plan}
 use Rattle.call_plans.specs.PlanOf.{any_cap, plan_of_retype, plan_of_make, plan_for}
-use Rattle.call_steps.specs.declared.refusals.Refusal.{Refusal}
-use Rattle.call_steps.specs.declared.refusals.Refusal.TheVariants as refusal
-use Rattle.call_steps.specs.declared.own.Own.{Own}
-use Rattle.call_steps.specs.declared.lookups.Met.{Met}
-use Rattle.call_steps.specs.declared.lookups.Met.TheVariants.{Finds, Refused}
-use Rattle.call_steps.specs.declared.stages.Act.{Act as ActType}
-use Rattle.call_steps.specs.declared.stages.Act.TheVariants.{Fill as fill_act, Remove as remove_act}
-use Rattle.call_steps.specs.declared.stages.Work.{Work}
-use Rattle.call_steps.specs.declared.stages.Work.TheVariants.{Lookup, Scan, Acquire, Act}
+use Rattle.call_acts.specs.declared.refusals.Refusal.{Refusal}
+use Rattle.call_acts.specs.declared.refusals.Refusal.TheVariants as refusal
+use Rattle.call_acts.specs.declared.own.Own.{Own}
+use Rattle.call_acts.specs.declared.lookups.Met.{Met}
+use Rattle.call_acts.specs.declared.lookups.Met.TheVariants.{Finds, Refused}
+use Rattle.call_acts.specs.declared.work.Act.{Act as ActType}
+use Rattle.call_acts.specs.declared.work.Act.TheVariants.{Fill as fill_act, Remove as remove_act}
+use Rattle.call_acts.specs.declared.work.Work.{Work}
+use Rattle.call_acts.specs.declared.work.Work.TheVariants.{Lookup, Scan, Acquire, Act}
 use Rattle.call_steps.specs.declared.stages.Stage.{Stage}
 use Rattle.call_steps.specs.declared.stages.Stage.TheVariants.{Enter, Undecided, Decided, Leave}
-use Rattle.call_steps.specs.declared.stages.Tail.{Tail}
-use Rattle.call_steps.specs.declared.stages.Tail.TheVariants.{Nothing, Quiesce}
+use Rattle.call_acts.specs.declared.work.Tail.{Tail}
+use Rattle.call_acts.specs.declared.work.Tail.TheVariants.{Nothing, Quiesce}
 use Rattle.call_steps.specs.declared.stages.ActiveCall.{ActiveCall}
-use Rattle.call_steps.specs.declared.stages.WorkStep.{WorkStep}
-use Rattle.call_steps.specs.declared.stages.WorkStep.TheVariants.{Goes, Acquires, Refuses as refuses_to, Answers}
-use Rattle.call_steps.specs.Refusals.{reply_of, refusal_of}
-use Rattle.call_steps.specs.Fills.{filled_if}
-use Rattle.call_steps.specs.Acts.{took_close, is_draw, took_act, act_ready, refuse, fills_with, removes_held, removes_at, act_begun}
-use Rattle.call_steps.specs.Lookups.{looks_under, looks_entry, looks_at, next_step, met_free, met_held}
+use Rattle.call_acts.specs.declared.work.WorkStep.{WorkStep}
+use Rattle.call_acts.specs.declared.work.WorkStep.TheVariants.{Goes, Acquires, Refuses as refuses_to, Answers}
+use Rattle.call_acts.specs.Refusals.{reply_of, refusal_of}
+use Rattle.call_acts.proofs.Refusing.{refusal_refuses}
+use Rattle.call_acts.specs.Fills.{filled_if}
+use Rattle.call_acts.specs.Acts.{took_close, is_draw, took_act, act_ready, refuse, fills_with, removes_held, removes_at, act_begun}
+use Rattle.call_acts.specs.Lookups.{looks_under, looks_entry, looks_at, next_step, met_free, met_held}
 use Rattle.call_steps.specs.Fits.{FoundFits, IsFirst, IsActive}
 use Rattle.call_steps.specs.Tails.{took_tail, tail_counts}
 use Rattle.call_plans.specs.After.{with_found, names_after, next_in, Next, NextName, NextFree, NextHeld, NextOwn, NextNothing, next_of}
 use Rattle.call_steps.specs.Steps.{GoesOn, landed, next_by, found_more, took_enter, named_one, took_found, took_end, took_look, took_scan, took_count, took_work, went_with, took_at, is_last, decides_at_name, is_last_name, work_ready, ready_at}
-use Rattle.call_steps.specs.Laws.{reply_at, Turns, DecidesOnce, Refuses, UnreadyRefuses, IsDecision, ReadyDecides, RefusalsAreReplies}
-
--- a refusal and the reply that says it
-
-refusal_refuses : (f : Refusal) → IsRefusal (reply_of f)
-refusal_refuses refusal.Raced = tt
-refusal_refuses f = tt
-
-refusal_back : (f : Refusal) → refusal_of (reply_of f) ≡ f
-refusal_back refusal.Raced = refl
-refusal_back f = refl
-
-reply_same : (r : Reply) → IsRefusal r → reply_of (refusal_of r) ≡ r
-reply_same (reply.Ok v) is = absurd is
-reply_same r is = refl
-
-pub refusals_are : RefusalsAreReplies
-refusals_are = record { refuses = refusal_refuses; back = refusal_back; same = reply_same }
+use Rattle.call_steps.specs.Laws.{reply_at, Turns, DecidesOnce, Refuses, UnreadyRefuses, IsDecision, ReadyDecides}
 
 -- a call is decided once
 

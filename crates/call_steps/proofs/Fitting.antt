@@ -64,27 +64,27 @@ use Rattle.call_plans.proofs.StepsOfPlans.{bound_is}
 use Rattle.call_plans.proofs.FewNames.{few_names}
 use Rattle.call_plans.proofs.RootedTargets.{rooted}
 use Rattle.call_plans.proofs.AfterNames.{NextBy, one_more}
-use Rattle.call_steps.specs.declared.refusals.Refusal.{Refusal}
-use Rattle.call_steps.specs.declared.refusals.Refusal.TheVariants as refusal
-use Rattle.call_steps.specs.declared.own.Own.{Own}
-use Rattle.call_steps.specs.declared.lookups.Met.TheVariants.{Finds, Refused}
-use Rattle.call_steps.specs.declared.stages.Act.{Act as ActType}
-use Rattle.call_steps.specs.declared.stages.Act.TheVariants.{Fill as fill_act, Remove as remove_act}
-use Rattle.call_steps.specs.declared.stages.Tail.{Tail}
-use Rattle.call_steps.specs.declared.stages.Tail.TheVariants.{Nothing, Quiesce}
+use Rattle.call_acts.specs.declared.refusals.Refusal.{Refusal}
+use Rattle.call_acts.specs.declared.refusals.Refusal.TheVariants as refusal
+use Rattle.call_acts.specs.declared.own.Own.{Own}
+use Rattle.call_acts.specs.declared.lookups.Met.TheVariants.{Finds, Refused}
+use Rattle.call_acts.specs.declared.work.Act.{Act as ActType}
+use Rattle.call_acts.specs.declared.work.Act.TheVariants.{Fill as fill_act, Remove as remove_act}
+use Rattle.call_acts.specs.declared.work.Tail.{Tail}
+use Rattle.call_acts.specs.declared.work.Tail.TheVariants.{Nothing, Quiesce}
 use Rattle.call_steps.specs.declared.stages.Stage.{Stage}
 use Rattle.call_steps.specs.declared.stages.Stage.TheVariants.{Enter, Undecided, Decided, Leave}
 use Rattle.call_steps.specs.declared.stages.ActiveCall.{ActiveCall}
 use Rattle.call_steps.specs.declared.stages.Told.TheVariants as told_as
-use Rattle.call_steps.specs.declared.stages.Work.{Work}
-use Rattle.call_steps.specs.declared.stages.Work.TheVariants.{Lookup, Scan, Acquire, Act}
-use Rattle.call_steps.specs.declared.stages.WorkStep.{WorkStep}
-use Rattle.call_steps.specs.declared.stages.WorkStep.TheVariants.{Goes, Acquires, Refuses, Answers}
-use Rattle.call_steps.specs.Refusals.{reply_of, refusal_of}
-use Rattle.call_steps.specs.Fills.{filled_if}
-use Rattle.call_steps.specs.Acts.{ActFits, close_left, act_left, took_close, took_act, refuse, dues, next_work, act_begun}
+use Rattle.call_acts.specs.declared.work.Work.{Work}
+use Rattle.call_acts.specs.declared.work.Work.TheVariants.{Lookup, Scan, Acquire, Act}
+use Rattle.call_acts.specs.declared.work.WorkStep.{WorkStep}
+use Rattle.call_acts.specs.declared.work.WorkStep.TheVariants.{Goes, Acquires, Refuses, Answers}
+use Rattle.call_acts.specs.Refusals.{reply_of, refusal_of}
+use Rattle.call_acts.specs.Fills.{filled_if}
+use Rattle.call_acts.specs.Acts.{ActFits, close_left, act_left, took_close, took_act, refuse, dues, next_work, act_begun}
 use Rattle.call_steps.specs.Tails.{took_tail, tail_counts}
-use Rattle.call_steps.specs.Lookups.{met_name, met_free, met_held}
+use Rattle.call_acts.specs.Lookups.{met_name, met_free, met_held}
 use Rattle.call_steps.specs.Steps.{Took, GoesOn, Decides, Returns, landed, found_more, next_by, took_enter, named_one, took_found, took_end, took_look, took_scan, took_count, took_work, went_with, is_spent, took_at, took, told, call_after}
 use Rattle.call_steps.proofs.Landing.{told_goes, told_decides}
 use Rattle.call_steps.specs.Fits.{ScanFits, WorkFits, StageFits, IsWanted, FoundFits, HasRoom, IsFirst, CountsWait, CountsAt, looks_later, names_left, steps_later, left_of_look, left_of_scan, left_of_pin, work_left, left_at, left_of, IsActive, CallFits, IsOwn, IsCore, left_for}

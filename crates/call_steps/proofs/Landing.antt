@@ -2,8 +2,8 @@
 use Rattle.std.proofs.Common.{◌≡◌, ℕ, refl}
 use Rattle.spk_nums.specs.declared.replies.Reply.{Reply}
 use Rattle.call_steps.specs.declared.stages.ActiveCall.{ActiveCall}
-use Rattle.call_steps.specs.declared.stages.WorkStep.{WorkStep}
-use Rattle.call_steps.specs.declared.stages.WorkStep.TheVariants.{Goes, Acquires, Refuses, Answers}
+use Rattle.call_acts.specs.declared.work.WorkStep.{WorkStep}
+use Rattle.call_acts.specs.declared.work.WorkStep.TheVariants.{Goes, Acquires, Refuses, Answers}
 use Rattle.call_steps.specs.declared.stages.Told.TheVariants as told_as
 use Rattle.call_steps.specs.Steps.{Took, GoesOn, Decides, Returns, landed, told, call_after}
 

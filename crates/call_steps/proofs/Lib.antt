@@ -1,4 +1,3 @@
-pub mod Frames
 pub mod Landing
 pub mod StepsFit
 pub mod Fitting

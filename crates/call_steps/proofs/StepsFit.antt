@@ -32,15 +32,15 @@ use Rattle.call_plans.specs.Bounds.{look_steps, act_steps}
 use Rattle.call_plans.specs.Rooted.{root_of, WantsRoot, IsRooted}
 use Rattle.call_plans.proofs.Roots.{earlier_is, Led, nth_led}
 use Rattle.call_plans.proofs.RootedTargets.{rooted}
-use Rattle.call_steps.specs.declared.own.Own.{Own}
-use Rattle.call_steps.specs.declared.stages.Act.{Act as ActType}
-use Rattle.call_steps.specs.declared.stages.Act.TheVariants.{Fill as fill_act, Remove as remove_act}
-use Rattle.call_steps.specs.declared.stages.WorkStep.{WorkStep}
-use Rattle.call_steps.specs.declared.stages.WorkStep.TheVariants.{Goes, Acquires, Refuses, Answers}
-use Rattle.call_steps.specs.declared.stages.Due.{Due}
-use Rattle.call_steps.specs.Acts.{ActFits, act_left, looked, cap_dues, dues, acquires, scans, stamp_in, filling, fills_with, removing, removes_held, removes_at, act_begun}
+use Rattle.call_acts.specs.declared.own.Own.{Own}
+use Rattle.call_acts.specs.declared.work.Act.{Act as ActType}
+use Rattle.call_acts.specs.declared.work.Act.TheVariants.{Fill as fill_act, Remove as remove_act}
+use Rattle.call_acts.specs.declared.work.WorkStep.{WorkStep}
+use Rattle.call_acts.specs.declared.work.WorkStep.TheVariants.{Goes, Acquires, Refuses, Answers}
+use Rattle.call_acts.specs.declared.work.Due.{Due}
+use Rattle.call_acts.specs.Acts.{ActFits, act_left, looked, cap_dues, dues, acquires, scans, stamp_in, filling, fills_with, removing, removes_held, removes_at, act_begun}
 use Rattle.call_steps.specs.Tails.{tail_left}
-use Rattle.call_steps.specs.Lookups.{looks_under, looks_entry, looks_at, next_step}
+use Rattle.call_acts.specs.Lookups.{looks_under, looks_entry, looks_at, next_step}
 use Rattle.call_steps.specs.Fits.{ScanFits, WorkFits, TailFits, IsWanted, FoundFits, CountsWait, looks_later, left_of_scan, work_left, IsOwn}
 
 -- where a step of the work leads to fits, where so many counts are acquired, and leaves at most so many steps before these are

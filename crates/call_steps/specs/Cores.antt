@@ -8,7 +8,7 @@ use Rattle.word_map.specs.Word.{ClockAt}
 use Rattle.word_map.specs.Moves.{Move, LoadOf}
 use Rattle.kernel_rules.specs.Laws.{calls_counted}
 use Rattle.call_plans.specs.PlanOf.{plan_for}
-use Rattle.call_steps.specs.declared.own.Own.{Own}
+use Rattle.call_acts.specs.declared.own.Own.{Own}
 use Rattle.call_steps.specs.declared.stages.Stage.TheVariants.{Enter}
 use Rattle.call_steps.specs.declared.stages.ActiveCall.{ActiveCall}
 use Rattle.call_steps.specs.declared.stages.Absorbed.{Absorbed}

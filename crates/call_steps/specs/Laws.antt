@@ -2,12 +2,12 @@
 use Rattle.std.specs.Prelude.{◌≡◌, ℕ, true, false, Option, Some, None}
 use Rattle.spk_nums.specs.declared.replies.Reply.{Reply}
 use Rattle.kernel_rules.specs.Laws.{IsRefusal}
-use Rattle.call_steps.specs.declared.refusals.Refusal.{Refusal}
-use Rattle.call_steps.specs.declared.own.Own.{Own}
+use Rattle.call_acts.specs.declared.refusals.Refusal.{Refusal}
+use Rattle.call_acts.specs.declared.own.Own.{Own}
 use Rattle.call_steps.specs.declared.stages.Stage.{Stage}
 use Rattle.call_steps.specs.declared.stages.Stage.TheVariants.{Enter, Undecided, Decided, Leave}
 use Rattle.call_steps.specs.declared.stages.ActiveCall.{ActiveCall}
-use Rattle.call_steps.specs.Refusals.{reply_of, refusal_of}
+use Rattle.call_acts.specs.Refusals.{reply_of, refusal_of}
 use Rattle.call_steps.specs.Steps.{Took, GoesOn, Decides, Returns, took, is_ready}
 use Rattle.call_steps.specs.Fits.{IsActive}
 
@@ -49,9 +49,3 @@ IsDecision (Returns r stamp) = ⊥
 abbrev pub ReadyDecides : Type 0
 ReadyDecides = (own : Own) (a : ActiveCall) (found : ℕ) → IsActive own a → is_ready a ≡ true → reply_at a.stage ≡ None → IsDecision
     (took own a found)
-
--- A refusal and the reply that says it are one, and no refusal says `ok`.
-pub record RefusalsAreReplies : Type 0 where
-  pub refuses : (f : Refusal) → IsRefusal (reply_of f)
-  pub back : (f : Refusal) → refusal_of (reply_of f) ≡ f
-  pub same : (r : Reply) → IsRefusal r → reply_of (refusal_of r) ≡ r

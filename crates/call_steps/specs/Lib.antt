@@ -1,9 +1,5 @@
-pub mod Refusals
 pub mod View
-pub mod Fills
 pub mod Tails
-pub mod Acts
-pub mod Lookups
 pub mod Steps
 pub mod Cores
 pub mod Fits

@@ -27,24 +27,24 @@ use Rattle.call_plans.specs.declared.plans.Decides.{Decides as Deciding}
 use Rattle.call_plans.specs.declared.plans.Decides.TheVariants.{LeafEntry}
 use Rattle.call_plans.specs.declared.plans.Plan.{Plan}
 use Rattle.call_plans.specs.After.{Next, NextName, NextFree, NextHeld, NextOwn, NextNothing, next_of}
-use Rattle.call_steps.specs.declared.refusals.Refusal.TheVariants as refusal
-use Rattle.call_steps.specs.declared.own.Own.{Own}
-use Rattle.call_steps.specs.declared.lookups.Met.{Met}
-use Rattle.call_steps.specs.declared.lookups.Met.TheVariants.{Finds, Refused}
-use Rattle.call_steps.specs.declared.stages.Act.{Act as ActType}
-use Rattle.call_steps.specs.declared.stages.Work.{Work}
-use Rattle.call_steps.specs.declared.stages.Work.TheVariants.{Lookup, Scan, Acquire, Act}
-use Rattle.call_steps.specs.declared.stages.Tail.{Tail}
+use Rattle.call_acts.specs.declared.refusals.Refusal.TheVariants as refusal
+use Rattle.call_acts.specs.declared.own.Own.{Own}
+use Rattle.call_acts.specs.declared.lookups.Met.{Met}
+use Rattle.call_acts.specs.declared.lookups.Met.TheVariants.{Finds, Refused}
+use Rattle.call_acts.specs.declared.work.Act.{Act as ActType}
+use Rattle.call_acts.specs.declared.work.Work.{Work}
+use Rattle.call_acts.specs.declared.work.Work.TheVariants.{Lookup, Scan, Acquire, Act}
+use Rattle.call_acts.specs.declared.work.Tail.{Tail}
 use Rattle.call_steps.specs.declared.stages.Stage.{Stage}
 use Rattle.call_steps.specs.declared.stages.Stage.TheVariants.{Enter, Undecided, Decided, Leave}
 use Rattle.call_steps.specs.declared.stages.ActiveCall.{ActiveCall}
-use Rattle.call_steps.specs.declared.stages.WorkStep.{WorkStep}
-use Rattle.call_steps.specs.declared.stages.WorkStep.TheVariants.{Goes, Acquires, Refuses, Answers}
+use Rattle.call_acts.specs.declared.work.WorkStep.{WorkStep}
+use Rattle.call_acts.specs.declared.work.WorkStep.TheVariants.{Goes, Acquires, Refuses, Answers}
 use Rattle.call_steps.specs.declared.stages.Told.{Told}
 use Rattle.call_steps.specs.declared.stages.Told.TheVariants as told_as
-use Rattle.call_steps.specs.Refusals.{reply_of, refusal_of}
-use Rattle.call_steps.specs.Acts.{act_move, took_act, act_ready, next_work, refuse}
-use Rattle.call_steps.specs.Lookups.{next_step, met_name, met_free, met_held}
+use Rattle.call_acts.specs.Refusals.{reply_of, refusal_of}
+use Rattle.call_acts.specs.Acts.{act_move, took_act, act_ready, next_work, refuse}
+use Rattle.call_acts.specs.Lookups.{next_step, met_name, met_free, met_held}
 use Rattle.call_steps.specs.Tails.{tail_move, took_tail, tail_counts}
 
 -- the word of a core that is or is not inside a call, with the stamp of its last exit

@@ -10,9 +10,9 @@ ghost use Rattle.kernel_rules.specs.Laws.{calls_counted};
 ghost use Rattle.call_steps.specs.Cores.{started, end_of, begun, move_of, ready_of, absorbed, told_of_step};
 ghost use Rattle.call_steps.specs.Fits.{IsCore, steps_left};
 
-use crate::own::Own;
 use crate::stages::{Absorbed, ActiveCall, Stage, Told};
 use crate::steps::stage_op;
+use call_acts::Own;
 use call_plans::{Caps, plan_of};
 use spk_nums::{Call, CoreEnd, CoreNo, FrameNo, Reply, Setup, Stamp, Translations, WordOp};
 use stage_pins::AcquiredCounts;

@@ -1,6 +1,6 @@
 //! What is proved of the steps of calls, as laws about plain values.
 
-ghost use Rattle.call_steps.specs.Laws.{DecidesOnce, UnreadyRefuses, ReadyDecides, RefusalsAreReplies};
+ghost use Rattle.call_steps.specs.Laws.{DecidesOnce, UnreadyRefuses, ReadyDecides};
 
 /// A call is decided once, and returns the reply with which it was decided.
 #[tactic(auto, using(crate::proofs::Decisions::decides_once))]
@@ -18,10 +18,4 @@ pub fn unready_refuses()
 #[tactic(auto, using(crate::proofs::Decisions::ready_decides))]
 pub fn ready_decides()
     ensures { ReadyDecides }
-{}
-
-/// A refusal and the reply that says it are one, and no refusal says `ok`.
-#[tactic(auto, using(crate::proofs::Decisions::refusals_are))]
-pub fn refusals_are_replies()
-    ensures { RefusalsAreReplies }
 {}

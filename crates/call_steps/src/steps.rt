@@ -14,17 +14,17 @@ ghost use Rattle.stage_quiet.specs.Scan.{quiet_after, quiet_end};
 ghost use Rattle.std.specs.Prelude.{nat_le, []};
 ghost use Rattle.call_plans.specs.GoesBy.{place_of};
 ghost use Rattle.call_plans.specs.After.{with_found};
-ghost use Rattle.call_steps.specs.Acts.{refuse, act_begun};
-ghost use Rattle.call_steps.specs.Lookups.{looks_under, looks_entry, looks_at, met_free, met_held};
-ghost use Rattle.call_steps.specs.declared.stages.WorkStep.TheVariants.{Goes};
-ghost use Rattle.call_steps.specs.declared.stages.Work.TheVariants.{Lookup, Scan, Acquire};
+ghost use Rattle.call_acts.specs.Acts.{refuse, act_begun};
+ghost use Rattle.call_acts.specs.Lookups.{looks_under, looks_entry, looks_at, met_free, met_held};
+ghost use Rattle.call_acts.specs.declared.work.WorkStep.TheVariants.{Goes};
+ghost use Rattle.call_acts.specs.declared.work.Work.TheVariants.{Lookup, Scan, Acquire};
 
-use crate::acts::{act_op, act_ready, act_took, begin_act, next_work, refuse};
-use crate::lookups::{Met, frame_of, met_free, met_held, met_name};
-use crate::own::Own;
-use crate::refusals::Refusal;
-use crate::stages::{Act, ActiveCall, Stage, Tail, Told, Work, WorkStep};
+use crate::stages::{ActiveCall, Stage, Told};
 use crate::tails::{tail_op, took_tail};
+use call_acts::{
+    Act, Met, Own, Refusal, Tail, Work, WorkStep, act_op, act_ready, act_took, begin_act, frame_of,
+    met_free, met_held, met_name, next_work, refuse,
+};
 use call_plans::{Decides, Next, Spot};
 use frame_words::CoreWord;
 use spk_nums::{CapId, CoreNo, EntryNo, FrameNo, Reply, StageEnd, Stamp, WordOp};

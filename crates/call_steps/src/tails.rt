@@ -8,7 +8,8 @@ ghost use Rattle.call_steps.specs.Tails.{is_ok, tail_move, stamp_of, took_tail};
 ghost use Rattle.stage_pins.specs.Held.{AllFit};
 ghost use Rattle.call_steps.specs.Fits.{TailFits};
 
-use crate::stages::{Stage, Tail};
+use crate::stages::Stage;
+use call_acts::Tail;
 use spk_nums::{Reply, Stamp, WordOp};
 use stage_pins::AcquiredCounts;
 use word_map::Layout;

@@ -29,7 +29,7 @@ use Rattle.call_plans.specs.declared.plans.Name.{Name}
 use Rattle.call_plans.specs.declared.plans.Plan.{Plan}
 use Rattle.call_plans.specs.GoesBy.{wants}
 use Rattle.call_plans.specs.After.{Leads, Next, NextName, NextFree, NextHeld, NextOwn, NextNothing, next_of}
-use Rattle.call_steps.specs.declared.fills.Fill.{Fill}
+use Rattle.call_acts.specs.declared.fills.Fill.{Fill}
 use Rattle.entry_words.specs.declared.entry.Entry.{Entry}
 use Rattle.entry_words.specs.declared.entry.Entry.TheVariants as entry
 use Rattle.entry_words.specs.EntryWord.{entry_of_word}
@@ -41,10 +41,10 @@ use Rattle.stage_quiet.specs.declared.quiet.Quiet.{Quiet}
 use Rattle.stage_quiet.specs.declared.quiet.Quiet.TheVariants.{AtCore, AtFlush}
 use Rattle.stage_pins.specs.declared.pin.Pin.{Pin}
 use Rattle.stage_pins.specs.declared.pin.Pin.TheVariants.{AtLoad, AtCompare as pin_compare}
-use Rattle.call_steps.specs.declared.stages.Act.{Act as ActOf}
-use Rattle.call_steps.specs.declared.stages.Act.TheVariants.{Fill as fill_act, Remove as remove_act}
-use Rattle.call_steps.specs.declared.stages.Work.{Work}
-use Rattle.call_steps.specs.declared.stages.Work.TheVariants.{Lookup, Scan, Acquire, Act}
+use Rattle.call_acts.specs.declared.work.Act.{Act as ActOf}
+use Rattle.call_acts.specs.declared.work.Act.TheVariants.{Fill as fill_act, Remove as remove_act}
+use Rattle.call_acts.specs.declared.work.Work.{Work}
+use Rattle.call_acts.specs.declared.work.Work.TheVariants.{Lookup, Scan, Acquire, Act}
 use Rattle.call_steps.specs.declared.stages.ActiveCall.{ActiveCall}
 use Rattle.core_invariant.specs.Knows.{IsCount, IsReached, HasFound, LookIs, LooksUp, own_in, NamesAre, LooksFor, IsScanned, MayFill, IsFill, IsRemoval, KnowsClose, KnowsAct, KnowsQuiet, KnowsStore, HasLoaded, KnowsWork, KnowsUndecided}
 

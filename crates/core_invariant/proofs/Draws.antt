@@ -1,5 +1,5 @@
 -- The way in which a call draws a stamp by raising the clock, and is decided: grace periods begin at the stamp.
-use Rattle.std.proofs.Common.{◌≡◌, ◌≢◌, ℕ, ◌+◌, ◌%◌, ◌^◌, ◌<◌, true, false, if◌then◌else◌, ◌∷◌, Some, None, IsTrue, inl, arith, refl, sym, ◌∙◌, ap, subst}
+use Rattle.std.proofs.Common.{◌≡◌, ◌≢◌, ℕ, ◌+◌, ◌%◌, ◌^◌, ◌<◌, ◌≤◌, true, false, if◌then◌else◌, ◌∷◌, Some, None, IsTrue, inl, arith, refl, sym, ◌∙◌, ap, subst}
 use Rattle.spk_nums.specs.Setting.{Setting, IsSetting}
 use Rattle.spk_nums.specs.declared.replies.Reply.{Reply}
 use Rattle.word_map.specs.Word.{Word, ClockAt}
@@ -17,10 +17,10 @@ use Rattle.call_steps.specs.declared.stages.Stage.{Stage}
 use Rattle.call_steps.specs.declared.stages.ActiveCall.{ActiveCall}
 use Rattle.call_steps.specs.View.{Core}
 use Rattle.core_invariant.specs.Words.{WordIs}
-use Rattle.core_invariant.specs.Knows.{phase_at, Knows, CoreIs}
-use Rattle.core_invariant.specs.Stands.{holds, held_by, times_of, SumIs, Stands}
-use Rattle.core_invariant.proofs.WordFrames.{SameFor, marks_own, carry_marks, carry_words}
-use Rattle.core_invariant.proofs.Calm.{IsCalm, calm_own, counted_grows, plain_exit}
+use Rattle.core_invariant.specs.Knows.{phase_at, Knows, WorksIn, CoreIs}
+use Rattle.core_invariant.specs.Stands.{holds, held_by, times_of, counted_in, SumIs, Stands}
+use Rattle.core_invariant.proofs.WordFrames.{ReadsAlike, StaysSaid, marks_own, carry_marks, carry_words}
+use Rattle.core_invariant.proofs.Calm.{plain_exit}
 use Rattle.core_invariant.proofs.Carries.{counts_on}
 use Rattle.core_invariant.proofs.Good.{IsGood}
 use Rattle.core_invariant.proofs.Writes.{clock_small}
@@ -50,12 +50,11 @@ module _ (setup : Setting) (setting : IsSetting setup) (cores : ℕ → Core) (t
   pub draws_on : IsTrue (raises_clock a.call) → Lands setup after ClockAt
       → ((w : Word) → (holds after).marks w ≡ (holds (cores c)).marks w)
       → phase_at a.call a.stage ≡ Open a.call → phase_at a.call stage ≡ Decided a.call r
-      → IsCalm (state_after setup t) (state_after setup (e ∷ t)) c
-      → ((state_after setup (e ∷ t)).core c).counted ≡ ((state_after setup t).core c).counted + 1
-      → made ≡ ((state_after setup (e ∷ t)).core c).counted
+      → ReadsAlike setup t e
+      → counted_in setup (state_after setup t) + 1 ≤ counted_in setup (state_after setup (e ∷ t))
+      → WorksIn (record (cores c).own { made = made }) (state_after setup (e ∷ t)) c
       → flushes_at t e ≡ false
-      → ((w : Word) → w ≢ ClockAt → marked_by setup t w ≢ Some c
-      → SameFor (state_after setup t) (state_after setup (e ∷ t)) (times_of setup t) (times_of setup (e ∷ t)) w)
+      → ((w : Word) → w ≢ ClockAt → marked_by setup t w ≢ Some c → StaysSaid setup cores t e w)
       → ((w : Word) → marked_by setup t w ≡ Some c
       → WordIs (state_after setup (e ∷ t)) (times_of setup (e ∷ t)) w ((holds after).stands w))
       → ((f : ℕ) → SumIs setup (held_by (put cores c after)) (e ∷ t) f)
@@ -63,8 +62,8 @@ module _ (setup : Setting) (setting : IsSetting setup) (cores : ℕ → Core) (t
       → (IsAlone t e → r ≡ alone (state_after setup t) c a.call)
       → Knows setup (e ∷ t) c (cores c).own.table (next_at a a.found stage)
       → IsGood setup cores t e after
-  draws_on raises lands still opens closes calm more counts no_flush same held sums may first knows =
-      let marks = carry_marks setup cores t e after still calm.frame refl refl stands.marks in
+  draws_on raises lands still opens closes alike more works no_flush same held sums may first knows =
+      let marks = carry_marks setup cores t e after still alike refl refl stands.marks in
       let is : CoreIs setup (cores c) t c = core_is setup setting cores t stands c here a active in
       let low = clock_small setup setting cores t stands in
       record {
@@ -88,10 +87,9 @@ module _ (setup : Setting) (setting : IsSetting setup) (cores : ℕ → Core) (t
         near = inner_near setup setting cores t stands c here a active draw (Some r) None
             (record { moves = (raises, refl); near = inl tt });
         marks = marks;
-        words = carry_words setup cores t e after still calm.frame refl refl same tt held stands.words;
+        words = carry_words setup cores t e after still alike refl refl same tt held stands.words;
         sums = sums;
-        draws = (let d = stands.draws in let b = raised in let g = counted_grows setup (state_after setup t) (state_after setup (e ∷ t)) c
-            calm here more in omega arith);
+        draws = (let d = stands.draws in let b = raised in let g = more in omega arith);
         time = record {
           rises = (let b = raised in omega arith);
           draws = λ x is. (refl, (let b = raised in omega arith));
@@ -103,8 +101,7 @@ module _ (setup : Setting) (setting : IsSetting setup) (cores : ℕ → Core) (t
           number = is.number;
           shape = is.shape;
           limit = is.limit;
-          works = calm_own (state_after setup t) (state_after setup (e ∷ t)) c (cores c).own after.own calm
-              (ap (λ (m : ℕ). record (cores c).own { made = m }) counts) is.works;
+          works = works;
           exit = is.exit ∙ sym (plain_exit t e refl c);
           flushed = flush_stored-own c e t refl ∙ is.flushed ∙ sym
               (flush_of-own c e t refl ∙ ap (λ b. if b then clock setup t else flush_of t c) no_flush);

@@ -28,12 +28,12 @@ use Rattle.kernel_history.specs.Stamps.{begins_in, ends_in, flushes_in}
 use Rattle.kernel_history.proofs.Small.{last_small}
 use Rattle.kernel_history.proofs.Steps.{phase-own, steps_in_call-own}
 use Rattle.call_steps.specs.declared.stages.Stage.{Stage}
-use Rattle.call_steps.specs.declared.stages.Tail.TheVariants.{Nothing}
+use Rattle.call_acts.specs.declared.work.Tail.TheVariants.{Nothing}
 use Rattle.call_steps.specs.declared.stages.Stage.TheVariants.{Enter, Undecided, Decided, Leave}
 use Rattle.call_steps.specs.declared.stages.ActiveCall.{ActiveCall}
 use Rattle.call_steps.specs.View.{Core}
 use Rattle.call_steps.specs.Fits.{IsCore, IsActive, CallFits, left_at}
-use Rattle.core_invariant.specs.Knows.{phase_at, Knows, IsIn, CallIs, CoreIs}
+use Rattle.core_invariant.specs.Knows.{phase_at, Knows, IsIn, CallIs, WorksIn, CoreIs}
 use Rattle.core_invariant.specs.Stands.{done_by, holds_at, holds_in, holds, held_by, Stands}
 use Rattle.core_invariant.proofs.Markers.{phase_in, phase_call}
 use Rattle.core_invariant.proofs.WordFrames.{marks_own, settled_on, load_keeps, load_marks, load_words}
@@ -135,18 +135,25 @@ module _ (setup : Setting) (setting : IsSetting setup) (cores : ℕ → Core) (t
     pub inner_near : IsOfCall setup t c a.call move → StepsNear setup t inner
     inner_near of_call = record { call = a.call; is_of = is_of; near = of_call.near }
 
+    -- where a step leaves the frames the core works where it did
+    pub inner_works : (made : ℕ) → IsCalm (state_after setup t) (state_after setup (inner ∷ t)) c
+        → made ≡ ((state_after setup (inner ∷ t)).core c).counted
+        → WorksIn (record (cores c).own { made = made }) (state_after setup (inner ∷ t)) c
+    inner_works made calm counts =
+        calm_own (state_after setup t) (state_after setup (inner ∷ t)) c (cores c).own (record (cores c).own { made = made }) calm
+        (ap (λ (m : ℕ). record (cores c).own { made = m }) counts) core_is.works
+
     pub inner_own : returns ≡ None → IsPlain setup t inner → (made : ℕ) (found : List Capability) (stage : Stage)
-        → IsCore (core_at (cores c) made (next_at a found stage)) → IsCalm (state_after setup t) (state_after setup (inner ∷ t)) c
-        → made ≡ ((state_after setup (inner ∷ t)).core c).counted → after_decide decides (phase_at a.call a.stage) ≡ phase_at a.call stage
+        → IsCore (core_at (cores c) made (next_at a found stage))
+        → WorksIn (record (cores c).own { made = made }) (state_after setup (inner ∷ t)) c → after_decide decides (phase_at a.call a.stage) ≡ phase_at a.call stage
         → Knows setup (inner ∷ t) c (cores c).own.table (next_at a found stage)
         → CoreIs setup (core_at (cores c) made (next_at a found stage)) (inner ∷ t) c
-    inner_own none plain made found stage fits calm counts at knows = record {
+    inner_own none plain made found stage fits works at knows = record {
       fits = fits;
       number = core_is.number;
       shape = core_is.shape;
       limit = core_is.limit;
-      works = calm_own (state_after setup t) (state_after setup (inner ∷ t)) c (cores c).own (record (cores c).own { made = made }) calm
-          (ap (λ (m : ℕ). record (cores c).own { made = m }) counts) core_is.works;
+      works = works;
       exit = core_is.exit ∙ sym (plain_exit t inner none c);
       flushed = plain_flushed setup t inner plain c core_is.flushed;
       active = record {
@@ -215,8 +222,7 @@ module _ (setup : Setting) (setting : IsSetting setup) (cores : ℕ → Core) (t
         draws = (let d = stands.draws in let b = plain.same in omega arith);
         time = plain_time setup t e plain;
         leaves = tt;
-        own = inner_own move None None refl plain (cores c).own.made found stage lands.fits (calm_same (state_after setup t) c)
-            core_is.works.made at
+        own = inner_own move None None refl plain (cores c).own.made found stage lands.fits core_is.works at
             (knows (carries_own setup setting t stands.legal e follows (plain_time setup t e plain) stands.graces refl refl refl));
       }
 
@@ -278,7 +284,7 @@ module _ (setup : Setting) (setting : IsSetting setup) (cores : ℕ → Core) (t
         time = plain_time setup t e plain;
         leaves = tt;
         own = inner_own move (Some r) None refl plain ((cores c).own.made + calls_counted r) found (Decided r None Nothing) lands.fits
-            calm (counts now)
+            (inner_works move (Some r) None ((cores c).own.made + calls_counted r) calm (counts now))
             (ap (after_decide (Some r)) opens) tt;
       }
     where

@@ -20,7 +20,7 @@ use Rattle.kernel_history.proofs.Laws.{not_inside, not_changed}
 use Rattle.call_steps.specs.declared.stages.ActiveCall.{ActiveCall}
 use Rattle.call_steps.specs.View.{Core}
 use Rattle.kernel_rules.specs.Laws.{calls_counted}
-use Rattle.call_steps.specs.declared.stages.Tail.TheVariants.{Nothing}
+use Rattle.call_acts.specs.declared.work.Tail.TheVariants.{Nothing}
 use Rattle.call_steps.specs.declared.stages.Stage.TheVariants.{Decided}
 use Rattle.call_steps.specs.Steps.{Took}
 use Rattle.call_steps.specs.Cores.{core_after, told_by}

@@ -78,6 +78,23 @@ mark_same s s' (FlushAt c) x frames = refl
 mark_same s s' (LiveAt l) x frames = refl
 mark_same s s' ClockAt x frames = refl
 
+-- A step leaves the marks of all words readable as they were: where it changes what a frame holds, the words of the frame carry no mark
+-- before and none after.
+abbrev pub ReadsAlike : Setting → Trace → Step → Type 0
+ReadsAlike setup t e =
+    (w : Word) → mark_of (state_after setup (e ∷ t)) w (last_left setup (e ∷ t) w) ≡ mark_of (state_after setup t) w
+    (last_left setup (e ∷ t) w)
+
+pub reads_alike : (setup : Setting) (t : Trace) (e : Step)
+    → ((f : ℕ) → (state_after setup (e ∷ t)).frame f ≡ (state_after setup t).frame f) → ReadsAlike setup t e
+reads_alike setup t e frames w = mark_same (state_after setup t) (state_after setup (e ∷ t)) w (last_left setup (e ∷ t) w) frames
+
+-- What is said of a word is said of it after the step.
+abbrev pub StaysSaid : Setting → (ℕ → Core) → Trace → Step → Word → Type 0
+StaysSaid setup cores t e w =
+    WordIs (state_after setup t) (times_of setup t) w (settled setup (held_by cores) t w)
+    → WordIs (state_after setup (e ∷ t)) (times_of setup (e ∷ t)) w (settled setup (held_by cores) t w)
+
 -- A word gets the mark of a core by that core's own step on it: a core newly holds none but the word of its step.
 pub marks_own : (setup : Setting) (cores : ℕ → Core) (t : Trace) (e : Step) (after : Core)
     → ((w : Word) → w ≢ word_of e.move → (holds after).marks w ≡ (holds (cores e.core)).marks w)
@@ -278,7 +295,7 @@ module _ (setup : Setting) (cores : ℕ → Core) (t : Trace) (e : Step) (after 
 -- stand for may be another word than before.
 module _ (setup : Setting) (cores : ℕ → Core) (t : Trace) (e : Step) (after : Core)
     (still : (w : Word) → (holds after).marks w ≡ (holds (cores e.core)).marks w)
-    (frames : (f : ℕ) → (state_after setup (e ∷ t)).frame f ≡ (state_after setup t).frame f)
+    (alike : ReadsAlike setup t e)
     (was : marked_by setup t (word_of e.move) ≡ None) (now : mark_of (state_after setup t) (word_of e.move) (left_of e.move e.found) ≡
     None) where
   abbrev pub carried : ℕ → Holding
@@ -293,13 +310,11 @@ module _ (setup : Setting) (cores : ℕ → Core) (t : Trace) (e : Step) (after 
 
   away_mark : (w : Word) → w ≢ word_of e.move → marked_by setup (e ∷ t) w ≡ marked_by setup t w
   away_mark w there =
-      mark_same (state_after setup t) (state_after setup (e ∷ t)) w (last_left setup (e ∷ t) w) frames
-      ∙ ap (mark_of (state_after setup t) w) (last_left-there setup w e t there)
+      alike w ∙ ap (mark_of (state_after setup t) w) (last_left-there setup w e t there)
 
   bare_here : (w : Word) → w ≡ word_of e.move → marked_by setup (e ∷ t) w ≡ None
   bare_here w here =
-      mark_same (state_after setup t) (state_after setup (e ∷ t)) w (last_left setup (e ∷ t) w) frames
-      ∙ ap (mark_of (state_after setup t) w) (last_left-here setup w e t here) ∙ ap
+      alike w ∙ ap (mark_of (state_after setup t) w) (last_left-here setup w e t here) ∙ ap
       (λ v. mark_of (state_after setup t) v (left_of e.move e.found)) here ∙ now
 
   same_mark : (w : Word) → marked_by setup (e ∷ t) w ≡ marked_by setup t w
@@ -335,8 +350,7 @@ module _ (setup : Setting) (cores : ℕ → Core) (t : Trace) (e : Step) (after 
       ap (λ o. settled_by o carried w (last_left setup (e ∷ t) w)) (away_mark w there ∙ own) ∙ ap (λ k. (holds k).stands w)
       (put_same cores e.core after e.core refl)
 
-  pub carry_words : ((w : Word) → w ≢ word_of e.move → marked_by setup t w ≢ Some e.core
-      → SameFor (state_after setup t) (state_after setup (e ∷ t)) (times_of setup t) (times_of setup (e ∷ t)) w)
+  pub carry_words : ((w : Word) → w ≢ word_of e.move → marked_by setup t w ≢ Some e.core → StaysSaid setup cores t e w)
       → WordIs (state_after setup (e ∷ t)) (times_of setup (e ∷ t)) (word_of e.move) (left_of e.move e.found)
       → ((w : Word) → marked_by setup t w ≡ Some e.core
       → WordIs (state_after setup (e ∷ t)) (times_of setup (e ∷ t)) w ((holds after).stands w))
@@ -352,8 +366,7 @@ module _ (setup : Setting) (cores : ℕ → Core) (t : Trace) (e : Step) (after 
       stays : w ≢ word_of e.move → marked_by setup t w ≢ Some e.core
           → WordIs (state_after setup (e ∷ t)) (times_of setup (e ∷ t)) w (settled setup carried (e ∷ t) w)
       stays there free = subst (WordIs (state_after setup (e ∷ t)) (times_of setup (e ∷ t)) w) (sym (others_settled w there free))
-          (word_stays (state_after setup t) (state_after setup (e ∷ t)) (times_of setup t) (times_of setup (e ∷ t)) w
-          (settled setup (held_by cores) t w) (same w there free) (words w))
+          (same w there free (words w))
 
       by : w ≢ word_of e.move → (o : Option ℕ) → marked_by setup t w ≡ o
           → WordIs (state_after setup (e ∷ t)) (times_of setup (e ∷ t)) w (settled setup carried (e ∷ t) w)

@@ -34,18 +34,18 @@ use Rattle.call_steps.specs.Cores.{fresh}
 use Rattle.kernel_history.specs.Marking.{marked_by}
 use Rattle.core_invariant.specs.Words.{count_room, WordIs}
 use Rattle.core_invariant.proofs.Sounds.{limits_of}
-use Rattle.core_invariant.specs.Knows.{phase_at, KnowsAt, Knows, IsCount, CallIs, CoreIs}
-use Rattle.core_invariant.specs.Stands.{is_done, holds_at, holds_in, holds, held_by, times_of, SumIs, Stands}
-use Rattle.core_invariant.proofs.WordFrames.{marks_own, settled_on, write_marks, write_words, carry_marks, carry_words}
+use Rattle.core_invariant.specs.Knows.{phase_at, KnowsAt, Knows, IsCount, CallIs, WorksIn, CoreIs}
+use Rattle.core_invariant.specs.Stands.{is_done, holds_at, holds_in, holds, held_by, times_of, counted_in, SumIs, Stands}
+use Rattle.core_invariant.proofs.WordFrames.{marks_own, settled_on, write_marks, write_words, ReadsAlike, reads_alike, StaysSaid, word_stays, carry_marks, carry_words}
 use Rattle.core_invariant.proofs.Sums.{sums_stay}
-use Rattle.core_invariant.specs.Holding.{nothing, count_of, holds_counts}
+use Rattle.core_invariant.specs.Holding.{nothing, count_of, holds_counts, settled}
 use Rattle.stage_pins.specs.declared.held.Acquired.{Acquired}
 use Rattle.call_steps.specs.Fits.{CountsAt}
 use Rattle.kernel_history.proofs.Steps.{last_left-there}
 use Rattle.std.proofs.lemmas.List.Elements.{All-nil}
 use Rattle.core_invariant.proofs.Good.{IsGood}
 use Rattle.core_invariant.proofs.Calm.{IsCalm, calm_returned, calm_own, calm_words, counted_rises, IsPlain, plain_time, plain_exit, plain_flushed}
-use Rattle.core_invariant.proofs.Loads.{Lands, IsOfCall, step_to, next_at, core_at, some_left, core_is, call_is, in_call, inner, inner_within, inner_disciplined, inner_near, inner_own, is_active}
+use Rattle.core_invariant.proofs.Loads.{Lands, IsOfCall, step_to, next_at, core_at, some_left, core_is, call_is, in_call, inner, inner_within, inner_disciplined, inner_near, inner_works, inner_own, is_active}
 
 -- The clock fits a stamp: each stamp was drawn by a call that was counted.
 
@@ -103,9 +103,70 @@ same_marks fate fate' (x ∷ xs) w = ap (λ b. if same_word w (count_of x) then 
 
 module _ (setup : Setting) (setting : IsSetting setup) (cores : ℕ → Core) (t : Trace) (stands : Stands setup cores t) (c : ℕ)
     (here : c < setup.cores) where
-  -- A decision that writes an entry, which carried no mark and carries none. The counts that the call has acquired stand for what it
-  -- will commit.
+  -- A decision that writes a word, which carried no mark and carries none. The counts that the call has acquired stand for what it
+  -- will commit. The step may change the state in any part, so long as what is said of each other word holds of it.
   module _ (a : ActiveCall) (active : (cores c).active ≡ Some a) where
+    pub writes_on : (move : Move) (made : ℕ) (r : Reply) (found : List Capability) (stage : Stage)
+        → marked_by setup t (word_of move) ≡ None
+        → mark_of (state_after setup t) (word_of move) (left_of move (last_left setup t (word_of move))) ≡ None
+        → left_of move (last_left setup t (word_of move)) < 2 ^ 64 → IsOfCall setup t c a.call move
+        → Lands setup (core_at (cores c) made (next_at a found stage)) (word_of move)
+        → phase_at a.call a.stage ≡ Open a.call → phase_at a.call stage ≡ Decided a.call r
+        → holds_at stage a.counts ≡ holds_counts (is_done stage) a.counts
+        → (let e : Step = inner setup setting cores t stands c here a active move (Some r) None in
+        ReadsAlike setup t e → IsPlain setup t e
+        → counted_in setup (state_after setup t) ≤ counted_in setup (state_after setup (e ∷ t))
+        → WorksIn (record (cores c).own { made = made }) (state_after setup (e ∷ t)) c
+        → ((w : Word) → w ≢ word_of move → marked_by setup t w ≢ Some c → StaysSaid setup cores t e w)
+        → WordIs (state_after setup (e ∷ t)) (times_of setup (e ∷ t)) (word_of move) (left_of move (last_left setup t (word_of move)))
+        → holds_in (Some a) ≡ holds_counts None a.counts
+        → ((w : Word) → marked_by setup t w ≡ Some c
+        → WordIs (state_after setup (e ∷ t)) (times_of setup (e ∷ t)) w ((holds_counts (is_done stage) a.counts).stands w))
+        → ((f : ℕ) → SumIs setup (held_by (put cores c (core_at (cores c) made (next_at a found stage)))) (e ∷ t) f)
+        → MayDecide setup t e (Some r) (phase t c)
+        → (IsAlone t e → r ≡ alone (state_after setup t) c a.call)
+        → Knows setup (e ∷ t) c (cores c).own.table (next_at a found stage)
+        → IsGood setup cores t e (core_at (cores c) made (next_at a found stage)))
+    writes_on move made r found stage was now small of_call lands opens closes bare_stage alike plain rises works same new held commits
+        sums may first knows =
+        let e : Step = inner setup setting cores t stands c here a active move (Some r) None in
+        let after : Core = core_at (cores c) made (next_at a found stage) in
+        let still : (w : Word) → (holds after).marks w ≡ (holds (cores c)).marks w =
+        λ w. ap (λ h. h.marks w) bare_stage ∙ same_marks (is_done stage) None a.counts w ∙ sym
+        (ap (λ h. h.marks w) (ap holds_in active ∙ held)) in
+        let marks = carry_marks setup cores t e after still alike was now stands.marks in
+        record {
+          follows = record {
+            is_core = here;
+            is_in = lands.is_in;
+            is_named = lands.is_named;
+            found = refl;
+            small = small;
+            enters = tt;
+            in_call = in_call setup setting cores t stands c here a active;
+            decides = may;
+            returns = tt;
+          };
+          within = inner_within setup setting cores t stands c here a active move (Some r) None;
+          alone = λ is_alone. subst (IsFirst setup t e (Some r))
+              (sym ((call_is setup setting cores t stands c here a active).phase ∙ opens)) (first is_alone);
+          disciplined = inner_disciplined setup setting cores t stands c here a active move (Some r) None of_call
+              (marks_own setup cores t e after (λ w there. still w) stands.marks marks)
+              (λ d m other. absurd (none_some d (sym was ∙ m)));
+          near = inner_near setup setting cores t stands c here a active move (Some r) None of_call;
+          marks = marks;
+          words = carry_words setup cores t e after still alike was now same new
+              (λ w own. subst (λ h. WordIs (state_after setup (e ∷ t)) (times_of setup (e ∷ t)) w (h.stands w)) (sym bare_stage)
+              (commits w own)) stands.words;
+          sums = sums;
+          draws = (let d = stands.draws in let b = plain.same in let g = rises in omega arith);
+          time = plain_time setup t e plain;
+          leaves = tt;
+          own = inner_own setup setting cores t stands c here a active move (Some r) None refl plain made found stage lands.fits works
+              (ap (after_decide (Some r)) opens ∙ sym closes) knows;
+        }
+
+    -- It writes an entry, and changes the place alone.
     pub writes_entry : (move : Move) (node index made : ℕ) (r : Reply) (found : List Capability) (stage : Stage)
         → word_of move ≡ EntryAt node index
         → marked_by setup t (EntryAt node index) ≡ None
@@ -131,50 +192,16 @@ module _ (setup : Setting) (setting : IsSetting setup) (cores : ℕ → Core) (t
     writes_entry move node index made r found stage at was now small of_call lands opens closes bare_stage calm plain counts places new
         held commits sums may first knows =
         let e : Step = inner setup setting cores t stands c here a active move (Some r) None in
-        let after : Core = core_at (cores c) made (next_at a found stage) in
-        let still : (w : Word) → (holds after).marks w ≡ (holds (cores c)).marks w =
-        λ w. ap (λ h. h.marks w) bare_stage ∙ same_marks (is_done stage) None a.counts w ∙ sym
-        (ap (λ h. h.marks w) (ap holds_in active ∙ held)) in
-        let unmarked : marked_by setup t (word_of move) ≡ None = ap (marked_by setup t) at ∙ was in
-        let bare : mark_of (state_after setup t) (word_of move) (left_of move (last_left setup t (word_of move))) ≡ None =
-        ap (λ w. mark_of (state_after setup t) w (left_of move (last_left setup t w))) at ∙ now in
-        let marks = carry_marks setup cores t e after still calm.frame unmarked bare stands.marks in
-        record {
-          follows = record {
-            is_core = here;
-            is_in = lands.is_in;
-            is_named = lands.is_named;
-            found = refl;
-            small = subst (λ w. left_of move (last_left setup t w) < 2 ^ 64) (sym at) small;
-            enters = tt;
-            in_call = in_call setup setting cores t stands c here a active;
-            decides = may;
-            returns = tt;
-          };
-          within = inner_within setup setting cores t stands c here a active move (Some r) None;
-          alone = λ is_alone. subst (IsFirst setup t e (Some r))
-              (sym ((call_is setup setting cores t stands c here a active).phase ∙ opens)) (first is_alone);
-          disciplined = inner_disciplined setup setting cores t stands c here a active move (Some r) None of_call
-              (marks_own setup cores t e after (λ w there. still w) stands.marks marks)
-              (λ d m other. absurd (none_some d (sym unmarked ∙ m)));
-          near = inner_near setup setting cores t stands c here a active move (Some r) None of_call;
-          marks = marks;
-          words = carry_words setup cores t e after still calm.frame unmarked bare
-              (λ v there free. calm_words setup t e calm plain v (λ g i h. places g i (λ q. there (h ∙ q ∙ sym at)))
-              (λ d h. (decided-inside (Some r) (phase t c) (state_after setup t) c d, plain_exit t e refl d)))
-              (subst (λ w. WordIs (state_after setup (e ∷ t)) (times_of setup (e ∷ t)) w (left_of move (last_left setup t w))) (sym at)
-              new)
-              (λ w own. subst (λ h. WordIs (state_after setup (e ∷ t)) (times_of setup (e ∷ t)) w (h.stands w)) (sym bare_stage)
-              (commits w own)) stands.words;
-          sums = sums;
-          draws = (let d = stands.draws in let b = plain.same in let g = counted_rises setup (state_after setup t)
-              (state_after setup (e ∷ t)) c calm in omega arith);
-          time = plain_time setup t e plain;
-          leaves = tt;
-          own = inner_own setup setting cores t stands c here a active move (Some r) None refl plain made found stage lands.fits calm
-              counts
-              (ap (after_decide (Some r)) opens ∙ sym closes) knows;
-        }
+        writes_on move made r found stage (ap (marked_by setup t) at ∙ was)
+        (ap (λ w. mark_of (state_after setup t) w (left_of move (last_left setup t w))) at ∙ now)
+        (subst (λ w. left_of move (last_left setup t w) < 2 ^ 64) (sym at) small) of_call lands opens closes bare_stage
+        (reads_alike setup t e calm.frame) plain (counted_rises setup (state_after setup t) (state_after setup (e ∷ t)) c calm)
+        (inner_works setup setting cores t stands c here a active move (Some r) None made calm counts)
+        (λ v there free. word_stays (state_after setup t) (state_after setup (e ∷ t)) (times_of setup t) (times_of setup (e ∷ t)) v
+        (settled setup (held_by cores) t v) (calm_words setup t e calm plain v (λ g i h. places g i (λ q. there (h ∙ q ∙ sym at)))
+        (λ d h. (decided-inside (Some r) (phase t c) (state_after setup t) c d, plain_exit t e refl d))))
+        (subst (λ w. WordIs (state_after setup (e ∷ t)) (times_of setup (e ∷ t)) w (left_of move (last_left setup t w))) (sym at) new)
+        held commits sums may first knows
 
     -- The call returns: the core's word says that it is outside, with the clock that it has loaded.
     pub leaves_on : (r : Reply) (x : ℕ) → a.stage ≡ Leave r x

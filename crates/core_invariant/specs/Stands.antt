@@ -21,12 +21,12 @@ use Rattle.call_steps.specs.declared.stages.ActiveCall.{ActiveCall}
 use Rattle.spk_nums.specs.declared.replies.Reply.{Reply}
 use Rattle.spk_nums.specs.declared.replies.Reply.TheVariants.{Ok}
 use Rattle.stage_pins.specs.declared.held.Acquired.{Acquired}
-use Rattle.call_steps.specs.declared.stages.Act.{Act}
-use Rattle.call_steps.specs.declared.stages.Act.TheVariants.{Fill, Remove}
-use Rattle.call_steps.specs.declared.stages.Work.{Work}
-use Rattle.call_steps.specs.declared.stages.Work.TheVariants.{Lookup, Scan, Acquire, Act as act_work}
-use Rattle.call_steps.specs.declared.stages.Tail.{Tail}
-use Rattle.call_steps.specs.declared.stages.Tail.TheVariants.{Nothing, Quiesce}
+use Rattle.call_acts.specs.declared.work.Act.{Act}
+use Rattle.call_acts.specs.declared.work.Act.TheVariants.{Fill, Remove}
+use Rattle.call_acts.specs.declared.work.Work.{Work}
+use Rattle.call_acts.specs.declared.work.Work.TheVariants.{Lookup, Scan, Acquire, Act as act_work}
+use Rattle.call_acts.specs.declared.work.Tail.{Tail}
+use Rattle.call_acts.specs.declared.work.Tail.TheVariants.{Nothing, Quiesce}
 use Rattle.call_steps.specs.View.{Core}
 use Rattle.core_invariant.specs.Holding.{Holding, nothing, holds_counts, holds_closed, holds_drawn, settled, MarkIs}
 use Rattle.core_invariant.specs.Words.{Times, WordIs, CountsAre}

@@ -11,7 +11,7 @@ use Rattle.word_map.specs.Moves.{LoadOf, StoreOf, word_of, told_of}
 use Rattle.kernel_history.specs.Trace.{Step, Trace, last_left}
 use Rattle.kernel_history.specs.Stamps.{clock}
 use Rattle.kernel_history.proofs.Steps.{clock_seen-own}
-use Rattle.call_steps.specs.declared.stages.Tail.TheVariants.{Nothing, Quiesce}
+use Rattle.call_acts.specs.declared.work.Tail.TheVariants.{Nothing, Quiesce}
 use Rattle.call_steps.specs.declared.stages.Stage.{Stage}
 use Rattle.call_steps.specs.declared.stages.Stage.TheVariants.{Enter, Undecided, Decided, Leave}
 use Rattle.call_steps.specs.declared.stages.ActiveCall.{ActiveCall}
@@ -20,7 +20,7 @@ use Rattle.call_steps.specs.Fits.{IsActive}
 use Rattle.call_steps.specs.Tails.{tail_move, stamp_if, stamp_of, took_tail, tail_counts}
 use Rattle.stage_pins.specs.declared.held.Acquired.{Acquired}
 use Rattle.core_invariant.specs.Holding.{holds_counts}
-use Rattle.work_invariant.proofs.Acquiring.{commit_good}
+use Rattle.count_invariant.proofs.Acquiring.{commit_good}
 use Rattle.call_steps.specs.Steps.{core_word, stage_move, Took, GoesOn, Returns, went_with, took_at, took_enter, is_spent}
 use Rattle.call_steps.specs.Cores.{fresh, begun, told_by}
 use Rattle.call_steps.specs.Cores as cores_of
@@ -35,7 +35,7 @@ use Rattle.flight.specs.Theorems.{found_by, StepsOn}
 use Rattle.flight.specs.Phases.{IsWord}
 use Rattle.flight.proofs.CoreFits.{begun_fits, after_fits}
 use Rattle.flight.proofs.Spelling.{stage_word}
-use Rattle.work_invariant.proofs.Removals.{store_good}
+use Rattle.place_invariant.proofs.Removals.{store_good}
 use Rattle.work_invariant.proofs.Work.{work_good}
 use Rattle.flight.proofs.Entries.{enter_good}
 

@@ -4,7 +4,7 @@ use Rattle.spk_nums.specs.declared.replies.Reply.{Reply}
 use Rattle.call_steps.specs.declared.stages.ActiveCall.{ActiveCall}
 use Rattle.call_steps.specs.Steps.{Took, GoesOn, Decides, Returns, took}
 use Rattle.call_steps.specs.View.{Core}
-use Rattle.call_steps.specs.declared.own.Own.{Own}
+use Rattle.call_acts.specs.declared.own.Own.{Own}
 use Rattle.call_steps.specs.Cores.{core_after, absorbed_in, absorbed, told_by, told_in, told_of_step}
 use Rattle.core_invariant.specs.Events.{returned_in}
 

@@ -6,7 +6,7 @@ use Rattle.spk_nums.specs.CallLimits.{InLimits}
 use Rattle.spk_nums.specs.declared.calls.Call.{Call}
 use Rattle.supported_calls.specs.Built.{IsBuilt}
 use Rattle.kernel_rules.specs.Laws.{calls_counted}
-use Rattle.call_steps.specs.declared.own.Own.{Own}
+use Rattle.call_acts.specs.declared.own.Own.{Own}
 use Rattle.call_steps.specs.declared.stages.ActiveCall.{ActiveCall}
 use Rattle.call_steps.specs.View.{Core}
 use Rattle.call_steps.specs.Steps.{Took, GoesOn, Decides, Returns, took, told, call_after}

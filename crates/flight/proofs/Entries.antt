@@ -29,14 +29,14 @@ use Rattle.call_plans.specs.PlanOf.{plan_for}
 use Rattle.call_plans.specs.After.{NextName, next_of, NextMay}
 use Rattle.call_plans.proofs.CallsGoBy.{calls_go}
 use Rattle.call_plans.proofs.AfterNames.{next_may}
-use Rattle.call_steps.specs.declared.refusals.Refusal.TheVariants as refusal
-use Rattle.call_steps.specs.declared.stages.Work.TheVariants.{Lookup}
-use Rattle.call_steps.specs.declared.stages.WorkStep.TheVariants.{Goes}
-use Rattle.call_steps.specs.declared.stages.Tail.TheVariants.{Nothing}
+use Rattle.call_acts.specs.declared.refusals.Refusal.TheVariants as refusal
+use Rattle.call_acts.specs.declared.work.Work.TheVariants.{Lookup}
+use Rattle.call_acts.specs.declared.work.WorkStep.TheVariants.{Goes}
+use Rattle.call_acts.specs.declared.work.Tail.TheVariants.{Nothing}
 use Rattle.call_steps.specs.declared.stages.Stage.TheVariants.{Undecided, Decided}
 use Rattle.call_steps.specs.View.{Core}
-use Rattle.call_steps.specs.Acts.{refuse}
-use Rattle.call_steps.specs.Lookups.{looks_under, next_step}
+use Rattle.call_acts.specs.Acts.{refuse}
+use Rattle.call_acts.specs.Lookups.{looks_under, next_step}
 use Rattle.call_steps.specs.Steps.{core_word, Took, landed, next_by, took_enter, is_spent}
 use Rattle.call_steps.specs.Cores.{fresh, core_after, told_by}
 use Rattle.core_invariant.specs.Events.{decided_in, returned_in}
@@ -50,7 +50,7 @@ use Rattle.core_invariant.proofs.Writes.{clock_small, core_small, enters_on}
 use Rattle.flight.specs.Made.{MayBegin}
 use Rattle.plan_ways.specs.Laws.{NextRefused}
 use Rattle.plan_ways.proofs.Ways.{next_first}
-use Rattle.work_invariant.proofs.Findings.{past_slot, past_unreached, named_no_slot}
+use Rattle.look_invariant.proofs.Findings.{past_slot, past_unreached, named_no_slot}
 
 module _ (setup : Setting) (setting : IsSetting setup) (cores : ℕ → Core) (t : Trace) (stands : Stands setup cores t) (c : ℕ)
     (here : c < setup.cores)

@@ -11,7 +11,7 @@ use Rattle.kernel_history.specs.Trace.{Step, Trace, Phase, Out, Open, Decided as
 use Rattle.kernel_history.specs.Order.{IsDecided}
 use Rattle.kernel_history.proofs.Steps.{phase-own, phase-other, calls_of-other}
 use Rattle.call_steps.specs.View.{Core}
-use Rattle.call_steps.specs.declared.own.Own.{Own}
+use Rattle.call_acts.specs.declared.own.Own.{Own}
 use Rattle.call_steps.specs.Cores.{core_after as after_took, absorbed_in, told_by, told_in, move_of, ready_in, fresh}
 use Rattle.call_steps.specs.Laws.{reply_at}
 use Rattle.call_steps.specs.Laws as laws

@@ -34,10 +34,10 @@ use Rattle.stage_quiet.specs.declared.close.Close.TheVariants.{AtCompare, AtDraw
 use Rattle.stage_quiet.specs.declared.quiet.Quiet.TheVariants.{AtCore, AtFlush}
 use Rattle.stage_quiet.specs.Removal.{close_move}
 use Rattle.call_plans.specs.After.{Next, NextName, NextFree, NextHeld, NextOwn, NextNothing, next_of}
-use Rattle.call_steps.specs.declared.own.Own.{Own}
-use Rattle.call_steps.specs.declared.stages.Act.TheVariants.{Fill, Remove}
-use Rattle.call_steps.specs.declared.stages.Work.{Work}
-use Rattle.call_steps.specs.declared.stages.Work.TheVariants.{Lookup, Scan, Acquire, Act}
+use Rattle.call_acts.specs.declared.own.Own.{Own}
+use Rattle.call_acts.specs.declared.work.Act.TheVariants.{Fill, Remove}
+use Rattle.call_acts.specs.declared.work.Work.{Work}
+use Rattle.call_acts.specs.declared.work.Work.TheVariants.{Lookup, Scan, Acquire, Act}
 use Rattle.call_steps.specs.declared.stages.Stage.{Stage}
 use Rattle.call_steps.specs.declared.stages.Stage.TheVariants.{Enter, Undecided, Decided, Leave}
 use Rattle.call_steps.specs.declared.stages.ActiveCall.{ActiveCall}
@@ -48,8 +48,8 @@ use Rattle.core_invariant.specs.Knows.{LooksUp, own_in, LooksFor, KnowsClose, Kn
 use Rattle.core_invariant.specs.Stands.{Stands}
 use Rattle.core_invariant.proofs.Carries.{slot_relies}
 use Rattle.core_invariant.proofs.Places.{IsMarked, IsPlain, place_reads}
-use Rattle.work_invariant.proofs.Lookups.{leaf_reached}
-use Rattle.work_invariant.proofs.Removals.{holds_place}
+use Rattle.look_invariant.proofs.Lookups.{leaf_reached}
+use Rattle.place_invariant.proofs.Removals.{holds_place}
 use Rattle.flight.specs.Made.{turned, MayStep, cores_after, core_at, IsMade}
 use Rattle.flight.specs.Places.{MayUse, PlacesFound, ShowsPassed, ScannedCores}
 use Rattle.flight.proofs.Made.{made_stands, made_times}

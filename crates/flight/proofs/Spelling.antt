@@ -9,13 +9,13 @@ use Rattle.stage_look.specs.declared.look.Look.TheVariants.{AtRoot, AtLeaf, AtEn
 use Rattle.stage_look.proofs.LookLemmas.{look_is_in}
 use Rattle.call_steps.specs.Fits.{TailFits, StageFits, CallFits}
 use Rattle.call_steps.specs.Cores.{move_in}
-use Rattle.call_steps.specs.declared.own.Own.{Own}
-use Rattle.call_steps.specs.declared.stages.Act.{Act}
-use Rattle.call_steps.specs.declared.stages.Act.TheVariants.{Fill, Remove}
-use Rattle.call_steps.specs.declared.stages.Work.TheVariants.{Lookup, Scan, Acquire, Act as act_work}
-use Rattle.call_steps.specs.declared.stages.Tail.{Tail}
-use Rattle.call_steps.specs.declared.stages.Tail.TheVariants.{Nothing, Quiesce}
-use Rattle.call_steps.specs.Acts.{ActFits, act_move}
+use Rattle.call_acts.specs.declared.own.Own.{Own}
+use Rattle.call_acts.specs.declared.work.Act.{Act}
+use Rattle.call_acts.specs.declared.work.Act.TheVariants.{Fill, Remove}
+use Rattle.call_acts.specs.declared.work.Work.TheVariants.{Lookup, Scan, Acquire, Act as act_work}
+use Rattle.call_acts.specs.declared.work.Tail.{Tail}
+use Rattle.call_acts.specs.declared.work.Tail.TheVariants.{Nothing, Quiesce}
+use Rattle.call_acts.specs.Acts.{ActFits, act_move}
 use Rattle.call_steps.specs.Tails.{tail_move}
 use Rattle.std.specs.Prelude.{List, [], ◌∷◌}
 use Rattle.std.proofs.lemmas.List.Elements.{All-head}

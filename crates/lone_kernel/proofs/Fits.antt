@@ -10,7 +10,7 @@ use Rattle.spk_nums.specs.Setting.{Setting}
 use Rattle.kernel_history.specs.Trace.{decision_at}
 use Rattle.call_steps.specs.View.{Core}
 use Rattle.call_steps.specs.Fits.{IsCore, steps_left}
-use Rattle.call_steps.specs.declared.own.Own.{Own}
+use Rattle.call_acts.specs.declared.own.Own.{Own}
 use Rattle.call_steps.specs.Cores.{core_after, told_by, absorbed, told_of_step, absorbed_in, told_in}
 use Rattle.core_invariant.specs.Events.{decided_in}
 use Rattle.call_steps.specs.declared.stages.Absorbed.{Absorbed}

@@ -23,8 +23,8 @@ use Rattle.call_plans.specs.declared.plans.Target.TheVariants.{Nowhere, Free, He
 use Rattle.call_plans.specs.Plans.{head, at_place}
 use Rattle.call_plans.specs.PlanOf.{any_cap, of_kind, plan_for}
 use Rattle.call_plans.specs.After.{names_after}
-use Rattle.call_steps.specs.Acts.{fills_at, removes_at, put_by, removes_by, act_begun}
-use Rattle.call_steps.specs.declared.own.Own.{Own}
+use Rattle.call_acts.specs.Acts.{fills_at, removes_at, put_by, removes_by, act_begun}
+use Rattle.call_acts.specs.declared.own.Own.{Own}
 
 -- A target is refused where it has no slot, and one that is to be free where it is held.
 pub vacant_no_slot : (s : State) (c : ℕ) (target : place) → reached s c target ≡ None → vacant s c target ≡ Refused reply.NoSlot

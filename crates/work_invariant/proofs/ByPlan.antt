@@ -53,28 +53,28 @@ use Rattle.call_plans.proofs.Roots.{count_led, pushed_one}
 use Rattle.call_plans.proofs.AfterNames.{leads_by, one_more, NextBy, next_may}
 use Rattle.plan_ways.specs.Laws.{NextPlace, NextRefused}
 use Rattle.plan_ways.proofs.Ways.{next_on_way, next_first}
-use Rattle.call_steps.specs.declared.refusals.Refusal.TheVariants as refusal
-use Rattle.call_steps.specs.declared.lookups.Met.TheVariants.{Finds, Refused as met_refused}
-use Rattle.call_steps.specs.declared.stages.Work.{Work}
-use Rattle.call_steps.specs.declared.stages.Work.TheVariants.{Lookup}
+use Rattle.call_acts.specs.declared.refusals.Refusal.TheVariants as refusal
+use Rattle.call_acts.specs.declared.lookups.Met.TheVariants.{Finds, Refused as met_refused}
+use Rattle.call_acts.specs.declared.work.Work.{Work}
+use Rattle.call_acts.specs.declared.work.Work.TheVariants.{Lookup}
 use Rattle.call_steps.specs.declared.stages.Stage.{Stage}
 use Rattle.call_steps.specs.declared.stages.Stage.TheVariants.{Undecided}
 use Rattle.call_steps.specs.declared.stages.ActiveCall.{ActiveCall}
-use Rattle.call_steps.specs.declared.stages.WorkStep.TheVariants.{Goes}
+use Rattle.call_acts.specs.declared.work.WorkStep.TheVariants.{Goes}
 use Rattle.stage_pins.specs.declared.held.Acquired.{Acquired}
-use Rattle.call_steps.specs.declared.stages.Act.{Act as ActOf}
-use Rattle.call_steps.specs.Acts.{refuse, dues, next_work, scans, stamp_shown, filling, fills_at, removing, act_begun}
+use Rattle.call_acts.specs.declared.work.Act.{Act as ActOf}
+use Rattle.call_acts.specs.Acts.{refuse, dues, next_work, scans, stamp_shown, filling, fills_at, removing, act_begun}
 use Rattle.call_steps.specs.Fits.{CountsAt}
 use Rattle.core_invariant.specs.Holding.{Holding, holds_counts}
 use Rattle.core_invariant.specs.Knows.{due_of, IsScanned, MayFill, KnowsAct, KnowsWork}
-use Rattle.work_invariant.proofs.Acquiring.{knows_next, next_holds}
-use Rattle.work_invariant.proofs.Scans.{ShowsSince, since_is, knows_scan}
+use Rattle.count_invariant.proofs.Acquiring.{knows_next, next_holds}
+use Rattle.place_invariant.proofs.Scans.{ShowsSince, since_is, knows_scan}
 use Rattle.stage_quiet.specs.declared.quiet.Quiet.{Quiet}
 use Rattle.stage_quiet.specs.Scan.{quiet_scan}
 use Rattle.kernel_history.specs.Justified.{IsRemoved}
 use Rattle.kernel_history.specs.Stamps.{stamp}
 use Rattle.kernel_history.proofs.Carries.{was_now}
-use Rattle.call_steps.specs.Lookups.{looks_under, looks_entry, looks_at, next_step, met_name, met_free, met_held}
+use Rattle.call_acts.specs.Lookups.{looks_under, looks_entry, looks_at, next_step, met_name, met_free, met_held}
 use Rattle.call_steps.specs.Steps.{landed, found_more, next_by as what_next, named_one, took_look, took_found}
 use Rattle.call_steps.specs.View.{Core}
 use Rattle.call_steps.specs.Fits.{HasRoom}
@@ -83,9 +83,9 @@ use Rattle.core_invariant.specs.Stands.{holds_work, holds_at, holds_in, Stands}
 use Rattle.core_invariant.proofs.Carries.{names_on, own_kept}
 use Rattle.core_invariant.proofs.Loads.{OnlyLooks, step_to, next_at, core_is, call_is, is_active, loads_on, decides_on}
 use Rattle.core_invariant.proofs.Refusals.{GoodTook, not_spent, refuses_empty, refuses_wrong, refuses_occupied}
-use Rattle.work_invariant.proofs.Lookups.{Shows, ShowsHeld, Arrives, under_step, in_root_step}
-use Rattle.work_invariant.proofs.Findings.{own_is, past_slot, past_unreached, reaches_none, reaches_held, reaches_other, use_held, use_free, use_removed_at, named_of, named_no_slot, named_empty, named_wrong, found_named, way_gone, gone_with, arriving, reached_now, found_now}
-use Rattle.work_invariant.proofs.Next.{MayUse, spot_relies, Rest, ANameLeft, NoneLeft, rest_of, next_name, next_end}
+use Rattle.look_invariant.proofs.Lookups.{Shows, ShowsHeld, Arrives, under_step, in_root_step}
+use Rattle.look_invariant.proofs.Findings.{own_is, past_slot, past_unreached, reaches_none, reaches_held, reaches_other, use_held, use_free, use_removed_at, named_of, named_no_slot, named_empty, named_wrong, found_named, way_gone, gone_with, arriving, reached_now, found_now}
+use Rattle.look_invariant.proofs.Next.{MayUse, spot_relies, Rest, ANameLeft, NoneLeft, rest_of, next_name, next_end}
 use Rattle.work_invariant.proofs.ByCall.{vacant_no_slot, vacant_occupied, held_no_slot, held_empty, past_entry, past_entry_unreached, no_own, one_left, first_same, Begins, begins_fill, BeginsRemoval, begins_removal, look_state, look_begins, look_answers}
 
 module _ (setup : Setting) (setting : IsSetting setup) (cores : ℕ → Core) (t : Trace) (stands : Stands setup cores t) (c : ℕ)

@@ -1,14 +1,3 @@
-pub mod Lookups
-pub mod Findings
-pub mod Next
-pub mod Acquiring
-pub mod Scans
 pub mod ByCall
 pub mod ByPlan
-pub mod CountChanges
-pub mod Vacancy
-pub mod Fills
-pub mod ScanSteps
-pub mod Closings
-pub mod Removals
 pub mod Work

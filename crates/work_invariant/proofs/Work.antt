@@ -7,9 +7,9 @@ use Rattle.stage_look.specs.Shown.{shown_in}
 use Rattle.stage_look.specs.Lookup.{look_move}
 use Rattle.stage_look.specs.declared.look.Look.{Look}
 use Rattle.stage_look.specs.declared.look.Look.TheVariants.{AtRoot, AtLeaf, AtEntry}
-use Rattle.call_steps.specs.declared.stages.Act.TheVariants.{Fill as fill_act, Remove as remove_act}
-use Rattle.call_steps.specs.declared.stages.Work.{Work}
-use Rattle.call_steps.specs.declared.stages.Work.TheVariants.{Lookup, Scan, Acquire, Act}
+use Rattle.call_acts.specs.declared.work.Act.TheVariants.{Fill as fill_act, Remove as remove_act}
+use Rattle.call_acts.specs.declared.work.Work.{Work}
+use Rattle.call_acts.specs.declared.work.Work.TheVariants.{Lookup, Scan, Acquire, Act}
 use Rattle.call_steps.specs.declared.stages.Stage.TheVariants.{Undecided}
 use Rattle.call_steps.specs.declared.stages.ActiveCall.{ActiveCall}
 use Rattle.call_steps.specs.View.{Core}
@@ -18,11 +18,11 @@ use Rattle.core_invariant.specs.Knows.{KnowsUndecided}
 use Rattle.core_invariant.specs.Stands.{Stands}
 use Rattle.core_invariant.proofs.Refusals.{GoodTook}
 use Rattle.stage_pins.specs.declared.pin.Pin.TheVariants.{AtLoad, AtCompare}
-use Rattle.work_invariant.proofs.Acquiring.{acquire_good}
+use Rattle.count_invariant.proofs.Acquiring.{acquire_good}
 use Rattle.work_invariant.proofs.ByPlan.{lookup_good}
-use Rattle.work_invariant.proofs.Fills.{fill_good}
-use Rattle.work_invariant.proofs.Removals.{remove_good}
-use Rattle.work_invariant.proofs.ScanSteps.{scan_good}
+use Rattle.place_invariant.proofs.Fills.{fill_good}
+use Rattle.place_invariant.proofs.Removals.{remove_good}
+use Rattle.place_invariant.proofs.ScanSteps.{scan_good}
 
 look_good : (setup : Setting) → IsSetting setup → (cores : ℕ → Core) (t : Trace) → Stands setup cores t → (c : ℕ) → c < setup.cores
     → (a : ActiveCall) → (cores c).active ≡ Some a

@@ -1,8 +1,8 @@
 -- Refusals, and the replies that say them.
 use Rattle.spk_nums.specs.declared.replies.Reply.{Reply}
 use Rattle.spk_nums.specs.declared.replies.Reply.TheVariants as reply
-use Rattle.call_steps.specs.declared.refusals.Refusal.{Refusal}
-use Rattle.call_steps.specs.declared.refusals.Refusal.TheVariants as refusal
+use Rattle.call_acts.specs.declared.refusals.Refusal.{Refusal}
+use Rattle.call_acts.specs.declared.refusals.Refusal.TheVariants as refusal
 
 -- the reply that says a refusal
 abbrev pub reply_of : Refusal → Reply

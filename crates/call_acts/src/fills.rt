@@ -9,10 +9,10 @@ ghost use Rattle.word_map.specs.Moves.{op_of};
 ghost use Rattle.spk_nums.specs.WordSteps.{place_in};
 ghost use Rattle.entry_words.specs.EntryWord.{word_of_entry};
 ghost use Rattle.entry_words.specs.declared.entry.Entry.TheVariants.{Held};
-ghost use Rattle.call_steps.specs.Fills.{FillFits, fill_move, took_fill};
+ghost use Rattle.call_acts.specs.Fills.{FillFits, fill_move, took_fill};
 
 use crate::refusals::Refusal;
-use crate::stages::{Tail, WorkStep};
+use crate::work::{Tail, WorkStep};
 use entry_words::Entry;
 use spk_nums::{Cap, EntryNo, FrameNo, Value, WordOp};
 use word_map::Layout;

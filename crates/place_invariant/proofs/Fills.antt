@@ -44,22 +44,23 @@ use Rattle.call_plans.proofs.AfterNames.{leads_by, outcome_left}
 use Rattle.plan_ways.specs.Laws.{NextPlace, IsTargetOf}
 use Rattle.plan_ways.proofs.Ways.{next_on_way, target_is, all_ways}
 use Rattle.call_plans.specs.After.{rule_after, names_after, Leads, LeadsIn, NextName, NextFree, next_of}
-use Rattle.call_steps.specs.declared.fills.Fill.{Fill}
-use Rattle.call_steps.specs.declared.stages.Act.TheVariants.{Fill as fill_act}
-use Rattle.call_steps.specs.declared.stages.Work.TheVariants.{Act}
-use Rattle.call_steps.specs.declared.stages.Tail.TheVariants.{Nothing as no_tail}
+use Rattle.call_acts.specs.declared.fills.Fill.{Fill}
+use Rattle.call_acts.specs.declared.work.Act.TheVariants.{Fill as fill_act}
+use Rattle.call_acts.specs.declared.work.Work.TheVariants.{Act}
+use Rattle.call_acts.specs.declared.work.Tail.TheVariants.{Nothing as no_tail}
 use Rattle.call_steps.specs.declared.stages.Stage.TheVariants.{Undecided, Decided}
 use Rattle.call_steps.specs.declared.stages.ActiveCall.{ActiveCall}
-use Rattle.call_steps.specs.Fills.{FillFits, filled_if, fill_move}
-use Rattle.call_steps.specs.Acts.{cap_dues, put_by}
+use Rattle.call_acts.specs.Fills.{FillFits, filled_if, fill_move}
+use Rattle.call_acts.specs.Acts.{cap_dues, put_by}
 use Rattle.call_steps.proofs.StepsFit.{one_due}
 use Rattle.kernel_rules.specs.References.{named_by, times, refs}
+use Rattle.core_invariant.proofs.WordFrames.{reads_alike}
 use Rattle.core_invariant.proofs.Calm.{room_grows}
 use Rattle.core_invariant.proofs.CountSums.{fill_refs}
 use Rattle.core_invariant.proofs.Sounds.{limits_of}
-use Rattle.work_invariant.proofs.CountChanges.{counts_commit, counts_sum}
-use Rattle.work_invariant.proofs.Acquiring.{plan_leads}
-use Rattle.work_invariant.proofs.Vacancy.{in_leaf, IsVacant, vacant_by}
+use Rattle.count_invariant.proofs.CountChanges.{counts_commit, counts_sum}
+use Rattle.count_invariant.proofs.Acquiring.{plan_leads}
+use Rattle.place_invariant.proofs.Vacancy.{in_leaf, IsVacant, vacant_by}
 use Rattle.core_invariant.specs.Holding.{holds_counts}
 use Rattle.core_invariant.specs.CountWords.{IsWithin}
 use Rattle.core_invariant.proofs.Writes.{same_marks}
@@ -76,9 +77,9 @@ use Rattle.core_invariant.proofs.Writes.{writes_entry}
 use Rattle.core_invariant.proofs.Calm.{IsCalm, calm_core, IsPlain, plain_stamp}
 use Rattle.core_invariant.proofs.Places.{IsMarked, IsPlain as IsUnmarked, node_mark, place_reads}
 use Rattle.core_invariant.proofs.Refusals.{GoodTook, not_spent, refuses_raced}
-use Rattle.work_invariant.proofs.Lookups.{slot_right, slot_one, near_way}
-use Rattle.work_invariant.proofs.Findings.{own_is, found_named, way_gone}
-use Rattle.work_invariant.proofs.Next.{Rest, ANameLeft, NoneLeft, rest_of, next_name}
+use Rattle.look_invariant.proofs.Lookups.{slot_right, slot_one, near_way}
+use Rattle.look_invariant.proofs.Findings.{own_is, found_named, way_gone}
+use Rattle.look_invariant.proofs.Next.{Rest, ANameLeft, NoneLeft, rest_of, next_name}
 
 -- What a call puts at its target: what is left of its rule after its names fills the target with k, and it changes places alone.
 record Puts (s : State) (c : ℕ) (call : Call) (ks : List Capability) (target : Target) (k : Capability) : Type 0 where
@@ -413,11 +414,11 @@ module _ (setup : Setting) (setting : IsSetting setup) (cores : ℕ → Core) (t
         (subst (WordIs (state_after setup (e ∷ t)) (times_of setup (e ∷ t)) (EntryAt node index)) (sym leaves) word_now)
         held_is (λ w own. counts_commit setup setting cores t stands c here a active (pos 1) one_small None none_small
         (named_by k.kind k.frame) few has.knows.all compare
-        (reply.Ok Nothing) after still before_count (λ f d. refl) calm.frame unmarked.mark bare_now no_count
+        (reply.Ok Nothing) after still before_count (λ f d. refl) (reads_alike setup t e calm.frame) unmarked.mark bare_now no_count
         (room_grows s (state_after setup (e ∷ t)) c calm core_below one_more) w (own_marked w own))
         (counts_sum setup setting cores t stands c here a active (pos 1) one_small None none_small (named_by k.kind k.frame) few
         has.knows.all compare
-        (reply.Ok Nothing) after still before_count (λ f d. refl) calm.frame unmarked.mark bare_now no_count
+        (reply.Ok Nothing) after still before_count (λ f d. refl) (reads_alike setup t e calm.frame) unmarked.mark bare_now no_count
         (ap (λ l. l.cores) calm.limits)
         (λ f none. ((let more = grows f in omega arith), plain_stamp setup t e plain (FrameOf f)))
         (λ f one. (grows_one f one, plain_stamp setup t e plain (FrameOf f) ∙ max_zero (stamp setup t (FrameOf f)))))

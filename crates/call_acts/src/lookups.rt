@@ -7,12 +7,12 @@
 ghost use Rattle.std.specs.Prelude.{◌≡◌, ◌<◌, ◌≤◌, []};
 ghost use Rattle.call_plans.specs.GoesBy.{earlier, wants};
 ghost use Rattle.call_plans.specs.After.{with_found};
-ghost use Rattle.call_steps.specs.Lookups.{met_name, met_free, met_held};
+ghost use Rattle.call_acts.specs.Lookups.{met_name, met_free, met_held};
 
 use crate::acts::{begin_act, refuse};
 use crate::own::Own;
 use crate::refusals::Refusal;
-use crate::stages::WorkStep;
+use crate::work::WorkStep;
 use call_plans::{Caps, Nth, Wanted};
 use entry_words::Entry;
 use spk_nums::{Call, Cap, FrameNo};

@@ -25,7 +25,7 @@ use Rattle.stage_pins.specs.Counts.{unheld, changed, later}
 use Rattle.stage_pins.specs.Held.{stamp_of_change}
 use Rattle.stage_pins.specs.declared.held.Acquired.{Acquired}
 use Rattle.stage_pins.proofs.PinLemmas.{changed_none}
-use Rattle.call_steps.specs.declared.stages.Due.{Due}
+use Rattle.call_acts.specs.declared.work.Due.{Due}
 use Rattle.call_steps.specs.declared.stages.ActiveCall.{ActiveCall}
 use Rattle.call_steps.specs.View.{Core}
 use Rattle.core_invariant.specs.CountWords.{stamp_in, newest_of, IsWithin}
@@ -38,7 +38,7 @@ use Rattle.core_invariant.proofs.Counting.{first_marked, first_stands}
 use Rattle.core_invariant.proofs.Loads.{call_is, inner}
 use Rattle.core_invariant.proofs.Ranges.{within_more, within_step, within_fits, changed_is}
 use Rattle.core_invariant.proofs.Sounds.{limits_of}
-use Rattle.core_invariant.proofs.WordFrames.{others_settled, own_settled}
+use Rattle.core_invariant.proofs.WordFrames.{ReadsAlike, others_settled, own_settled}
 use Rattle.core_invariant.proofs.Writes.{room_small}
 
 -- What a capability has due, by what it names.
@@ -82,8 +82,7 @@ module _ (setup : Setting) (setting : IsSetting setup) (cores : ℕ → Core) (t
     (before_count : (f d : ℕ) → ((holds (cores c)).marks (CountAt f d) ≡ (holds_counts None a.counts).marks (CountAt f d))
     × ((holds (cores c)).stands (CountAt f d) ≡ (holds_counts None a.counts).stands (CountAt f d)))
     (after_count : (f d : ℕ) → (holds after).stands (CountAt f d) ≡ (holds_counts (Some drawn) a.counts).stands (CountAt f d))
-    (frames : (f : ℕ) → (state_after setup (inner setup setting cores t stands c here a active move (Some r) None ∷ t)).frame f ≡
-    (state_after setup t).frame f)
+    (alike : ReadsAlike setup t (inner setup setting cores t stands c here a active move (Some r) None))
     (was : marked_by setup t (word_of move) ≡ None) (now : mark_of (state_after setup t) (word_of move)
     (left_of move (last_left setup t (word_of move))) ≡ None)
     (no_count : (f d : ℕ) → CountAt f d ≢ word_of move) where
@@ -109,7 +108,7 @@ module _ (setup : Setting) (setting : IsSetting setup) (cores : ℕ → Core) (t
   -- what the word of another count shows stays
   other_shown : (f d : ℕ) → ((holds_counts None a.counts).marks (CountAt f d) ≡ false) → shown' f d ≡ shown f d
   other_shown f d bare =
-      ap count_of_word (others_settled setup cores t e after still frames was now (CountAt f d) (no_count f d)
+      ap count_of_word (others_settled setup cores t e after still alike was now (CountAt f d) (no_count f d)
       (λ is. false≢true (sym bare ∙ own_word f d is)))
 
   module _ (x : Acquired) (counts_are : a.counts ≡ x ∷ []) where
@@ -192,7 +191,7 @@ module _ (setup : Setting) (setting : IsSetting setup) (cores : ℕ → Core) (t
         ∙ ap (λ b. if b then true else false) (same_word-other (CountAt f d) (count_of x) other)
 
     shows_after : shown' frame counter ≡ Some (unheld (count +ℤ z) new)
-    shows_after = ap count_of_word (own_settled setup cores t e after still frames was now (count_of x) (no_count frame counter) own_mark
+    shows_after = ap count_of_word (own_settled setup cores t e after still alike was now (count_of x) (no_count frame counter) own_mark
         ∙ after_count frame counter ∙ ap (λ (xs : List Acquired). (holds_counts (Some drawn) xs).stands (count_of x)) counts_are ∙
         first_stands (Some drawn) x [])
         ∙ shows_made

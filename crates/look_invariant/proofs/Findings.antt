@@ -22,7 +22,7 @@ use Rattle.core_invariant.specs.Knows.{IsReached, HasFound, own_in}
 use Rattle.core_invariant.proofs.Carries.{own_kept}
 use Rattle.core_invariant.proofs.Loads.{step_to}
 use Rattle.core_invariant.proofs.Refusals.{NobodyWaits}
-use Rattle.work_invariant.proofs.Lookups.{Arrives, use_removed}
+use Rattle.look_invariant.proofs.Lookups.{Arrives, use_removed}
 
 -- the target of an own name
 pub own_is : (s : State) (c table n : ℕ) → table ≡ (comp_of s c).table → own_in table n ≡ own s c n

@@ -9,14 +9,14 @@ use Rattle.kernel_rules.specs.Access.{Target as place, Under, InRoot}
 use Rattle.stage_look.specs.declared.look.Look.TheVariants.{AtRoot, AtEntry}
 use Rattle.stage_look.specs.declared.look.Found.{Found}
 use Rattle.call_plans.specs.After.{Next, NextName, NextFree, NextHeld, NextOwn, NextNothing}
-use Rattle.call_steps.specs.declared.own.Own.{Own}
-use Rattle.call_steps.specs.declared.refusals.Refusal.TheVariants.{NoSlot, Empty, WrongCap, Occupied, Busy, Raced}
-use Rattle.call_steps.specs.declared.lookups.Met.{Met}
-use Rattle.call_steps.specs.declared.lookups.Met.TheVariants.{Finds, Refused}
-use Rattle.call_steps.specs.declared.stages.Work.TheVariants.{Lookup}
-use Rattle.call_steps.specs.declared.stages.WorkStep.{WorkStep}
-use Rattle.call_steps.specs.declared.stages.WorkStep.TheVariants.{Goes}
-use Rattle.call_steps.specs.Acts.{refuse, act_begun}
+use Rattle.call_acts.specs.declared.own.Own.{Own}
+use Rattle.call_acts.specs.declared.refusals.Refusal.TheVariants.{NoSlot, Empty, WrongCap, Occupied, Busy, Raced}
+use Rattle.call_acts.specs.declared.lookups.Met.{Met}
+use Rattle.call_acts.specs.declared.lookups.Met.TheVariants.{Finds, Refused}
+use Rattle.call_acts.specs.declared.work.Work.TheVariants.{Lookup}
+use Rattle.call_acts.specs.declared.work.WorkStep.{WorkStep}
+use Rattle.call_acts.specs.declared.work.WorkStep.TheVariants.{Goes}
+use Rattle.call_acts.specs.Acts.{refuse, act_begun}
 
 -- a number, or a root entry, is looked up, if it is within its range
 abbrev pub looks_under : Bool → ℕ → ℕ → WorkStep

@@ -53,17 +53,17 @@ use Rattle.plan_ways.proofs.Ways.{target_is}
 use Rattle.plan_ways.proofs.Near.{one_left, one_right, near_about, near_found}
 use Rattle.call_plans.specs.GoesBy.{GoesBy, own_pages}
 use Rattle.call_plans.proofs.CallsGoBy.{calls_go}
-use Rattle.work_invariant.proofs.Findings.{found_named}
-use Rattle.call_steps.specs.declared.refusals.Refusal.TheVariants as refusal
-use Rattle.call_steps.specs.declared.stages.Due.{Due}
-use Rattle.call_steps.specs.declared.stages.Act.{Act as ActOf}
-use Rattle.call_steps.specs.declared.stages.Act.TheVariants.{Fill as fill_act, Remove as remove_act}
-use Rattle.call_steps.specs.declared.stages.Tail.TheVariants.{Nothing}
-use Rattle.call_steps.specs.declared.stages.Work.TheVariants.{Acquire}
+use Rattle.look_invariant.proofs.Findings.{found_named}
+use Rattle.call_acts.specs.declared.refusals.Refusal.TheVariants as refusal
+use Rattle.call_acts.specs.declared.work.Due.{Due}
+use Rattle.call_acts.specs.declared.work.Act.{Act as ActOf}
+use Rattle.call_acts.specs.declared.work.Act.TheVariants.{Fill as fill_act, Remove as remove_act}
+use Rattle.call_acts.specs.declared.work.Tail.TheVariants.{Nothing}
+use Rattle.call_acts.specs.declared.work.Work.TheVariants.{Acquire}
 use Rattle.call_steps.specs.declared.stages.Stage.TheVariants.{Undecided, Decided}
 use Rattle.call_steps.specs.declared.stages.ActiveCall.{ActiveCall}
-use Rattle.call_steps.specs.declared.stages.WorkStep.TheVariants.{Goes, Acquires}
-use Rattle.call_steps.specs.Acts.{refuse, dues, acquires, next_work, put_by, removes_by}
+use Rattle.call_acts.specs.declared.work.WorkStep.TheVariants.{Goes, Acquires}
+use Rattle.call_acts.specs.Acts.{refuse, dues, acquires, next_work, put_by, removes_by}
 use Rattle.call_steps.specs.Fits.{CountsAt, HasRoom}
 use Rattle.call_steps.specs.Steps.{GoesOn, landed, went_with, took_count}
 use Rattle.call_steps.specs.Tails.{is_ok}

@@ -1,7 +1,7 @@
 //! Why a call is not carried out: the replies but `ok`.
 
 ghost use Rattle.std.specs.Prelude.{◌≡◌};
-ghost use Rattle.call_steps.specs.Refusals.{reply_of, refusal_of};
+ghost use Rattle.call_acts.specs.Refusals.{reply_of, refusal_of};
 
 use spk_nums::{CoreNo, Reply};
 

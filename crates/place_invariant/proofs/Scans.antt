@@ -10,9 +10,9 @@ use Rattle.kernel_history.specs.Justified.{IsRemovedPlace}
 use Rattle.kernel_history.specs.Stamps.{stamp}
 use Rattle.kernel_history.specs.Trace.{Trace}
 use Rattle.stage_quiet.specs.Scan.{first_other, next_other, core_scan, quiet_scan}
-use Rattle.call_steps.specs.declared.stages.Act.{Act as ActOf}
+use Rattle.call_acts.specs.declared.work.Act.{Act as ActOf}
 use Rattle.call_steps.specs.declared.stages.ActiveCall.{ActiveCall}
-use Rattle.call_steps.specs.Acts.{next_work, scans, stamp_of_act}
+use Rattle.call_acts.specs.Acts.{next_work, scans, stamp_of_act}
 use Rattle.core_invariant.specs.Words.{PlaceIs}
 use Rattle.core_invariant.specs.Knows.{due_of, HasPassed, IsScanned, MayFill, IsFill, KnowsAct, KnowsScan, KnowsWork, KnowsUndecided, phase_at}
 

@@ -56,13 +56,13 @@ use Rattle.call_plans.proofs.AfterNames.{leads_by, outcome_left}
 use Rattle.plan_ways.specs.Laws.{NextPlace}
 use Rattle.plan_ways.proofs.Ways.{next_on_way, all_ways}
 use Rattle.stage_pins.specs.Counts.{later}
-use Rattle.call_steps.specs.declared.stages.Act.TheVariants.{Remove as remove_act}
-use Rattle.call_steps.specs.declared.stages.Work.TheVariants.{Act}
-use Rattle.call_steps.specs.declared.stages.Tail.TheVariants.{Nothing, Quiesce}
+use Rattle.call_acts.specs.declared.work.Act.TheVariants.{Remove as remove_act}
+use Rattle.call_acts.specs.declared.work.Work.TheVariants.{Act}
+use Rattle.call_acts.specs.declared.work.Tail.TheVariants.{Nothing, Quiesce}
 use Rattle.call_steps.specs.declared.stages.Stage.TheVariants.{Undecided, Decided}
 use Rattle.call_steps.specs.declared.stages.ActiveCall.{ActiveCall}
-use Rattle.call_steps.specs.declared.stages.WorkStep.TheVariants.{Answers}
-use Rattle.call_steps.specs.Acts.{took_close, cap_dues, removes_by}
+use Rattle.call_acts.specs.declared.work.WorkStep.TheVariants.{Answers}
+use Rattle.call_acts.specs.Acts.{took_close, cap_dues, removes_by}
 use Rattle.call_steps.specs.Fits.{StageFits, HasRoom}
 use Rattle.call_steps.specs.Steps.{GoesOn, landed, went_with}
 use Rattle.call_steps.specs.View.{Core}
@@ -72,23 +72,23 @@ use Rattle.core_invariant.specs.Holding.{Holding, holds_counts, settled_by, sett
 use Rattle.core_invariant.specs.Words.{PlaceIs, WordIs}
 use Rattle.core_invariant.specs.Knows.{HasFound, KnowsStore, KnowsUndecided, own_in, phase_at}
 use Rattle.core_invariant.specs.Stands.{holds_at, holds_in, holds, held_by, times_of, Stands}
-use Rattle.core_invariant.proofs.Calm.{IsCalm, calm_core, plain_exit, room_rises, room_grows}
+use Rattle.core_invariant.proofs.Calm.{IsCalm, calm_core, plain_exit, room_rises, room_grows, counted_grows}
 use Rattle.core_invariant.proofs.Carries.{own_kept, slot_relies}
 use Rattle.core_invariant.proofs.CountSums.{removed_refs}
 use Rattle.core_invariant.proofs.Draws as drawing
-use Rattle.core_invariant.proofs.Loads.{call_is, is_active}
+use Rattle.core_invariant.proofs.Loads.{call_is, inner_works, is_active}
 use Rattle.core_invariant.proofs.Places.{node_says}
 use Rattle.core_invariant.proofs.Refusals.{GoodTook, not_spent}
 use Rattle.core_invariant.proofs.Sounds.{limits_of}
-use Rattle.core_invariant.proofs.WordFrames.{SameFor}
+use Rattle.core_invariant.proofs.WordFrames.{SameFor, ReadsAlike, reads_alike, StaysSaid, word_stays}
 use Rattle.core_invariant.proofs.Writes.{clock_small, same_marks}
-use Rattle.work_invariant.proofs.Acquiring.{removal_places, removal_raises, plan_leads, goes_by}
-use Rattle.work_invariant.proofs.Closings.{close_good, store_at}
-use Rattle.work_invariant.proofs.CountChanges.{counts_commit, counts_sum}
-use Rattle.work_invariant.proofs.Fills.{node_word, target_way}
-use Rattle.work_invariant.proofs.Findings.{own_is, found_named, way_gone}
-use Rattle.work_invariant.proofs.Lookups.{near_way}
-use Rattle.work_invariant.proofs.Next.{Rest, ANameLeft, NoneLeft, rest_of, next_name}
+use Rattle.count_invariant.proofs.Acquiring.{removal_places, removal_raises, plan_leads, goes_by}
+use Rattle.place_invariant.proofs.Closings.{close_good, store_at}
+use Rattle.count_invariant.proofs.CountChanges.{counts_commit, counts_sum}
+use Rattle.place_invariant.proofs.Fills.{node_word, target_way}
+use Rattle.look_invariant.proofs.Findings.{own_is, found_named, way_gone}
+use Rattle.look_invariant.proofs.Lookups.{near_way}
+use Rattle.look_invariant.proofs.Next.{Rest, ANameLeft, NoneLeft, rest_of, next_name}
 
 -- What a call takes away at its target: what is left of its rule after its names removes what the target holds.
 pub record TakesAway (s : State) (c : ℕ) (call : Call) (ks : List Capability) (target : Target) : Type 0 where
@@ -312,6 +312,9 @@ module _ (setup : Setting) (setting : IsSetting setup) (cores : ℕ → Core) (t
     calm : IsCalm s s' c
     calm = subst (λ y. IsCalm s y c) (sym now) (calm_core s removed c _ refl (λ g. refl) (λ l. refl) refl refl (omega arith))
 
+    alike : ReadsAlike setup t e
+    alike = reads_alike setup t e calm.frame
+
     begins : (y : Thing) → begins_at setup t e y ≡ list_any (same_thing y) things
     begins y = ap (λ p. begins_then (Some r) p s c y) is_open ∙ ap (λ z. begins_in z y) change
 
@@ -382,6 +385,10 @@ module _ (setup : Setting) (setting : IsSetting setup) (cores : ℕ → Core) (t
     same (LiveAt l) no_clock bare = record { number = calm.number l; stamp = stamp_stays (NumberOf l) (no_number l fs) }
     same ClockAt no_clock bare = absurd (no_clock refl)
 
+    stays : (w : Word) → w ≢ ClockAt → marked_by setup t w ≢ Some c → StaysSaid setup cores t e w
+    stays w no_clock bare = word_stays s s' (times_of setup t) (times_of setup (e ∷ t)) w (settled setup (held_by cores) t w)
+        (same w no_clock bare)
+
     -- the entry stands for the quiescing one
     small : x < 2 ^ 28
     small = clock_small setup setting cores t stands
@@ -448,7 +455,7 @@ module _ (setup : Setting) (setting : IsSetting setup) (cores : ℕ → Core) (t
     commits : (w : Word) → (counts None).marks w ≡ true → WordIs s' (times_of setup (e ∷ t)) w ((counts (Some (Some now_at))).stands w)
     commits = counts_commit setup setting cores t stands c here a active (negsuc 0) one_small (Some now_at) drawn_small fs few
         has.knows.all (AddOf ClockAt 1) r after still
-        (λ f d. before (CountAt f d)) (λ f d. refl) calm.frame refl refl no_count (room_grows s s' c calm core_below one_more)
+        (λ f d. before (CountAt f d)) (λ f d. refl) alike refl refl no_count (room_grows s s' c calm core_below one_more)
 
     held_now : (w : Word) → marked_by setup t w ≡ Some c → WordIs s' (times_of setup (e ∷ t)) w ((holds after).stands w)
     held_now w mark = elim (cases_word w at) [
@@ -512,11 +519,13 @@ module _ (setup : Setting) (setting : IsSetting setup) (cores : ℕ → Core) (t
     draw_at : GoodTook setup cores t c (AddOf ClockAt 1) (landed a
         (Answers value.Nothing (Some now_at) (Quiesce (AtStore node index now_at))))
     draw_at lands = drawing.draws_on setup setting cores t stands c here a active r stage made
-        (removal_raises a.call has.knows.knows.removes) lands still opens refl calm one_more counts_are
-        no_flush same held_now
+        (removal_raises a.call has.knows.knows.removes) lands still opens refl alike
+        (counted_grows setup s s' c calm here one_more)
+        (inner_works setup setting cores t stands c here a active (AddOf ClockAt 1) (Some r) None made calm counts_are)
+        no_flush stays held_now
         (counts_sum setup setting cores t stands c here a active (negsuc 0) one_small (Some now_at) drawn_small fs few has.knows.all
         (AddOf ClockAt 1) r after still
-        (λ f d. before (CountAt f d)) (λ f d. refl) calm.frame refl refl no_count (ap (λ l. l.cores) calm.limits) kept changes)
+        (λ f d. before (CountAt f d)) (λ f d. refl) alike refl refl no_count (ap (λ l. l.cores) calm.limits) kept changes)
         (record { call = a.call; is_open = is_open; permitted = permitted; justified = gone })
         (λ is_alone. ok_first s c a.call value.Nothing permitted)
         (record {

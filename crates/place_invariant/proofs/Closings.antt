@@ -32,12 +32,12 @@ use Rattle.plan_ways.proofs.Ways.{next_on_way, target_is}
 use Rattle.stage_quiet.specs.declared.close.Close.TheVariants.{AtCompare, AtDraw, AtStore}
 use Rattle.stage_quiet.specs.Removal.{close_at, close_compared}
 use Rattle.stage_pins.specs.declared.held.Acquired.{Acquired}
-use Rattle.call_steps.specs.declared.stages.Act.TheVariants.{Remove as remove_act}
-use Rattle.call_steps.specs.declared.stages.Work.TheVariants.{Act}
-use Rattle.call_steps.specs.declared.stages.Tail.TheVariants.{Nothing, Quiesce}
+use Rattle.call_acts.specs.declared.work.Act.TheVariants.{Remove as remove_act}
+use Rattle.call_acts.specs.declared.work.Work.TheVariants.{Act}
+use Rattle.call_acts.specs.declared.work.Tail.TheVariants.{Nothing, Quiesce}
 use Rattle.call_steps.specs.declared.stages.Stage.TheVariants.{Undecided, Decided}
 use Rattle.call_steps.specs.declared.stages.ActiveCall.{ActiveCall}
-use Rattle.call_steps.specs.Acts.{took_close}
+use Rattle.call_acts.specs.Acts.{took_close}
 use Rattle.call_steps.specs.Fits.{StageFits, HasRoom}
 use Rattle.call_steps.specs.Steps.{GoesOn, landed, went, went_with}
 use Rattle.call_steps.specs.View.{Core}
@@ -50,9 +50,9 @@ use Rattle.core_invariant.proofs.Counting as counters
 use Rattle.core_invariant.proofs.Loads.{IsOfCall, core_at, inner, call_is, is_active}
 use Rattle.core_invariant.proofs.Places.{node_mark, node_says}
 use Rattle.core_invariant.proofs.Refusals.{GoodTook, refuses_raced}
-use Rattle.work_invariant.proofs.Acquiring.{removal_places, plan_leads, goes_by}
-use Rattle.work_invariant.proofs.Fills.{changes_node, target_way}
-use Rattle.work_invariant.proofs.Lookups.{near_way}
+use Rattle.count_invariant.proofs.Acquiring.{removal_places, plan_leads, goes_by}
+use Rattle.place_invariant.proofs.Fills.{changes_node, target_way}
+use Rattle.look_invariant.proofs.Lookups.{near_way}
 
 -- The clock is no entry, and no count is one.
 not_clock : (f i : ℕ) → ClockAt ≢ EntryAt f i

@@ -34,16 +34,16 @@ use Rattle.call_plans.specs.GoesBy.{GoesBy, OwnPages, own_pages}
 use Rattle.call_plans.specs.After.{Leads, LeadsIn, NextFree, rule_after, NextMay}
 use Rattle.call_plans.proofs.AfterNames.{Begins, left_begins, next_may}
 use Rattle.plan_ways.proofs.Ways.{asked_left}
-use Rattle.call_steps.specs.declared.fills.Fill.{Fill}
-use Rattle.call_steps.specs.declared.refusals.Refusal.TheVariants as refusal
-use Rattle.call_steps.specs.declared.stages.Act.{Act as ActOf}
-use Rattle.call_steps.specs.declared.stages.Act.TheVariants.{Fill as fill_act, Remove as remove_act}
-use Rattle.call_steps.specs.declared.stages.Work.TheVariants.{Scan}
+use Rattle.call_acts.specs.declared.fills.Fill.{Fill}
+use Rattle.call_acts.specs.declared.refusals.Refusal.TheVariants as refusal
+use Rattle.call_acts.specs.declared.work.Act.{Act as ActOf}
+use Rattle.call_acts.specs.declared.work.Act.TheVariants.{Fill as fill_act, Remove as remove_act}
+use Rattle.call_acts.specs.declared.work.Work.TheVariants.{Scan}
 use Rattle.call_steps.specs.declared.stages.Stage.{Stage}
 use Rattle.call_steps.specs.declared.stages.Stage.TheVariants.{Undecided}
 use Rattle.call_steps.specs.declared.stages.ActiveCall.{ActiveCall}
-use Rattle.call_steps.specs.declared.stages.WorkStep.TheVariants.{Goes}
-use Rattle.call_steps.specs.Acts.{refuse, dues, next_work, stamp_shown}
+use Rattle.call_acts.specs.declared.work.WorkStep.TheVariants.{Goes}
+use Rattle.call_acts.specs.Acts.{refuse, dues, next_work, stamp_shown}
 use Rattle.call_steps.specs.Fits.{StageFits, CountsAt, HasRoom}
 use Rattle.call_steps.specs.Steps.{landed, took_scan}
 use Rattle.call_steps.specs.View.{Core}
@@ -55,8 +55,8 @@ use Rattle.core_invariant.proofs.Carries.{names_on, act_on}
 use Rattle.core_invariant.proofs.Loads.{OnlyLooks, step_to, next_at, inner, core_is, call_is, is_active, loads_on, decides_on}
 use Rattle.core_invariant.proofs.Refusals.{GoodTook, not_spent}
 use Rattle.core_invariant.proofs.Sounds.{limits_of}
-use Rattle.work_invariant.proofs.Acquiring.{knows_next, next_holds, plan_leads, goes_by}
-use Rattle.work_invariant.proofs.Scans.{before_next}
+use Rattle.count_invariant.proofs.Acquiring.{knows_next, next_holds, plan_leads, goes_by}
+use Rattle.place_invariant.proofs.Scans.{before_next}
 
 -- A word that may be filled, and since whose stamp is scanned, says that it is quiescing since then.
 record IsScanFor (setup : Setting) (t : Trace) (c : ℕ) (thing : Thing) (x upto : ℕ) (o : Option Entry) : Type 0 where

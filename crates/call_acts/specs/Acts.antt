@@ -15,7 +15,7 @@ use Rattle.stage_quiet.specs.declared.close.Close.TheVariants.{AtCompare as clos
 use Rattle.stage_quiet.specs.declared.quiet.Quiet.{Quiet}
 use Rattle.stage_quiet.specs.Removal.{CloseFits, close_move, close_end, close_after}
 use Rattle.stage_quiet.specs.Scan.{quiet_scan}
-use Rattle.call_steps.specs.declared.own.Own.{Own}
+use Rattle.call_acts.specs.declared.own.Own.{Own}
 use Rattle.kernel_rules.specs.References.{named_by}
 use Rattle.word_map.specs.Places.{Shape}
 use Rattle.word_map.specs.Moves.{Move}
@@ -23,18 +23,18 @@ use Rattle.stage_look.specs.declared.look.Found.{Found}
 use Rattle.stage_pins.specs.declared.pin.Pin.TheVariants.{AtLoad}
 use Rattle.call_plans.specs.declared.plans.Nth.TheVariants.{First}
 use Rattle.call_plans.specs.Plans.{at_place}
-use Rattle.call_steps.specs.declared.refusals.Refusal.{Refusal}
-use Rattle.call_steps.specs.declared.refusals.Refusal.TheVariants.{Raced}
-use Rattle.call_steps.specs.declared.stages.Act.{Act}
-use Rattle.call_steps.specs.declared.stages.Act.TheVariants.{Fill as fill_act, Remove as remove_act}
-use Rattle.call_steps.specs.declared.stages.Due.{Due}
-use Rattle.call_steps.specs.declared.stages.Work.{Work}
-use Rattle.call_steps.specs.declared.stages.Work.TheVariants.{Scan, Acquire, Act as act_work}
-use Rattle.call_steps.specs.declared.stages.Tail.TheVariants.{Nothing, Quiesce}
-use Rattle.call_steps.specs.declared.stages.WorkStep.{WorkStep}
-use Rattle.call_steps.specs.declared.stages.WorkStep.TheVariants.{Goes, Refuses, Answers}
-use Rattle.call_steps.specs.Refusals.{refusal_of}
-use Rattle.call_steps.specs.Fills.{FillFits, fill_move, took_fill}
+use Rattle.call_acts.specs.declared.refusals.Refusal.{Refusal}
+use Rattle.call_acts.specs.declared.refusals.Refusal.TheVariants.{Raced}
+use Rattle.call_acts.specs.declared.work.Act.{Act}
+use Rattle.call_acts.specs.declared.work.Act.TheVariants.{Fill as fill_act, Remove as remove_act}
+use Rattle.call_acts.specs.declared.work.Due.{Due}
+use Rattle.call_acts.specs.declared.work.Work.{Work}
+use Rattle.call_acts.specs.declared.work.Work.TheVariants.{Scan, Acquire, Act as act_work}
+use Rattle.call_acts.specs.declared.work.Tail.TheVariants.{Nothing, Quiesce}
+use Rattle.call_acts.specs.declared.work.WorkStep.{WorkStep}
+use Rattle.call_acts.specs.declared.work.WorkStep.TheVariants.{Goes, Refuses, Answers}
+use Rattle.call_acts.specs.Refusals.{refusal_of}
+use Rattle.call_acts.specs.Fills.{FillFits, fill_move, took_fill}
 
 -- what an act names is of the machine
 abbrev pub ActFits : Shape → Act → Type 0

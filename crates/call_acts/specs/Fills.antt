@@ -7,11 +7,11 @@ use Rattle.word_map.specs.Word.{EntryAt}
 use Rattle.word_map.specs.Places.{Shape}
 use Rattle.word_map.specs.Moves.{Move, CompareOf}
 use Rattle.stage_look.specs.Shown.{CapNames}
-use Rattle.call_steps.specs.declared.refusals.Refusal.TheVariants.{Raced}
-use Rattle.call_steps.specs.declared.fills.Fill.{Fill}
-use Rattle.call_steps.specs.declared.stages.Tail.TheVariants.{Nothing}
-use Rattle.call_steps.specs.declared.stages.WorkStep.{WorkStep}
-use Rattle.call_steps.specs.declared.stages.WorkStep.TheVariants.{Refuses, Answers}
+use Rattle.call_acts.specs.declared.refusals.Refusal.TheVariants.{Raced}
+use Rattle.call_acts.specs.declared.fills.Fill.{Fill}
+use Rattle.call_acts.specs.declared.work.Tail.TheVariants.{Nothing}
+use Rattle.call_acts.specs.declared.work.WorkStep.{WorkStep}
+use Rattle.call_acts.specs.declared.work.WorkStep.TheVariants.{Refuses, Answers}
 
 -- it names frames of the machine
 pub record FillFits (s : Shape) (fill : Fill) : Type 0 where

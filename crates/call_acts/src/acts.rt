@@ -16,12 +16,12 @@ ghost use Rattle.std.specs.Prelude.{◌≡◌, ◌<◌, ◌≤◌, slice_get, No
 ghost use Rattle.word_map.specs.Places.{Shape, size_of};
 ghost use Rattle.word_map.specs.Moves.{op_of};
 ghost use Rattle.spk_nums.specs.WordSteps.{place_in};
-ghost use Rattle.call_steps.specs.Acts.{ActFits, act_move, took_act, act_ready, refuse, looked, cap_dues, dues, acquires, next_work, filling, fills_at, fills_with, put_by, act_begun, drawn_by, took_close, is_draw, scans, stamp_in, removing, removes_held, removes_at};
+ghost use Rattle.call_acts.specs.Acts.{ActFits, act_move, took_act, act_ready, refuse, looked, cap_dues, dues, acquires, next_work, filling, fills_at, fills_with, put_by, act_begun, drawn_by, took_close, is_draw, scans, stamp_in, removing, removes_held, removes_at};
 
 use crate::fills::Fill;
 use crate::own::Own;
 use crate::refusals::Refusal;
-use crate::stages::{Act, Due, Tail, Work, WorkStep};
+use crate::work::{Act, Due, Tail, Work, WorkStep};
 use call_plans::{Caps, Nth};
 use entry_words::Entry;
 use spk_nums::{Call, Cap, CoreNo, Kind, StageEnd, Stamp, Value, WordOp};

@@ -1,0 +1,38 @@
+//! What a call does between its look-ups and its decision: its act, the counts that the act changes, and the scan before it.
+//!
+//! **Work.** An undecided call looks up what its plan names, each name in order and then the target: one program for all calls
+//! (`lookups`). Then its act begins, which is a call's own (`acts`). A step of the work goes on, refuses or answers. A refusal is
+//! a type without `ok`, so that a step which may only refuse carries nothing out, by its type.
+//!
+//! **Counts.** An act that changes the references to a frame says which counts it changes, and by how much. Each is acquired
+//! before the act's first step, by a load and a compare.
+//!
+//! **Copy.** The count of what is copied is acquired; a range names frames without a reference, and no count is. Then the target's
+//! entry is compared with the word that this call has loaded there; the compare decides. A target that is quiescing is scanned for
+//! before: each other core is out of a call, or has entered its call after the removal.
+//!
+//! **Remove, shrink, unmap.** The count of what is removed is acquired, the entry is closed, and a stamp is drawn, which decides.
+//! Then the entry that quiesces since the stamp is still to be stored.
+//!
+//! **Refusals.** A refusal decides at the first step by which it is known and every earlier cause is judged: of each name in
+//! written order `no-slot`, `empty` and `wrong-cap`, then of the target `no-slot` and `occupied`. A lost compare is `raced`.
+//!
+//! **A call more** adds a line to each function of `acts`: where its act begins, which counts it changes, the act's next step, what
+//! it takes, whether that step decides.
+#![tactic(auto)]
+
+mod acts;
+mod fills;
+mod laws;
+mod lookups;
+mod own;
+mod refusals;
+mod work;
+
+pub use acts::{act_op, act_ready, act_took, begin_act, next_work, refuse};
+pub use fills::Fill;
+pub use laws::refusals_are_replies;
+pub use lookups::{Met, frame_of, met_free, met_held, met_name};
+pub use own::Own;
+pub use refusals::Refusal;
+pub use work::{Act, Due, Tail, Work, WorkStep};
