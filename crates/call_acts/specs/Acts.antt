@@ -1,8 +1,8 @@
 -- The acts of calls, and the counts that they change.
-use Rattle.std.specs.Prelude.{ℕ, ℤ, pos, negsuc, Bool, true, false, Option, Some, None, List, map, slice_get}
+use Rattle.std.specs.Prelude.{ℕ, ℤ, pos, negsuc, Bool, true, false, ◌&&◌, nat_lt, Option, Some, None, List, map, slice_get, if◌then◌else◌, []}
 use Rattle.spk_nums.specs.Capability.{Capability}
 use Rattle.spk_nums.specs.declared.calls.Call.{Call}
-use Rattle.spk_nums.specs.declared.calls.Call.TheVariants.{Look, Copy, Remove, Shrink, Unmap}
+use Rattle.spk_nums.specs.declared.calls.Call.TheVariants.{Look, Copy, Remove, Shrink, Retype, Unmap}
 use Rattle.spk_nums.specs.declared.replies.Value.TheVariants.{Cap, Nothing as nothing}
 use Rattle.spk_nums.specs.declared.steps.StageEnd.{StageEnd}
 use Rattle.spk_nums.specs.declared.steps.StageEnd.TheVariants as ends
@@ -23,27 +23,29 @@ use Rattle.stage_look.specs.declared.look.Found.{Found}
 use Rattle.stage_pins.specs.declared.pin.Pin.TheVariants.{AtLoad}
 use Rattle.call_plans.specs.declared.plans.Nth.TheVariants.{First}
 use Rattle.call_plans.specs.Plans.{at_place}
-use Rattle.call_acts.specs.declared.refusals.Refusal.{Refusal}
-use Rattle.call_acts.specs.declared.refusals.Refusal.TheVariants.{Raced}
+use Rattle.call_acts.specs.declared.refusals.Refusal.TheVariants.{Raced, OutOfRange}
 use Rattle.call_acts.specs.declared.work.Act.{Act}
-use Rattle.call_acts.specs.declared.work.Act.TheVariants.{Fill as fill_act, Remove as remove_act}
+use Rattle.call_acts.specs.declared.work.Act.TheVariants.{Fill as fill_act, Remove as remove_act, Retype as type_act}
 use Rattle.call_acts.specs.declared.work.Due.{Due}
 use Rattle.call_acts.specs.declared.work.Work.{Work}
 use Rattle.call_acts.specs.declared.work.Work.TheVariants.{Scan, Acquire, Act as act_work}
 use Rattle.call_acts.specs.declared.work.Tail.TheVariants.{Nothing, Quiesce}
 use Rattle.call_acts.specs.declared.work.WorkStep.{WorkStep}
-use Rattle.call_acts.specs.declared.work.WorkStep.TheVariants.{Goes, Refuses, Answers}
+use Rattle.call_acts.specs.declared.work.WorkStep.TheVariants.{Goes, Answers}
 use Rattle.call_acts.specs.Refusals.{refusal_of}
+use Rattle.call_acts.specs.WorkSteps.{refuse}
 use Rattle.call_acts.specs.Fills.{FillFits, fill_move, took_fill}
+use Rattle.call_acts.specs.declared.typings.TypingAt.TheVariants.{Load}
+use Rattle.call_acts.specs.Typings.{TypingFits, typing_move, took_typing, is_typing, typing_left}
+use Rattle.spk_nums.specs.declared.kinds.FrameKind.{FrameKind}
+use Rattle.kernel_rules.specs.Access.{found as named}
+use Rattle.kernel_rules.specs.CapabilityCalls.{has_frame}
 
 -- what an act names is of the machine
 abbrev pub ActFits : Shape → Act → Type 0
 ActFits s (fill_act fill) = FillFits s fill
 ActFits s (remove_act close cap) = CloseFits s close × CapNames s.frames cap
-
--- a refusal with nothing to store
-abbrev pub refuse : Refusal → WorkStep
-refuse r = Refuses r Nothing
+ActFits s (type_act typing) = TypingFits s typing
 
 -- the stamp with which a removal that has drawn it goes on to its store
 abbrev pub drawn_by : Close → Option ℕ
@@ -63,10 +65,12 @@ took_close cap close (ends.Refuse r) = refuse (refusal_of r)
 abbrev pub act_move : Act → Move
 act_move (fill_act fill) = fill_move fill
 act_move (remove_act close cap) = close_move close
+act_move (type_act typing) = typing_move typing
 
 abbrev pub took_act : Act → ℕ → WorkStep
 took_act (fill_act fill) found = took_fill fill found
 took_act (remove_act close cap) found = took_close cap (close_after close found) (close_end close found)
+took_act (type_act typing) found = took_typing typing found
 
 -- whether the next step of a removal draws its stamp
 abbrev pub is_draw : Close → Bool
@@ -78,6 +82,7 @@ is_draw (AtStore node entry stamp) = false
 abbrev pub act_ready : Act → Bool
 act_ready (fill_act fill) = true
 act_ready (remove_act close cap) = is_draw close
+act_ready (type_act typing) = is_typing typing.at
 
 -- the steps of a removal that are still to come
 abbrev pub close_left : Close → ℕ
@@ -89,6 +94,7 @@ close_left (AtStore node entry stamp) = 1
 abbrev pub act_left : Act → ℕ
 act_left (fill_act fill) = 1
 act_left (remove_act close cap) = close_left close
+act_left (type_act typing) = typing_left typing.at
 
 -- a look answers what its name has led to
 abbrev pub looked : Option Capability → WorkStep
@@ -103,6 +109,7 @@ cap_dues k change = map (λ f. record { frame = f; change = change }) (named_by 
 abbrev pub dues : Act → List Due
 dues (fill_act fill) = cap_dues fill.cap (pos 1)
 dues (remove_act close cap) = cap_dues cap (negsuc 0)
+dues (type_act typing) = []
 
 -- a core acquires this count for an act next, or has acquired all and goes on to the act
 abbrev pub acquires : ℕ → Act → Option Due → Work
@@ -171,6 +178,15 @@ stamp_shown (Some e) = stamp_in e
 abbrev pub stamp_of_act : Act → ℕ
 stamp_of_act (fill_act fill) = stamp_shown (entry_of_word fill.word)
 stamp_of_act (remove_act close cap) = 0
+stamp_of_act (type_act typing) = 0
+
+-- a frame is typed where it is in the range, which has none past the machine's
+abbrev pub types_if : Bool → ℕ → FrameKind → WorkStep
+types_if within f k = if within then Goes (act_work (type_act (record { frame = f; kind = k; at = Load }))) else refuse OutOfRange
+
+abbrev pub types_at : Own → Option Capability → ℕ → FrameKind → WorkStep
+types_at own None f k = refuse Raced
+types_at own (Some range) f k = types_if (has_frame (named range) f && nat_lt f own.layout.frames) f k
 
 -- what a call of a core does whose names have led to these and whose target, if it has one, was found
 abbrev pub act_begun : Own → Call → List Capability → Option Found → WorkStep
@@ -179,4 +195,5 @@ act_begun own (Copy a t b) found target = fills_with own (put_by (Copy a t b) fo
 act_begun own (Remove t b) found target = removes_at own.core target
 act_begun own (Shrink t i) found target = removes_at own.core target
 act_begun own (Unmap p v) found target = removes_at own.core target
+act_begun own (Retype r f k) found target = types_at own (at_place found First) f k
 act_begun own _ found target = refuse Raced

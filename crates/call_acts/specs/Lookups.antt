@@ -16,7 +16,8 @@ use Rattle.call_acts.specs.declared.lookups.Met.TheVariants.{Finds, Refused}
 use Rattle.call_acts.specs.declared.work.Work.TheVariants.{Lookup}
 use Rattle.call_acts.specs.declared.work.WorkStep.{WorkStep}
 use Rattle.call_acts.specs.declared.work.WorkStep.TheVariants.{Goes}
-use Rattle.call_acts.specs.Acts.{refuse, act_begun}
+use Rattle.call_acts.specs.WorkSteps.{refuse}
+use Rattle.call_acts.specs.Acts.{act_begun}
 
 -- a number, or a root entry, is looked up, if it is within its range
 abbrev pub looks_under : Bool → ℕ → ℕ → WorkStep

@@ -12,19 +12,25 @@
 //! A call that is new here adds a line to each function: where its act begins, which counts that changes, its next step, what it
 //! takes, and whether that step decides.
 
-ghost use Rattle.std.specs.Prelude.{◌≡◌, ◌<◌, ◌≤◌, slice_get, None};
+ghost use Rattle.std.specs.Prelude.{◌≡◌, ◌<◌, ◌≤◌, ◌&&◌, nat_lt, slice_get, None};
 ghost use Rattle.word_map.specs.Places.{Shape, size_of};
 ghost use Rattle.word_map.specs.Moves.{op_of};
 ghost use Rattle.spk_nums.specs.WordSteps.{place_in};
-ghost use Rattle.call_acts.specs.Acts.{ActFits, act_move, took_act, act_ready, refuse, looked, cap_dues, dues, acquires, next_work, filling, fills_at, fills_with, put_by, act_begun, drawn_by, took_close, is_draw, scans, stamp_in, removing, removes_held, removes_at};
+ghost use Rattle.call_acts.specs.WorkSteps.{refuse};
+ghost use Rattle.call_acts.specs.Acts.{ActFits, act_move, took_act, act_ready, looked, cap_dues, dues, acquires, next_work, filling, fills_at, fills_with, put_by, act_begun, drawn_by, took_close, is_draw, scans, stamp_in, removing, removes_held, removes_at, types_if, types_at};
+ghost use Rattle.kernel_rules.specs.Access.{found as named_by_cap};
+ghost use Rattle.kernel_rules.specs.CapabilityCalls.{has_frame};
 
 use crate::fills::Fill;
 use crate::own::Own;
 use crate::refusals::Refusal;
+use crate::typings::{Typing, TypingAt};
 use crate::work::{Act, Due, Tail, Work, WorkStep};
 use call_plans::{Caps, Nth};
 use entry_words::Entry;
-use spk_nums::{Call, Cap, CoreNo, Kind, StageEnd, Stamp, Value, WordOp};
+use spk_nums::{
+    Call, Cap, CoreNo, FrameArg, FrameKind, FrameNo, Kind, StageEnd, Stamp, Value, WordOp,
+};
 use stage_look::Found;
 use stage_pins::Pin;
 use stage_quiet::{Close, Quiet};
@@ -40,6 +46,7 @@ pub fn act_op(act: &Act, layout: &Layout) -> WordOp
     match act {
         Act::Fill { fill } => fill.next(layout),
         Act::Remove { close, cap: _ } => close.next(layout),
+        Act::Retype { typing } => typing.next(layout),
     }
 }
 
@@ -56,6 +63,7 @@ pub fn act_took(act: &Act, layout: &Layout, found: u64) -> WorkStep
             let end = close.take(layout, found);
             close_took(*cap, close, &end)
         }
+        Act::Retype { typing } => typing.take(found),
     }
 }
 
@@ -103,6 +111,7 @@ pub fn act_ready(act: &Act) -> bool
     match act {
         Act::Fill { fill: _ } => true,
         Act::Remove { close, cap: _ } => matches!(close, Close::AtDraw { .. }),
+        Act::Retype { typing } => typing.is_ready(),
     }
 }
 
@@ -140,6 +149,7 @@ fn due(act: &Act, n: u8) -> Option<Due>
     match act {
         Act::Fill { fill } => cap_due(&fill.cap, 1, n),
         Act::Remove { close: _, cap } => cap_due(cap, -1, n),
+        Act::Retype { typing: _ } => None,
     }
 }
 
@@ -162,7 +172,7 @@ fn cap_due(cap: &Cap, change: i32, n: u8) -> Option<Due>
 }
 
 /// What a call of a core does whose names have led to these and whose target, if it has one, was found: a look answers at once, a
-/// copy begins to fill its target, a remove, a shrink and an unmap to remove what their target holds. The core is one of the layout's at most 8.
+/// copy begins to fill its target, a remove, a shrink and an unmap to remove what their target holds, a retype to type its frame. The core is one of the layout's at most 8.
 #[inline]
 pub fn begin_act(own: &Own, call: &Call, found: &Caps, target: &Option<Found>) -> WorkStep
     requires core { own.now.core < own.now.layout.cores }
@@ -174,6 +184,7 @@ pub fn begin_act(own: &Own, call: &Call, found: &Caps, target: &Option<Found>) -
         Call::Copy { a: _, t: _, b: _ } => fills_with(own, &found.get(Nth::First), target),
         Call::Remove { t: _, b: _ } | Call::Shrink { t: _, i: _ } | Call::Unmap { p: _, v: _ } =>
             removes_at(own.core, target),
+        Call::Retype { r: _, f, k } => types_at(own, &found.get(Nth::First), *f, *k),
         _ => refuse(Refusal::Raced),
     }
 }
@@ -275,4 +286,47 @@ fn removes_held(core: CoreNo, target: &Found) -> WorkStep
         }
         _ => refuse(Refusal::Raced),
     }
+}
+
+// A frame of this range is typed.
+#[inline]
+fn types_at(own: &Own, range: &Option<Cap>, frame: FrameArg, kind: FrameKind) -> WorkStep
+    ensures { result ≡ types_at own.now range.now frame kind }
+{
+    match range {
+        None => refuse(Refusal::Raced),
+        Some(range) => types_in(own, range, frame, kind),
+    }
+}
+
+// A frame is typed where it is in the range, which has none past the machine's.
+#[inline]
+fn types_in(own: &Own, range: &Cap, frame: FrameArg, kind: FrameKind) -> WorkStep
+    ensures { result ≡ types_if (has_frame (named_by_cap range.now) frame && nat_lt frame own.now.layout.frames) frame kind }
+{
+    if has_frame(range, frame) && frame.number() < own.layout.frames() {
+        WorkStep::Goes {
+            work: Work::Act {
+                act: Act::Retype {
+                    typing: Typing {
+                        frame: FrameNo::new(frame.number()),
+                        kind,
+                        at: TypingAt::Load,
+                    },
+                },
+            },
+        }
+    } else {
+        refuse(Refusal::OutOfRange)
+    }
+}
+
+// Whether a range has a frame.
+#[inline]
+fn has_frame(range: &Cap, frame: FrameArg) -> bool
+    ensures { result ≡ has_frame (named_by_cap range.now) frame }
+{
+    let first = u32::from(range.frame().number());
+    let number = u32::from(frame.number());
+    first <= number && number < first + range.arg()
 }

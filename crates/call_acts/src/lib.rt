@@ -14,8 +14,12 @@
 //! **Remove, shrink, unmap.** The count of what is removed is acquired, the entry is closed, and a stamp is drawn, which decides.
 //! Then the entry that quiesces since the stamp is still to be stored.
 //!
+//! **Retype to user or kernel.** The frame's word is loaded, and compared with the word found, which says that the frame is untyped and
+//! that no core has marked it; the compare decides.
+//!
 //! **Refusals.** A refusal decides at the first step by which it is known and every earlier cause is judged: of each name in
-//! written order `no-slot`, `empty` and `wrong-cap`, then of the target `no-slot` and `occupied`. A lost compare is `raced`.
+//! written order `no-slot`, `empty` and `wrong-cap`, then of the target `no-slot` and `occupied`, then what the act asks: `out-of-range` of a
+//! frame that is not in the range, and `frame-kind` of one that is not untyped. A lost compare is `raced`.
 //!
 //! **A call more** adds a line to each function of `acts`: where its act begins, which counts it changes, the act's next step, what
 //! it takes, whether that step decides.
@@ -27,6 +31,7 @@ mod laws;
 mod lookups;
 mod own;
 mod refusals;
+mod typings;
 mod work;
 
 pub use acts::{act_op, act_ready, act_took, begin_act, next_work, refuse};
@@ -35,4 +40,5 @@ pub use laws::refusals_are_replies;
 pub use lookups::{Met, frame_of, met_free, met_held, met_name};
 pub use own::Own;
 pub use refusals::Refusal;
+pub use typings::{Typing, TypingAt};
 pub use work::{Act, Due, Tail, Work, WorkStep};

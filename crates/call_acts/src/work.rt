@@ -2,6 +2,7 @@
 
 use crate::fills::Fill;
 use crate::refusals::Refusal;
+use crate::typings::Typing;
 use spk_nums::{Cap, FrameNo, Stamp, Value};
 use stage_look::Look;
 use stage_pins::{Acquired, Pin};
@@ -14,6 +15,8 @@ pub enum Act {
     Fill { fill: Fill },
     /// It removes this capability from the place of its target: an act ends at the draw of the stamp, which decides the call.
     Remove { close: Close, cap: Cap },
+    /// It types an untyped frame.
+    Retype { typing: Typing },
 }
 
 /// A count that an act changes: that of the references to a frame, by so many.

@@ -9,7 +9,7 @@ use Rattle.stage_pins.specs.declared.pin.Pinned.{Pinned}
 use Rattle.stage_pins.specs.declared.held.Acquired.{Acquired}
 use Rattle.stage_pins.specs.Acquire.{pin_after, pin_end}
 use Rattle.std.proofs.Common.{◌≡◌, ℕ, ℤ, ◌+◌, ◌==◌, ◌&&◌, Bool, true, false, List, [], ◌∷◌, length, Option, Some, None, refl, sym, ◌∙◌, ap, subst, arith, eqb-true}
-use Rattle.call_plans.specs.Plans.{pushed}
+use Rattle.call_plans.specs.Plans.{pushed, at_place}
 use Rattle.spk_nums.specs.Capability.{Capability}
 use Rattle.spk_nums.specs.declared.kinds.FrameKind.{FrameKind}
 use Rattle.spk_nums.specs.declared.kinds.FrameKind.TheVariants.{Untyped, User, Kernel}
@@ -18,10 +18,8 @@ use Rattle.spk_nums.specs.declared.calls.Make.TheVariants as make
 use Rattle.spk_nums.specs.declared.calls.Call.{Call}
 use Rattle.spk_nums.specs.declared.calls.Call.TheVariants.{Look as look_call, Copy, Remove, Shrink, Unmap, Retype, Make as make_call}
 use Rattle.spk_nums.specs.declared.replies.Reply.{Reply}
-use Rattle.spk_nums.specs.declared.replies.Reply.TheVariants as reply
 use Rattle.entry_words.specs.declared.entry.Entry.{Entry}
 use Rattle.entry_words.specs.declared.entry.Entry.TheVariants as entry
-use Rattle.kernel_rules.specs.Laws.{IsRefusal}
 use Rattle.kernel_rules.specs.Access.{found, Target as place, Under, InRoot}
 use Rattle.stage_look.specs.Shown.{is_link}
 use Rattle.stage_look.specs.Lookup.{end_by_link, root_end, place_end}
@@ -35,13 +33,12 @@ use Rattle.call_plans.specs.declared.plans.Target.{Target}
 use Rattle.call_plans.specs.declared.plans.Target.TheVariants.{Nowhere}
 use Rattle.call_plans.specs.declared.plans.Plan.{Plan}
 use Rattle.call_plans.specs.PlanOf.{any_cap, plan_of_retype, plan_of_make, plan_for}
-use Rattle.call_acts.specs.declared.refusals.Refusal.{Refusal}
 use Rattle.call_acts.specs.declared.refusals.Refusal.TheVariants as refusal
 use Rattle.call_acts.specs.declared.own.Own.{Own}
 use Rattle.call_acts.specs.declared.lookups.Met.{Met}
 use Rattle.call_acts.specs.declared.lookups.Met.TheVariants.{Finds, Refused}
 use Rattle.call_acts.specs.declared.work.Act.{Act as ActType}
-use Rattle.call_acts.specs.declared.work.Act.TheVariants.{Fill as fill_act, Remove as remove_act}
+use Rattle.call_acts.specs.declared.work.Act.TheVariants.{Fill as fill_act, Remove as remove_act, Retype as type_act}
 use Rattle.call_acts.specs.declared.work.Work.{Work}
 use Rattle.call_acts.specs.declared.work.Work.TheVariants.{Lookup, Scan, Acquire, Act}
 use Rattle.call_steps.specs.declared.stages.Stage.{Stage}
@@ -51,10 +48,17 @@ use Rattle.call_acts.specs.declared.work.Tail.TheVariants.{Nothing, Quiesce}
 use Rattle.call_steps.specs.declared.stages.ActiveCall.{ActiveCall}
 use Rattle.call_acts.specs.declared.work.WorkStep.{WorkStep}
 use Rattle.call_acts.specs.declared.work.WorkStep.TheVariants.{Goes, Acquires, Refuses as refuses_to, Answers}
-use Rattle.call_acts.specs.Refusals.{reply_of, refusal_of}
+use Rattle.call_acts.specs.Refusals.{refusal_of}
 use Rattle.call_acts.proofs.Refusing.{refusal_refuses}
 use Rattle.call_acts.specs.Fills.{filled_if}
-use Rattle.call_acts.specs.Acts.{took_close, is_draw, took_act, act_ready, refuse, fills_with, removes_held, removes_at, act_begun}
+use Rattle.call_acts.specs.WorkSteps.{refuse}
+use Rattle.call_acts.specs.Acts.{took_close, is_draw, took_act, act_ready, fills_with, removes_held, removes_at, act_begun, types_if, types_at}
+use Rattle.call_plans.specs.declared.plans.Nth.TheVariants.{First}
+use Rattle.frame_words.specs.declared.frame_word.FrameWord.{FrameWord}
+use Rattle.call_acts.specs.declared.typings.Typing.{Typing}
+use Rattle.call_acts.specs.declared.typings.TypingAt.{TypingAt}
+use Rattle.call_acts.specs.declared.typings.TypingAt.TheVariants.{Load, Compare as type_compare}
+use Rattle.call_acts.specs.Typings.{meets_frame, meets_word, typed_if, took_typing_at, is_typing}
 use Rattle.call_acts.specs.Lookups.{looks_under, looks_entry, looks_at, next_step, met_free, met_held}
 use Rattle.call_steps.specs.Fits.{FoundFits, IsFirst, IsActive}
 use Rattle.call_steps.specs.Tails.{took_tail, tail_counts}
@@ -155,6 +159,14 @@ remove_no : (core : ℕ) (target : Option Found) → NoAnswer (removes_at core t
 remove_no core None = tt
 remove_no core (Some f) = held_no core f f.value
 
+type_no : (within : Bool) (f : ℕ) (k : FrameKind) → NoAnswer (types_if within f k)
+type_no true f k = tt
+type_no false f k = tt
+
+types_no : (own : Own) (range : Option Capability) (f : ℕ) (k : FrameKind) → NoAnswer (types_at own range f k)
+types_no own None f k = tt
+types_no own (Some range) f k = type_no _ f k
+
 act_no : (own : Own) (call : Call) (found : List Capability) (target : Option Found) → decides_at_name (plan_for call).decides ≡ false
     → NoAnswer (act_begun own call found target)
 act_no own (look_call a) found target not = absurd (cc)
@@ -162,6 +174,7 @@ act_no own (Copy a t b) found target not = fill_no own _ target
 act_no own (Remove t b) found target not = remove_no own.core target
 act_no own (Shrink t i) found target not = remove_no own.core target
 act_no own (Unmap p v) found target not = remove_no own.core target
+act_no own (Retype r f k) found target not = types_no own (at_place found First) f k
 act_no own call found target not = tt
 
 -- A call that is decided where its last name is found has one name, and no target.
@@ -299,9 +312,24 @@ close_no cap (AtCompare node index word core) found not = compare_no cap _ (foun
 close_no cap (AtDraw node index) found not = absurd (cc)
 close_no cap (AtStore node index stamp) found not = tt
 
+kind_no : (y : Typing) (word : ℕ) (k : FrameKind) (mark : Option ℕ) → NoAnswer (meets_frame y word k mark)
+kind_no y word k (Some d) = tt
+kind_no y word Untyped None = tt
+kind_no y word User None = tt
+kind_no y word Kernel None = tt
+
+word_no : (y : Typing) (word : ℕ) (o : Option FrameWord) → NoAnswer (meets_word y word o)
+word_no y word None = tt
+word_no y word (Some v) = kind_no y word v.kind v.mark
+
+typing_no : (y : Typing) (at : TypingAt) (found : ℕ) → is_typing at ≡ false → NoAnswer (took_typing_at y at found)
+typing_no y Load found not = word_no y found _
+typing_no y (type_compare word) found not = absurd (cc)
+
 act_unready : (act : ActType) (found : ℕ) → act_ready act ≡ false → NoAnswer (took_act act found)
 act_unready (fill_act fill) found not = absurd (cc)
 act_unready (remove_act close cap) found not = close_no cap close found not
+act_unready (type_act typing) found not = typing_no typing typing.at found not
 
 -- a step of a scan answers nothing
 scan_refuses : (core : ℕ) (act : ActType) (a : ActiveCall) (q : Quiet) (end : StageEnd (Unit {0}))
@@ -377,11 +405,21 @@ fill_decides : (a : ActiveCall) (equal : Bool) → IsDecision (landed a (filled_
 fill_decides a true = tt
 fill_decides a false = tt
 
+typed_decides : (a : ActiveCall) (equal : Bool) → IsDecision (landed a (typed_if equal))
+typed_decides a true = tt
+typed_decides a false = tt
+
+typing_decides : (a : ActiveCall) (y : Typing) (at : TypingAt) (found : ℕ) → is_typing at ≡ true
+    → IsDecision (landed a (took_typing_at y at found))
+typing_decides a y Load found ready = absurd (cc)
+typing_decides a y (type_compare word) found ready = typed_decides a _
+
 act_decides : (a : ActiveCall) (act : ActType) (found : ℕ) → act_ready act ≡ true → IsDecision (landed a (took_act act found))
 act_decides a (fill_act fill) found ready = fill_decides a _
 act_decides a (remove_act (AtCompare node index word core) cap) found ready = absurd (cc)
 act_decides a (remove_act (AtDraw node index) cap) found ready = tt
 act_decides a (remove_act (AtStore node index stamp) cap) found ready = absurd (cc)
+act_decides a (type_act typing) found ready = typing_decides a typing typing.at found ready
 
 begun_over : (own : Own) (call : Call) (k : Capability) → decides_at_name (plan_for call).decides ≡ true
     → IsOver (act_begun own call (k ∷ []) None)
@@ -390,6 +428,9 @@ begun_over own (Copy a t b) k is = absurd (cc)
 begun_over own (Remove t b) k is = absurd (cc)
 begun_over own (Shrink t i) k is = absurd (cc)
 begun_over own (Unmap p v) k is = absurd (cc)
+begun_over own (Retype r f Untyped) k is = absurd (cc)
+begun_over own (Retype r f User) k is = absurd (cc)
+begun_over own (Retype r f Kernel) k is = absurd (cc)
 begun_over own call k is = tt
 
 zero_of : (found : List Capability) → (length found + 1 == 1) ≡ true → found ≡ []

@@ -1,6 +1,6 @@
 -- A core stays in its ranges, and each step leaves fewer to come, whatever words are found.
 use Rattle.std.proofs.lemmas.List.Elements.{All-nil, All-cons, All-tail, All-append}
-use Rattle.frame_words.specs.Count.{word_of_count}
+use Rattle.frame_words.specs.Count.{word_of_count, count_of_word}
 use Rattle.stage_pins.specs.Counts.{unheld}
 use Rattle.stage_pins.proofs.PinLemmas.{after_fits}
 use Rattle.std.proofs.Common.{◌≡◌, ℕ, suc, ℤ, ◌≢◌, nat_lt, if◌then◌else◌, ◌+◌, ◌*◌, ◌-◌, ◌++◌, slice_get, ◌%◌, ◌<◌, ◌≤◌, Bool, true, false, ◌==◌, List, [], ◌∷◌, length, length-append, lt-ltb, Option, Some, None, IfSome, refl, sym, ◌∙◌, ap, subst, arith}
@@ -21,7 +21,6 @@ use Rattle.stage_pins.specs.Acquire.{PinFits, PinnedFits, EndFits, end_by_hold, 
 use Rattle.frame_words.specs.declared.count_word.CountWord.{CountWord}
 use Rattle.frame_words.specs.declared.count_word.Hold.{Hold}
 use Rattle.frame_words.specs.declared.count_word.Hold.TheVariants as hold
-use Rattle.frame_words.specs.Count.{count_of_word}
 use Rattle.spk_nums.specs.declared.steps.StageEnd.{StageEnd}
 use Rattle.spk_nums.specs.declared.steps.StageEnd.TheVariants as ends
 use Rattle.stage_pins.specs.Held.{AllFit, AcquiredFits, pushed as count_pushed}
@@ -58,18 +57,23 @@ use Rattle.call_plans.specs.PlanOf.{plan_for}
 use Rattle.call_plans.specs.GoesBy.{wants}
 use Rattle.call_plans.specs.After.{with_found, names_after, next_in}
 use Rattle.call_plans.specs.Bounds.{look_steps, act_steps}
-use Rattle.call_plans.specs.Rooted.{IsRooted}
 use Rattle.call_plans.proofs.Roots.{count_led, after_more, pushed_one}
 use Rattle.call_plans.proofs.StepsOfPlans.{bound_is}
 use Rattle.call_plans.proofs.FewNames.{few_names}
-use Rattle.call_plans.proofs.RootedTargets.{rooted}
 use Rattle.call_plans.proofs.AfterNames.{NextBy, one_more}
 use Rattle.call_acts.specs.declared.refusals.Refusal.{Refusal}
 use Rattle.call_acts.specs.declared.refusals.Refusal.TheVariants as refusal
 use Rattle.call_acts.specs.declared.own.Own.{Own}
 use Rattle.call_acts.specs.declared.lookups.Met.TheVariants.{Finds, Refused}
+use Rattle.spk_nums.specs.declared.kinds.FrameKind.TheVariants as frame_kind
+use Rattle.frame_words.specs.Frame.{frame_of_word}
+use Rattle.frame_words.specs.declared.frame_word.FrameWord.{FrameWord}
+use Rattle.call_acts.specs.declared.typings.Typing.{Typing}
+use Rattle.call_acts.specs.declared.typings.TypingAt.{TypingAt}
+use Rattle.call_acts.specs.declared.typings.TypingAt.TheVariants.{Load, Compare}
+use Rattle.call_acts.specs.Typings.{meets_frame, meets_word, typed_if, took_typing_at, typing_left}
 use Rattle.call_acts.specs.declared.work.Act.{Act as ActType}
-use Rattle.call_acts.specs.declared.work.Act.TheVariants.{Fill as fill_act, Remove as remove_act}
+use Rattle.call_acts.specs.declared.work.Act.TheVariants.{Fill as fill_act, Remove as remove_act, Retype as type_act}
 use Rattle.call_acts.specs.declared.work.Tail.{Tail}
 use Rattle.call_acts.specs.declared.work.Tail.TheVariants.{Nothing, Quiesce}
 use Rattle.call_steps.specs.declared.stages.Stage.{Stage}
@@ -79,103 +83,18 @@ use Rattle.call_steps.specs.declared.stages.Told.TheVariants as told_as
 use Rattle.call_acts.specs.declared.work.Work.{Work}
 use Rattle.call_acts.specs.declared.work.Work.TheVariants.{Lookup, Scan, Acquire, Act}
 use Rattle.call_acts.specs.declared.work.WorkStep.{WorkStep}
-use Rattle.call_acts.specs.declared.work.WorkStep.TheVariants.{Goes, Acquires, Refuses, Answers}
-use Rattle.call_acts.specs.Refusals.{reply_of, refusal_of}
+use Rattle.call_acts.specs.declared.work.WorkStep.TheVariants.{Goes, Acquires, Answers}
+use Rattle.call_acts.specs.Refusals.{refusal_of}
 use Rattle.call_acts.specs.Fills.{filled_if}
-use Rattle.call_acts.specs.Acts.{ActFits, close_left, act_left, took_close, took_act, refuse, dues, next_work, act_begun}
+use Rattle.call_acts.specs.WorkSteps.{refuse}
+use Rattle.call_acts.specs.Acts.{ActFits, close_left, act_left, took_close, took_act, dues, next_work, act_begun}
 use Rattle.call_steps.specs.Tails.{took_tail, tail_counts}
 use Rattle.call_acts.specs.Lookups.{met_name, met_free, met_held}
-use Rattle.call_steps.specs.Steps.{Took, GoesOn, Decides, Returns, landed, found_more, next_by, took_enter, named_one, took_found, took_end, took_look, took_scan, took_count, took_work, went_with, is_spent, took_at, took, told, call_after}
+use Rattle.call_steps.specs.Steps.{GoesOn, Decides, landed, found_more, next_by, took_enter, named_one, took_found, took_end, took_look, took_scan, took_count, took_work, went_with, is_spent, took_at, took, told, call_after}
 use Rattle.call_steps.proofs.Landing.{told_goes, told_decides}
-use Rattle.call_steps.specs.Fits.{ScanFits, WorkFits, StageFits, IsWanted, FoundFits, HasRoom, IsFirst, CountsWait, CountsAt, looks_later, names_left, steps_later, left_of_look, left_of_scan, left_of_pin, work_left, left_at, left_of, IsActive, CallFits, IsOwn, IsCore, left_for}
-use Rattle.call_steps.proofs.StepsFit.{StepFits, one_due, work_next, counts_next, first_named, act_fits, target_below, next_case}
-
--- What a step of a call led to fits its core, and leaves fewer steps than these; so many calls are then counted.
-pub record IsNext (own : Own) (made left : ℕ) (old a : ActiveCall) : Type 0 where
-  pub call : a.call ≡ old.call
-  pub plan : a.plan ≡ old.plan
-  pub found : FoundFits own.layout.frames a.plan a.found
-  pub first : IsFirst a.stage a.found
-  pub stage : StageFits own.layout a.stage
-  pub acquired : AllFit own.layout a.counts
-  pub counts : CountsAt a.counts a.stage
-  pub room : HasRoom made own.limit a.stage
-  pub counted : made ≤ own.limit
-  pub steps : a.steps ≡ old.steps + 1
-  pub fewer : left_of own.layout.cores a < left
-
-abbrev pub TookFits : Own → ℕ → ActiveCall → Took → Type 0
-TookFits own left old (GoesOn a) = IsNext own own.made left old a
-TookFits own left old (Decides r a) = IsNext own (own.made + calls_counted r) left old a
-TookFits own left old (Returns r stamp) = 0 < left
-
--- a decision counts one call at most
-pub counted_most : (r : Reply) → calls_counted r ≤ 1
-counted_most reply.CallsSpent = omega arith
-counted_most r = omega arith
-
--- What holds of a call of a core, but for its stage.
-pub record Facts (own : Own) (a : ActiveCall) : Type 0 where
-  pub own_fits : IsOwn own
-  pub plan : a.plan ≡ plan_for a.call
-  pub found : FoundFits own.layout.frames a.plan a.found
-  pub acquired : AllFit own.layout a.counts
-
-next_fits : (own : Own) (a : ActiveCall) → Facts own a
-    → StepFits own.layout [] (steps_later own.layout.cores a) (look_steps (names_left a) a.plan.target + act_steps a.call
-    own.layout.cores) (next_by own a)
-next_fits own a facts =
-    next_case own a.call a.found (names_left a) a.plan.target facts.own_fits
-    (first_named own.layout.frames a.plan.names [] a.found facts.found)
-    (λ none. target_below own.layout.frames a.plan a.found a.plan.target
-    (subst (λ (p : Plan). IsRooted p.names p.target) (sym facts.plan) (rooted a.call)) facts.found none)
-
-module _ (own : Own) (old a : ActiveCall) (call : a.call ≡ old.call) (plan : a.plan ≡ old.plan) (steps : a.steps ≡ old.steps)
-    (found : FoundFits own.layout.frames a.plan a.found) (acquired : AllFit own.layout a.counts) (room : own.made < own.limit) where
-  landed_fits : (most left : ℕ) (step : WorkStep) → StepFits own.layout a.counts (steps_later own.layout.cores a) most step
-      → 2 + length a.counts + most < left → TookFits own left old (landed a step)
-  landed_fits most left (Goes work) fits some = record {
-    call = call;
-    plan = plan;
-    found = found;
-    first = tt;
-    stage = fits.0;
-    acquired = acquired;
-    counts = fits.2;
-    room = room;
-    counted = omega arith;
-    steps = ap (λ n. n + 1) steps;
-    fewer = let most_left = fits.1 in omega arith;
-  }
-  landed_fits most left (Acquires count work) fits some = absurd fits
-  landed_fits most left (Refuses r tail) fits some =
-      let few = fits.0 in
-      let one : calls_counted (reply_of r) ≤ 1 = counted_most (reply_of r) in record {
-        call = call;
-        plan = plan;
-        found = found;
-        first = tt;
-        stage = fits.1;
-        acquired = acquired;
-        counts = tt;
-        room = tt;
-        counted = omega arith;
-        steps = ap (λ n. n + 1) steps;
-        fewer = omega arith;
-      }
-  landed_fits most left (Answers v drawn tail) fits some = record {
-    call = call;
-    plan = plan;
-    found = found;
-    first = tt;
-    stage = fits.1;
-    acquired = acquired;
-    counts = tt;
-    room = tt;
-    counted = omega arith;
-    steps = ap (λ n. n + 1) steps;
-    fewer = let few = fits.0 in omega arith;
-  }
+use Rattle.call_steps.specs.Fits.{ScanFits, WorkFits, StageFits, IsWanted, FoundFits, HasRoom, CountsWait, CountsAt, looks_later, names_left, steps_later, left_of_look, left_of_scan, left_of_pin, work_left, left_at, left_of, IsActive, CallFits, IsOwn, IsCore, left_for}
+use Rattle.call_steps.proofs.StepsFit.{StepFits, one_due, work_next, counts_next, first_named, act_fits}
+use Rattle.call_steps.proofs.LandsFit.{IsNext, TookFits, Facts, next_fits, landed_fits}
 
 -- a step of the work of a call that has acquired its counts, or acquires them
 module _ (own : Own) (a : ActiveCall) (facts : Facts own a) (room : own.made < own.limit) where
@@ -212,10 +131,32 @@ module _ (own : Own) (a : ActiveCall) (facts : Facts own a) (room : own.made < o
       some_stamp = omega arith
   close_fits (AtStore node index stamp) cap found fits names = act_refused _ refusal.Raced (omega arith)
 
+  type_fits : (y : Typing) (at : TypingAt) (found : ℕ) → y.frame < own.layout.frames
+      → TookFits own (2 + length a.counts + typing_left at) a (landed a (took_typing_at y at found))
+  type_fits y Load found below = met (frame_of_word found)
+    where
+      by : (k : FrameKind) (mark : Option ℕ) → TookFits own (2 + length a.counts + 2) a (landed a (meets_frame y found k mark))
+      by k (Some d) = act_refused _ (refusal.Busy d) (omega arith)
+      by frame_kind.Untyped None =
+          landed_fits own a a refl refl refl facts.found facts.acquired room 1 _
+          (Goes (Act (type_act (record { frame = y.frame; kind = y.kind; at = Compare found })))) (below, omega arith, tt) (omega arith)
+      by frame_kind.User None = act_refused _ refusal.FrameKind (omega arith)
+      by frame_kind.Kernel None = act_refused _ refusal.FrameKind (omega arith)
+
+      met : (o : Option FrameWord) → TookFits own (2 + length a.counts + 2) a (landed a (meets_word y found o))
+      met None = act_refused _ refusal.Raced (omega arith)
+      met (Some v) = by v.kind v.mark
+  type_fits y (Compare word) found below = by (found == word)
+    where
+      by : (equal : Bool) → TookFits own (2 + length a.counts + 1) a (landed a (typed_if equal))
+      by true = landed_fits own a a refl refl refl facts.found facts.acquired room 0 _ (typed_if true) (omega arith, tt) (omega arith)
+      by false = act_refused _ refusal.Raced (omega arith)
+
   done_fits : (act : ActType) (found : ℕ) → ActFits own.layout act
       → TookFits own (left_at own.layout.cores a (Undecided (Act act))) a (landed a (took_act act found))
   done_fits (fill_act fill) found fits = fill_if _ _ (omega arith)
   done_fits (remove_act close cap) found fits = close_fits close cap found fits.0 fits.1
+  done_fits (type_act typing) found fits = type_fits typing typing.at found fits
 
   -- a scan goes on to the next core, or to the act
   scan_goes : (q : Quiet) (found : ℕ) → QuietFits own.layout q → ScanFits own.layout q → quiet_end own.layout.cores q found ≡ ends.Going

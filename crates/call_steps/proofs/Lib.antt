@@ -1,4 +1,5 @@
 pub mod Landing
 pub mod StepsFit
+pub mod LandsFit
 pub mod Fitting
 pub mod Decisions

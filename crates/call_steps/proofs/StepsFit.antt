@@ -1,6 +1,6 @@
 -- Where a step of a call's work leads to fits its machine, and how many steps it leaves at most.
 use Rattle.std.proofs.lemmas.Option.{slice_get_within}
-use Rattle.std.proofs.Common.{◌≡◌, ℕ, zero, suc, ℤ, pos, negsuc, ◌≢◌, nat_lt, if◌then◌else◌, ◌+◌, ◌*◌, ◌-◌, slice_get, ◌<◌, ◌≤◌, Bool, true, false, nat_le, IsTrue, ◌==◌, List, [], ◌∷◌, length, Option, Some, None, IfSome, IsSomeAnd, refl, sym, ap, subst, arith}
+use Rattle.std.proofs.Common.{◌≡◌, ℕ, zero, suc, ℤ, pos, negsuc, ◌≢◌, nat_lt, if◌then◌else◌, ◌+◌, ◌*◌, ◌-◌, slice_get, ◌<◌, ◌≤◌, Bool, true, false, nat_le, IsTrue, ◌==◌, List, [], ◌∷◌, length, Option, Some, None, IfSome, IsSomeAnd, refl, sym, ap, subst, arith, ◌&&◌}
 use Rattle.std.proofs.lemmas.Bool.{leb-true, ltb-true, ltb-false, eqb-true, eqb-false}
 use Rattle.stage_quiet.specs.declared.quiet.Quiet.{Quiet}
 use Rattle.stage_quiet.specs.declared.quiet.Quiet.TheVariants.{AtCore}
@@ -10,7 +10,7 @@ use Rattle.spk_nums.specs.Capability.{Capability}
 use Rattle.spk_nums.specs.declared.kinds.Kind.{Kind}
 use Rattle.spk_nums.specs.declared.kinds.Kind.TheVariants.{Range, Table, Pages}
 use Rattle.spk_nums.specs.declared.calls.Call.{Call}
-use Rattle.spk_nums.specs.declared.calls.Call.TheVariants.{Look as look_call, Copy, Remove, Shrink, Unmap}
+use Rattle.spk_nums.specs.declared.calls.Call.TheVariants.{Look as look_call, Copy, Remove, Shrink, Unmap, Retype}
 use Rattle.entry_words.specs.declared.entry.Entry.{Entry}
 use Rattle.entry_words.specs.declared.entry.Entry.TheVariants as entry
 use Rattle.word_map.specs.Places.{Shape}
@@ -28,17 +28,20 @@ use Rattle.call_plans.specs.declared.plans.Plan.{Plan}
 use Rattle.call_plans.specs.Plans.{at_place}
 use Rattle.call_plans.specs.GoesBy.{earlier, place_of}
 use Rattle.call_plans.specs.After.{with_found, names_after, Leads, next_in}
-use Rattle.call_plans.specs.Bounds.{look_steps, act_steps}
+use Rattle.call_plans.specs.Bounds.{look_steps, retype_steps, act_steps}
 use Rattle.call_plans.specs.Rooted.{root_of, WantsRoot, IsRooted}
 use Rattle.call_plans.proofs.Roots.{earlier_is, Led, nth_led}
 use Rattle.call_plans.proofs.RootedTargets.{rooted}
+use Rattle.spk_nums.specs.declared.kinds.FrameKind.{FrameKind}
+use Rattle.spk_nums.specs.declared.kinds.FrameKind.TheVariants.{Untyped, User, Kernel}
+use Rattle.kernel_rules.specs.CapabilityCalls.{has_frame}
 use Rattle.call_acts.specs.declared.own.Own.{Own}
 use Rattle.call_acts.specs.declared.work.Act.{Act as ActType}
-use Rattle.call_acts.specs.declared.work.Act.TheVariants.{Fill as fill_act, Remove as remove_act}
+use Rattle.call_acts.specs.declared.work.Act.TheVariants.{Fill as fill_act, Remove as remove_act, Retype as type_act}
 use Rattle.call_acts.specs.declared.work.WorkStep.{WorkStep}
 use Rattle.call_acts.specs.declared.work.WorkStep.TheVariants.{Goes, Acquires, Refuses, Answers}
 use Rattle.call_acts.specs.declared.work.Due.{Due}
-use Rattle.call_acts.specs.Acts.{ActFits, act_left, looked, cap_dues, dues, acquires, scans, stamp_in, filling, fills_with, removing, removes_held, removes_at, act_begun}
+use Rattle.call_acts.specs.Acts.{ActFits, act_left, looked, cap_dues, dues, acquires, scans, stamp_in, filling, fills_with, removing, removes_held, removes_at, types_if, types_at, act_begun}
 use Rattle.call_steps.specs.Tails.{tail_left}
 use Rattle.call_acts.specs.Lookups.{looks_under, looks_entry, looks_at, next_step}
 use Rattle.call_steps.specs.Fits.{ScanFits, WorkFits, TailFits, IsWanted, FoundFits, CountsWait, looks_later, left_of_scan, work_left, IsOwn}
@@ -61,6 +64,7 @@ cap_one kind frame arg change = omega arith
 pub one_due : (act : ActType) → length (dues act) ≤ 1
 one_due (fill_act fill) = cap_one fill.cap.kind fill.cap.frame fill.cap.arg (pos 1)
 one_due (remove_act close cap) = cap_one cap.kind cap.frame cap.arg (negsuc 0)
+one_due (type_act typing) = omega arith
 
 -- the counts that an act changes are of frames of the machine
 abbrev pub DueFits : Shape → Option Due → Type 0
@@ -77,6 +81,8 @@ cap_fit s kind frame arg change (suc n) names = tt
 pub dues_fit : (s : Shape) (act : ActType) (n : ℕ) → ActFits s act → DueFits s (slice_get (dues act) n)
 dues_fit s (fill_act fill) n fits = cap_fit s fill.cap.kind fill.cap.frame fill.cap.arg (pos 1) n fits.cap
 dues_fit s (remove_act close cap) n fits = cap_fit s cap.kind cap.frame cap.arg (negsuc 0) n fits.1
+dues_fit s (type_act typing) zero fits = tt
+dues_fit s (type_act typing) (suc n) fits = tt
 
 -- what a core does for an act of whose counts it has acquired so many
 pub work_next : (s : Shape) (later core n : ℕ) (act : ActType) (o : Option Due) → slice_get (dues act) n ≡ o → core < s.cores
@@ -199,6 +205,28 @@ pub look_done : (s : Shape) (later most : ℕ) (k : Option Capability) → StepF
 look_done s later most None = (omega arith, tt)
 look_done s later most (Some k) = (omega arith, tt)
 
+-- the act that types a frame of a range
+pub types_fit : (s : Shape) (later most f : ℕ) (k : FrameKind) (within : Bool) → (within ≡ true → f < s.frames) → 2 ≤ most
+    → StepFits s [] later most (types_if within f k)
+types_fit s later most f k true below some = (below refl, omega arith, tt)
+types_fit s later most f k false below some = (omega arith, tt)
+
+pub types : (own : Own) (later most : ℕ) (range : Option Capability) (f : ℕ) (k : FrameKind) → 2 ≤ most
+    → StepFits own.layout [] later most (types_at own range f k)
+types own later most None f k some = (omega arith, tt)
+types own later most (Some range) f k some =
+    types_fit own.layout later most f k (has_frame (found range) f && nat_lt f own.layout.frames)
+    (λ is. ltb-true f own.layout.frames (both (has_frame (found range) f) (nat_lt f own.layout.frames) is)) some
+  where
+    both : (x y : Bool) → (x && y) ≡ true → y ≡ true
+    both true y is = is
+    both false y is = cc
+
+two_steps : (k : FrameKind) (n : ℕ) → 2 ≤ retype_steps k n
+two_steps Untyped n = omega arith
+two_steps User n = omega arith
+two_steps Kernel n = omega arith
+
 pub act_fits : (own : Own) (later : ℕ) (call : Call) (found : List Capability) (target : Option Found) → IsOwn own
     → IfSome (at_place found First) (CapNames own.layout.frames) → IfSome target (PlaceFits own.layout)
     → StepFits own.layout [] later (act_steps call own.layout.cores) (act_begun own call found target)
@@ -207,6 +235,8 @@ act_fits own later (Copy a t b) found target h names fits = filled own later (3 
 act_fits own later (Remove t b) found target h names fits = removed own.layout later 6 own.core target h.core fits (omega arith)
 act_fits own later (Shrink t i) found target h names fits = removed own.layout later 6 own.core target h.core fits (omega arith)
 act_fits own later (Unmap p v) found target h names fits = removed own.layout later 6 own.core target h.core fits (omega arith)
+act_fits own later (Retype r f k) found target h names fits =
+    types own later (retype_steps k own.layout.cores) _ f k (two_steps k own.layout.cores)
 act_fits own later call found target h names fits = (omega arith, tt)
 
 -- the root of a target is a frame of the machine, where its name is found
@@ -229,10 +259,10 @@ spot_below frames plan ks spot (Some name) is rooted fits none =
 pub target_below : (frames : ℕ) (plan : Plan) (ks : List Capability) (target : Target) → IsRooted plan.names target
     → FoundFits frames plan ks → names_after plan.names ks ≡ []
     → RootBelow frames ks target
-target_below frames plan ks Nowhere rooted fits none = tt
-target_below frames plan ks (Free spot) rooted fits none = spot_below frames plan ks spot _ refl rooted fits none
-target_below frames plan ks (Held spot) rooted fits none = spot_below frames plan ks spot _ refl rooted fits none
-target_below frames plan ks (own_page v) rooted fits none = tt
+target_below frames plan ks Nowhere root fits none = tt
+target_below frames plan ks (Free spot) root fits none = spot_below frames plan ks spot _ refl root fits none
+target_below frames plan ks (Held spot) root fits none = spot_below frames plan ks spot _ refl root fits none
+target_below frames plan ks (own_page v) root fits none = tt
 
 -- what comes next of a call, where these of its names are left
 pub at_fits : (s : Shape) (ks : List Capability) (spot : Spot) (later acts : ℕ) → later ≤ acts

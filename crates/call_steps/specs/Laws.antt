@@ -2,12 +2,10 @@
 use Rattle.std.specs.Prelude.{◌≡◌, ℕ, true, false, Option, Some, None}
 use Rattle.spk_nums.specs.declared.replies.Reply.{Reply}
 use Rattle.kernel_rules.specs.Laws.{IsRefusal}
-use Rattle.call_acts.specs.declared.refusals.Refusal.{Refusal}
 use Rattle.call_acts.specs.declared.own.Own.{Own}
 use Rattle.call_steps.specs.declared.stages.Stage.{Stage}
 use Rattle.call_steps.specs.declared.stages.Stage.TheVariants.{Enter, Undecided, Decided, Leave}
 use Rattle.call_steps.specs.declared.stages.ActiveCall.{ActiveCall}
-use Rattle.call_acts.specs.Refusals.{reply_of, refusal_of}
 use Rattle.call_steps.specs.Steps.{Took, GoesOn, Decides, Returns, took, is_ready}
 use Rattle.call_steps.specs.Fits.{IsActive}
 

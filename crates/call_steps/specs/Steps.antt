@@ -43,7 +43,8 @@ use Rattle.call_acts.specs.declared.work.WorkStep.TheVariants.{Goes, Acquires, R
 use Rattle.call_steps.specs.declared.stages.Told.{Told}
 use Rattle.call_steps.specs.declared.stages.Told.TheVariants as told_as
 use Rattle.call_acts.specs.Refusals.{reply_of, refusal_of}
-use Rattle.call_acts.specs.Acts.{act_move, took_act, act_ready, next_work, refuse}
+use Rattle.call_acts.specs.WorkSteps.{refuse}
+use Rattle.call_acts.specs.Acts.{act_move, took_act, act_ready, next_work}
 use Rattle.call_acts.specs.Lookups.{next_step, met_name, met_free, met_held}
 use Rattle.call_steps.specs.Tails.{tail_move, took_tail, tail_counts}
 

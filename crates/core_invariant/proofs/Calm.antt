@@ -72,36 +72,35 @@ calm_then s s' s'' c a b = record {
   more = (let p = a.more in let q = b.more in omega arith);
 }
 
-thread_on : (s s' : State) (d : ℕ) → ((f : ℕ) → s'.frame f ≡ s.frame f) → (s'.core d).thread ≡ (s.core d).thread
-    → thread_of s' d ≡ thread_of s d
-thread_on s s' d frame thread = ap thread_in (frame (s'.core d).thread) ∙ ap (λ (f : ℕ). thread_in (s.frame f)) thread
-
-comp_on : (s s' : State) (d : ℕ) → ((f : ℕ) → s'.frame f ≡ s.frame f) → (s'.core d).thread ≡ (s.core d).thread
-    → comp_of s' d ≡ comp_of s d
-comp_on s s' d frame thread =
-    ap comp_in (frame (first_of_stack (thread_of s' d).stack)) ∙ ap (λ k. comp_in (s.frame (first_of_stack k.stack)))
-    (thread_on s s' d frame thread)
-
--- where the own core works stays, but for what it has counted
-pub calm_own : (s s' : State) (c : ℕ) (core after : Own) → IsCalm s s' c
+-- where the own core works stays, but for what it has counted, where the step leaves its threads and components
+pub own_works : (s s' : State) (c : ℕ) (core after : Own) → ((f : ℕ) → thread_in (s'.frame f) ≡ thread_in (s.frame f))
+    → ((f : ℕ) → comp_in (s'.frame f) ≡ comp_in (s.frame f))
+    → s'.core c ≡ counts (s.core c) (s'.core c).inside (s'.core c).counted
     → after ≡ record core { made = (s'.core c).counted; exit = after.exit }
     → WorksIn core s c → WorksIn after s' c
-calm_own s s' c core after calm same is =
-    let thread : (s'.core c).thread ≡ (s.core c).thread = ap (λ k. k.thread) calm.own in
-    let whose = thread_on s s' c calm.frame thread in
-    let comp = comp_on s s' c calm.frame thread in
+own_works s s' c core after threads comps own same is =
+    let thread : (s'.core c).thread ≡ (s.core c).thread = ap (λ k. k.thread) own in
+    let whose : thread_of s' c ≡ thread_of s c = threads (s'.core c).thread ∙ ap (λ (f : ℕ). thread_in (s.frame f)) thread in
+    let comp : comp_of s' c ≡ comp_of s c = comps (first_of_stack (thread_of s' c).stack)
+    ∙ ap (λ k. comp_in (s.frame (first_of_stack k.stack))) whose in
     record {
       thread = ap (λ k. k.thread) same ∙ is.thread ∙ sym thread;
       depth = ap (λ k. k.depth) same ∙ is.depth ∙ ap (λ k. Rattle.std.proofs.Common.length k.stack) (sym whose);
       comp = ap (λ k. k.comp) same ∙ is.comp ∙ ap (λ k. first_of_stack k.stack) (sym whose);
       table = ap (λ k. k.table) same ∙ is.table ∙ ap (λ k. k.table) (sym comp);
       pages = ap (λ k. k.pages) same ∙ is.pages ∙ ap (λ k. k.pages) (sym comp);
-      tcap = ap (λ k. k.tcap) same ∙ is.tcap ∙ ap (λ k. k.tcap) (sym calm.own);
-      cached = ap (λ k. k.cached) same ∙ is.cached ∙ ap (λ k. k.cached) (sym calm.own);
-      owed = ap (λ k. k.owed) same ∙ is.owed ∙ ap (λ k. k.owed) (sym calm.own);
-      spent = ap (λ k. k.spent) same ∙ is.spent ∙ ap (λ k. k.spent) (sym calm.own);
+      tcap = ap (λ k. k.tcap) same ∙ is.tcap ∙ ap (λ k. k.tcap) (sym own);
+      cached = ap (λ k. k.cached) same ∙ is.cached ∙ ap (λ k. k.cached) (sym own);
+      owed = ap (λ k. k.owed) same ∙ is.owed ∙ ap (λ k. k.owed) (sym own);
+      spent = ap (λ k. k.spent) same ∙ is.spent ∙ ap (λ k. k.spent) (sym own);
       made = ap (λ k. k.made) same;
     }
+
+pub calm_own : (s s' : State) (c : ℕ) (core after : Own) → IsCalm s s' c
+    → after ≡ record core { made = (s'.core c).counted; exit = after.exit }
+    → WorksIn core s c → WorksIn after s' c
+calm_own s s' c core after calm same is =
+    own_works s s' c core after (λ f. ap thread_in (calm.frame f)) (λ f. ap comp_in (calm.frame f)) calm.own same is
 
 sum_rises : (f f' : ℕ → ℕ) (n : ℕ) → ((i : ℕ) → f i ≤ f' i) → sum_below f n ≤ sum_below f' n
 unfolding sum_below

@@ -9,7 +9,7 @@ use Rattle.spk_nums.specs.Capability.{Capability}
 use Rattle.spk_nums.specs.Setting.{Setting, IsSetting}
 use Rattle.spk_nums.specs.declared.kinds.Kind.{Kind}
 use Rattle.spk_nums.specs.declared.calls.Call.{Call}
-use Rattle.word_map.specs.Word.{Word, EntryAt, CountAt}
+use Rattle.word_map.specs.Word.{Word, EntryAt, CountAt, FrameAt}
 use Rattle.word_map.specs.Places.{counter_of}
 use Rattle.word_map.specs.Moves.{word_of}
 use Rattle.stage_look.specs.declared.look.Look.{Look}
@@ -42,11 +42,14 @@ use Rattle.stage_quiet.specs.declared.quiet.Quiet.TheVariants.{AtCore, AtFlush}
 use Rattle.stage_pins.specs.declared.pin.Pin.{Pin}
 use Rattle.stage_pins.specs.declared.pin.Pin.TheVariants.{AtLoad, AtCompare as pin_compare}
 use Rattle.call_acts.specs.declared.work.Act.{Act as ActOf}
-use Rattle.call_acts.specs.declared.work.Act.TheVariants.{Fill as fill_act, Remove as remove_act}
+use Rattle.call_acts.specs.declared.work.Act.TheVariants.{Fill as fill_act, Remove as remove_act, Retype as type_act}
 use Rattle.call_acts.specs.declared.work.Work.{Work}
 use Rattle.call_acts.specs.declared.work.Work.TheVariants.{Lookup, Scan, Acquire, Act}
 use Rattle.call_steps.specs.declared.stages.ActiveCall.{ActiveCall}
-use Rattle.core_invariant.specs.Knows.{IsCount, IsReached, HasFound, LookIs, LooksUp, own_in, NamesAre, LooksFor, IsScanned, MayFill, IsFill, IsRemoval, KnowsClose, KnowsAct, KnowsQuiet, KnowsStore, HasLoaded, KnowsWork, KnowsUndecided}
+use Rattle.core_invariant.specs.Knows.{IsCount, IsReached, HasFound, LookIs, LooksUp, own_in, NamesAre, LooksFor, IsScanned, MayFill, IsFill, IsRemoval, KnowsClose, KnowsAct, KnowsQuiet, KnowsStore, HasLoaded, KnowsWork, KnowsUndecided, KnowsTyping, HasMetAt}
+use Rattle.call_acts.specs.declared.typings.Typing.{Typing}
+use Rattle.call_acts.specs.declared.typings.TypingAt.{TypingAt}
+use Rattle.call_acts.specs.declared.typings.TypingAt.TheVariants.{Load, Compare as type_compare}
 
 -- The words on which a call has stepped, after a step of it.
 pub own_kept : (t : Trace) (e : Step) (c : ℕ) → c ≡ e.core → e.enters ≡ None → (w : Word) → IsSome (own_left t c w)
@@ -66,6 +69,14 @@ slot_relies setup setting t legal c call is (InRoot table i) at way =
     entry_node : (b : Bool) → (if b then Some (record { node = table.frame; index = i }) else None) ≡ Some at → table.frame ≡ at.node
     entry_node true h = ap (λ (x : Slot). x.node) (some_inj record { node = table.frame; index = i } at h)
     entry_node false h = absurd (none_some at h)
+
+-- A step leaves what the core's last steps on entries and on frames' words have read.
+pub record ReadsSame (t : Trace) (e : Step) (c : ℕ) : Type 0 where
+  pub entries : (f i : ℕ) → own_read (e ∷ t) c (EntryAt f i) ≡ own_read t c (EntryAt f i)
+  pub frames : (f : ℕ) → own_read (e ∷ t) c (FrameAt f) ≡ own_read t c (FrameAt f)
+
+pub reads_same : {t : Trace} {e : Step} {c : ℕ} → ((w : Word) → own_read (e ∷ t) c w ≡ own_read t c w) → ReadsSame t e c
+reads_same same = record { entries = λ f i. same (EntryAt f i); frames = λ f. same (FrameAt f) }
 
 module _ (setup : Setting) (setting : IsSetting setup) (t : Trace) (e : Step) (legal : IsLegal setup t) (c : ℕ) (call : Call)
     (is_open : phase t c ≡ Open call) (carries : Carries setup t e c) where
@@ -197,13 +208,22 @@ module _ (setup : Setting) (setting : IsSetting setup) (t : Trace) (e : Step) (l
   close_on of plan caps (AtDraw node index) cap same has = removal_on of plan caps node index cap has
   close_on of plan caps (AtStore node index at) cap same has = has
 
-  pub act_on : (of : Call) (plan : Plan) (caps : List Capability) (upto : ℕ) (act : ActOf)
-      → ((f i : ℕ) → own_read (e ∷ t) c (EntryAt f i) ≡ own_read t c (EntryAt f i))
-      → KnowsAct setup t c of plan caps upto act → KnowsAct setup (e ∷ t) c of plan caps upto act
-  act_on of plan caps upto (fill_act fill) same has = fill_on of plan caps upto fill same has
-  act_on of plan caps upto (remove_act close cap) same has = close_on of plan caps close cap same has
+  typing_on : (of : Call) (caps : List Capability) (y : Typing) → ((f : ℕ) → own_read (e ∷ t) c (FrameAt f) ≡ own_read t c (FrameAt f))
+      → KnowsTyping t c of caps y → KnowsTyping (e ∷ t) c of caps y
+  typing_on of caps y same has = record { types = has.types; met = met_on y.at has.met }
+    where
+      met_on : (at : TypingAt) → HasMetAt t c y.frame at → HasMetAt (e ∷ t) c y.frame at
+      met_on Load has = tt
+      met_on (type_compare word) has =
+          record { own = same y.frame ∙ has.own; shown = has.shown; says = has.says; kind = has.kind; mark = has.mark }
 
-  quiet_on : (a : ActiveCall) (q : Quiet) (act : ActOf) → ((f i : ℕ) → own_read (e ∷ t) c (EntryAt f i) ≡ own_read t c (EntryAt f i))
+  pub act_on : (of : Call) (plan : Plan) (caps : List Capability) (upto : ℕ) (act : ActOf) → ReadsSame t e c
+      → KnowsAct setup t c of plan caps upto act → KnowsAct setup (e ∷ t) c of plan caps upto act
+  act_on of plan caps upto (fill_act fill) same has = fill_on of plan caps upto fill same.entries has
+  act_on of plan caps upto (remove_act close cap) same has = close_on of plan caps close cap same.entries has
+  act_on of plan caps upto (type_act typing) same has = typing_on of caps typing same.frames has
+
+  quiet_on : (a : ActiveCall) (q : Quiet) (act : ActOf) → ReadsSame t e c
       → KnowsQuiet setup t c a q act
       → KnowsQuiet setup (e ∷ t) c a q act
   quiet_on a (AtCore at core upto page) act same has =
@@ -218,9 +238,9 @@ module _ (setup : Setting) (setting : IsSetting setup) (t : Trace) (e : Step) (l
   work_on : (table : ℕ) (a : ActiveCall) (work : Work) → ((w : Word) → own_read (e ∷ t) c w ≡ own_read t c w)
       → KnowsWork setup t c table a work → KnowsWork setup (e ∷ t) c table a work
   work_on table a (Lookup look) same has = looks_for_on table (next_of a.plan a.found) look has
-  work_on table a (Scan q act) same has = quiet_on a q act (λ f i. same (EntryAt f i)) has
+  work_on table a (Scan q act) same has = quiet_on a q act (reads_same same) has
   work_on table a (Acquire pin change act) same has = record {
-    knows = act_on a.call a.plan a.found setup.cores act (λ f i. same (EntryAt f i)) has.knows;
+    knows = act_on a.call a.plan a.found setup.cores act (reads_same same) has.knows;
     rest = has.rest;
     due = has.due;
     core = has.core;
@@ -229,7 +249,7 @@ module _ (setup : Setting) (setting : IsSetting setup) (t : Trace) (e : Step) (l
     starts = has.starts;
   }
   work_on table a (Act act) same has =
-      record { knows = act_on a.call a.plan a.found setup.cores act (λ f i. same (EntryAt f i)) has.knows; all = has.all }
+      record { knows = act_on a.call a.plan a.found setup.cores act (reads_same same) has.knows; all = has.all }
 
   -- what a call knows that is not decided, after a step of another core
   pub undecided_on : (table : ℕ) (a : ActiveCall) (work : Work) → ((w : Word) → own_read (e ∷ t) c w ≡ own_read t c w)

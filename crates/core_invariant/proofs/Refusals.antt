@@ -4,7 +4,7 @@ use Rattle.std.proofs.lemmas.Bool.{false≢true, lt-leb}
 use Rattle.supported_calls.specs.Built.{IsBuilt}
 use Rattle.spk_nums.specs.Setting.{Setting, IsSetting}
 use Rattle.spk_nums.specs.declared.calls.Call.{Call}
-use Rattle.spk_nums.specs.declared.calls.Call.TheVariants.{Look, Copy, Remove, Shrink, Unmap}
+use Rattle.spk_nums.specs.declared.calls.Call.TheVariants.{Look, Copy, Remove, Shrink, Unmap, Retype}
 use Rattle.spk_nums.specs.declared.replies.Reply.{Reply}
 use Rattle.spk_nums.specs.declared.replies.Reply.TheVariants as reply
 use Rattle.word_map.specs.Moves.{Move, word_of}
@@ -55,6 +55,7 @@ built_owes s c (Copy a u b) built = refl
 built_owes s c (Remove u b) built = refl
 built_owes s c (Shrink u i) built = refl
 built_owes s c (Unmap p v) built = refl
+built_owes s c (Retype r f k) built = refl
 built_owes s c _ built = absurd built
 
 -- The calls of a core are not spent where it may count one more.
@@ -127,6 +128,20 @@ module _ (setup : Setting) (setting : IsSetting setup) (cores : ℕ → Core) (t
       decides_on setup setting cores t stands c here a active move reply.Occupied a.found looks lands (still None refl) opens refl refl
       (λ x. refl) (λ x. refl) refl (unspent, may) tt
       (first_of reply.Occupied first)
+
+  pub refuses_out_of_range : RuleMay (state_after setup t) c (rule_of (state_after setup t) c a.call) reply.OutOfRange
+      → IsFirstCause reply.OutOfRange → RefusedWith reply.OutOfRange
+  refuses_out_of_range may first lands =
+      decides_on setup setting cores t stands c here a active move reply.OutOfRange a.found looks lands (still None refl) opens refl refl
+      (λ x. refl) (λ x. refl) refl (unspent, may) tt
+      (first_of reply.OutOfRange first)
+
+  pub refuses_frame_kind : RuleMay (state_after setup t) c (rule_of (state_after setup t) c a.call) reply.FrameKind
+      → IsFirstCause reply.FrameKind → RefusedWith reply.FrameKind
+  refuses_frame_kind may first lands =
+      decides_on setup setting cores t stands c here a active move reply.FrameKind a.found looks lands (still None refl) opens refl refl
+      (λ x. refl) (λ x. refl) refl (unspent, may) tt
+      (first_of reply.FrameKind first)
 
   -- a word that has changed since the call's last step on it
   pub refuses_raced : IsRaceLost t (inner setup setting cores t stands c here a active move (Some reply.Raced) None) (state_after setup t)

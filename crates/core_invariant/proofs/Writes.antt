@@ -24,7 +24,7 @@ use Rattle.kernel_history.specs.Marks.{mark_of}
 use Rattle.kernel_history.specs.Stamps.{clock, exit_of}
 use Rattle.kernel_history.specs.Graces.{IsLeave}
 use Rattle.kernel_history.proofs.Inside.{decided-inside, inside-own, inside-other}
-use Rattle.kernel_history.proofs.Steps.{phase-own, steps_in_call-own, exit_of-own, exit_of-other}
+use Rattle.kernel_history.proofs.Steps.{phase-own, steps_in_call-own, exit_of-own, exit_of-other, last_left-there}
 use Rattle.call_steps.specs.declared.stages.Stage.{Stage}
 use Rattle.call_steps.specs.declared.stages.Stage.TheVariants.{Decided, Leave}
 use Rattle.call_steps.specs.declared.stages.ActiveCall.{ActiveCall}
@@ -41,7 +41,6 @@ use Rattle.core_invariant.proofs.Sums.{sums_stay}
 use Rattle.core_invariant.specs.Holding.{nothing, count_of, holds_counts, settled}
 use Rattle.stage_pins.specs.declared.held.Acquired.{Acquired}
 use Rattle.call_steps.specs.Fits.{CountsAt}
-use Rattle.kernel_history.proofs.Steps.{last_left-there}
 use Rattle.std.proofs.lemmas.List.Elements.{All-nil}
 use Rattle.core_invariant.proofs.Good.{IsGood}
 use Rattle.core_invariant.proofs.Calm.{IsCalm, calm_returned, calm_own, calm_words, counted_rises, IsPlain, plain_time, plain_exit, plain_flushed}

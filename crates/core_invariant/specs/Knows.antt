@@ -1,17 +1,22 @@
 -- What a call knows where it stands, said of the state; and what a core is after a trace.
-use Rattle.std.specs.Prelude.{◌≡◌, ◌≢◌, ◌<◌, ◌≤◌, ◌++◌, ◌/◌, ℕ, ℤ, Bool, true, false, map, All, List, [], ◌∷◌, length, Option, Some, None, IsSome, IsTrue}
+use Rattle.std.specs.Prelude.{◌≡◌, ◌≢◌, ◌<◌, ◌≤◌, ◌++◌, ◌/◌, ℕ, ℤ, Bool, true, false, map, All, List, [], ◌∷◌, length, Option, Some, None, IsSome, IsTrue, not}
 use Rattle.spk_nums.specs.Capability.{Capability}
 use Rattle.spk_nums.specs.Setting.{Setting}
 use Rattle.spk_nums.specs.declared.kinds.Kind.{Kind}
 use Rattle.spk_nums.specs.declared.calls.Call.{Call}
+use Rattle.spk_nums.specs.declared.calls.Call.TheVariants.{Retype}
+use Rattle.spk_nums.specs.declared.kinds.FrameKind.{FrameKind}
+use Rattle.spk_nums.specs.declared.kinds.FrameKind.TheVariants.{Untyped}
+use Rattle.frame_words.specs.Frame.{frame_of_word}
+use Rattle.frame_words.specs.declared.frame_word.FrameWord.{FrameWord}
 use Rattle.entry_words.specs.EntryWord.{EntryFits, entry_of_word}
 use Rattle.entry_words.specs.declared.entry.Entry.{Entry}
 use Rattle.entry_words.specs.declared.entry.Entry.TheVariants as entry
 use Rattle.frame_words.specs.Count.{CountFits, word_of_count}
-use Rattle.word_map.specs.Word.{EntryAt, CountAt}
+use Rattle.word_map.specs.Word.{EntryAt, CountAt, FrameAt}
 use Rattle.word_map.specs.Places.{counter_of}
 use Rattle.kernel_rules.specs.State.{Thing, PlaceOf, State, first_of_stack, thread_of, comp_of}
-use Rattle.kernel_rules.specs.Access.{Slot, Named, root_at, Target, Under, InRoot, usable, linked, root_slot, reached}
+use Rattle.kernel_rules.specs.Access.{Slot, Named, root_at, Target, Under, InRoot, usable, linked, root_slot, reached, found}
 use Rattle.kernel_rules.specs.Relies.{Relies}
 use Rattle.kernel_history.specs.Graces.{IsLeave}
 use Rattle.kernel_history.specs.BootWords.{shape_of}
@@ -32,8 +37,13 @@ use Rattle.call_plans.specs.declared.plans.Plan.{Plan}
 use Rattle.call_plans.specs.After.{Leads, Next, NextName, NextFree, NextHeld, NextOwn, NextNothing, next_of}
 use Rattle.call_acts.specs.declared.own.Own.{Own}
 use Rattle.call_acts.specs.declared.fills.Fill.{Fill}
+use Rattle.call_acts.specs.declared.typings.Typing.{Typing}
+use Rattle.call_acts.specs.declared.typings.TypingAt.{TypingAt}
+use Rattle.call_acts.specs.declared.typings.TypingAt.TheVariants.{Load, Compare as type_compare}
+use Rattle.call_acts.specs.Typings.{is_typing}
+use Rattle.kernel_rules.specs.CapabilityCalls.{has_frame}
 use Rattle.call_acts.specs.declared.work.Act.{Act as ActOf}
-use Rattle.call_acts.specs.declared.work.Act.TheVariants.{Fill as fill_act, Remove as remove_act}
+use Rattle.call_acts.specs.declared.work.Act.TheVariants.{Fill as fill_act, Remove as remove_act, Retype as type_act}
 use Rattle.call_acts.specs.declared.work.Work.{Work}
 use Rattle.call_acts.specs.declared.work.Due.{Due}
 use Rattle.call_acts.specs.declared.work.Work.TheVariants.{Lookup, Scan, Acquire, Act}
@@ -183,10 +193,38 @@ KnowsClose setup t c call plan found (close_compare node index word core) cap =
 KnowsClose setup t c call plan found (AtDraw node index) cap = IsRemoval setup t c call plan found node index cap
 KnowsClose setup t c call plan found (AtStore node index at) cap = ⊥
 
+-- The call types this frame, which the range has to which its name has led.
+pub record IsTyped (f : ℕ) (k : FrameKind) (y : Typing) (has : Bool) : Type 0 where
+  pub frame : y.frame ≡ f
+  pub kind : y.kind ≡ k
+  pub within : has ≡ true
+
+abbrev pub TypesBy : Call → List Capability → Typing → Type 0
+TypesBy (Retype r f k) (range ∷ []) y = IsTyped f k y (has_frame (found range) f)
+TypesBy call ks y = ⊥
+
+-- Before the compare, the call's last step on the frame's word has read there this word, which says that the frame is untyped and not
+-- marked.
+pub record HasMet (t : Trace) (c f word : ℕ) : Type 0 where
+  pub own : own_read t c (FrameAt f) ≡ Some word
+  pub shown : FrameWord
+  pub says : frame_of_word word ≡ Some shown
+  pub kind : shown.kind ≡ Untyped
+  pub mark : shown.mark ≡ None
+
+abbrev pub HasMetAt : Trace → ℕ → ℕ → TypingAt → Type 0
+HasMetAt t c f Load = Unit {0}
+HasMetAt t c f (type_compare word) = HasMet t c f word
+
+pub record KnowsTyping (t : Trace) (c : ℕ) (call : Call) (ks : List Capability) (y : Typing) : Type 0 where
+  pub types : TypesBy call ks y
+  pub met : HasMetAt t c y.frame y.at
+
 -- What a call with this plan knows of its act, where its names have led to these and the cores below `upto` were scanned.
 abbrev pub KnowsAct : Setting → Trace → ℕ → Call → Plan → List Capability → ℕ → ActOf → Type 0
 KnowsAct setup t c call plan found upto (fill_act fill) = IsFill setup t c call plan found upto fill
 KnowsAct setup t c call plan found upto (remove_act close cap) = KnowsClose setup t c call plan found close cap
+KnowsAct setup t c call plan found upto (type_act typing) = KnowsTyping t c call found typing
 
 -- An act is before its first step.
 abbrev pub is_first_of : Close → Bool
@@ -197,6 +235,7 @@ is_first_of (AtStore node index at) = false
 abbrev pub is_start : ActOf → Bool
 is_start (fill_act fill) = true
 is_start (remove_act close cap) = is_first_of close
+is_start (type_act typing) = not (is_typing typing.at)
 
 -- What it knows at a scan for the place that it fills: the cores before this one were scanned.
 pub record KnowsScan (setup : Setting) (t : Trace) (c : ℕ) (a : ActiveCall) (at by upto : ℕ) (act : ActOf) : Type 0 where

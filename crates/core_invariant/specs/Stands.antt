@@ -22,7 +22,7 @@ use Rattle.spk_nums.specs.declared.replies.Reply.{Reply}
 use Rattle.spk_nums.specs.declared.replies.Reply.TheVariants.{Ok}
 use Rattle.stage_pins.specs.declared.held.Acquired.{Acquired}
 use Rattle.call_acts.specs.declared.work.Act.{Act}
-use Rattle.call_acts.specs.declared.work.Act.TheVariants.{Fill, Remove}
+use Rattle.call_acts.specs.declared.work.Act.TheVariants.{Fill, Remove, Retype}
 use Rattle.call_acts.specs.declared.work.Work.{Work}
 use Rattle.call_acts.specs.declared.work.Work.TheVariants.{Lookup, Scan, Acquire, Act as act_work}
 use Rattle.call_acts.specs.declared.work.Tail.{Tail}
@@ -47,6 +47,7 @@ is_done (Leave r x) = None
 abbrev pub holds_act : Act → Holding → Holding
 holds_act (Fill fill) h = h
 holds_act (Remove close cap) h = holds_closed close cap h
+holds_act (Retype typing) h = h
 
 abbrev pub holds_tail : Tail → Holding → Holding
 holds_tail Nothing h = h

@@ -7,7 +7,7 @@ use Rattle.std.proofs.lemmas.List.Elements.{All-nil, All-cons, All-head, All-tai
 use Rattle.spk_nums.specs.Setting.{Setting, IsSetting}
 use Rattle.spk_nums.specs.Capability.{Capability}
 use Rattle.spk_nums.specs.declared.calls.Call.{Call}
-use Rattle.spk_nums.specs.declared.calls.Call.TheVariants.{Look, Copy, Remove, Shrink, Unmap}
+use Rattle.spk_nums.specs.declared.calls.Call.TheVariants.{Look, Copy, Remove, Shrink, Unmap, Retype}
 use Rattle.spk_nums.specs.declared.replies.Reply.{Reply}
 use Rattle.spk_nums.specs.declared.replies.Reply.TheVariants as reply
 use Rattle.supported_calls.specs.Built.{IsBuilt}
@@ -17,7 +17,7 @@ use Rattle.frame_words.specs.declared.count_word.Hold.{Hold}
 use Rattle.frame_words.specs.declared.count_word.Hold.TheVariants as hold
 use Rattle.frame_words.proofs.CountLemmas as counts
 use Rattle.spk_nums.specs.WordSteps.{left_if}
-use Rattle.word_map.specs.Word.{Word, EntryAt, CountAt, ClockAt}
+use Rattle.word_map.specs.Word.{Word, EntryAt, CountAt, ClockAt, FrameAt}
 use Rattle.word_map.specs.Places.{counter_of}
 use Rattle.word_map.specs.Moves.{Move, LoadOf, CompareOf, StoreOf, word_of, left_of}
 use Rattle.kernel_rules.specs.State.{Place, Free as Vacant, Holds, Quiescing as Removed, PlaceOf, State, put}
@@ -57,13 +57,14 @@ use Rattle.look_invariant.proofs.Findings.{found_named}
 use Rattle.call_acts.specs.declared.refusals.Refusal.TheVariants as refusal
 use Rattle.call_acts.specs.declared.work.Due.{Due}
 use Rattle.call_acts.specs.declared.work.Act.{Act as ActOf}
-use Rattle.call_acts.specs.declared.work.Act.TheVariants.{Fill as fill_act, Remove as remove_act}
+use Rattle.call_acts.specs.declared.work.Act.TheVariants.{Fill as fill_act, Remove as remove_act, Retype as type_act}
 use Rattle.call_acts.specs.declared.work.Tail.TheVariants.{Nothing}
 use Rattle.call_acts.specs.declared.work.Work.TheVariants.{Acquire}
 use Rattle.call_steps.specs.declared.stages.Stage.TheVariants.{Undecided, Decided}
 use Rattle.call_steps.specs.declared.stages.ActiveCall.{ActiveCall}
 use Rattle.call_acts.specs.declared.work.WorkStep.TheVariants.{Goes, Acquires}
-use Rattle.call_acts.specs.Acts.{refuse, dues, acquires, next_work, put_by, removes_by}
+use Rattle.call_acts.specs.WorkSteps.{refuse}
+use Rattle.call_acts.specs.Acts.{dues, acquires, next_work, put_by, removes_by}
 use Rattle.call_steps.specs.Fits.{CountsAt, HasRoom}
 use Rattle.call_steps.specs.Steps.{GoesOn, landed, went_with, took_count}
 use Rattle.call_steps.specs.Tails.{is_ok}
@@ -73,7 +74,7 @@ use Rattle.core_invariant.specs.Holding.{Holding, count_of, committed, holds_cou
 use Rattle.core_invariant.specs.Words.{SaysCount, count_room}
 use Rattle.core_invariant.specs.Knows.{own_in, HasFound, NamesAre, due_of, pin_frame, pin_core, is_start, IsRemoval, KnowsClose, KnowsAct, KnowsWork, KnowsUndecided, IsCount, HasRead, phase_at}
 use Rattle.core_invariant.specs.Stands.{done_by, holds_act, holds_work, holds_at, holds_in, holds, held_by, Stands}
-use Rattle.core_invariant.proofs.Carries.{names_on, act_on, counts_on}
+use Rattle.core_invariant.proofs.Carries.{names_on, act_on, counts_on, ReadsSame}
 use Rattle.core_invariant.proofs.Writes.{same_marks}
 use Rattle.core_invariant.proofs.Good.{IsGood}
 use Rattle.core_invariant.proofs.Counting as counters
@@ -148,6 +149,7 @@ start_holds (fill_act fill) h is = refl
 start_holds (remove_act (close_compare node index word by) cap) h is = refl
 start_holds (remove_act (AtDraw node index) cap) h is = absurd (false≢true is)
 start_holds (remove_act (AtStore node index x) cap) h is = absurd (false≢true is)
+start_holds (type_act typing) h is = refl
 
 acquires_holds : (core : ℕ) (act : ActOf) (o : Option Due) (h : Holding) → is_start act ≡ true → holds_work (acquires core act o) h ≡ h
 acquires_holds core act None h is = start_holds act h is
@@ -183,6 +185,7 @@ put_counts (Copy a u b) built ks k puts = refl
 put_counts (Remove u b) built ks k puts = absurd (cc)
 put_counts (Shrink u i) built ks k puts = absurd (cc)
 put_counts (Unmap p v) built ks k puts = absurd (cc)
+put_counts (Retype r f j) built ks k puts = absurd (cc)
 put_counts call built ks k puts = absurd built
 
 put_near : (s : State) (c : ℕ) (call : Call) → IsBuilt call → (ks : List Capability) (k : Capability) → put_by call ks ≡ Some k
@@ -193,6 +196,7 @@ put_near s c (Copy a u b) built ks k puts lead f names_it = near_found s c (Copy
 put_near s c (Remove u b) built ks k puts lead f names_it = absurd (cc)
 put_near s c (Shrink u i) built ks k puts lead f names_it = absurd (cc)
 put_near s c (Unmap p v) built ks k puts lead f names_it = absurd (cc)
+put_near s c (Retype r g j) built ks k puts lead f names_it = absurd (cc)
 put_near s c call built ks k puts lead f names_it = absurd built
 
 -- The word of an acquired count stands for the word that was found.
@@ -265,15 +269,22 @@ module _ (setup : Setting) (setting : IsSetting setup) (cores : ℕ → Core) (t
   says : marked_by setup t at ≡ None → SaysCount (count_room s) (count_of_word was)
   says is = subst (λ o. SaysCount (count_room s) (count_of_word (settled_by o (held_by cores) at was))) is (stands.words at)
 
-  -- a step on it leaves what was read of entries
-  entries_kept : (e : Step) → c ≡ e.core → e.enters ≡ None → word_of e.move ≡ at → (f i : ℕ)
-      → own_read (e ∷ t) c (EntryAt f i) ≡ own_read t c (EntryAt f i)
-  entries_kept e own none is f i =
-      own_read-there c e t own (EntryAt f i) (λ h. entry_apart f i (h ∙ is)) ∙ ap
-      (λ o. cond (is_some o) None (own_read t c (EntryAt f i))) none
+  -- a step on it leaves what was read of entries and of frames' words
+  kept : (e : Step) → c ≡ e.core → e.enters ≡ None → word_of e.move ≡ at → (w : Word) → w ≢ at → own_read (e ∷ t) c w ≡ own_read t c w
+  kept e own none is w apart =
+      own_read-there c e t own w (λ h. apart (h ∙ is)) ∙ ap (λ o. cond (is_some o) None (own_read t c w)) none
+
+  reads_kept : (e : Step) → c ≡ e.core → e.enters ≡ None → word_of e.move ≡ at → ReadsSame t e c
+  reads_kept e own none is = record {
+    entries = λ f i. kept e own none is (EntryAt f i) (entry_apart f i);
+    frames = λ f. kept e own none is (FrameAt f) (frame_apart f);
+  }
     where
-      entry_apart : (f i : ℕ) → EntryAt f i ≡ at → ⊥
+      entry_apart : (f i : ℕ) → EntryAt f i ≢ at
       entry_apart f i h = cc
+
+      frame_apart : (f : ℕ) → FrameAt f ≢ at
+      frame_apart f h = cc
 
   -- it is held by another core
   held_good : (b : ℕ) → marked_by setup t at ≡ Some b → GoodTook setup cores t c (LoadOf at) (landed a (refuse (refusal.Busy b)))
@@ -294,7 +305,7 @@ module _ (setup : Setting) (setting : IsSetting setup) (cores : ℕ → Core) (t
         names = names_on setup setting t e stands.legal c a.call is_open carries (cores c).own.table a.plan a.found has.names;
         knows = record {
           knows = act_on setup setting t e stands.legal c a.call is_open carries a.call a.plan a.found setup.cores act
-              (entries_kept e refl refl refl) has.knows.knows;
+              (reads_kept e refl refl refl) has.knows.knows;
           rest = has.knows.rest;
           due = has.knows.due ∙ ap (λ (f : ℕ). map due_of a.counts ++ record { frame = f; change = change } ∷ has.knows.rest) frame_is;
           core = own_core;
@@ -427,7 +438,7 @@ module _ (setup : Setting) (setting : IsSetting setup) (cores : ℕ → Core) (t
             knows = knows_next setup (e ∷ t) c (cores c).own.table (more grown) (cores c).own.core act has.knows.rest
                 (stands.each c here).number
                 (act_on setup setting t e stands.legal c a.call is_open carries a.call a.plan a.found setup.cores act
-                (entries_kept e refl refl refl) has.knows.knows)
+                (reads_kept e refl refl refl) has.knows.knows)
                 (has.knows.due ∙ ap (λ (f : ℕ). map due_of a.counts ++ record { frame = f; change = change } ∷ has.knows.rest) frame_is
                 ∙ sym (ap (λ ds. ds ++ has.knows.rest) (map_more a.counts x) ∙ after_one (map due_of a.counts) (due_of x) has.knows.rest))
                 (length a.counts + 1) (sym (length-append a.counts (x ∷ []))) has.knows.starts;
@@ -561,6 +572,12 @@ acquire_good setup setting cores t stands c here a active pin change (fill_act f
     (call_leads setup setting cores t stands c here a active has.names) (pin_frame pin)
     (due_named (named_by fill.cap.kind fill.cap.frame) (pos 1) (map due_of a.counts) (record { frame = pin_frame pin; change = change })
     has.knows.rest has.knows.due))
+acquire_good setup setting cores t stands c here a active pin change (type_act typing) is has =
+    absurd (none_due (map due_of a.counts) (record { frame = pin_frame pin; change = change }) has.knows.rest has.knows.due)
+  where
+    none_due : (xs : List Due) (d : Due) (rest : List Due) → [] ≡ xs ++ d ∷ rest → ⊥
+    none_due [] d rest h = cc
+    none_due (x ∷ xs) d rest h = cc
 acquire_good setup setting cores t stands c here a active pin change (remove_act close cap) is has =
     acquire_near setup setting cores t stands c here a active pin change (remove_act close cap) is has
     (removal_counts a.call (removal_does setup setting cores t stands c here a active has.names close cap has.knows.knows))

@@ -12,7 +12,8 @@ use Rattle.call_steps.specs.View.{Core}
 use Rattle.call_steps.specs.Steps.{Took, GoesOn, Decides, Returns, took, told, call_after}
 use Rattle.call_steps.specs.Cores.{started, fresh, begun, core_after, absorbed_in, absorbed}
 use Rattle.call_steps.specs.Fits.{IsOwn, IsCore, left_of, left_for, steps_left}
-use Rattle.call_steps.proofs.Fitting.{took_fits, TookFits, goes_on, decides_on}
+use Rattle.call_steps.proofs.LandsFit.{TookFits}
+use Rattle.call_steps.proofs.Fitting.{took_fits, goes_on, decides_on}
 use Rattle.call_steps.proofs.Fitting as fitting
 
 pub started_fits : (c : ℕ) (setting : Setting) → IsSetting setting → c < setting.cores → IsCore (started c setting)

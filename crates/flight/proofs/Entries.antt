@@ -4,7 +4,8 @@ use Rattle.std.proofs.lemmas.Bool.{leb-true}
 use Rattle.spk_nums.specs.Setting.{Setting, IsSetting}
 use Rattle.spk_nums.specs.declared.kinds.Kind.{Kind}
 use Rattle.spk_nums.specs.declared.calls.Call.{Call}
-use Rattle.spk_nums.specs.declared.calls.Call.TheVariants.{Look as look_call, Copy, Remove, Shrink, Unmap}
+use Rattle.spk_nums.specs.declared.kinds.FrameKind.TheVariants.{Untyped, User, Kernel}
+use Rattle.spk_nums.specs.declared.calls.Call.TheVariants.{Look as look_call, Copy, Remove, Shrink, Unmap, Retype}
 use Rattle.spk_nums.specs.declared.replies.Reply.TheVariants as reply
 use Rattle.supported_calls.specs.Built.{IsBuilt}
 use Rattle.word_map.specs.Word.{CoreAt}
@@ -35,7 +36,7 @@ use Rattle.call_acts.specs.declared.work.WorkStep.TheVariants.{Goes}
 use Rattle.call_acts.specs.declared.work.Tail.TheVariants.{Nothing}
 use Rattle.call_steps.specs.declared.stages.Stage.TheVariants.{Undecided, Decided}
 use Rattle.call_steps.specs.View.{Core}
-use Rattle.call_acts.specs.Acts.{refuse}
+use Rattle.call_acts.specs.WorkSteps.{refuse}
 use Rattle.call_acts.specs.Lookups.{looks_under, next_step}
 use Rattle.call_steps.specs.Steps.{core_word, Took, landed, next_by, took_enter, is_spent}
 use Rattle.call_steps.specs.Cores.{fresh, core_after, told_by}
@@ -192,6 +193,11 @@ module _ (setup : Setting) (setting : IsSetting setup) (cores : ℕ → Core) (t
   enters_first (Remove u b) may built unspent = enters_name setup setting cores t stands c here (Remove u b) may u _ refl unspent
   enters_first (Shrink u i) may built unspent = enters_name setup setting cores t stands c here (Shrink u i) may u _ refl unspent
   enters_first (Unmap p v) may built unspent = enters_name setup setting cores t stands c here (Unmap p v) may p _ refl unspent
+  enters_first (Retype r f Untyped) may built unspent = absurd built
+  enters_first (Retype r f User) may built unspent =
+      enters_name setup setting cores t stands c here (Retype r f User) may r _ refl unspent
+  enters_first (Retype r f Kernel) may built unspent =
+      enters_name setup setting cores t stands c here (Retype r f Kernel) may r _ refl unspent
   enters_first _ may built unspent = absurd built
 
   pub enter_good : (call : Call) (may : MayBegin call (cores c))

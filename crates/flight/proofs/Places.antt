@@ -35,7 +35,11 @@ use Rattle.stage_quiet.specs.declared.quiet.Quiet.TheVariants.{AtCore, AtFlush}
 use Rattle.stage_quiet.specs.Removal.{close_move}
 use Rattle.call_plans.specs.After.{Next, NextName, NextFree, NextHeld, NextOwn, NextNothing, next_of}
 use Rattle.call_acts.specs.declared.own.Own.{Own}
-use Rattle.call_acts.specs.declared.work.Act.TheVariants.{Fill, Remove}
+use Rattle.call_acts.specs.declared.work.Act.TheVariants.{Fill, Remove, Retype}
+use Rattle.call_acts.specs.declared.typings.Typing.{Typing}
+use Rattle.call_acts.specs.declared.typings.TypingAt.{TypingAt}
+use Rattle.call_acts.specs.declared.typings.TypingAt.TheVariants.{Load, Compare as type_compare}
+use Rattle.call_acts.specs.Typings.{typing_at}
 use Rattle.call_acts.specs.declared.work.Work.{Work}
 use Rattle.call_acts.specs.declared.work.Work.TheVariants.{Lookup, Scan, Acquire, Act}
 use Rattle.call_steps.specs.declared.stages.Stage.{Stage}
@@ -108,6 +112,10 @@ module _ (setup : Setting) (setting : IsSetting setup) (t : Trace) (cores : ℕ 
   by_close a (AtDraw node index) cap has on = absurd (cc)
   by_close a (AtStore node index at) cap has on = absurd has
 
+  by_typing : (g : ℕ) (y : Typing) (at : TypingAt) → word_of (typing_at g y.kind at) ≡ EntryAt f i → Rests
+  by_typing g y Load on = absurd (cc)
+  by_typing g y (type_compare word) on = absurd (cc)
+
   by_work : (table : ℕ) (a : ActiveCall) (work : Work) → KnowsWork setup t c table a work → word_of (work_move work) ≡ EntryAt f i → Rests
   by_work table a (Lookup look) has on = by_next table (next_of a.plan a.found) look has on
   by_work table a (Scan (AtCore at by upto page) act) has on = absurd (cc)
@@ -118,6 +126,7 @@ module _ (setup : Setting) (setting : IsSetting setup) (t : Trace) (cores : ℕ 
       (slot_relies setup setting t stands.legal c call is_open has.knows.target (record { node = fill.node; index = fill.entry })
       has.knows.way)
   by_work table a (Act (Remove close cap)) has on = by_close a close cap has.knows on
+  by_work table a (Act (Retype typing)) has on = by_typing typing.frame typing typing.at on
 
   by_stage : (table : ℕ) (own : Own) (a : ActiveCall) (stage : Stage) → phase_at a.call stage ≡ Open call
       → KnowsAt setup t c table a stage

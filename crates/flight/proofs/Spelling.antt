@@ -11,7 +11,11 @@ use Rattle.call_steps.specs.Fits.{TailFits, StageFits, CallFits}
 use Rattle.call_steps.specs.Cores.{move_in}
 use Rattle.call_acts.specs.declared.own.Own.{Own}
 use Rattle.call_acts.specs.declared.work.Act.{Act}
-use Rattle.call_acts.specs.declared.work.Act.TheVariants.{Fill, Remove}
+use Rattle.call_acts.specs.declared.work.Act.TheVariants.{Fill, Remove, Retype}
+use Rattle.spk_nums.specs.declared.kinds.FrameKind.{FrameKind}
+use Rattle.call_acts.specs.declared.typings.TypingAt.{TypingAt}
+use Rattle.call_acts.specs.declared.typings.TypingAt.TheVariants.{Load, Compare as type_compare}
+use Rattle.call_acts.specs.Typings.{typing_at}
 use Rattle.call_acts.specs.declared.work.Work.TheVariants.{Lookup, Scan, Acquire, Act as act_work}
 use Rattle.call_acts.specs.declared.work.Tail.{Tail}
 use Rattle.call_acts.specs.declared.work.Tail.TheVariants.{Nothing, Quiesce}
@@ -55,9 +59,14 @@ close_named (close_compare node entry word core) = refl
 close_named (AtDraw node entry) = refl
 close_named (AtStore node entry stamp) = refl
 
+typing_named : (f : ℕ) (k : FrameKind) (at : TypingAt) → shared (word_of (typing_at f k at)) ≡ word_of (typing_at f k at)
+typing_named f k Load = refl
+typing_named f k (type_compare word) = refl
+
 act_named : (act : Act) → shared (word_of (act_move act)) ≡ word_of (act_move act)
 act_named (Fill fill) = refl
 act_named (Remove close cap) = close_named close
+act_named (Retype typing) = typing_named typing.frame typing.kind typing.at
 
 -- a count's word is that of its core's counter
 pin_named : (pin : Pin) → shared (word_of (pin_move pin)) ≡ word_of (pin_move pin)
@@ -80,9 +89,14 @@ stage_named own counts (Undecided (act_work act)) = act_named act
 stage_named own counts (Decided r drawn tail) = tail_named r drawn tail counts
 stage_named own counts (Leave r x) = refl
 
+typing_in : (shape : Shape) (f : ℕ) (k : FrameKind) (at : TypingAt) → f < shape.frames → IsIn shape (word_of (typing_at f k at))
+typing_in shape f k Load fits = fits
+typing_in shape f k (type_compare word) fits = fits
+
 act_in : (shape : Shape) (act : Act) → ActFits shape act → IsIn shape (word_of (act_move act))
 act_in shape (Fill fill) fits = (fits.node, fits.entry)
 act_in shape (Remove close cap) fits = close_is_in shape close fits.0
+act_in shape (Retype typing) fits = typing_in shape typing.frame typing.kind typing.at fits
 
 tail_in : (shape : Shape) (r : Reply) (drawn : Option ℕ) (tail : Tail) (counts : List Acquired) → TailFits shape tail
     → AllFit shape counts

@@ -40,7 +40,7 @@ use Rattle.call_acts.specs.declared.work.Work.TheVariants.{Lookup}
 use Rattle.call_steps.specs.declared.stages.Stage.TheVariants.{Undecided}
 use Rattle.call_steps.specs.declared.stages.ActiveCall.{ActiveCall}
 use Rattle.call_acts.specs.declared.work.WorkStep.TheVariants.{Goes}
-use Rattle.call_acts.specs.Acts.{refuse}
+use Rattle.call_acts.specs.WorkSteps.{refuse}
 use Rattle.call_steps.specs.Steps.{landed, took_end, took_look, took_found}
 use Rattle.call_steps.specs.View.{Core}
 use Rattle.core_invariant.specs.Holding.{holds_counts}

@@ -1,12 +1,12 @@
 -- The filling compare of a copy is good: it is lost to another core, or the place is free and takes the capability.
-use Rattle.std.proofs.Common.{◌≡◌, ◌≢◌, ◌⊎◌, inl, inr, ℕ, pos, length, ◌≤◌, ◌+◌, ◌^◌, ◌/◌, ◌%◌, ◌<◌, ◌==◌, ◌&&◌, nat_le, if◌then◌else◌, ◌∷◌, [], Bool, true, false, List, Option, Some, None, arith, refl, sym, ◌∙◌, ap, subst, IsTrue}
+use Rattle.std.proofs.Common.{◌≡◌, ◌≢◌, ◌⊎◌, inl, inr, ℕ, pos, length, ◌≤◌, ◌+◌, ◌^◌, ◌/◌, ◌%◌, ◌<◌, ◌==◌, ◌&&◌, nat_le, if◌then◌else◌, ◌∷◌, [], Bool, true, false, List, Option, Some, None, arith, refl, sym, ◌∙◌, ap, subst, IsTrue, ◌+ℤ◌, max}
 use Rattle.std.specs.Prelude.{option_to_list}
 use Rattle.std.proofs.lemmas.Bool.{eqb-true, eqb-false, eq-eqb, false≢true}
 use Rattle.spk_nums.specs.Capability.{Capability}
 use Rattle.spk_nums.specs.Setting.{Setting, IsSetting}
 use Rattle.spk_nums.specs.declared.kinds.Kind.TheVariants as kind
 use Rattle.spk_nums.specs.declared.calls.Call.{Call}
-use Rattle.spk_nums.specs.declared.calls.Call.TheVariants.{Look, Copy, Remove, Shrink, Unmap}
+use Rattle.spk_nums.specs.declared.calls.Call.TheVariants.{Look, Copy, Remove, Shrink, Unmap, Retype}
 use Rattle.spk_nums.specs.declared.kinds.Kind.{Kind}
 use Rattle.supported_calls.specs.Built.{IsBuilt}
 use Rattle.spk_nums.specs.declared.replies.Value.TheVariants.{Nothing}
@@ -55,7 +55,7 @@ use Rattle.call_acts.specs.Acts.{cap_dues, put_by}
 use Rattle.call_steps.proofs.StepsFit.{one_due}
 use Rattle.kernel_rules.specs.References.{named_by, times, refs}
 use Rattle.core_invariant.proofs.WordFrames.{reads_alike}
-use Rattle.core_invariant.proofs.Calm.{room_grows}
+use Rattle.core_invariant.proofs.Calm.{room_grows, IsCalm, calm_core, IsPlain, plain_stamp}
 use Rattle.core_invariant.proofs.CountSums.{fill_refs}
 use Rattle.core_invariant.proofs.Sounds.{limits_of}
 use Rattle.count_invariant.proofs.CountChanges.{counts_commit, counts_sum}
@@ -63,8 +63,7 @@ use Rattle.count_invariant.proofs.Acquiring.{plan_leads}
 use Rattle.place_invariant.proofs.Vacancy.{in_leaf, IsVacant, vacant_by}
 use Rattle.core_invariant.specs.Holding.{holds_counts}
 use Rattle.core_invariant.specs.CountWords.{IsWithin}
-use Rattle.core_invariant.proofs.Writes.{same_marks}
-use Rattle.std.proofs.Common.{◌+ℤ◌, max}
+use Rattle.core_invariant.proofs.Writes.{same_marks, writes_entry}
 use Rattle.call_steps.specs.Steps.{landed}
 use Rattle.call_steps.specs.View.{Core}
 use Rattle.call_steps.specs.Fits.{StageFits, HasRoom}
@@ -73,8 +72,6 @@ use Rattle.core_invariant.specs.Knows.{HasFound, MayFill, KnowsUndecided, own_in
 use Rattle.core_invariant.specs.Stands.{holds_at, holds_in, holds, times_of, Stands}
 use Rattle.core_invariant.proofs.Carries.{own_kept, slot_relies}
 use Rattle.core_invariant.proofs.Loads.{IsOfCall, next_at, core_at, inner, call_is, is_active}
-use Rattle.core_invariant.proofs.Writes.{writes_entry}
-use Rattle.core_invariant.proofs.Calm.{IsCalm, calm_core, IsPlain, plain_stamp}
 use Rattle.core_invariant.proofs.Places.{IsMarked, IsPlain as IsUnmarked, node_mark, place_reads}
 use Rattle.core_invariant.proofs.Refusals.{GoodTook, not_spent, refuses_raced}
 use Rattle.look_invariant.proofs.Lookups.{slot_right, slot_one, near_way}
@@ -470,6 +467,7 @@ puts_by s c target q (Look a) built ks lead none next puts = absurd (cc)
 puts_by s c target q (Remove u b) built ks lead none next puts = absurd (cc)
 puts_by s c target q (Shrink u i) built ks lead none next puts = absurd (cc)
 puts_by s c target q (Unmap p v) built ks lead none next puts = absurd (cc)
+puts_by s c target q (Retype r f k) built ks lead none next puts = absurd (cc)
 puts_by s c target q call built ks lead none next puts = absurd built
 
 module _ (setup : Setting) (setting : IsSetting setup) (cores : ℕ → Core) (t : Trace) (stands : Stands setup cores t) (c : ℕ)

@@ -11,7 +11,7 @@ use Rattle.entry_words.specs.declared.entry.Entry.{Entry}
 use Rattle.entry_words.specs.declared.entry.Entry.TheVariants as entry
 use Rattle.frame_words.specs.Core.{core_of_word}
 use Rattle.frame_words.specs.declared.core_word.CoreWord.{CoreWord}
-use Rattle.word_map.specs.Word.{EntryAt, CoreAt}
+use Rattle.word_map.specs.Word.{EntryAt, CoreAt, FrameAt}
 use Rattle.word_map.specs.Moves.{LoadOf, word_of, told_of}
 use Rattle.kernel_rules.specs.State.{Thing, PlaceOf, State}
 use Rattle.kernel_rules.specs.Access.{Slot, Target, reached}
@@ -37,13 +37,14 @@ use Rattle.plan_ways.proofs.Ways.{asked_left}
 use Rattle.call_acts.specs.declared.fills.Fill.{Fill}
 use Rattle.call_acts.specs.declared.refusals.Refusal.TheVariants as refusal
 use Rattle.call_acts.specs.declared.work.Act.{Act as ActOf}
-use Rattle.call_acts.specs.declared.work.Act.TheVariants.{Fill as fill_act, Remove as remove_act}
+use Rattle.call_acts.specs.declared.work.Act.TheVariants.{Fill as fill_act, Remove as remove_act, Retype as type_act}
 use Rattle.call_acts.specs.declared.work.Work.TheVariants.{Scan}
 use Rattle.call_steps.specs.declared.stages.Stage.{Stage}
 use Rattle.call_steps.specs.declared.stages.Stage.TheVariants.{Undecided}
 use Rattle.call_steps.specs.declared.stages.ActiveCall.{ActiveCall}
 use Rattle.call_acts.specs.declared.work.WorkStep.TheVariants.{Goes}
-use Rattle.call_acts.specs.Acts.{refuse, dues, next_work, stamp_shown}
+use Rattle.call_acts.specs.WorkSteps.{refuse}
+use Rattle.call_acts.specs.Acts.{dues, next_work, stamp_shown}
 use Rattle.call_steps.specs.Fits.{StageFits, CountsAt, HasRoom}
 use Rattle.call_steps.specs.Steps.{landed, took_scan}
 use Rattle.call_steps.specs.View.{Core}
@@ -207,13 +208,19 @@ module _ (setup : Setting) (setting : IsSetting setup) (cores : ℕ → Core) (t
     entry_apart : (f i : ℕ) → EntryAt f i ≢ CoreAt at
     entry_apart f i h = cc
 
+    frame_apart : (f : ℕ) → FrameAt f ≢ CoreAt at
+    frame_apart f h = cc
+
     carried : (upto : ℕ) → ((d : ℕ) → d < upto → d ≢ c → (d < at) ⊎ (d ≡ at))
         → Carries setup t (step_to c None (LoadOf (CoreAt at)) was None None) c
         → KnowsAct setup (step_to c None (LoadOf (CoreAt at)) was None None ∷ t) c a.call a.plan a.found upto act
     carried upto before carries =
         let e : Step = step_to c None (LoadOf (CoreAt at)) was None None in
         act_on setup setting t e stands.legal c a.call is_open carries a.call a.plan a.found upto act
-        (λ f i. own_read-there c e t refl (EntryAt f i) (entry_apart f i)) (more upto before)
+        (record {
+          entries = λ f i. own_read-there c e t refl (EntryAt f i) (entry_apart f i);
+          frames = λ f. own_read-there c e t refl (FrameAt f) (frame_apart f);
+        }) (more upto before)
 
     -- the next core is scanned
     goes_on : GoodTook setup cores t c (LoadOf (CoreAt at)) (landed a (Goes (Scan (AtCore x by (next_other by at) page) act)))
@@ -297,6 +304,9 @@ pub scan_good : (setup : Setting) → IsSetting setup → (cores : ℕ → Core)
     (quiet_end (cores c).own.layout.cores q (told_of (quiet_move q) (last_left setup t (word_of (quiet_move q)))))))
 scan_good setup setting cores t stands c here a active (AtFlush x at) act is knows = absurd knows.knows
 scan_good setup setting cores t stands c here a active (AtCore x by at page) (remove_act close cap) is knows =
+    absurd (let none : 0 ≡ x = knows.knows.stamp in let some = (subst (StageFits (cores c).own.layout) is
+    (is_active setup setting cores t stands c here a active).stage).1.2 in omega arith)
+scan_good setup setting cores t stands c here a active (AtCore x by at page) (type_act typing) is knows =
     absurd (let none : 0 ≡ x = knows.knows.stamp in let some = (subst (StageFits (cores c).own.layout) is
     (is_active setup setting cores t stands c here a active).stage).1.2 in omega arith)
 scan_good setup setting cores t stands c here a active (AtCore x by at page) (fill_act fill) is knows =

@@ -12,6 +12,8 @@ mod removals;
 #[cfg(test)]
 mod replays;
 #[cfg(test)]
+mod retypes;
+#[cfg(test)]
 mod runs;
 #[cfg(test)]
 mod schedules;

@@ -354,7 +354,7 @@ fn the_first_line_that_is_not_built_is_told(rt: HostRuntime) -> Result<(), Fail>
             10,
         ),
         (
-            "core 1\nlook 0\n\ncore 0\nremove 1 20\nretype 0 8 user\n",
+            "core 1\nlook 0\n\ncore 0\nremove 1 20\nretype 0 8 untyped\n",
             11,
         ),
         ("core 0\nmake tcap 0 8 1 20 0 5\norder\n0\n", 7),

@@ -1,12 +1,21 @@
 -- Which calls the machine carries out today.
+use Rattle.spk_nums.specs.declared.kinds.FrameKind.{FrameKind}
+use Rattle.spk_nums.specs.declared.kinds.FrameKind.TheVariants.{Untyped, User, Kernel}
 use Rattle.spk_nums.specs.declared.calls.Call.{Call}
-use Rattle.spk_nums.specs.declared.calls.Call.TheVariants.{Look, Copy, Remove, Shrink, Unmap}
+use Rattle.spk_nums.specs.declared.calls.Call.TheVariants.{Look, Copy, Remove, Shrink, Retype, Unmap}
 
--- the calls that the machine carries out today: `look`, `copy`, `remove`, `shrink` and `unmap`
+-- a retype is carried out that makes an untyped frame a user or a kernel frame
+abbrev pub IsTyping : FrameKind → Type 0
+IsTyping Untyped = ⊥
+IsTyping User = Unit {0}
+IsTyping Kernel = Unit {0}
+
+-- the calls that the machine carries out today: `look`, `copy`, `remove`, `shrink`, `unmap`, and `retype` to user and to kernel
 abbrev pub IsBuilt : Call → Type 0
 IsBuilt (Look a) = Unit {0}
 IsBuilt (Copy a t b) = Unit {0}
 IsBuilt (Remove t b) = Unit {0}
 IsBuilt (Shrink t i) = Unit {0}
+IsBuilt (Retype r f k) = IsTyping k
 IsBuilt (Unmap p v) = Unit {0}
 IsBuilt _ = ⊥

@@ -5,7 +5,7 @@
 ghost use Rattle.std.specs.Prelude.{IsTrue, ◌↔◌};
 ghost use Rattle.supported_calls.specs.Built.{IsBuilt};
 
-use spk_nums::Call;
+use spk_nums::{Call, FrameKind};
 
 /// Whether the machine carries the call out today.
 pub fn is_built(call: &Call) -> bool
@@ -17,6 +17,11 @@ pub fn is_built(call: &Call) -> bool
             | Call::Copy { .. }
             | Call::Remove { .. }
             | Call::Shrink { .. }
+            | Call::Retype {
+                r: _,
+                f: _,
+                k: FrameKind::User | FrameKind::Kernel
+            }
             | Call::Unmap { .. }
     )
 }

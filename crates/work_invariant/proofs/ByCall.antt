@@ -3,7 +3,8 @@ use Rattle.std.proofs.Common.{◌≡◌, ℕ, nat_le, nat_lt, ◌&&◌, Bool, tr
 use Rattle.std.proofs.lemmas.Bool.{leb-false, lt-ltb}
 use Rattle.spk_nums.specs.Capability.{Capability}
 use Rattle.spk_nums.specs.declared.calls.Call.{Call}
-use Rattle.spk_nums.specs.declared.calls.Call.TheVariants.{Look as look_call, Copy, Remove, Shrink, Unmap}
+use Rattle.spk_nums.specs.declared.calls.Call.TheVariants.{Look as look_call, Copy, Remove, Shrink, Unmap, Retype}
+use Rattle.spk_nums.specs.declared.kinds.FrameKind.TheVariants as frame_kind
 use Rattle.supported_calls.specs.Built.{IsBuilt}
 use Rattle.spk_nums.specs.declared.replies.Value.TheVariants.{Cap}
 use Rattle.spk_nums.specs.declared.kinds.Kind.TheVariants as kind
@@ -69,6 +70,9 @@ no_own (Copy a u b) built v is = cc
 no_own (Remove u b) built v is = cc
 no_own (Shrink u i) built v is = cc
 no_own (Unmap p n) built v is = cc
+no_own (Retype r f frame_kind.Untyped) built v is = cc
+no_own (Retype r f frame_kind.User) built v is = cc
+no_own (Retype r f frame_kind.Kernel) built v is = cc
 no_own call built v is = built
 
 -- What is looked up first is all that is looked up of one name.
@@ -117,6 +121,18 @@ begins_fill own (Unmap p v) built spot to ks none = absurd (not_free to)
   where
     not_free : Held (spot_of.Under First v) ≡ Free spot → ⊥
     not_free h = cc
+begins_fill own (Retype r f frame_kind.Untyped) built spot to ks none = absurd (not_target to)
+  where
+    not_target : Nowhere ≡ Free spot → ⊥
+    not_target h = cc
+begins_fill own (Retype r f frame_kind.User) built spot to ks none = absurd (not_target to)
+  where
+    not_target : Nowhere ≡ Free spot → ⊥
+    not_target h = cc
+begins_fill own (Retype r f frame_kind.Kernel) built spot to ks none = absurd (not_target to)
+  where
+    not_target : Nowhere ≡ Free spot → ⊥
+    not_target h = cc
 begins_fill own call built spot to ks none = absurd built
 
 -- The removing act of a core's call with a target that is to be held.
@@ -137,6 +153,18 @@ begins_removal own (Copy a u b) built spot to ks = absurd (not_held to)
 begins_removal own (Remove u b) built spot to ks = record { removes = refl; act = λ f. refl }
 begins_removal own (Shrink u i) built spot to ks = record { removes = refl; act = λ f. refl }
 begins_removal own (Unmap p v) built spot to ks = record { removes = refl; act = λ f. refl }
+begins_removal own (Retype r f frame_kind.Untyped) built spot to ks = absurd (not_target to)
+  where
+    not_target : Nowhere ≡ Held spot → ⊥
+    not_target h = cc
+begins_removal own (Retype r f frame_kind.User) built spot to ks = absurd (not_target to)
+  where
+    not_target : Nowhere ≡ Held spot → ⊥
+    not_target h = cc
+begins_removal own (Retype r f frame_kind.Kernel) built spot to ks = absurd (not_target to)
+  where
+    not_target : Nowhere ≡ Held spot → ⊥
+    not_target h = cc
 begins_removal own call built spot to ks = absurd built
 
 -- A look that has found its capability answers it.

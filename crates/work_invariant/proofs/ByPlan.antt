@@ -1,16 +1,13 @@
 -- A step of any look-up of a call is good: the look-up goes by the call's plan.
 use Rattle.std.proofs.Common.{◌≡◌, ℕ, suc, ◌≢◌, ◌<◌, ◌≤◌, ◌+◌, map, length, arith, nat_le, Bool, true, false, if◌then◌else◌, IsTrue, List, [], ◌∷◌, ◌++◌, Option, Some, None, refl, sym, ◌∙◌, ap, subst}
 use Rattle.std.proofs.lemmas.Bool.{leb-true, eq-eqb}
-use Rattle.std.specs.Prelude.{IsSome}
-use Rattle.std.proofs.lemmas.List.Elements.{All-nil, All-append}
 use Rattle.spk_nums.specs.Capability.{Capability}
 use Rattle.spk_nums.specs.Setting.{Setting, IsSetting}
 use Rattle.spk_nums.specs.declared.kinds.Kind.{Kind}
 use Rattle.spk_nums.specs.declared.calls.Call.{Call}
-use Rattle.spk_nums.specs.declared.calls.Call.TheVariants.{Look as look_call, Copy, Remove, Shrink, Unmap}
+use Rattle.spk_nums.specs.declared.calls.Call.TheVariants.{Look as look_call, Copy, Remove, Shrink, Unmap, Retype}
 use Rattle.supported_calls.specs.Built.{IsBuilt}
 use Rattle.spk_nums.specs.declared.replies.Reply.{Reply}
-use Rattle.spk_nums.specs.declared.replies.Value.TheVariants.{Cap}
 use Rattle.spk_nums.specs.declared.replies.Reply.TheVariants as reply
 use Rattle.entry_words.specs.declared.entry.Entry.{Entry}
 use Rattle.entry_words.specs.declared.entry.Entry.TheVariants as entry
@@ -20,14 +17,13 @@ use Rattle.word_map.specs.Moves.{LoadOf, word_of}
 use Rattle.kernel_rules.specs.State.{State, PlaceOf, comp_of}
 use Rattle.kernel_rules.specs.Access.{Slot, Named, found, any, root_at, place_at, held_in, reached, has_no_slot, own, Target as place, Under, InRoot}
 use Rattle.kernel_rules.specs.Rules.{RuleMay, Refused, Found as Found_it, named, vacant, held}
-use Rattle.kernel_rules.specs.CallRelation.{MayReply, rule_of, change_of, counted, begins, ends, flushes, state_by, are_calls_spent}
+use Rattle.kernel_rules.specs.CallRelation.{rule_of, change_of, are_calls_spent}
 use Rattle.kernel_rules.proofs.Facts.{none_some, some_inj}
-use Rattle.kernel_rules.specs.Alone.{alone}
-use Rattle.kernel_history.specs.Trace.{Step, Trace, Open, phase, state_after, last_left, own_left}
-use Rattle.kernel_history.specs.Ways.{way_to, wide_way_to, wide_ways}
-use Rattle.kernel_history.specs.Justified.{is_slot_in, HasReached, IsJustified}
-use Rattle.kernel_history.proofs.AloneCalls.{refused_first, ok_first}
-use Rattle.kernel_history.proofs.Carries.{Carries}
+use Rattle.kernel_history.specs.Trace.{Step, Trace, Open, phase, state_after, last_left}
+use Rattle.kernel_history.specs.Ways.{wide_way_to, wide_ways}
+use Rattle.kernel_history.specs.Justified.{is_slot_in, IsRemoved}
+use Rattle.kernel_history.proofs.AloneCalls.{refused_first}
+use Rattle.kernel_history.proofs.Carries.{Carries, was_now}
 use Rattle.kernel_history.proofs.Stays.{relies_table}
 use Rattle.kernel_history.proofs.Steps.{own_read-here}
 use Rattle.stage_look.specs.Shown.{shown_in}
@@ -42,7 +38,7 @@ use Rattle.call_plans.specs.declared.plans.Target.{Target}
 use Rattle.call_plans.specs.declared.plans.Target.TheVariants.{Nowhere, Free, Held, Own as own_page}
 use Rattle.call_plans.specs.declared.plans.Plan.{Plan}
 use Rattle.call_plans.specs.Plans.{at_place}
-use Rattle.call_plans.specs.PlanOf.{any_cap, plan_for}
+use Rattle.call_plans.specs.PlanOf.{any_cap, plan_for, of_kind}
 use Rattle.call_plans.specs.GoesBy.{GoesBy, own_pages, earlier, wants, place_of}
 use Rattle.call_plans.specs.Rooted.{IsRooted}
 use Rattle.call_plans.specs.After.{with_found, names_after, Leads, LeadsIn, Next, NextName, NextFree, NextHeld, NextOwn, NextNothing, next_target, next_in, next_of, NextMay}
@@ -60,33 +56,35 @@ use Rattle.call_acts.specs.declared.work.Work.TheVariants.{Lookup}
 use Rattle.call_steps.specs.declared.stages.Stage.{Stage}
 use Rattle.call_steps.specs.declared.stages.Stage.TheVariants.{Undecided}
 use Rattle.call_steps.specs.declared.stages.ActiveCall.{ActiveCall}
+use Rattle.spk_nums.specs.declared.kinds.FrameKind.{FrameKind}
+use Rattle.spk_nums.specs.declared.kinds.FrameKind.TheVariants as frame_kind
+use Rattle.spk_nums.specs.declared.kinds.Kind.TheVariants.{Range as range_kind}
+use Rattle.kernel_rules.proofs.Sound.{only_is}
+use Rattle.work_invariant.proofs.AtName.{one_name, ranges_good, looked_good}
 use Rattle.call_acts.specs.declared.work.WorkStep.TheVariants.{Goes}
 use Rattle.stage_pins.specs.declared.held.Acquired.{Acquired}
 use Rattle.call_acts.specs.declared.work.Act.{Act as ActOf}
-use Rattle.call_acts.specs.Acts.{refuse, dues, next_work, scans, stamp_shown, filling, fills_at, removing, act_begun}
-use Rattle.call_steps.specs.Fits.{CountsAt}
+use Rattle.call_acts.specs.WorkSteps.{refuse}
+use Rattle.call_acts.specs.Acts.{dues, next_work, scans, stamp_shown, filling, fills_at, removing, act_begun}
+use Rattle.call_steps.specs.Fits.{CountsAt, HasRoom}
 use Rattle.core_invariant.specs.Holding.{Holding, holds_counts}
-use Rattle.core_invariant.specs.Knows.{due_of, IsScanned, MayFill, KnowsAct, KnowsWork}
+use Rattle.core_invariant.specs.Knows.{due_of, IsScanned, MayFill, KnowsAct, KnowsWork, LooksUp, own_in, HasFound, NamesAre, LooksFor, KnowsUndecided, phase_at}
 use Rattle.count_invariant.proofs.Acquiring.{knows_next, next_holds}
 use Rattle.place_invariant.proofs.Scans.{ShowsSince, since_is, knows_scan}
 use Rattle.stage_quiet.specs.declared.quiet.Quiet.{Quiet}
 use Rattle.stage_quiet.specs.Scan.{quiet_scan}
-use Rattle.kernel_history.specs.Justified.{IsRemoved}
 use Rattle.kernel_history.specs.Stamps.{stamp}
-use Rattle.kernel_history.proofs.Carries.{was_now}
 use Rattle.call_acts.specs.Lookups.{looks_under, looks_entry, looks_at, next_step, met_name, met_free, met_held}
 use Rattle.call_steps.specs.Steps.{landed, found_more, next_by as what_next, named_one, took_look, took_found}
 use Rattle.call_steps.specs.View.{Core}
-use Rattle.call_steps.specs.Fits.{HasRoom}
-use Rattle.core_invariant.specs.Knows.{LooksUp, own_in, HasFound, NamesAre, LooksFor, KnowsUndecided, phase_at}
 use Rattle.core_invariant.specs.Stands.{holds_work, holds_at, holds_in, Stands}
-use Rattle.core_invariant.proofs.Carries.{names_on, own_kept}
-use Rattle.core_invariant.proofs.Loads.{OnlyLooks, step_to, next_at, core_is, call_is, is_active, loads_on, decides_on}
+use Rattle.core_invariant.proofs.Carries.{names_on}
+use Rattle.core_invariant.proofs.Loads.{OnlyLooks, next_at, core_is, call_is, is_active, loads_on, decides_on}
 use Rattle.core_invariant.proofs.Refusals.{GoodTook, not_spent, refuses_empty, refuses_wrong, refuses_occupied}
 use Rattle.look_invariant.proofs.Lookups.{Shows, ShowsHeld, Arrives, under_step, in_root_step}
-use Rattle.look_invariant.proofs.Findings.{own_is, past_slot, past_unreached, reaches_none, reaches_held, reaches_other, use_held, use_free, use_removed_at, named_of, named_no_slot, named_empty, named_wrong, found_named, way_gone, gone_with, arriving, reached_now, found_now}
+use Rattle.look_invariant.proofs.Findings.{own_is, past_slot, past_unreached, reaches_none, reaches_held, reaches_other, use_held, use_free, use_removed_at, named_of, named_no_slot, named_empty, named_wrong, found_named, arriving, reached_now, found_now}
 use Rattle.look_invariant.proofs.Next.{MayUse, spot_relies, Rest, ANameLeft, NoneLeft, rest_of, next_name, next_end}
-use Rattle.work_invariant.proofs.ByCall.{vacant_no_slot, vacant_occupied, held_no_slot, held_empty, past_entry, past_entry_unreached, no_own, one_left, first_same, Begins, begins_fill, BeginsRemoval, begins_removal, look_state, look_begins, look_answers}
+use Rattle.work_invariant.proofs.ByCall.{vacant_no_slot, vacant_occupied, held_no_slot, held_empty, past_entry, past_entry_unreached, no_own, Begins, begins_fill, BeginsRemoval, begins_removal}
 
 module _ (setup : Setting) (setting : IsSetting setup) (cores : ℕ → Core) (t : Trace) (stands : Stands setup cores t) (c : ℕ)
     (here : c < setup.cores)
@@ -334,55 +332,35 @@ module _ (setup : Setting) (setting : IsSetting setup) (cores : ℕ → Core) (t
         by (NoneLeft none) = subst Goal (sym (next_end a.plan more a.plan.target none refl))
             (target_good a.plan.target refl none (λ nowhere. acts nowhere none))
 
+    -- a retype has found its range
+    range_at_name : (r f : ℕ) (j : FrameKind) → a.call ≡ Retype r f j → (plan_for (Retype r f j)).names ≡ of_kind range_kind r ∷ []
+        → GoodTook setup cores t c (LoadOf (EntryAt at.node at.index))
+        (landed (found_more a more) (act_begun (cores c).own (Retype r f j) more None))
+    range_at_name r f j is one =
+        let only_one = one_name a.plan.names (of_kind range_kind r) name rest a.found k.kind
+        (ap (λ (p : Plan). p.names) (plan_is ∙ ap plan_for is) ∙ one) left wanted in
+        let more_is : more ≡ k ∷ [] = ap (λ ks. ks ++ k ∷ []) only_one.0 in
+        subst (λ ks. GoodTook setup cores t c (LoadOf (EntryAt at.node at.index))
+        (landed (found_more a ks) (act_begun (cores c).own (Retype r f j) ks None))) (sym more_is)
+        (ranges_good setup setting cores t stands c here a active opens held_is no_counts room goes_by at looks k
+        (subst (λ (ks : List Capability). Leads (LeadsIn s c) a.plan.names [] ks) more_is leads_then)
+        (λ carries. subst (λ (ks : List Capability). NamesAre setup (e ∷ t) c table a.plan ks) more_is (names_then carries)) r f j is
+        (only_is range_kind k.kind only_one.2) shows.names)
+
     -- a look answers what its name has led to
     acts_at_name : (call : Call) → a.call ≡ call → IsBuilt call → (plan_for call).target ≡ Nowhere
         → GoodTook setup cores t c (LoadOf (EntryAt at.node at.index))
         (landed (found_more a more) (act_begun (cores c).own call more None))
-    acts_at_name (look_call n) is built nowhere = subst Goal (sym (ap (λ ks. ks ++ k ∷ []) none_found)) answers_it
-      where
-        Goal : List Capability → Type 0
-        Goal ks = GoodTook setup cores t c (LoadOf (EntryAt at.node at.index))
-            (landed (found_more a ks) (act_begun (cores c).own (look_call n) ks None))
-
-        plan_look : a.plan ≡ plan_for (look_call n)
-        plan_look = plan_is ∙ ap plan_for is
-
-        none_found : a.found ≡ []
-        none_found = one_left (any_cap n) name rest a.found (subst (λ (p : Plan). names_after p.names a.found ≡ name ∷ rest) plan_look
-            left)
-
-        name_is : named s c n any ≡ Found_it k
-        name_is = (subst (λ (ks : List Capability). Leads (LeadsIn s c) (any_cap n ∷ []) [] ks) (ap (λ ks. ks ++ k ∷ []) none_found)
-            (subst (λ (p : Plan). Leads (LeadsIn s c) p.names [] more) plan_look leads_then)).0
-
-        arrives_n : Arrives setup t c (own_in table n) at
-        arrives_n = subst (λ (m : ℕ). Arrives setup t c (own_in table m) at) (ap (λ (x : Name). x.number) name_eq) arrives
-          where
-            name_eq : name ≡ any_cap n
-            name_eq = first_same name rest (any_cap n) (sym (subst
-                (λ (ks : List Capability). names_after (any_cap n ∷ []) ks ≡ name ∷ rest) none_found
-                (subst (λ (p : Plan). names_after p.names a.found ≡ name ∷ rest) plan_look left)))
-
-        answers_it : Goal (k ∷ [])
-        answers_it lands =
-            let e2 : Step = step_to c None (LoadOf (EntryAt at.node at.index)) (last_left setup t (EntryAt at.node at.index))
-            (Some (reply.Ok (Cap k))) None in
-            let permitted : MayReply s c (look_call n) (reply.Ok (Cap k)) =
-            (not_spent setup (cores c) t c (core_is setup setting cores t stands c here a active) room, look_answers s c n k name_is) in
-            decides_on setup setting cores t stands c here a active (LoadOf (EntryAt at.node at.index)) (reply.Ok (Cap k)) (k ∷ []) looks
-            lands (still (Some None)) opens
-            (subst (λ x. state_by s c x (reply.Ok (Cap k)) ≡ counted s c) (sym is) (look_state s c n k name_is)) refl
-            (λ x. subst (λ y. begins s c y (reply.Ok (Cap k)) x ≡ false) (sym is) (look_begins s c n k name_is x))
-            (λ x. subst (λ y. ends y (reply.Ok (Cap k)) x ≡ false) (sym is) refl)
-            (subst (λ y. flushes y (reply.Ok (Cap k)) ≡ false) (sym is) refl)
-            (subst (λ x. MayReply s c x (reply.Ok (Cap k))) (sym is) permitted)
-            (subst (λ x. IsJustified setup t e2 x (reply.Ok (Cap k))) (sym is)
-            (All-append (λ (x : Slot). IsSome (own_left (e2 ∷ t) c (EntryAt x.node x.index))) (way_to s c (own s c n)) []
-            (subst (λ x. HasReached (e2 ∷ t) c (way_to s c x)) (own_target n)
-            (way_gone setup t (e2 ∷ t) c (own_in table n) at arrives_n.reached
-            (gone_with setup t c (own_in table n) at e2 refl refl (own_kept t e2 c refl refl) arrives_n)))
-            (All-nil (λ (x : Slot). IsSome (own_left (e2 ∷ t) c (EntryAt x.node x.index))))))
-            (λ is_alone. subst (λ x. reply.Ok (Cap k) ≡ alone s c x) (sym is) (ok_first s c (look_call n) (Cap k) permitted))
+    acts_at_name (look_call n) is built nowhere =
+        let plan_look : a.plan ≡ plan_for (look_call n) = plan_is ∙ ap plan_for is in
+        let only_one = one_name a.plan.names (any_cap n) name rest a.found k.kind (ap (λ (p : Plan). p.names) plan_look) left wanted in
+        let more_is : more ≡ k ∷ [] = ap (λ ks. ks ++ k ∷ []) only_one.0 in
+        let named_it : named s c n any ≡ Found_it k = (subst (λ (ks : List Capability). Leads (LeadsIn s c) (any_cap n ∷ []) [] ks) more_is
+        (subst (λ (p : Plan). Leads (LeadsIn s c) p.names [] more) plan_look leads_then)).0 in
+        subst (λ ks. GoodTook setup cores t c (LoadOf (EntryAt at.node at.index))
+        (landed (found_more a ks) (act_begun (cores c).own (look_call n) ks None))) (sym more_is)
+        (looked_good setup setting cores t stands c here a active opens held_is no_counts room at looks n
+        (subst (λ (m : ℕ). Arrives setup t c (own_in table m) at) (ap (λ (x : Name). x.number) only_one.1) arrives) k named_it is)
     acts_at_name (Copy b u v) is built nowhere = absurd (not_nowhere nowhere)
       where
         not_nowhere : Free (spot_of.Under Second v) ≡ Nowhere → ⊥
@@ -399,6 +377,9 @@ module _ (setup : Setting) (setting : IsSetting setup) (cores : ℕ → Core) (t
       where
         not_nowhere : Held (spot_of.Under First v) ≡ Nowhere → ⊥
         not_nowhere h = cc
+    acts_at_name (Retype r f frame_kind.Untyped) is built nowhere = absurd built
+    acts_at_name (Retype r f frame_kind.User) is built nowhere = range_at_name r f frame_kind.User is refl
+    acts_at_name (Retype r f frame_kind.Kernel) is built nowhere = range_at_name r f frame_kind.Kernel is refl
     acts_at_name call is built nowhere = absurd built
 
     -- the name is found

@@ -1,3 +1,4 @@
 pub mod ByCall
+pub mod AtName
 pub mod ByPlan
 pub mod Work

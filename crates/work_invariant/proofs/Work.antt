@@ -7,7 +7,7 @@ use Rattle.stage_look.specs.Shown.{shown_in}
 use Rattle.stage_look.specs.Lookup.{look_move}
 use Rattle.stage_look.specs.declared.look.Look.{Look}
 use Rattle.stage_look.specs.declared.look.Look.TheVariants.{AtRoot, AtLeaf, AtEntry}
-use Rattle.call_acts.specs.declared.work.Act.TheVariants.{Fill as fill_act, Remove as remove_act}
+use Rattle.call_acts.specs.declared.work.Act.TheVariants.{Fill as fill_act, Remove as remove_act, Retype as type_act}
 use Rattle.call_acts.specs.declared.work.Work.{Work}
 use Rattle.call_acts.specs.declared.work.Work.TheVariants.{Lookup, Scan, Acquire, Act}
 use Rattle.call_steps.specs.declared.stages.Stage.TheVariants.{Undecided}
@@ -23,6 +23,7 @@ use Rattle.work_invariant.proofs.ByPlan.{lookup_good}
 use Rattle.place_invariant.proofs.Fills.{fill_good}
 use Rattle.place_invariant.proofs.Removals.{remove_good}
 use Rattle.place_invariant.proofs.ScanSteps.{scan_good}
+use Rattle.frame_invariant.proofs.Typings.{typing_good}
 
 look_good : (setup : Setting) → IsSetting setup → (cores : ℕ → Core) (t : Trace) → Stands setup cores t → (c : ℕ) → c < setup.cores
     → (a : ActiveCall) → (cores c).active ≡ Some a
@@ -54,5 +55,7 @@ work_good setup setting cores t stands c here a active (Act (fill_act fill)) is 
     fill_good setup setting cores t stands c here a fill active is knows
 work_good setup setting cores t stands c here a active (Act (remove_act close cap)) is knows =
     remove_good setup setting cores t stands c here a active close cap is knows
+work_good setup setting cores t stands c here a active (Act (type_act typing)) is knows =
+    typing_good setup setting cores t stands c here a active typing.frame typing.kind typing.at is knows
 work_good setup setting cores t stands c here a active (Scan q act) is knows =
     scan_good setup setting cores t stands c here a active q act is knows

@@ -1,0 +1,192 @@
+-- What the look-up of a call with one name and no target ends in: a look answers what its name has led to; a retype has found its range,
+-- which has the frame or does not.
+use Rattle.std.proofs.Common.{◌≡◌, inl, ℕ, ◌+◌, ◌<◌, ◌≤◌, ◌&&◌, not, nat_le, nat_lt, Bool, true, false, List, [], ◌∷◌, Some, None, arith, refl, sym, ◌∙◌, ap, subst, if◌then◌else◌, map}
+use Rattle.std.proofs.lemmas.Bool.{ltb-true, lt-ltb, false≢true}
+use Rattle.spk_nums.specs.Capability.{Capability}
+use Rattle.spk_nums.specs.Setting.{Setting, IsSetting}
+use Rattle.spk_nums.specs.declared.kinds.FrameKind.{FrameKind}
+use Rattle.spk_nums.specs.declared.kinds.Kind.{Kind}
+use Rattle.spk_nums.specs.declared.kinds.Kind.TheVariants.{Range}
+use Rattle.spk_nums.specs.declared.calls.Call.TheVariants.{Retype, Look as look_call}
+use Rattle.spk_nums.specs.declared.replies.Reply.TheVariants as reply
+use Rattle.word_map.specs.Word.{EntryAt}
+use Rattle.word_map.specs.Moves.{LoadOf}
+use Rattle.kernel_rules.specs.State.{State}
+use Rattle.kernel_rules.specs.Access.{Slot, found, any, own}
+use Rattle.kernel_rules.specs.Rules.{Refused, RuleMay, Does, first_of, first_cause, outcome, unless, Found, named}
+use Rattle.kernel_rules.specs.CapabilityCalls.{has_frame, outside}
+use Rattle.kernel_rules.specs.MemoryCalls.{not_retyped, retypes}
+use Rattle.kernel_rules.specs.CallRelation.{rule_of, change_of, are_calls_spent, MayReply, counted, begins, ends, flushes, state_by}
+use Rattle.kernel_history.specs.Trace.{Step, Trace, Open, state_after, last_left, own_left}
+use Rattle.kernel_history.proofs.AloneCalls.{refused_first, ok_first}
+use Rattle.kernel_history.proofs.Carries.{Carries}
+use Rattle.call_plans.specs.GoesBy.{GoesBy, own_pages, wants}
+use Rattle.call_plans.specs.After.{rule_after, Leads, LeadsIn, with_found, names_after}
+use Rattle.call_plans.proofs.AfterNames.{outcome_left, left_may}
+use Rattle.stage_look.specs.Shown.{CapNames, end_of_frames}
+use Rattle.stage_pins.specs.declared.held.Acquired.{Acquired}
+use Rattle.call_acts.specs.declared.typings.TypingAt.TheVariants.{Load}
+use Rattle.call_acts.specs.declared.work.Act.TheVariants.{Retype as type_act}
+use Rattle.call_acts.specs.declared.work.Work.TheVariants.{Act}
+use Rattle.call_acts.specs.Acts.{types_if, types_at, act_begun}
+use Rattle.call_steps.specs.declared.stages.Stage.TheVariants.{Undecided}
+use Rattle.call_steps.specs.declared.stages.ActiveCall.{ActiveCall}
+use Rattle.call_steps.specs.Steps.{landed, found_more}
+use Rattle.call_steps.specs.View.{Core}
+use Rattle.core_invariant.specs.Holding.{holds_counts}
+use Rattle.core_invariant.specs.Knows.{due_of, TypesBy, NamesAre, phase_at, own_in}
+use Rattle.core_invariant.specs.Stands.{holds_in, Stands}
+use Rattle.std.specs.Prelude.{IsSome}
+use Rattle.std.proofs.lemmas.List.Elements.{All-nil, All-append}
+use Rattle.spk_nums.specs.declared.replies.Value.TheVariants.{Cap}
+use Rattle.kernel_rules.specs.Alone.{alone}
+use Rattle.kernel_history.specs.Ways.{way_to}
+use Rattle.kernel_history.specs.Justified.{HasReached, IsJustified}
+use Rattle.call_plans.specs.declared.plans.Name.{Name}
+use Rattle.core_invariant.proofs.Carries.{own_kept}
+use Rattle.look_invariant.proofs.Lookups.{Arrives}
+use Rattle.look_invariant.proofs.Findings.{own_is, way_gone, gone_with}
+use Rattle.work_invariant.proofs.ByCall.{one_left, first_same, look_state, look_begins, look_answers}
+use Rattle.core_invariant.proofs.Loads.{OnlyLooks, step_to, core_is, loads_on, decides_on}
+use Rattle.core_invariant.proofs.Refusals.{GoodTook, not_spent}
+
+-- A frame of a range is one of the machine's.
+range_below : (frames : ℕ) (kind : Kind) (first number f : ℕ) → kind ≡ Range → end_of_frames kind first number ≤ frames
+    → (nat_le first f && nat_lt f (first + number)) ≡ true → f < frames
+range_below frames kind first number f is names has =
+    let most : first + number ≤ frames = subst (λ (k : Kind). end_of_frames k first number ≤ frames) is names in
+    let low : f < first + number = ltb-true f (first + number) (both (nat_le first f) (nat_lt f (first + number)) has) in
+    omega arith
+  where
+    both : (x y : Bool) → (x && y) ≡ true → y ≡ true
+    both true y h = h
+    both false y h = absurd (false≢true h)
+
+-- A name that is the only one of a plan, and is looked up.
+pub one_name : (names : List Name) (one name : Name) (rest : List Name) (ks : List Capability) (kind : Kind) → names ≡ one ∷ []
+    → names_after names ks ≡ name ∷ rest → wants (with_found [] ks) name.wanted kind ≡ true
+    → (ks ≡ []) × (name ≡ one) × (wants [] one.wanted kind ≡ true)
+one_name names one name rest ks kind is left wanted = (
+  none,
+  named,
+  subst (λ (x : Name). wants [] x.wanted kind ≡ true) named (subst (λ (ks : List Capability). wants (with_found [] ks) name.wanted kind ≡ true) none
+      wanted),
+)
+  where
+    after : names_after (one ∷ []) ks ≡ name ∷ rest
+    after = subst (λ (names : List Name). names_after names ks ≡ name ∷ rest) is left
+
+    none : ks ≡ []
+    none = one_left one name rest ks after
+
+    named : name ≡ one
+    named = first_same name rest one (sym (subst (λ (ks : List Capability). names_after (one ∷ []) ks ≡ name ∷ rest) none after))
+
+module _ (setup : Setting) (setting : IsSetting setup) (cores : ℕ → Core) (t : Trace) (stands : Stands setup cores t) (c : ℕ)
+    (here : c < setup.cores)
+    (a : ActiveCall) (active : (cores c).active ≡ Some a) (opens : phase_at a.call a.stage ≡ Open a.call)
+    (held_is : holds_in (Some a) ≡ holds_counts None a.counts) (no_counts : a.counts ≡ [])
+    (room : (cores c).own.made < (cores c).own.limit)
+    (by_plan : GoesBy (own_pages (state_after setup t) c) a.plan (rule_of (state_after setup t) c a.call))
+    (at : Slot) (looks : OnlyLooks setup t c a.call (LoadOf (EntryAt at.node at.index)))
+    (range : Capability) (leads : Leads (LeadsIn (state_after setup t) c) a.plan.names [] (range ∷ []))
+    (names : Carries setup t (step_to c None (LoadOf (EntryAt at.node at.index)) (last_left setup t (EntryAt at.node at.index)) None None) c
+    → NamesAre setup (step_to c None (LoadOf (EntryAt at.node at.index)) (last_left setup t (EntryAt at.node at.index)) None None ∷ t) c
+    (cores c).own.table a.plan (range ∷ []))
+    (r f : ℕ) (k : FrameKind) (call_is : a.call ≡ Retype r f k) (kind_is : range.kind ≡ Range) (within : CapNames setup.frames range) where
+  abbrev s : State
+  s = state_after setup t
+
+  abbrev Ends : Bool → Type 0
+  Ends has = GoodTook setup cores t c (LoadOf (EntryAt at.node at.index)) (landed (found_more a (range ∷ [])) (types_if has f k))
+
+  left : rule_after (rule_of s c a.call) (range ∷ []) ≡ Does (outside (found range) f ∷ not_retyped s f k) (retypes s f k)
+  left = ap (λ x. rule_after (rule_of s c x) (range ∷ [])) call_is
+
+  unspent : are_calls_spent s c ≡ false
+  unspent = not_spent setup (cores c) t c (core_is setup setting cores t stands c here a active) room
+
+  -- the frame is in the range
+  in_range : has_frame (found range) f ≡ true → Ends true
+  in_range has lands =
+      loads_on setup setting cores t stands c here a active (LoadOf (EntryAt at.node at.index)) (range ∷ [])
+      (Undecided (Act (type_act (record { frame = f; kind = k; at = Load })))) looks lands (sym held_is) opens
+      (λ carries. record {
+        names = names carries;
+        knows = record {
+          knows = record {
+            types = subst (λ x. TypesBy x (range ∷ []) (record { frame = f; kind = k; at = Load })) (sym call_is)
+                (record { frame = refl; kind = refl; within = has });
+            met = tt;
+          };
+          all = ap (λ (xs : List Acquired). map due_of xs) (sym no_counts);
+        };
+      })
+
+  -- it is not
+  past : has_frame (found range) f ≡ false → Ends false
+  past none lands =
+      decides_on setup setting cores t stands c here a active (LoadOf (EntryAt at.node at.index)) reply.OutOfRange (range ∷ []) looks lands
+      (sym held_is) opens refl refl (λ x. refl) (λ x. refl) refl (
+        unspent,
+        left_may s c (own_pages s c) a.plan (rule_of s c a.call) (range ∷ []) by_plan leads reply.OutOfRange
+            (subst (λ x. RuleMay s c x reply.OutOfRange) (sym left) (inl (ap (λ b. not b) none, refl))),
+      ) tt
+      (λ is_alone. refused_first s c a.call reply.OutOfRange unspent refused)
+    where
+      refused : change_of s c a.call ≡ Refused reply.OutOfRange
+      refused = outcome_left s c (own_pages s c) a.plan (rule_of s c a.call) (range ∷ []) by_plan leads ∙ ap (outcome s c) left
+          ∙ ap (λ b. unless (first_of (if not b then Some reply.OutOfRange else None) (first_cause s c (not_retyped s f k)))
+          (retypes s f k)) none
+
+  pub ranges_good : GoodTook setup cores t c (LoadOf (EntryAt at.node at.index))
+      (landed (found_more a (range ∷ [])) (types_at (cores c).own (Some range) f k))
+  ranges_good = by (has_frame (found range) f) refl
+    where
+      by : (has : Bool) → has_frame (found range) f ≡ has → Ends (has && nat_lt f (cores c).own.layout.frames)
+      by true has = subst Ends (sym (lt-ltb f (cores c).own.layout.frames
+          (subst (λ (n : ℕ). f < n) (sym (ap (λ x. x.frames) (stands.each c here).shape))
+          (range_below setup.frames range.kind range.frame range.arg f kind_is within has)))) (in_range has)
+      by false has = past has
+
+-- A look answers its capability.
+module _ (setup : Setting) (setting : IsSetting setup) (cores : ℕ → Core) (t : Trace) (stands : Stands setup cores t) (c : ℕ)
+    (here : c < setup.cores)
+    (a : ActiveCall) (active : (cores c).active ≡ Some a) (opens : phase_at a.call a.stage ≡ Open a.call)
+    (held_is : holds_in (Some a) ≡ holds_counts None a.counts) (no_counts : a.counts ≡ [])
+    (room : (cores c).own.made < (cores c).own.limit)
+    (at : Slot) (looks : OnlyLooks setup t c a.call (LoadOf (EntryAt at.node at.index)))
+    (n : ℕ) (arrives : Arrives setup t c (own_in (cores c).own.table n) at)
+    (k : Capability) (is : named (state_after setup t) c n any ≡ Found k) (call_is : a.call ≡ look_call n) where
+  abbrev now : State
+  now = state_after setup t
+
+  abbrev answer : Step
+  answer = step_to c None (LoadOf (EntryAt at.node at.index)) (last_left setup t (EntryAt at.node at.index)) (Some (reply.Ok (Cap k))) None
+
+  own_slot : own_in (cores c).own.table n ≡ own now c n
+  own_slot = own_is now c (cores c).own.table n (stands.each c here).works.table
+
+  permitted : MayReply now c (look_call n) (reply.Ok (Cap k))
+  permitted =
+      (not_spent setup (cores c) t c (core_is setup setting cores t stands c here a active) room, look_answers now c n k is)
+
+  stepped : HasReached (answer ∷ t) c (way_to now c (own now c n))
+  stepped = subst (λ x. HasReached (answer ∷ t) c (way_to now c x)) own_slot
+      (way_gone setup t (answer ∷ t) c (own_in (cores c).own.table n) at arrives.reached
+      (gone_with setup t c (own_in (cores c).own.table n) at answer refl refl (own_kept t answer c refl refl) arrives))
+
+  pub looked_good : GoodTook setup cores t c (LoadOf (EntryAt at.node at.index))
+      (landed (found_more a (k ∷ [])) (act_begun (cores c).own (look_call n) (k ∷ []) None))
+  looked_good lands =
+      decides_on setup setting cores t stands c here a active (LoadOf (EntryAt at.node at.index)) (reply.Ok (Cap k)) (k ∷ []) looks
+      lands (ap (holds_counts (Some None)) no_counts ∙ sym (ap (holds_counts None) no_counts) ∙ sym held_is) opens
+      (subst (λ x. state_by now c x (reply.Ok (Cap k)) ≡ counted now c) (sym call_is) (look_state now c n k is)) refl
+      (λ x. subst (λ y. begins now c y (reply.Ok (Cap k)) x ≡ false) (sym call_is) (look_begins now c n k is x))
+      (λ x. subst (λ y. ends y (reply.Ok (Cap k)) x ≡ false) (sym call_is) refl)
+      (subst (λ y. flushes y (reply.Ok (Cap k)) ≡ false) (sym call_is) refl)
+      (subst (λ x. MayReply now c x (reply.Ok (Cap k))) (sym call_is) permitted)
+      (subst (λ x. IsJustified setup t answer x (reply.Ok (Cap k))) (sym call_is)
+      (All-append (λ (x : Slot). IsSome (own_left (answer ∷ t) c (EntryAt x.node x.index))) (way_to now c (own now c n)) [] stepped
+      (All-nil (λ (x : Slot). IsSome (own_left (answer ∷ t) c (EntryAt x.node x.index))))))
+      (λ is_alone. subst (λ x. reply.Ok (Cap k) ≡ alone now c x) (sym call_is) (ok_first now c (look_call n) (Cap k) permitted))
