@@ -1,8 +1,8 @@
 -- The acts of calls, and the counts that they change.
-use Rattle.std.specs.Prelude.{ℕ, ℤ, pos, negsuc, Bool, true, false, ◌&&◌, nat_lt, Option, Some, None, List, map, slice_get, if◌then◌else◌, []}
+use Rattle.std.specs.Prelude.{ℕ, ℤ, ◌<◌, ◌==◌, pos, negsuc, Bool, true, false, ◌&&◌, nat_lt, Option, Some, None, List, map, slice_get, if◌then◌else◌, []}
 use Rattle.spk_nums.specs.Capability.{Capability}
 use Rattle.spk_nums.specs.declared.calls.Call.{Call}
-use Rattle.spk_nums.specs.declared.calls.Call.TheVariants.{Look, Copy, Remove, Shrink, Retype, Unmap}
+use Rattle.spk_nums.specs.declared.calls.Call.TheVariants.{Look, Copy, Remove, Shrink, Retype, Make as make_call, Unmap}
 use Rattle.spk_nums.specs.declared.replies.Value.TheVariants.{Cap, Nothing as nothing}
 use Rattle.spk_nums.specs.declared.steps.StageEnd.{StageEnd}
 use Rattle.spk_nums.specs.declared.steps.StageEnd.TheVariants as ends
@@ -23,21 +23,34 @@ use Rattle.stage_look.specs.declared.look.Found.{Found}
 use Rattle.stage_pins.specs.declared.pin.Pin.TheVariants.{AtLoad}
 use Rattle.call_plans.specs.declared.plans.Nth.TheVariants.{First}
 use Rattle.call_plans.specs.Plans.{at_place}
-use Rattle.call_acts.specs.declared.refusals.Refusal.TheVariants.{Raced, OutOfRange}
+use Rattle.call_acts.specs.declared.refusals.Refusal.TheVariants.{Raced, OutOfRange, Busy, FrameKind as wrong_kind}
 use Rattle.call_acts.specs.declared.work.Act.{Act}
-use Rattle.call_acts.specs.declared.work.Act.TheVariants.{Fill as fill_act, Remove as remove_act, Retype as type_act}
+use Rattle.call_acts.specs.declared.work.Act.TheVariants.{Fill as fill_act, Remove as remove_act, Retype as type_act, Make as make_act, Outside}
 use Rattle.call_acts.specs.declared.work.Due.{Due}
 use Rattle.call_acts.specs.declared.work.Work.{Work}
 use Rattle.call_acts.specs.declared.work.Work.TheVariants.{Scan, Acquire, Act as act_work}
-use Rattle.call_acts.specs.declared.work.Tail.TheVariants.{Nothing, Quiesce}
+use Rattle.call_acts.specs.declared.work.Tail.{Tail}
+use Rattle.call_acts.specs.declared.work.Tail.TheVariants.{Nothing, Quiesce, Unmark}
 use Rattle.call_acts.specs.declared.work.WorkStep.{WorkStep}
-use Rattle.call_acts.specs.declared.work.WorkStep.TheVariants.{Goes, Answers}
+use Rattle.call_acts.specs.declared.work.WorkStep.TheVariants.{Goes, Refuses, Answers}
 use Rattle.call_acts.specs.Refusals.{refusal_of}
 use Rattle.call_acts.specs.WorkSteps.{refuse}
 use Rattle.call_acts.specs.Fills.{FillFits, fill_move, took_fill}
 use Rattle.call_acts.specs.declared.typings.TypingAt.TheVariants.{Load}
 use Rattle.call_acts.specs.Typings.{TypingFits, typing_move, took_typing, is_typing, typing_left}
+use Rattle.call_acts.specs.declared.makings.Node.{Node}
+use Rattle.call_acts.specs.declared.makings.MakingAt.{MakingAt}
+use Rattle.call_acts.specs.declared.makings.MakingAt.TheVariants.{Load as make_load, Mark, Store, Fill as fill_at}
+use Rattle.call_acts.specs.declared.makings.Making.{Making}
+use Rattle.call_acts.specs.Makings.{node_cap, node_made, made, MakingFits, making_move, stored, undo_at, is_filling, making_left}
 use Rattle.spk_nums.specs.declared.kinds.FrameKind.{FrameKind}
+use Rattle.spk_nums.specs.declared.kinds.FrameKind.TheVariants.{Kernel}
+use Rattle.spk_nums.specs.declared.kinds.Obj.{Obj}
+use Rattle.spk_nums.specs.declared.kinds.Obj.TheVariants.{Blank}
+use Rattle.frame_words.specs.Frame.{word_of_frame, frame_of_word}
+use Rattle.frame_words.specs.declared.frame_word.FrameWord.{FrameWord}
+use Rattle.word_map.specs.Moves.{LoadOf}
+use Rattle.word_map.specs.Word.{EntryAt}
 use Rattle.kernel_rules.specs.Access.{found as named}
 use Rattle.kernel_rules.specs.CapabilityCalls.{has_frame}
 
@@ -46,6 +59,8 @@ abbrev pub ActFits : Shape → Act → Type 0
 ActFits s (fill_act fill) = FillFits s fill
 ActFits s (remove_act close cap) = CloseFits s close × CapNames s.frames cap
 ActFits s (type_act typing) = TypingFits s typing
+ActFits s (make_act m) = MakingFits s m
+ActFits s (Outside node entry word) = (node < s.frames) × (entry < 64)
 
 -- the stamp with which a removal that has drawn it goes on to its store
 abbrev pub drawn_by : Close → Option ℕ
@@ -61,16 +76,13 @@ took_close cap close (ends.Decided r) = Answers nothing (drawn_by close) (Quiesc
 took_close cap close (ends.Done stamp) = refuse Raced
 took_close cap close (ends.Refuse r) = refuse (refusal_of r)
 
--- the next step of an act, and what it takes from the word found
+-- the next step of an act; one that is out of range makes none
 abbrev pub act_move : Act → Move
 act_move (fill_act fill) = fill_move fill
 act_move (remove_act close cap) = close_move close
 act_move (type_act typing) = typing_move typing
-
-abbrev pub took_act : Act → ℕ → WorkStep
-took_act (fill_act fill) found = took_fill fill found
-took_act (remove_act close cap) found = took_close cap (close_after close found) (close_end close found)
-took_act (type_act typing) found = took_typing typing found
+act_move (make_act m) = making_move m
+act_move (Outside node entry word) = LoadOf (EntryAt node entry)
 
 -- whether the next step of a removal draws its stamp
 abbrev pub is_draw : Close → Bool
@@ -83,6 +95,8 @@ abbrev pub act_ready : Act → Bool
 act_ready (fill_act fill) = true
 act_ready (remove_act close cap) = is_draw close
 act_ready (type_act typing) = is_typing typing.at
+act_ready (make_act m) = is_filling m.at
+act_ready (Outside node entry word) = false
 
 -- the steps of a removal that are still to come
 abbrev pub close_left : Close → ℕ
@@ -95,6 +109,8 @@ abbrev pub act_left : Act → ℕ
 act_left (fill_act fill) = 1
 act_left (remove_act close cap) = close_left close
 act_left (type_act typing) = typing_left typing.at
+act_left (make_act m) = making_left m.at
+act_left (Outside node entry word) = 1
 
 -- a look answers what its name has led to
 abbrev pub looked : Option Capability → WorkStep
@@ -105,11 +121,20 @@ looked (Some k) = Answers (Cap k) None Nothing
 abbrev pub cap_dues : Capability → ℤ → List Due
 cap_dues k change = map (λ f. record { frame = f; change = change }) (named_by k.kind k.frame)
 
+-- a making changes the count of its frame, from when the frame is marked
+abbrev pub made_dues : Capability → MakingAt → List Due
+made_dues k make_load = []
+made_dues k (Mark word) = []
+made_dues k (Store word entry) = cap_dues k (pos 1)
+made_dues k (fill_at word) = cap_dues k (pos 1)
+
 -- the counts that an act changes, in the order in which they are acquired
 abbrev pub dues : Act → List Due
 dues (fill_act fill) = cap_dues fill.cap (pos 1)
 dues (remove_act close cap) = cap_dues cap (negsuc 0)
 dues (type_act typing) = []
+dues (make_act m) = made_dues m.fill.cap m.at
+dues (Outside node entry word) = []
 
 -- a core acquires this count for an act next, or has acquired all and goes on to the act
 abbrev pub acquires : ℕ → Act → Option Due → Work
@@ -120,10 +145,64 @@ acquires core act (Some due) = Acquire (AtLoad due.frame core) due.change act
 abbrev pub next_work : ℕ → ℕ → Act → Work
 next_work core n act = acquires core act (slice_get (dues act) n)
 
--- an act begins with a scan, if there is one, and else with its first count
-abbrev pub scans : ℕ → Option Quiet → Act → Work
-scans core None act = next_work core 0 act
-scans core (Some q) act = Scan q act
+-- what a making takes from its step
+abbrev pub meets_object : Making → ℕ → Obj → WorkStep
+meets_object m word Blank = Goes (act_work (make_act (record m { at = Mark word })))
+meets_object m word _ = refuse wrong_kind
+
+abbrev pub meets_kernel : Making → ℕ → FrameKind → Obj → WorkStep
+meets_kernel m word Kernel o = meets_object m word o
+meets_kernel m word _ o = refuse wrong_kind
+
+abbrev pub meets_blank : Making → ℕ → FrameKind → Obj → Option ℕ → WorkStep
+meets_blank m word k o None = meets_kernel m word k o
+meets_blank m word k o (Some d) = refuse (Busy d)
+
+abbrev pub meets_making : Making → ℕ → Option FrameWord → WorkStep
+meets_making m word None = refuse Raced
+meets_making m word (Some v) = meets_blank m word v.kind v.object v.mark
+
+abbrev pub marks_if : Making → ℕ → Bool → WorkStep
+marks_if m word equal = if equal then Goes (next_work m.core 0 (make_act (record m { at = Store word 0 }))) else refuse Raced
+
+abbrev pub published : Making → ℕ → Bool → WorkStep
+published m word equal =
+    if equal then Answers nothing None (Unmark m.frame (word_of_frame (made m.node))) else Refuses Raced (Unmark m.frame word)
+
+abbrev pub took_making_at : Making → MakingAt → ℕ → WorkStep
+took_making_at m make_load found = meets_making m found (frame_of_word found)
+took_making_at m (Mark word) found = marks_if m word (found == word)
+took_making_at m (Store word entry) found = Goes (act_work (make_act (record m { at = stored word entry })))
+took_making_at m (fill_at word) found = published m word (found == m.fill.word)
+
+abbrev pub took_making : Making → ℕ → WorkStep
+took_making m found = took_making_at m m.at found
+
+-- what an act takes from the word found
+abbrev pub took_act : Act → ℕ → WorkStep
+took_act (fill_act fill) found = took_fill fill found
+took_act (remove_act close cap) found = took_close cap (close_after close found) (close_end close found)
+took_act (type_act typing) found = took_typing typing found
+took_act (make_act m) found = took_making m found
+took_act (Outside node entry word) found = refuse OutOfRange
+
+-- what a refused call has still to store where it acquires a count for an act
+abbrev pub undo : Act → Tail
+undo (fill_act fill) = Nothing
+undo (remove_act close cap) = Nothing
+undo (type_act typing) = Nothing
+undo (make_act m) = undo_at m.frame m.at
+undo (Outside node entry word) = Nothing
+
+-- an act starts with its first count, where it is not out of range
+abbrev pub starts : ℕ → Act → WorkStep
+starts core (Outside node entry word) = refuse OutOfRange
+starts core act = Goes (next_work core 0 act)
+
+-- it starts after a scan, if there is one
+abbrev pub scans : ℕ → Option Quiet → Act → WorkStep
+scans core None act = starts core act
+scans core (Some q) act = Goes (Scan q act)
 
 -- the stamp since which an entry is quiescing, 0 for one that is not
 abbrev pub stamp_in : Entry → ℕ
@@ -137,7 +216,7 @@ abbrev pub filling : Capability → Found → Act
 filling k f = fill_act (record { node = f.node; entry = f.entry; word = f.word; cap = k })
 
 abbrev pub fills_at : Own → Capability → Found → WorkStep
-fills_at own k f = Goes (scans own.core (quiet_scan (stamp_in f.value) own.core own.layout.cores false) (filling k f))
+fills_at own k f = scans own.core (quiet_scan (stamp_in f.value) own.core own.layout.cores false) (filling k f)
 
 abbrev pub fills_with : Own → Option Capability → Option Found → WorkStep
 fills_with own None f = refuse Raced
@@ -179,6 +258,8 @@ abbrev pub stamp_of_act : Act → ℕ
 stamp_of_act (fill_act fill) = stamp_shown (entry_of_word fill.word)
 stamp_of_act (remove_act close cap) = 0
 stamp_of_act (type_act typing) = 0
+stamp_of_act (make_act m) = stamp_shown (entry_of_word m.fill.word)
+stamp_of_act (Outside node entry word) = stamp_shown (entry_of_word word)
 
 -- a frame is typed where it is in the range, which has none past the machine's
 abbrev pub types_if : Bool → ℕ → FrameKind → WorkStep
@@ -188,6 +269,28 @@ abbrev pub types_at : Own → Option Capability → ℕ → FrameKind → WorkSt
 types_at own None f k = refuse Raced
 types_at own (Some range) f k = types_if (has_frame (named range) f && nat_lt f own.layout.frames) f k
 
+-- a node is made in a frame of the range, and its capability put at the target
+abbrev pub making : Own → Node → ℕ → Found → Act
+making own node frame f = make_act (record {
+  frame = frame;
+  node = node;
+  core = own.core;
+  fill = record { node = f.node; entry = f.entry; word = f.word; cap = node_cap node frame };
+  at = make_load;
+})
+
+abbrev pub making_if : Bool → Own → Node → ℕ → Found → Act
+making_if within own node frame f = if within then making own node frame f else Outside f.node f.entry f.word
+
+abbrev pub makes_in : Own → Node → Capability → ℕ → Found → WorkStep
+makes_in own node range frame f =
+    scans own.core (quiet_scan (stamp_in f.value) own.core own.layout.cores false)
+    (making_if (has_frame (named range) frame && nat_lt frame own.layout.frames) own node frame f)
+
+abbrev pub makes_at : Own → Option Node → Option Capability → ℕ → Option Found → WorkStep
+makes_at own (Some node) (Some range) frame (Some f) = makes_in own node range frame f
+makes_at own _ _ frame _ = refuse Raced
+
 -- what a call of a core does whose names have led to these and whose target, if it has one, was found
 abbrev pub act_begun : Own → Call → List Capability → Option Found → WorkStep
 act_begun own (Look a) found target = looked (at_place found First)
@@ -196,4 +299,5 @@ act_begun own (Remove t b) found target = removes_at own.core target
 act_begun own (Shrink t i) found target = removes_at own.core target
 act_begun own (Unmap p v) found target = removes_at own.core target
 act_begun own (Retype r f k) found target = types_at own (at_place found First) f k
+act_begun own (make_call what range frame table slot) found target = makes_at own (node_made what) (at_place found First) frame target
 act_begun own _ found target = refuse Raced

@@ -17,11 +17,13 @@ ghost use Rattle.word_map.specs.Places.{Shape, size_of};
 ghost use Rattle.word_map.specs.Moves.{op_of};
 ghost use Rattle.spk_nums.specs.WordSteps.{place_in};
 ghost use Rattle.call_acts.specs.WorkSteps.{refuse};
-ghost use Rattle.call_acts.specs.Acts.{ActFits, act_move, took_act, act_ready, looked, cap_dues, dues, acquires, next_work, filling, fills_at, fills_with, put_by, act_begun, drawn_by, took_close, is_draw, scans, stamp_in, removing, removes_held, removes_at, types_if, types_at};
+ghost use Rattle.call_acts.specs.Acts.{ActFits, act_move, took_act, act_ready, looked, cap_dues, dues, acquires, next_work, filling, fills_at, fills_with, put_by, act_begun, drawn_by, took_close, is_draw, scans, stamp_in, removing, removes_held, removes_at, types_if, types_at, starts, undo, made_dues, makes_at, makes_in};
+ghost use Rattle.call_acts.specs.Makings.{node_made};
 ghost use Rattle.kernel_rules.specs.Access.{found as named_by_cap};
 ghost use Rattle.kernel_rules.specs.CapabilityCalls.{has_frame};
 
 use crate::fills::Fill;
+use crate::makings::{Making, MakingAt, Node, node_cap};
 use crate::own::Own;
 use crate::refusals::Refusal;
 use crate::typings::{Typing, TypingAt};
@@ -29,7 +31,7 @@ use crate::work::{Act, Due, Tail, Work, WorkStep};
 use call_plans::{Caps, Nth};
 use entry_words::Entry;
 use spk_nums::{
-    Call, Cap, CoreNo, FrameArg, FrameKind, FrameNo, Kind, StageEnd, Stamp, Value, WordOp,
+    Call, Cap, CoreNo, FrameArg, FrameKind, FrameNo, Kind, Make, StageEnd, Stamp, Value, WordOp,
 };
 use stage_look::Found;
 use stage_pins::Pin;
@@ -47,6 +49,14 @@ pub fn act_op(act: &Act, layout: &Layout) -> WordOp
         Act::Fill { fill } => fill.next(layout),
         Act::Remove { close, cap: _ } => close.next(layout),
         Act::Retype { typing } => typing.next(layout),
+        Act::Make { making } => making.next(layout),
+        Act::Outside {
+            node,
+            entry,
+            word: _,
+        } => WordOp::Load {
+            at: layout.entry_at(*node, *entry),
+        },
     }
 }
 
@@ -64,6 +74,8 @@ pub fn act_took(act: &Act, layout: &Layout, found: u64) -> WorkStep
             close_took(*cap, close, &end)
         }
         Act::Retype { typing } => typing.take(found),
+        Act::Make { making } => making.take(found),
+        Act::Outside { .. } => refuse(Refusal::OutOfRange),
     }
 }
 
@@ -112,6 +124,8 @@ pub fn act_ready(act: &Act) -> bool
         Act::Fill { fill: _ } => true,
         Act::Remove { close, cap: _ } => matches!(close, Close::AtDraw { .. }),
         Act::Retype { typing } => typing.is_ready(),
+        Act::Make { making } => making.is_ready(),
+        Act::Outside { .. } => false,
     }
 }
 
@@ -150,6 +164,8 @@ fn due(act: &Act, n: u8) -> Option<Due>
         Act::Fill { fill } => cap_due(&fill.cap, 1, n),
         Act::Remove { close: _, cap } => cap_due(cap, -1, n),
         Act::Retype { typing: _ } => None,
+        Act::Make { making } => made_due(making, n),
+        Act::Outside { .. } => None,
     }
 }
 
@@ -184,6 +200,13 @@ pub fn begin_act(own: &Own, call: &Call, found: &Caps, target: &Option<Found>) -
         Call::Copy { a: _, t: _, b: _ } => fills_with(own, &found.get(Nth::First), target),
         Call::Remove { t: _, b: _ } | Call::Shrink { t: _, i: _ } | Call::Unmap { p: _, v: _ } =>
             removes_at(own.core, target),
+        Call::Make {
+            what,
+            range: _,
+            frame,
+            table: _,
+            slot: _,
+        } => makes_at(own, node_made(what), &found.get(Nth::First), *frame, target),
         Call::Retype { r: _, f, k } => types_at(own, &found.get(Nth::First), *f, *k),
         _ => refuse(Refusal::Raced),
     }
@@ -233,9 +256,7 @@ fn fills_at(own: &Own, cap: Cap, target: &Found) -> WorkStep
         },
     };
     let quiet = Quiet::entry(stamp_in(&target.value), own.core, own.layout.cores());
-    WorkStep::Goes {
-        work: scans(own.core, quiet, &act),
-    }
+    scans(own.core, quiet, &act)
 }
 
 // The stamp since which an entry is quiescing, 0 for one that is not.
@@ -249,15 +270,130 @@ fn stamp_in(entry: &Entry) -> Stamp
     }
 }
 
-// An act begins with a scan, if there is one.
+// An act starts after a scan, if there is one.
 #[inline]
-fn scans(core: CoreNo, quiet: Option<Quiet>, act: &Act) -> Work
+fn scans(core: CoreNo, quiet: Option<Quiet>, act: &Act) -> WorkStep
     ensures { result ≡ scans core quiet act.now }
 {
     match quiet {
-        None => next_work(core, 0, act),
-        Some(quiet) => Work::Scan { quiet, act: *act },
+        None => starts(core, act),
+        Some(quiet) => WorkStep::Goes {
+            work: Work::Scan { quiet, act: *act },
+        },
     }
+}
+
+/// An act starts with its first count, where it is not out of range.
+#[inline]
+pub fn starts(core: CoreNo, act: &Act) -> WorkStep
+    ensures { result ≡ starts core act.now }
+{
+    match act {
+        Act::Outside { .. } => refuse(Refusal::OutOfRange),
+        _ => WorkStep::Goes {
+            work: next_work(core, 0, act),
+        },
+    }
+}
+
+/// What a refused call has still to store where it acquires a count for an act.
+#[inline]
+pub fn undo(act: &Act) -> Tail
+    ensures { result ≡ undo act.now }
+{
+    match act {
+        Act::Make { making } => making.undo(),
+        _ => Tail::Nothing,
+    }
+}
+
+// The count of this number that a making changes.
+#[inline]
+fn made_due(making: &Making, n: u8) -> Option<Due>
+    ensures { result ≡ slice_get (made_dues making.now.fill.cap making.now.at) n }
+{
+    match making.at {
+        MakingAt::Load => None,
+        MakingAt::Mark { word: _ } => None,
+        MakingAt::Store { word: _, entry: _ } => cap_due(&making.fill.cap, 1, n),
+        MakingAt::Fill { word: _ } => cap_due(&making.fill.cap, 1, n),
+    }
+}
+
+// The node that a `make` makes, if it makes one.
+#[inline]
+fn node_made(what: &Make) -> Option<Node>
+    ensures { result ≡ node_made what.now }
+{
+    match what {
+        Make::Table => Some(Node::Table),
+        Make::Leaf => Some(Node::Leaf),
+        Make::Pages => Some(Node::Pages),
+        Make::Pleaf => Some(Node::Pleaf),
+        Make::Thread { comp: _ } => None,
+        Make::Tcap {
+            sched: _,
+            quality: _,
+        } => None,
+        Make::Comp {
+            table: _,
+            pages: _,
+            live: _,
+        } => None,
+    }
+}
+
+// A node is made in a frame of this range.
+#[inline]
+fn makes_at(
+    own: &Own,
+    node: Option<Node>,
+    range: &Option<Cap>,
+    frame: FrameArg,
+    target: &Option<Found>,
+) -> WorkStep
+    requires core { own.now.core < own.now.layout.cores }
+    requires cores { own.now.layout.cores ≤ 8 }
+    ensures { result ≡ makes_at own.now node range.now frame target.now }
+{
+    match (node, range, target) {
+        (Some(node), Some(range), Some(target)) => makes_in(own, node, range, frame, target),
+        _ => refuse(Refusal::Raced),
+    }
+}
+
+// A node is made in a frame, where the range has it, after a scan where the target is quiescing.
+#[inline]
+fn makes_in(own: &Own, node: Node, range: &Cap, frame: FrameArg, target: &Found) -> WorkStep
+    requires core { own.now.core < own.now.layout.cores }
+    requires cores { own.now.layout.cores ≤ 8 }
+    ensures { result ≡ makes_in own.now node range.now frame target.now }
+{
+    let act = if has_frame(range, frame) && frame.number() < own.layout.frames() {
+        let frame = FrameNo::new(frame.number());
+        Act::Make {
+            making: Making {
+                frame,
+                node,
+                core: own.core,
+                fill: Fill {
+                    node: target.node,
+                    entry: target.entry,
+                    word: target.word,
+                    cap: node_cap(node, frame),
+                },
+                at: MakingAt::Load,
+            },
+        }
+    } else {
+        Act::Outside {
+            node: target.node,
+            entry: target.entry,
+            word: target.word,
+        }
+    };
+    let quiet = Quiet::entry(stamp_in(&target.value), own.core, own.layout.cores());
+    scans(own.core, quiet, &act)
 }
 
 // What the target holds is removed.

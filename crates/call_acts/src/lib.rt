@@ -17,9 +17,15 @@
 //! **Retype to user or kernel.** The frame's word is loaded, and compared with the word found, which says that the frame is untyped and
 //! that no core has marked it; the compare decides.
 //!
+//! **Make a node.** The frame's word is loaded, and compared with the word found, which says that the frame is a blank kernel frame and that
+//! no core has marked it; the compare marks it. Then the count of the frame is acquired, its 64 entries are stored as free, and the target's
+//! entry is compared with the word that this call has loaded there; this compare decides. The frame's word is still to be stored: that of
+//! the node, or the word found, where the call is refused after the mark. A target that is quiescing is scanned for before the frame's
+//! word is loaded.
+//!
 //! **Refusals.** A refusal decides at the first step by which it is known and every earlier cause is judged: of each name in
 //! written order `no-slot`, `empty` and `wrong-cap`, then of the target `no-slot` and `occupied`, then what the act asks: `out-of-range` of a
-//! frame that is not in the range, and `frame-kind` of one that is not untyped. A lost compare is `raced`.
+//! frame that is not in the range, and `frame-kind` of one that is not untyped, or for a node not blank. A lost compare is `raced`.
 //!
 //! **A call more** adds a line to each function of `acts`: where its act begins, which counts it changes, the act's next step, what
 //! it takes, whether that step decides.
@@ -29,15 +35,17 @@ mod acts;
 mod fills;
 mod laws;
 mod lookups;
+mod makings;
 mod own;
 mod refusals;
 mod typings;
 mod work;
 
-pub use acts::{act_op, act_ready, act_took, begin_act, next_work, refuse};
+pub use acts::{act_op, act_ready, act_took, begin_act, next_work, refuse, starts, undo};
 pub use fills::Fill;
 pub use laws::refusals_are_replies;
 pub use lookups::{Met, frame_of, met_free, met_held, met_name};
+pub use makings::{Making, MakingAt, Node};
 pub use own::Own;
 pub use refusals::Refusal;
 pub use typings::{Typing, TypingAt};

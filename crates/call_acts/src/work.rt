@@ -1,9 +1,10 @@
 //! The work of a call between its entry and its decision, what a step of it leads to, and what a decision leaves to be stored.
 
 use crate::fills::Fill;
+use crate::makings::Making;
 use crate::refusals::Refusal;
 use crate::typings::Typing;
-use spk_nums::{Cap, FrameNo, Stamp, Value};
+use spk_nums::{Cap, EntryNo, FrameNo, Stamp, Value};
 use stage_look::Look;
 use stage_pins::{Acquired, Pin};
 use stage_quiet::{Close, Quiet};
@@ -12,11 +13,28 @@ use stage_quiet::{Close, Quiet};
 #[derive(Clone, Copy, PartialEq, Eq, Debug)]
 pub enum Act {
     /// It fills the place of its target.
-    Fill { fill: Fill },
+    Fill {
+        fill: Fill,
+    },
     /// It removes this capability from the place of its target: an act ends at the draw of the stamp, which decides the call.
-    Remove { close: Close, cap: Cap },
+    Remove {
+        close: Close,
+        cap: Cap,
+    },
     /// It types an untyped frame.
-    Retype { typing: Typing },
+    Retype {
+        typing: Typing,
+    },
+    /// It makes a node in a blank kernel frame.
+    Make {
+        making: Making,
+    },
+    /// Its frame is not in its range: it is refused once its target, of which this word was found, is scanned for.
+    Outside {
+        node: FrameNo,
+        entry: EntryNo,
+        word: u64,
+    },
 }
 
 /// A count that an act changes: that of the references to a frame, by so many.
@@ -49,6 +67,9 @@ pub enum Tail {
     Nothing,
     /// The entry that quiesces since the stamp that was drawn.
     Quiesce { close: Close },
+    /// The word of a frame that the call has marked: with its object where the call is carried out, and as it was found where it is
+    /// refused.
+    Unmark { frame: FrameNo, word: u64 },
 }
 
 /// What a step of the work of a call led to.

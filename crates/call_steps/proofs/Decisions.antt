@@ -3,7 +3,7 @@ use Rattle.stage_quiet.specs.declared.close.Close.{Close}
 use Rattle.stage_quiet.specs.declared.close.Close.TheVariants.{AtCompare, AtDraw, AtStore}
 use Rattle.stage_quiet.specs.declared.quiet.Quiet.{Quiet}
 use Rattle.stage_quiet.specs.Removal.{close_compared, close_end, close_after}
-use Rattle.stage_quiet.specs.Scan.{quiet_after, quiet_end}
+use Rattle.stage_quiet.specs.Scan.{quiet_after, quiet_end, quiet_scan}
 use Rattle.stage_pins.specs.declared.pin.Pin.{Pin}
 use Rattle.stage_pins.specs.declared.pin.Pinned.{Pinned}
 use Rattle.stage_pins.specs.declared.held.Acquired.{Acquired}
@@ -37,14 +37,21 @@ use Rattle.call_acts.specs.declared.refusals.Refusal.TheVariants as refusal
 use Rattle.call_acts.specs.declared.own.Own.{Own}
 use Rattle.call_acts.specs.declared.lookups.Met.{Met}
 use Rattle.call_acts.specs.declared.lookups.Met.TheVariants.{Finds, Refused}
+use Rattle.spk_nums.specs.declared.kinds.Obj.{Obj}
+use Rattle.spk_nums.specs.declared.kinds.Obj.TheVariants.{Blank}
+use Rattle.call_acts.specs.declared.makings.Node.{Node}
+use Rattle.call_acts.specs.declared.makings.Making.{Making}
+use Rattle.call_acts.specs.declared.makings.MakingAt.{MakingAt}
+use Rattle.call_acts.specs.declared.makings.MakingAt.TheVariants.{Load as make_load, Mark, Store, Fill as fill_at}
+use Rattle.call_acts.specs.Makings.{node_made, is_filling}
 use Rattle.call_acts.specs.declared.work.Act.{Act as ActType}
-use Rattle.call_acts.specs.declared.work.Act.TheVariants.{Fill as fill_act, Remove as remove_act, Retype as type_act}
+use Rattle.call_acts.specs.declared.work.Act.TheVariants.{Fill as fill_act, Remove as remove_act, Retype as type_act, Make as make_act, Outside}
 use Rattle.call_acts.specs.declared.work.Work.{Work}
 use Rattle.call_acts.specs.declared.work.Work.TheVariants.{Lookup, Scan, Acquire, Act}
 use Rattle.call_steps.specs.declared.stages.Stage.{Stage}
 use Rattle.call_steps.specs.declared.stages.Stage.TheVariants.{Enter, Undecided, Decided, Leave}
 use Rattle.call_acts.specs.declared.work.Tail.{Tail}
-use Rattle.call_acts.specs.declared.work.Tail.TheVariants.{Nothing, Quiesce}
+use Rattle.call_acts.specs.declared.work.Tail.TheVariants.{Nothing, Quiesce, Unmark}
 use Rattle.call_steps.specs.declared.stages.ActiveCall.{ActiveCall}
 use Rattle.call_acts.specs.declared.work.WorkStep.{WorkStep}
 use Rattle.call_acts.specs.declared.work.WorkStep.TheVariants.{Goes, Acquires, Refuses as refuses_to, Answers}
@@ -52,7 +59,7 @@ use Rattle.call_acts.specs.Refusals.{refusal_of}
 use Rattle.call_acts.proofs.Refusing.{refusal_refuses}
 use Rattle.call_acts.specs.Fills.{filled_if}
 use Rattle.call_acts.specs.WorkSteps.{refuse}
-use Rattle.call_acts.specs.Acts.{took_close, is_draw, took_act, act_ready, fills_with, removes_held, removes_at, act_begun, types_if, types_at}
+use Rattle.call_acts.specs.Acts.{took_close, is_draw, took_act, act_ready, fills_with, removes_held, removes_at, act_begun, types_if, types_at, stamp_in, filling, starts, scans, makes_at, meets_object, meets_blank, meets_making, marks_if, published, took_making_at}
 use Rattle.call_plans.specs.declared.plans.Nth.TheVariants.{First}
 use Rattle.frame_words.specs.declared.frame_word.FrameWord.{FrameWord}
 use Rattle.call_acts.specs.declared.typings.Typing.{Typing}
@@ -63,7 +70,7 @@ use Rattle.call_acts.specs.Lookups.{looks_under, looks_entry, looks_at, next_ste
 use Rattle.call_steps.specs.Fits.{FoundFits, IsFirst, IsActive}
 use Rattle.call_steps.specs.Tails.{took_tail, tail_counts}
 use Rattle.call_plans.specs.After.{with_found, names_after, next_in, Next, NextName, NextFree, NextHeld, NextOwn, NextNothing, next_of}
-use Rattle.call_steps.specs.Steps.{GoesOn, landed, next_by, found_more, took_enter, named_one, took_found, took_end, took_look, took_scan, took_count, took_work, went_with, took_at, is_last, decides_at_name, is_last_name, work_ready, ready_at}
+use Rattle.call_steps.specs.Steps.{GoesOn, landed, next_by, found_more, took_enter, named_one, took_found, took_end, took_look, took_scan, took_count, gives_up, took_work, went_with, took_at, is_last, decides_at_name, is_last_name, work_ready, ready_at}
 use Rattle.call_steps.specs.Laws.{reply_at, Turns, DecidesOnce, Refuses, UnreadyRefuses, IsDecision, ReadyDecides}
 
 -- a call is decided once
@@ -106,6 +113,7 @@ work_turns own a (Act act) found = landed_turns a (took_act act found)
 tail_turns : (a : ActiveCall) (r : Reply) (drawn : Option ℕ) (tail : Tail) (counts : List Acquired) (found : ℕ)
     → Turns (Some r) (GoesOn (went_with a (tail_counts tail counts) (took_tail r drawn tail counts found)))
 tail_turns a r drawn (Quiesce close) counts found = refl
+tail_turns a r drawn (Unmark f word) counts found = refl
 tail_turns a r drawn Nothing [] found = refl
 tail_turns a r drawn Nothing (x ∷ xs) found = refl
 
@@ -144,10 +152,21 @@ target_no (Under table n) = under_no _ table.frame n
 target_no (InRoot table i) = entry_no _ table.frame i
 
 -- The act of a call that is not decided where its last name is found answers nothing when it begins.
+starts_no : (core : ℕ) (act : ActType) → NoAnswer (starts core act)
+starts_no core (Outside node entry word) = tt
+starts_no core (fill_act fill) = tt
+starts_no core (remove_act close cap) = tt
+starts_no core (type_act typing) = tt
+starts_no core (make_act m) = tt
+
+scans_no : (core : ℕ) (o : Option Quiet) (act : ActType) → NoAnswer (scans core o act)
+scans_no core None act = starts_no core act
+scans_no core (Some q) act = tt
+
 fill_no : (own : Own) (k : Option Capability) (target : Option Found) → NoAnswer (fills_with own k target)
 fill_no own None target = tt
 fill_no own (Some k) None = tt
-fill_no own (Some k) (Some f) = tt
+fill_no own (Some k) (Some f) = scans_no own.core (quiet_scan (stamp_in f.value) own.core own.layout.cores false) (filling k f)
 
 held_no : (core : ℕ) (f : Found) (value : Entry) → NoAnswer (removes_held core f value)
 held_no core f entry.Free = tt
@@ -167,6 +186,13 @@ types_no : (own : Own) (range : Option Capability) (f : ℕ) (k : FrameKind) →
 types_no own None f k = tt
 types_no own (Some range) f k = type_no _ f k
 
+makes_no : (own : Own) (node : Option Node) (range : Option Capability) (f : ℕ) (target : Option Found)
+    → NoAnswer (makes_at own node range f target)
+makes_no own (Some node) (Some range) f (Some target) = scans_no own.core _ _
+makes_no own None range f target = tt
+makes_no own (Some node) None f target = tt
+makes_no own (Some node) (Some range) f None = tt
+
 act_no : (own : Own) (call : Call) (found : List Capability) (target : Option Found) → decides_at_name (plan_for call).decides ≡ false
     → NoAnswer (act_begun own call found target)
 act_no own (look_call a) found target not = absurd (cc)
@@ -175,6 +201,8 @@ act_no own (Remove t b) found target not = remove_no own.core target
 act_no own (Shrink t i) found target not = remove_no own.core target
 act_no own (Unmap p v) found target not = remove_no own.core target
 act_no own (Retype r f k) found target not = types_no own (at_place found First) f k
+act_no own (make_call what range frame table slot) found target not =
+    makes_no own (node_made what) (at_place found First) frame target
 act_no own call found target not = tt
 
 -- A call that is decided where its last name is found has one name, and no target.
@@ -326,26 +354,52 @@ typing_no : (y : Typing) (at : TypingAt) (found : ℕ) → is_typing at ≡ fals
 typing_no y Load found not = word_no y found _
 typing_no y (type_compare word) found not = absurd (cc)
 
+object_no : (m : Making) (word : ℕ) (o : Obj) → NoAnswer (meets_object m word o)
+object_no m word Blank = tt
+object_no m word o = tt
+
+blank_no : (m : Making) (word : ℕ) (k : FrameKind) (o : Obj) (mark : Option ℕ) → NoAnswer (meets_blank m word k o mark)
+blank_no m word k o (Some d) = tt
+blank_no m word Untyped o None = tt
+blank_no m word User o None = tt
+blank_no m word Kernel o None = object_no m word o
+
+met_no : (m : Making) (word : ℕ) (o : Option FrameWord) → NoAnswer (meets_making m word o)
+met_no m word None = tt
+met_no m word (Some v) = blank_no m word v.kind v.object v.mark
+
+marks_no : (m : Making) (word : ℕ) (equal : Bool) → NoAnswer (marks_if m word equal)
+marks_no m word true = tt
+marks_no m word false = tt
+
+making_no : (m : Making) (at : MakingAt) (found : ℕ) → is_filling at ≡ false → NoAnswer (took_making_at m at found)
+making_no m make_load found not = met_no m found _
+making_no m (Mark word) found not = marks_no m word _
+making_no m (Store word entry) found not = tt
+making_no m (fill_at word) found not = absurd (cc)
+
 act_unready : (act : ActType) (found : ℕ) → act_ready act ≡ false → NoAnswer (took_act act found)
 act_unready (fill_act fill) found not = absurd (cc)
 act_unready (remove_act close cap) found not = close_no cap close found not
 act_unready (type_act typing) found not = typing_no typing typing.at found not
+act_unready (make_act m) found not = making_no m m.at found not
+act_unready (Outside node entry word) found not = tt
 
 -- a step of a scan answers nothing
 scan_refuses : (core : ℕ) (act : ActType) (a : ActiveCall) (q : Quiet) (end : StageEnd (Unit {0}))
     → Refuses (landed a (took_scan core act q end))
 scan_refuses core act a q ends.Going = tt
 scan_refuses core act a q (ends.Decided r) = landed_refuses a (refuse (refusal_of r)) tt
-scan_refuses core act a q (ends.Done x) = tt
+scan_refuses core act a q (ends.Done x) = landed_refuses a (starts core act) (starts_no core act)
 scan_refuses core act a q (ends.Refuse r) = landed_refuses a (refuse (refusal_of r)) tt
 
 -- a step by which a count is acquired answers nothing
 count_refuses : (core n : ℕ) (change : ℤ) (act : ActType) (a : ActiveCall) (pin : Pin) (end : StageEnd Pinned)
     → Refuses (landed a (took_count core n change act pin end))
 count_refuses core n change act a pin ends.Going = tt
-count_refuses core n change act a pin (ends.Decided r) = landed_refuses a (refuse (refusal_of r)) tt
+count_refuses core n change act a pin (ends.Decided r) = landed_refuses a (gives_up (refusal_of r) act) tt
 count_refuses core n change act a pin (ends.Done p) = tt
-count_refuses core n change act a pin (ends.Refuse r) = landed_refuses a (refuse (refusal_of r)) tt
+count_refuses core n change act a pin (ends.Refuse r) = landed_refuses a (gives_up (refusal_of r) act) tt
 
 work_refuses : (own : Own) (a : ActiveCall) (decides : Bool) (work : Work) (found : ℕ) → decides ≡ decides_at_name a.plan.decides
     → IsActive own a → work_ready a.plan a.found work ≡ false
@@ -414,12 +468,25 @@ typing_decides : (a : ActiveCall) (y : Typing) (at : TypingAt) (found : ℕ) →
 typing_decides a y Load found ready = absurd (cc)
 typing_decides a y (type_compare word) found ready = typed_decides a _
 
+published_decides : (a : ActiveCall) (m : Making) (word : ℕ) (equal : Bool) → IsDecision (landed a (published m word equal))
+published_decides a m word true = tt
+published_decides a m word false = tt
+
+making_decides : (a : ActiveCall) (m : Making) (at : MakingAt) (found : ℕ) → is_filling at ≡ true
+    → IsDecision (landed a (took_making_at m at found))
+making_decides a m make_load found ready = absurd (cc)
+making_decides a m (Mark word) found ready = absurd (cc)
+making_decides a m (Store word entry) found ready = absurd (cc)
+making_decides a m (fill_at word) found ready = published_decides a m word _
+
 act_decides : (a : ActiveCall) (act : ActType) (found : ℕ) → act_ready act ≡ true → IsDecision (landed a (took_act act found))
 act_decides a (fill_act fill) found ready = fill_decides a _
 act_decides a (remove_act (AtCompare node index word core) cap) found ready = absurd (cc)
 act_decides a (remove_act (AtDraw node index) cap) found ready = tt
 act_decides a (remove_act (AtStore node index stamp) cap) found ready = absurd (cc)
 act_decides a (type_act typing) found ready = typing_decides a typing typing.at found ready
+act_decides a (make_act m) found ready = making_decides a m m.at found ready
+act_decides a (Outside node entry word) found ready = absurd (cc)
 
 begun_over : (own : Own) (call : Call) (k : Capability) → decides_at_name (plan_for call).decides ≡ true
     → IsOver (act_begun own call (k ∷ []) None)
@@ -431,6 +498,13 @@ begun_over own (Unmap p v) k is = absurd (cc)
 begun_over own (Retype r f Untyped) k is = absurd (cc)
 begun_over own (Retype r f User) k is = absurd (cc)
 begun_over own (Retype r f Kernel) k is = absurd (cc)
+begun_over own (make_call make.Table r f t b) k is = absurd (cc)
+begun_over own (make_call make.Leaf r f t b) k is = absurd (cc)
+begun_over own (make_call make.Pages r f t b) k is = absurd (cc)
+begun_over own (make_call make.Pleaf r f t b) k is = absurd (cc)
+begun_over own (make_call (make.Thread comp) r f t b) k is = absurd (cc)
+begun_over own (make_call (make.Tcap sched quality) r f t b) k is = absurd (cc)
+begun_over own (make_call (make.Comp table pages live) r f t b) k is = absurd (cc)
 begun_over own call k is = tt
 
 zero_of : (found : List Capability) → (length found + 1 == 1) ≡ true → found ≡ []

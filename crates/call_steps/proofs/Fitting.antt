@@ -3,7 +3,7 @@ use Rattle.std.proofs.lemmas.List.Elements.{All-nil, All-cons, All-tail, All-app
 use Rattle.frame_words.specs.Count.{word_of_count, count_of_word}
 use Rattle.stage_pins.specs.Counts.{unheld}
 use Rattle.stage_pins.proofs.PinLemmas.{after_fits}
-use Rattle.std.proofs.Common.{◌≡◌, ℕ, suc, ℤ, ◌≢◌, nat_lt, if◌then◌else◌, ◌+◌, ◌*◌, ◌-◌, ◌++◌, slice_get, ◌%◌, ◌<◌, ◌≤◌, Bool, true, false, ◌==◌, List, [], ◌∷◌, length, length-append, lt-ltb, Option, Some, None, IfSome, refl, sym, ◌∙◌, ap, subst, arith}
+use Rattle.std.proofs.Common.{◌≡◌, ℕ, suc, ℤ, ◌≢◌, nat_lt, if◌then◌else◌, ◌+◌, ◌*◌, ◌-◌, ◌++◌, slice_get, ◌%◌, ◌<◌, ◌≤◌, Bool, true, false, ◌==◌, List, [], ◌∷◌, length, length-append, lt-ltb, Option, Some, None, IfSome, refl, sym, ◌∙◌, ap, subst, arith, negsuc}
 use Rattle.std.proofs.lemmas.Bool.{leb-false, ltb-true, ltb-false, eqb-true, eqb-false}
 use Rattle.spk_nums.specs.declared.replies.Value.TheVariants.{Nothing as nothing}
 use Rattle.stage_quiet.specs.Clocks.{drawn_stamp}
@@ -24,16 +24,12 @@ use Rattle.frame_words.specs.declared.count_word.Hold.TheVariants as hold
 use Rattle.spk_nums.specs.declared.steps.StageEnd.{StageEnd}
 use Rattle.spk_nums.specs.declared.steps.StageEnd.TheVariants as ends
 use Rattle.stage_pins.specs.Held.{AllFit, AcquiredFits, pushed as count_pushed}
-use Rattle.spk_nums.specs.Bounds.{bound_of_retype, bound_of_make, bound_of}
+use Rattle.spk_nums.specs.Bounds.{bound_of}
 use Rattle.spk_nums.specs.CallLimits.{InLimits}
 use Rattle.supported_calls.specs.Built.{IsBuilt}
 use Rattle.spk_nums.specs.declared.kinds.FrameKind.{FrameKind}
 use Rattle.spk_nums.specs.declared.kinds.FrameKind.TheVariants.{Untyped}
-use Rattle.spk_nums.specs.declared.calls.Make.{Make}
-use Rattle.spk_nums.specs.declared.calls.Make.TheVariants.{Thread as make_thread, Tcap as make_tcap, Comp as make_comp}
 use Rattle.spk_nums.specs.Capability.{Capability}
-use Rattle.spk_nums.specs.declared.calls.Call.{Call}
-use Rattle.spk_nums.specs.declared.calls.Call.TheVariants.{Retype, Make as make_call}
 use Rattle.spk_nums.specs.declared.replies.Reply.{Reply}
 use Rattle.spk_nums.specs.declared.replies.Reply.TheVariants as reply
 use Rattle.entry_words.specs.declared.entry.Entry.{Entry}
@@ -58,7 +54,6 @@ use Rattle.call_plans.specs.GoesBy.{wants}
 use Rattle.call_plans.specs.After.{with_found, names_after, next_in}
 use Rattle.call_plans.specs.Bounds.{look_steps, act_steps}
 use Rattle.call_plans.proofs.Roots.{count_led, after_more, pushed_one}
-use Rattle.call_plans.proofs.StepsOfPlans.{bound_is}
 use Rattle.call_plans.proofs.FewNames.{few_names}
 use Rattle.call_plans.proofs.AfterNames.{NextBy, one_more}
 use Rattle.call_acts.specs.declared.refusals.Refusal.{Refusal}
@@ -72,10 +67,19 @@ use Rattle.call_acts.specs.declared.typings.Typing.{Typing}
 use Rattle.call_acts.specs.declared.typings.TypingAt.{TypingAt}
 use Rattle.call_acts.specs.declared.typings.TypingAt.TheVariants.{Load, Compare}
 use Rattle.call_acts.specs.Typings.{meets_frame, meets_word, typed_if, took_typing_at, typing_left}
+use Rattle.spk_nums.specs.declared.kinds.Obj.{Obj}
+use Rattle.spk_nums.specs.declared.kinds.Obj.TheVariants.{Blank}
+use Rattle.call_acts.specs.declared.makings.Making.{Making}
+use Rattle.call_acts.specs.declared.makings.MakingAt.{MakingAt}
+use Rattle.call_acts.specs.declared.makings.MakingAt.TheVariants.{Load as make_load, Mark, Store, Fill as fill_at}
+use Rattle.call_acts.specs.Makings.{MakingFits, making_left, undo_at}
+use Rattle.call_steps.specs.Tails.{tail_left, took_tail, tail_counts}
+use Rattle.call_steps.specs.Fits.{TailFits, ScanFits, WorkFits, StageFits, IsWanted, FoundFits, HasRoom, CountsWait, CountsAt, looks_later, names_left, steps_later, left_of_look, left_of_scan, left_of_pin, work_left, left_at, left_of, IsActive, CallFits, IsOwn, IsCore, left_for}
+use Rattle.call_steps.proofs.StepsFit.{StepFits, starts_fit, one_due, work_next, counts_next, first_named, act_fits}
 use Rattle.call_acts.specs.declared.work.Act.{Act as ActType}
-use Rattle.call_acts.specs.declared.work.Act.TheVariants.{Fill as fill_act, Remove as remove_act, Retype as type_act}
+use Rattle.call_acts.specs.declared.work.Act.TheVariants.{Fill as fill_act, Remove as remove_act, Retype as type_act, Make as make_act, Outside}
 use Rattle.call_acts.specs.declared.work.Tail.{Tail}
-use Rattle.call_acts.specs.declared.work.Tail.TheVariants.{Nothing, Quiesce}
+use Rattle.call_acts.specs.declared.work.Tail.TheVariants.{Nothing, Quiesce, Unmark}
 use Rattle.call_steps.specs.declared.stages.Stage.{Stage}
 use Rattle.call_steps.specs.declared.stages.Stage.TheVariants.{Enter, Undecided, Decided, Leave}
 use Rattle.call_steps.specs.declared.stages.ActiveCall.{ActiveCall}
@@ -83,17 +87,14 @@ use Rattle.call_steps.specs.declared.stages.Told.TheVariants as told_as
 use Rattle.call_acts.specs.declared.work.Work.{Work}
 use Rattle.call_acts.specs.declared.work.Work.TheVariants.{Lookup, Scan, Acquire, Act}
 use Rattle.call_acts.specs.declared.work.WorkStep.{WorkStep}
-use Rattle.call_acts.specs.declared.work.WorkStep.TheVariants.{Goes, Acquires, Answers}
+use Rattle.call_acts.specs.declared.work.WorkStep.TheVariants.{Goes, Acquires, Refuses, Answers}
 use Rattle.call_acts.specs.Refusals.{refusal_of}
 use Rattle.call_acts.specs.Fills.{filled_if}
 use Rattle.call_acts.specs.WorkSteps.{refuse}
-use Rattle.call_acts.specs.Acts.{ActFits, close_left, act_left, took_close, took_act, dues, next_work, act_begun}
-use Rattle.call_steps.specs.Tails.{took_tail, tail_counts}
+use Rattle.call_acts.specs.Acts.{ActFits, close_left, act_left, took_close, took_act, dues, next_work, act_begun, cap_dues, starts, undo, made_dues, meets_object, meets_blank, meets_making, marks_if, published, took_making_at}
 use Rattle.call_acts.specs.Lookups.{met_name, met_free, met_held}
 use Rattle.call_steps.specs.Steps.{GoesOn, Decides, landed, found_more, next_by, took_enter, named_one, took_found, took_end, took_look, took_scan, took_count, took_work, went_with, is_spent, took_at, took, told, call_after}
 use Rattle.call_steps.proofs.Landing.{told_goes, told_decides}
-use Rattle.call_steps.specs.Fits.{ScanFits, WorkFits, StageFits, IsWanted, FoundFits, HasRoom, CountsWait, CountsAt, looks_later, names_left, steps_later, left_of_look, left_of_scan, left_of_pin, work_left, left_at, left_of, IsActive, CallFits, IsOwn, IsCore, left_for}
-use Rattle.call_steps.proofs.StepsFit.{StepFits, one_due, work_next, counts_next, first_named, act_fits}
 use Rattle.call_steps.proofs.LandsFit.{IsNext, TookFits, Facts, next_fits, landed_fits}
 
 -- a step of the work of a call that has acquired its counts, or acquires them
@@ -110,53 +111,131 @@ module _ (own : Own) (a : ActiveCall) (facts : Facts own a) (room : own.made < o
 
   compared_fits : (left : ℕ) (cap : Capability) (node index word core : ℕ) (same : Bool) → node < own.layout.frames → index < 64
       → CapNames own.layout.frames cap
-      → 4 + length a.counts < left
+      → length a.counts ≡ length (cap_dues cap (negsuc 0)) → 4 + length a.counts < left
       → TookFits own left a (landed a (took_close cap (close_at same node index word core) (close_compared same)))
-  compared_fits left cap node index word core true below small names some =
+  compared_fits left cap node index word core true below small names waits some =
       landed_fits own a a refl refl refl facts.found facts.acquired room 2 left (Goes (Act (remove_act (AtDraw node index) cap)))
-      (((below, small), names), omega arith, tt) (omega arith)
-  compared_fits left cap node index word core false below small names some = act_refused left (refusal_of reply.Raced) (omega arith)
+      (((below, small), names), omega arith, waits) (omega arith)
+  compared_fits left cap node index word core false below small names waits some = act_refused left (refusal_of reply.Raced) (omega arith)
 
   close_fits : (close : Close) (cap : Capability) (found : ℕ) → CloseFits own.layout close → CapNames own.layout.frames cap
+      → length a.counts ≡ length (cap_dues cap (negsuc 0))
       → TookFits own (2 + length a.counts + close_left close) a
       (landed a (took_close cap (close_after close found) (close_end close found)))
-  close_fits (close_compare node index word core) cap found fits names =
-      compared_fits _ cap node index word core (found == word) fits.0 fits.1 names (omega arith)
-  close_fits (AtDraw node index) cap found fits names =
+  close_fits (close_compare node index word core) cap found fits names waits =
+      compared_fits _ cap node index word core (found == word) fits.0 fits.1 names waits (omega arith)
+  close_fits (AtDraw node index) cap found fits names waits =
       landed_fits own a a refl refl refl facts.found facts.acquired room 1 _
       (Answers nothing (Some (drawn_stamp found)) (Quiesce (AtStore node index (drawn_stamp found))))
       (omega arith, (fits.0, fits.1, some_stamp)) (omega arith)
     where
       some_stamp : 1 ≤ drawn_stamp found
       some_stamp = omega arith
-  close_fits (AtStore node index stamp) cap found fits names = act_refused _ refusal.Raced (omega arith)
+  close_fits (AtStore node index stamp) cap found fits names waits = act_refused _ refusal.Raced (omega arith)
 
-  type_fits : (y : Typing) (at : TypingAt) (found : ℕ) → y.frame < own.layout.frames
+  type_fits : (y : Typing) (at : TypingAt) (found : ℕ) → y.frame < own.layout.frames → length a.counts ≡ 0
       → TookFits own (2 + length a.counts + typing_left at) a (landed a (took_typing_at y at found))
-  type_fits y Load found below = met (frame_of_word found)
+  type_fits y Load found below waits = met (frame_of_word found)
     where
       by : (k : FrameKind) (mark : Option ℕ) → TookFits own (2 + length a.counts + 2) a (landed a (meets_frame y found k mark))
       by k (Some d) = act_refused _ (refusal.Busy d) (omega arith)
       by frame_kind.Untyped None =
           landed_fits own a a refl refl refl facts.found facts.acquired room 1 _
-          (Goes (Act (type_act (record { frame = y.frame; kind = y.kind; at = Compare found })))) (below, omega arith, tt) (omega arith)
+          (Goes (Act (type_act (record { frame = y.frame; kind = y.kind; at = Compare found })))) (below, omega arith, waits) (omega arith)
       by frame_kind.User None = act_refused _ refusal.FrameKind (omega arith)
       by frame_kind.Kernel None = act_refused _ refusal.FrameKind (omega arith)
 
       met : (o : Option FrameWord) → TookFits own (2 + length a.counts + 2) a (landed a (meets_word y found o))
       met None = act_refused _ refusal.Raced (omega arith)
       met (Some v) = by v.kind v.mark
-  type_fits y (Compare word) found below = by (found == word)
+  type_fits y (Compare word) found below waits = by (found == word)
     where
       by : (equal : Bool) → TookFits own (2 + length a.counts + 1) a (landed a (typed_if equal))
       by true = landed_fits own a a refl refl refl facts.found facts.acquired room 0 _ (typed_if true) (omega arith, tt) (omega arith)
       by false = act_refused _ refusal.Raced (omega arith)
 
-  done_fits : (act : ActType) (found : ℕ) → ActFits own.layout act
+  -- a refusal with something to store
+  act_undone : (left : ℕ) (r : Refusal) (tail : Tail) → TailFits own.layout tail → 2 + length a.counts + tail_left tail < left
+      → TookFits own left a (landed a (Refuses r tail))
+  act_undone left r tail fits some =
+      landed_fits own a a refl refl refl facts.found facts.acquired room (tail_left tail) left (Refuses r tail) (omega arith, fits)
+      (omega arith)
+
+  make_fits : (m : Making) (at : MakingAt) (found : ℕ) → MakingFits own.layout (record m { at = at })
+      → length a.counts ≡ length (made_dues m.fill.cap at)
+      → TookFits own (2 + length a.counts + making_left at) a (landed a (took_making_at m at found))
+  make_fits m make_load found fits waits = met (frame_of_word found)
+    where
+      blank : (o : Obj) → TookFits own (2 + length a.counts + 71) a (landed a (meets_object m found o))
+      blank Blank = landed_fits own a a refl refl refl facts.found facts.acquired room 70 _
+          (Goes (Act (make_act (record m { at = Mark found }))))
+          (record { frame = fits.frame; core = fits.core; fill = fits.fill; at = tt }, omega arith, waits) (omega arith)
+      blank o = act_refused _ refusal.FrameKind (omega arith)
+
+      by : (k : FrameKind) (o : Obj) (mark : Option ℕ) → TookFits own (2 + length a.counts + 71) a (landed a (meets_blank m found k o mark))
+      by k o (Some d) = act_refused _ (refusal.Busy d) (omega arith)
+      by frame_kind.Untyped o None = act_refused _ refusal.FrameKind (omega arith)
+      by frame_kind.User o None = act_refused _ refusal.FrameKind (omega arith)
+      by frame_kind.Kernel o None = blank o
+
+      met : (o : Option FrameWord) → TookFits own (2 + length a.counts + 71) a (landed a (meets_making m found o))
+      met None = act_refused _ refusal.Raced (omega arith)
+      met (Some v) = by v.kind v.object v.mark
+  make_fits m (Mark word) found fits waits = by (found == word)
+    where
+      by : (equal : Bool) → TookFits own (2 + length a.counts + 70) a (landed a (marks_if m word equal))
+      by true =
+          let act : ActType = make_act (record m { at = Store word 0 }) in
+          let few = one_due act in
+          let next = work_next own.layout (steps_later own.layout.cores a) m.core 0 act (slice_get (dues act) 0) refl fits.core
+          (record { frame = fits.frame; core = fits.core; fill = fits.fill; at = omega arith }) in
+          landed_fits own a a refl refl refl facts.found facts.acquired room 69 _ (Goes (next_work m.core 0 act)) (
+            next.0,
+            subst (λ (n : ℕ). work_left own.layout.cores (steps_later own.layout.cores a) n (next_work m.core 0 act) ≤ 69) (sym waits)
+                (let fewer = next.1 in omega arith),
+            counts_next m.core 0 a.counts act (slice_get (dues act) 0) refl (sym waits) (omega arith),
+          ) (omega arith)
+      by false = act_refused _ refusal.Raced (omega arith)
+  make_fits m (Store word entry) found fits waits = by (nat_lt entry 63) refl
+    where
+      by : (more : Bool) → nat_lt entry 63 ≡ more → TookFits own (2 + length a.counts + (64 - entry + 2)) a
+          (landed a (Goes (Act (make_act (record m { at = if more then Store word (entry + 1) else fill_at word })))))
+      by true is =
+          let low = ltb-true entry 63 is in
+          landed_fits own a a refl refl refl facts.found facts.acquired room (64 - (entry + 1) + 2) _
+          (Goes (Act (make_act (record m { at = Store word (entry + 1) }))))
+          (record { frame = fits.frame; core = fits.core; fill = fits.fill; at = omega arith }, omega arith, waits) (omega arith)
+      by false is =
+          let low : entry < 64 = fits.at in
+          landed_fits own a a refl refl refl facts.found facts.acquired room 2 _ (Goes (Act (make_act (record m { at = fill_at word }))))
+          (record { frame = fits.frame; core = fits.core; fill = fits.fill; at = tt }, omega arith, waits) (omega arith)
+  make_fits m (fill_at word) found fits waits = by (found == m.fill.word)
+    where
+      by : (equal : Bool) → TookFits own (2 + length a.counts + 2) a (landed a (published m word equal))
+      by true = landed_fits own a a refl refl refl facts.found facts.acquired room 1 _ (published m word true)
+          (omega arith, fits.frame) (omega arith)
+      by false = act_undone _ refusal.Raced (Unmark m.frame word) fits.frame (omega arith)
+
+  done_fits : (act : ActType) (found : ℕ) → ActFits own.layout act → length a.counts ≡ length (dues act)
       → TookFits own (left_at own.layout.cores a (Undecided (Act act))) a (landed a (took_act act found))
-  done_fits (fill_act fill) found fits = fill_if _ _ (omega arith)
-  done_fits (remove_act close cap) found fits = close_fits close cap found fits.0 fits.1
-  done_fits (type_act typing) found fits = type_fits typing typing.at found fits
+  done_fits (fill_act fill) found fits waits = fill_if _ _ (omega arith)
+  done_fits (remove_act close cap) found fits waits = close_fits close cap found fits.0 fits.1 waits
+  done_fits (type_act typing) found fits waits = type_fits typing typing.at found fits waits
+  done_fits (make_act m) found fits waits = make_fits m m.at found fits waits
+  done_fits (Outside node entry word) found fits waits = act_refused _ refusal.OutOfRange (omega arith)
+
+  undo_fits : (act : ActType) → ActFits own.layout act → TailFits own.layout (undo act) × (tail_left (undo act) ≤ act_left act)
+  undo_fits (fill_act fill) fits = (tt, omega arith)
+  undo_fits (remove_act close cap) fits = (tt, omega arith)
+  undo_fits (type_act typing) fits = (tt, omega arith)
+  undo_fits (make_act m) fits = by m.at
+    where
+      by : (at : MakingAt) → TailFits own.layout (undo_at m.frame at) × (tail_left (undo_at m.frame at) ≤ making_left at)
+      by make_load = (tt, omega arith)
+      by (Mark word) = (tt, omega arith)
+      by (Store word entry) = (fits.frame, omega arith)
+      by (fill_at word) = (fits.frame, omega arith)
+  undo_fits (Outside node entry word) fits = (tt, omega arith)
 
   -- a scan goes on to the next core, or to the act
   scan_goes : (q : Quiet) (found : ℕ) → QuietFits own.layout q → ScanFits own.layout q → quiet_end own.layout.cores q found ≡ ends.Going
@@ -245,16 +324,11 @@ module _ (own : Own) (a : ActiveCall) (facts : Facts own a) (room : own.made < o
       let empty : length a.counts ≡ 0 = ap length none in act_refused left (refusal_of r) (omega arith)
   scan_end_fits left act q (ends.Done x) none fits goes some =
       let empty : length a.counts ≡ 0 = ap length none in
-      let next = work_next own.layout (steps_later own.layout.cores a) own.core 0 act (slice_get (dues act) 0) refl facts.own_fits.core
-      fits in
-      landed_fits own a a refl refl refl facts.found facts.acquired room (3 * length (dues act) + act_left act) left
-      (Goes (next_work own.core 0 act)) (
-        next.0,
-        (subst (λ (n : ℕ). work_left own.layout.cores (steps_later own.layout.cores a) n (next_work own.core 0 act) ≤ 3 * length
-            (dues act) + act_left act) (sym empty)
-            (let fewer = next.1 in omega arith)),
-        counts_next own.core 0 a.counts act (slice_get (dues act) 0) refl (sym empty),
-      ) (omega arith)
+      landed_fits own a a refl refl refl facts.found facts.acquired room (3 * length (dues act) + act_left act) left (starts own.core act)
+      (subst (λ (xs : List Acquired). StepFits own.layout xs (steps_later own.layout.cores a) (3 * length (dues act) + act_left act)
+      (starts own.core act)) (sym none)
+      (starts_fit own.layout (steps_later own.layout.cores a) (3 * length (dues act) + act_left act) own.core act facts.own_fits.core fits
+      (omega arith))) (omega arith)
   scan_end_fits left act q (ends.Refuse r) none fits goes some =
       let empty : length a.counts ≡ 0 = ap length none in act_refused left (refusal_of r) (omega arith)
 
@@ -301,7 +375,8 @@ module _ (own : Own) (a : ActiveCall) (facts : Facts own a) (room : own.made < o
         stage = next.0;
         acquired = All-append (AcquiredFits own.layout) a.counts (record { pin = p; change = change } ∷ []) facts.acquired
             (All-cons (AcquiredFits own.layout) (record { pin = p; change = change }) [] pinned (All-nil (AcquiredFits own.layout)));
-        counts = counts_next own.core (length a.counts + 1) counts act (slice_get (dues act) (length a.counts + 1)) refl (sym one_more);
+        counts = counts_next own.core (length a.counts + 1) counts act (slice_get (dues act) (length a.counts + 1)) refl (sym one_more)
+            (omega arith);
         room = room;
         counted = omega arith;
         steps = refl;
@@ -327,9 +402,11 @@ module _ (own : Own) (a : ActiveCall) (facts : Facts own a) (room : own.made < o
       landed_fits own a a refl refl refl facts.found facts.acquired room
       (left_of_pin pin + 1 + 3 * (length (dues act) - (length a.counts + 1)) + act_left act) left
       (Goes (Acquire pin change act)) ((pin_fits, fits), omega arith, more) (goes refl)
-  count_end left change act pin (ends.Decided r) pin_fits end fits more goes some = act_refused left (refusal_of r) (omega arith)
+  count_end left change act pin (ends.Decided r) pin_fits end fits more goes some =
+      let undone = undo_fits act fits in act_undone left (refusal_of r) (undo act) undone.0 (let few = undone.1 in omega arith)
   count_end left change act pin (ends.Done p) pin_fits end fits more goes some = count_done left p change act end fits more some
-  count_end left change act pin (ends.Refuse r) pin_fits end fits more goes some = act_refused left (refusal_of r) (omega arith)
+  count_end left change act pin (ends.Refuse r) pin_fits end fits more goes some =
+      let undone = undo_fits act fits in act_undone left (refusal_of r) (undo act) undone.0 (let few = undone.1 in omega arith)
 
   -- the load goes on only to the compare
   pin_goes : (pin : Pin) (found : ℕ) → pin_end pin found ≡ ends.Going → left_of_pin (pin_after pin found) < left_of_pin pin
@@ -530,7 +607,7 @@ work_fits own a (Lookup look) found facts room fits counts =
 work_fits own a (Scan q act) found facts room fits counts = scan_fits own a facts room q act found fits.0 fits.1 fits.2 counts
 work_fits own a (Acquire pin change act) found facts room fits counts =
     count_fits own a facts room pin change act found fits.0 fits.1 counts
-work_fits own a (Act act) found facts room fits counts = done_fits own a facts room act found fits
+work_fits own a (Act act) found facts room fits counts = done_fits own a facts room act found fits counts
 
 enter_fits : (own : Own) (a : ActiveCall) (spent : Bool) → spent ≡ is_spent own → Facts own a → a.counts ≡ []
     → TookFits own (left_at own.layout.cores a Enter) a (took_enter spent own a)
@@ -557,6 +634,19 @@ tail_fits : (own : Own) (a : ActiveCall) (r : Reply) (drawn : Option ℕ) (tail 
     → TookFits own (left_at own.layout.cores a (Decided r drawn tail)) a
     (GoesOn (went_with a (tail_counts tail counts) (took_tail r drawn tail counts found)))
 tail_fits own a r drawn (Quiesce close) counts found facts is = record {
+  call = refl;
+  plan = refl;
+  found = facts.found;
+  first = tt;
+  stage = tt;
+  acquired = subst (AllFit own.layout) is facts.acquired;
+  counts = tt;
+  room = tt;
+  counted = facts.own_fits.made;
+  steps = refl;
+  fewer = let same : length a.counts ≡ length counts = ap length is in omega arith;
+}
+tail_fits own a r drawn (Unmark f word) counts found facts is = record {
   call = refl;
   plan = refl;
   found = facts.found;
@@ -676,65 +766,3 @@ decides_on own active a new r counted found h is decided next count =
           }),
       subst (λ o. left_of own.layout.cores new < left_for own.layout.cores o) (sym is) leads.fewer,
     )
-
--- A core that begins a call.
-pub begun_fits : (own : Own) (call : Call) (found : List Capability) (counts : List Acquired) (plan : Plan) → IsOwn own → found ≡ []
-    → counts ≡ [] → plan ≡ plan_for call
-    → InLimits call → IsBuilt call
-    → IsCore (record {
-      own = own;
-      active = Some (record {
-        steps = 0;
-        stage = Enter;
-        found = found;
-        counts = counts;
-        call = call;
-        plan =
-            plan;
-      });
-    })
-begun_fits own call found counts plan h none no_counts is limits built = rw (none, no_counts, is) (record {
-  own = h;
-  active = record {
-    limits = limits;
-    built = built;
-    plan = refl;
-    found = tt;
-    first = refl;
-    stage = tt;
-    acquired = All-nil (AcquiredFits own.layout);
-    counts = refl;
-    room = tt;
-    steps = let bound = bound_is call own.layout.cores in omega arith;
-  };
-})
-
--- The bound of a call is small, so that a call has made few steps.
-retype_small : (k : FrameKind) (n : ℕ) → n ≤ 8 → bound_of_retype k n ≤ 112
-retype_small Untyped n h = omega arith
-retype_small k n h = omega arith
-
-make_small : (what : Make) (n : ℕ) → n ≤ 8 → bound_of_make what n ≤ 112
-make_small (make_thread comp) n h = omega arith
-make_small (make_tcap sched quality) n h = omega arith
-make_small (make_comp table pages live) n h = omega arith
-make_small what n h = omega arith
-
-bound_small : (call : Call) (n : ℕ) → n ≤ 8 → bound_of call n ≤ 112
-bound_small (Retype r f k) n h = retype_small k n h
-bound_small (make_call what range frame table slot) n h = make_small what n h
-bound_small call n h = omega arith
-
-few_steps : (own : Own) (a : ActiveCall) → IsOwn own → IsActive own a → a.steps < 1000
-few_steps own a h active =
-    let small : bound_of a.call own.layout.cores ≤ 112 = bound_small a.call own.layout.cores h.shape.most_cores in
-    let steps : a.steps + left_of own.layout.cores a ≤ bound_of a.call own.layout.cores = active.steps in
-    omega arith
-
-pub call_few : (own : Own) (active : Option ActiveCall) (a : ActiveCall) → IsCore (record { own = own; active = active })
-    → active ≡ Some a → a.steps < 1000
-call_few own active a h is = few_steps own a h.own (subst (CallFits own) is h.active)
-
-pub call_stage : (own : Own) (active : Option ActiveCall) (a : ActiveCall) → IsCore (record { own = own; active = active })
-    → active ≡ Some a → StageFits own.layout a.stage
-call_stage own active a h is = (subst (CallFits own) is h.active).stage

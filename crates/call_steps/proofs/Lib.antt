@@ -2,4 +2,5 @@ pub mod Landing
 pub mod StepsFit
 pub mod LandsFit
 pub mod Fitting
+pub mod Begun
 pub mod Decisions

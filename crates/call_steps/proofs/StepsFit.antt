@@ -10,7 +10,7 @@ use Rattle.spk_nums.specs.Capability.{Capability}
 use Rattle.spk_nums.specs.declared.kinds.Kind.{Kind}
 use Rattle.spk_nums.specs.declared.kinds.Kind.TheVariants.{Range, Table, Pages}
 use Rattle.spk_nums.specs.declared.calls.Call.{Call}
-use Rattle.spk_nums.specs.declared.calls.Call.TheVariants.{Look as look_call, Copy, Remove, Shrink, Unmap, Retype}
+use Rattle.spk_nums.specs.declared.calls.Call.TheVariants.{Look as look_call, Copy, Remove, Shrink, Unmap, Retype, Make as make_call}
 use Rattle.entry_words.specs.declared.entry.Entry.{Entry}
 use Rattle.entry_words.specs.declared.entry.Entry.TheVariants as entry
 use Rattle.word_map.specs.Places.{Shape}
@@ -28,20 +28,28 @@ use Rattle.call_plans.specs.declared.plans.Plan.{Plan}
 use Rattle.call_plans.specs.Plans.{at_place}
 use Rattle.call_plans.specs.GoesBy.{earlier, place_of}
 use Rattle.call_plans.specs.After.{with_found, names_after, Leads, next_in}
-use Rattle.call_plans.specs.Bounds.{look_steps, retype_steps, act_steps}
+use Rattle.call_plans.specs.Bounds.{look_steps, retype_steps, make_steps, act_steps}
 use Rattle.call_plans.specs.Rooted.{root_of, WantsRoot, IsRooted}
 use Rattle.call_plans.proofs.Roots.{earlier_is, Led, nth_led}
 use Rattle.call_plans.proofs.RootedTargets.{rooted}
 use Rattle.spk_nums.specs.declared.kinds.FrameKind.{FrameKind}
 use Rattle.spk_nums.specs.declared.kinds.FrameKind.TheVariants.{Untyped, User, Kernel}
 use Rattle.kernel_rules.specs.CapabilityCalls.{has_frame}
+use Rattle.std.specs.Prelude.{IsSome}
+use Rattle.spk_nums.specs.declared.calls.Make.{Make}
+use Rattle.spk_nums.specs.declared.calls.Make.TheVariants as make
+use Rattle.call_acts.specs.declared.makings.Node.{Node}
+use Rattle.call_acts.specs.declared.makings.Node.TheVariants.{Table as NodeTable, Leaf as NodeLeaf, Pages as NodePages, Pleaf as NodePleaf}
+use Rattle.call_acts.specs.declared.makings.MakingAt.{MakingAt}
+use Rattle.call_acts.specs.declared.makings.MakingAt.TheVariants.{Load as make_load, Mark, Store, Fill as fill_at}
+use Rattle.call_acts.specs.Makings.{node_cap, node_made}
 use Rattle.call_acts.specs.declared.own.Own.{Own}
 use Rattle.call_acts.specs.declared.work.Act.{Act as ActType}
-use Rattle.call_acts.specs.declared.work.Act.TheVariants.{Fill as fill_act, Remove as remove_act, Retype as type_act}
+use Rattle.call_acts.specs.declared.work.Act.TheVariants.{Fill as fill_act, Remove as remove_act, Retype as type_act, Make as make_act, Outside}
 use Rattle.call_acts.specs.declared.work.WorkStep.{WorkStep}
 use Rattle.call_acts.specs.declared.work.WorkStep.TheVariants.{Goes, Acquires, Refuses, Answers}
 use Rattle.call_acts.specs.declared.work.Due.{Due}
-use Rattle.call_acts.specs.Acts.{ActFits, act_left, looked, cap_dues, dues, acquires, scans, stamp_in, filling, fills_with, removing, removes_held, removes_at, types_if, types_at, act_begun}
+use Rattle.call_acts.specs.Acts.{ActFits, act_left, looked, cap_dues, dues, acquires, scans, stamp_in, filling, fills_with, removing, removes_held, removes_at, types_if, types_at, made_dues, starts, making, making_if, makes_in, makes_at, act_begun, next_work}
 use Rattle.call_steps.specs.Tails.{tail_left}
 use Rattle.call_acts.specs.Lookups.{looks_under, looks_entry, looks_at, next_step}
 use Rattle.call_steps.specs.Fits.{ScanFits, WorkFits, TailFits, IsWanted, FoundFits, CountsWait, looks_later, left_of_scan, work_left, IsOwn}
@@ -60,11 +68,19 @@ pub cap_one : (kind : Kind) (frame arg : ℕ) (change : ℤ) → length (cap_due
 cap_one Range frame arg change = omega arith
 cap_one kind frame arg change = omega arith
 
+made_one : (k : Capability) (at : MakingAt) → length (made_dues k at) ≤ 1
+made_one k make_load = omega arith
+made_one k (Mark word) = omega arith
+made_one k (Store word entry) = cap_one k.kind k.frame k.arg (pos 1)
+made_one k (fill_at word) = cap_one k.kind k.frame k.arg (pos 1)
+
 -- an act changes one count at most
 pub one_due : (act : ActType) → length (dues act) ≤ 1
 one_due (fill_act fill) = cap_one fill.cap.kind fill.cap.frame fill.cap.arg (pos 1)
 one_due (remove_act close cap) = cap_one cap.kind cap.frame cap.arg (negsuc 0)
 one_due (type_act typing) = omega arith
+one_due (make_act m) = made_one m.fill.cap m.at
+one_due (Outside node entry word) = omega arith
 
 -- the counts that an act changes are of frames of the machine
 abbrev pub DueFits : Shape → Option Due → Type 0
@@ -78,11 +94,22 @@ cap_fit s Range frame arg change n names = tt
 cap_fit s kind frame arg change zero names = omega arith
 cap_fit s kind frame arg change (suc n) names = tt
 
+made_fit : (s : Shape) (k : Capability) (at : MakingAt) (n : ℕ) → CapNames s.frames k → DueFits s (slice_get (made_dues k at) n)
+made_fit s k make_load zero names = tt
+made_fit s k make_load (suc n) names = tt
+made_fit s k (Mark word) zero names = tt
+made_fit s k (Mark word) (suc n) names = tt
+made_fit s k (Store word entry) n names = cap_fit s k.kind k.frame k.arg (pos 1) n names
+made_fit s k (fill_at word) n names = cap_fit s k.kind k.frame k.arg (pos 1) n names
+
 pub dues_fit : (s : Shape) (act : ActType) (n : ℕ) → ActFits s act → DueFits s (slice_get (dues act) n)
 dues_fit s (fill_act fill) n fits = cap_fit s fill.cap.kind fill.cap.frame fill.cap.arg (pos 1) n fits.cap
 dues_fit s (remove_act close cap) n fits = cap_fit s cap.kind cap.frame cap.arg (negsuc 0) n fits.1
 dues_fit s (type_act typing) zero fits = tt
 dues_fit s (type_act typing) (suc n) fits = tt
+dues_fit s (make_act m) n fits = made_fit s m.fill.cap m.at n fits.fill.cap
+dues_fit s (Outside node entry word) zero fits = tt
+dues_fit s (Outside node entry word) (suc n) fits = tt
 
 -- what a core does for an act of whose counts it has acquired so many
 pub work_next : (s : Shape) (later core n : ℕ) (act : ActType) (o : Option Due) → slice_get (dues act) n ≡ o → core < s.cores
@@ -93,10 +120,17 @@ work_next s later core n act (Some due) is here fits =
     let some : n < length (dues act) = slice_get_within (dues act) n due is in
     (((subst (DueFits s) is (dues_fit s act n fits), here), fits), omega arith)
 
+past_none : (xs : List Due) (i : ℕ) → slice_get xs i ≡ None → length xs ≤ i
+past_none [] i h = omega arith
+past_none (x ∷ xs) zero h = absurd (cc)
+past_none (x ∷ xs) (suc i) h = let more = past_none xs i h in omega arith
+
 pub counts_next : (core n : ℕ) (counts : List Acquired) (act : ActType) (o : Option Due) → slice_get (dues act) n ≡ o → n ≡ length counts
-    → CountsWait counts (acquires core act o)
-counts_next core n counts act None is same = tt
-counts_next core n counts act (Some due) is same = subst (λ (m : ℕ). m < length (dues act)) same (slice_get_within (dues act) n due is)
+    → n ≤ length (dues act) → CountsWait counts (acquires core act o)
+counts_next core n counts act None is same most =
+    let past : length (dues act) ≤ n = past_none (dues act) n is in
+    omega arith
+counts_next core n counts act (Some due) is same most = subst (λ (m : ℕ). m < length (dues act)) same (slice_get_within (dues act) n due is)
 
 -- what the first name has led to names frames of the machine
 pub first_named : (frames : ℕ) (names : List Name) (caps : List Named) (ks : List Capability) → Leads (IsWanted frames) names caps ks
@@ -164,11 +198,23 @@ scan_may s stamp core here = by_stamp (stamp == 0) refl
     by_stamp true is = tt
     by_stamp false is = by_first (core == 0) (nat_lt (first_other core) s.cores) refl refl (let a = eqb-false stamp 0 is in omega arith)
 
-pub scans_fit : (s : Shape) (later most core : ℕ) (act : ActType) (o : Option Quiet) → core < s.cores → ActFits s act → ScanMay s o
-    → s.cores - 1 + 3 * length (dues act) + act_left act ≤ most → StepFits s [] later most (Goes (scans core o act))
-scans_fit s later most core act None here fits may some =
+first_fits : (s : Shape) (later most core : ℕ) (act : ActType) → core < s.cores → ActFits s act
+    → 3 * length (dues act) + act_left act ≤ most → StepFits s [] later most (Goes (next_work core 0 act))
+first_fits s later most core act here fits some =
     let next = work_next s later core 0 act (slice_get (dues act) 0) refl here fits in
-    (next.0, (let fewer = next.1 in omega arith), counts_next core 0 [] act (slice_get (dues act) 0) refl refl)
+    (next.0, (let fewer = next.1 in omega arith), counts_next core 0 [] act (slice_get (dues act) 0) refl refl (omega arith))
+
+pub starts_fit : (s : Shape) (later most core : ℕ) (act : ActType) → core < s.cores → ActFits s act
+    → 3 * length (dues act) + act_left act ≤ most → StepFits s [] later most (starts core act)
+starts_fit s later most core (Outside node entry word) here fits some = (omega arith, tt)
+starts_fit s later most core (fill_act fill) here fits some = first_fits s later most core (fill_act fill) here fits some
+starts_fit s later most core (remove_act close cap) here fits some = first_fits s later most core (remove_act close cap) here fits some
+starts_fit s later most core (type_act typing) here fits some = first_fits s later most core (type_act typing) here fits some
+starts_fit s later most core (make_act m) here fits some = first_fits s later most core (make_act m) here fits some
+
+pub scans_fit : (s : Shape) (later most core : ℕ) (act : ActType) (o : Option Quiet) → core < s.cores → ActFits s act → ScanMay s o
+    → s.cores - 1 + 3 * length (dues act) + act_left act ≤ most → StepFits s [] later most (scans core o act)
+scans_fit s later most core act None here fits may some = starts_fit s later most core act here fits (omega arith)
 scans_fit s later most core act (Some q) here fits may some = ((may.0, may.1, fits), (let few = may.2 in omega arith), refl)
 
 pub filled : (own : Own) (later most : ℕ) (k : Option Capability) (target : Option Found) → IsOwn own
@@ -192,7 +238,7 @@ removed_held s later most core f (entry.Held k) here names node small some =
     let act : ActType = removing core k f in
     let next = work_next s later core 0 act (slice_get (dues act) 0) refl here ((node, small), names) in
     let one = one_due act in
-    (next.0, (let fewer = next.1 in omega arith), counts_next core 0 [] act (slice_get (dues act) 0) refl refl)
+    (next.0, (let fewer = next.1 in omega arith), counts_next core 0 [] act (slice_get (dues act) 0) refl refl (omega arith))
 removed_held s later most core f (entry.Closing by) here names node small some = (omega arith, tt)
 removed_held s later most core f (entry.Quiescing stamp) here names node small some = (omega arith, tt)
 
@@ -208,7 +254,7 @@ look_done s later most (Some k) = (omega arith, tt)
 -- the act that types a frame of a range
 pub types_fit : (s : Shape) (later most f : ℕ) (k : FrameKind) (within : Bool) → (within ≡ true → f < s.frames) → 2 ≤ most
     → StepFits s [] later most (types_if within f k)
-types_fit s later most f k true below some = (below refl, omega arith, tt)
+types_fit s later most f k true below some = (below refl, omega arith, refl)
 types_fit s later most f k false below some = (omega arith, tt)
 
 pub types : (own : Own) (later most : ℕ) (range : Option Capability) (f : ℕ) (k : FrameKind) → 2 ≤ most
@@ -221,6 +267,68 @@ types own later most (Some range) f k some =
     both : (x y : Bool) → (x && y) ≡ true → y ≡ true
     both true y is = is
     both false y is = cc
+
+-- the act that makes a node, where the range has its frame
+abbrev frame_in : Own → Capability → ℕ → Bool
+frame_in own range f = has_frame (found range) f && nat_lt f own.layout.frames
+
+node_fits : (frames : ℕ) (node : Node) (f : ℕ) → f < frames → CapNames frames (node_cap node f)
+node_fits frames NodeTable f below = omega arith
+node_fits frames NodeLeaf f below = omega arith
+node_fits frames NodePages f below = omega arith
+node_fits frames NodePleaf f below = omega arith
+
+pub makes : (own : Own) (later most : ℕ) (node : Node) (range : Capability) (f : ℕ) (target : Found) → IsOwn own
+    → PlaceFits own.layout target → own.layout.cores + 70 ≤ most → StepFits own.layout [] later most (makes_in own node range f target)
+makes own later most node range f target h fits some = by (frame_in own range f) refl
+  where
+    both : (x y : Bool) → (x && y) ≡ true → y ≡ true
+    both true y is = is
+    both false y is = cc
+
+    by : (within : Bool) → frame_in own range f ≡ within
+        → StepFits own.layout [] later most (scans own.core (quiet_scan (stamp_in target.value) own.core own.layout.cores false)
+        (making_if within own node f target))
+    by true is =
+        let many = h.shape.some_core in
+        let below : f < own.layout.frames = ltb-true f own.layout.frames (both (has_frame (found range) f) (nat_lt f own.layout.frames) is)
+        in
+        scans_fit own.layout later most own.core (making own node f target)
+        (quiet_scan (stamp_in target.value) own.core own.layout.cores false) h.core
+        (record {
+          frame = below;
+          core = h.core;
+          fill = record {
+            node = fits.node;
+            entry = fits.entry;
+            cap = node_fits own.layout.frames
+                node f below;
+          };
+          at = tt;
+        })
+        (scan_may own.layout (stamp_in target.value) own.core h.core) (omega arith)
+    by false is =
+        let many = h.shape.some_core in
+        scans_fit own.layout later most own.core (Outside target.node target.entry target.word)
+        (quiet_scan (stamp_in target.value) own.core own.layout.cores false) h.core (fits.node, fits.entry)
+        (scan_may own.layout (stamp_in target.value) own.core h.core) (omega arith)
+
+made_at : (own : Own) (later most : ℕ) (node : Option Node) (range : Option Capability) (f : ℕ) (target : Option Found) → IsOwn own
+    → IfSome target (PlaceFits own.layout) → (IsSome node → own.layout.cores + 70 ≤ most)
+    → StepFits own.layout [] later most (makes_at own node range f target)
+made_at own later most (Some node) (Some range) f (Some target) h fits some = makes own later most node range f target h fits (some refl)
+made_at own later most None range f target h fits some = (omega arith, tt)
+made_at own later most (Some node) None f target h fits some = (omega arith, tt)
+made_at own later most (Some node) (Some range) f None h fits some = (omega arith, tt)
+
+node_steps : (what : Make) (n : ℕ) → IsSome (node_made what) → n + 70 ≤ make_steps what n
+node_steps make.Table n some = omega arith
+node_steps make.Leaf n some = omega arith
+node_steps make.Pages n some = omega arith
+node_steps make.Pleaf n some = omega arith
+node_steps (make.Thread comp) n some = absurd (cc)
+node_steps (make.Tcap sched quality) n some = absurd (cc)
+node_steps (make.Comp table pages live) n some = absurd (cc)
 
 two_steps : (k : FrameKind) (n : ℕ) → 2 ≤ retype_steps k n
 two_steps Untyped n = omega arith
@@ -237,6 +345,9 @@ act_fits own later (Shrink t i) found target h names fits = removed own.layout l
 act_fits own later (Unmap p v) found target h names fits = removed own.layout later 6 own.core target h.core fits (omega arith)
 act_fits own later (Retype r f k) found target h names fits =
     types own later (retype_steps k own.layout.cores) _ f k (two_steps k own.layout.cores)
+act_fits own later (make_call what range frame table slot) found target h names fits =
+    made_at own later (make_steps what own.layout.cores) (node_made what) (at_place found First) frame target h fits
+    (node_steps what own.layout.cores)
 act_fits own later call found target h names fits = (omega arith, tt)
 
 -- the root of a target is a frame of the machine, where its name is found

@@ -22,7 +22,7 @@ use Rattle.call_acts.specs.declared.work.Work.TheVariants.{Lookup, Scan, Acquire
 use Rattle.call_steps.specs.declared.stages.Stage.{Stage}
 use Rattle.call_steps.specs.declared.stages.Stage.TheVariants.{Enter, Undecided, Decided, Leave}
 use Rattle.call_acts.specs.declared.work.Tail.{Tail}
-use Rattle.call_acts.specs.declared.work.Tail.TheVariants.{Nothing, Quiesce}
+use Rattle.call_acts.specs.declared.work.Tail.TheVariants.{Nothing, Quiesce, Unmark}
 use Rattle.call_steps.specs.declared.stages.ActiveCall.{ActiveCall}
 use Rattle.stage_quiet.specs.declared.quiet.Quiet.{Quiet}
 use Rattle.stage_quiet.specs.declared.quiet.Quiet.TheVariants.{AtCore, AtFlush}
@@ -52,6 +52,7 @@ WorkFits s (Act act) = ActFits s act
 abbrev pub TailFits : Shape → Tail → Type 0
 TailFits s Nothing = Unit {0}
 TailFits s (Quiesce close) = CloseFits s close
+TailFits s (Unmark f word) = f < s.frames
 
 abbrev pub StageFits : Shape → Stage → Type 0
 StageFits s Enter = Unit {0}
@@ -133,12 +134,12 @@ IsFirst (Undecided work) found = Unit {0}
 IsFirst (Decided r drawn tail) found = Unit {0}
 IsFirst (Leave r stamp) found = Unit {0}
 
--- a call acquires no count before its look-ups are made, and none but those that its act changes
+-- a call acquires no count before its look-ups are made, and none but those that its act changes; before the act's further steps, all
 abbrev pub CountsWait : List Acquired → Work → Type 0
 CountsWait counts (Lookup look) = counts ≡ []
 CountsWait counts (Scan q act) = counts ≡ []
 CountsWait counts (Acquire pin change act) = length counts < length (dues act)
-CountsWait counts (Act act) = Unit {0}
+CountsWait counts (Act act) = length counts ≡ length (dues act)
 
 abbrev pub CountsAt : List Acquired → Stage → Type 0
 CountsAt counts Enter = counts ≡ []

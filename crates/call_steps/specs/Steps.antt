@@ -43,8 +43,9 @@ use Rattle.call_acts.specs.declared.work.WorkStep.TheVariants.{Goes, Acquires, R
 use Rattle.call_steps.specs.declared.stages.Told.{Told}
 use Rattle.call_steps.specs.declared.stages.Told.TheVariants as told_as
 use Rattle.call_acts.specs.Refusals.{reply_of, refusal_of}
+use Rattle.call_acts.specs.declared.refusals.Refusal.{Refusal}
 use Rattle.call_acts.specs.WorkSteps.{refuse}
-use Rattle.call_acts.specs.Acts.{act_move, took_act, act_ready, next_work}
+use Rattle.call_acts.specs.Acts.{act_move, took_act, act_ready, next_work, starts, undo}
 use Rattle.call_acts.specs.Lookups.{next_step, met_name, met_free, met_held}
 use Rattle.call_steps.specs.Tails.{tail_move, took_tail, tail_counts}
 
@@ -128,18 +129,22 @@ took_end own a look (ends.Refuse r) = landed a (refuse (refusal_of r))
 abbrev pub took_look : Own → ActiveCall → Look → ℕ → Option Entry → Took
 took_look own a look word shown = took_end own a (look_after look shown) (look_end look word shown)
 
+-- a call that acquires a count for an act is refused, with what it has then still to store
+abbrev pub gives_up : Refusal → ActType → WorkStep
+gives_up r act = Refuses r (undo act)
+
 -- what a call takes from a step by which it acquires a count for an act: it is refused, or goes on to the next count or the act
 abbrev pub took_count : ℕ → ℕ → ℤ → ActType → Pin → StageEnd Pinned → WorkStep
 took_count core n change act pin ends.Going = Goes (Acquire pin change act)
-took_count core n change act pin (ends.Decided r) = refuse (refusal_of r)
+took_count core n change act pin (ends.Decided r) = gives_up (refusal_of r) act
 took_count core n change act pin (ends.Done p) = Acquires (record { pin = p; change = change }) (next_work core (n + 1) act)
-took_count core n change act pin (ends.Refuse r) = refuse (refusal_of r)
+took_count core n change act pin (ends.Refuse r) = gives_up (refusal_of r) act
 
 -- what a call takes from a step of a scan, which stands here after it: it is refused, or goes on to the next core or to its act
 abbrev pub took_scan : ℕ → ActType → Quiet → StageEnd (Unit {0}) → WorkStep
 took_scan core act q ends.Going = Goes (Scan q act)
 took_scan core act q (ends.Decided r) = refuse (refusal_of r)
-took_scan core act q (ends.Done x) = Goes (next_work core 0 act)
+took_scan core act q (ends.Done x) = starts core act
 took_scan core act q (ends.Refuse r) = refuse (refusal_of r)
 
 -- what a call takes from a step of its work

@@ -2,14 +2,14 @@
 use Rattle.std.specs.Prelude.{ℕ, ◌-◌, ◌^◌, Bool, true, false, nat_lt, Option, List, [], ◌∷◌, if◌then◌else◌}
 use Rattle.spk_nums.specs.declared.replies.Reply.{Reply}
 use Rattle.spk_nums.specs.declared.replies.Reply.TheVariants.{Ok}
-use Rattle.word_map.specs.Word.{ClockAt}
-use Rattle.word_map.specs.Moves.{Move, LoadOf}
+use Rattle.word_map.specs.Word.{ClockAt, FrameAt}
+use Rattle.word_map.specs.Moves.{Move, LoadOf, StoreOf}
 use Rattle.stage_quiet.specs.Removal.{close_move}
 use Rattle.stage_pins.specs.declared.held.Acquired.{Acquired}
 use Rattle.stage_pins.specs.Commit.{settle_move}
 use Rattle.stage_pins.specs.Held.{commit_of, rest_of}
 use Rattle.call_acts.specs.declared.work.Tail.{Tail}
-use Rattle.call_acts.specs.declared.work.Tail.TheVariants.{Nothing, Quiesce}
+use Rattle.call_acts.specs.declared.work.Tail.TheVariants.{Nothing, Quiesce, Unmark}
 use Rattle.call_steps.specs.declared.stages.Stage.{Stage}
 use Rattle.call_steps.specs.declared.stages.Stage.TheVariants.{Decided, Leave}
 
@@ -21,6 +21,7 @@ is_ok _ = false
 -- the next step of a decided call: its next store, then the commit of each count that it has acquired, then the load of the clock
 abbrev pub tail_move : Reply → Option ℕ → Tail → List Acquired → Move
 tail_move r drawn (Quiesce close) counts = close_move close
+tail_move r drawn (Unmark f word) counts = StoreOf (FrameAt f) word
 tail_move r drawn Nothing [] = LoadOf ClockAt
 tail_move r drawn Nothing (x ∷ xs) = settle_move (commit_of (is_ok r) drawn x)
 
@@ -34,14 +35,17 @@ stamp_of clock = stamp_if (nat_lt clock (2 ^ 28)) clock
 -- where the call stands after that step, and the counts that it has then still to commit
 abbrev pub took_tail : Reply → Option ℕ → Tail → List Acquired → ℕ → Stage
 took_tail r drawn (Quiesce close) counts found = Decided r drawn Nothing
+took_tail r drawn (Unmark f word) counts found = Decided r drawn Nothing
 took_tail r drawn Nothing [] found = Leave r (stamp_of found)
 took_tail r drawn Nothing (x ∷ xs) found = Decided r drawn Nothing
 
 abbrev pub tail_counts : Tail → List Acquired → List Acquired
 tail_counts (Quiesce close) xs = xs
+tail_counts (Unmark f word) xs = xs
 tail_counts Nothing xs = rest_of xs
 
 -- how many stores are left beside the counts
 abbrev pub tail_left : Tail → ℕ
 tail_left Nothing = 0
 tail_left (Quiesce close) = 1
+tail_left (Unmark f word) = 1

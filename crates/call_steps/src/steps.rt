@@ -7,7 +7,7 @@ ghost use Rattle.spk_nums.specs.WordSteps.{place_in};
 ghost use Rattle.call_plans.specs.After.{next_of};
 ghost use Rattle.stage_pins.specs.Held.{AllFit};
 ghost use Rattle.call_steps.specs.Tails.{tail_counts, took_tail};
-ghost use Rattle.call_steps.specs.Steps.{core_word, work_move, stage_move, went, went_with, took_scan, took_count, landed, next_by, took_enter, took_found, took_end, took_work, took_at, took, told, call_after, is_last, decides_at_name, work_ready, is_ready, is_spent, named_one};
+ghost use Rattle.call_steps.specs.Steps.{core_word, work_move, stage_move, went, went_with, took_scan, took_count, gives_up, landed, next_by, took_enter, took_found, took_end, took_work, took_at, took, told, call_after, is_last, decides_at_name, work_ready, is_ready, is_spent, named_one};
 ghost use Rattle.call_steps.specs.Fits.{WorkFits, StageFits, IsLater};
 ghost use Rattle.stage_pins.specs.Acquire.{pin_after, pin_end};
 ghost use Rattle.stage_quiet.specs.Scan.{quiet_after, quiet_end};
@@ -24,7 +24,7 @@ use crate::stages::{ActiveCall, Stage, Told};
 use crate::tails::{tail_op, took_tail};
 use call_acts::{
     Act, Met, Own, Refusal, Tail, Work, WorkStep, act_op, act_ready, act_took, begin_act, frame_of,
-    met_free, met_held, met_name, next_work, refuse,
+    met_free, met_held, met_name, next_work, refuse, starts, undo,
 };
 use call_plans::{Decides, Next, Spot};
 use frame_words::CoreWord;
@@ -95,9 +95,7 @@ fn scan_took(core: CoreNo, act: &Act, quiet: Quiet, end: &StageEnd<()>) -> WorkS
             work: Work::Scan { quiet, act: *act },
         },
         StageEnd::Decided(reply) => refuse(Refusal::of(reply)),
-        StageEnd::Done(_) => WorkStep::Goes {
-            work: next_work(core, 0, act),
-        },
+        StageEnd::Done(_) => starts(core, act),
         StageEnd::Refuse(reply) => refuse(Refusal::of(reply)),
     }
 }
@@ -123,12 +121,23 @@ fn count_took(
                 act: *act,
             },
         },
-        StageEnd::Decided(reply) => refuse(Refusal::of(reply)),
+        StageEnd::Decided(reply) => gives_up(Refusal::of(reply), act),
         StageEnd::Done(pin) => WorkStep::Acquires {
             count: Acquired { pin: *pin, change },
             work: next_work(core, n + 1, act),
         },
-        StageEnd::Refuse(reply) => refuse(Refusal::of(reply)),
+        StageEnd::Refuse(reply) => gives_up(Refusal::of(reply), act),
+    }
+}
+
+// A call that acquires a count for an act is refused, with what it has then still to store.
+#[inline]
+fn gives_up(refusal: Refusal, act: &Act) -> WorkStep
+    ensures { result ≡ gives_up refusal act.now }
+{
+    WorkStep::Refuses {
+        refusal,
+        tail: undo(act),
     }
 }
 
@@ -167,14 +176,14 @@ fn scan_step(own: &Own, quiet: &Quiet, act: &Act, found: u64) -> WorkStep
 
 // A step by which a call that has acquired so many counts acquires one.
 #[inline]
-fn count_step(own: &Own, n: u8, pin: &Pin, change: i32, act: &Act, found: u64) -> WorkStep
-    requires fits { WorkFits own.now.layout (Acquire pin.now change act.now) }
+fn count_step(own: &Own, n: u8, pin: &Pin, change: &i32, act: &Act, found: u64) -> WorkStep
+    requires fits { WorkFits own.now.layout (Acquire pin.now change.now act.now) }
     requires few { n < 255 }
-    ensures { result ≡ took_count own.now.core n change act.now (pin_after pin.now found) (pin_end pin.now found) }
+    ensures { result ≡ took_count own.now.core n change.now act.now (pin_after pin.now found) (pin_end pin.now found) }
 {
     let mut pin = *pin;
     let end = pin.take(&own.layout, found);
-    count_took(own.core, n, change, act, pin, &end)
+    count_took(own.core, n, *change, act, pin, &end)
 }
 
 impl ActiveCall {
@@ -273,7 +282,7 @@ impl ActiveCall {
                 }
                 Work::Acquire { pin, change, act } => {
                     let n = self.counts.count();
-                    let step = count_step(own, n, pin, *change, act, found);
+                    let step = count_step(own, n, pin, change, act, found);
                     self.land(&step)
                 }
                 Work::Act { act } => {

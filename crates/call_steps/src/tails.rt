@@ -31,6 +31,10 @@ pub fn tail_op(
 {
     match tail {
         Tail::Quiesce { close } => close.next(layout),
+        Tail::Unmark { frame, word } => WordOp::Store {
+            at: layout.frame_at(*frame),
+            word: *word,
+        },
         Tail::Nothing => match counts.first() {
             None => WordOp::Load {
                 at: layout.clock_at(),
@@ -66,7 +70,7 @@ pub fn took_tail(
     ensures { result ≡ took_tail reply drawn tail.now counts.now found }
 {
     match tail {
-        Tail::Quiesce { close: _ } => Stage::Decided {
+        Tail::Quiesce { close: _ } | Tail::Unmark { frame: _, word: _ } => Stage::Decided {
             reply,
             drawn,
             tail: Tail::Nothing,

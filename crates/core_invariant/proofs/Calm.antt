@@ -1,6 +1,6 @@
 -- Steps that change no frame and no liveness number, and of the cores only what the own core counts and whether it is inside; and
--- steps at which no grace period begins or ends and nothing is flushed. Steps of calls that are carried out today are such, but for the
--- draw of a stamp.
+-- steps at which no grace period begins or ends and nothing is flushed. A step that decides nothing is such, and so is a refusal and the
+-- decision that fills a place; one that draws a stamp, or changes what a frame is, is not.
 use Rattle.std.proofs.Common.{◌≡◌, ◌≢◌, inl, inr, ℕ, zero, suc, ◌+◌, ◌*◌, ◌<◌, ◌≤◌, Bool, true, false, cond, ◌∷◌, Option, Some, None, arith, refl, sym, ◌∙◌, ap, subst}
 use Rattle.std.proofs.lemmas.Bool.{cases_eq, false≢true}
 use Rattle.spk_nums.specs.Setting.{Setting}
@@ -151,29 +151,49 @@ pub record IsPlain (setup : Setting) (t : Trace) (e : Step) : Type 0 where
   pub apart : (d : ℕ) → same_word (FlushAt d) (word_of e.move) ≡ false
   pub same : clock setup (e ∷ t) ≡ clock setup t
 
-pub plain_time : (setup : Setting) (t : Trace) (e : Step) → IsPlain setup t e → KeepsTime setup t e
-plain_time setup t e plain = record {
-  rises = (let a = plain.same in omega arith);
-  draws = λ x is. absurd (false≢true (sym (plain.begins x) ∙ is));
-  flushes = λ is. absurd (false≢true (sym plain.flushes ∙ is));
+-- A step at which no grace period begins, nothing is flushed, no flush is stored, and the clock stays; some may end.
+pub record BeginsNone (setup : Setting) (t : Trace) (e : Step) : Type 0 where
+  pub begins : (x : Thing) → begins_at setup t e x ≡ false
+  pub flushes : flushes_at t e ≡ false
+  pub apart : (d : ℕ) → same_word (FlushAt d) (word_of e.move) ≡ false
+  pub same : clock setup (e ∷ t) ≡ clock setup t
+
+pub plain_begins : (setup : Setting) (t : Trace) (e : Step) → IsPlain setup t e → BeginsNone setup t e
+plain_begins setup t e plain = record { begins = plain.begins; flushes = plain.flushes; apart = plain.apart; same = plain.same }
+
+pub none_time : (setup : Setting) (t : Trace) (e : Step) → BeginsNone setup t e → KeepsTime setup t e
+none_time setup t e none = record {
+  rises = (let a = none.same in omega arith);
+  draws = λ x is. absurd (false≢true (sym (none.begins x) ∙ is));
+  flushes = λ is. absurd (false≢true (sym none.flushes ∙ is));
 }
+
+pub plain_time : (setup : Setting) (t : Trace) (e : Step) → IsPlain setup t e → KeepsTime setup t e
+plain_time setup t e plain = none_time setup t e (plain_begins setup t e plain)
 
 pub plain_stamp : (setup : Setting) (t : Trace) (e : Step) → IsPlain setup t e → (x : Thing) → stamp setup (e ∷ t) x ≡ stamp setup t x
 plain_stamp setup t e plain x = stamp-kept setup e t x (plain.begins x) (plain.ends x)
 
-pub plain_flush : (setup : Setting) (t : Trace) (e : Step) → IsPlain setup t e → (d : ℕ) → flush_stored (e ∷ t) d ≡ flush_stored t d
-plain_flush setup t e plain d = elim (cases_eq d e.core) [
-  | inl own ↦ flush_stored-own d e t own ∙ ap (λ b. cond b (flush_of t d) (flush_stored t d)) (plain.apart d)
+pub none_flush : (setup : Setting) (t : Trace) (e : Step) → BeginsNone setup t e → (d : ℕ) → flush_stored (e ∷ t) d ≡ flush_stored t d
+none_flush setup t e none d = elim (cases_eq d e.core) [
+  | inl own ↦ flush_stored-own d e t own ∙ ap (λ b. cond b (flush_of t d) (flush_stored t d)) (none.apart d)
   | inr other ↦ flush_stored-other d e t other
 ]
 
+pub plain_flush : (setup : Setting) (t : Trace) (e : Step) → IsPlain setup t e → (d : ℕ) → flush_stored (e ∷ t) d ≡ flush_stored t d
+plain_flush setup t e plain d = none_flush setup t e (plain_begins setup t e plain) d
+
 -- a core's last flush stays stored
+pub none_flushed : (setup : Setting) (t : Trace) (e : Step) → BeginsNone setup t e → (d : ℕ) → flush_stored t d ≡ flush_of t d
+    → flush_stored (e ∷ t) d ≡ flush_of (e ∷ t) d
+none_flushed setup t e none d is = elim (cases_eq d e.core) [
+  | inl own ↦ none_flush setup t e none d ∙ is ∙ sym (flush_of-own d e t own ∙ ap (λ b. cond b e.found (flush_of t d)) none.flushes)
+  | inr other ↦ none_flush setup t e none d ∙ is ∙ sym (flush_of-other d e t other)
+]
+
 pub plain_flushed : (setup : Setting) (t : Trace) (e : Step) → IsPlain setup t e → (d : ℕ) → flush_stored t d ≡ flush_of t d
     → flush_stored (e ∷ t) d ≡ flush_of (e ∷ t) d
-plain_flushed setup t e plain d is = elim (cases_eq d e.core) [
-  | inl own ↦ plain_flush setup t e plain d ∙ is ∙ sym (flush_of-own d e t own ∙ ap (λ b. cond b e.found (flush_of t d)) plain.flushes)
-  | inr other ↦ plain_flush setup t e plain d ∙ is ∙ sym (flush_of-other d e t other)
-]
+plain_flushed setup t e plain d is = none_flushed setup t e (plain_begins setup t e plain) d is
 
 pub plain_exit : (t : Trace) (e : Step) → e.returns ≡ None → (d : ℕ) → exit_of (e ∷ t) d ≡ exit_of t d
 plain_exit t e none d = elim (cases_eq d e.core) [

@@ -1,7 +1,11 @@
 -- What a call knows it still knows after a step of another core, and after an own step that decides nothing: each kind of
 -- knowledge once, over the few things that such a step keeps.
-use Rattle.std.proofs.Common.{◌≡◌, ◌≤◌, arith, inl, inr, ℕ, ◌&&◌, nat_le, if◌then◌else◌, cond, [], ◌∷◌, ◌++◌, List, Bool, true, false, Option, Some, None, refl, ◌∙◌, ap, subst}
+use Rattle.call_acts.specs.Makings.{is_marked}
+use Rattle.call_acts.specs.declared.makings.MakingAt.TheVariants.{Load as making_load, Mark, Store, Fill as making_fill}
+use Rattle.call_acts.specs.declared.makings.MakingAt.{MakingAt}
+use Rattle.std.proofs.Common.{◌≡◌, ◌≤◌, arith, inl, inr, ℕ, ◌&&◌, nat_le, if◌then◌else◌, cond, [], ◌∷◌, ◌++◌, List, Bool, true, false, Option, Some, None, refl, ◌∙◌, ap, subst, ◌==◌}
 use Rattle.std.specs.Prelude.{IsSome, is_some, All}
+use Rattle.std.proofs.lemmas.Bool.{eq-eqb}
 use Rattle.std.proofs.lemmas.List.Elements.{All-nil, All-cons, All-head, All-tail}
 use Rattle.stage_pins.specs.declared.held.Acquired.{Acquired}
 use Rattle.core_invariant.specs.Holding.{count_of}
@@ -17,7 +21,7 @@ use Rattle.stage_look.specs.declared.look.Look.TheVariants.{AtRoot, AtLeaf, AtEn
 use Rattle.kernel_rules.specs.Access.{Slot, Named, found, Target, Under, InRoot, usable, linked, root_slot, reached}
 use Rattle.kernel_rules.proofs.Facts.{some_inj, none_some}
 use Rattle.kernel_rules.specs.Relies.{Relies}
-use Rattle.kernel_history.specs.Trace.{Step, Trace, Open, phase, state_after, own_left, own_read}
+use Rattle.kernel_history.specs.Trace.{Step, Trace, Open, phase, state_after, own_left, own_read, last_left}
 use Rattle.kernel_history.specs.Justified.{HasReached}
 use Rattle.kernel_history.specs.Legal.{IsLegal}
 use Rattle.kernel_history.proofs.Names.{cases_word}
@@ -42,11 +46,11 @@ use Rattle.stage_quiet.specs.declared.quiet.Quiet.TheVariants.{AtCore, AtFlush}
 use Rattle.stage_pins.specs.declared.pin.Pin.{Pin}
 use Rattle.stage_pins.specs.declared.pin.Pin.TheVariants.{AtLoad, AtCompare as pin_compare}
 use Rattle.call_acts.specs.declared.work.Act.{Act as ActOf}
-use Rattle.call_acts.specs.declared.work.Act.TheVariants.{Fill as fill_act, Remove as remove_act, Retype as type_act}
+use Rattle.call_acts.specs.declared.work.Act.TheVariants.{Fill as fill_act, Remove as remove_act, Retype as type_act, Make as make_act, Outside}
 use Rattle.call_acts.specs.declared.work.Work.{Work}
 use Rattle.call_acts.specs.declared.work.Work.TheVariants.{Lookup, Scan, Acquire, Act}
 use Rattle.call_steps.specs.declared.stages.ActiveCall.{ActiveCall}
-use Rattle.core_invariant.specs.Knows.{IsCount, IsReached, HasFound, LookIs, LooksUp, own_in, NamesAre, LooksFor, IsScanned, MayFill, IsFill, IsRemoval, KnowsClose, KnowsAct, KnowsQuiet, KnowsStore, HasLoaded, KnowsWork, KnowsUndecided, KnowsTyping, HasMetAt}
+use Rattle.core_invariant.specs.Knows.{IsCount, IsReached, HasFound, LookIs, LooksUp, own_in, NamesAre, LooksFor, IsScanned, MayFill, IsFill, IsRemoval, KnowsClose, KnowsAct, KnowsQuiet, KnowsStore, HasLoaded, KnowsWork, KnowsUndecided, KnowsTyping, HasMetAt, IsSpot, HasStored, KnowsMakingAt}
 use Rattle.call_acts.specs.declared.typings.Typing.{Typing}
 use Rattle.call_acts.specs.declared.typings.TypingAt.{TypingAt}
 use Rattle.call_acts.specs.declared.typings.TypingAt.TheVariants.{Load, Compare as type_compare}
@@ -70,13 +74,25 @@ slot_relies setup setting t legal c call is (InRoot table i) at way =
     entry_node true h = ap (λ (x : Slot). x.node) (some_inj record { node = table.frame; index = i } at h)
     entry_node false h = absurd (none_some at h)
 
--- A step leaves what the core's last steps on entries and on frames' words have read.
-pub record ReadsSame (t : Trace) (e : Step) (c : ℕ) : Type 0 where
+-- The frame whose words an act has stored.
+abbrev pub stores_in : ActOf → ℕ → Bool
+stores_in (fill_act fill) f = false
+stores_in (remove_act close cap) f = false
+stores_in (type_act typing) f = false
+stores_in (make_act m) f = is_marked m.at && f == m.frame
+stores_in (Outside node entry word) f = false
+
+abbrev pub stores_of : Work → ℕ → Bool
+stores_of (Lookup look) f = false
+stores_of (Scan q act) f = stores_in act f
+stores_of (Acquire pin change act) f = stores_in act f
+stores_of (Act act) f = stores_in act f
+
+-- A step leaves what the core's last steps on entries and on frames' words have read, and the words of the frame that the act has stored.
+pub record ReadsSame (setup : Setting) (t : Trace) (e : Step) (c : ℕ) (act : ActOf) : Type 0 where
   pub entries : (f i : ℕ) → own_read (e ∷ t) c (EntryAt f i) ≡ own_read t c (EntryAt f i)
   pub frames : (f : ℕ) → own_read (e ∷ t) c (FrameAt f) ≡ own_read t c (FrameAt f)
-
-pub reads_same : {t : Trace} {e : Step} {c : ℕ} → ((w : Word) → own_read (e ∷ t) c w ≡ own_read t c w) → ReadsSame t e c
-reads_same same = record { entries = λ f i. same (EntryAt f i); frames = λ f. same (FrameAt f) }
+  pub stored : (f i : ℕ) → stores_in act f ≡ true → last_left setup (e ∷ t) (EntryAt f i) ≡ last_left setup t (EntryAt f i)
 
 module _ (setup : Setting) (setting : IsSetting setup) (t : Trace) (e : Step) (legal : IsLegal setup t) (c : ℕ) (call : Call)
     (is_open : phase t c ≡ Open call) (carries : Carries setup t e c) where
@@ -208,6 +224,31 @@ module _ (setup : Setting) (setting : IsSetting setup) (t : Trace) (e : Step) (l
   close_on of plan caps (AtDraw node index) cap same has = removal_on of plan caps node index cap has
   close_on of plan caps (AtStore node index at) cap same has = has
 
+  pub spot_on : (plan : Plan) (caps : List Capability) (upto node index word : ℕ)
+      → own_read (e ∷ t) c (EntryAt node index) ≡ own_read t c (EntryAt node index)
+      → IsSpot setup t c plan caps upto node index word → IsSpot setup (e ∷ t) c plan caps upto node index word
+  spot_on plan caps upto node index word same has = record {
+    target = has.target;
+    next = has.next;
+    way = reached_on has.target (record { node = node; index = index }) has.way;
+    own = same ∙ has.own;
+    vacant = may_fill_on (PlaceOf node index) upto (entry_of_word word)
+        (carries.place_rises node index (slot_relies setup setting t legal c call is_open has.target
+        (record { node = node; index = index }) has.way)) has.vacant;
+  }
+
+  stored_on : (f word n : ℕ) → ((i : ℕ) → last_left setup (e ∷ t) (EntryAt f i) ≡ last_left setup t (EntryAt f i))
+      → HasStored setup t f word n → HasStored setup (e ∷ t) f word n
+  stored_on f word n same has = record { says = has.says; free = λ i below. same i ∙ has.free i below }
+
+  making_on : (f : ℕ) (at : MakingAt) → ((g : ℕ) → own_read (e ∷ t) c (FrameAt g) ≡ own_read t c (FrameAt g))
+      → (is_marked at ≡ true → (i : ℕ) → last_left setup (e ∷ t) (EntryAt f i) ≡ last_left setup t (EntryAt f i))
+      → KnowsMakingAt setup t c f at → KnowsMakingAt setup (e ∷ t) c f at
+  making_on f making_load reads stays has = tt
+  making_on f (Mark word) reads stays has = record { own = reads f ∙ has.own; says = has.says }
+  making_on f (Store word n) reads stays has = stored_on f word n (stays refl) has
+  making_on f (making_fill word) reads stays has = stored_on f word 64 (stays refl) has
+
   typing_on : (of : Call) (caps : List Capability) (y : Typing) → ((f : ℕ) → own_read (e ∷ t) c (FrameAt f) ≡ own_read t c (FrameAt f))
       → KnowsTyping t c of caps y → KnowsTyping (e ∷ t) c of caps y
   typing_on of caps y same has = record { types = has.types; met = met_on y.at has.met }
@@ -217,13 +258,23 @@ module _ (setup : Setting) (setting : IsSetting setup) (t : Trace) (e : Step) (l
       met_on (type_compare word) has =
           record { own = same y.frame ∙ has.own; shown = has.shown; says = has.says; kind = has.kind; mark = has.mark }
 
-  pub act_on : (of : Call) (plan : Plan) (caps : List Capability) (upto : ℕ) (act : ActOf) → ReadsSame t e c
+  pub act_on : (of : Call) (plan : Plan) (caps : List Capability) (upto : ℕ) (act : ActOf) → ReadsSame setup t e c act
       → KnowsAct setup t c of plan caps upto act → KnowsAct setup (e ∷ t) c of plan caps upto act
   act_on of plan caps upto (fill_act fill) same has = fill_on of plan caps upto fill same.entries has
   act_on of plan caps upto (remove_act close cap) same has = close_on of plan caps close cap same.entries has
   act_on of plan caps upto (type_act typing) same has = typing_on of caps typing same.frames has
+  act_on of plan caps upto (make_act m) same has = record {
+    spot = spot_on plan caps upto m.fill.node m.fill.entry m.fill.word (same.entries m.fill.node m.fill.entry) has.spot;
+    makes = has.makes;
+    core = has.core;
+    cap = has.cap;
+    at = making_on m.frame m.at same.frames
+        (λ marked i. same.stored m.frame i (ap (λ b. b && m.frame == m.frame) marked ∙ eq-eqb m.frame m.frame refl)) has.at;
+  }
+  act_on of plan caps upto (Outside node entry word) same has =
+      record { spot = spot_on plan caps upto node entry word (same.entries node entry) has.spot; outside = has.outside }
 
-  quiet_on : (a : ActiveCall) (q : Quiet) (act : ActOf) → ReadsSame t e c
+  quiet_on : (a : ActiveCall) (q : Quiet) (act : ActOf) → ReadsSame setup t e c act
       → KnowsQuiet setup t c a q act
       → KnowsQuiet setup (e ∷ t) c a q act
   quiet_on a (AtCore at core upto page) act same has =
@@ -235,12 +286,19 @@ module _ (setup : Setting) (setting : IsSetting setup) (t : Trace) (e : Step) (l
   loaded_on (pin_compare frame core count stamp) same has =
       record { own = same (CountAt frame (counter_of core)) ∙ has.own; fits = has.fits }
 
+  -- after a step of another core, which leaves the words of the frame that the act has stored
+  reads_same : (act : ActOf) → ((w : Word) → own_read (e ∷ t) c w ≡ own_read t c w)
+      → ((f i : ℕ) → stores_in act f ≡ true → last_left setup (e ∷ t) (EntryAt f i) ≡ last_left setup t (EntryAt f i))
+      → ReadsSame setup t e c act
+  reads_same act same stored = record { entries = λ f i. same (EntryAt f i); frames = λ f. same (FrameAt f); stored = stored }
+
   work_on : (table : ℕ) (a : ActiveCall) (work : Work) → ((w : Word) → own_read (e ∷ t) c w ≡ own_read t c w)
+      → ((f i : ℕ) → stores_of work f ≡ true → last_left setup (e ∷ t) (EntryAt f i) ≡ last_left setup t (EntryAt f i))
       → KnowsWork setup t c table a work → KnowsWork setup (e ∷ t) c table a work
-  work_on table a (Lookup look) same has = looks_for_on table (next_of a.plan a.found) look has
-  work_on table a (Scan q act) same has = quiet_on a q act (reads_same same) has
-  work_on table a (Acquire pin change act) same has = record {
-    knows = act_on a.call a.plan a.found setup.cores act (reads_same same) has.knows;
+  work_on table a (Lookup look) same stored has = looks_for_on table (next_of a.plan a.found) look has
+  work_on table a (Scan q act) same stored has = quiet_on a q act (reads_same act same stored) has
+  work_on table a (Acquire pin change act) same stored has = record {
+    knows = act_on a.call a.plan a.found setup.cores act (reads_same act same stored) has.knows;
     rest = has.rest;
     due = has.due;
     core = has.core;
@@ -248,15 +306,19 @@ module _ (setup : Setting) (setting : IsSetting setup) (t : Trace) (e : Step) (l
     loaded = loaded_on pin same has.loaded;
     starts = has.starts;
   }
-  work_on table a (Act act) same has =
-      record { knows = act_on a.call a.plan a.found setup.cores act (reads_same same) has.knows; all = has.all }
+  work_on table a (Act act) same stored has = record {
+    knows = act_on a.call a.plan a.found setup.cores act (reads_same act same stored) has.knows;
+    all = has.all;
+    goes = has.goes;
+  }
 
   -- what a call knows that is not decided, after a step of another core
   pub undecided_on : (table : ℕ) (a : ActiveCall) (work : Work) → ((w : Word) → own_read (e ∷ t) c w ≡ own_read t c w)
+      → ((f i : ℕ) → stores_of work f ≡ true → last_left setup (e ∷ t) (EntryAt f i) ≡ last_left setup t (EntryAt f i))
       → KnowsUndecided setup t c table a work
       → KnowsUndecided setup (e ∷ t) c table a work
-  undecided_on table a work same has =
-      record { names = names_on table a.plan a.found has.names; knows = work_on table a work same has.knows }
+  undecided_on table a work same stored has =
+      record { names = names_on table a.plan a.found has.names; knows = work_on table a work same stored has.knows }
 
 -- The counts that a call has acquired are near it at a moment of it still, after a further step.
 pub counts_on : (setup : Setting) (t : Trace) (e : Step) (c : ℕ) (call : Call) → (c ≡ e.core → e.enters ≡ None) → (xs : List Acquired)

@@ -23,7 +23,7 @@ use Rattle.core_invariant.specs.Stands.{holds, held_by, Stands}
 use Rattle.core_invariant.proofs.WordFrames.{marks_own, hold_marks, hold_words, settled_stays}
 use Rattle.core_invariant.proofs.Sums.{sums_stay}
 use Rattle.core_invariant.proofs.Calm.{calm_same, calm_words, IsPlain, plain_time, plain_exit, plain_flushed}
-use Rattle.core_invariant.proofs.Good.{IsGood}
+use Rattle.core_invariant.proofs.Good.{IsGood, SparesBlanks}
 use Rattle.core_invariant.proofs.Loads.{Lands, IsOfCall, core_at, core_is, call_is, in_call, inner, inner_within, inner_disciplined, inner_near}
 
 -- A step of a call, within it, on the word of a count or of an entry: what the core holds of other words stays, no other core has marked
@@ -51,8 +51,9 @@ module _ (setup : Setting) (setting : IsSetting setup) (cores : ℕ → Core) (t
       → phase_at a.call a.stage ≡ phase_at next.call next.stage
       → (Carries setup t e c → Knows setup (e ∷ t) c (cores c).own.table next) → All (IsCount setup (e ∷ t) c next.call) next.counts
       → AreApart next.counts
+      → SparesBlanks setup t e
       → IsGood setup cores t e after
-  holds_on flushes not_clock one_more of_call lands small elsewhere now unowned settles same_phase knows counts apart =
+  holds_on flushes not_clock one_more of_call lands small elsewhere now unowned settles same_phase knows counts apart blanks =
       let plain : IsPlain setup t e = record {
         begins = λ x. refl;
         ends = λ x. refl;
@@ -81,6 +82,7 @@ module _ (setup : Setting) (setting : IsSetting setup) (cores : ℕ → Core) (t
             (marks_own setup cores t e after (λ w there. (elsewhere w there).0) stands.marks marks)
             (λ b m other. absurd (unowned b other m));
         near = inner_near setup setting cores t stands c here a active move None None of_call;
+        blanks = blanks;
         marks = marks;
         words = hold_words setup cores t e after (λ g. refl) elsewhere now unowned settles
             (λ v. calm_words setup t e (calm_same (state_after setup t) c) plain v (λ g i h. refl) (λ b h. (refl, plain_exit t e refl b)))

@@ -22,7 +22,7 @@ use Rattle.core_invariant.specs.Stands.{holds, held_by, times_of, counted_in, Su
 use Rattle.core_invariant.proofs.WordFrames.{ReadsAlike, StaysSaid, marks_own, carry_marks, carry_words}
 use Rattle.core_invariant.proofs.Calm.{plain_exit}
 use Rattle.core_invariant.proofs.Carries.{counts_on}
-use Rattle.core_invariant.proofs.Good.{IsGood}
+use Rattle.core_invariant.proofs.Good.{IsGood, spares_other}
 use Rattle.core_invariant.proofs.Writes.{clock_small}
 use Rattle.core_invariant.proofs.Loads.{Lands, core_at, next_at, core_is, call_is, in_call, inner, inner_within, inner_disciplined, inner_near}
 
@@ -86,6 +86,7 @@ module _ (setup : Setting) (setting : IsSetting setup) (cores : ℕ → Core) (t
             (marks_own setup cores t e after (λ w there. still w) stands.marks marks) (λ d m other. absurd (none_some d m));
         near = inner_near setup setting cores t stands c here a active draw (Some r) None
             (record { moves = (raises, refl); near = inl tt });
+        blanks = spares_other setup t e (λ f i h. cc);
         marks = marks;
         words = carry_words setup cores t e after still alike refl refl same tt held stands.words;
         sums = sums;

@@ -1,5 +1,6 @@
 -- The ways in which a call in flight makes a step that leaves its word as found: it goes on undecided, or it is decided with a
 -- reply that leaves all as it was but the count of calls.
+use Rattle.call_acts.specs.declared.work.Tail.{Tail}
 use Rattle.std.proofs.Common.{◌≡◌, ◌≢◌, ◌⊎◌, ℕ, ◌+◌, ◌^◌, ◌<◌, ◌≤◌, false, List, ◌∷◌, Option, Some, None, arith, refl, sym, ◌∙◌, ap, subst}
 use Rattle.spk_nums.specs.Bounds.{bound_of}
 use Rattle.spk_nums.specs.Capability.{Capability}
@@ -33,15 +34,15 @@ use Rattle.call_steps.specs.declared.stages.Stage.TheVariants.{Enter, Undecided,
 use Rattle.call_steps.specs.declared.stages.ActiveCall.{ActiveCall}
 use Rattle.call_steps.specs.View.{Core}
 use Rattle.call_steps.specs.Fits.{IsCore, IsActive, CallFits, left_at}
-use Rattle.core_invariant.specs.Knows.{phase_at, Knows, IsIn, CallIs, WorksIn, CoreIs}
+use Rattle.core_invariant.specs.Knows.{phase_at, Knows, IsIn, CallIs, WorksIn, CoreIs, KnowsTail}
 use Rattle.core_invariant.specs.Stands.{done_by, holds_at, holds_in, holds, held_by, Stands}
 use Rattle.core_invariant.proofs.Markers.{phase_in, phase_call}
 use Rattle.core_invariant.proofs.WordFrames.{marks_own, settled_on, load_keeps, load_marks, load_words}
 use Rattle.core_invariant.proofs.Sums.{sums_stay}
 use Rattle.core_invariant.proofs.Carries.{counts_on}
 use Rattle.core_invariant.specs.Holding.{holds_counts}
-use Rattle.core_invariant.proofs.Good.{IsGood}
-use Rattle.core_invariant.proofs.Calm.{IsCalm, calm_same, calm_counted, calm_own, calm_words, counted_rises, IsPlain, plain_time, plain_exit, plain_flushed}
+use Rattle.core_invariant.proofs.Good.{IsGood, spares_kept}
+use Rattle.core_invariant.proofs.Calm.{IsCalm, calm_same, calm_counted, calm_own, calm_words, counted_rises, IsPlain, plain_time, plain_exit, BeginsNone, plain_begins, none_flushed}
 
 -- A step of core c.
 abbrev pub step_to : ℕ → Option Call → Move → ℕ → Option Reply → Option Reply → Step
@@ -143,9 +144,10 @@ module _ (setup : Setting) (setting : IsSetting setup) (cores : ℕ → Core) (t
         calm_own (state_after setup t) (state_after setup (inner ∷ t)) c (cores c).own (record (cores c).own { made = made }) calm
         (ap (λ (m : ℕ). record (cores c).own { made = m }) counts) core_is.works
 
-    pub inner_own : returns ≡ None → IsPlain setup t inner → (made : ℕ) (found : List Capability) (stage : Stage)
+    pub inner_own : returns ≡ None → BeginsNone setup t inner → (made : ℕ) (found : List Capability) (stage : Stage)
         → IsCore (core_at (cores c) made (next_at a found stage))
-        → WorksIn (record (cores c).own { made = made }) (state_after setup (inner ∷ t)) c → after_decide decides (phase_at a.call a.stage) ≡ phase_at a.call stage
+        → WorksIn (record (cores c).own { made = made }) (state_after setup (inner ∷ t)) c
+        → after_decide decides (phase_at a.call a.stage) ≡ phase_at a.call stage
         → Knows setup (inner ∷ t) c (cores c).own.table (next_at a found stage)
         → CoreIs setup (core_at (cores c) made (next_at a found stage)) (inner ∷ t) c
     inner_own none plain made found stage fits works at knows = record {
@@ -155,7 +157,7 @@ module _ (setup : Setting) (setting : IsSetting setup) (cores : ℕ → Core) (t
       limit = core_is.limit;
       works = works;
       exit = core_is.exit ∙ sym (plain_exit t inner none c);
-      flushed = plain_flushed setup t inner plain c core_is.flushed;
+      flushed = none_flushed setup t inner plain c core_is.flushed;
       active = record {
         phase = phase-own c inner t refl ∙ ap (λ o. after_return o (after_decide decides (phase t c))) none ∙ ap (after_decide decides)
             call_is.phase ∙ at;
@@ -211,6 +213,7 @@ module _ (setup : Setting) (setting : IsSetting setup) (cores : ℕ → Core) (t
         disciplined = inner_disciplined move None None looks.of_call
             (marks_own setup cores t e after (λ w there. ap (λ h. h.marks w) still) stands.marks marks) (λ d m other. looks.kept);
         near = inner_near move None None looks.of_call;
+        blanks = spares_kept setup t e looks.kept;
         marks = marks;
         words = load_words setup cores t e after still (λ g. refl) looks.kept
             (λ v. calm_words setup t e (calm_same (state_after setup t) c) plain v (λ g i h. refl) (λ d h. (refl, plain_exit t e refl d)))
@@ -222,26 +225,27 @@ module _ (setup : Setting) (setting : IsSetting setup) (cores : ℕ → Core) (t
         draws = (let d = stands.draws in let b = plain.same in omega arith);
         time = plain_time setup t e plain;
         leaves = tt;
-        own = inner_own move None None refl plain (cores c).own.made found stage lands.fits core_is.works at
+        own = inner_own move None None refl (plain_begins setup t e plain) (cores c).own.made found stage lands.fits core_is.works at
             (knows (carries_own setup setting t stands.legal e follows (plain_time setup t e plain) stands.graces refl refl refl));
       }
 
   -- A decision at a load or at a lost compare, which leaves all as it was but counts the call.
-  pub decides_on : (move : Move) (r : Reply) (found : List Capability) → OnlyLooks setup t c a.call move
-      → Lands setup (core_at (cores c) ((cores c).own.made + calls_counted r) (next_at a found (Decided r None Nothing))) (word_of move)
-      → holds_counts (done_by r None) a.counts ≡ holds_in (Some a)
+  pub decides_with : (move : Move) (r : Reply) (tail : Tail) (found : List Capability) → OnlyLooks setup t c a.call move
+      → Lands setup (core_at (cores c) ((cores c).own.made + calls_counted r) (next_at a found (Decided r None tail))) (word_of move)
+      → holds_at (Decided r None tail) a.counts ≡ holds_in (Some a)
       → phase_at a.call a.stage ≡ Open a.call → state_by (state_after setup t) c a.call r ≡ counted (state_after setup t) c
       → calls_counted r ≡ 1
       → ((x : Thing) → begins (state_after setup t) c a.call r x ≡ false) → ((x : Thing) → ends a.call r x ≡ false)
       → flushes a.call r ≡ false
       → MayReply (state_after setup t) c a.call r → IsJustified setup t (inner move (Some r) None) a.call r
       → (IsAlone t (inner move (Some r) None) → r ≡ alone (state_after setup t) c a.call)
+      → KnowsTail setup (inner move (Some r) None ∷ t) c a.call tail
       → IsGood setup cores t (inner move (Some r) None) (core_at (cores c) ((cores c).own.made + calls_counted r)
-      (next_at a found (Decided r None Nothing)))
-  decides_on move r found looks lands same opens state one none_begins none_ends no_flush permitted justified first =
+      (next_at a found (Decided r None tail)))
+  decides_with move r tail found looks lands same opens state one none_begins none_ends no_flush permitted justified first knows =
       let e : Step = inner move (Some r) None in
-      let after : Core = core_at (cores c) ((cores c).own.made + calls_counted r) (next_at a found (Decided r None Nothing)) in
-      let still = still_holds move (Some r) None ((cores c).own.made + calls_counted r) found (Decided r None Nothing) same in
+      let after : Core = core_at (cores c) ((cores c).own.made + calls_counted r) (next_at a found (Decided r None tail)) in
+      let still = still_holds move (Some r) None ((cores c).own.made + calls_counted r) found (Decided r None tail) same in
       let is_open : phase t c ≡ Open a.call = call_is.phase ∙ opens in
       let now : state_after setup (e ∷ t) ≡ counted (state_after setup t) c = ap (λ p. state_decided_in p r (state_after setup t) c)
       is_open ∙ state in
@@ -271,6 +275,7 @@ module _ (setup : Setting) (setting : IsSetting setup) (cores : ℕ → Core) (t
         disciplined = inner_disciplined move (Some r) None looks.of_call
             (marks_own setup cores t e after (λ w there. ap (λ h. h.marks w) still) stands.marks marks) (λ d m other. looks.kept);
         near = inner_near move (Some r) None looks.of_call;
+        blanks = spares_kept setup t e looks.kept;
         marks = marks;
         words = load_words setup cores t e after still calm.frame looks.kept
             (λ v. calm_words setup t e calm plain v (λ g i h. ap (λ s. s.place g i) now)
@@ -283,9 +288,10 @@ module _ (setup : Setting) (setting : IsSetting setup) (cores : ℕ → Core) (t
             (state_after setup (e ∷ t)) c calm in omega arith);
         time = plain_time setup t e plain;
         leaves = tt;
-        own = inner_own move (Some r) None refl plain ((cores c).own.made + calls_counted r) found (Decided r None Nothing) lands.fits
+        own = inner_own move (Some r) None refl (plain_begins setup t e plain) ((cores c).own.made + calls_counted r) found
+            (Decided r None tail) lands.fits
             (inner_works move (Some r) None ((cores c).own.made + calls_counted r) calm (counts now))
-            (ap (after_decide (Some r)) opens) tt;
+            (ap (after_decide (Some r)) opens) knows;
       }
     where
       counts : state_after setup (inner move (Some r) None ∷ t) ≡ counted (state_after setup t) c
@@ -298,3 +304,18 @@ module _ (setup : Setting) (setting : IsSetting setup) (cores : ℕ → Core) (t
           ap (λ j. j.counted) (put_same (state_after setup t).core c
           (record ((state_after setup t).core c) { counted = ((state_after setup t).core c).counted + 1 }) c refl) in
           omega arith
+
+  -- It has nothing to store.
+  pub decides_on : (move : Move) (r : Reply) (found : List Capability) → OnlyLooks setup t c a.call move
+      → Lands setup (core_at (cores c) ((cores c).own.made + calls_counted r) (next_at a found (Decided r None Nothing))) (word_of move)
+      → holds_counts (done_by r None) a.counts ≡ holds_in (Some a)
+      → phase_at a.call a.stage ≡ Open a.call → state_by (state_after setup t) c a.call r ≡ counted (state_after setup t) c
+      → calls_counted r ≡ 1
+      → ((x : Thing) → begins (state_after setup t) c a.call r x ≡ false) → ((x : Thing) → ends a.call r x ≡ false)
+      → flushes a.call r ≡ false
+      → MayReply (state_after setup t) c a.call r → IsJustified setup t (inner move (Some r) None) a.call r
+      → (IsAlone t (inner move (Some r) None) → r ≡ alone (state_after setup t) c a.call)
+      → IsGood setup cores t (inner move (Some r) None) (core_at (cores c) ((cores c).own.made + calls_counted r)
+      (next_at a found (Decided r None Nothing)))
+  decides_on move r found looks lands same opens state one none_begins none_ends no_flush permitted justified first =
+      decides_with move r Nothing found looks lands same opens state one none_begins none_ends no_flush permitted justified first tt

@@ -1,10 +1,11 @@
 -- The refusals of a call at a load: each leaves all as it was, but counts the call.
-use Rattle.std.proofs.Common.{◌≡◌, ℕ, ◌+◌, ◌<◌, Option, false, Some, None, arith, refl, sym, ◌∙◌, ap}
+use Rattle.call_acts.specs.declared.work.Tail.{Tail}
+use Rattle.std.proofs.Common.{◌≡◌, ℕ, ◌+◌, ◌<◌, Option, false, Some, None, arith, refl, sym, ◌∙◌, ap, ◌∷◌}
 use Rattle.std.proofs.lemmas.Bool.{false≢true, lt-leb}
 use Rattle.supported_calls.specs.Built.{IsBuilt}
 use Rattle.spk_nums.specs.Setting.{Setting, IsSetting}
 use Rattle.spk_nums.specs.declared.calls.Call.{Call}
-use Rattle.spk_nums.specs.declared.calls.Call.TheVariants.{Look, Copy, Remove, Shrink, Unmap, Retype}
+use Rattle.spk_nums.specs.declared.calls.Call.TheVariants.{Look, Copy, Remove, Shrink, Unmap, Retype, Make}
 use Rattle.spk_nums.specs.declared.replies.Reply.{Reply}
 use Rattle.spk_nums.specs.declared.replies.Reply.TheVariants as reply
 use Rattle.word_map.specs.Moves.{Move, word_of}
@@ -26,11 +27,11 @@ use Rattle.call_steps.specs.Steps.{Took}
 use Rattle.call_steps.specs.Cores.{core_after, told_by}
 use Rattle.kernel_history.specs.Marking.{marked_by}
 use Rattle.core_invariant.specs.Holding.{holds_counts}
-use Rattle.core_invariant.specs.Knows.{phase_at, CoreIs}
-use Rattle.core_invariant.specs.Stands.{holds_in, held_by, Stands}
+use Rattle.core_invariant.specs.Knows.{phase_at, CoreIs, KnowsTail}
+use Rattle.core_invariant.specs.Stands.{holds_in, held_by, Stands, holds_tail}
 use Rattle.core_invariant.specs.Events.{decided_in, returned_in}
 use Rattle.core_invariant.proofs.Good.{IsGood}
-use Rattle.core_invariant.proofs.Loads.{Lands, OnlyLooks, step_to, next_at, core_at, core_is, call_is, is_active, inner, decides_on}
+use Rattle.core_invariant.proofs.Loads.{Lands, OnlyLooks, step_to, next_at, core_at, core_is, call_is, is_active, inner, decides_on, decides_with}
 use Rattle.core_invariant.proofs.Sounds.{limits_of}
 use Rattle.core_invariant.proofs.Markers.{marker_inside}
 
@@ -56,6 +57,7 @@ built_owes s c (Remove u b) built = refl
 built_owes s c (Shrink u i) built = refl
 built_owes s c (Unmap p v) built = refl
 built_owes s c (Retype r f k) built = refl
+built_owes s c (Make what r f u b) built = refl
 built_owes s c _ built = absurd built
 
 -- The calls of a core are not spent where it may count one more.
@@ -129,13 +131,6 @@ module _ (setup : Setting) (setting : IsSetting setup) (cores : ℕ → Core) (t
       (λ x. refl) (λ x. refl) refl (unspent, may) tt
       (first_of reply.Occupied first)
 
-  pub refuses_out_of_range : RuleMay (state_after setup t) c (rule_of (state_after setup t) c a.call) reply.OutOfRange
-      → IsFirstCause reply.OutOfRange → RefusedWith reply.OutOfRange
-  refuses_out_of_range may first lands =
-      decides_on setup setting cores t stands c here a active move reply.OutOfRange a.found looks lands (still None refl) opens refl refl
-      (λ x. refl) (λ x. refl) refl (unspent, may) tt
-      (first_of reply.OutOfRange first)
-
   pub refuses_frame_kind : RuleMay (state_after setup t) c (rule_of (state_after setup t) c a.call) reply.FrameKind
       → IsFirstCause reply.FrameKind → RefusedWith reply.FrameKind
   refuses_frame_kind may first lands =
@@ -168,6 +163,53 @@ module _ (setup : Setting) (setting : IsSetting setup) (cores : ℕ → Core) (t
       blocked = record {
         marked = mark;
         other = λ own. false≢true (sym (ap (λ h. h.marks (word_of move)) (ap (λ (e : ℕ). held_by cores e) own ∙ ap holds_in active ∙ held)
+            ∙ bare) ∙ (stands.marks (word_of move) d).owned mark);
+        is_inside = marker_inside setup cores t stands (word_of move) d mark;
+        has_marked = stands.marked (word_of move) d mark;
+        on_way = on_way;
+      }
+
+-- Refusals that leave something to be stored.
+module _ (setup : Setting) (setting : IsSetting setup) (cores : ℕ → Core) (t : Trace) (stands : Stands setup cores t) (c : ℕ)
+    (here : c < setup.cores)
+    (a : ActiveCall) (active : (cores c).active ≡ Some a) (opens : phase_at a.call a.stage ≡ Open a.call) (tail : Tail)
+    (same : holds_tail tail (holds_counts None a.counts) ≡ holds_in (Some a))
+    (left : (e : Step) → KnowsTail setup (e ∷ t) c a.call tail)
+    (room : (cores c).own.made < (cores c).own.limit) (move : Move) (looks : OnlyLooks setup t c a.call move) where
+  unspent_here : are_calls_spent (state_after setup t) c ≡ false
+  unspent_here = not_spent setup (cores c) t c (core_is setup setting cores t stands c here a active) room
+
+  abbrev pub RefusedLeaving : Reply → Type 0
+  RefusedLeaving r = Lands setup (core_at (cores c) ((cores c).own.made + calls_counted r) (next_at a a.found (Decided r None tail)))
+      (word_of move)
+      → IsGood setup cores t (inner setup setting cores t stands c here a active move (Some r) None)
+      (core_at (cores c) ((cores c).own.made + calls_counted r) (next_at a a.found (Decided r None tail)))
+
+  pub raced_leaving : IsRaceLost t (inner setup setting cores t stands c here a active move (Some reply.Raced) None) (state_after setup t)
+      (rule_of (state_after setup t) c a.call) → RefusedLeaving reply.Raced
+  raced_leaving lost lands =
+      decides_with setup setting cores t stands c here a active move reply.Raced tail a.found looks lands same opens
+      (ap (λ s. counted s c) (built_owes (state_after setup t) c a.call (is_active setup setting cores t stands c here a active).built))
+      refl (λ x. refl) (λ x. refl) refl (unspent_here, tt) lost
+      (λ is_alone. absurd (not_changed setup t (inner setup setting cores t stands c here a active move (Some reply.Raced) None) refl
+      is_alone lost.own lost.has_read lost.changed))
+      (left (inner setup setting cores t stands c here a active move (Some reply.Raced) None))
+
+  pub busy_leaving : (d : ℕ) → (holds_in (Some a)).marks (word_of move) ≡ false → marked_by setup t (word_of move) ≡ Some d
+      → IsOnWay (state_after setup t) c (rule_of (state_after setup t) c a.call) (word_of move) → RefusedLeaving (reply.Busy d)
+  busy_leaving d bare mark on_way lands =
+      decides_with setup setting cores t stands c here a active move (reply.Busy d) tail a.found looks lands same opens
+      (ap (λ s. counted s c) (built_owes (state_after setup t) c a.call (is_active setup setting cores t stands c here a active).built))
+      refl (λ x. refl) (λ x. refl) refl (unspent_here, tt) blocked
+      (λ is_alone. absurd (not_inside setup t (inner setup setting cores t stands c here a active move (Some (reply.Busy d)) None) refl
+      is_alone d blocked.other blocked.is_inside))
+      (left (inner setup setting cores t stands c here a active move (Some (reply.Busy d)) None))
+    where
+      blocked : IsHeldUp setup t (inner setup setting cores t stands c here a active move (Some (reply.Busy d)) None)
+          (state_after setup t) (rule_of (state_after setup t) c a.call) d
+      blocked = record {
+        marked = mark;
+        other = λ own. false≢true (sym (ap (λ h. h.marks (word_of move)) (ap (λ (e : ℕ). held_by cores e) own ∙ ap holds_in active)
             ∙ bare) ∙ (stands.marks (word_of move) d).owned mark);
         is_inside = marker_inside setup cores t stands (word_of move) d mark;
         has_marked = stands.marked (word_of move) d mark;

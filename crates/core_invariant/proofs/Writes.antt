@@ -1,5 +1,6 @@
 -- The ways in which a core makes a step that writes its word: a decided call writes an entry; a call enters or leaves, and the
 -- core's own word is stored.
+use Rattle.kernel_history.proofs.Carries.{Carries, carries_own}
 use Rattle.std.proofs.Common.{◌≡◌, ◌≢◌, ℕ, zero, suc, ◌+◌, ◌*◌, ◌^◌, ◌<◌, ◌≤◌, Bool, true, false, if◌then◌else◌, List, [], ◌∷◌, Option, Some, None, arith, refl, sym, ◌∙◌, ap, subst, inl, inr}
 use Rattle.std.proofs.lemmas.Bool.{cases_eq, eq-eqb}
 use Rattle.spk_nums.specs.Bounds.{bound_of}
@@ -10,7 +11,7 @@ use Rattle.spk_nums.specs.declared.calls.Call.{Call}
 use Rattle.spk_nums.specs.declared.replies.Reply.{Reply}
 use Rattle.frame_words.specs.Core.{core_of_word}
 use Rattle.frame_words.proofs.CoreLemmas.{spelling}
-use Rattle.word_map.specs.Word.{Word, EntryAt, CountAt, CoreAt, same_word}
+use Rattle.word_map.specs.Word.{Word, EntryAt, CountAt, CoreAt, same_word, FlushAt, ClockAt}
 use Rattle.word_map.specs.Moves.{Move, StoreOf, word_of, left_of}
 use Rattle.kernel_rules.specs.State.{put}
 use Rattle.kernel_rules.specs.References.{sum_below}
@@ -19,7 +20,7 @@ use Rattle.kernel_rules.specs.Alone.{alone}
 use Rattle.kernel_rules.proofs.Within.{put_same}
 use Rattle.kernel_history.specs.Trace.{Step, Trace, Out, Open, Decided, phase, after_decide, state_after, last_left, steps_in_call}
 use Rattle.kernel_history.specs.Alone.{IsAlone, IsFirst}
-use Rattle.kernel_history.specs.Legal.{MayDecide}
+use Rattle.kernel_history.specs.Legal.{MayDecide, MayFollow}
 use Rattle.kernel_history.specs.Marks.{mark_of}
 use Rattle.kernel_history.specs.Stamps.{clock, exit_of}
 use Rattle.kernel_history.specs.Graces.{IsLeave}
@@ -42,8 +43,8 @@ use Rattle.core_invariant.specs.Holding.{nothing, count_of, holds_counts, settle
 use Rattle.stage_pins.specs.declared.held.Acquired.{Acquired}
 use Rattle.call_steps.specs.Fits.{CountsAt}
 use Rattle.std.proofs.lemmas.List.Elements.{All-nil}
-use Rattle.core_invariant.proofs.Good.{IsGood}
-use Rattle.core_invariant.proofs.Calm.{IsCalm, calm_returned, calm_own, calm_words, counted_rises, IsPlain, plain_time, plain_exit, plain_flushed}
+use Rattle.core_invariant.proofs.Good.{IsGood, SparesBlanks, spares_other}
+use Rattle.core_invariant.proofs.Calm.{IsCalm, calm_returned, calm_own, calm_words, counted_rises, IsPlain, plain_time, plain_exit, plain_flushed, BeginsNone, plain_begins, none_time, calm_same}
 use Rattle.core_invariant.proofs.Loads.{Lands, IsOfCall, step_to, next_at, core_at, some_left, core_is, call_is, in_call, inner, inner_within, inner_disciplined, inner_near, inner_works, inner_own, is_active}
 
 -- The clock fits a stamp: each stamp was drawn by a call that was counted.
@@ -102,37 +103,35 @@ same_marks fate fate' (x ∷ xs) w = ap (λ b. if same_word w (count_of x) then 
 
 module _ (setup : Setting) (setting : IsSetting setup) (cores : ℕ → Core) (t : Trace) (stands : Stands setup cores t) (c : ℕ)
     (here : c < setup.cores) where
-  -- A decision that writes a word, which carried no mark and carries none. The counts that the call has acquired stand for what it
-  -- will commit. The step may change the state in any part, so long as what is said of each other word holds of it.
+  -- A decision that writes a word, which carried no mark and carries none. The words that the call holds it holds still, and each stands
+  -- for what the call will store there. The step may change the state in any part, so long as what is said of each other word holds of it.
   module _ (a : ActiveCall) (active : (cores c).active ≡ Some a) where
-    pub writes_on : (move : Move) (made : ℕ) (r : Reply) (found : List Capability) (stage : Stage)
+    pub decides_writing : (move : Move) (made : ℕ) (r : Reply) (found : List Capability) (stage : Stage)
         → marked_by setup t (word_of move) ≡ None
         → mark_of (state_after setup t) (word_of move) (left_of move (last_left setup t (word_of move))) ≡ None
         → left_of move (last_left setup t (word_of move)) < 2 ^ 64 → IsOfCall setup t c a.call move
         → Lands setup (core_at (cores c) made (next_at a found stage)) (word_of move)
         → phase_at a.call a.stage ≡ Open a.call → phase_at a.call stage ≡ Decided a.call r
-        → holds_at stage a.counts ≡ holds_counts (is_done stage) a.counts
+        → ((w : Word) → (holds_at stage a.counts).marks w ≡ (holds_in (Some a)).marks w)
         → (let e : Step = inner setup setting cores t stands c here a active move (Some r) None in
-        ReadsAlike setup t e → IsPlain setup t e
+        ReadsAlike setup t e → BeginsNone setup t e → SparesBlanks setup t e
         → counted_in setup (state_after setup t) ≤ counted_in setup (state_after setup (e ∷ t))
         → WorksIn (record (cores c).own { made = made }) (state_after setup (e ∷ t)) c
         → ((w : Word) → w ≢ word_of move → marked_by setup t w ≢ Some c → StaysSaid setup cores t e w)
         → WordIs (state_after setup (e ∷ t)) (times_of setup (e ∷ t)) (word_of move) (left_of move (last_left setup t (word_of move)))
-        → holds_in (Some a) ≡ holds_counts None a.counts
         → ((w : Word) → marked_by setup t w ≡ Some c
-        → WordIs (state_after setup (e ∷ t)) (times_of setup (e ∷ t)) w ((holds_counts (is_done stage) a.counts).stands w))
+        → WordIs (state_after setup (e ∷ t)) (times_of setup (e ∷ t)) w ((holds_at stage a.counts).stands w))
         → ((f : ℕ) → SumIs setup (held_by (put cores c (core_at (cores c) made (next_at a found stage)))) (e ∷ t) f)
         → MayDecide setup t e (Some r) (phase t c)
         → (IsAlone t e → r ≡ alone (state_after setup t) c a.call)
         → Knows setup (e ∷ t) c (cores c).own.table (next_at a found stage)
         → IsGood setup cores t e (core_at (cores c) made (next_at a found stage)))
-    writes_on move made r found stage was now small of_call lands opens closes bare_stage alike plain rises works same new held commits
-        sums may first knows =
+    decides_writing move made r found stage was now small of_call lands opens closes same_held alike plain blanks rises works same new
+        commits sums may first knows =
         let e : Step = inner setup setting cores t stands c here a active move (Some r) None in
         let after : Core = core_at (cores c) made (next_at a found stage) in
         let still : (w : Word) → (holds after).marks w ≡ (holds (cores c)).marks w =
-        λ w. ap (λ h. h.marks w) bare_stage ∙ same_marks (is_done stage) None a.counts w ∙ sym
-        (ap (λ h. h.marks w) (ap holds_in active ∙ held)) in
+        λ w. same_held w ∙ ap (λ o. (holds_in o).marks w) (sym active) in
         let marks = carry_marks setup cores t e after still alike was now stands.marks in
         record {
           follows = record {
@@ -153,17 +152,47 @@ module _ (setup : Setting) (setting : IsSetting setup) (cores : ℕ → Core) (t
               (marks_own setup cores t e after (λ w there. still w) stands.marks marks)
               (λ d m other. absurd (none_some d (sym was ∙ m)));
           near = inner_near setup setting cores t stands c here a active move (Some r) None of_call;
+          blanks = blanks;
           marks = marks;
-          words = carry_words setup cores t e after still alike was now same new
-              (λ w own. subst (λ h. WordIs (state_after setup (e ∷ t)) (times_of setup (e ∷ t)) w (h.stands w)) (sym bare_stage)
-              (commits w own)) stands.words;
+          words = carry_words setup cores t e after still alike was now same new commits stands.words;
           sums = sums;
           draws = (let d = stands.draws in let b = plain.same in let g = rises in omega arith);
-          time = plain_time setup t e plain;
+          time = none_time setup t e plain;
           leaves = tt;
           own = inner_own setup setting cores t stands c here a active move (Some r) None refl plain made found stage lands.fits works
               (ap (after_decide (Some r)) opens ∙ sym closes) knows;
         }
+
+    -- The call holds its counts, and nothing else.
+    pub writes_on : (move : Move) (made : ℕ) (r : Reply) (found : List Capability) (stage : Stage)
+        → marked_by setup t (word_of move) ≡ None
+        → mark_of (state_after setup t) (word_of move) (left_of move (last_left setup t (word_of move))) ≡ None
+        → left_of move (last_left setup t (word_of move)) < 2 ^ 64 → IsOfCall setup t c a.call move
+        → Lands setup (core_at (cores c) made (next_at a found stage)) (word_of move)
+        → phase_at a.call a.stage ≡ Open a.call → phase_at a.call stage ≡ Decided a.call r
+        → holds_at stage a.counts ≡ holds_counts (is_done stage) a.counts
+        → (let e : Step = inner setup setting cores t stands c here a active move (Some r) None in
+        ReadsAlike setup t e → BeginsNone setup t e → SparesBlanks setup t e
+        → counted_in setup (state_after setup t) ≤ counted_in setup (state_after setup (e ∷ t))
+        → WorksIn (record (cores c).own { made = made }) (state_after setup (e ∷ t)) c
+        → ((w : Word) → w ≢ word_of move → marked_by setup t w ≢ Some c → StaysSaid setup cores t e w)
+        → WordIs (state_after setup (e ∷ t)) (times_of setup (e ∷ t)) (word_of move) (left_of move (last_left setup t (word_of move)))
+        → holds_in (Some a) ≡ holds_counts None a.counts
+        → ((w : Word) → marked_by setup t w ≡ Some c
+        → WordIs (state_after setup (e ∷ t)) (times_of setup (e ∷ t)) w ((holds_counts (is_done stage) a.counts).stands w))
+        → ((f : ℕ) → SumIs setup (held_by (put cores c (core_at (cores c) made (next_at a found stage)))) (e ∷ t) f)
+        → MayDecide setup t e (Some r) (phase t c)
+        → (IsAlone t e → r ≡ alone (state_after setup t) c a.call)
+        → Knows setup (e ∷ t) c (cores c).own.table (next_at a found stage)
+        → IsGood setup cores t e (core_at (cores c) made (next_at a found stage)))
+    writes_on move made r found stage was now small of_call lands opens closes bare_stage alike plain blanks rises works same new held
+        commits sums may first knows =
+        let e : Step = inner setup setting cores t stands c here a active move (Some r) None in
+        decides_writing move made r found stage was now small of_call lands opens closes
+        (λ w. ap (λ h. h.marks w) bare_stage ∙ same_marks (is_done stage) None a.counts w ∙ sym (ap (λ h. h.marks w) held))
+        alike plain blanks rises works same new
+        (λ w own. subst (λ h. WordIs (state_after setup (e ∷ t)) (times_of setup (e ∷ t)) w (h.stands w)) (sym bare_stage) (commits w own))
+        sums may first knows
 
     -- It writes an entry, and changes the place alone.
     pub writes_entry : (move : Move) (node index made : ℕ) (r : Reply) (found : List Capability) (stage : Stage)
@@ -175,7 +204,7 @@ module _ (setup : Setting) (setting : IsSetting setup) (cores : ℕ → Core) (t
         → phase_at a.call a.stage ≡ Open a.call → phase_at a.call stage ≡ Decided a.call r
         → holds_at stage a.counts ≡ holds_counts (is_done stage) a.counts
         → (let e : Step = inner setup setting cores t stands c here a active move (Some r) None in
-        IsCalm (state_after setup t) (state_after setup (e ∷ t)) c → IsPlain setup t e
+        IsCalm (state_after setup t) (state_after setup (e ∷ t)) c → IsPlain setup t e → SparesBlanks setup t e
         → made ≡ ((state_after setup (e ∷ t)).core c).counted
         → ((g i : ℕ) → EntryAt g i ≢ EntryAt node index → (state_after setup (e ∷ t)).place g i ≡ (state_after setup t).place g i)
         → WordIs (state_after setup (e ∷ t)) (times_of setup (e ∷ t)) (EntryAt node index)
@@ -188,19 +217,88 @@ module _ (setup : Setting) (setting : IsSetting setup) (cores : ℕ → Core) (t
         → (IsAlone t e → r ≡ alone (state_after setup t) c a.call)
         → Knows setup (e ∷ t) c (cores c).own.table (next_at a found stage)
         → IsGood setup cores t e (core_at (cores c) made (next_at a found stage)))
-    writes_entry move node index made r found stage at was now small of_call lands opens closes bare_stage calm plain counts places new
+    writes_entry move node index made r found stage at was now small of_call lands opens closes bare_stage calm plain blanks counts places
+        new
         held commits sums may first knows =
         let e : Step = inner setup setting cores t stands c here a active move (Some r) None in
         writes_on move made r found stage (ap (marked_by setup t) at ∙ was)
         (ap (λ w. mark_of (state_after setup t) w (left_of move (last_left setup t w))) at ∙ now)
         (subst (λ w. left_of move (last_left setup t w) < 2 ^ 64) (sym at) small) of_call lands opens closes bare_stage
-        (reads_alike setup t e calm.frame) plain (counted_rises setup (state_after setup t) (state_after setup (e ∷ t)) c calm)
+        (reads_alike setup t e calm.frame) (plain_begins setup t e plain) blanks (counted_rises setup (state_after setup t)
+        (state_after setup (e ∷ t)) c calm)
         (inner_works setup setting cores t stands c here a active move (Some r) None made calm counts)
         (λ v there free. word_stays (state_after setup t) (state_after setup (e ∷ t)) (times_of setup t) (times_of setup (e ∷ t)) v
         (settled setup (held_by cores) t v) (calm_words setup t e calm plain v (λ g i h. places g i (λ q. there (h ∙ q ∙ sym at)))
         (λ d h. (decided-inside (Some r) (phase t c) (state_after setup t) c d, plain_exit t e refl d))))
         (subst (λ w. WordIs (state_after setup (e ∷ t)) (times_of setup (e ∷ t)) w (left_of move (last_left setup t w))) (sym at) new)
         held commits sums may first knows
+
+    -- An undecided call stores a word of which nothing is said, and which carries no mark.
+    pub stores_on : (move : Move) (found : List Capability) (stage : Stage)
+        → marked_by setup t (word_of move) ≡ None
+        → mark_of (state_after setup t) (word_of move) (left_of move (last_left setup t (word_of move))) ≡ None
+        → left_of move (last_left setup t (word_of move)) < 2 ^ 64 → IsOfCall setup t c a.call move
+        → ((b : ℕ) → same_word (FlushAt b) (word_of move) ≡ false) → ClockAt ≢ word_of move
+        → ((f b : ℕ) → CountAt f b ≢ word_of move)
+        → Lands setup (core_at (cores c) (cores c).own.made (next_at a found stage)) (word_of move)
+        → holds_at stage a.counts ≡ holds_in (Some a)
+        → phase_at a.call a.stage ≡ phase_at a.call stage
+        → (let e : Step = inner setup setting cores t stands c here a active move None None in
+        WordIs (state_after setup t) (times_of setup t) (word_of move) (left_of move (last_left setup t (word_of move)))
+        → SparesBlanks setup t e
+        → (Carries setup t e c → Knows setup (e ∷ t) c (cores c).own.table (next_at a found stage))
+        → IsGood setup cores t e (core_at (cores c) (cores c).own.made (next_at a found stage)))
+    stores_on move found stage was now small of_call flushes not_clock no_count lands same at new blanks knows =
+        let e : Step = inner setup setting cores t stands c here a active move None None in
+        let after : Core = core_at (cores c) (cores c).own.made (next_at a found stage) in
+        let still : holds after ≡ holds (cores c) = same ∙ ap holds_in (sym active) in
+        let plain : IsPlain setup t e = record {
+          begins = λ x. refl;
+          ends = λ x. refl;
+          flushes = refl;
+          apart = flushes;
+          same = last_left-there setup ClockAt e t not_clock;
+        } in
+        let follows : MayFollow setup t e = record {
+          is_core = here;
+          is_in = lands.is_in;
+          is_named = lands.is_named;
+          found = refl;
+          small = small;
+          enters = tt;
+          in_call = in_call setup setting cores t stands c here a active;
+          decides = tt;
+          returns = tt;
+        } in
+        let marks = write_marks setup cores t e after still (λ g. refl) was now stands.marks in
+        record {
+          follows = follows;
+          within = inner_within setup setting cores t stands c here a active move None None;
+          alone = λ is_alone. tt;
+          disciplined = inner_disciplined setup setting cores t stands c here a active move None None of_call
+              (marks_own setup cores t e after (λ w there. ap (λ h. h.marks w) still) stands.marks marks)
+              (λ d m other. absurd (none_some d (sym was ∙ m)));
+          near = inner_near setup setting cores t stands c here a active move None None of_call;
+          blanks = blanks;
+          marks = marks;
+          words = write_words setup cores t e after still (λ g. refl) was now
+              (λ v there. calm_words setup t e (calm_same (state_after setup t) c) plain v (λ g i h. refl)
+              (λ d h. (refl, plain_exit t e refl d)))
+              (word_stays (state_after setup t) (state_after setup (e ∷ t)) (times_of setup t) (times_of setup (e ∷ t)) (word_of move)
+              (left_of move (last_left setup t (word_of move)))
+              (calm_words setup t e (calm_same (state_after setup t) c) plain (word_of move) (λ g i h. refl)
+              (λ d h. (refl, plain_exit t e refl d))) new) stands.words;
+          sums = sums_stay setup t e (held_by cores) (held_by (put cores c after))
+              (λ f d. settled_on setup cores t e after still (λ g. refl) (CountAt f d)
+              (last_left-there setup (CountAt f d) e t (no_count f d)))
+              (calm_same (state_after setup t) c) plain (λ g i. refl) stands.sums;
+          draws = (let d = stands.draws in let b = plain.same in omega arith);
+          time = plain_time setup t e plain;
+          leaves = tt;
+          own = inner_own setup setting cores t stands c here a active move None None refl (plain_begins setup t e plain)
+              (cores c).own.made found stage lands.fits (core_is setup setting cores t stands c here a active).works at
+              (knows (carries_own setup setting t stands.legal e follows (plain_time setup t e plain) stands.graces refl refl refl));
+        }
 
     -- The call returns: the core's word says that it is outside, with the clock that it has loaded.
     pub leaves_on : (r : Reply) (x : ℕ) → a.stage ≡ Leave r x
@@ -243,6 +341,7 @@ module _ (setup : Setting) (setting : IsSetting setup) (cores : ℕ → Core) (t
               (marks_own setup cores t e after (λ w there. ap (λ h. h.marks w) still) stands.marks marks)
               (λ d m other. absurd (none_some d m));
           near = inner_near setup setting cores t stands c here a active (StoreOf (CoreAt c) (core_word false x)) None (Some r) own_word;
+          blanks = spares_other setup t e (λ f i h. cc);
           marks = marks;
           words = write_words setup cores t e after still calm.frame refl refl
               (λ v there. calm_words setup t e calm plain v (λ g i h. refl)
@@ -336,6 +435,7 @@ module _ (setup : Setting) (setting : IsSetting setup) (cores : ℕ → Core) (t
           keeps = λ b m other. absurd (none_some b m);
         };
         near = record { call = call; is_of = refl; near = inl tt };
+        blanks = spares_other setup t e (λ f i h. cc);
         marks = marks;
         words = write_words setup cores t e after still calm.frame refl refl
             (λ v there. calm_words setup t e calm plain v (λ g i h. places g i)

@@ -1,15 +1,22 @@
 -- What a call knows where it stands, said of the state; and what a core is after a trace.
-use Rattle.std.specs.Prelude.{◌≡◌, ◌≢◌, ◌<◌, ◌≤◌, ◌++◌, ◌/◌, ℕ, ℤ, Bool, true, false, map, All, List, [], ◌∷◌, length, Option, Some, None, IsSome, IsTrue, not}
+use Rattle.kernel_history.specs.Marks.{frame_mark}
+use Rattle.spk_nums.specs.declared.kinds.Obj.TheVariants.{Blank}
+use Rattle.call_acts.specs.Makings.{node_cap, node_made, is_marked}
+use Rattle.call_acts.specs.declared.makings.MakingAt.TheVariants.{Load as making_load, Mark, Store, Fill as making_fill}
+use Rattle.call_acts.specs.declared.makings.MakingAt.{MakingAt}
+use Rattle.call_acts.specs.declared.makings.Making.{Making}
+use Rattle.call_acts.specs.declared.makings.Node.{Node}
+use Rattle.std.specs.Prelude.{◌≡◌, ◌≢◌, ◌<◌, ◌≤◌, ◌++◌, ◌/◌, ℕ, ℤ, Bool, true, false, map, All, List, [], ◌∷◌, length, Option, Some, None, IsSome, IsTrue, not, ◌^◌}
 use Rattle.spk_nums.specs.Capability.{Capability}
 use Rattle.spk_nums.specs.Setting.{Setting}
 use Rattle.spk_nums.specs.declared.kinds.Kind.{Kind}
 use Rattle.spk_nums.specs.declared.calls.Call.{Call}
-use Rattle.spk_nums.specs.declared.calls.Call.TheVariants.{Retype}
+use Rattle.spk_nums.specs.declared.calls.Call.TheVariants.{Retype, Make as make_call}
 use Rattle.spk_nums.specs.declared.kinds.FrameKind.{FrameKind}
-use Rattle.spk_nums.specs.declared.kinds.FrameKind.TheVariants.{Untyped}
+use Rattle.spk_nums.specs.declared.kinds.FrameKind.TheVariants.{Untyped, Kernel as FrameKernel}
 use Rattle.frame_words.specs.Frame.{frame_of_word}
 use Rattle.frame_words.specs.declared.frame_word.FrameWord.{FrameWord}
-use Rattle.entry_words.specs.EntryWord.{EntryFits, entry_of_word}
+use Rattle.entry_words.specs.EntryWord.{EntryFits, entry_of_word, word_of_entry}
 use Rattle.entry_words.specs.declared.entry.Entry.{Entry}
 use Rattle.entry_words.specs.declared.entry.Entry.TheVariants as entry
 use Rattle.frame_words.specs.Count.{CountFits, word_of_count}
@@ -20,11 +27,11 @@ use Rattle.kernel_rules.specs.Access.{Slot, Named, root_at, Target, Under, InRoo
 use Rattle.kernel_rules.specs.Relies.{Relies}
 use Rattle.kernel_history.specs.Graces.{IsLeave}
 use Rattle.kernel_history.specs.BootWords.{shape_of}
-use Rattle.kernel_history.specs.Trace.{Trace, Phase, Out, Open, phase, state_after, own_left, own_read, steps_in_call, WasAt}
+use Rattle.kernel_history.specs.Trace.{Trace, Phase, Out, Open, phase, state_after, own_left, own_read, steps_in_call, WasAt, last_left}
 use Rattle.kernel_history.specs.Trace as history
 use Rattle.kernel_history.specs.Ways.{root_passed}
-use Rattle.kernel_history.specs.Discipline.{counts_references, changes_places}
-use Rattle.kernel_history.specs.Footprint.{IsNearIn}
+use Rattle.kernel_history.specs.Discipline.{counts_references, changes_places, changes_frames}
+use Rattle.kernel_history.specs.Footprint.{IsNearIn, is_one_of, frame_argument}
 use Rattle.kernel_history.specs.Justified.{HasReached, IsRemoved}
 use Rattle.kernel_history.specs.Stamps.{clock, stamp, exit_of, flush_of, flush_stored}
 use Rattle.stage_look.specs.declared.look.Look.{Look}
@@ -43,12 +50,12 @@ use Rattle.call_acts.specs.declared.typings.TypingAt.TheVariants.{Load, Compare 
 use Rattle.call_acts.specs.Typings.{is_typing}
 use Rattle.kernel_rules.specs.CapabilityCalls.{has_frame}
 use Rattle.call_acts.specs.declared.work.Act.{Act as ActOf}
-use Rattle.call_acts.specs.declared.work.Act.TheVariants.{Fill as fill_act, Remove as remove_act, Retype as type_act}
+use Rattle.call_acts.specs.declared.work.Act.TheVariants.{Fill as fill_act, Remove as remove_act, Retype as type_act, Make as make_act, Outside}
 use Rattle.call_acts.specs.declared.work.Work.{Work}
 use Rattle.call_acts.specs.declared.work.Due.{Due}
 use Rattle.call_acts.specs.declared.work.Work.TheVariants.{Lookup, Scan, Acquire, Act}
 use Rattle.call_acts.specs.declared.work.Tail.{Tail}
-use Rattle.call_acts.specs.declared.work.Tail.TheVariants.{Nothing, Quiesce}
+use Rattle.call_acts.specs.declared.work.Tail.TheVariants.{Nothing, Quiesce, Unmark}
 use Rattle.call_steps.specs.declared.stages.Stage.{Stage}
 use Rattle.call_steps.specs.declared.stages.Stage.TheVariants.{Enter, Undecided, Decided, Leave}
 use Rattle.call_steps.specs.declared.stages.ActiveCall.{ActiveCall}
@@ -157,6 +164,14 @@ MayFill setup t c x upto (Some (entry.Held k)) = ⊥
 MayFill setup t c x upto (Some (entry.Closing by)) = ⊥
 MayFill setup t c x upto (Some (entry.Quiescing at)) = IsScanned setup t c x at upto
 
+-- The slot of a target that is to be free is reached, and the call's last step on its entry has read this word there, which it may fill.
+pub record IsSpot (setup : Setting) (t : Trace) (c : ℕ) (plan : Plan) (ks : List Capability) (upto node index word : ℕ) : Type 0 where
+  pub target : Target
+  pub next : next_of plan ks ≡ NextFree target
+  pub way : IsReached setup t c target (record { node = node; index = index })
+  pub own : own_read t c (EntryAt node index) ≡ Some word
+  pub vacant : MayFill setup t c (PlaceOf node index) upto (entry_of_word word)
+
 -- The slot of the target is reached, and the call's last step on its entry has read this word there, which it may fill; and what is to
 -- be put there is what the call puts.
 pub record IsFill (setup : Setting) (t : Trace) (c : ℕ) (call : Call) (plan : Plan) (found : List Capability) (upto : ℕ) (fill : Fill) :
@@ -220,11 +235,65 @@ pub record KnowsTyping (t : Trace) (c : ℕ) (call : Call) (ks : List Capability
   pub types : TypesBy call ks y
   pub met : HasMetAt t c y.frame y.at
 
+-- The call makes this node in this frame, which the range has to which its first name has led.
+pub record IsMade (f : ℕ) (made : Option Node) (m : Making) (has : Bool) : Type 0 where
+  pub frame : m.frame ≡ f
+  pub node : made ≡ Some m.node
+  pub within : has ≡ true
+
+abbrev pub MakesBy : Call → List Capability → Making → Type 0
+MakesBy (make_call what r f u b) (range ∷ ks) m = IsMade f (node_made what) m (has_frame (found range) f)
+MakesBy call ks m = ⊥
+
+-- Its frame is not in that range.
+pub record IsOutside (made : Option Node) (has : Bool) : Type 0 where
+  pub node : IsSome made
+  pub outside : has ≡ false
+
+abbrev pub OutsideBy : Call → List Capability → Type 0
+OutsideBy (make_call what r f u b) (range ∷ ks) = IsOutside (node_made what) (has_frame (found range) f)
+OutsideBy call ks = ⊥
+
+-- The frame's word as it was found: that of a blank kernel frame which no core has marked.
+abbrev pub blank_word : FrameWord
+blank_word = record { kind = FrameKernel; object = Blank; mark = None }
+
+pub record HasBlank (t : Trace) (c f word : ℕ) : Type 0 where
+  pub own : own_read t c (FrameAt f) ≡ Some word
+  pub says : frame_of_word word ≡ Some blank_word
+
+-- The first entries of the node are stored, and free.
+pub record HasStored (setup : Setting) (t : Trace) (f word upto : ℕ) : Type 0 where
+  pub says : frame_of_word word ≡ Some blank_word
+  pub free : (i : ℕ) → i < upto → last_left setup t (EntryAt f i) ≡ word_of_entry entry.Free
+
+abbrev pub KnowsMakingAt : Setting → Trace → ℕ → ℕ → MakingAt → Type 0
+KnowsMakingAt setup t c f making_load = Unit {0}
+KnowsMakingAt setup t c f (Mark word) = HasBlank t c f word
+KnowsMakingAt setup t c f (Store word n) = HasStored setup t f word n
+KnowsMakingAt setup t c f (making_fill word) = HasStored setup t f word 64
+
+pub record KnowsMaking (setup : Setting) (t : Trace) (c : ℕ) (call : Call) (plan : Plan) (ks : List Capability) (upto : ℕ) (m : Making) :
+    Type 0 where
+  pub spot : IsSpot setup t c plan ks upto m.fill.node m.fill.entry m.fill.word
+  pub makes : MakesBy call ks m
+  pub core : m.core ≡ c
+  pub cap : m.fill.cap ≡ node_cap m.node m.frame
+  pub at : KnowsMakingAt setup t c m.frame m.at
+
+pub record KnowsOutside (setup : Setting) (t : Trace) (c : ℕ) (call : Call) (plan : Plan) (ks : List Capability)
+    (upto node index word : ℕ) :
+    Type 0 where
+  pub spot : IsSpot setup t c plan ks upto node index word
+  pub outside : OutsideBy call ks
+
 -- What a call with this plan knows of its act, where its names have led to these and the cores below `upto` were scanned.
 abbrev pub KnowsAct : Setting → Trace → ℕ → Call → Plan → List Capability → ℕ → ActOf → Type 0
 KnowsAct setup t c call plan found upto (fill_act fill) = IsFill setup t c call plan found upto fill
 KnowsAct setup t c call plan found upto (remove_act close cap) = KnowsClose setup t c call plan found close cap
 KnowsAct setup t c call plan found upto (type_act typing) = KnowsTyping t c call found typing
+KnowsAct setup t c call plan found upto (make_act making) = KnowsMaking setup t c call plan found upto making
+KnowsAct setup t c call plan found upto (Outside node entry word) = KnowsOutside setup t c call plan found upto node entry word
 
 -- An act is before its first step.
 abbrev pub is_first_of : Close → Bool
@@ -236,6 +305,18 @@ abbrev pub is_start : ActOf → Bool
 is_start (fill_act fill) = true
 is_start (remove_act close cap) = is_first_of close
 is_start (type_act typing) = not (is_typing typing.at)
+is_start (make_act making) = not (is_marked making.at)
+is_start (Outside node entry word) = true
+
+-- Its counts may be acquired here: no entry is closed yet.
+abbrev pub is_counting : ActOf → Bool
+is_counting (remove_act close cap) = is_first_of close
+is_counting act = true
+
+-- It goes on: it is not out of range.
+abbrev pub goes_on : ActOf → Bool
+goes_on (Outside node entry word) = false
+goes_on act = true
 
 -- What it knows at a scan for the place that it fills: the cores before this one were scanned.
 pub record KnowsScan (setup : Setting) (t : Trace) (c : ℕ) (a : ActiveCall) (at by upto : ℕ) (act : ActOf) : Type 0 where
@@ -278,12 +359,13 @@ pub record KnowsCount (setup : Setting) (t : Trace) (c : ℕ) (a : ActiveCall) (
   pub core : pin_core pin ≡ c
   pub new : (holds_counts None a.counts).marks (CountAt (pin_frame pin) (counter_of c)) ≡ false
   pub loaded : HasLoaded t c pin
-  pub starts : is_start act ≡ true
+  pub starts : is_counting act ≡ true
 
 -- All counts that the act changes are acquired.
 pub record KnowsActing (setup : Setting) (t : Trace) (c : ℕ) (a : ActiveCall) (act : ActOf) : Type 0 where
   pub knows : KnowsAct setup t c a.call a.plan a.found setup.cores act
   pub all : dues act ≡ map due_of a.counts
+  pub goes : goes_on act ≡ true
 
 -- And of its work.
 abbrev pub KnowsWork : Setting → Trace → ℕ → ℕ → ActiveCall → Work → Type 0
@@ -308,10 +390,18 @@ KnowsStore setup t c call (close_compare node index word core) = ⊥
 KnowsStore setup t c call (AtDraw node index) = ⊥
 KnowsStore setup t c call (AtStore node index at) = IsStored setup t c call node index
 
+-- The frame whose word is still to be stored is the call's argument, and the word carries no mark.
+pub record KnowsUnmark (call : Call) (f word : ℕ) : Type 0 where
+  pub changes : changes_frames call ≡ true
+  pub argument : is_one_of f (frame_argument call) ≡ true
+  pub bare : frame_mark (frame_of_word word) ≡ None
+  pub small : word < 2 ^ 64
+
 -- What a call knows that has still this to store.
 abbrev pub KnowsTail : Setting → Trace → ℕ → Call → Tail → Type 0
 KnowsTail setup t c call Nothing = Unit {0}
 KnowsTail setup t c call (Quiesce close) = KnowsStore setup t c call close
+KnowsTail setup t c call (Unmark f word) = KnowsUnmark call f word
 
 -- What a call knows at its stage. One that has made no step is in no trace.
 abbrev pub KnowsAt : Setting → Trace → ℕ → ℕ → ActiveCall → Stage → Type 0

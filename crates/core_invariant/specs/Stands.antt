@@ -1,9 +1,11 @@
 -- When the cores of a machine stand for a trace: what holds between two steps, whatever the calls.
+use Rattle.call_acts.specs.declared.makings.MakingAt.TheVariants.{Load, Mark, Store, Fill as making_fill}
+use Rattle.call_acts.specs.declared.makings.MakingAt.{MakingAt}
 use Rattle.std.specs.Prelude.{◌≡◌, ◌+◌, ◌<◌, ◌≤◌, ℕ, List, [], Option, Some, None}
 use Rattle.spk_nums.specs.Setting.{Setting}
 use Rattle.frame_words.specs.Count.{count_of_word}
 use Rattle.frame_words.specs.declared.count_word.CountWord.{CountWord}
-use Rattle.word_map.specs.Word.{Word, CountAt}
+use Rattle.word_map.specs.Word.{Word, CountAt, FrameAt}
 use Rattle.kernel_rules.specs.State.{Thing, FrameOf, State}
 use Rattle.kernel_rules.specs.References.{sum_below}
 use Rattle.kernel_history.specs.Trace.{Trace, Out, phase, calls_of, state_after}
@@ -22,13 +24,13 @@ use Rattle.spk_nums.specs.declared.replies.Reply.{Reply}
 use Rattle.spk_nums.specs.declared.replies.Reply.TheVariants.{Ok}
 use Rattle.stage_pins.specs.declared.held.Acquired.{Acquired}
 use Rattle.call_acts.specs.declared.work.Act.{Act}
-use Rattle.call_acts.specs.declared.work.Act.TheVariants.{Fill, Remove, Retype}
+use Rattle.call_acts.specs.declared.work.Act.TheVariants.{Fill, Remove, Retype, Make, Outside}
 use Rattle.call_acts.specs.declared.work.Work.{Work}
 use Rattle.call_acts.specs.declared.work.Work.TheVariants.{Lookup, Scan, Acquire, Act as act_work}
 use Rattle.call_acts.specs.declared.work.Tail.{Tail}
-use Rattle.call_acts.specs.declared.work.Tail.TheVariants.{Nothing, Quiesce}
+use Rattle.call_acts.specs.declared.work.Tail.TheVariants.{Nothing, Quiesce, Unmark}
 use Rattle.call_steps.specs.View.{Core}
-use Rattle.core_invariant.specs.Holding.{Holding, nothing, holds_counts, holds_closed, holds_drawn, settled, MarkIs}
+use Rattle.core_invariant.specs.Holding.{Holding, nothing, holds_counts, holds_closed, holds_drawn, settled, MarkIs, keeps}
 use Rattle.core_invariant.specs.Words.{Times, WordIs, CountsAre}
 use Rattle.core_invariant.specs.Knows.{CoreIs}
 
@@ -43,20 +45,30 @@ is_done (Undecided work) = None
 is_done (Decided r drawn tail) = done_by r drawn
 is_done (Leave r x) = None
 
--- The entry that a call has closed, at an act and at a tail.
+-- The frame in which a call makes an object: it is marked, and stands for its word as it was found.
+abbrev pub holds_making : ℕ → MakingAt → Holding → Holding
+holds_making f Load h = h
+holds_making f (Mark word) h = h
+holds_making f (Store word entry) h = keeps (FrameAt f) word h
+holds_making f (making_fill word) h = keeps (FrameAt f) word h
+
+-- The word that a call has marked beside its counts, at an act and at a tail.
 abbrev pub holds_act : Act → Holding → Holding
 holds_act (Fill fill) h = h
 holds_act (Remove close cap) h = holds_closed close cap h
 holds_act (Retype typing) h = h
+holds_act (Make making) h = holds_making making.frame making.at h
+holds_act (Outside node entry word) h = h
 
 abbrev pub holds_tail : Tail → Holding → Holding
 holds_tail Nothing h = h
 holds_tail (Quiesce close) h = holds_drawn close h
+holds_tail (Unmark f word) h = keeps (FrameAt f) word h
 
 abbrev pub holds_work : Work → Holding → Holding
 holds_work (Lookup look) h = h
 holds_work (Scan q act) h = h
-holds_work (Acquire pin change act) h = h
+holds_work (Acquire pin change act) h = holds_act act h
 holds_work (act_work act) h = holds_act act h
 
 abbrev pub holds_stage : Stage → Holding → Holding

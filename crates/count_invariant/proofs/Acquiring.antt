@@ -1,13 +1,18 @@
 -- A step by which a call acquires a count that its act changes is good: the count is held by another core, is lost to another core, or
 -- is acquired; and so is the step by which a decided call commits it.
-use Rattle.std.proofs.Common.{◌≡◌, ◌≢◌, ℕ, suc, ℤ, pos, negsuc, ◌+◌, ◌++◌, ◌==◌, ◌^◌, ◌<◌, ◌||◌, map, slice_get, length, length-append, Bool, true, false, if◌then◌else◌, cond, List, [], ◌∷◌, Option, Some, None, IsTrue, inl, inr, arith, refl, sym, ◌∙◌, ap, subst, lt-ltb}
+use Rattle.entry_words.specs.declared.entry.Entry.TheVariants.{Held}
+use Rattle.entry_words.specs.EntryWord.{word_of_entry}
+use Rattle.call_acts.specs.Makings.{undo_at}
+use Rattle.call_acts.specs.declared.makings.MakingAt.TheVariants.{Load as making_load, Mark, Store, Fill as making_fill}
+use Rattle.call_acts.specs.declared.makings.MakingAt.{MakingAt}
+use Rattle.std.proofs.Common.{◌≡◌, ◌≢◌, ℕ, suc, ℤ, pos, negsuc, ◌+◌, ◌++◌, ◌==◌, ◌^◌, ◌<◌, map, slice_get, length, length-append, Bool, true, false, if◌then◌else◌, cond, List, [], ◌∷◌, Option, Some, None, IsTrue, inl, inr, arith, refl, sym, ◌∙◌, ap, subst, lt-ltb}
 use Rattle.std.specs.Prelude.{All, is_some}
 use Rattle.std.proofs.lemmas.Bool.{false≢true, eq-eqb, eqb-true, eqb-false}
 use Rattle.std.proofs.lemmas.List.Elements.{All-nil, All-cons, All-head, All-tail, All-append}
 use Rattle.spk_nums.specs.Setting.{Setting, IsSetting}
 use Rattle.spk_nums.specs.Capability.{Capability}
 use Rattle.spk_nums.specs.declared.calls.Call.{Call}
-use Rattle.spk_nums.specs.declared.calls.Call.TheVariants.{Look, Copy, Remove, Shrink, Unmap, Retype}
+use Rattle.spk_nums.specs.declared.calls.Call.TheVariants.{Look, Copy, Remove, Shrink, Unmap, Retype, Make as make_call}
 use Rattle.spk_nums.specs.declared.replies.Reply.{Reply}
 use Rattle.spk_nums.specs.declared.replies.Reply.TheVariants as reply
 use Rattle.supported_calls.specs.Built.{IsBuilt}
@@ -17,7 +22,7 @@ use Rattle.frame_words.specs.declared.count_word.Hold.{Hold}
 use Rattle.frame_words.specs.declared.count_word.Hold.TheVariants as hold
 use Rattle.frame_words.proofs.CountLemmas as counts
 use Rattle.spk_nums.specs.WordSteps.{left_if}
-use Rattle.word_map.specs.Word.{Word, EntryAt, CountAt, ClockAt, FrameAt}
+use Rattle.word_map.specs.Word.{Word, EntryAt, CountAt, ClockAt, FrameAt, same_word}
 use Rattle.word_map.specs.Places.{counter_of}
 use Rattle.word_map.specs.Moves.{Move, LoadOf, CompareOf, StoreOf, word_of, left_of}
 use Rattle.kernel_rules.specs.State.{Place, Free as Vacant, Holds, Quiescing as Removed, PlaceOf, State, put}
@@ -34,7 +39,7 @@ use Rattle.stage_quiet.specs.declared.close.Close.{Close}
 use Rattle.stage_quiet.specs.declared.close.Close.TheVariants.{AtCompare as close_compare, AtDraw, AtStore}
 use Rattle.kernel_history.specs.Trace.{Step, Trace, Open, phase, state_after, last_left, own_read}
 use Rattle.kernel_history.proofs.Carries.{was_now}
-use Rattle.kernel_history.proofs.Steps.{own_read-here, own_read-there}
+use Rattle.kernel_history.proofs.Steps.{own_read-here, own_read-there, last_left-there}
 use Rattle.stage_pins.specs.Counts.{unheld, acquired}
 use Rattle.stage_pins.specs.Acquire.{load_end, pinned_at, compare_end, pin_move, pin_end, pin_after, after_load}
 use Rattle.stage_pins.specs.Commit.{settled_word}
@@ -53,33 +58,33 @@ use Rattle.plan_ways.proofs.Ways.{target_is}
 use Rattle.plan_ways.proofs.Near.{one_left, one_right, near_about, near_found}
 use Rattle.call_plans.specs.GoesBy.{GoesBy, own_pages}
 use Rattle.call_plans.proofs.CallsGoBy.{calls_go}
+use Rattle.count_invariant.proofs.MakingCounts.{no_due, made_counts, made_changes, made_argument, made_near, made_due, made_left, due_named}
 use Rattle.look_invariant.proofs.Findings.{found_named}
 use Rattle.call_acts.specs.declared.refusals.Refusal.TheVariants as refusal
 use Rattle.call_acts.specs.declared.work.Due.{Due}
 use Rattle.call_acts.specs.declared.work.Act.{Act as ActOf}
-use Rattle.call_acts.specs.declared.work.Act.TheVariants.{Fill as fill_act, Remove as remove_act, Retype as type_act}
+use Rattle.call_acts.specs.declared.work.Act.TheVariants.{Fill as fill_act, Remove as remove_act, Retype as type_act, Make as make_act, Outside}
 use Rattle.call_acts.specs.declared.work.Tail.TheVariants.{Nothing}
 use Rattle.call_acts.specs.declared.work.Work.TheVariants.{Acquire}
 use Rattle.call_steps.specs.declared.stages.Stage.TheVariants.{Undecided, Decided}
 use Rattle.call_steps.specs.declared.stages.ActiveCall.{ActiveCall}
 use Rattle.call_acts.specs.declared.work.WorkStep.TheVariants.{Goes, Acquires}
-use Rattle.call_acts.specs.WorkSteps.{refuse}
-use Rattle.call_acts.specs.Acts.{dues, acquires, next_work, put_by, removes_by}
+use Rattle.call_acts.specs.Acts.{dues, acquires, next_work, put_by, removes_by, undo}
 use Rattle.call_steps.specs.Fits.{CountsAt, HasRoom}
-use Rattle.call_steps.specs.Steps.{GoesOn, landed, went_with, took_count}
+use Rattle.call_steps.specs.Steps.{GoesOn, landed, went_with, took_count, gives_up}
 use Rattle.call_steps.specs.Tails.{is_ok}
 use Rattle.call_steps.specs.View.{Core}
 use Rattle.call_steps.proofs.StepsFit.{one_due}
-use Rattle.core_invariant.specs.Holding.{Holding, count_of, committed, holds_counts, AreApart, settled_by, settled}
+use Rattle.core_invariant.specs.Holding.{Holding, count_of, committed, holds_counts, AreApart, settled_by, settled, keeps}
 use Rattle.core_invariant.specs.Words.{SaysCount, count_room}
-use Rattle.core_invariant.specs.Knows.{own_in, HasFound, NamesAre, due_of, pin_frame, pin_core, is_start, IsRemoval, KnowsClose, KnowsAct, KnowsWork, KnowsUndecided, IsCount, HasRead, phase_at}
-use Rattle.core_invariant.specs.Stands.{done_by, holds_act, holds_work, holds_at, holds_in, holds, held_by, Stands}
+use Rattle.core_invariant.specs.Knows.{own_in, HasFound, NamesAre, due_of, pin_frame, pin_core, IsRemoval, KnowsClose, KnowsAct, KnowsWork, KnowsUndecided, IsCount, HasRead, phase_at, KnowsTail, goes_on, is_counting}
+use Rattle.core_invariant.specs.Stands.{done_by, holds_act, holds_work, holds_at, holds_in, holds, held_by, Stands, holds_tail, holds_making}
 use Rattle.core_invariant.proofs.Carries.{names_on, act_on, counts_on, ReadsSame}
 use Rattle.core_invariant.proofs.Writes.{same_marks}
-use Rattle.core_invariant.proofs.Good.{IsGood}
+use Rattle.core_invariant.proofs.Good.{IsGood, spares_other}
 use Rattle.core_invariant.proofs.Counting as counters
 use Rattle.core_invariant.proofs.Loads.{IsOfCall, Lands, step_to, core_at, inner, call_is, is_active, loads_on}
-use Rattle.core_invariant.proofs.Refusals.{GoodTook, refuses_raced, refuses_busy}
+use Rattle.core_invariant.proofs.Refusals.{GoodTook, raced_leaving, busy_leaving}
 
 -- What stands in a list after those before it.
 get_after : {A : Type 0} (xs : List A) (x : A) (ys : List A) → slice_get (xs ++ x ∷ ys) (length xs) ≡ Some x
@@ -113,14 +118,14 @@ no_length (x ∷ xs) none = absurd (omega arith)
 -- What a call knows that has acquired the first of the counts which its act changes: it acquires the next, or goes on to its act.
 pub knows_next : (setup : Setting) (t : Trace) (c table : ℕ) (a : ActiveCall) (core : ℕ) (act : ActOf) (rest : List Due) → core ≡ c
     → KnowsAct setup t c a.call a.plan a.found setup.cores act
-    → dues act ≡ map due_of a.counts ++ rest → (n : ℕ) → n ≡ length a.counts → is_start act ≡ true
-    → KnowsWork setup t c table a (next_work core n act)
-knows_next setup t c table a core act [] own knows prefix n is starts =
+    → dues act ≡ map due_of a.counts ++ rest → (n : ℕ) → n ≡ length a.counts → is_counting act ≡ true
+    → goes_on act ≡ true → KnowsWork setup t c table a (next_work core n act)
+knows_next setup t c table a core act [] own knows prefix n is starts goes =
     subst (λ o. KnowsWork setup t c table a (acquires core act o))
     (sym (ap (slice_get (dues act)) (is ∙ sym (map_length a.counts)) ∙ ap (λ ds. slice_get ds (length (map due_of a.counts))) prefix ∙
     get_none (map due_of a.counts)))
-    (record { knows = knows; all = prefix ∙ after_none (map due_of a.counts) })
-knows_next setup t c table a core act (d ∷ ds) own knows prefix n is starts =
+    (record { knows = knows; all = prefix ∙ after_none (map due_of a.counts); goes = goes })
+knows_next setup t c table a core act (d ∷ ds) own knows prefix n is starts goes =
     subst (λ o. KnowsWork setup t c table a (acquires core act o))
     (sym (ap (slice_get (dues act)) (is ∙ sym (map_length a.counts)) ∙ ap (λ ds. slice_get ds (length (map due_of a.counts))) prefix ∙
     get_after (map due_of a.counts) d ds))
@@ -143,39 +148,70 @@ knows_next setup t c table a core act (d ∷ ds) own knows prefix n is starts =
         let same = map_length a.counts in
         omega arith)
 
--- Before its first step an act holds nothing, and so does the acquiring of its counts.
-start_holds : (act : ActOf) (h : Holding) → is_start act ≡ true → holds_act act h ≡ h
-start_holds (fill_act fill) h is = refl
-start_holds (remove_act (close_compare node index word by) cap) h is = refl
-start_holds (remove_act (AtDraw node index) cap) h is = absurd (false≢true is)
-start_holds (remove_act (AtStore node index x) cap) h is = absurd (false≢true is)
-start_holds (type_act typing) h is = refl
-
-acquires_holds : (core : ℕ) (act : ActOf) (o : Option Due) (h : Holding) → is_start act ≡ true → holds_work (acquires core act o) h ≡ h
-acquires_holds core act None h is = start_holds act h is
-acquires_holds core act (Some due) h is = refl
-
-pub next_holds : (core n : ℕ) (act : ActOf) (h : Holding) → is_start act ≡ true → holds_work (next_work core n act) h ≡ h
-next_holds core n act h is = acquires_holds core act (slice_get (dues act) n) h is
-
--- The frame of a count that is due is one that the capability names.
-due_named : (fs : List ℕ) (z : ℤ) (xs : List Due) (d : Due) (rest : List Due)
-    → map (λ f. record { frame = f; change = z }) fs ≡ xs ++ d ∷ rest → is_one_of d.frame fs ≡ true
-due_named [] z [] d rest is = absurd (cc)
-due_named [] z (x ∷ xs) d rest is = absurd (cc)
-due_named (f ∷ fs) z [] d rest is =
-    ap (λ b. b || is_one_of d.frame fs) (eq-eqb f d.frame (ap (λ (x : Due). x.frame) (head_same _ _ _ _ is)))
+-- While its counts are acquired an act holds what it will hold at its next step, which is what a refusal has then to store.
+undo_holds : (act : ActOf) (h : Holding) → is_counting act ≡ true → holds_tail (undo act) h ≡ holds_act act h
+undo_holds (fill_act fill) h is = refl
+undo_holds (remove_act (close_compare node index word by) cap) h is = refl
+undo_holds (remove_act (AtDraw node index) cap) h is = absurd (false≢true is)
+undo_holds (remove_act (AtStore node index x) cap) h is = absurd (false≢true is)
+undo_holds (type_act typing) h is = refl
+undo_holds (make_act m) h is = by m.at
   where
-    head_same : (x y : Due) (xs ys : List Due) → x ∷ xs ≡ y ∷ ys → x ≡ y
-    head_same x y xs ys h = cc
-due_named (f ∷ fs) z (x ∷ xs) d rest is = later (f == d.frame) (due_named fs z xs d rest (tail_same _ _ _ _ is))
-  where
-    tail_same : (x y : Due) (xs ys : List Due) → x ∷ xs ≡ y ∷ ys → xs ≡ ys
-    tail_same x y xs ys h = cc
+    by : (at : MakingAt) → holds_tail (undo_at m.frame at) h ≡ holds_making m.frame at h
+    by making_load = refl
+    by (Mark word) = refl
+    by (Store word entry) = refl
+    by (making_fill word) = refl
+undo_holds (Outside node entry word) h is = refl
 
-    later : (b : Bool) → is_one_of d.frame fs ≡ true → (b || is_one_of d.frame fs) ≡ true
-    later true h = refl
-    later false h = h
+acquires_holds : (core : ℕ) (act : ActOf) (o : Option Due) (h : Holding) → holds_work (acquires core act o) h ≡ holds_act act h
+acquires_holds core act None h = refl
+acquires_holds core act (Some due) h = refl
+
+pub next_holds : (core n : ℕ) (act : ActOf) (h : Holding) → holds_work (next_work core n act) h ≡ holds_act act h
+next_holds core n act h = acquires_holds core act (slice_get (dues act) n) h
+
+-- An act holds no count, and what it holds of another word does not depend on the counts.
+act_count : (act : ActOf) (h : Holding) (f d : ℕ) → ((holds_act act h).marks (CountAt f d) ≡ h.marks (CountAt f d))
+    × ((holds_act act h).stands (CountAt f d) ≡ h.stands (CountAt f d))
+act_count (fill_act fill) h f d = (refl, refl)
+act_count (remove_act (close_compare node index word by) cap) h f d = (refl, refl)
+act_count (remove_act (AtDraw node index) cap) h f d = (refl, refl)
+act_count (remove_act (AtStore node index x) cap) h f d = (refl, refl)
+act_count (type_act typing) h f d = (refl, refl)
+act_count (make_act m) h f d = by m.at
+  where
+    by : (at : MakingAt) → ((holds_making m.frame at h).marks (CountAt f d) ≡ h.marks (CountAt f d))
+        × ((holds_making m.frame at h).stands (CountAt f d) ≡ h.stands (CountAt f d))
+    by making_load = (refl, refl)
+    by (Mark word) = (refl, refl)
+    by (Store word entry) = (refl, refl)
+    by (making_fill word) = (refl, refl)
+act_count (Outside node entry word) h f d = (refl, refl)
+
+keeps_over : (v w : Word) (x : ℕ) (h g : Holding) → (h.marks w ≡ g.marks w) × (h.stands w ≡ g.stands w)
+    → ((keeps v x h).marks w ≡ (keeps v x g).marks w) × ((keeps v x h).stands w ≡ (keeps v x g).stands w)
+keeps_over v w x h g same = (
+  ap (λ b. if same_word w v then true else b) same.0,
+  ap (λ (n : ℕ). if same_word w v then x else n) same.1,
+)
+
+act_over : (act : ActOf) (h g : Holding) (w : Word) → (h.marks w ≡ g.marks w) × (h.stands w ≡ g.stands w)
+    → ((holds_act act h).marks w ≡ (holds_act act g).marks w) × ((holds_act act h).stands w ≡ (holds_act act g).stands w)
+act_over (fill_act fill) h g w same = same
+act_over (remove_act (close_compare node index word by) cap) h g w same = same
+act_over (remove_act (AtDraw node index) cap) h g w same = keeps_over (EntryAt node index) w (word_of_entry (Held cap)) h g same
+act_over (remove_act (AtStore node index x) cap) h g w same = same
+act_over (type_act typing) h g w same = same
+act_over (make_act m) h g w same = by m.at
+  where
+    by : (at : MakingAt) → ((holds_making m.frame at h).marks w ≡ (holds_making m.frame at g).marks w)
+        × ((holds_making m.frame at h).stands w ≡ (holds_making m.frame at g).stands w)
+    by making_load = same
+    by (Mark word) = same
+    by (Store word entry) = keeps_over (FrameAt m.frame) w word h g same
+    by (making_fill word) = keeps_over (FrameAt m.frame) w word h g same
+act_over (Outside node entry word) h g w same = same
 
 -- A call that fills its target changes references, and the frame that it names there is near it: a line a call.
 put_counts : (call : Call) → IsBuilt call → (ks : List Capability) (k : Capability) → put_by call ks ≡ Some k
@@ -186,6 +222,7 @@ put_counts (Remove u b) built ks k puts = absurd (cc)
 put_counts (Shrink u i) built ks k puts = absurd (cc)
 put_counts (Unmap p v) built ks k puts = absurd (cc)
 put_counts (Retype r f j) built ks k puts = absurd (cc)
+put_counts (make_call what r f u b) built ks k puts = absurd (cc)
 put_counts call built ks k puts = absurd built
 
 put_near : (s : State) (c : ℕ) (call : Call) → IsBuilt call → (ks : List Capability) (k : Capability) → put_by call ks ≡ Some k
@@ -197,6 +234,7 @@ put_near s c (Remove u b) built ks k puts lead f names_it = absurd (cc)
 put_near s c (Shrink u i) built ks k puts lead f names_it = absurd (cc)
 put_near s c (Unmap p v) built ks k puts lead f names_it = absurd (cc)
 put_near s c (Retype r g j) built ks k puts lead f names_it = absurd (cc)
+put_near s c (make_call what r g u b) built ks k puts lead f names_it = absurd (cc)
 put_near s c call built ks k puts lead f names_it = absurd built
 
 -- The word of an acquired count stands for the word that was found.
@@ -227,7 +265,8 @@ module _ (setup : Setting) (setting : IsSetting setup) (cores : ℕ → Core) (t
     (frame_is : pin_frame pin ≡ frame) (core_is : pin_core pin ≡ d)
     (stage_is : a.stage ≡ Undecided (Acquire pin change act)) (has : KnowsUndecided setup t c (cores c).own.table a
     (Acquire pin change act))
-    (counting : IsTrue (counts_references a.call)) (near : (b : ℕ) → IsNearIn c a.call (CountAt frame b) (state_after setup t)) where
+    (counting : IsTrue (counts_references a.call)) (near : (b : ℕ) → IsNearIn c a.call (CountAt frame b) (state_after setup t))
+    (left : (e : Step) → KnowsTail setup (e ∷ t) c a.call (undo act)) where
   abbrev s : State
   s = state_after setup t
 
@@ -240,8 +279,12 @@ module _ (setup : Setting) (setting : IsSetting setup) (cores : ℕ → Core) (t
   own_core : d ≡ c
   own_core = sym core_is ∙ has.knows.core
 
-  held_is : holds_in (Some a) ≡ holds_counts None a.counts
+  held_is : holds_in (Some a) ≡ holds_act act (holds_counts None a.counts)
   held_is = ap (λ s. holds_at s a.counts) stage_is
+
+  -- what a refusal has to store
+  undone : holds_tail (undo act) (holds_counts None a.counts) ≡ holds_in (Some a)
+  undone = undo_holds act (holds_counts None a.counts) has.knows.starts ∙ sym held_is
 
   opens : phase_at a.call a.stage ≡ Open a.call
   opens = ap (phase_at a.call) stage_is
@@ -265,6 +308,9 @@ module _ (setup : Setting) (setting : IsSetting setup) (cores : ℕ → Core) (t
       (subst (λ (e : ℕ). (holds_counts None a.counts).marks (CountAt (pin_frame pin) (counter_of e)) ≡ false) (sym own_core)
       has.knows.new)
 
+  bare_here : (holds_in (Some a)).marks at ≡ false
+  bare_here = ap (λ h. h.marks at) held_is ∙ (act_count act (holds_counts None a.counts) frame (counter_of d)).0 ∙ new
+
   -- the word of a count that carries no mark
   says : marked_by setup t at ≡ None → SaysCount (count_room s) (count_of_word was)
   says is = subst (λ o. SaysCount (count_room s) (count_of_word (settled_by o (held_by cores) at was))) is (stands.words at)
@@ -274,10 +320,11 @@ module _ (setup : Setting) (setting : IsSetting setup) (cores : ℕ → Core) (t
   kept e own none is w apart =
       own_read-there c e t own w (λ h. apart (h ∙ is)) ∙ ap (λ o. cond (is_some o) None (own_read t c w)) none
 
-  reads_kept : (e : Step) → c ≡ e.core → e.enters ≡ None → word_of e.move ≡ at → ReadsSame t e c
+  reads_kept : (e : Step) → c ≡ e.core → e.enters ≡ None → word_of e.move ≡ at → ReadsSame setup t e c act
   reads_kept e own none is = record {
     entries = λ f i. kept e own none is (EntryAt f i) (entry_apart f i);
     frames = λ f. kept e own none is (FrameAt f) (frame_apart f);
+    stored = λ f i marked. last_left-there setup (EntryAt f i) e t (λ h. entry_apart f i (h ∙ is));
   }
     where
       entry_apart : (f i : ℕ) → EntryAt f i ≢ at
@@ -287,9 +334,10 @@ module _ (setup : Setting) (setting : IsSetting setup) (cores : ℕ → Core) (t
       frame_apart f h = cc
 
   -- it is held by another core
-  held_good : (b : ℕ) → marked_by setup t at ≡ Some b → GoodTook setup cores t c (LoadOf at) (landed a (refuse (refusal.Busy b)))
-  held_good b mark = refuses_busy setup setting cores t stands c here a active opens held_is room (LoadOf at)
-      (record { of_call = record { moves = counting; near = inl (near (counter_of d)) }; kept = refl; apart = λ e. refl }) b new mark tt
+  held_good : (b : ℕ) → marked_by setup t at ≡ Some b → GoodTook setup cores t c (LoadOf at) (landed a (gives_up (refusal.Busy b) act))
+  held_good b mark = busy_leaving setup setting cores t stands c here a active opens (undo act) undone left room (LoadOf at)
+      (record { of_call = record { moves = counting; near = inl (near (counter_of d)) }; kept = refl; apart = λ e. refl }) b bare_here
+      mark tt
 
   -- it is loaded, and held by none
   free_good : (count : ℤ) (stamp : ℕ) → count_of_word was ≡ Some (unheld count stamp) → pin ≡ AtLoad frame d
@@ -347,7 +395,8 @@ module _ (setup : Setting) (setting : IsSetting setup) (cores : ℕ → Core) (t
       by (Some v) reads = by_hold v.hold v.count v.stamp reads
 
   -- the compare
-  module _ (count : ℤ) (stamp : ℕ) (loaded : HasRead t c frame d count stamp) (pin_is : pin ≡ AtCompare frame d count stamp) where
+  module _ (count : ℤ) (stamp : ℕ) (loaded : HasRead t c frame d count stamp) (pin_is : pin ≡ AtCompare frame d count stamp)
+      (goes : goes_on act ≡ true) where
     abbrev expected : ℕ
     expected = word_of_count (unheld count stamp)
 
@@ -363,9 +412,9 @@ module _ (setup : Setting) (setting : IsSetting setup) (cores : ℕ → Core) (t
     of_call : IsOfCall setup t c a.call compare
     of_call = record { moves = counting; near = inl (near (counter_of d)) }
 
-    count_lost : (was == expected) ≡ false → GoodTook setup cores t c compare (landed a (refuse refusal.Raced))
+    count_lost : (was == expected) ≡ false → GoodTook setup cores t c compare (landed a (gives_up refusal.Raced act))
     count_lost other =
-        refuses_raced setup setting cores t stands c here a active opens held_is room compare
+        raced_leaving setup setting cores t stands c here a active opens (undo act) undone left room compare
         (record { of_call = of_call; kept = kept; apart = λ e. refl })
         (record {
           at = tt;
@@ -411,26 +460,30 @@ module _ (setup : Setting) (setting : IsSetting setup) (cores : ℕ → Core) (t
       won lands =
           let e : Step = inner setup setting cores t stands c here a active compare None None in
           let after : Core = core_at (cores c) (cores c).own.made (more grown) in
-          let after_is : holds after ≡ holds_counts None grown = next_holds (cores c).own.core (length a.counts + 1) act
-          (holds_counts None grown) has.knows.starts in
+          let after_is : holds after ≡ holds_act act (holds_counts None grown) = next_holds (cores c).own.core (length a.counts + 1) act
+          (holds_counts None grown) in
           counters.holds_on setup setting cores t stands c here a active compare (more grown) (λ b. refl) (not_clock frame (counter_of d))
           refl of_call lands
           (subst (λ (n : ℕ). n < 2 ^ 64) (sym leaves) (counts.spelling.small (acquired d count stamp) held_fits))
           (λ w there.
-          let rest = counters.more_elsewhere None a.counts x w there in
-          let before : holds (cores c) ≡ holds_counts None a.counts = ap holds_in active ∙ held_is in (
+          let rest = act_over act (holds_counts None grown) (holds_counts None a.counts) w (counters.more_elsewhere None a.counts x w
+          there) in
+          let before : holds (cores c) ≡ holds_act act (holds_counts None a.counts) = ap holds_in active ∙ held_is in (
             ap (λ h. h.marks w) after_is ∙ rest.0 ∙ sym (ap (λ h. h.marks w) before),
             ap (λ h. h.stands w) after_is ∙ rest.1 ∙ sym
                 (ap (λ h. h.stands w) before),
           ))
           (ap (λ (n : ℕ). count_mark (count_of_word n)) leaves ∙ ap count_mark (counts.spelling.reads (acquired d count stamp) held_fits)
           ∙ ap (λ (e : ℕ). Some e) own_core ∙ sym (ap (λ b. if b then Some c else None)
-          (ap (λ h. h.marks at) after_is ∙ counters.more_marked None a.counts x)))
+          (ap (λ h. h.marks at) after_is ∙ (act_count act (holds_counts None grown) frame (counter_of d)).0
+          ∙ counters.more_marked None a.counts x)))
           (λ b other is. none_some b (sym unmarked ∙ is))
           (ap (λ b. settled_by (if b then Some c else None) (held_by (put cores c after)) at (left_of compare was))
-          (ap (λ h. h.marks at) after_is ∙ counters.more_marked None a.counts x)
+          (ap (λ h. h.marks at) after_is ∙ (act_count act (holds_counts None grown) frame (counter_of d)).0
+          ∙ counters.more_marked None a.counts x)
           ∙ ap (λ k. (holds k).stands at) (put_same cores c after c refl) ∙ ap (λ h. h.stands at) after_is
-          ∙ counters.more_stands None a.counts x new ∙ stands_found frame d count change stamp loaded.fits ∙ sym same
+          ∙ (act_count act (holds_counts None grown) frame (counter_of d)).1 ∙ counters.more_stands None a.counts x new
+          ∙ stands_found frame d count change stamp loaded.fits ∙ sym same
           ∙ sym (ap (λ o. settled_by o (held_by cores) at was) unmarked))
           opens
           (λ carries. record {
@@ -441,7 +494,7 @@ module _ (setup : Setting) (setting : IsSetting setup) (cores : ℕ → Core) (t
                 (reads_kept e refl refl refl) has.knows.knows)
                 (has.knows.due ∙ ap (λ (f : ℕ). map due_of a.counts ++ record { frame = f; change = change } ∷ has.knows.rest) frame_is
                 ∙ sym (ap (λ ds. ds ++ has.knows.rest) (map_more a.counts x) ∙ after_one (map due_of a.counts) (due_of x) has.knows.rest))
-                (length a.counts + 1) (sym (length-append a.counts (x ∷ []))) has.knows.starts;
+                (length a.counts + 1) (sym (length-append a.counts (x ∷ []))) has.knows.starts goes;
           })
           (All-append (IsCount setup (e ∷ t) c a.call) a.counts (x ∷ [])
           (counts_on setup t e c a.call (λ own. refl) a.counts (call_is setup setting cores t stands c here a active).counts)
@@ -452,6 +505,7 @@ module _ (setup : Setting) (setting : IsSetting setup) (cores : ℕ → Core) (t
             near = was_now (IsNearIn c a.call at) setup t e c (near (counter_of d));
           }) (All-nil (IsCount setup (e ∷ t) c a.call))))
           (counters.more_apart a.counts x (call_is setup setting cores t stands c here a active).apart new)
+          (spares_other setup t (inner setup setting cores t stands c here a active compare None None) (λ f i h. cc))
 
       count_won : GoodTook setup cores t c compare (landed a (Acquires x (next_work (cores c).own.core (length a.counts + 1) act)))
       count_won = subst (λ (xs : List Acquired). GoodTook setup cores t c compare (GoesOn (more xs)))
@@ -474,14 +528,15 @@ acquire_near : (setup : Setting) → IsSetting setup → (cores : ℕ → Core) 
     → (pin : Pin) (change : ℤ) (act : ActOf) → a.stage ≡ Undecided (Acquire pin change act)
     → KnowsUndecided setup t c (cores c).own.table a (Acquire pin change act)
     → IsTrue (counts_references a.call) → ((b : ℕ) → IsNearIn c a.call (CountAt (pin_frame pin) b) (state_after setup t))
+    → ((e : Step) → KnowsTail setup (e ∷ t) c a.call (undo act)) → goes_on act ≡ true
     → GoodTook setup cores t c (pin_move pin)
     (landed a (took_count (cores c).own.core (length a.counts) change act (pin_after pin (last_left setup t (word_of (pin_move pin))))
     (pin_end pin (last_left setup t (word_of (pin_move pin))))))
-acquire_near setup setting cores t stands c here a active (AtLoad frame d) change act is has counting near =
-    load_good setup setting cores t stands c here a active frame d (AtLoad frame d) change act refl refl is has counting near refl
-acquire_near setup setting cores t stands c here a active (AtCompare frame d count stamp) change act is has counting near =
+acquire_near setup setting cores t stands c here a active (AtLoad frame d) change act is has counting near left goes =
+    load_good setup setting cores t stands c here a active frame d (AtLoad frame d) change act refl refl is has counting near left refl
+acquire_near setup setting cores t stands c here a active (AtCompare frame d count stamp) change act is has counting near left goes =
     compare_good setup setting cores t stands c here a active frame d (AtCompare frame d count stamp) change act refl refl is has counting
-    near count stamp has.knows.loaded refl
+    near left count stamp has.knows.loaded refl goes
 
 -- A call that removes what its target holds changes references and places, and raises the clock: a line a call.
 pub removal_counts : (call : Call) → removes_by call ≡ true → IsTrue (counts_references call)
@@ -571,19 +626,26 @@ acquire_good setup setting cores t stands c here a active pin change (fill_act f
     has.knows.knows.puts
     (call_leads setup setting cores t stands c here a active has.names) (pin_frame pin)
     (due_named (named_by fill.cap.kind fill.cap.frame) (pos 1) (map due_of a.counts) (record { frame = pin_frame pin; change = change })
-    has.knows.rest has.knows.due))
+    has.knows.rest has.knows.due)) (λ e. tt) refl
 acquire_good setup setting cores t stands c here a active pin change (type_act typing) is has =
-    absurd (none_due (map due_of a.counts) (record { frame = pin_frame pin; change = change }) has.knows.rest has.knows.due)
-  where
-    none_due : (xs : List Due) (d : Due) (rest : List Due) → [] ≡ xs ++ d ∷ rest → ⊥
-    none_due [] d rest h = cc
-    none_due (x ∷ xs) d rest h = cc
+    absurd (no_due (map due_of a.counts) (record { frame = pin_frame pin; change = change }) has.knows.rest has.knows.due)
 acquire_good setup setting cores t stands c here a active pin change (remove_act close cap) is has =
     acquire_near setup setting cores t stands c here a active pin change (remove_act close cap) is has
     (removal_counts a.call (removal_does setup setting cores t stands c here a active has.names close cap has.knows.knows))
     (λ b. removal_near setup setting cores t stands c here a active has.names close cap has.knows.knows (pin_frame pin)
     (due_named (named_by cap.kind cap.frame) (negsuc 0) (map due_of a.counts) (record { frame = pin_frame pin; change = change })
-    has.knows.rest has.knows.due))
+    has.knows.rest has.knows.due)) (λ e. tt) refl
+acquire_good setup setting cores t stands c here a active pin change (make_act m) is has =
+    acquire_near setup setting cores t stands c here a active pin change (make_act m) is has
+    (made_counts a.call a.found m has.knows.knows.makes)
+    (λ b. ap (λ (n : ℕ). is_one_of n (frames_near (state_after setup t) c a.call))
+    (made_due m.node m.frame m.fill.cap has.knows.knows.cap m.at (map due_of a.counts)
+    (record { frame = pin_frame pin; change = change }) has.knows.rest has.knows.due)
+    ∙ made_near (state_after setup t) c a.call a.found m has.knows.knows.makes)
+    (λ e. made_left setup t (e ∷ t) c m.frame m.at a.call (made_changes a.call a.found m has.knows.knows.makes)
+    (made_argument a.call a.found m has.knows.knows.makes) has.knows.knows.at) refl
+acquire_good setup setting cores t stands c here a active pin change (Outside node entry word) is has =
+    absurd (no_due (map due_of a.counts) (record { frame = pin_frame pin; change = change }) has.knows.rest has.knows.due)
 
 -- A decided call commits its earliest count.
 module _ (setup : Setting) (setting : IsSetting setup) (cores : ℕ → Core) (t : Trace) (stands : Stands setup cores t) (c : ℕ)
@@ -644,3 +706,4 @@ module _ (setup : Setting) (setting : IsSetting setup) (cores : ℕ → Core) (t
       (λ carries. tt)
       (counts_on setup t e c a.call (λ own. refl) xs (All-tail (IsCount setup t c a.call) x xs known))
       apart.1
+      (spares_other setup t e (λ f i h. cc))

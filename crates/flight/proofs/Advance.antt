@@ -11,7 +11,7 @@ use Rattle.word_map.specs.Moves.{LoadOf, StoreOf, word_of, told_of}
 use Rattle.kernel_history.specs.Trace.{Step, Trace, last_left}
 use Rattle.kernel_history.specs.Stamps.{clock}
 use Rattle.kernel_history.proofs.Steps.{clock_seen-own}
-use Rattle.call_acts.specs.declared.work.Tail.TheVariants.{Nothing, Quiesce}
+use Rattle.call_acts.specs.declared.work.Tail.TheVariants.{Nothing, Quiesce, Unmark}
 use Rattle.call_steps.specs.declared.stages.Stage.{Stage}
 use Rattle.call_steps.specs.declared.stages.Stage.TheVariants.{Enter, Undecided, Decided, Leave}
 use Rattle.call_steps.specs.declared.stages.ActiveCall.{ActiveCall}
@@ -36,6 +36,7 @@ use Rattle.flight.specs.Phases.{IsWord}
 use Rattle.flight.proofs.CoreFits.{begun_fits, after_fits}
 use Rattle.flight.proofs.Spelling.{stage_word}
 use Rattle.place_invariant.proofs.Removals.{store_good}
+use Rattle.frame_invariant.proofs.Makes.{unmark_good}
 use Rattle.work_invariant.proofs.Work.{work_good}
 use Rattle.flight.proofs.Entries.{enter_good}
 
@@ -112,6 +113,8 @@ module _ (setup : Setting) (setting : IsSetting setup) (cores : ℕ → Core) (t
   stage_good a (Decided r drawn Nothing) active at knows = decided_good a r drawn active at
   stage_good a (Decided r drawn (Quiesce close)) active at knows =
       store_good setup setting cores t stands c here a active r drawn close at knows
+  stage_good a (Decided r drawn (Unmark f word)) active at knows =
+      unmark_good setup setting cores t stands c here a active r drawn f word at knows
   stage_good a (Leave r x) active at knows = leave_good a r x active at
 
   -- the step of a call

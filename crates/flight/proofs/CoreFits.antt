@@ -14,7 +14,7 @@ use Rattle.call_steps.specs.Cores.{started, fresh, begun, core_after, absorbed_i
 use Rattle.call_steps.specs.Fits.{IsOwn, IsCore, left_of, left_for, steps_left}
 use Rattle.call_steps.proofs.LandsFit.{TookFits}
 use Rattle.call_steps.proofs.Fitting.{took_fits, goes_on, decides_on}
-use Rattle.call_steps.proofs.Fitting as fitting
+use Rattle.call_steps.proofs.Begun as begun
 
 pub started_fits : (c : ℕ) (setting : Setting) → IsSetting setting → c < setting.cores → IsCore (started c setting)
 started_fits c setting h below =
@@ -36,7 +36,7 @@ started_fits c setting h below =
 
 pub begun_fits : (core : Core) (call : Call) → IsCore core → InLimits call → IsBuilt call → IsCore (begun core call)
 begun_fits core call h limits built =
-    fitting.begun_fits core.own call (fresh call).found (fresh call).counts (fresh call).plan h.own refl refl refl limits built
+    begun.begun_fits core.own call (fresh call).found (fresh call).counts (fresh call).plan h.own refl refl refl limits built
 
 -- A core after its step, and how many steps are then to come.
 record GoesFurther (own : Own) (a : ActiveCall) (after : Core) : Type 0 where

@@ -5,7 +5,8 @@ use Rattle.spk_nums.specs.Setting.{Setting, IsSetting}
 use Rattle.spk_nums.specs.declared.kinds.Kind.{Kind}
 use Rattle.spk_nums.specs.declared.calls.Call.{Call}
 use Rattle.spk_nums.specs.declared.kinds.FrameKind.TheVariants.{Untyped, User, Kernel}
-use Rattle.spk_nums.specs.declared.calls.Call.TheVariants.{Look as look_call, Copy, Remove, Shrink, Unmap, Retype}
+use Rattle.spk_nums.specs.declared.calls.Call.TheVariants.{Look as look_call, Copy, Remove, Shrink, Unmap, Retype, Make as make_call}
+use Rattle.spk_nums.specs.declared.calls.Make.TheVariants as make
 use Rattle.spk_nums.specs.declared.replies.Reply.TheVariants as reply
 use Rattle.supported_calls.specs.Built.{IsBuilt}
 use Rattle.word_map.specs.Word.{CoreAt}
@@ -198,6 +199,14 @@ module _ (setup : Setting) (setting : IsSetting setup) (cores : ℕ → Core) (t
       enters_name setup setting cores t stands c here (Retype r f User) may r _ refl unspent
   enters_first (Retype r f Kernel) may built unspent =
       enters_name setup setting cores t stands c here (Retype r f Kernel) may r _ refl unspent
+  enters_first (make_call make.Table r f u b) may built unspent =
+      enters_name setup setting cores t stands c here (make_call make.Table r f u b) may r _ refl unspent
+  enters_first (make_call make.Leaf r f u b) may built unspent =
+      enters_name setup setting cores t stands c here (make_call make.Leaf r f u b) may r _ refl unspent
+  enters_first (make_call make.Pages r f u b) may built unspent =
+      enters_name setup setting cores t stands c here (make_call make.Pages r f u b) may r _ refl unspent
+  enters_first (make_call make.Pleaf r f u b) may built unspent =
+      enters_name setup setting cores t stands c here (make_call make.Pleaf r f u b) may r _ refl unspent
   enters_first _ may built unspent = absurd built
 
   pub enter_good : (call : Call) (may : MayBegin call (cores c))

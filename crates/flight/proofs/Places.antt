@@ -17,7 +17,7 @@ use Rattle.kernel_rules.specs.State.{Thing, PlaceOf}
 use Rattle.kernel_rules.specs.Access.{Target, Under, InRoot, usable_in}
 use Rattle.kernel_rules.specs.Relies.{Relies}
 use Rattle.kernel_rules.proofs.Facts.{some_inj, none_some}
-use Rattle.kernel_history.specs.Trace.{Step, Trace, Phase, Out, Open, Decided as decided_phase, phase, after_enter, after_decide, after_return, state_after, last_left, own_read, only_reads}
+use Rattle.kernel_history.specs.Trace.{Step, Trace, Phase, Out, Open, Decided as decided_phase, phase, after_enter, after_decide, after_return, state_after, last_left, own_read, reads, only_reads}
 use Rattle.kernel_history.specs.Graces.{KeepsTime}
 use Rattle.kernel_history.specs.Legal.{IsLegal, MayFollow}
 use Rattle.kernel_history.specs.Stamps.{stamp, clock, exit_of}
@@ -35,11 +35,15 @@ use Rattle.stage_quiet.specs.declared.quiet.Quiet.TheVariants.{AtCore, AtFlush}
 use Rattle.stage_quiet.specs.Removal.{close_move}
 use Rattle.call_plans.specs.After.{Next, NextName, NextFree, NextHeld, NextOwn, NextNothing, next_of}
 use Rattle.call_acts.specs.declared.own.Own.{Own}
-use Rattle.call_acts.specs.declared.work.Act.TheVariants.{Fill, Remove, Retype}
+use Rattle.call_acts.specs.declared.work.Act.TheVariants.{Fill, Remove, Retype, Make, Outside}
 use Rattle.call_acts.specs.declared.typings.Typing.{Typing}
 use Rattle.call_acts.specs.declared.typings.TypingAt.{TypingAt}
 use Rattle.call_acts.specs.declared.typings.TypingAt.TheVariants.{Load, Compare as type_compare}
 use Rattle.call_acts.specs.Typings.{typing_at}
+use Rattle.call_acts.specs.declared.fills.Fill.{Fill as FillOf}
+use Rattle.call_acts.specs.declared.makings.MakingAt.{MakingAt}
+use Rattle.call_acts.specs.declared.makings.MakingAt.TheVariants as making
+use Rattle.call_acts.specs.Makings.{making_at}
 use Rattle.call_acts.specs.declared.work.Work.{Work}
 use Rattle.call_acts.specs.declared.work.Work.TheVariants.{Lookup, Scan, Acquire, Act}
 use Rattle.call_steps.specs.declared.stages.Stage.{Stage}
@@ -48,7 +52,7 @@ use Rattle.call_steps.specs.declared.stages.ActiveCall.{ActiveCall}
 use Rattle.call_steps.specs.Steps.{work_move, stage_move}
 use Rattle.call_steps.specs.Cores.{move_in, move_of}
 use Rattle.call_steps.specs.View.{Core}
-use Rattle.core_invariant.specs.Knows.{LooksUp, own_in, LooksFor, KnowsClose, KnowsWork, KnowsAt, CallIs, phase_at}
+use Rattle.core_invariant.specs.Knows.{IsSpot, LooksUp, own_in, LooksFor, KnowsClose, KnowsWork, KnowsAt, CallIs, phase_at}
 use Rattle.core_invariant.specs.Stands.{Stands}
 use Rattle.core_invariant.proofs.Carries.{slot_relies}
 use Rattle.core_invariant.proofs.Places.{IsMarked, IsPlain, place_reads}
@@ -77,7 +81,7 @@ was_open (Some q) None (Open other) call is = absurd (cc)
 was_open (Some q) None (decided_phase other v) call is = absurd (cc)
 was_open d (Some r) p call is = absurd (cc)
 
--- An undecided call relies on the node of the entry on which it steps next.
+-- An undecided call relies on the node of the entry on which it steps next, unless it stores there an entry of a node that it makes.
 module _ (setup : Setting) (setting : IsSetting setup) (t : Trace) (cores : ℕ → Core) (stands : Stands setup cores t)
     (c : ℕ) (call : Call) (is_open : phase t c ≡ Open call) (f i : ℕ) where
   abbrev Rests : Type 0
@@ -116,41 +120,63 @@ module _ (setup : Setting) (setting : IsSetting setup) (t : Trace) (cores : ℕ 
   by_typing g y Load on = absurd (cc)
   by_typing g y (type_compare word) on = absurd (cc)
 
-  by_work : (table : ℕ) (a : ActiveCall) (work : Work) → KnowsWork setup t c table a work → word_of (work_move work) ≡ EntryAt f i → Rests
-  by_work table a (Lookup look) has on = by_next table (next_of a.plan a.found) look has on
-  by_work table a (Scan (AtCore at by upto page) act) has on = absurd (cc)
-  by_work table a (Scan (AtFlush at upto) act) has on = absurd (cc)
-  by_work table a (Acquire (AtLoad frame core) change act) has on = absurd (cc)
-  by_work table a (Acquire (pin_compare frame core count stamp) change act) has on = absurd (cc)
-  by_work table a (Act (Fill fill)) has on = of_frame fill.node fill.entry on
+  by_making : (a : ActiveCall) (g core : ℕ) (fill : FillOf) (at : MakingAt)
+      → IsSpot setup t c a.plan a.found setup.cores fill.node fill.entry fill.word
+      → word_of (making_at g core fill at) ≡ EntryAt f i → reads (making_at g core fill at) ≡ true → Rests
+  by_making a g core fill making.Load spot on read = absurd (cc)
+  by_making a g core fill (making.Mark word) spot on read = absurd (cc)
+  by_making a g core fill (making.Store word entry) spot on read = absurd (false≢true read)
+  by_making a g core fill (making.Fill word) spot on read = of_frame fill.node fill.entry on
+      (slot_relies setup setting t stands.legal c call is_open spot.target (record { node = fill.node; index = fill.entry }) spot.way)
+
+  by_work : (table : ℕ) (a : ActiveCall) (work : Work) → KnowsWork setup t c table a work → word_of (work_move work) ≡ EntryAt f i
+      → reads (work_move work) ≡ true → Rests
+  by_work table a (Lookup look) has on read = by_next table (next_of a.plan a.found) look has on
+  by_work table a (Scan (AtCore at by upto page) act) has on read = absurd (cc)
+  by_work table a (Scan (AtFlush at upto) act) has on read = absurd (cc)
+  by_work table a (Acquire (AtLoad frame core) change act) has on read = absurd (cc)
+  by_work table a (Acquire (pin_compare frame core count stamp) change act) has on read = absurd (cc)
+  by_work table a (Act (Fill fill)) has on read = of_frame fill.node fill.entry on
       (slot_relies setup setting t stands.legal c call is_open has.knows.target (record { node = fill.node; index = fill.entry })
       has.knows.way)
-  by_work table a (Act (Remove close cap)) has on = by_close a close cap has.knows on
-  by_work table a (Act (Retype typing)) has on = by_typing typing.frame typing typing.at on
+  by_work table a (Act (Remove close cap)) has on read = by_close a close cap has.knows on
+  by_work table a (Act (Retype typing)) has on read = by_typing typing.frame typing typing.at on
+  by_work table a (Act (Make m)) has on read = by_making a m.frame m.core m.fill m.at has.knows.spot on read
+  by_work table a (Act (Outside node entry word)) has on read = absurd (false≢true has.goes)
 
   by_stage : (table : ℕ) (own : Own) (a : ActiveCall) (stage : Stage) → phase_at a.call stage ≡ Open call
       → KnowsAt setup t c table a stage
-      → word_of (stage_move own a.counts stage) ≡ EntryAt f i → Rests
-  by_stage table own a Enter is has on = absurd has
-  by_stage table own a (Undecided work) is has on = by_work table a work has.knows on
-  by_stage table own a (Decided r drawn tail) is has on = absurd (cc)
-  by_stage table own a (Leave r x) is has on = absurd (cc)
+      → word_of (stage_move own a.counts stage) ≡ EntryAt f i → reads (stage_move own a.counts stage) ≡ true → Rests
+  by_stage table own a Enter is has on read = absurd has
+  by_stage table own a (Undecided work) is has on read = by_work table a work has.knows on read
+  by_stage table own a (Decided r drawn tail) is has on read = absurd (cc)
+  by_stage table own a (Leave r x) is has on read = absurd (cc)
 
-  step_relies : (table : ℕ) (own : Own) (o : Option ActiveCall) → CallIs setup t c table o → word_of (move_in own o) ≡ EntryAt f i → Rests
-  step_relies table own None is on = absurd (cc)
-  step_relies table own (Some a) is on = by_stage table own a a.stage (sym is.phase ∙ is_open) is.knows on
+  step_relies : (table : ℕ) (own : Own) (o : Option ActiveCall) → CallIs setup t c table o → word_of (move_in own o) ≡ EntryAt f i
+      → reads (move_in own o) ≡ true → Rests
+  step_relies table own None is on read = absurd (cc)
+  step_relies table own (Some a) is on read = by_stage table own a a.stage (sym is.phase ∙ is_open) is.knows on read
 
 -- A step has read what it has found and left.
 record HasReadIt (e : Step) (w : ℕ) : Type 0 where
+  pub by_read : reads e.move ≡ true
   pub found : e.found ≡ w
   pub left : left_of e.move e.found ≡ e.found
+
+and_left : (a b : Bool) → (a && b) ≡ true → a ≡ true
+and_left true b h = refl
+and_left false b h = absurd (false≢true h)
 
 and_right : (a b : Bool) → (a && b) ≡ true → b ≡ true
 and_right true b h = h
 and_right false b h = absurd (false≢true h)
 
 has_read : (e : Step) (w : ℕ) (b : Bool) → only_reads e ≡ b → cond b (Some e.found) None ≡ Some w → HasReadIt e w
-has_read e w true is h = record { found = some_inj e.found w h; left = eqb-true (left_of e.move e.found) e.found (and_right _ _ is) }
+has_read e w true is h = record {
+  by_read = and_left _ _ is;
+  found = some_inj e.found w h;
+  left = eqb-true (left_of e.move e.found) e.found (and_right _ _ is);
+}
 has_read e w false is h = absurd (none_some w h)
 
 -- What a call had read before a step that leaves it so; and that step begins no call.
@@ -223,13 +249,16 @@ module _ (setup : Setting) (setting : IsSetting setup) where
         moves : word_of (move_of core) ≡ EntryAt f i
         moves = sym (on ∙ ap word_of move_is ∙ ap (λ o. word_of (move_of (turned o core))) no_entry)
 
+        reads_it : reads (move_of core) ≡ true
+        reads_it = sym (ap reads move_is ∙ ap (λ o. reads (move_of (turned o core))) no_entry) ∙ read.by_read
+
         word : (f < core.own.layout.frames) × (i < 64)
         word = subst (IsIn core.own.layout) moves
             (moves_are_words core (stands.each e.core made.1.is_core).fits (subst (λ o. MayStep o core) no_entry made.1.may)).is_in
 
         relies : Relies (state_after setup t) e.core f
         relies = step_relies setup setting t (cores_after setup t) stands e.core call is_open f i core.own.table core.own core.active
-            (stands.each e.core made.1.is_core).active moves
+            (stands.each e.core made.1.is_core).active moves reads_it
 
   -- what holds before a step within a call or beside it holds after it
   lasts_on : (t : Trace) (e : Step) → IsMade setup (e ∷ t) → FoundLasts setup t → FoundLasts setup (e ∷ t)

@@ -11,14 +11,19 @@ use Rattle.call_steps.specs.Fits.{TailFits, StageFits, CallFits}
 use Rattle.call_steps.specs.Cores.{move_in}
 use Rattle.call_acts.specs.declared.own.Own.{Own}
 use Rattle.call_acts.specs.declared.work.Act.{Act}
-use Rattle.call_acts.specs.declared.work.Act.TheVariants.{Fill, Remove, Retype}
+use Rattle.call_acts.specs.declared.work.Act.TheVariants.{Fill, Remove, Retype, Make, Outside}
 use Rattle.spk_nums.specs.declared.kinds.FrameKind.{FrameKind}
 use Rattle.call_acts.specs.declared.typings.TypingAt.{TypingAt}
 use Rattle.call_acts.specs.declared.typings.TypingAt.TheVariants.{Load, Compare as type_compare}
 use Rattle.call_acts.specs.Typings.{typing_at}
+use Rattle.call_acts.specs.declared.fills.Fill.{Fill as FillOf}
+use Rattle.call_acts.specs.declared.makings.MakingAt.{MakingAt}
+use Rattle.call_acts.specs.declared.makings.MakingAt.TheVariants as making
+use Rattle.call_acts.specs.Fills.{FillFits}
+use Rattle.call_acts.specs.Makings.{MakingAtFits, making_at}
 use Rattle.call_acts.specs.declared.work.Work.TheVariants.{Lookup, Scan, Acquire, Act as act_work}
 use Rattle.call_acts.specs.declared.work.Tail.{Tail}
-use Rattle.call_acts.specs.declared.work.Tail.TheVariants.{Nothing, Quiesce}
+use Rattle.call_acts.specs.declared.work.Tail.TheVariants.{Nothing, Quiesce, Unmark}
 use Rattle.call_acts.specs.Acts.{ActFits, act_move}
 use Rattle.call_steps.specs.Tails.{tail_move}
 use Rattle.std.specs.Prelude.{List, [], ◌∷◌}
@@ -63,10 +68,19 @@ typing_named : (f : ℕ) (k : FrameKind) (at : TypingAt) → shared (word_of (ty
 typing_named f k Load = refl
 typing_named f k (type_compare word) = refl
 
+making_named : (f core : ℕ) (fill : FillOf) (at : MakingAt)
+    → shared (word_of (making_at f core fill at)) ≡ word_of (making_at f core fill at)
+making_named f core fill making.Load = refl
+making_named f core fill (making.Mark word) = refl
+making_named f core fill (making.Store word entry) = refl
+making_named f core fill (making.Fill word) = refl
+
 act_named : (act : Act) → shared (word_of (act_move act)) ≡ word_of (act_move act)
 act_named (Fill fill) = refl
 act_named (Remove close cap) = close_named close
 act_named (Retype typing) = typing_named typing.frame typing.kind typing.at
+act_named (Make m) = making_named m.frame m.core m.fill m.at
+act_named (Outside node entry word) = refl
 
 -- a count's word is that of its core's counter
 pin_named : (pin : Pin) → shared (word_of (pin_move pin)) ≡ word_of (pin_move pin)
@@ -76,6 +90,7 @@ pin_named (AtCompare frame core count stamp) = refl
 tail_named : (r : Reply) (drawn : Option ℕ) (tail : Tail) (counts : List Acquired)
     → shared (word_of (tail_move r drawn tail counts)) ≡ word_of (tail_move r drawn tail counts)
 tail_named r drawn (Quiesce close) counts = close_named close
+tail_named r drawn (Unmark f word) counts = refl
 tail_named r drawn Nothing [] = refl
 tail_named r drawn Nothing (x ∷ xs) = refl
 
@@ -93,15 +108,25 @@ typing_in : (shape : Shape) (f : ℕ) (k : FrameKind) (at : TypingAt) → f < sh
 typing_in shape f k Load fits = fits
 typing_in shape f k (type_compare word) fits = fits
 
+making_in : (shape : Shape) (f core : ℕ) (fill : FillOf) (at : MakingAt) → f < shape.frames → FillFits shape fill → MakingAtFits at
+    → IsIn shape (word_of (making_at f core fill at))
+making_in shape f core fill making.Load frame fits at = frame
+making_in shape f core fill (making.Mark word) frame fits at = frame
+making_in shape f core fill (making.Store word entry) frame fits at = (frame, at)
+making_in shape f core fill (making.Fill word) frame fits at = (fits.node, fits.entry)
+
 act_in : (shape : Shape) (act : Act) → ActFits shape act → IsIn shape (word_of (act_move act))
 act_in shape (Fill fill) fits = (fits.node, fits.entry)
 act_in shape (Remove close cap) fits = close_is_in shape close fits.0
 act_in shape (Retype typing) fits = typing_in shape typing.frame typing.kind typing.at fits
+act_in shape (Make m) fits = making_in shape m.frame m.core m.fill m.at fits.frame fits.fill fits.at
+act_in shape (Outside node entry word) fits = fits
 
 tail_in : (shape : Shape) (r : Reply) (drawn : Option ℕ) (tail : Tail) (counts : List Acquired) → TailFits shape tail
     → AllFit shape counts
     → IsIn shape (word_of (tail_move r drawn tail counts))
 tail_in shape r drawn (Quiesce close) counts fits fit = close_is_in shape close fits
+tail_in shape r drawn (Unmark f word) counts fits fit = fits
 tail_in shape r drawn Nothing [] fits fit = tt
 tail_in shape r drawn Nothing (x ∷ xs) fits fit =
     settle_is_in shape (commit_of (is_ok r) drawn x) (commit_fits shape (is_ok r) drawn x (All-head (AcquiredFits shape) x xs fit))

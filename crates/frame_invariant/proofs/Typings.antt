@@ -67,9 +67,10 @@ use Rattle.core_invariant.specs.Holding.{holds_counts, settled_by, settled}
 use Rattle.core_invariant.specs.Words.{IsFrameWord, WordIs, count_room}
 use Rattle.core_invariant.specs.Knows.{HasFound, own_in, due_of, TypesBy, HasMet, KnowsUndecided, WorksIn, phase_at}
 use Rattle.core_invariant.specs.Stands.{holds_at, holds_in, holds, held_by, times_of, counted_in, Stands}
-use Rattle.core_invariant.proofs.Calm.{counts, calm_counted, own_works, counted_rises, room_rises, IsPlain, plain_stamp, plain_flush, plain_exit}
+use Rattle.core_invariant.proofs.Calm.{counts, calm_counted, own_works, counted_rises, room_rises, IsPlain, plain_begins, plain_stamp, plain_flush, plain_exit}
 use Rattle.core_invariant.proofs.Carries.{names_on, own_kept}
 use Rattle.core_invariant.proofs.CountSums.{counted_refs}
+use Rattle.core_invariant.proofs.Good.{spares_other}
 use Rattle.core_invariant.proofs.Loads.{IsOfCall, OnlyLooks, step_to, next_at, core_at, inner, call_is, is_active, loads_on}
 use Rattle.core_invariant.proofs.Refusals.{GoodTook, not_spent, refuses_raced, refuses_busy, refuses_frame_kind}
 use Rattle.core_invariant.proofs.Sounds.{limits_of}
@@ -327,6 +328,7 @@ module _ (setup : Setting) (setting : IsSetting setup) (cores : ℕ → Core) (t
               };
             };
             all = has.knows.all;
+            goes = refl;
           };
         })
       where
@@ -571,7 +573,7 @@ module _ (setup : Setting) (setting : IsSetting setup) (cores : ℕ → Core) (t
       won lands = writes_on setup setting cores t stands c here a active compare made (reply.Ok Nothing) a.found
           (Decided (reply.Ok Nothing) None no_tail) unmarked bare_now
           (subst (λ (n : ℕ). n < 2 ^ 64) (sym leaves_it) (spelling.small (typed k) (typed_fits k)))
-          of_call lands opens refl refl alike plain rises works stays
+          of_call lands opens refl refl alike (plain_begins setup t e plain) (spares_other setup t e (λ g i h. cc)) rises works stays
           (subst (WordIs s' (times_of setup (e ∷ t)) (FrameAt f)) (sym leaves_it) now_says)
           held_is (λ w own. absurd (free_of w own))
           (sums_keep setup t e (held_by cores) (held_by (put cores c after))

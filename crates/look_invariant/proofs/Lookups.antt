@@ -138,10 +138,12 @@ root_slots : (table : Named) (n : ℕ) → table.found ≡ true → n ≤ 4095 �
 root_slots table n found within = ap (λ b. if b then root_slot table.frame n ∷ [] else []) (passes table n found within)
 
 -- By a link that core c may use, it reaches the leaf's place for the number.
-pub leaf_reached : (s : State) (c : ℕ) (table : Named) (n leaf : ℕ) → table.found ≡ true → n ≤ 4095 → linked (usable s c (root_slot table.frame n)) ≡ Some leaf
+pub leaf_reached : (s : State) (c : ℕ) (table : Named) (n leaf : ℕ) → table.found ≡ true → n ≤ 4095
+    → linked (usable s c (root_slot table.frame n)) ≡ Some leaf
     → reached s c (Under table n) ≡ Some (record { node = leaf; index = n % 64 })
 leaf_reached s c table n leaf found within link =
-    ap (λ b. if b then slot_in (linked (usable s c (root_slot table.frame n))) (n % 64) else None) (passes table n found within) ∙ ap (λ l. slot_in l (n % 64)) link
+    ap (λ b. if b then slot_in (linked (usable s c (root_slot table.frame n))) (n % 64) else None) (passes table n found within)
+    ∙ ap (λ l. slot_in l (n % 64)) link
 
 -- What may be used links to the leaf to which what stands there links.
 link_shown : (p : Place) (waits : Bool) (leaf : ℕ) → linked (usable_in p waits) ≡ Some leaf → linked (capability_in p) ≡ Some leaf

@@ -1,5 +1,6 @@
 -- The entry of a removal is closed and given back: the compare that marks it is lost to another core or holds it for the call, and the
 -- store of a decided removal leaves the quiescing entry for which it stood.
+use Rattle.core_invariant.proofs.Good.{spares_node}
 use Rattle.std.proofs.Common.{◌≡◌, ◌≢◌, inl, inr, ℕ, ◌^◌, ◌<◌, ◌==◌, ◌∷◌, [], Bool, true, false, List, Option, Some, None, arith, refl, sym, ◌∙◌, ap, subst, IsTrue, if◌then◌else◌}
 use Rattle.std.proofs.lemmas.Bool.{eqb-true, eqb-false, eq-eqb}
 use Rattle.spk_nums.specs.Capability.{Capability}
@@ -219,10 +220,12 @@ module _ (setup : Setting) (setting : IsSetting setup) (cores : ℕ → Core) (t
               knows = removal_on setup setting t e stands.legal c a.call is_open carries a.call a.plan a.found node index cap
                   has.knows.knows.removal;
               all = has.knows.all;
+              goes = refl;
             };
           })
           (counts_on setup t e c a.call (λ own. refl) a.counts (call_is setup setting cores t stands c here a active).counts)
           (call_is setup setting cores t stands c here a active).apart
+          (spares_node setup t e node index refl in_node)
 
     pub close_good : GoodTook setup cores t c compare (landed a
         (took_close cap (close_at (was == word) node index word by) (close_compared (was == word))))
@@ -289,3 +292,4 @@ module _ (setup : Setting) (setting : IsSetting setup) (cores : ℕ → Core) (t
         (λ carries. tt)
         (counts_on setup t e c a.call (λ own. refl) a.counts (call_is setup setting cores t stands c here a active).counts)
         (call_is setup setting cores t stands c here a active).apart
+        (spares_node setup t e node index refl has.relies.node)

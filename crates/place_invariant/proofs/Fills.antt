@@ -1,4 +1,5 @@
 -- The filling compare of a copy is good: it is lost to another core, or the place is free and takes the capability.
+use Rattle.core_invariant.proofs.Good.{spares_node}
 use Rattle.std.proofs.Common.{◌≡◌, ◌≢◌, ◌⊎◌, inl, inr, ℕ, pos, length, ◌≤◌, ◌+◌, ◌^◌, ◌/◌, ◌%◌, ◌<◌, ◌==◌, ◌&&◌, nat_le, if◌then◌else◌, ◌∷◌, [], Bool, true, false, List, Option, Some, None, arith, refl, sym, ◌∙◌, ap, subst, IsTrue, ◌+ℤ◌, max}
 use Rattle.std.specs.Prelude.{option_to_list}
 use Rattle.std.proofs.lemmas.Bool.{eqb-true, eqb-false, eq-eqb, false≢true}
@@ -6,7 +7,7 @@ use Rattle.spk_nums.specs.Capability.{Capability}
 use Rattle.spk_nums.specs.Setting.{Setting, IsSetting}
 use Rattle.spk_nums.specs.declared.kinds.Kind.TheVariants as kind
 use Rattle.spk_nums.specs.declared.calls.Call.{Call}
-use Rattle.spk_nums.specs.declared.calls.Call.TheVariants.{Look, Copy, Remove, Shrink, Unmap, Retype}
+use Rattle.spk_nums.specs.declared.calls.Call.TheVariants.{Look, Copy, Remove, Shrink, Unmap, Retype, Make as make_call}
 use Rattle.spk_nums.specs.declared.kinds.Kind.{Kind}
 use Rattle.supported_calls.specs.Built.{IsBuilt}
 use Rattle.spk_nums.specs.declared.replies.Value.TheVariants.{Nothing}
@@ -407,7 +408,7 @@ module _ (setup : Setting) (setting : IsSetting setup) (cores : ℕ → Core) (t
         ((cores c).own.made + calls_counted (reply.Ok Nothing)) (reply.Ok Nothing) a.found (Decided (reply.Ok Nothing) None no_tail)
         refl unmarked.mark bare_now
         (subst (λ (n : ℕ). n < 2 ^ 64) (sym leaves) (spelling.small (Held k) fits))
-        of_call lands opens refl refl calm plain counts elsewhere
+        of_call lands opens refl refl calm plain (spares_node setup t e node index refl in_node) counts elsewhere
         (subst (WordIs (state_after setup (e ∷ t)) (times_of setup (e ∷ t)) (EntryAt node index)) (sym leaves) word_now)
         held_is (λ w own. counts_commit setup setting cores t stands c here a active (pos 1) one_small None none_small
         (named_by k.kind k.frame) few has.knows.all compare
@@ -468,6 +469,7 @@ puts_by s c target q (Remove u b) built ks lead none next puts = absurd (cc)
 puts_by s c target q (Shrink u i) built ks lead none next puts = absurd (cc)
 puts_by s c target q (Unmap p v) built ks lead none next puts = absurd (cc)
 puts_by s c target q (Retype r f k) built ks lead none next puts = absurd (cc)
+puts_by s c target q (make_call what r f u b) built ks lead none next puts = absurd (cc)
 puts_by s c target q call built ks lead none next puts = absurd built
 
 module _ (setup : Setting) (setting : IsSetting setup) (cores : ℕ → Core) (t : Trace) (stands : Stands setup cores t) (c : ℕ)

@@ -1,3 +1,6 @@
+pub mod Starts
+pub mod NodeMakes
+pub mod Outside
 pub mod Fills
 pub mod Vacancy
 pub mod Removals

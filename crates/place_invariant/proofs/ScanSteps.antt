@@ -1,9 +1,11 @@
 -- A step of a scan for a place that is quiescing is good: it is refused by a core that may still use what was removed, or goes on to the
 -- next core, and from the last to the counts of the act.
-use Rattle.std.proofs.Common.{◌≡◌, ◌≢◌, ◌⊎◌, ℕ, ◌<◌, ◌≤◌, ◌&&◌, ◌++◌, nat_lt, nat_le, if◌then◌else◌, map, length, Bool, true, false, List, [], ◌∷◌, Option, Some, None, IsTrue, inl, inr, arith, refl, sym, ◌∙◌, ap, subst}
+use Rattle.place_invariant.proofs.Outside.{refused_outside}
+use Rattle.place_invariant.proofs.Starts.{IsRefusedOutside as RefusedOutside, starts_good}
+use Rattle.std.proofs.Common.{◌≡◌, ◌≢◌, ◌⊎◌, ℕ, ◌<◌, ◌≤◌, ◌&&◌, ◌++◌, nat_lt, nat_le, if◌then◌else◌, Bool, true, false, [], ◌∷◌, Option, Some, None, IsTrue, inl, inr, arith, refl, sym, ◌∙◌, ap, subst}
 use Rattle.std.specs.Prelude.{IsSomeAnd, ◌==◌, ◌||◌}
 use Rattle.std.specs.List.{list_any}
-use Rattle.std.proofs.lemmas.Bool.{eq-eqb, ltb-false, leb-true, leb-false}
+use Rattle.std.proofs.lemmas.Bool.{eq-eqb, ltb-false, leb-true, leb-false, false≢true}
 use Rattle.spk_nums.specs.Setting.{Setting, IsSetting}
 use Rattle.spk_nums.specs.declared.replies.Reply.TheVariants as reply
 use Rattle.entry_words.specs.EntryWord.{entry_of_word}
@@ -25,7 +27,7 @@ use Rattle.kernel_history.specs.Trace.{Step, Trace, Open, phase, state_after, la
 use Rattle.kernel_history.specs.Ways.{waited_in, thing_at, asked_of}
 use Rattle.kernel_history.proofs.Carries.{Carries, was_before}
 use Rattle.kernel_history.proofs.Laws.{not_inside}
-use Rattle.kernel_history.proofs.Steps.{own_read-there}
+use Rattle.kernel_history.proofs.Steps.{own_read-there, last_left-there}
 use Rattle.kernel_history.proofs.Waiting.{out_passed, later_passed, may_wait}
 use Rattle.stage_quiet.specs.declared.quiet.Quiet.{Quiet}
 use Rattle.stage_quiet.specs.declared.quiet.Quiet.TheVariants.{AtCore, AtFlush}
@@ -34,29 +36,26 @@ use Rattle.call_plans.specs.GoesBy.{GoesBy, OwnPages, own_pages}
 use Rattle.call_plans.specs.After.{Leads, LeadsIn, NextFree, rule_after, NextMay}
 use Rattle.call_plans.proofs.AfterNames.{Begins, left_begins, next_may}
 use Rattle.plan_ways.proofs.Ways.{asked_left}
-use Rattle.call_acts.specs.declared.fills.Fill.{Fill}
 use Rattle.call_acts.specs.declared.refusals.Refusal.TheVariants as refusal
 use Rattle.call_acts.specs.declared.work.Act.{Act as ActOf}
-use Rattle.call_acts.specs.declared.work.Act.TheVariants.{Fill as fill_act, Remove as remove_act, Retype as type_act}
+use Rattle.call_acts.specs.declared.work.Act.TheVariants.{Fill as fill_act, Remove as remove_act, Retype as type_act, Make as make_act, Outside}
 use Rattle.call_acts.specs.declared.work.Work.TheVariants.{Scan}
-use Rattle.call_steps.specs.declared.stages.Stage.{Stage}
 use Rattle.call_steps.specs.declared.stages.Stage.TheVariants.{Undecided}
 use Rattle.call_steps.specs.declared.stages.ActiveCall.{ActiveCall}
 use Rattle.call_acts.specs.declared.work.WorkStep.TheVariants.{Goes}
 use Rattle.call_acts.specs.WorkSteps.{refuse}
-use Rattle.call_acts.specs.Acts.{dues, next_work, stamp_shown}
+use Rattle.call_acts.specs.Acts.{stamp_shown, starts}
 use Rattle.call_steps.specs.Fits.{StageFits, CountsAt, HasRoom}
 use Rattle.call_steps.specs.Steps.{landed, took_scan}
 use Rattle.call_steps.specs.View.{Core}
-use Rattle.stage_pins.specs.declared.held.Acquired.{Acquired}
 use Rattle.core_invariant.specs.Holding.{holds_counts}
-use Rattle.core_invariant.specs.Knows.{due_of, HasPassed, IsScanned, MayFill, KnowsAct, KnowsUndecided, phase_at}
+use Rattle.core_invariant.specs.Knows.{HasPassed, IsScanned, MayFill, KnowsAct, KnowsUndecided, phase_at, IsSpot, goes_on as goes_on_act}
 use Rattle.core_invariant.specs.Stands.{holds_at, holds_in, Stands}
 use Rattle.core_invariant.proofs.Carries.{names_on, act_on}
-use Rattle.core_invariant.proofs.Loads.{OnlyLooks, step_to, next_at, inner, core_is, call_is, is_active, loads_on, decides_on}
+use Rattle.core_invariant.proofs.Loads.{OnlyLooks, step_to, inner, core_is, call_is, is_active, loads_on, decides_on}
 use Rattle.core_invariant.proofs.Refusals.{GoodTook, not_spent}
 use Rattle.core_invariant.proofs.Sounds.{limits_of}
-use Rattle.count_invariant.proofs.Acquiring.{knows_next, next_holds, plan_leads, goes_by}
+use Rattle.count_invariant.proofs.Acquiring.{plan_leads, goes_by}
 use Rattle.place_invariant.proofs.Scans.{before_next}
 
 -- A word that may be filled, and since whose stamp is scanned, says that it is quiescing since then.
@@ -89,25 +88,26 @@ asks_for s c pages target _ at is way = absurd is
 
 module _ (setup : Setting) (setting : IsSetting setup) (cores : ℕ → Core) (t : Trace) (stands : Stands setup cores t) (c : ℕ)
     (here : c < setup.cores)
-    (a : ActiveCall) (active : (cores c).active ≡ Some a) (x by at : ℕ) (page : Bool) (fill : Fill)
-    (stage_is : a.stage ≡ Undecided (Scan (AtCore x by at page) (fill_act fill)))
-    (has : KnowsUndecided setup t c (cores c).own.table a (Scan (AtCore x by at page) (fill_act fill))) where
+    (a : ActiveCall) (active : (cores c).active ≡ Some a) (x by at : ℕ) (page : Bool) (act : ActOf) (node index word : ℕ)
+    (stage_is : a.stage ≡ Undecided (Scan (AtCore x by at page) act))
+    (has : KnowsUndecided setup t c (cores c).own.table a (Scan (AtCore x by at page) act))
+    (spot : IsSpot setup t c a.plan a.found at node index word) (since : stamp_shown (entry_of_word word) ≡ x)
+    (again : (upto : ℕ) → IsSpot setup t c a.plan a.found upto node index word → KnowsAct setup t c a.call a.plan a.found upto act)
+    (outside : goes_on_act act ≡ false → IsSpot setup t c a.plan a.found setup.cores node index word
+    → RefusedOutside setup t c a.call (LoadOf (CoreAt at))) where
   abbrev s : State
   s = state_after setup t
 
-  abbrev act : ActOf
-  act = fill_act fill
-
   abbrev slot : Slot
-  slot = record { node = fill.node; index = fill.entry }
+  slot = record { node = node; index = index }
 
   abbrev thing : Thing
-  thing = PlaceOf fill.node fill.entry
+  thing = PlaceOf node index
 
   abbrev was : ℕ
   was = last_left setup t (CoreAt at)
 
-  fits : StageFits (cores c).own.layout (Undecided (Scan (AtCore x by at page) (fill_act fill)))
+  fits : StageFits (cores c).own.layout (Undecided (Scan (AtCore x by at page) act))
   fits = subst (StageFits (cores c).own.layout) stage_is (is_active setup setting cores t stands c here a active).stage
 
   below : at < setup.cores
@@ -134,8 +134,8 @@ module _ (setup : Setting) (setting : IsSetting setup) (cores : ℕ → Core) (t
   room : (cores c).own.made < (cores c).own.limit
   room = subst (HasRoom (cores c).own.made (cores c).own.limit) stage_is (is_active setup setting cores t stands c here a active).room
 
-  scan : IsScanFor setup t c thing x at (entry_of_word fill.word)
-  scan = scan_for setup t c thing x at (entry_of_word fill.word) has.knows.stamp drawn has.knows.knows.vacant
+  scan : IsScanFor setup t c thing x at (entry_of_word word)
+  scan = scan_for setup t c thing x at (entry_of_word word) since drawn spot.vacant
 
   looks : OnlyLooks setup t c a.call (LoadOf (CoreAt at))
   looks = record { of_call = record { moves = refl; near = inl tt }; kept = refl; apart = λ d. refl }
@@ -161,17 +161,17 @@ module _ (setup : Setting) (setting : IsSetting setup) (cores : ℕ → Core) (t
 
     may : RuleMay s c (rule_of s c a.call) (reply.Quiescing at)
     may = next_may s c (own_pages s c) a.plan (rule_of s c a.call) a.found by_plan leads (reply.Quiescing at)
-        (subst (λ n. NextMay s c (own_pages s c) n (reply.Quiescing at)) (sym has.knows.knows.next)
-        (subst (λ o. IsSomeAnd o (λ at2. MayWait s c (PlaceOf at2.node at2.index) at)) (sym has.knows.knows.way.reached) waits))
+        (subst (λ n. NextMay s c (own_pages s c) n (reply.Quiescing at)) (sym spot.next)
+        (subst (λ o. IsSomeAnd o (λ at2. MayWait s c (PlaceOf at2.node at2.index) at)) (sym spot.way.reached) waits))
 
     justified : IsWaiting setup t e s (rule_of s c a.call) at
     justified = record {
       thing = thing;
       asked = subst (λ things. IsTrue (list_any (same_thing thing) things))
           (sym (asked_left s c (own_pages s c) a.plan (rule_of s c a.call) a.found by_plan leads waited_in))
-          (asks_for s c (own_pages s c) has.knows.knows.target (rule_after (rule_of s c a.call) a.found) slot
-          (subst (λ n. Begins (own_pages s c) n (rule_after (rule_of s c a.call) a.found)) has.knows.knows.next
-          (left_begins s c (own_pages s c) a.plan (rule_of s c a.call) a.found by_plan leads)) has.knows.knows.way.reached);
+          (asks_for s c (own_pages s c) spot.target (rule_after (rule_of s c a.call) a.found) slot
+          (subst (λ n. Begins (own_pages s c) n (rule_after (rule_of s c a.call) a.found)) spot.next
+          (left_begins s c (own_pages s c) a.plan (rule_of s c a.call) a.found by_plan leads)) spot.way.reached);
       may_wait = waits;
       was_removed = was_before (IsRemoved thing) setup t e refl scan.scanned.was_removed;
     }
@@ -185,14 +185,12 @@ module _ (setup : Setting) (setting : IsSetting setup) (cores : ℕ → Core) (t
 
   -- The core has passed.
   module _ (passed : HasPassed setup t thing x at) where
-    more : (upto : ℕ) → ((d : ℕ) → d < upto → d ≢ c → (d < at) ⊎ (d ≡ at)) → KnowsAct setup t c a.call a.plan a.found upto act
-    more upto before = record {
-      target = has.knows.knows.target;
-      next = has.knows.knows.next;
-      way = has.knows.knows.way;
-      own = has.knows.knows.own;
-      fits = has.knows.knows.fits;
-      puts = has.knows.knows.puts;
+    spot_then : (upto : ℕ) → ((d : ℕ) → d < upto → d ≢ c → (d < at) ⊎ (d ≡ at)) → IsSpot setup t c a.plan a.found upto node index word
+    spot_then upto before = record {
+      target = spot.target;
+      next = spot.next;
+      way = spot.way;
+      own = spot.own;
       vacant = subst (MayFill setup t c thing upto) (sym scan.shows) (record {
         some = scan.scanned.some;
         past = scan.scanned.past;
@@ -204,6 +202,9 @@ module _ (setup : Setting) (setting : IsSetting setup) (cores : ℕ → Core) (t
         ];
       });
     }
+
+    more : (upto : ℕ) → ((d : ℕ) → d < upto → d ≢ c → (d < at) ⊎ (d ≡ at)) → KnowsAct setup t c a.call a.plan a.found upto act
+    more upto before = again upto (spot_then upto before)
 
     entry_apart : (f i : ℕ) → EntryAt f i ≢ CoreAt at
     entry_apart f i h = cc
@@ -220,6 +221,7 @@ module _ (setup : Setting) (setting : IsSetting setup) (cores : ℕ → Core) (t
         (record {
           entries = λ f i. own_read-there c e t refl (EntryAt f i) (entry_apart f i);
           frames = λ f. own_read-there c e t refl (FrameAt f) (frame_apart f);
+          stored = λ f i marked. last_left-there setup (EntryAt f i) e t (entry_apart f i);
         }) (more upto before)
 
     -- the next core is scanned
@@ -239,22 +241,14 @@ module _ (setup : Setting) (setting : IsSetting setup) (cores : ℕ → Core) (t
           };
         })
 
-    -- there is none: the counts of the act are acquired
+    -- there is none: the act starts
     ends : setup.cores ≤ next_other by at
-        → GoodTook setup cores t c (LoadOf (CoreAt at)) (landed a (Goes (next_work (cores c).own.core 0 act)))
-    ends last lands =
-        let e : Step = step_to c None (LoadOf (CoreAt at)) was None None in
-        let stage : Stage = Undecided (next_work (cores c).own.core 0 act) in
-        loads_on setup setting cores t stands c here a active (LoadOf (CoreAt at)) a.found stage looks lands
-        (next_holds (cores c).own.core 0 act (holds_counts None a.counts) refl ∙ sym held_is) opens
-        (λ carries. record {
-          names = names_on setup setting t e stands.legal c a.call is_open carries (cores c).own.table a.plan a.found has.names;
-          knows = knows_next setup (e ∷ t) c (cores c).own.table (next_at a a.found stage) (cores c).own.core act (dues act)
-              (stands.each c here).number
-              (carried setup.cores (λ d under apart. before_next c at d (below_next d under) apart) carries)
-              (ap (λ (xs : List Acquired). map due_of xs ++ dues act) (sym no_counts)) 0
-              (ap (λ (xs : List Acquired). length xs) (sym no_counts)) refl;
-        })
+        → GoodTook setup cores t c (LoadOf (CoreAt at)) (landed a (starts (cores c).own.core act))
+    ends last = starts_good setup setting cores t stands c here a active opens held_is no_counts room has.names (LoadOf (CoreAt at)) looks
+        act
+        has.knows.starts
+        (carried setup.cores (λ d under apart. before_next c at d (below_next d under) apart))
+        (λ out. outside out (spot_then setup.cores (λ d under apart. before_next c at d (below_next d under) apart)))
       where
         below_next : (d : ℕ) → d < setup.cores → d < next_other c at
         below_next d under = subst (λ (n : ℕ). d < next_other n at) has.knows.core (omega arith)
@@ -303,15 +297,61 @@ pub scan_good : (setup : Setting) → IsSetting setup → (cores : ℕ → Core)
     (quiet_after (cores c).own.layout.cores q (told_of (quiet_move q) (last_left setup t (word_of (quiet_move q)))))
     (quiet_end (cores c).own.layout.cores q (told_of (quiet_move q) (last_left setup t (word_of (quiet_move q)))))))
 scan_good setup setting cores t stands c here a active (AtFlush x at) act is knows = absurd knows.knows
-scan_good setup setting cores t stands c here a active (AtCore x by at page) (remove_act close cap) is knows =
-    absurd (let none : 0 ≡ x = knows.knows.stamp in let some = (subst (StageFits (cores c).own.layout) is
-    (is_active setup setting cores t stands c here a active).stage).1.2 in omega arith)
-scan_good setup setting cores t stands c here a active (AtCore x by at page) (type_act typing) is knows =
-    absurd (let none : 0 ≡ x = knows.knows.stamp in let some = (subst (StageFits (cores c).own.layout) is
-    (is_active setup setting cores t stands c here a active).stage).1.2 in omega arith)
-scan_good setup setting cores t stands c here a active (AtCore x by at page) (fill_act fill) is knows =
-    subst (λ (n : ℕ). GoodTook setup cores t c (LoadOf (CoreAt at)) (landed a (took_scan (cores c).own.core (fill_act fill)
-    (quiet_after n (AtCore x by at page) (last_left setup t (CoreAt at)))
-    (quiet_end n (AtCore x by at page) (last_left setup t (CoreAt at))))))
-    (sym (ap (λ s. s.cores) (stands.each c here).shape)) (core_good setup setting cores t stands c here a active x by at page fill is
-    knows)
+scan_good setup setting cores t stands c here a active (AtCore x by at page) act is knows = subst Goal
+    (sym (ap (λ s. s.cores) (stands.each c here).shape)) (by_act act is knows)
+  where
+    Goal : ℕ → Type 0
+    Goal n = GoodTook setup cores t c (LoadOf (CoreAt at)) (landed a (took_scan (cores c).own.core act
+        (quiet_after n (AtCore x by at page) (last_left setup t (CoreAt at)))
+        (quiet_end n (AtCore x by at page) (last_left setup t (CoreAt at)))))
+
+    none_scanned : (act : ActOf) → a.stage ≡ Undecided (Scan (AtCore x by at page) act) → 0 ≡ x → ⊥
+    none_scanned act is none = let some = (subst (StageFits (cores c).own.layout) is
+        (is_active setup setting cores t stands c here a active).stage).1.2 in omega arith
+
+    outside_fits : (node entry word : ℕ) → a.stage ≡ Undecided (Scan (AtCore x by at page) (Outside node entry word)) → entry < 64
+    outside_fits node entry word is = (subst (StageFits (cores c).own.layout) is
+        (is_active setup setting cores t stands c here a active).stage).2.1
+
+    by_act : (act : ActOf) → a.stage ≡ Undecided (Scan (AtCore x by at page) act)
+        → KnowsUndecided setup t c (cores c).own.table a (Scan (AtCore x by at page) act)
+        → GoodTook setup cores t c (LoadOf (CoreAt at)) (landed a (took_scan (cores c).own.core act
+        (quiet_after setup.cores (AtCore x by at page) (last_left setup t (CoreAt at)))
+        (quiet_end setup.cores (AtCore x by at page) (last_left setup t (CoreAt at)))))
+    by_act (remove_act close cap) is knows = absurd (none_scanned (remove_act close cap) is knows.knows.stamp)
+    by_act (type_act typing) is knows = absurd (none_scanned (type_act typing) is knows.knows.stamp)
+    by_act (fill_act fill) is knows =
+        core_good setup setting cores t stands c here a active x by at page (fill_act fill) fill.node fill.entry fill.word is knows
+        (record {
+          target = knows.knows.knows.target;
+          next = knows.knows.knows.next;
+          way = knows.knows.knows.way;
+          own = knows.knows.knows.own;
+          vacant = knows.knows.knows.vacant;
+        }) knows.knows.stamp
+        (λ upto spot. record {
+          target = spot.target;
+          next = spot.next;
+          way = spot.way;
+          own = spot.own;
+          vacant = spot.vacant;
+          fits = knows.knows.knows.fits;
+          puts = knows.knows.knows.puts;
+        }) (λ out. absurd (false≢true (sym out)))
+    by_act (make_act m) is knows =
+        core_good setup setting cores t stands c here a active x by at page (make_act m) m.fill.node m.fill.entry m.fill.word is knows
+        knows.knows.knows.spot knows.knows.stamp
+        (λ upto spot. record {
+          spot = spot;
+          makes = knows.knows.knows.makes;
+          core = knows.knows.knows.core;
+          cap = knows.knows.knows.cap;
+          at = knows.knows.knows.at;
+        }) (λ out. absurd (false≢true (sym out)))
+    by_act (Outside node entry word) is knows =
+        core_good setup setting cores t stands c here a active x by at page (Outside node entry word) node entry word is knows
+        knows.knows.knows.spot knows.knows.stamp
+        (λ upto spot. record { spot = spot; outside = knows.knows.knows.outside })
+        (λ out spot. refused_outside setup setting cores t stands c here a active
+        (ap (phase_at a.call) is) knows.names node entry word spot (outside_fits node entry word is) knows.knows.knows.outside
+        (LoadOf (CoreAt at)))

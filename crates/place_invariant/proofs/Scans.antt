@@ -1,20 +1,15 @@
 -- The scan for a place that is quiescing: a step of it is refused by a core that may still use what was removed, or goes on to the next
 -- core, or to the counts of the act.
-use Rattle.std.proofs.Common.{◌≡◌, ◌≢◌, ◌⊎◌, ℕ, ◌+◌, ◌<◌, ◌≤◌, ◌==◌, nat_lt, if◌then◌else◌, Bool, true, false, Option, Some, None, inl, inr, arith, refl, sym, ◌∙◌, subst}
+use Rattle.stage_quiet.specs.declared.quiet.Quiet.TheVariants.{AtCore}
+use Rattle.stage_quiet.specs.declared.quiet.Quiet.{Quiet}
+use Rattle.std.proofs.Common.{◌≡◌, ◌≢◌, ◌⊎◌, ℕ, ◌+◌, ◌<◌, ◌≤◌, ◌==◌, nat_lt, if◌then◌else◌, Bool, true, false, Option, Some, None, inl, inr, arith, refl, sym, ◌∙◌, ap}
 use Rattle.std.proofs.lemmas.Bool.{false≢true, cases_eq, eq-eqb, eqb-true, eqb-false, ltb-true, ltb-false, leb-true, leb-false}
-use Rattle.spk_nums.specs.Setting.{Setting}
 use Rattle.entry_words.specs.declared.entry.Entry.{Entry}
 use Rattle.entry_words.specs.declared.entry.Entry.TheVariants as entry
 use Rattle.kernel_rules.specs.State.{Place, Free, Holds, Quiescing}
 use Rattle.kernel_history.specs.Justified.{IsRemovedPlace}
-use Rattle.kernel_history.specs.Stamps.{stamp}
-use Rattle.kernel_history.specs.Trace.{Trace}
 use Rattle.stage_quiet.specs.Scan.{first_other, next_other, core_scan, quiet_scan}
-use Rattle.call_acts.specs.declared.work.Act.{Act as ActOf}
-use Rattle.call_steps.specs.declared.stages.ActiveCall.{ActiveCall}
-use Rattle.call_acts.specs.Acts.{next_work, scans, stamp_of_act}
 use Rattle.core_invariant.specs.Words.{PlaceIs}
-use Rattle.core_invariant.specs.Knows.{due_of, HasPassed, IsScanned, MayFill, IsFill, KnowsAct, KnowsScan, KnowsWork, KnowsUndecided, phase_at}
 
 -- The cores before the first of a scan, and before the next: all but the one that scans are passed.
 pub before_first : (c d : ℕ) → d < first_other c → d ≢ c → ⊥
@@ -38,31 +33,44 @@ before_next c at d below other = elim (cases_eq d at) [
         ]
     by false is low apart = omega arith
 
--- What is known where a scan begins, or where none is needed.
-pub knows_scan : (setup : Setting) (t : Trace) (c table : ℕ) (a : ActiveCall) (core x : ℕ) (act : ActOf) → core ≡ c → c < setup.cores
-    → 1 ≤ x → stamp_of_act act ≡ x
-    → ((upto : ℕ) → ((d : ℕ) → d < upto → d ≢ c → ⊥) → KnowsAct setup t c a.call a.plan a.found upto act)
-    → (KnowsAct setup t c a.call a.plan a.found setup.cores act → KnowsWork setup t c table a (next_work core 0 act))
-    → Rattle.core_invariant.specs.Knows.is_start act ≡ true
-    → KnowsWork setup t c table a (scans core (quiet_scan x core setup.cores false) act)
-knows_scan setup t c table a core x act own here some stamp knows next starts =
-    subst (λ b. KnowsWork setup t c table a (scans core (if b then None else core_scan (nat_lt (first_other core) setup.cores) x core
-    (first_other core) false) act)) (sym not_zero)
-    (by (nat_lt (first_other core) setup.cores) refl)
+-- What is known where a scan begins: no core before the first other one is to be scanned; and where none is needed, there is no other.
+pub record ScanBegins (x core cores : ℕ) (q : Quiet) : Type 0 where
+  pub upto : ℕ
+  pub is : q ≡ AtCore x core upto false
+  pub before : (d : ℕ) → d < upto → d ≢ core → ⊥
+
+pub scan_begins : (x core cores : ℕ) → 1 ≤ x → (q : Quiet) → quiet_scan x core cores false ≡ Some q → ScanBegins x core cores q
+scan_begins x core cores some q is = by (nat_lt (first_other core) cores) refl
+    (ap (λ b. if b then None else core_scan (nat_lt (first_other core) cores) x core (first_other core) false) (sym not_zero) ∙ is)
   where
     not_zero : (x == 0) ≡ false
     not_zero = Rattle.std.proofs.lemmas.Bool.ne_eqb x 0 (omega arith)
 
-    by : (there : Bool) → nat_lt (first_other core) setup.cores ≡ there
-        → KnowsWork setup t c table a (scans core (core_scan there x core (first_other core) false) act)
-    by true is = record {
-      knows = knows (first_other core) (λ d below other. before_first core d below (λ same. other (same ∙ own)));
-      core = own;
-      stamp = stamp;
-      starts = starts;
+    some_quiet : (p r : Quiet) → Some p ≡ Some r → p ≡ r
+    some_quiet p r h = cc
+
+    none_quiet : (p : Quiet) → None ≡ Some p → ⊥
+    none_quiet p h = cc
+
+    by : (there : Bool) → nat_lt (first_other core) cores ≡ there → core_scan there x core (first_other core) false ≡ Some q
+        → ScanBegins x core cores q
+    by true below is = record {
+      upto = first_other core;
+      is = sym (some_quiet _ q is);
+      before = before_first core;
     }
-    by false is = next (knows setup.cores (λ d below other. before_first core d
-        (let past = ltb-false (first_other core) setup.cores is in omega arith) (λ same. other (same ∙ own))))
+    by false past is = absurd (none_quiet q is)
+
+pub scan_none : (x core cores : ℕ) → 1 ≤ x → quiet_scan x core cores false ≡ None → (d : ℕ) → d < cores → d ≢ core → ⊥
+scan_none x core cores some is d below other = by (nat_lt (first_other core) cores) refl
+    (ap (λ b. if b then None else core_scan (nat_lt (first_other core) cores) x core (first_other core) false) (sym not_zero) ∙ is)
+  where
+    not_zero : (x == 0) ≡ false
+    not_zero = Rattle.std.proofs.lemmas.Bool.ne_eqb x 0 (omega arith)
+
+    by : (there : Bool) → nat_lt (first_other core) cores ≡ there → core_scan there x core (first_other core) false ≡ None → ⊥
+    by true low is = cc
+    by false past is = before_first core d (let more = ltb-false (first_other core) cores past in omega arith) other
 
 -- The stamp since which the word of a place shows that it is quiescing.
 pub record ShowsSince (p : Place) (since x : ℕ) : Type 0 where

@@ -4,6 +4,8 @@
 #[cfg(test)]
 mod machine;
 #[cfg(test)]
+mod makes;
+#[cfg(test)]
 mod numbers;
 #[cfg(test)]
 mod plains;

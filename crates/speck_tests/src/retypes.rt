@@ -17,7 +17,7 @@ const STEPS: usize = 7;
 const ORDERS: u32 = 16_384;
 
 // The tables of the start with these entry lines added, and these lines of frames behind those of the start.
-fn tables(alloc: Global, added: &str, frames: &str) -> Result<String, Fail> {
+pub(crate) fn tables(alloc: Global, added: &str, frames: &str) -> Result<String, Fail> {
     let start = format!(in alloc; "{TO_ENTRIES}{added}{FROM_ENTRIES}")?;
     let typed = format!(in alloc; "{frames}live 0 epoch")?;
     let text = start.replace(alloc, "live 0 epoch", &typed)?;
@@ -25,7 +25,7 @@ fn tables(alloc: Global, added: &str, frames: &str) -> Result<String, Fail> {
 }
 
 // Whether the script of these lines ends with these reply lines and these tables.
-fn is_typed<R: Threads + Sync>(
+pub(crate) fn is_typed<R: Threads + Sync>(
     rt: &R,
     alloc: Global,
     lines: &str,
@@ -128,7 +128,7 @@ fn order_of(number: u32) -> [u8; 14] {
 }
 
 // Where a core's step of this number, from 0, stands in an order, if it stands there.
-fn place_of(order: &[u8], core: u8, step: usize) -> Option<usize> {
+pub(crate) fn place_of(order: &[u8], core: u8, step: usize) -> Option<usize> {
     let mut left = step;
     for (at, next) in order.iter().enumerate() {
         if *next == core {

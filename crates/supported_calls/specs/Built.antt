@@ -2,7 +2,9 @@
 use Rattle.spk_nums.specs.declared.kinds.FrameKind.{FrameKind}
 use Rattle.spk_nums.specs.declared.kinds.FrameKind.TheVariants.{Untyped, User, Kernel}
 use Rattle.spk_nums.specs.declared.calls.Call.{Call}
-use Rattle.spk_nums.specs.declared.calls.Call.TheVariants.{Look, Copy, Remove, Shrink, Retype, Unmap}
+use Rattle.spk_nums.specs.declared.calls.Call.TheVariants.{Look, Copy, Remove, Shrink, Retype, Make as make_call, Unmap}
+use Rattle.spk_nums.specs.declared.calls.Make.{Make}
+use Rattle.spk_nums.specs.declared.calls.Make.TheVariants.{Table, Leaf, Pages, Pleaf, Thread, Tcap, Comp}
 
 -- a retype is carried out that makes an untyped frame a user or a kernel frame
 abbrev pub IsTyping : FrameKind → Type 0
@@ -10,7 +12,18 @@ IsTyping Untyped = ⊥
 IsTyping User = Unit {0}
 IsTyping Kernel = Unit {0}
 
--- the calls that the machine carries out today: `look`, `copy`, `remove`, `shrink`, `unmap`, and `retype` to user and to kernel
+-- a make is carried out of a node
+abbrev pub IsNodeMade : Make → Type 0
+IsNodeMade Table = Unit {0}
+IsNodeMade Leaf = Unit {0}
+IsNodeMade Pages = Unit {0}
+IsNodeMade Pleaf = Unit {0}
+IsNodeMade (Thread comp) = ⊥
+IsNodeMade (Tcap sched quality) = ⊥
+IsNodeMade (Comp table pages live) = ⊥
+
+-- the calls that the machine carries out today: `look`, `copy`, `remove`, `shrink`, `unmap`, `retype` to user and to kernel, and `make` of
+-- a node
 abbrev pub IsBuilt : Call → Type 0
 IsBuilt (Look a) = Unit {0}
 IsBuilt (Copy a t b) = Unit {0}
@@ -18,4 +31,5 @@ IsBuilt (Remove t b) = Unit {0}
 IsBuilt (Shrink t i) = Unit {0}
 IsBuilt (Retype r f k) = IsTyping k
 IsBuilt (Unmap p v) = Unit {0}
+IsBuilt (make_call what range frame table slot) = IsNodeMade what
 IsBuilt _ = ⊥

@@ -5,7 +5,7 @@
 ghost use Rattle.std.specs.Prelude.{IsTrue, ◌↔◌};
 ghost use Rattle.supported_calls.specs.Built.{IsBuilt};
 
-use spk_nums::{Call, FrameKind};
+use spk_nums::{Call, FrameKind, Make};
 
 /// Whether the machine carries the call out today.
 pub fn is_built(call: &Call) -> bool
@@ -21,6 +21,13 @@ pub fn is_built(call: &Call) -> bool
                 r: _,
                 f: _,
                 k: FrameKind::User | FrameKind::Kernel
+            }
+            | Call::Make {
+                what: Make::Table | Make::Leaf | Make::Pages | Make::Pleaf,
+                range: _,
+                frame: _,
+                table: _,
+                slot: _
             }
             | Call::Unmap { .. }
     )

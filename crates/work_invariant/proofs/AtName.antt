@@ -51,7 +51,7 @@ use Rattle.core_invariant.proofs.Loads.{OnlyLooks, step_to, core_is, loads_on, d
 use Rattle.core_invariant.proofs.Refusals.{GoodTook, not_spent}
 
 -- A frame of a range is one of the machine's.
-range_below : (frames : ℕ) (kind : Kind) (first number f : ℕ) → kind ≡ Range → end_of_frames kind first number ≤ frames
+pub range_below : (frames : ℕ) (kind : Kind) (first number f : ℕ) → kind ≡ Range → end_of_frames kind first number ≤ frames
     → (nat_le first f && nat_lt f (first + number)) ≡ true → f < frames
 range_below frames kind first number f is names has =
     let most : first + number ≤ frames = subst (λ (k : Kind). end_of_frames k first number ≤ frames) is names in
@@ -69,7 +69,8 @@ pub one_name : (names : List Name) (one name : Name) (rest : List Name) (ks : Li
 one_name names one name rest ks kind is left wanted = (
   none,
   named,
-  subst (λ (x : Name). wants [] x.wanted kind ≡ true) named (subst (λ (ks : List Capability). wants (with_found [] ks) name.wanted kind ≡ true) none
+  subst (λ (x : Name). wants [] x.wanted kind ≡ true) named (subst (λ (ks : List Capability). wants (with_found [] ks) name.wanted kind ≡
+      true) none
       wanted),
 )
   where
@@ -120,6 +121,7 @@ module _ (setup : Setting) (setting : IsSetting setup) (cores : ℕ → Core) (t
             met = tt;
           };
           all = ap (λ (xs : List Acquired). map due_of xs) (sym no_counts);
+          goes = refl;
         };
       })
 

@@ -3,11 +3,12 @@ use Rattle.std.proofs.Common.{◌≡◌, ℕ, nat_le, nat_lt, ◌&&◌, Bool, tr
 use Rattle.std.proofs.lemmas.Bool.{leb-false, lt-ltb}
 use Rattle.spk_nums.specs.Capability.{Capability}
 use Rattle.spk_nums.specs.declared.calls.Call.{Call}
-use Rattle.spk_nums.specs.declared.calls.Call.TheVariants.{Look as look_call, Copy, Remove, Shrink, Unmap, Retype}
+use Rattle.spk_nums.specs.declared.calls.Call.TheVariants.{Look as look_call, Copy, Remove, Shrink, Unmap, Retype, Make as make_call}
+use Rattle.spk_nums.specs.declared.calls.Make.{Make}
+use Rattle.spk_nums.specs.declared.calls.Make.TheVariants as make
 use Rattle.spk_nums.specs.declared.kinds.FrameKind.TheVariants as frame_kind
 use Rattle.supported_calls.specs.Built.{IsBuilt}
 use Rattle.spk_nums.specs.declared.replies.Value.TheVariants.{Cap}
-use Rattle.spk_nums.specs.declared.kinds.Kind.TheVariants as kind
 use Rattle.spk_nums.specs.declared.replies.Reply.TheVariants as reply
 use Rattle.kernel_rules.specs.State.{State, Thing, Holds, PlaceOf}
 use Rattle.kernel_rules.specs.Access.{Slot, Named, found, capability, any, place_at, held_in, reached, own, Target as place, InRoot}
@@ -16,15 +17,15 @@ use Rattle.kernel_rules.specs.CallRelation.{change_of, changed, counted, begins_
 use Rattle.kernel_rules.specs.CapabilityCalls.{look_rule}
 use Rattle.kernel_rules.proofs.Facts.{some_inj}
 use Rattle.stage_look.specs.declared.look.Found.{Found}
-use Rattle.call_plans.specs.declared.plans.Nth.TheVariants.{First, Second}
+use Rattle.call_plans.specs.declared.plans.Nth.TheVariants.{Second}
 use Rattle.call_plans.specs.declared.plans.Name.{Name}
 use Rattle.call_plans.specs.declared.plans.Spot.{Spot}
 use Rattle.call_plans.specs.declared.plans.Spot.TheVariants as spot_of
 use Rattle.call_plans.specs.declared.plans.Target.TheVariants.{Nowhere, Free, Held, Own as own_page}
-use Rattle.call_plans.specs.Plans.{head, at_place}
-use Rattle.call_plans.specs.PlanOf.{any_cap, of_kind, plan_for}
+use Rattle.call_plans.specs.Plans.{head}
+use Rattle.call_plans.specs.PlanOf.{plan_for, plan_of_make}
 use Rattle.call_plans.specs.After.{names_after}
-use Rattle.call_acts.specs.Acts.{fills_at, removes_at, put_by, removes_by, act_begun}
+use Rattle.call_acts.specs.Acts.{removes_at, removes_by, act_begun}
 use Rattle.call_acts.specs.declared.own.Own.{Own}
 
 -- A target is refused where it has no slot, and one that is to be free where it is held.
@@ -63,6 +64,16 @@ past_entry_unreached s c root i past = by root.found
     by true = ap (λ b. if b then Some slot else None) past
     by false = refl
 
+-- The target of a call that makes an object.
+pub make_target : (what : Make) (r u b : ℕ) → (plan_of_make what r u b).target ≡ Free (spot_of.Under Second b)
+make_target make.Table r u b = refl
+make_target make.Leaf r u b = refl
+make_target make.Pages r u b = refl
+make_target make.Pleaf r u b = refl
+make_target (make.Thread comp) r u b = refl
+make_target (make.Tcap sched quality) r u b = refl
+make_target (make.Comp table pages live) r u b = refl
+
 -- No call that is carried out looks up a page of its own.
 pub no_own : (call : Call) → IsBuilt call → (v : ℕ) → (plan_for call).target ≡ own_page v → ⊥
 no_own (look_call a) built v is = cc
@@ -73,6 +84,10 @@ no_own (Unmap p n) built v is = cc
 no_own (Retype r f frame_kind.Untyped) built v is = cc
 no_own (Retype r f frame_kind.User) built v is = cc
 no_own (Retype r f frame_kind.Kernel) built v is = cc
+no_own (make_call what r f u b) built v is = absurd (not_own (sym (make_target what r u b) ∙ is))
+  where
+    not_own : Free (spot_of.Under Second b) ≡ own_page v → ⊥
+    not_own h = cc
 no_own call built v is = built
 
 -- What is looked up first is all that is looked up of one name.
@@ -89,51 +104,6 @@ one_left one name rest (k ∷ ks) is = absurd (not_none (sym (none_after ks) ∙
 
 pub first_same : (name : Name) (rest : List Name) (one : Name) → name ∷ rest ≡ one ∷ [] → name ≡ one
 first_same name rest one is = some_inj name one (ap head is)
-
--- The filling act of a core's call with a target that is to be free.
-pub record Begins (own : Own) (call : Call) (ks : List Capability) : Type 0 where
-  pub k : Capability
-  pub first : at_place ks First ≡ Some k
-  pub puts : put_by call ks ≡ Some k
-  pub act : (f : Found) → act_begun own call ks (Some f) ≡ fills_at own k f
-
-pub begins_fill : (own : Own) (call : Call) → IsBuilt call → (spot : Spot) → (plan_for call).target ≡ Free spot → (ks : List Capability)
-    → names_after (plan_for call).names ks ≡ []
-    → Begins own call ks
-begins_fill own (look_call a) built spot to ks none = absurd (not_free to)
-  where
-    not_free : Nowhere ≡ Free spot → ⊥
-    not_free h = cc
-begins_fill own (Copy a u b) built spot to [] none = absurd (not_none none)
-  where
-    not_none : any_cap a ∷ of_kind kind.Table u ∷ [] ≡ [] → ⊥
-    not_none h = cc
-begins_fill own (Copy a u b) built spot to (k ∷ ks) none = record { k = k; first = refl; puts = refl; act = λ f. refl }
-begins_fill own (Remove u b) built spot to ks none = absurd (not_free to)
-  where
-    not_free : Held (spot_of.Under First b) ≡ Free spot → ⊥
-    not_free h = cc
-begins_fill own (Shrink u i) built spot to ks none = absurd (not_free to)
-  where
-    not_free : Held (spot_of.InRoot First i) ≡ Free spot → ⊥
-    not_free h = cc
-begins_fill own (Unmap p v) built spot to ks none = absurd (not_free to)
-  where
-    not_free : Held (spot_of.Under First v) ≡ Free spot → ⊥
-    not_free h = cc
-begins_fill own (Retype r f frame_kind.Untyped) built spot to ks none = absurd (not_target to)
-  where
-    not_target : Nowhere ≡ Free spot → ⊥
-    not_target h = cc
-begins_fill own (Retype r f frame_kind.User) built spot to ks none = absurd (not_target to)
-  where
-    not_target : Nowhere ≡ Free spot → ⊥
-    not_target h = cc
-begins_fill own (Retype r f frame_kind.Kernel) built spot to ks none = absurd (not_target to)
-  where
-    not_target : Nowhere ≡ Free spot → ⊥
-    not_target h = cc
-begins_fill own call built spot to ks none = absurd built
 
 -- The removing act of a core's call with a target that is to be held.
 pub record BeginsRemoval (own : Own) (call : Call) (ks : List Capability) : Type 0 where
@@ -165,6 +135,10 @@ begins_removal own (Retype r f frame_kind.Kernel) built spot to ks = absurd (not
   where
     not_target : Nowhere ≡ Held spot → ⊥
     not_target h = cc
+begins_removal own (make_call what r f u b) built spot to ks = absurd (not_held (sym (make_target what r u b) ∙ to))
+  where
+    not_held : Free (spot_of.Under Second b) ≡ Held spot → ⊥
+    not_held h = cc
 begins_removal own call built spot to ks = absurd built
 
 -- A look that has found its capability answers it.

@@ -5,7 +5,7 @@ use Rattle.spk_nums.specs.Capability.{Capability}
 use Rattle.spk_nums.specs.Setting.{Setting, IsSetting}
 use Rattle.spk_nums.specs.declared.kinds.Kind.{Kind}
 use Rattle.spk_nums.specs.declared.calls.Call.{Call}
-use Rattle.spk_nums.specs.declared.calls.Call.TheVariants.{Look as look_call, Copy, Remove, Shrink, Unmap, Retype}
+use Rattle.spk_nums.specs.declared.calls.Call.TheVariants.{Look as look_call, Copy, Remove, Shrink, Unmap, Retype, Make as make_call}
 use Rattle.supported_calls.specs.Built.{IsBuilt}
 use Rattle.spk_nums.specs.declared.replies.Reply.{Reply}
 use Rattle.spk_nums.specs.declared.replies.Reply.TheVariants as reply
@@ -14,12 +14,12 @@ use Rattle.entry_words.specs.declared.entry.Entry.TheVariants as entry
 use Rattle.entry_words.specs.EntryWord.{EntryFits, entry_of_word}
 use Rattle.word_map.specs.Word.{EntryAt}
 use Rattle.word_map.specs.Moves.{LoadOf, word_of}
-use Rattle.kernel_rules.specs.State.{State, PlaceOf, comp_of}
+use Rattle.kernel_rules.specs.State.{State, Thing, PlaceOf, comp_of}
 use Rattle.kernel_rules.specs.Access.{Slot, Named, found, any, root_at, place_at, held_in, reached, has_no_slot, own, Target as place, Under, InRoot}
 use Rattle.kernel_rules.specs.Rules.{RuleMay, Refused, Found as Found_it, named, vacant, held}
 use Rattle.kernel_rules.specs.CallRelation.{rule_of, change_of, are_calls_spent}
 use Rattle.kernel_rules.proofs.Facts.{none_some, some_inj}
-use Rattle.kernel_history.specs.Trace.{Step, Trace, Open, phase, state_after, last_left}
+use Rattle.kernel_history.specs.Trace.{Step, Trace, Open, phase, state_after, last_left, WasAt}
 use Rattle.kernel_history.specs.Ways.{wide_way_to, wide_ways}
 use Rattle.kernel_history.specs.Justified.{is_slot_in, IsRemoved}
 use Rattle.kernel_history.proofs.AloneCalls.{refused_first}
@@ -51,9 +51,7 @@ use Rattle.plan_ways.specs.Laws.{NextPlace, NextRefused}
 use Rattle.plan_ways.proofs.Ways.{next_on_way, next_first}
 use Rattle.call_acts.specs.declared.refusals.Refusal.TheVariants as refusal
 use Rattle.call_acts.specs.declared.lookups.Met.TheVariants.{Finds, Refused as met_refused}
-use Rattle.call_acts.specs.declared.work.Work.{Work}
-use Rattle.call_acts.specs.declared.work.Work.TheVariants.{Lookup}
-use Rattle.call_steps.specs.declared.stages.Stage.{Stage}
+use Rattle.call_acts.specs.declared.work.Work.TheVariants.{Lookup, Scan}
 use Rattle.call_steps.specs.declared.stages.Stage.TheVariants.{Undecided}
 use Rattle.call_steps.specs.declared.stages.ActiveCall.{ActiveCall}
 use Rattle.spk_nums.specs.declared.kinds.FrameKind.{FrameKind}
@@ -65,26 +63,31 @@ use Rattle.call_acts.specs.declared.work.WorkStep.TheVariants.{Goes}
 use Rattle.stage_pins.specs.declared.held.Acquired.{Acquired}
 use Rattle.call_acts.specs.declared.work.Act.{Act as ActOf}
 use Rattle.call_acts.specs.WorkSteps.{refuse}
-use Rattle.call_acts.specs.Acts.{dues, next_work, scans, stamp_shown, filling, fills_at, removing, act_begun}
+use Rattle.call_acts.specs.Acts.{dues, next_work, scans, starts, stamp_shown, removing, act_begun}
 use Rattle.call_steps.specs.Fits.{CountsAt, HasRoom}
-use Rattle.core_invariant.specs.Holding.{Holding, holds_counts}
-use Rattle.core_invariant.specs.Knows.{due_of, IsScanned, MayFill, KnowsAct, KnowsWork, LooksUp, own_in, HasFound, NamesAre, LooksFor, KnowsUndecided, phase_at}
+use Rattle.core_invariant.specs.Holding.{holds_counts}
+use Rattle.core_invariant.specs.Knows.{due_of, IsScanned, MayFill, KnowsAct, KnowsQuiet, LooksUp, own_in, HasFound, NamesAre, LooksFor, KnowsUndecided, phase_at}
 use Rattle.count_invariant.proofs.Acquiring.{knows_next, next_holds}
-use Rattle.place_invariant.proofs.Scans.{ShowsSince, since_is, knows_scan}
+use Rattle.place_invariant.proofs.Scans.{ScanBegins, scan_begins, scan_none, ShowsSince, since_is}
+use Rattle.place_invariant.proofs.Starts.{starts_good}
+use Rattle.place_invariant.proofs.Outside.{refused_vacant}
+use Rattle.place_invariant.proofs.Vacancy.{vacant_by}
 use Rattle.stage_quiet.specs.declared.quiet.Quiet.{Quiet}
 use Rattle.stage_quiet.specs.Scan.{quiet_scan}
-use Rattle.kernel_history.specs.Stamps.{stamp}
+use Rattle.kernel_history.specs.Stamps.{clock, stamp}
 use Rattle.call_acts.specs.Lookups.{looks_under, looks_entry, looks_at, next_step, met_name, met_free, met_held}
 use Rattle.call_steps.specs.Steps.{landed, found_more, next_by as what_next, named_one, took_look, took_found}
 use Rattle.call_steps.specs.View.{Core}
-use Rattle.core_invariant.specs.Stands.{holds_work, holds_at, holds_in, Stands}
+use Rattle.core_invariant.specs.Stands.{holds_at, holds_in, Stands}
 use Rattle.core_invariant.proofs.Carries.{names_on}
 use Rattle.core_invariant.proofs.Loads.{OnlyLooks, next_at, core_is, call_is, is_active, loads_on, decides_on}
+use Rattle.core_invariant.proofs.Sounds.{limits_of}
 use Rattle.core_invariant.proofs.Refusals.{GoodTook, not_spent, refuses_empty, refuses_wrong, refuses_occupied}
 use Rattle.look_invariant.proofs.Lookups.{Shows, ShowsHeld, Arrives, under_step, in_root_step}
 use Rattle.look_invariant.proofs.Findings.{own_is, past_slot, past_unreached, reaches_none, reaches_held, reaches_other, use_held, use_free, use_removed_at, named_of, named_no_slot, named_empty, named_wrong, found_named, arriving, reached_now, found_now}
 use Rattle.look_invariant.proofs.Next.{MayUse, spot_relies, Rest, ANameLeft, NoneLeft, rest_of, next_name, next_end}
-use Rattle.work_invariant.proofs.ByCall.{vacant_no_slot, vacant_occupied, held_no_slot, held_empty, past_entry, past_entry_unreached, no_own, Begins, begins_fill, BeginsRemoval, begins_removal}
+use Rattle.work_invariant.proofs.ByCall.{vacant_no_slot, vacant_occupied, held_no_slot, held_empty, past_entry, past_entry_unreached, no_own, make_target, BeginsRemoval, begins_removal}
+use Rattle.work_invariant.proofs.AtTarget.{Begins, begins_free, range_within, was_while_open}
 
 module _ (setup : Setting) (setting : IsSetting setup) (cores : ℕ → Core) (t : Trace) (stands : Stands setup cores t) (c : ℕ)
     (here : c < setup.cores)
@@ -380,6 +383,10 @@ module _ (setup : Setting) (setting : IsSetting setup) (cores : ℕ → Core) (t
     acts_at_name (Retype r f frame_kind.Untyped) is built nowhere = absurd built
     acts_at_name (Retype r f frame_kind.User) is built nowhere = range_at_name r f frame_kind.User is refl
     acts_at_name (Retype r f frame_kind.Kernel) is built nowhere = range_at_name r f frame_kind.Kernel is refl
+    acts_at_name (make_call what r f u b) is built nowhere = absurd (not_nowhere (sym (make_target what r u b) ∙ nowhere))
+      where
+        not_nowhere : Free (spot_of.Under Second b) ≡ Nowhere → ⊥
+        not_nowhere h = cc
     acts_at_name call is built nowhere = absurd built
 
     -- the name is found
@@ -472,13 +479,17 @@ module _ (setup : Setting) (setting : IsSetting setup) (cores : ℕ → Core) (t
     first_free : (r : Reply) → vacant s c target ≡ Refused r → change_of s c a.call ≡ Refused r
     first_free r h = first a.found leads r (subst (λ x. NextRefused s c (own_pages s c) x r) (sym next_free) h)
 
-    begins_with : Begins (cores c).own a.call a.found
-    begins_with = begins_fill (cores c).own a.call (is_active setup setting cores t stands c here a active).built spot
-        (ap (λ (p : Plan). p.target) (sym plan_is) ∙ to) a.found
+    -- the act with which the call begins at the place
+    begins_with : (at : Slot) (v : Entry)
+        → Begins (cores c).own a.call a.plan a.found c (found_at at.node at.index (last_left setup t (EntryAt at.node at.index)) v)
+    begins_with at v = begins_free (cores c).own a.call (is_active setup setting cores t stands c here a active).built spot
+        (ap (λ (p : Plan). p.target) (sym plan_is) ∙ to) s a.plan a.found c (stands.each c here).number
         (subst (λ (p : Plan). names_after p.names a.found ≡ []) plan_is none)
-
-    first_fits : EntryFits (entry.Held begins_with.k)
-    first_fits = fits_of a.plan.names a.found begins_with.k has.names begins_with.first
+        (subst (λ (p : Plan). Leads (LeadsIn s c) p.names [] a.found) plan_is leads)
+        (λ k is. fits_of a.plan.names a.found k has.names is)
+        (λ r f range is in_range. subst (λ (n : ℕ). f < n) (sym (ap (λ x. x.frames) (stands.each c here).shape))
+        (range_within setup setting t stands.legal c a.call is_open r f range is in_range))
+        (found_at at.node at.index (last_left setup t (EntryAt at.node at.index)) v)
       where
         fits_of : (names : List Name) (ks : List Capability) (k : Capability)
             → Leads (λ n wanted k. HasFound setup t c (own_in table n) wanted k) names [] ks → at_place ks First ≡ Some k
@@ -487,106 +498,117 @@ module _ (setup : Setting) (setting : IsSetting setup) (cores : ℕ → Core) (t
         fits_of [] (j ∷ ks) k led is = absurd led
         fits_of (name ∷ names) (j ∷ ks) k led is = subst (λ (x : Capability). EntryFits (entry.Held x)) (some_inj j k is) led.0.fits
 
-    -- the filling act of a place whose word shows that it may be filled, once the cores below `upto` were scanned
+    -- the place is reached, and its word shows that it may be filled, once the cores below `upto` were scanned
     module _ (at : Slot) (arrives : Arrives setup t c target at) (v : Entry)
-        (reads : entry_of_word (last_left setup t (EntryAt at.node at.index)) ≡ Some v) where
+        (reads : entry_of_word (last_left setup t (EntryAt at.node at.index)) ≡ Some v)
+        (looks : OnlyLooks setup t c a.call (LoadOf (EntryAt at.node at.index))) where
       abbrev word : ℕ
       word = last_left setup t (EntryAt at.node at.index)
 
       abbrev load : Step
       load = arriving setup t c target at word arrives
 
-      abbrev act : ActOf
-      act = filling begins_with.k (found_at at.node at.index word v)
+      abbrev thing : Thing
+      thing = PlaceOf at.node at.index
 
-      fill_known : (upto : ℕ) → MayFill setup (load ∷ t) c (PlaceOf at.node at.index) upto (Some v)
-          → KnowsAct setup (load ∷ t) c a.call a.plan a.found upto act
-      fill_known upto may = record {
+      abbrev begun : Begins (cores c).own a.call a.plan a.found c (found_at at.node at.index word v)
+      begun = begins_with at v
+
+      knows_begun : (upto : ℕ) → MayFill setup (load ∷ t) c thing upto (Some v)
+          → KnowsAct setup (load ∷ t) c a.call a.plan a.found upto begun.act
+      knows_begun upto may = begun.knows setup (load ∷ t) upto (record {
         target = target;
         next = next_free;
         way = reached_now setup t c target at word arrives;
         own = own_read-here c load t refl (EntryAt at.node at.index) refl ∙ ap (λ b. if b then Some word else None)
             (eq-eqb word word refl);
-        vacant = subst (MayFill setup (load ∷ t) c (PlaceOf at.node at.index) upto) (sym reads) may;
-        fits = first_fits;
-        puts = begins_with.puts;
-      }
+        vacant = subst (MayFill setup (load ∷ t) c thing upto) (sym reads) may;
+      })
 
-      fill_next : (stage : Stage) → KnowsAct setup (load ∷ t) c a.call a.plan a.found setup.cores act
-          → KnowsWork setup (load ∷ t) c table (next_at a a.found stage) (next_work (cores c).own.core 0 act)
-      fill_next stage knows =
-          knows_next setup (load ∷ t) c table (next_at a a.found stage) (cores c).own.core act (dues act) (stands.each c here).number
-          knows
-          (ap (λ (xs : List Acquired). map due_of xs ++ dues act) (sym no_counts)) 0
-          (ap (λ (xs : List Acquired). length xs) (sym no_counts)) refl
+      -- it starts without a scan
+      starts_now : MayFill setup (load ∷ t) c thing setup.cores (Some v) → MayFill setup t c thing setup.cores (Some v)
+          → GoodTook setup cores t c (LoadOf (EntryAt at.node at.index)) (landed a (starts (cores c).own.core begun.act))
+      starts_now may_then may =
+          starts_good setup setting cores t stands c here a active opens held_is no_counts room has.names
+          (LoadOf (EntryAt at.node at.index)) looks begun.act begun.starts (λ carries. knows_begun setup.cores may_then)
+          (λ out. refused_vacant setup setting cores t stands c here a active opens has.names at.node at.index target next_free
+          arrives.reached (begun.outside out) (LoadOf (EntryAt at.node at.index))
+          (λ leaf alone. vacant_by setup setting t stands.legal stands.graces c at.node at.index leaf
+          (ap (λ l. l.cores) (limits_of setup t)) setup.frames (entry_of_word word) arrives.plain.says
+          (subst (MayFill setup t c thing setup.cores) (sym reads) may)))
+
+      -- it starts with a scan
+      scans_first : (x : ℕ) → stamp_shown (Some v) ≡ x → (q : Quiet) → ScanBegins x (cores c).own.core setup.cores q
+          → ((upto : ℕ) → ((d : ℕ) → d < upto → d ≢ c → ⊥) → MayFill setup (load ∷ t) c thing upto (Some v))
+          → GoodTook setup cores t c (LoadOf (EntryAt at.node at.index)) (landed a (Goes (Scan q begun.act)))
+      scans_first x shown q first may lands =
+          loads_on setup setting cores t stands c here a active (LoadOf (EntryAt at.node at.index)) a.found
+          (Undecided (Scan q begun.act)) looks lands (sym held_is) opens
+          (λ carries. record {
+            names = names_on setup setting t load stands.legal c a.call is_open carries table a.plan a.found has.names;
+            knows = subst (λ q. KnowsQuiet setup (load ∷ t) c (next_at a a.found (Undecided (Scan q begun.act))) q begun.act) (sym first.is)
+                (record {
+                  knows = knows_begun first.upto (may first.upto
+                      (λ d below other. first.before d below (λ same. other (same ∙ (stands.each c here).number))));
+                  core = (stands.each c here).number;
+                  stamp = begun.stamp ∙ ap stamp_shown reads ∙ shown;
+                  starts = begun.starts;
+                });
+          })
 
     -- it is free
     fills_free : (at : Slot) (arrives : Arrives setup t c target at)
         (reads : entry_of_word (last_left setup t (EntryAt at.node at.index)) ≡ Some entry.Free)
         → OnlyLooks setup t c a.call (LoadOf (EntryAt at.node at.index))
-        → GoodTook setup cores t c (LoadOf (EntryAt at.node at.index))
-        (landed a (fills_at (cores c).own begins_with.k (found_at at.node at.index (last_left setup t (EntryAt at.node at.index))
-        entry.Free)))
-    fills_free at arrives reads looks lands =
-        loads_on setup setting cores t stands c here a active (LoadOf (EntryAt at.node at.index)) a.found
-        (Undecided (next_work (cores c).own.core 0 (act at arrives entry.Free reads))) looks lands
-        (next_holds (cores c).own.core 0 (act at arrives entry.Free reads) (holds_counts None a.counts) refl ∙ sym held_is) opens
-        (λ carries. record {
-          names = names_on setup setting t (load at arrives entry.Free reads) stands.legal c a.call is_open carries table a.plan a.found
-              has.names;
-          knows = fill_next at arrives entry.Free reads (Undecided (next_work (cores c).own.core 0 (act at arrives entry.Free reads)))
-              (fill_known at arrives entry.Free reads setup.cores tt);
-        })
+        → GoodTook setup cores t c (LoadOf (EntryAt at.node at.index)) (landed a (scans (cores c).own.core
+        (quiet_scan 0 (cores c).own.core (cores c).own.layout.cores false) (begins_with at entry.Free).act))
+    fills_free at arrives reads looks = starts_now at arrives entry.Free reads looks tt tt
 
-    -- it is quiescing: the other cores are scanned first
-    fills_removed : (at : Slot) (arrives : Arrives setup t c target at) (x : ℕ)
+    -- it is quiescing: the other cores are scanned first, if there are any
+    module _ (at : Slot) (arrives : Arrives setup t c target at) (x : ℕ)
         (reads : entry_of_word (last_left setup t (EntryAt at.node at.index)) ≡ Some (entry.Quiescing x))
-        → OnlyLooks setup t c a.call (LoadOf (EntryAt at.node at.index))
-        → GoodTook setup cores t c (LoadOf (EntryAt at.node at.index))
-        (landed a (fills_at (cores c).own begins_with.k (found_at at.node at.index (last_left setup t (EntryAt at.node at.index))
-        (entry.Quiescing x))))
-    fills_removed at arrives x reads looks =
-        subst (λ (n : ℕ). GoodTook setup cores t c (LoadOf (EntryAt at.node at.index))
-        (landed a (Goes (scans (cores c).own.core (quiet_scan x (cores c).own.core n false) the_act))))
-        (sym (ap (λ s. s.cores) (stands.each c here).shape)) scanning
-      where
-        the_act : ActOf
-        the_act = act at arrives (entry.Quiescing x) reads
+        (looks : OnlyLooks setup t c a.call (LoadOf (EntryAt at.node at.index))) where
+      abbrev removed : Thing
+      removed = PlaceOf at.node at.index
 
-        the_load : Step
-        the_load = load at arrives (entry.Quiescing x) reads
+      abbrev loads : Step
+      loads = arriving setup t c target at (last_left setup t (EntryAt at.node at.index)) arrives
 
-        the_work : Work
-        the_work = scans (cores c).own.core (quiet_scan x (cores c).own.core setup.cores false) the_act
+      since : ShowsSince (s.place at.node at.index) (stamp setup t removed) x
+      since = since_is setup.frames (s.place at.node at.index) (stamp setup t removed) x _ arrives.plain.says reads
 
-        since : ShowsSince (s.place at.node at.index) (stamp setup t (PlaceOf at.node at.index)) x
-        since = since_is setup.frames (s.place at.node at.index) (stamp setup t (PlaceOf at.node at.index)) x _ arrives.plain.says reads
+      passed_none : (u : Trace) → stamp setup u removed ≡ stamp setup t removed → clock setup u ≡ clock setup t
+          → WasAt (IsRemoved removed) setup u c → (upto : ℕ) → ((d : ℕ) → d < upto → d ≢ c → ⊥) → IsScanned setup u c removed x upto
+      passed_none u stamp_is clock_is was upto none = record {
+        some = since.drawn;
+        past = (let p = (stands.graces removed).past in let q = since.same in omega (arith, p, q, clock_is));
+        rises = (let q = since.same in omega (arith, q, stamp_is));
+        was_removed = was;
+        passed = λ d below other. absurd (none d below other);
+      }
 
-        scanned : (upto : ℕ) → ((d : ℕ) → d < upto → d ≢ c → ⊥) → IsScanned setup (the_load ∷ t) c (PlaceOf at.node at.index) x upto
-        scanned upto none = record {
-          some = since.drawn;
-          past = (let p = (stands.graces (PlaceOf at.node at.index)).past in let q = since.same in omega arith);
-          rises = (let q = since.same in omega arith);
-          was_removed = was_now (IsRemoved (PlaceOf at.node at.index)) setup t the_load c since.removed;
-          passed = λ d below other. absurd (none d below other);
-        }
+      scanned_then : (upto : ℕ) → ((d : ℕ) → d < upto → d ≢ c → ⊥) → IsScanned setup (loads ∷ t) c removed x upto
+      scanned_then = passed_none (loads ∷ t) refl refl (was_now (IsRemoved removed) setup t loads c since.removed)
 
-        scans_hold : (o : Option Quiet) (h : Holding) → holds_work (scans (cores c).own.core o the_act) h ≡ h
-        scans_hold None h = next_holds (cores c).own.core 0 the_act h refl
-        scans_hold (Some q) h = refl
+      scanned_now : (upto : ℕ) → ((d : ℕ) → d < upto → d ≢ c → ⊥) → IsScanned setup t c removed x upto
+      scanned_now = passed_none t refl refl (was_while_open (IsRemoved removed) setup t c a.call is_open since.removed)
 
-        scanning : GoodTook setup cores t c (LoadOf (EntryAt at.node at.index)) (landed a (Goes the_work))
-        scanning lands =
-            loads_on setup setting cores t stands c here a active (LoadOf (EntryAt at.node at.index)) a.found (Undecided the_work) looks
-            lands
-            (scans_hold (quiet_scan x (cores c).own.core setup.cores false) (holds_counts None a.counts) ∙ sym held_is) opens
-            (λ carries. record {
-              names = names_on setup setting t the_load stands.legal c a.call is_open carries table a.plan a.found has.names;
-              knows = knows_scan setup (the_load ∷ t) c table (next_at a a.found (Undecided the_work)) (cores c).own.core x the_act
-                  (stands.each c here).number here since.drawn
-                  (ap stamp_shown reads) (λ upto none. fill_known at arrives (entry.Quiescing x) reads upto (scanned upto none))
-                  (fill_next at arrives (entry.Quiescing x) reads (Undecided the_work)) refl;
-            })
+      fills_removed : GoodTook setup cores t c (LoadOf (EntryAt at.node at.index)) (landed a (scans (cores c).own.core
+          (quiet_scan x (cores c).own.core (cores c).own.layout.cores false) (begins_with at (entry.Quiescing x)).act))
+      fills_removed = subst (λ (n : ℕ). Goal (quiet_scan x (cores c).own.core n false)) (sym (ap (λ s. s.cores) (stands.each c here).shape))
+          (by (quiet_scan x (cores c).own.core setup.cores false) refl)
+        where
+          Goal : Option Quiet → Type 0
+          Goal o = GoodTook setup cores t c (LoadOf (EntryAt at.node at.index))
+              (landed a (scans (cores c).own.core o (begins_with at (entry.Quiescing x)).act))
+
+          by : (o : Option Quiet) → quiet_scan x (cores c).own.core setup.cores false ≡ o → Goal o
+          by None is =
+              let none : (d : ℕ) → d < setup.cores → d ≢ c → ⊥ = λ d below other.
+              scan_none x (cores c).own.core setup.cores since.drawn is d below (λ same. other (same ∙ (stands.each c here).number)) in
+              starts_now at arrives (entry.Quiescing x) reads looks (scanned_then setup.cores none) (scanned_now setup.cores none)
+          by (Some q) is = scans_first at arrives (entry.Quiescing x) reads looks x refl q
+              (scan_begins x (cores c).own.core setup.cores since.drawn q is) scanned_then
 
     free_at : (at : Slot) (v : Entry) → Arrives setup t c target at
         → entry_of_word (last_left setup t (EntryAt at.node at.index)) ≡ Some v → Shows setup.frames (place_at s at) v
@@ -595,7 +617,8 @@ module _ (setup : Setting) (setting : IsSetting setup) (cores : ℕ → Core) (t
         (landed a (met_free (cores c).own a.call a.found (found_at at.node at.index (last_left setup t (EntryAt at.node at.index)) v)
         v))
     free_at at entry.Free arrives reads shows looks =
-        subst (λ step. GoodTook setup cores t c (LoadOf (EntryAt at.node at.index)) (landed a step)) (sym (begins_with.act _))
+        subst (λ step. GoodTook setup cores t c (LoadOf (EntryAt at.node at.index)) (landed a step))
+        (sym (begins_with at entry.Free).begins)
         (fills_free at arrives reads looks)
     free_at at (entry.Held k) arrives reads shows looks =
         refuses_occupied setup setting cores t stands c here a active opens held_is room (LoadOf (EntryAt at.node at.index)) looks
@@ -603,7 +626,8 @@ module _ (setup : Setting) (setting : IsSetting setup) (cores : ℕ → Core) (t
         (λ nobody. first_free reply.Occupied (vacant_occupied s c target at k arrives.reached shows.holds))
     free_at at (entry.Closing d) arrives reads shows looks = absurd shows
     free_at at (entry.Quiescing x) arrives reads shows looks =
-        subst (λ step. GoodTook setup cores t c (LoadOf (EntryAt at.node at.index)) (landed a step)) (sym (begins_with.act _))
+        subst (λ step. GoodTook setup cores t c (LoadOf (EntryAt at.node at.index)) (landed a step))
+        (sym (begins_with at (entry.Quiescing x)).begins)
         (fills_removed at arrives x reads looks)
 
   free_step : (spot : Spot) (to : a.plan.target ≡ Free spot) (none : names_after a.plan.names a.found ≡ [])
@@ -671,7 +695,7 @@ module _ (setup : Setting) (setting : IsSetting setup) (cores : ℕ → Core) (t
         let act : ActOf = removing (cores c).own.core k (found_at at.node at.index word (entry.Held k)) in
         loads_on setup setting cores t stands c here a active (LoadOf (EntryAt at.node at.index)) a.found
         (Undecided (next_work (cores c).own.core 0 act)) looks lands
-        (next_holds (cores c).own.core 0 act (holds_counts None a.counts) refl ∙ sym held_is) opens
+        (next_holds (cores c).own.core 0 act (holds_counts None a.counts) ∙ sym held_is) opens
         (λ carries. record {
           names = names_on setup setting t e stands.legal c a.call is_open carries table a.plan a.found has.names;
           knows = knows_next setup (e ∷ t) c table (next_at a a.found (Undecided (next_work (cores c).own.core 0 act))) (cores c).own.core
@@ -691,7 +715,7 @@ module _ (setup : Setting) (setting : IsSetting setup) (cores : ℕ → Core) (t
                 core = (stands.each c here).number;
               })
               (ap (λ (xs : List Acquired). map due_of xs ++ dues act) (sym no_counts)) 0
-              (ap (λ (xs : List Acquired). length xs) (sym no_counts)) refl;
+              (ap (λ (xs : List Acquired). length xs) (sym no_counts)) refl refl;
         })
 
     held_at : (at : Slot) (v : Entry) → Arrives setup t c held_target at

@@ -1,4 +1,5 @@
 pub mod ByCall
 pub mod AtName
+pub mod AtTarget
 pub mod ByPlan
 pub mod Work

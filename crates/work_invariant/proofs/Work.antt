@@ -1,5 +1,6 @@
 -- A step of the work of an undecided call is good.
 use Rattle.std.proofs.Common.{◌≡◌, ℕ, ◌<◌, Some, sym, ap, subst}
+use Rattle.std.proofs.lemmas.Bool.{false≢true}
 use Rattle.spk_nums.specs.Setting.{Setting, IsSetting}
 use Rattle.word_map.specs.Moves.{word_of, told_of}
 use Rattle.kernel_history.specs.Trace.{Trace, last_left}
@@ -7,7 +8,7 @@ use Rattle.stage_look.specs.Shown.{shown_in}
 use Rattle.stage_look.specs.Lookup.{look_move}
 use Rattle.stage_look.specs.declared.look.Look.{Look}
 use Rattle.stage_look.specs.declared.look.Look.TheVariants.{AtRoot, AtLeaf, AtEntry}
-use Rattle.call_acts.specs.declared.work.Act.TheVariants.{Fill as fill_act, Remove as remove_act, Retype as type_act}
+use Rattle.call_acts.specs.declared.work.Act.TheVariants.{Fill as fill_act, Remove as remove_act, Retype as type_act, Make as make_act, Outside}
 use Rattle.call_acts.specs.declared.work.Work.{Work}
 use Rattle.call_acts.specs.declared.work.Work.TheVariants.{Lookup, Scan, Acquire, Act}
 use Rattle.call_steps.specs.declared.stages.Stage.TheVariants.{Undecided}
@@ -24,6 +25,7 @@ use Rattle.place_invariant.proofs.Fills.{fill_good}
 use Rattle.place_invariant.proofs.Removals.{remove_good}
 use Rattle.place_invariant.proofs.ScanSteps.{scan_good}
 use Rattle.frame_invariant.proofs.Typings.{typing_good}
+use Rattle.frame_invariant.proofs.MadeNodes.{making_good}
 
 look_good : (setup : Setting) → IsSetting setup → (cores : ℕ → Core) (t : Trace) → Stands setup cores t → (c : ℕ) → c < setup.cores
     → (a : ActiveCall) → (cores c).active ≡ Some a
@@ -57,5 +59,9 @@ work_good setup setting cores t stands c here a active (Act (remove_act close ca
     remove_good setup setting cores t stands c here a active close cap is knows
 work_good setup setting cores t stands c here a active (Act (type_act typing)) is knows =
     typing_good setup setting cores t stands c here a active typing.frame typing.kind typing.at is knows
+work_good setup setting cores t stands c here a active (Act (make_act m)) is knows =
+    making_good setup setting cores t stands c here a active m is knows
+work_good setup setting cores t stands c here a active (Act (Outside node entry word)) is knows =
+    absurd (false≢true knows.knows.goes)
 work_good setup setting cores t stands c here a active (Scan q act) is knows =
     scan_good setup setting cores t stands c here a active q act is knows

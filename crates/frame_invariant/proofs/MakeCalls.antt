@@ -1,0 +1,217 @@
+-- A call that makes a node, at its act: what it knows, and what is left of its rule.
+use Rattle.std.specs.Prelude.{if◌then◌else◌, List}
+use Rattle.std.proofs.Common.{◌≡◌, Bool, true, false, Some, None, refl, ℕ, ◌<◌, ◌≢◌, sym, ◌&&◌, [], ◌∷◌, ap, ◌∙◌, subst, IsTrue, not}
+use Rattle.std.proofs.lemmas.Bool.{lt-ltb, false≢true}
+use Rattle.spk_nums.specs.Capability.{Capability}
+use Rattle.spk_nums.specs.Setting.{Setting, IsSetting}
+use Rattle.spk_nums.specs.declared.calls.Call.{Call}
+use Rattle.spk_nums.specs.declared.calls.Call.TheVariants.{Make as make_call}
+use Rattle.spk_nums.specs.declared.calls.Make.{Make}
+use Rattle.spk_nums.specs.declared.replies.Reply.TheVariants as reply
+use Rattle.frame_words.specs.Frame.{frame_of_word}
+use Rattle.word_map.proofs.WordLemmas.{same_same}
+use Rattle.word_map.specs.Word.{EntryAt, FrameAt}
+use Rattle.kernel_rules.specs.Access.{found, Target, Under, Slot, reached}
+use Rattle.kernel_rules.specs.CallRelation.{rule_of, change_of}
+use Rattle.kernel_rules.specs.CapabilityCalls.{has_frame, not_blank, is_blank, cleared, makes}
+use Rattle.kernel_rules.specs.Relies.{is_node}
+use Rattle.kernel_rules.specs.Rules.{Found, Change, first_cause, and_then, unless, vacant, outcome, first_of}
+use Rattle.kernel_rules.specs.State.{Blank, Kernel, State, Leaf}
+use Rattle.kernel_history.specs.Marking.{marked_by}
+use Rattle.kernel_history.specs.Marks.{mark_in_frame}
+use Rattle.kernel_history.specs.ObjectWords.{frame_value}
+use Rattle.kernel_history.specs.Trace.{Trace, Open, phase, state_after, last_left}
+use Rattle.kernel_history.specs.Ways.{target_of}
+use Rattle.call_plans.proofs.AfterNames.{outcome_left}
+use Rattle.plan_ways.proofs.Ways.{target_is as target_is_of}
+use Rattle.call_plans.specs.After.{names_after, Leads, NextFree, next_of, rule_after, LeadsIn}
+use Rattle.call_plans.specs.GoesBy.{own_pages, GoesBy}
+use Rattle.call_plans.specs.PlanOf.{plan_for}
+use Rattle.call_plans.specs.declared.plans.Plan.{Plan}
+use Rattle.plan_ways.specs.Laws.{IsTargetOf}
+use Rattle.call_acts.specs.Makings.{MakingFits, node_made, node_kind}
+use Rattle.call_acts.specs.declared.makings.Making.{Making}
+use Rattle.call_acts.specs.declared.makings.MakingAt.{MakingAt}
+use Rattle.call_acts.specs.declared.work.Act.TheVariants.{Make as make_act}
+use Rattle.call_acts.specs.declared.work.Work.TheVariants.{Act}
+use Rattle.call_steps.specs.Fits.{StageFits, HasRoom}
+use Rattle.call_steps.specs.View.{Core}
+use Rattle.call_steps.specs.declared.stages.ActiveCall.{ActiveCall}
+use Rattle.call_steps.specs.declared.stages.Stage.TheVariants.{Undecided}
+use Rattle.core_invariant.proofs.Good.{blank_is}
+use Rattle.core_invariant.proofs.Loads.{is_active, call_is}
+use Rattle.core_invariant.proofs.Sounds.{limits_of}
+use Rattle.core_invariant.specs.Holding.{holds_counts, settled_by, settled, keeps}
+use Rattle.core_invariant.specs.Knows.{phase_at, KnowsUndecided, KnowsMaking, MakesBy, blank_word}
+use Rattle.core_invariant.specs.Stands.{holds_in, Stands, holds, held_by}
+use Rattle.count_invariant.proofs.Acquiring.{plan_leads, goes_by}
+use Rattle.place_invariant.proofs.NodeMakes.{node_object, make_rest, IsNodeMake, node_make}
+use Rattle.place_invariant.proofs.Outside.{none_left_of}
+use Rattle.place_invariant.proofs.Vacancy.{in_leaf}
+
+-- It makes this node in this frame, which the range has to which its first name has led.
+pub record IsNodeCall (call : Call) (ks : List Capability) (m : Making) : Type 0 where
+  pub what : Make
+  pub name : ℕ
+  pub root : ℕ
+  pub slot : ℕ
+  pub range : Capability
+  pub rest : List Capability
+  pub call_is : call ≡ make_call what name m.frame root slot
+  pub found_is : ks ≡ range ∷ rest
+  pub node_is : node_made what ≡ Some m.node
+  pub within : has_frame (found range) m.frame ≡ true
+
+node_call : (call : Call) (ks : List Capability) (m : Making) → MakesBy call ks m → IsNodeCall call ks m
+node_call (make_call what r f u b) (range ∷ ks) m is = record {
+  what = what;
+  name = r;
+  root = u;
+  slot = b;
+  range = range;
+  rest = ks;
+  call_is = ap (λ (x : ℕ). make_call what r x u b) (sym is.frame);
+  found_is = refl;
+  node_is = is.node;
+  within = ap (has_frame (found range)) is.frame ∙ is.within;
+}
+node_call (make_call what r f u b) [] m is = absurd is
+node_call call ks m is = absurd is
+
+-- It makes it wherever its steps stand.
+pub makes_on : (call : Call) (ks : List Capability) (m : Making) (at : MakingAt) → MakesBy call ks m
+    → MakesBy call ks (record m { at = at })
+makes_on (make_call what r f u b) (range ∷ ks) m at is = record { frame = is.frame; node = is.node; within = is.within }
+makes_on (make_call what r f u b) [] m at is = absurd is
+makes_on call ks m at is = absurd is
+
+module _ (setup : Setting) (setting : IsSetting setup) (cores : ℕ → Core) (t : Trace) (stands : Stands setup cores t) (c : ℕ)
+    (here : c < setup.cores)
+    (a : ActiveCall) (active : (cores c).active ≡ Some a) (m : Making) (stage_is : a.stage ≡ Undecided (Act (make_act m)))
+    (has : KnowsUndecided setup t c (cores c).own.table a (Act (make_act m))) where
+  abbrev s : State
+  s = state_after setup t
+
+  abbrev pub knows : KnowsMaking setup t c a.call a.plan a.found setup.cores m
+  knows = has.knows.knows
+
+  abbrev slot : Slot
+  slot = record { node = m.fill.node; index = m.fill.entry }
+
+  pub is : IsNodeCall a.call a.found m
+  is = node_call a.call a.found m knows.makes
+
+  pub opens : phase_at a.call a.stage ≡ Open a.call
+  opens = ap (phase_at a.call) stage_is
+
+  pub is_open : phase t c ≡ Open a.call
+  is_open = (call_is setup setting cores t stands c here a active).phase ∙ opens
+
+  pub room : (cores c).own.made < (cores c).own.limit
+  room = subst (HasRoom (cores c).own.made (cores c).own.limit) stage_is (is_active setup setting cores t stands c here a active).room
+
+  pub fits_in : MakingFits (cores c).own.layout m
+  fits_in = subst (StageFits (cores c).own.layout) stage_is (is_active setup setting cores t stands c here a active).stage
+
+  frames_are : (cores c).own.layout.frames ≡ s.limits.frames
+  frames_are = ap (λ x. x.frames) (stands.each c here).shape ∙ sym (ap (λ l. l.frames) (limits_of setup t))
+
+  pub below : m.frame < s.limits.frames
+  below = subst (λ (n : ℕ). m.frame < n) frames_are fits_in.frame
+
+  pub node_below : m.fill.node < s.limits.frames
+  node_below = subst (λ (n : ℕ). m.fill.node < n) frames_are fits_in.fill.node
+
+  pub leads : Leads (LeadsIn s c) a.plan.names [] a.found
+  leads = plan_leads setup setting cores t stands c here a active has.names
+
+  pub by_plan : GoesBy (own_pages s c) a.plan (rule_of s c a.call)
+  by_plan = goes_by setup setting cores t stands c here a active has.names
+
+  plan_call : a.plan ≡ plan_for (make_call is.what is.name m.frame is.root is.slot)
+  plan_call = (is_active setup setting cores t stands c here a active).plan ∙ ap plan_for is.call_is
+
+  pub make : IsNodeMake s c is.name m.frame is.root is.slot is.what m.node a.found
+  make = node_make s c is.name m.frame is.root is.slot is.what m.node is.node_is a.found
+      (subst (λ (p : Plan). Leads (LeadsIn s c) p.names [] a.found) plan_call leads)
+      (subst (λ (p : Plan). names_after p.names a.found ≡ []) plan_call
+      (none_left_of a.plan a.found knows.spot.target knows.spot.next))
+
+  abbrev pub target : Target
+  target = Under (found make.two.table) is.slot
+
+  pub target_is : target ≡ knows.spot.target
+  target_is = same _ _ (sym make.next ∙ ap (λ p. next_of p a.found) (sym plan_call) ∙ knows.spot.next)
+    where
+      same : (p q : Target) → NextFree p ≡ NextFree q → p ≡ q
+      same p q h = cc
+
+  pub reached_is : reached s c target ≡ Some slot
+  reached_is = ap (reached s c) target_is ∙ knows.spot.way.reached
+
+  pub leaf : s.frame m.fill.node ≡ Kernel Leaf
+  leaf = in_leaf setup setting t stands.legal c a.call is_open is.root is.slot make.two.table slot make.two.second reached_is
+
+  pub in_node : IsTrue (is_node (s.frame m.fill.node))
+  in_node = ap is_node leaf
+
+  pub within : has_frame (found make.two.range) m.frame ≡ true
+  within = ap (λ (k : Capability). has_frame (found k) m.frame) (first_same _ _ _ _ (sym make.two.found_is ∙ is.found_is)) ∙ is.within
+    where
+      first_same : (k j : Capability) (ks js : List Capability) → k ∷ ks ≡ j ∷ js → k ≡ j
+      first_same k j ks js h = cc
+
+  pub left : rule_after (rule_of s c a.call) a.found ≡ make_rest s make.two.range m.frame m.node target
+  left = ap (λ x. rule_after (rule_of s c x) a.found) is.call_is ∙ make.rule
+
+  pub target_slot : target_of s c (rule_of s c a.call) ≡ Some slot
+  target_slot = subst (λ x. IsTargetOf s c x (target_of s c (rule_of s c a.call))) knows.spot.next
+      (target_is_of s c (own_pages s c) a.plan (rule_of s c a.call) a.found by_plan leads)
+      ∙ knows.spot.way.reached
+
+  -- the change that it makes, and what comes of the call where its target is vacant
+  abbrev pub change : Change
+  change = makes (cleared s m.frame) m.frame (node_object m.node) (node_kind m.node) slot
+
+  pub by_blank : vacant s c target ≡ Found slot → (blank : Bool) → is_blank (s.frame m.frame) ≡ blank
+      → change_of s c a.call ≡ unless (if not blank then Some reply.FrameKind else None) change
+  by_blank free blank at_frame =
+      outcome_left s c (own_pages s c) a.plan (rule_of s c a.call) a.found by_plan leads ∙ ap (outcome s c) left
+      ∙ ap (λ x. and_then x λ at. unless (first_of (if not (has_frame (found make.two.range) m.frame) then Some reply.OutOfRange else None)
+      (first_cause s c (not_blank s m.frame ∷ []))) (makes (cleared s m.frame) m.frame (node_object m.node) (node_kind m.node) at)) free
+      ∙ ap (λ b. unless (first_of (if not b then Some reply.OutOfRange else None) (first_cause s c (not_blank s m.frame ∷ []))) change)
+      within
+      ∙ ap (λ b. unless (first_of (if b && not (is_blank (s.frame m.frame)) then Some reply.FrameKind else None) None) change)
+      (lt-ltb m.frame s.limits.frames below)
+      ∙ ap (λ b. unless (first_of (if not b then Some reply.FrameKind else None) None) change) at_frame
+      ∙ last blank
+    where
+      last : (b : Bool) → unless (first_of (if not b then Some reply.FrameKind else None) None) change
+          ≡ unless (if not b then Some reply.FrameKind else None) change
+      last true = refl
+      last false = refl
+
+  -- Where the frame is marked for it, as it was found, the frame is blank.
+  module _ (word : ℕ) (held : holds_in (Some a) ≡ keeps (FrameAt m.frame) word (holds_counts None a.counts))
+      (says : frame_of_word word ≡ Some blank_word) where
+    holds_is : holds (cores c) ≡ keeps (FrameAt m.frame) word (holds_counts None a.counts)
+    holds_is = ap holds_in active ∙ held
+
+    pub own_mark : marked_by setup t (FrameAt m.frame) ≡ Some c
+    own_mark = (stands.marks (FrameAt m.frame) c).kept (ap (λ h. h.marks (FrameAt m.frame)) holds_is
+        ∙ ap (λ b. if b then true else (holds_counts None a.counts).marks (FrameAt m.frame)) (same_same (FrameAt m.frame)))
+
+    settled_is : settled setup (held_by cores) t (FrameAt m.frame) ≡ word
+    settled_is = ap (λ o. settled_by o (held_by cores) (FrameAt m.frame) (last_left setup t (FrameAt m.frame))) own_mark
+        ∙ ap (λ h. h.stands (FrameAt m.frame)) holds_is
+        ∙ ap (λ b. if b then word else (holds_counts None a.counts).stands (FrameAt m.frame)) (same_same (FrameAt m.frame))
+
+    pub blank : s.frame m.frame ≡ Kernel Blank
+    blank = blank_is (s.frame m.frame)
+        (sym (subst (λ (x : ℕ). frame_of_word x ≡ Some (frame_value (s.frame m.frame))) settled_is (stands.words (FrameAt m.frame))) ∙ says)
+
+    pub apart : m.frame ≢ m.fill.node
+    apart same = false≢true (sym (ap is_node (sym (ap s.frame same) ∙ blank)) ∙ in_node)
+
+    pub no_mark : (i : ℕ) → marked_by setup t (EntryAt m.frame i) ≡ None
+    no_mark i = ap (λ x. mark_in_frame x i (last_left setup t (EntryAt m.frame i))) blank

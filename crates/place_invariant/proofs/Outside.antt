@@ -1,0 +1,214 @@
+-- The refusal of a call that makes an object in a frame outside its range.
+use Rattle.std.proofs.Common.{◌≡◌, ◌⊎◌, inl, inr, ℕ, ◌<◌, not, Bool, false, List, [], ◌∷◌, Option, Some, None, refl, sym, ◌∙◌, ap, subst, if◌then◌else◌}
+use Rattle.std.specs.Prelude.{IsSome}
+use Rattle.std.proofs.lemmas.Bool.{cases_eq, false≢true}
+use Rattle.spk_nums.specs.Capability.{Capability}
+use Rattle.spk_nums.specs.Setting.{Setting, IsSetting}
+use Rattle.spk_nums.specs.declared.calls.Call.{Call}
+use Rattle.spk_nums.specs.declared.calls.Call.TheVariants.{Make as make_call}
+use Rattle.spk_nums.specs.declared.calls.Make.{Make}
+use Rattle.spk_nums.specs.declared.replies.Reply.{Reply}
+use Rattle.spk_nums.specs.declared.replies.Reply.TheVariants as reply
+use Rattle.entry_words.specs.EntryWord.{entry_of_word}
+use Rattle.word_map.specs.Word.{EntryAt}
+use Rattle.word_map.specs.Moves.{Move, LoadOf, word_of}
+use Rattle.kernel_rules.specs.State.{State, PlaceOf, Kernel, Leaf}
+use Rattle.kernel_rules.specs.Access.{Slot, Target, Under, found, place_at, reached}
+use Rattle.kernel_rules.specs.Rules.{RuleMay, Refused, Found, and_then, or_refuse, unless, first_of, first_cause, vacant, not_vacant, outcome}
+use Rattle.kernel_rules.specs.Relies.{is_node}
+use Rattle.kernel_rules.specs.CapabilityCalls.{has_frame, not_blank, makes, cleared}
+use Rattle.kernel_rules.specs.CallRelation.{rule_of, change_of}
+use Rattle.kernel_history.specs.Alone.{IsAlone}
+use Rattle.kernel_history.specs.Trace.{Step, Trace, Open, phase, state_after, last_left}
+use Rattle.kernel_history.proofs.Laws.{not_changed}
+use Rattle.call_plans.specs.declared.plans.Plan.{Plan}
+use Rattle.call_plans.specs.PlanOf.{plan_for}
+use Rattle.call_plans.specs.GoesBy.{GoesBy, own_pages}
+use Rattle.call_plans.specs.After.{Leads, LeadsIn, rule_after, names_after, NextName, NextFree, next_of}
+use Rattle.call_plans.proofs.AfterNames.{left_may, outcome_left}
+use Rattle.call_acts.specs.declared.makings.Node.{Node}
+use Rattle.call_acts.specs.Makings.{node_kind, node_made}
+use Rattle.call_steps.specs.declared.stages.ActiveCall.{ActiveCall}
+use Rattle.call_steps.specs.View.{Core}
+use Rattle.core_invariant.specs.Knows.{IsSpot, MayFill, OutsideBy, NamesAre, phase_at}
+use Rattle.core_invariant.specs.Stands.{Stands}
+use Rattle.core_invariant.proofs.Loads.{step_to, call_is, is_active}
+use Rattle.core_invariant.proofs.Places.{IsMarked, IsPlain as IsUnmarked, place_reads}
+use Rattle.core_invariant.proofs.Sounds.{limits_of}
+use Rattle.count_invariant.proofs.Acquiring.{plan_leads, goes_by}
+use Rattle.look_invariant.proofs.Next.{Rest, ANameLeft, NoneLeft, rest_of, next_name}
+use Rattle.place_invariant.proofs.NodeMakes.{node_object, make_rest, IsNodeMake, node_make}
+use Rattle.place_invariant.proofs.Starts.{IsRefusedOutside}
+use Rattle.place_invariant.proofs.Vacancy.{in_leaf, IsVacant, vacant_by}
+
+-- A slot that is reached and vacant.
+pub vacant_slot : (s : State) (c : ℕ) (target : Target) (at : Slot) → reached s c target ≡ Some at
+    → not_vacant s c (PlaceOf at.node at.index) (place_at s at) ≡ None → vacant s c target ≡ Found at
+vacant_slot s c target at is free =
+    ap (λ o. and_then (or_refuse o reply.NoSlot) λ at. unless (not_vacant s c (PlaceOf at.node at.index) (place_at s at)) at) is
+    ∙ ap (λ o. unless o at) free
+
+-- The call is one that makes a node, in a frame that is not in its range.
+pub record IsOutsideMake (call : Call) (ks : List Capability) : Type 0 where
+  pub what : Make
+  pub name : ℕ
+  pub frame : ℕ
+  pub root : ℕ
+  pub slot : ℕ
+  pub node : Node
+  pub range : Capability
+  pub rest : List Capability
+  pub call_is : call ≡ make_call what name frame root slot
+  pub found_is : ks ≡ range ∷ rest
+  pub node_is : node_made what ≡ Some node
+  pub outside : has_frame (found range) frame ≡ false
+
+some_of : {A : Type 0} (o : Option A) → IsSome o → (R : Type 0) → ((x : A) → o ≡ Some x → R) → R
+some_of None some R f = absurd (false≢true some)
+some_of (Some x) some R f = f x refl
+
+outside_make : (call : Call) (ks : List Capability) → OutsideBy call ks → IsOutsideMake call ks
+outside_make (make_call what r f u b) (range ∷ ks) is = some_of (node_made what) is.node (IsOutsideMake (make_call what r f u b)
+    (range ∷ ks))
+    (λ node node_is. record {
+      what = what;
+      name = r;
+      frame = f;
+      root = u;
+      slot = b;
+      node = node;
+      range = range;
+      rest = ks;
+      call_is = refl;
+      found_is = refl;
+      node_is = node_is;
+      outside = is.outside;
+    })
+outside_make (make_call what r f u b) [] is = absurd is
+outside_make call ks is = absurd is
+
+-- No name is left where a target that is to be free is looked up next.
+pub none_left_of : (plan : Plan) (ks : List Capability) (target : Target) → next_of plan ks ≡ NextFree target
+    → names_after plan.names ks ≡ []
+none_left_of plan ks target next = by (rest_of plan ks)
+  where
+    not_free : (n : ℕ) (wanted : Rattle.spk_nums.specs.declared.kinds.Kind.Kind → Bool) → NextName n wanted ≡ NextFree target → ⊥
+    not_free n wanted h = cc
+
+    by : Rest plan ks → names_after plan.names ks ≡ []
+    by (ANameLeft name rest is) = absurd (not_free _ _ (sym (next_name plan ks name rest is) ∙ next))
+    by (NoneLeft none) = none
+
+-- A call that makes a node is refused in a frame outside its range, where its target is reached and, if the call is alone, vacant.
+module _ (setup : Setting) (setting : IsSetting setup) (cores : ℕ → Core) (t : Trace) (stands : Stands setup cores t) (c : ℕ)
+    (here : c < setup.cores)
+    (a : ActiveCall) (active : (cores c).active ≡ Some a) (opens : phase_at a.call a.stage ≡ Open a.call)
+    (names : NamesAre setup t c (cores c).own.table a.plan a.found) (node index : ℕ) (target : Target)
+    (next : next_of a.plan a.found ≡ NextFree target)
+    (reaches : reached (state_after setup t) c target ≡ Some (record { node = node; index = index }))
+    (out : OutsideBy a.call a.found) (move : Move)
+    (vacant_alone : (state_after setup t).frame node ≡ Kernel Leaf
+    → IsAlone t (step_to c None move (last_left setup t (word_of move)) (Some reply.OutOfRange) None)
+    → IsVacant (state_after setup t) c node index) where
+  abbrev s : State
+  s = state_after setup t
+
+  abbrev slot : Slot
+  slot = record { node = node; index = index }
+
+  is_open : phase t c ≡ Open a.call
+  is_open = (call_is setup setting cores t stands c here a active).phase ∙ opens
+
+  leads : Leads (LeadsIn s c) a.plan.names [] a.found
+  leads = plan_leads setup setting cores t stands c here a active names
+
+  by_plan : GoesBy (own_pages s c) a.plan (rule_of s c a.call)
+  by_plan = goes_by setup setting cores t stands c here a active names
+
+  is : IsOutsideMake a.call a.found
+  is = outside_make a.call a.found out
+
+  plan_call : a.plan ≡ plan_for (make_call is.what is.name is.frame is.root is.slot)
+  plan_call = (is_active setup setting cores t stands c here a active).plan ∙ ap plan_for is.call_is
+
+  make : IsNodeMake s c is.name is.frame is.root is.slot is.what is.node a.found
+  make = node_make s c is.name is.frame is.root is.slot is.what is.node is.node_is a.found
+      (subst (λ (p : Plan). Leads (LeadsIn s c) p.names [] a.found) plan_call leads)
+      (subst (λ (p : Plan). names_after p.names a.found ≡ []) plan_call (none_left_of a.plan a.found target next))
+
+  target_is : Under (found make.two.table) is.slot ≡ target
+  target_is = same _ _ (sym make.next ∙ ap (λ p. next_of p a.found) (sym plan_call) ∙ next)
+    where
+      same : (p q : Target) → NextFree p ≡ NextFree q → p ≡ q
+      same p q h = cc
+
+  reached_is : reached s c (Under (found make.two.table) is.slot) ≡ Some slot
+  reached_is = ap (reached s c) target_is ∙ reaches
+
+  leaf : s.frame node ≡ Kernel Leaf
+  leaf = in_leaf setup setting t stands.legal c a.call is_open is.root is.slot make.two.table slot make.two.second reached_is
+
+  outside_is : has_frame (found make.two.range) is.frame ≡ false
+  outside_is = ap (λ (k : Capability). has_frame (found k) is.frame) (first_same _ _ _ _ (sym make.two.found_is ∙ is.found_is)) ∙ is.outside
+    where
+      first_same : (k j : Capability) (ks js : List Capability) → k ∷ ks ≡ j ∷ js → k ≡ j
+      first_same k j ks js h = cc
+
+  left : rule_after (rule_of s c a.call) a.found ≡ make_rest s make.two.range is.frame is.node (Under (found make.two.table) is.slot)
+  left = ap (λ x. rule_after (rule_of s c x) a.found) is.call_is ∙ make.rule
+
+  first : IsAlone t (step_to c None move (last_left setup t (word_of move)) (Some reply.OutOfRange) None)
+      → change_of s c a.call ≡ Refused reply.OutOfRange
+  first alone =
+      outcome_left s c (own_pages s c) a.plan (rule_of s c a.call) a.found by_plan leads ∙ ap (outcome s c) left
+      ∙ ap (λ x. and_then x λ at. unless (first_of (if not (has_frame (found make.two.range) is.frame) then Some reply.OutOfRange else None)
+      (first_cause s c (not_blank s is.frame ∷ []))) (makes (cleared s is.frame) is.frame (node_object is.node) (node_kind is.node) at))
+      (vacant_slot s c (Under (found make.two.table) is.slot) slot reached_is (vacant_alone leaf alone).vacant)
+      ∙ ap (λ b. unless (first_of (if not b then Some reply.OutOfRange else None) (first_cause s c (not_blank s is.frame ∷ [])))
+      (makes (cleared s is.frame) is.frame (node_object is.node) (node_kind is.node) slot)) outside_is
+
+  pub refused_vacant : IsRefusedOutside setup t c a.call move
+  refused_vacant = record {
+    may = left_may s c (own_pages s c) a.plan (rule_of s c a.call) a.found by_plan leads reply.OutOfRange
+        (subst (λ x. RuleMay s c x reply.OutOfRange) (sym left) (inr (inl (ap (λ b. not b) outside_is, refl))));
+    first = first;
+  }
+
+-- It is vacant where its word stands still that the call has read there, as it does if the call is alone.
+module _ (setup : Setting) (setting : IsSetting setup) (cores : ℕ → Core) (t : Trace) (stands : Stands setup cores t) (c : ℕ)
+    (here : c < setup.cores)
+    (a : ActiveCall) (active : (cores c).active ≡ Some a) (opens : phase_at a.call a.stage ≡ Open a.call)
+    (names : NamesAre setup t c (cores c).own.table a.plan a.found) (node index word : ℕ)
+    (spot : IsSpot setup t c a.plan a.found setup.cores node index word) where
+  abbrev at_entry : Step
+  at_entry = step_to c None (LoadOf (EntryAt node index)) (last_left setup t (EntryAt node index)) None None
+
+  pub vacant_here : (index < 64) → (state_after setup t).frame node ≡ Kernel Leaf → last_left setup t (EntryAt node index) ≡ word
+      → IsVacant (state_after setup t) c node index
+  vacant_here small in_leaf same =
+      vacant_by setup setting t stands.legal stands.graces c node index in_leaf (ap (λ l. l.cores) (limits_of setup t)) setup.frames
+      (entry_of_word (last_left setup t (EntryAt node index))) unmarked.says may
+    where
+      may : MayFill setup t c (PlaceOf node index) setup.cores (entry_of_word (last_left setup t (EntryAt node index)))
+      may = subst (MayFill setup t c (PlaceOf node index) setup.cores) (sym (ap entry_of_word same)) spot.vacant
+
+      unmarked : IsUnmarked setup t node index
+      unmarked = by_read (place_reads setup cores t stands node index (ap is_node in_leaf) small)
+        where
+          by_read : IsMarked setup t node index ⊎ IsUnmarked setup t node index → IsUnmarked setup t node index
+          by_read (inl m) = absurd (subst (MayFill setup t c (PlaceOf node index) setup.cores) m.says may)
+          by_read (inr p) = p
+
+  -- where the call is alone, the word of the target stands as it was read
+  pub stands_alone : (move : Move) (r : Reply) → IsAlone t (step_to c None move (last_left setup t (word_of move)) (Some r) None)
+      → last_left setup t (EntryAt node index) ≡ word
+  stands_alone move r alone = elim (cases_eq (last_left setup t (EntryAt node index)) word) [
+    | inl same ↦ same
+    | inr changed ↦ absurd (not_changed setup t at_entry refl
+        (record { others_out = alone.others_out; undisturbed = alone.undisturbed }) word spot.own changed)
+  ]
+
+  pub refused_outside : (index < 64) → OutsideBy a.call a.found → (move : Move) → IsRefusedOutside setup t c a.call move
+  refused_outside small out move =
+      refused_vacant setup setting cores t stands c here a active opens names node index spot.target spot.next spot.way.reached out move
+      (λ in_leaf alone. vacant_here small in_leaf (stands_alone move reply.OutOfRange alone))

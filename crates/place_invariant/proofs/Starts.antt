@@ -1,0 +1,111 @@
+-- Where an act starts, after its look-ups or its scan: it acquires its first count or makes its first step, or its frame is out of range.
+use Rattle.std.proofs.Common.{◌≡◌, ℕ, ◌<◌, ◌++◌, map, length, not, true, false, List, [], ◌∷◌, Some, None, refl, sym, ◌∙◌, ap}
+use Rattle.std.proofs.lemmas.Bool.{false≢true}
+use Rattle.spk_nums.specs.Setting.{Setting, IsSetting}
+use Rattle.spk_nums.specs.declared.calls.Call.{Call}
+use Rattle.spk_nums.specs.declared.replies.Reply.TheVariants as reply
+use Rattle.word_map.specs.Moves.{Move, word_of}
+use Rattle.kernel_rules.specs.Rules.{RuleMay, Refused}
+use Rattle.kernel_rules.specs.CallRelation.{rule_of, change_of, are_calls_spent}
+use Rattle.kernel_history.specs.Alone.{IsAlone}
+use Rattle.kernel_history.specs.Trace.{Step, Trace, Open, phase, state_after, last_left}
+use Rattle.kernel_history.proofs.AloneCalls.{refused_first}
+use Rattle.kernel_history.proofs.Carries.{Carries}
+use Rattle.stage_quiet.specs.declared.close.Close.TheVariants.{AtCompare, AtDraw, AtStore}
+use Rattle.stage_pins.specs.declared.held.Acquired.{Acquired}
+use Rattle.call_acts.specs.declared.refusals.Refusal.TheVariants as refusal
+use Rattle.call_acts.specs.declared.makings.MakingAt.{MakingAt}
+use Rattle.call_acts.specs.declared.makings.MakingAt.TheVariants.{Load as making_load, Mark, Store, Fill as making_fill}
+use Rattle.call_acts.specs.Makings.{is_marked}
+use Rattle.call_acts.specs.declared.work.Act.{Act as ActOf}
+use Rattle.call_acts.specs.declared.work.Act.TheVariants.{Fill as fill_act, Remove as remove_act, Retype as type_act, Make as make_act, Outside}
+use Rattle.call_acts.specs.declared.work.WorkStep.TheVariants.{Goes}
+use Rattle.call_acts.specs.WorkSteps.{refuse}
+use Rattle.call_acts.specs.Acts.{dues, next_work, starts}
+use Rattle.call_steps.specs.declared.stages.Stage.{Stage}
+use Rattle.call_steps.specs.declared.stages.Stage.TheVariants.{Undecided}
+use Rattle.call_steps.specs.declared.stages.ActiveCall.{ActiveCall}
+use Rattle.call_steps.specs.Steps.{landed}
+use Rattle.call_steps.specs.View.{Core}
+use Rattle.core_invariant.specs.Holding.{Holding, holds_counts}
+use Rattle.core_invariant.specs.Knows.{due_of, KnowsAct, NamesAre, is_start, is_counting, goes_on, phase_at}
+use Rattle.core_invariant.specs.Stands.{holds_act, holds_making, holds_in, Stands}
+use Rattle.core_invariant.proofs.Carries.{names_on}
+use Rattle.core_invariant.proofs.Loads.{OnlyLooks, step_to, next_at, core_is, call_is, loads_on, decides_on}
+use Rattle.core_invariant.proofs.Refusals.{GoodTook, not_spent}
+use Rattle.count_invariant.proofs.Acquiring.{knows_next, next_holds}
+
+-- Before its first step an act holds nothing.
+start_holds : (act : ActOf) (h : Holding) → is_start act ≡ true → holds_act act h ≡ h
+start_holds (fill_act fill) h is = refl
+start_holds (remove_act (AtCompare node index word by) cap) h is = refl
+start_holds (remove_act (AtDraw node index) cap) h is = absurd (false≢true is)
+start_holds (remove_act (AtStore node index x) cap) h is = absurd (false≢true is)
+start_holds (type_act typing) h is = refl
+start_holds (make_act m) h is = by m.at is
+  where
+    by : (at : MakingAt) → not (is_marked at) ≡ true → holds_making m.frame at h ≡ h
+    by making_load is = refl
+    by (Mark word) is = refl
+    by (Store word entry) is = absurd (false≢true is)
+    by (making_fill word) is = absurd (false≢true is)
+start_holds (Outside node entry word) h is = refl
+
+start_counts : (act : ActOf) → is_start act ≡ true → is_counting act ≡ true
+start_counts (fill_act fill) is = refl
+start_counts (remove_act close cap) is = is
+start_counts (type_act typing) is = refl
+start_counts (make_act m) is = refl
+start_counts (Outside node entry word) is = refl
+
+-- A call whose frame is not in its range is refused so, and nothing before that refuses it.
+pub record IsRefusedOutside (setup : Setting) (t : Trace) (c : ℕ) (call : Call) (move : Move) : Type 0 where
+  pub may : RuleMay (state_after setup t) c (rule_of (state_after setup t) c call) reply.OutOfRange
+  pub first : IsAlone t (step_to c None move (last_left setup t (word_of move)) (Some reply.OutOfRange) None)
+      → change_of (state_after setup t) c call ≡ Refused reply.OutOfRange
+
+module _ (setup : Setting) (setting : IsSetting setup) (cores : ℕ → Core) (t : Trace) (stands : Stands setup cores t) (c : ℕ)
+    (here : c < setup.cores)
+    (a : ActiveCall) (active : (cores c).active ≡ Some a) (opens : phase_at a.call a.stage ≡ Open a.call)
+    (held_is : holds_in (Some a) ≡ holds_counts None a.counts) (no_counts : a.counts ≡ [])
+    (room : (cores c).own.made < (cores c).own.limit)
+    (names : NamesAre setup t c (cores c).own.table a.plan a.found) (move : Move) (looks : OnlyLooks setup t c a.call move) where
+  abbrev e : Step
+  e = step_to c None move (last_left setup t (word_of move)) None None
+
+  is_open : phase t c ≡ Open a.call
+  is_open = (call_is setup setting cores t stands c here a active).phase ∙ opens
+
+  abbrev Known : ActOf → Type 0
+  Known act = Carries setup t e c → KnowsAct setup (e ∷ t) c a.call a.plan a.found setup.cores act
+
+  goes_good : (act : ActOf) → is_start act ≡ true → goes_on act ≡ true → Known act
+      → GoodTook setup cores t c move (landed a (Goes (next_work (cores c).own.core 0 act)))
+  goes_good act is goes known lands =
+      let stage : Stage = Undecided (next_work (cores c).own.core 0 act) in
+      loads_on setup setting cores t stands c here a active move a.found stage looks lands
+      (next_holds (cores c).own.core 0 act (holds_counts None a.counts) ∙ start_holds act (holds_counts None a.counts) is ∙ sym held_is)
+      opens
+      (λ carries. record {
+        names = names_on setup setting t e stands.legal c a.call is_open carries (cores c).own.table a.plan a.found names;
+        knows = knows_next setup (e ∷ t) c (cores c).own.table (next_at a a.found stage) (cores c).own.core act (dues act)
+            (stands.each c here).number (known carries)
+            (ap (λ (xs : List Acquired). map due_of xs ++ dues act) (sym no_counts)) 0
+            (ap (λ (xs : List Acquired). length xs) (sym no_counts)) (start_counts act is) goes;
+      })
+
+  outside_good : IsRefusedOutside setup t c a.call move → GoodTook setup cores t c move (landed a (refuse refusal.OutOfRange))
+  outside_good refused lands =
+      let unspent : are_calls_spent (state_after setup t) c ≡ false = not_spent setup (cores c) t c
+      (core_is setup setting cores t stands c here a active) room in
+      decides_on setup setting cores t stands c here a active move reply.OutOfRange a.found looks lands (sym held_is) opens refl refl
+      (λ x. refl) (λ x. refl) refl (unspent, refused.may) tt
+      (λ is_alone. refused_first (state_after setup t) c a.call reply.OutOfRange unspent (refused.first is_alone))
+
+  pub starts_good : (act : ActOf) → is_start act ≡ true → Known act → (goes_on act ≡ false → IsRefusedOutside setup t c a.call move)
+      → GoodTook setup cores t c move (landed a (starts (cores c).own.core act))
+  starts_good (fill_act fill) is known refused = goes_good (fill_act fill) is refl known
+  starts_good (remove_act close cap) is known refused = goes_good (remove_act close cap) is refl known
+  starts_good (type_act typing) is known refused = goes_good (type_act typing) is refl known
+  starts_good (make_act m) is known refused = goes_good (make_act m) is refl known
+  starts_good (Outside node entry word) is known refused = outside_good (refused refl)
