@@ -361,6 +361,46 @@ fn a_make_that_loses_its_target_gives_its_frame_back(rt: HostRuntime) -> Result<
 }
 
 #[test]
+fn a_frame_that_is_given_back_is_busy_until_its_count_is_committed(
+    rt: HostRuntime,
+) -> Result<(), Fail> {
+    let alloc = rt.alloc();
+    let start = "0.1 retype 0 8 kernel = ok\n1.1 copy 0 1 20 = ok\n";
+    let lost = "0.2 make leaf 0 8 1 20 = raced\n";
+    let busy = "1.2 make table 0 8 1 21 = busy 0\n";
+    let again = "1.3 make table 0 8 1 21 = ok\n";
+    let marked = format!(in alloc; "{start}{busy}{lost}{again}")?;
+    let decided = format!(in alloc; "{start}{lost}{busy}{again}")?;
+    let left = format!(in alloc;
+        "{start}{lost}1.2 make table 0 8 1 21 = ok\n1.3 make table 0 8 1 21 = occupied\n"
+    )?;
+    // Core 0's steps after the store of the last entry. The frame's word carries its mark, also when its target is lost; then its count
+    // does, and core 1 has marked the frame's word when it finds that, and gives it back.
+    let rows = [
+        (0, &marked),
+        (1, &decided),
+        (2, &decided),
+        (3, &left),
+        (4, &left),
+        (5, &left),
+    ];
+    let stores = steps(alloc, 0, 75)?;
+    let made = tables(
+        alloc,
+        "  20 range 8 24\n  21 table 8\n",
+        "frame 8 table refs 1\n",
+    )?;
+    for (number, replies) in rows {
+        let items = steps(alloc, 0, number)?;
+        let lines = format!(in alloc;
+            "core 0\nretype 0 8 kernel\nmake leaf 0 8 1 20\ncore 1\ncopy 0 1 20\nmake table 0 8 1 21\nmake table 0 8 1 21\norder\n0. {stores}1. {items}1. 0. 1.\n"
+        )?;
+        assert!(rt; is_typed(&rt, alloc, &lines, replies, &made)?, "{number}");
+    }
+    Ok(())
+}
+
+#[test]
 fn a_new_node_is_found_once_its_target_is_filled(rt: HostRuntime) -> Result<(), Fail> {
     let made = ("  20 table 8\n", "frame 8 table refs 1\n");
     // A call of core 1, its reply before and after the target is filled.

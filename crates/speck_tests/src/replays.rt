@@ -358,6 +358,11 @@ fn the_first_line_that_is_not_built_is_told(rt: HostRuntime) -> Result<(), Fail>
             11,
         ),
         ("core 0\nmake tcap 0 8 1 20 0 5\norder\n0\n", 7),
+        (
+            "core 0\nmake table 0 8 1 20\nmake leaf 0 8 1 20\nmake pages 0 8 1 20\nmake pleaf 0 8 1 20\nmake thread 0 8 1 20 3\n",
+            11,
+        ),
+        ("core 0\nmake leaf 0 8 1 20\nmake comp 0 8 1 21 1 2 7\n", 8),
         ("calls 4194304\nepochs 1\ncore 0\nret\n", 9),
     ];
     for (lines, line) in rows {
