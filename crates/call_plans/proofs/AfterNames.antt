@@ -16,7 +16,8 @@ use Rattle.call_plans.specs.Laws.{LeftGoesBy, OutcomeIsLeft, LeftMayRefuse, Next
 
 -- What is true of a rule whose first name leads on to a rule of which it is true, is true of the rule before the names that lead.
 pub before : (P : ℕ → (Kind → Bool) → Capability → Type 0) (Q : Rule → Type 0)
-    → ((n : ℕ) (wanted : Kind → Bool) (rest : Named → Rule) (k : Capability) → P n wanted k → Q (rest (found k)) → Q (name_rule n wanted rest))
+    → ((n : ℕ) (wanted : Kind → Bool) (rest : Named → Rule) (k : Capability) → P n wanted k → Q (rest (found k))
+    → Q (name_rule n wanted rest))
     → (pages : OwnPages) (names : List Name) (target : Target) (caps : List Named) (rule : Rule) (ks : List Capability)
     → GoesOn pages names target caps rule → Leads P names caps ks → Q (rule_after rule ks) → Q rule
 before P Q on pages names target caps rule [] goes leads h = h
@@ -30,7 +31,8 @@ before P Q on pages (name ∷ names) target caps (mapped_rule t v rest) (k ∷ k
 before P Q on pages (name ∷ names) target caps (Does causes change) (k ∷ ks) goes leads h = absurd goes
 
 -- what is left goes by what is left of the plan
-goes_left : (P : ℕ → (Kind → Bool) → Capability → Type 0) (pages : OwnPages) (names : List Name) (target : Target) (caps : List Named) (rule : Rule) (ks : List Capability)
+goes_left : (P : ℕ → (Kind → Bool) → Capability → Type 0) (pages : OwnPages) (names : List Name) (target : Target) (caps : List Named)
+    (rule : Rule) (ks : List Capability)
     → GoesOn pages names target caps rule → Leads P names caps ks
     → GoesOn pages (names_after names ks) target (with_found caps ks) (rule_after rule ks)
 goes_left P pages names target caps rule [] goes leads = goes
@@ -43,7 +45,8 @@ goes_left P pages (name ∷ names) target caps (mapped_rule t v rest) (k ∷ ks)
 goes_left P pages (name ∷ names) target caps (Does causes change) (k ∷ ks) goes leads = absurd goes
 
 -- What leads by one way leads by another.
-pub leads_by : (P Q : ℕ → (Kind → Bool) → Capability → Type 0) → ((n : ℕ) (wanted : Kind → Bool) (k : Capability) → P n wanted k → Q n wanted k)
+pub leads_by : (P Q : ℕ → (Kind → Bool) → Capability → Type 0)
+    → ((n : ℕ) (wanted : Kind → Bool) (k : Capability) → P n wanted k → Q n wanted k)
     → (names : List Name) (caps : List Named) (ks : List Capability) → Leads P names caps ks → Leads Q names caps ks
 leads_by P Q on names caps [] leads = tt
 leads_by P Q on [] caps (k ∷ ks) leads = absurd leads
@@ -58,14 +61,16 @@ NextBy P (NextHeld t) k = ⊥
 NextBy P (NextOwn v) k = ⊥
 NextBy P NextNothing k = ⊥
 
-none_leads : (P : ℕ → (Kind → Bool) → Capability → Type 0) (caps : List Named) (target : Target) (j : Capability) → NextBy P (next_target caps target) j → ⊥
+none_leads : (P : ℕ → (Kind → Bool) → Capability → Type 0) (caps : List Named) (target : Target) (j : Capability)
+    → NextBy P (next_target caps target) j → ⊥
 none_leads P caps Nowhere j next = next
 none_leads P caps (Free spot) j next = next
 none_leads P caps (Held spot) j next = next
 none_leads P caps (Own v) j next = next
 
 -- One name more leads to a capability.
-pub one_more : (P : ℕ → (Kind → Bool) → Capability → Type 0) (names : List Name) (target : Target) (caps : List Named) (ks : List Capability) (j : Capability)
+pub one_more : (P : ℕ → (Kind → Bool) → Capability → Type 0) (names : List Name) (target : Target) (caps : List Named)
+    (ks : List Capability) (j : Capability)
     → Leads P names caps ks → NextBy P (next_in (with_found caps ks) (names_after names ks) target) j → Leads P names caps (ks ++ j ∷ [])
 one_more P [] target caps [] j leads next = none_leads P caps target j next
 one_more P (name ∷ names) target caps [] j leads next = (next, tt)
@@ -89,7 +94,8 @@ Begins pages (NextOwn v) (Does causes change) = IsTrue (pages.cached v)
 Begins pages NextNothing (Does causes change) = Unit {0}
 Begins pages _ _ = ⊥
 
-begins : (pages : OwnPages) (names : List Name) (target : Target) (caps : List Named) (rule : Rule) → GoesOn pages names target caps rule → Begins pages (next_in caps names target) rule
+begins : (pages : OwnPages) (names : List Name) (target : Target) (caps : List Named) (rule : Rule) → GoesOn pages names target caps rule
+    → Begins pages (next_in caps names target) rule
 begins pages (name ∷ names) target caps (name_rule n wanted rest) goes = (goes.0, goes.1)
 begins pages (name ∷ names) target caps (vacant_rule t rest) goes = absurd goes
 begins pages (name ∷ names) target caps (held_rule t rest) goes = absurd goes
@@ -110,7 +116,8 @@ both true is other = cc
 both false is other = cc
 
 -- a rule that begins with this look-up may be refused as that
-first_may : (s : State) (c : ℕ) (pages : OwnPages) (next : Next) (rule : Rule) (r : Reply) → Begins pages next rule → NextMay s c pages next r → RuleMay s c rule r
+first_may : (s : State) (c : ℕ) (pages : OwnPages) (next : Next) (rule : Rule) (r : Reply) → Begins pages next rule
+    → NextMay s c pages next r → RuleMay s c rule r
 first_may s c pages (NextName n wanted) (name_rule m w rest) r is may =
     inl (subst (λ m. NameMay s c m w r) (sym is.0) (subst (λ w. NameMay s c n w r) (sym is.1) may))
 first_may s c pages (NextFree target) (vacant_rule t rest) r is may = inl (subst (λ t. VacantMay s c t r) (sym is) may)
@@ -140,10 +147,12 @@ left_may s c pages plan rule ks goes leads r may =
     (λ n wanted rest k is h. inr (subst (λ x. RuleMay s c (rest (name_of x)) r) (sym is) h))
     pages plan.names plan.target [] rule ks goes leads may
 
-pub left_begins : (s : State) (c : ℕ) (pages : OwnPages) (plan : Plan) (rule : Rule) (ks : List Capability) → GoesBy pages plan rule → Leads (LeadsIn s c) plan.names [] ks
+pub left_begins : (s : State) (c : ℕ) (pages : OwnPages) (plan : Plan) (rule : Rule) (ks : List Capability) → GoesBy pages plan rule
+    → Leads (LeadsIn s c) plan.names [] ks
     → Begins pages (next_of plan ks) (rule_after rule ks)
 left_begins s c pages plan rule ks goes leads =
-    begins pages (names_after plan.names ks) plan.target (with_found [] ks) (rule_after rule ks) (left_goes s c pages plan rule ks goes leads)
+    begins pages (names_after plan.names ks) plan.target (with_found [] ks) (rule_after rule ks)
+    (left_goes s c pages plan rule ks goes leads)
 
 pub next_may : NextMayRefuse
 next_may s c pages plan rule ks goes leads r may =

@@ -26,7 +26,8 @@ touch_goes : (s : State) (c : ℕ) (pages : OwnPages) (v : ℕ) (o : Option Tran
 touch_goes s c pages v None is = (refl, refl, is, λ k. tt)
 touch_goes s c pages v (Some t) is = is
 
-retype_goes : (s : State) (c : ℕ) (pages : OwnPages) (r f : ℕ) (k : FrameKind) → GoesBy pages (plan_of_retype k r) (rule_of s c (Retype r f k))
+retype_goes : (s : State) (c : ℕ) (pages : OwnPages) (r f : ℕ) (k : FrameKind)
+    → GoesBy pages (plan_of_retype k r) (rule_of s c (Retype r f k))
 retype_goes s c pages r f Untyped = (refl, refl, λ k. tt)
 retype_goes s c pages r f User = (refl, refl, λ k. tt)
 retype_goes s c pages r f Kernel = (refl, refl, λ k. tt)

@@ -34,7 +34,8 @@ place_map ks First = head_map ks
 place_map ks Second = ap head (tail_map ks) ∙ head_map (tail ks)
 place_map ks Third = ap (λ l. head (tail l)) (tail_map ks) ∙ ap head (tail_map (tail ks)) ∙ head_map (tail (tail ks))
 place_map ks Fourth =
-    ap (λ l. head (tail (tail l))) (tail_map ks) ∙ ap (λ l. head (tail l)) (tail_map (tail ks)) ∙ ap head (tail_map (tail (tail ks))) ∙ head_map (tail (tail (tail ks)))
+    ap (λ l. head (tail (tail l))) (tail_map ks) ∙ ap (λ l. head (tail l)) (tail_map (tail ks)) ∙ ap head (tail_map (tail (tail ks)))
+    ∙ head_map (tail (tail (tail ks)))
 
 -- what an earlier name has led to
 pub earlier_found : (ks : List Capability) (i : Nth) → earlier (with_found [] ks) i ≡ or_not_found (option_map found (at_place ks i))
@@ -73,13 +74,21 @@ record AllLead (P : ℕ → (Kind → Bool) → Capability → Type 0) (names : 
   leads : Leads P names caps ks
   none : names_after names ks ≡ []
 
-first_led : (P : ℕ → (Kind → Bool) → Capability → Type 0) (names : List Name) (ks : List Capability) (name : Name) → AllLead P names ks → head names ≡ Some name → Led P name (head ks)
+first_led : (P : ℕ → (Kind → Bool) → Capability → Type 0) (names : List Name) (ks : List Capability) (name : Name) → AllLead P names ks
+    → head names ≡ Some name → Led P name (head ks)
 first_led P [] ks name all is = absurd (none_some name is)
 first_led P (n ∷ names) [] name all is = absurd (left_none n names all.none)
 first_led P (n ∷ names) (k ∷ ks) name all is =
-    record { k = k; is = refl; caps = all.caps; leads = subst (λ (m : Name). P m.number (wants all.caps m.wanted) k) (some_inj n name is) all.leads.0 }
+    record {
+      k = k;
+      is = refl;
+      caps = all.caps;
+      leads = subst (λ (m : Name). P m.number (wants all.caps m.wanted) k)
+          (some_inj n name is) all.leads.0;
+    }
 
-tails_lead : (P : ℕ → (Kind → Bool) → Capability → Type 0) (names : List Name) (ks : List Capability) → AllLead P names ks → AllLead P (tail names) (tail ks)
+tails_lead : (P : ℕ → (Kind → Bool) → Capability → Type 0) (names : List Name) (ks : List Capability) → AllLead P names ks
+    → AllLead P (tail names) (tail ks)
 tails_lead P [] [] all = record { caps = all.caps; leads = tt; none = refl }
 tails_lead P [] (k ∷ ks) all = absurd all.leads
 tails_lead P (name ∷ names) [] all = absurd (left_none name names all.none)
@@ -91,10 +100,12 @@ nth_led P names ks First name leads none is = first_led P names ks name (record 
 nth_led P names ks Second name leads none is =
     first_led P (tail names) (tail ks) name (tails_lead P names ks (record { caps = []; leads = leads; none = none })) is
 nth_led P names ks Third name leads none is =
-    first_led P (tail (tail names)) (tail (tail ks)) name (tails_lead P (tail names) (tail ks) (tails_lead P names ks (record { caps = []; leads = leads; none = none }))) is
+    first_led P (tail (tail names)) (tail (tail ks)) name (tails_lead P (tail names) (tail ks)
+    (tails_lead P names ks (record { caps = []; leads = leads; none = none }))) is
 nth_led P names ks Fourth name leads none is =
     first_led P (tail (tail (tail names))) (tail (tail (tail ks))) name
-    (tails_lead P (tail (tail names)) (tail (tail ks)) (tails_lead P (tail names) (tail ks) (tails_lead P names ks (record { caps = []; leads = leads; none = none })))) is
+    (tails_lead P (tail (tail names)) (tail (tail ks)) (tails_lead P (tail names) (tail ks)
+    (tails_lead P names ks (record { caps = []; leads = leads; none = none })))) is
 
 -- what stands at a place, and after those that have led, by its index
 pub at_is : {A : Type 0} (xs : List A) (i : Nth) → slice_get xs (index_of i) ≡ at_place xs i

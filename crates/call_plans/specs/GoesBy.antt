@@ -56,8 +56,10 @@ own_pages s c = record { table = (comp_of s c).pages; cached = λ v. is_some (tr
 abbrev pub GoesTo : OwnPages → Target → List Named → Rule → Type 0
 GoesTo pages Nowhere caps rule = OnlyDoes rule
 GoesTo pages (Free spot) caps (vacant_rule target rest) = (target ≡ place_of caps spot) × ((at : Slot) → OnlyDoes (rest at))
-GoesTo pages (Held spot) caps (held_rule target rest) = (target ≡ place_of caps spot) × ((at : Slot) (k : Capability) → OnlyDoes (rest at k))
-GoesTo pages (Own v) caps (mapped_rule table n rest) = (table ≡ pages.table) × (n ≡ v) × IsFalse (pages.cached v) × ((k : Capability) → OnlyDoes (rest k))
+GoesTo pages (Held spot) caps (held_rule target rest) = (target ≡ place_of caps spot)
+    × ((at : Slot) (k : Capability) → OnlyDoes (rest at k))
+GoesTo pages (Own v) caps (mapped_rule table n rest) = (table ≡ pages.table) × (n ≡ v) × IsFalse (pages.cached v)
+    × ((k : Capability) → OnlyDoes (rest k))
 GoesTo pages (Own v) caps (Does causes change) = IsTrue (pages.cached v)
 GoesTo pages _ caps _ = ⊥
 

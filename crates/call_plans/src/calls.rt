@@ -4,7 +4,7 @@ ghost use Rattle.std.specs.Prelude.{◌≡◌, ℕ};
 ghost use Rattle.spk_nums.specs.declared.kinds.Kind.TheVariants.{Tcap};
 ghost use Rattle.kernel_rules.specs.State.{State};
 ghost use Rattle.kernel_rules.specs.CallRelation.{rule_of};
-ghost use Rattle.call_plans.specs.PlanOf.{any_cap, a_root, of_kind, fills, removes, names_alone, on_two_tcaps, plan_of_retype, plan_of_make, plan_for};
+ghost use Rattle.call_plans.specs.PlanOf.{any_cap, a_root, of_kind, fills, removes, names_alone, on_two_tcaps, plan_of_retype, plan_of_make, plan_for, a_leaf};
 ghost use Rattle.call_plans.specs.GoesBy.{GoesBy, own_pages};
 
 use crate::plans::{Decides, Name, Names, Nth, Plan, Spot, Target, Wanted};
@@ -235,6 +235,5 @@ fn on_two_tcaps(a: CapId, b: CapId, decides: Decides) -> Plan
     )
 }
 
-ghost use Rattle.call_plans.specs.PlanOf.{a_leaf};
 ghost use Rattle.call_plans.specs.declared.plans.Nth.TheVariants.{First};
 ghost use Rattle.call_plans.specs.declared.plans.Spot.TheVariants.{Under};

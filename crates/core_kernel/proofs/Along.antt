@@ -35,7 +35,8 @@ use Rattle.core_kernel.specs.Running.{run_of, next_in, running}
 use Rattle.core_kernel.specs.Seen.{core_by, step_by, trace_of, IsStart}
 
 -- a program with a next step has a active call, and makes the step machine's step
-next_some : (core : Core) (o : Option ActiveCall) (op : WordOp) → next_in core o ≡ Some op → (op ≡ op_of core.own.layout (move_of core)) × IsSome o
+next_some : (core : Core) (o : Option ActiveCall) (op : WordOp) → next_in core o ≡ Some op → (op ≡ op_of core.own.layout (move_of core))
+    × IsSome o
 next_some core None op is = absurd (cc)
 next_some core (Some f) op is = (cc, refl)
 
@@ -52,7 +53,8 @@ turned_shape : (o : Option Call) (core : Core) → (turned o core).own.layout �
 turned_shape None core = refl
 turned_shape (Some call) core = refl
 
-may_step : (p : CoreRun) (o : Option Call) (op : WordOp) → MayCall running p o → running.next (called running p o) ≡ Some op → MayStep o p.state
+may_step : (p : CoreRun) (o : Option Call) (op : WordOp) → MayCall running p o → running.next (called running p o) ≡ Some op
+    → MayStep o p.state
 may_step p None op may next = (next_some p.state p.state.active op next).1
 may_step p (Some call) op may next = record { between = next_none p.state p.state.active may.0; built = may.1.built; limits = may.1.limits }
 
@@ -61,7 +63,8 @@ turned_fits None core may fits = fits
 turned_fits (Some call) core may fits = begun_fits core call fits may.limits may.built
 
 -- the core of a program that has made no step
-started_state : (c : ℕ) (setup : Setting) (p : CoreRun) (o : Option CoreRun) → o ≡ Some (run_of (started c setup) None) → o ≡ Some p → p.state ≡ started c setup
+started_state : (c : ℕ) (setup : Setting) (p : CoreRun) (o : Option CoreRun) → o ≡ Some (run_of (started c setup) None) → o ≡ Some p
+    → p.state ≡ started c setup
 started_state c setup p o is runs = let same : run_of (started c setup) None ≡ p = cc in ap (λ q. q.state) (sym same)
 
 the_same : (x y : CoreRun) (o : Option CoreRun) → o ≡ Some x → o ≡ Some y → x ≡ y
@@ -72,17 +75,24 @@ pub record EntryIs (setup : Setting) (t : List (Entry Call)) (e : Entry Call) (p
   pub core : (called running p e.call).state ≡ core_by setup (trace_of setup t) e
   pub fits : IsCore (core_by setup (trace_of setup t) e)
   pub in_call : IsSome (core_by setup (trace_of setup t) e).active
-  pub told : (op : WordOp) → running.next (called running p e.call) ≡ Some op → table.told_by op e.found ≡ told_of (move_of (core_by setup (trace_of setup t) e)) e.found
+  pub told : (op : WordOp) → running.next (called running p e.call) ≡ Some op
+      → table.told_by op e.found ≡ told_of (move_of (core_by setup (trace_of setup t) e)) e.found
 
 module _ (setup : Setting) (setting : IsSetting setup) (start : Start CoreRun) (is : IsStart setup start) where
   is_shape : IsShape (shape_of setup)
-  is_shape = record { some_core = setting.some_core; most_cores = setting.most_cores; least_frames = setting.least_frames; most_frames = setting.most_frames }
+  is_shape = record {
+    some_core = setting.some_core;
+    most_cores = setting.most_cores;
+    least_frames = setting.least_frames;
+    most_frames = setting.most_frames;
+  }
 
   -- after the entries: the kernel's trace is the machine's, each word of the table is what the trace last left there, and each
   -- program's core is where the trace brings it
   pub record Along (t : List (Entry Call)) : Type 0 where
     pub made : IsMade setup (trace_of setup t)
-    pub words : (w : Word) → IsWord (shape_of setup) w → word_after start t (place_of (shape_of setup) w) ≡ last_left setup (trace_of setup t) w
+    pub words : (w : Word) → IsWord (shape_of setup) w → word_after start t (place_of (shape_of setup) w) ≡ last_left setup
+        (trace_of setup t) w
     pub runs : (c : ℕ) (p : CoreRun) → program_after running start t c ≡ Some p → p.state ≡ cores_after setup (trace_of setup t) c
 
   -- a core with a program is one of the machine
@@ -157,7 +167,8 @@ module _ (setup : Setting) (setting : IsSetting setup) (start : Start CoreRun) (
       made = refl;
     }
 
-    words : (w : Word) → IsWord (shape_of setup) w → word_after start (e ∷ t) (place_of (shape_of setup) w) ≡ last_left setup (trace_of setup (e ∷ t)) w
+    words : (w : Word) → IsWord (shape_of setup) w → word_after start (e ∷ t) (place_of (shape_of setup) w) ≡ last_left setup
+        (trace_of setup (e ∷ t)) w
     words w h = elim (cases_word w (word_of (move_of core))) [
       | inl same ↦
           word_here start e t (place_of (shape_of setup) w) (at ∙ ap (place_of (shape_of setup)) (sym same)) ∙ left
@@ -178,8 +189,10 @@ module _ (setup : Setting) (setting : IsSetting setup) (start : Start CoreRun) (
     runs : (d : ℕ) (p : CoreRun) → program_after running start (e ∷ t) d ≡ Some p → p.state ≡ cores_after setup (trace_of setup (e ∷ t)) d
     runs d p h = elim (cases_eq d c) [
       | inl same ↦
-          let here_now : program_after running start (e ∷ t) c ≡ Some p = subst (λ (i : ℕ). program_after running start (e ∷ t) i ≡ Some p) same h in
-          let new : running.after q (table.told_by m.step.op e.found) ≡ p = the_same _ p (program_after running start (e ∷ t) c) now here_now in
+          let here_now : program_after running start (e ∷ t) c ≡ Some p =
+          subst (λ (i : ℕ). program_after running start (e ∷ t) i ≡ Some p) same h in
+          let new : running.after q (table.told_by m.step.op e.found) ≡ p =
+          the_same _ p (program_after running start (e ∷ t) c) now here_now in
           sym (ap (λ k. k.state) new) ∙ state_now ∙ sym (put_same (cores_after setup (trace_of setup t)) c (core_after core e.found) d same)
       | inr apart ↦
           a.runs d p (sym (program_elsewhere running start e t d (λ same. apart (sym same))) ∙ h)
@@ -200,7 +213,8 @@ module _ (setup : Setting) (setting : IsSetting setup) (start : Start CoreRun) (
   is_history t sound = made_histories setup setting (trace_of setup t) (along t sound).made
 
   -- a core whose program has no active call is between calls
-  pub is_out : (t : List (Entry Call)) → IsSound running start t → (c : ℕ) (p : CoreRun) → program_after running start t c ≡ Some p → p.state.active ≡ None → phase (trace_of setup t) c ≡ Out
+  pub is_out : (t : List (Entry Call)) → IsSound running start t → (c : ℕ) (p : CoreRun) → program_after running start t c ≡ Some p
+      → p.state.active ≡ None → phase (trace_of setup t) c ≡ Out
   is_out t sound c p runs none =
       let a = along t sound in
       (made_phases setup setting (trace_of setup t) a.made c (here t c p runs)).out (ap (λ x. x.active) (sym (a.runs c p runs)) ∙ none)

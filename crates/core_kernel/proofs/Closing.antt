@@ -10,18 +10,17 @@ use Rattle.spk_nums.specs.declared.calls.Call.{Call}
 use Rattle.spk_nums.specs.declared.translations.CoreEnd.{CoreEnd}
 use Rattle.spk_nums.specs.Setting.{Setting, IsSetting}
 use Rattle.word_map.specs.Word.{Word, ClockAt}
-use Rattle.word_map.specs.Places.{Shape, IsShape, IsIn, place_of, size_of, shared}
+use Rattle.word_map.specs.Places.{IsShape, IsIn, place_of, size_of, shared}
 use Rattle.word_map.proofs.PlaceLemmas.{has_places}
 use Rattle.kernel_history.specs.BootWords.{shape_of, boot_word}
-use Rattle.kernel_history.specs.FinalWords.{Represent, word_in, end_in, no_end}
-use Rattle.kernel_history.specs.Trace.{Trace, Out, phase, state_after, last_left}
+use Rattle.kernel_history.specs.FinalWords.{word_in, end_in, no_end}
+use Rattle.kernel_history.specs.Trace.{state_after, last_left}
 use Rattle.turn_rule.specs.declared.view.Entry.{Entry}
 use Rattle.turn_rule.specs.declared.view.Start.{Start}
 use Rattle.turn_rule.specs.Trace.{program_after, IsSound, AreOfOthers}
 use Rattle.turn_rule.specs.Seats as turns
 use Rattle.turn_rule.specs.Seats.{TableValue, SeatValue}
 use Rattle.turn_rule.proofs.Traces.{program_stays}
-use Rattle.call_steps.specs.View.{Core}
 use Rattle.call_steps.specs.Cores.{started, end_of}
 use Rattle.flight.proofs.Alike.{like, like_counts}
 use Rattle.flight.proofs.Final.{represents, represents_counts}
@@ -32,37 +31,50 @@ use Rattle.core_kernel.specs.Seen.{IsStart, trace_of}
 use Rattle.flight.specs.Made.{cores_after}
 use Rattle.flight.proofs.Made.{made_stands}
 use Rattle.flight.proofs.Phases.{made_of_its_cores}
-use Rattle.core_kernel.specs.Kernel.{KernelValue, CoreSeatValue, kernel_value, seat_value, IsBooted, IsSeat, AreAllSeats, AreFresh}
+use Rattle.core_kernel.specs.Kernel.{CoreSeatValue, kernel_value, seat_value, IsBooted, IsSeat, AreAllSeats, AreFresh}
 use Rattle.core_kernel.specs.Turns.{ArePrograms, AreWrapped}
 use Rattle.core_kernel.specs.Calls.{ExtendsByOthers, EndsAt}
 use Rattle.core_kernel.proofs.Along.{along, is_history, is_out}
 use Rattle.core_kernel.proofs.Seats.{extends_by_others}
 
 -- one more core at the start
-pub programs_more : (setup : Setting) (n : ℕ) (xs ys : List CoreRun) (p : CoreRun) → ArePrograms setup n xs → ys ≡ xs ++ p ∷ [] → p ≡ run_of (started n setup) None → ArePrograms setup (n + 1) ys
+pub programs_more : (setup : Setting) (n : ℕ) (xs ys : List CoreRun) (p : CoreRun) → ArePrograms setup n xs → ys ≡ xs ++ p ∷ []
+    → p ≡ run_of (started n setup) None → ArePrograms setup (n + 1) ys
 programs_more setup n xs ys p before more is =
     let count : length xs ≡ n = before.count in
     let size : length ys ≡ n + 1 = (let k = ap length more ∙ length-append xs (p ∷ []) in omega arith) in record {
       count = size;
-      each = λ c h. let x : CoreRun = run_of (started c setup) None in slice_get_read ys (length ys) c x refl (omega arith) (elim (cases_eq c n) [
-        | inl last ↦ sym (ap (λ l. get_or l c x) more ∙ get_or_push xs p x c (count ∙ sym last) ∙ is ∙ ap (λ (i : ℕ). run_of (started i setup) None) (sym last))
-        | inr earlier ↦ sym (ap (λ l. get_or l c x) more ∙ get_or_append_left xs (p ∷ []) x c (omega arith) ∙ get_or_from_slice_get xs c x x (before.each c (omega arith)))
-      ]);
+      each = λ c h. let x : CoreRun = run_of (started c setup) None in
+          slice_get_read ys (length ys) c x refl (omega arith) (elim (cases_eq c n) [
+            | inl last ↦ sym (ap (λ l. get_or l c x) more ∙ get_or_push xs p x c (count ∙ sym last) ∙ is
+                ∙ ap (λ (i : ℕ). run_of (started i setup) None) (sym last))
+            | inr earlier ↦ sym (ap (λ l. get_or l c x) more ∙ get_or_append_left xs (p ∷ []) x c (omega arith)
+                ∙ get_or_from_slice_get xs c x x (before.each c (omega arith)))
+          ]);
     }
 
 -- a table has a word
 pub some_word : (setup : Setting) → IsSetting setup → 0 < size_of (shape_of setup)
 some_word setup setting =
-    let is : IsShape (shape_of setup) = record { some_core = setting.some_core; most_cores = setting.most_cores; least_frames = setting.least_frames; most_frames = setting.most_frames } in
+    let is : IsShape (shape_of setup) = record {
+      some_core = setting.some_core;
+      most_cores = setting.most_cores;
+      least_frames = setting.least_frames;
+      most_frames = setting.most_frames;
+    } in
     let below = (has_places (shape_of setup) is).below ClockAt tt in
     omega arith
 
-pub programs_fit : (setup : Setting) (programs : List CoreRun) (words : List ℕ) → ArePrograms setup setup.cores programs → length words ≡ size_of (shape_of setup) → All (λ p. size_of p.state.own.layout ≡ length words) programs
+pub programs_fit : (setup : Setting) (programs : List CoreRun) (words : List ℕ) → ArePrograms setup setup.cores programs
+    → length words ≡ size_of (shape_of setup) → All (λ p. size_of p.state.own.layout ≡ length words) programs
 programs_fit setup programs words are size k d h =
-    ap (λ p. size_of p.state.own.layout) (get_or_from_slice_get programs k (run_of (started k setup) None) d (are.each k (let n = are.count in omega arith))) ∙ sym size
+    ap (λ p. size_of p.state.own.layout) (get_or_from_slice_get programs k (run_of (started k setup) None) d
+    (are.each k (let n = are.count in omega arith))) ∙ sym size
 
-is_start : (setup : Setting) (start : Start CoreRun) (words : List ℕ) (programs : List CoreRun) → start.words ≡ words → start.programs ≡ programs → length words ≡ size_of (shape_of setup)
-    → ((w : Word) → IsIn (shape_of setup) w → word_in (shape_of setup) words w ≡ boot_word setup (shared w)) → ArePrograms setup setup.cores programs → IsStart setup start
+is_start : (setup : Setting) (start : Start CoreRun) (words : List ℕ) (programs : List CoreRun) → start.words ≡ words
+    → start.programs ≡ programs → length words ≡ size_of (shape_of setup)
+    → ((w : Word) → IsIn (shape_of setup) w → word_in (shape_of setup) words w ≡ boot_word setup (shared w))
+    → ArePrograms setup setup.cores programs → IsStart setup start
 is_start setup start words programs same_words same_programs size are_words are = record {
   size = ap length same_words ∙ size;
   words = λ w h. ap (λ l. word_in (shape_of setup) l w) same_words ∙ are_words w h;
@@ -70,21 +82,28 @@ is_start setup start words programs same_words same_programs size are_words are 
   each = λ c h. ap (λ l. slice_get l c) same_programs ∙ are.each c h;
 }
 
-pub is_booted : (setup : Setting) (table : TableValue CoreRun) (words : List ℕ) (programs : List CoreRun) → IsSetting setup → table.start.words ≡ words → table.start.programs ≡ programs → length words ≡ size_of (shape_of setup)
-    → ((w : Word) → IsIn (shape_of setup) w → word_in (shape_of setup) words w ≡ boot_word setup (shared w)) → ArePrograms setup setup.cores programs → IsBooted setup table
-is_booted setup table words programs setting same_words same_programs size are_words are = record { setting = setting; start = is_start setup table.start words programs same_words same_programs size are_words are }
+pub is_booted : (setup : Setting) (table : TableValue CoreRun) (words : List ℕ) (programs : List CoreRun) → IsSetting setup
+    → table.start.words ≡ words → table.start.programs ≡ programs → length words ≡ size_of (shape_of setup)
+    → ((w : Word) → IsIn (shape_of setup) w → word_in (shape_of setup) words w ≡ boot_word setup (shared w))
+    → ArePrograms setup setup.cores programs → IsBooted setup table
+is_booted setup table words programs setting same_words same_programs size are_words are =
+    record { setting = setting; start = is_start setup table.start words programs same_words same_programs size are_words are }
 
 the_same : {A : Type 0} (x y : A) (o : Option A) → o ≡ Some x → o ≡ Some y → x ≡ y
 the_same x y o i j = cc
 
 -- each seat at the start keeps what seats keep
-pub fresh_seats : (setup : Setting) (table : TableValue CoreRun) (seats : List (SeatValue CoreRun Call)) → IsBooted setup table → turns.AreAllSeats table seats → turns.AreFresh table seats → All (IsSeat setup) seats
+pub fresh_seats : (setup : Setting) (table : TableValue CoreRun) (seats : List (SeatValue CoreRun Call)) → IsBooted setup table
+    → turns.AreAllSeats table seats → turns.AreFresh table seats → All (IsSeat setup) seats
 fresh_seats setup table seats booted all fresh k d h =
     let s = get_or seats k d in
     let at : slice_get seats k ≡ Some s = slice_get-get_or seats k d h in
     let same : s.table ≡ table = all.table k s at in
-    let program : slice_get s.table.start.programs s.core ≡ Some s.program = ap (λ (z : TableValue CoreRun × ℕ). slice_get z.0.start.programs z.1) (λ i. (same i, all.core k s at i)) ∙ fresh.program k s at in
-    let began = the_same s.program (run_of (started k setup) None) (slice_get table.start.programs k) (fresh.program k s at) (booted.start.each k (let n = all.count in let m = booted.start.count in omega arith)) in
+    let program : slice_get s.table.start.programs s.core ≡ Some s.program =
+    ap (λ (z : TableValue CoreRun × ℕ). slice_get z.0.start.programs z.1) (λ i. (same i, all.core k s at i))
+    ∙ fresh.program k s at in
+    let began = the_same s.program (run_of (started k setup) None) (slice_get table.start.programs k) (fresh.program k s at)
+    (booted.start.each k (let n = all.count in let m = booted.start.count in omega arith)) in
     record {
       booted = subst (IsBooted setup) (sym same) booted;
       follows = record {
@@ -95,7 +114,8 @@ fresh_seats setup table seats booted all fresh k d h =
     }
 
 -- a member of a mapped list is that of a member
-pub mapped : {A B : Type 0} (f : A → B) (xs : List A) (k : ℕ) (y : B) → slice_get (map f xs) k ≡ Some y → (x : A) × (slice_get xs k ≡ Some x) × (f x ≡ y)
+pub mapped : {A B : Type 0} (f : A → B) (xs : List A) (k : ℕ) (y : B) → slice_get (map f xs) k ≡ Some y → (x : A)
+    × (slice_get xs k ≡ Some x) × (f x ≡ y)
 mapped f xs k y is = of_option (slice_get xs k) refl (sym (slice_get-map f xs k) ∙ is)
   where
     of_option : (o : Option _) → slice_get xs k ≡ o → option_map f o ≡ Some y → (x : _) × (slice_get xs k ≡ Some x) × (f x ≡ y)
@@ -104,7 +124,8 @@ mapped f xs k y is = of_option (slice_get xs k) refl (sym (slice_get-map f xs k)
 
 module _ (setup : Setting) (table : TableValue CoreRun) (booted : IsBooted setup table) (xs : List (SeatValue CoreRun Call)) where
   -- the seats of a table as those of its kernel
-  pub all_wrapped : (seats : List CoreSeatValue) → seats ≡ map (seat_value setup) xs → turns.AreAllSeats table xs → AreAllSeats (kernel_value setup table) seats
+  pub all_wrapped : (seats : List CoreSeatValue) → seats ≡ map (seat_value setup) xs → turns.AreAllSeats table xs
+      → AreAllSeats (kernel_value setup table) seats
   all_wrapped seats are all = record {
     count = ap length are ∙ length-map xs (seat_value setup) ∙ all.count ∙ booted.start.count;
     kernel = λ k s e. let x = mapped (seat_value setup) xs k s (ap (λ l. slice_get l k) (sym are) ∙ e) in
@@ -145,7 +166,8 @@ module _ (setup : Setting) (table : TableValue CoreRun) (booted : IsBooted setup
           let ext = end.begins k s at in
           let seen : program_after running s.table.start s.seen s.core ≡ Some s.program = seat.follows.runs in
           let of_table : program_after running table.start s.seen k ≡ Some s.program =
-          subst (λ (z : TableValue CoreRun × ℕ). program_after running z.0.start s.seen z.1 ≡ Some s.program) (λ i. (all_unwrapped.table k s at i, core i)) seen in
+          subst (λ (z : TableValue CoreRun × ℕ). program_after running z.0.start s.seen z.1 ≡ Some s.program)
+          (λ i. (all_unwrapped.table k s at i, core i)) seen in
           let stays : program_after running table.start t k ≡ program_after running table.start s.seen k =
           ap (λ (l : List (Entry Call)). program_after running table.start l k) ext.whole
           ∙ program_stays running table.start k ext.since s.seen (subst (λ (i : ℕ). AreOfOthers i ext.since) core ext.apart) in
@@ -164,8 +186,10 @@ module _ (setup : Setting) (table : TableValue CoreRun) (booted : IsBooted setup
       ends_at ends ends_are =
           let a = along setup booted.setting table.start booted.start t end.sound in
           let cores = cores_after setup (trace_of setup t) in
-          let state : (c : ℕ) (h : c < setup.cores) → (program_at c h).0.state ≡ cores c = λ c h. a.runs c (program_at c h).0 (sym (end.program c) ∙ (program_at c h).1) in
-          let between : (c : ℕ) → c < setup.cores → (cores c).active ≡ None = λ c h. ap (λ k. k.active) (sym (state c h)) ∙ (program_at c h).2 in
+          let state : (c : ℕ) (h : c < setup.cores) → (program_at c h).0.state ≡ cores c =
+          λ c h. a.runs c (program_at c h).0 (sym (end.program c) ∙ (program_at c h).1) in
+          let between : (c : ℕ) → c < setup.cores → (cores c).active ≡ None = λ c h. ap (λ k. k.active) (sym (state c h))
+          ∙ (program_at c h).2 in
           let stands = made_stands setup booted.setting (trace_of setup t) a.made in
           let alike : (w : Word) → IsIn (shape_of setup) w → shared w ≡ w
           → last_left setup (trace_of setup t) w ≡ word_in (shape_of setup) words w =
@@ -175,17 +199,21 @@ module _ (setup : Setting) (table : TableValue CoreRun) (booted : IsBooted setup
             history = is_history setup booted.setting table.start booted.start t end.sound;
             begins = λ k s e.
                 let x = mapped (seat_value setup) xs k s (ap (λ l. slice_get l k) are.same ∙ e) in
-                subst (λ z. ExtendsByOthers z.core z.seen (trace_of setup t)) x.2 (extends_by_others setup x.0.core x.0.seen t (end.begins k x.0 x.1));
+                subst (λ z. ExtendsByOthers z.core z.seen (trace_of setup t)) x.2
+                (extends_by_others setup x.0.core x.0.seen t (end.begins k x.0 x.1));
             returned = λ c. elim (cases_lt c setup.cores) [
-              | inl h ↦ is_out setup booted.setting table.start booted.start t end.sound c (program_at c h).0 (sym (end.program c) ∙ (program_at c h).1) (program_at c h).2
+              | inl h ↦ is_out setup booted.setting table.start booted.start t end.sound c (program_at c h).0 (sym (end.program c)
+                  ∙ (program_at c h).1) (program_at c h).2
               | inr past ↦ (made_of_its_cores setup (trace_of setup t) a.made c past).out
             ];
             represent =
-                like setup (state_after setup (trace_of setup t)) (last_left setup (trace_of setup t)) (word_in (shape_of setup) words) (λ c. end_of (cores c)) (end_in ends)
+                like setup (state_after setup (trace_of setup t)) (last_left setup (trace_of setup t)) (word_in (shape_of setup) words)
+                (λ c. end_of (cores c)) (end_in ends)
                 (ap (λ l. l.frames) (limits_of setup (trace_of setup t))) (ap (λ l. l.cores) (limits_of setup (trace_of setup t)))
                 alike
                 (λ c h. sym (
-                ap (λ l. end_in l c) ends_are ∙ ap (λ o. unwrap_or o no_end) (slice_get-map (λ (p : CoreRun). end_of p.state) programs c ∙ ap (option_map (λ (p : CoreRun). end_of p.state)) (program_at c h).1)
+                ap (λ l. end_in l c) ends_are ∙ ap (λ o. unwrap_or o no_end) (slice_get-map (λ (p : CoreRun). end_of p.state) programs c
+                ∙ ap (option_map (λ (p : CoreRun). end_of p.state)) (program_at c h).1)
                 ∙ ap end_of (state c h)
                 ))
                 (represents setup booted.setting cores (trace_of setup t) stands between);

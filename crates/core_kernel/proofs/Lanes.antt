@@ -24,7 +24,8 @@ made_none u none free seen = record {
   seen = seen;
 }
 
-pub made_more : (u v w : RunnerValue) (n : ℕ) (call : Call) (r : Reply) → HasMade u n v → n < length u.calls → call ≡ get_or u.calls n call → MakesCall v.seat call r w.seat → HasSeen w.seat
+pub made_more : (u v w : RunnerValue) (n : ℕ) (call : Call) (r : Reply) → HasMade u n v → n < length u.calls → call ≡ get_or u.calls n call
+    → MakesCall v.seat call r w.seat → HasSeen w.seat
     → w.replies ≡ v.replies ++ r ∷ [] → w.held ≡ v.held → w.calls ≡ v.calls → HasMade u (n + 1) w
 made_more u v w n call r h low at m seen replies held list =
     let c : ℕ = u.seat.core in
@@ -33,7 +34,8 @@ made_more u v w n call r h low at m seen replies held list =
     record {
       since = m.since ++ h.since;
       begins = m.begins ∙ ap (λ (l : Trace). m.since ++ l) h.begins ∙ sym (append_assoc m.since h.since u.seat.seen);
-      calls_are = calls_of-append c m.since h.since ∙ (λ i. h.calls_are i ++ calls i) ∙ ap (λ x. take n u.calls ++ x ∷ []) at ∙ sym (take_more u.calls n call low);
+      calls_are = calls_of-append c m.since h.since ∙ (λ i. h.calls_are i ++ calls i) ∙ ap (λ x. take n u.calls ++ x ∷ []) at
+          ∙ sym (take_more u.calls n call low);
       replies_are = replies_of-append c m.since h.since ∙ (λ i. h.replies_are i ++ answer i) ∙ sym replies;
       count = (let k = ap length replies ∙ length-append v.replies (r ∷ []) in let before = h.count in omega arith);
       free = held ∙ h.free;
@@ -44,7 +46,8 @@ made_more u v w n call r h low at m seen replies held list =
     }
 
 -- a runner that stops after n calls
-stops : (free held : Bool) (u v w : RunnerValue) (n : ℕ) → HasMade u n v → n ≤ length u.calls → w ≡ record { seat = v.seat; calls = v.calls; replies = v.replies; held = held } → (held ≡ false → n ≡ length u.calls)
+stops : (free held : Bool) (u v w : RunnerValue) (n : ℕ) → HasMade u n v → n ≤ length u.calls
+    → w ≡ record { seat = v.seat; calls = v.calls; replies = v.replies; held = held } → (held ≡ false → n ≡ length u.calls)
     → (free ≡ true → held ≡ false) → MakesCalls free u w
 stops free held u v w n h low is whole is_free = subst (MakesCalls free u) (sym is) record {
   since = h.since;
@@ -60,11 +63,14 @@ stops free held u v w n h low is whole is_free = subst (MakesCalls free u) (sym 
   seen = h.seen;
 }
 
-pub stops_held : (free : Bool) (u v w : RunnerValue) (n : ℕ) → HasMade u n v → n ≤ length u.calls → w ≡ record { seat = v.seat; calls = v.calls; replies = v.replies; held = true } → (free ≡ true → ⊥) → MakesCalls free u w
+pub stops_held : (free : Bool) (u v w : RunnerValue) (n : ℕ) → HasMade u n v → n ≤ length u.calls
+    → w ≡ record { seat = v.seat; calls = v.calls; replies = v.replies; held = true } → (free ≡ true → ⊥) → MakesCalls free u w
 stops_held free u v w n h low is not_free = stops free true u v w n h low is (λ f. absurd (cc)) (λ f. absurd (not_free f))
 
 pub stops_last : (free : Bool) (u v : RunnerValue) (n : ℕ) → HasMade u n v → n ≡ length u.calls → MakesCalls free u v
-stops_last free u v n h all = stops free false u v v n h (omega arith) (λ i. record { seat = v.seat; calls = v.calls; replies = v.replies; held = h.free i }) (λ f. all) (λ f. refl)
+stops_last free u v n h all =
+    stops free false u v v n h (omega arith) (λ i. record { seat = v.seat; calls = v.calls; replies = v.replies; held = h.free i })
+    (λ f. all) (λ f. refl)
 
 pub not_true : (b : Bool) → b ≡ false → IsTrue b → ⊥
 not_true b is_false is_true = cc

@@ -5,7 +5,6 @@ use Rattle.std.proofs.lemmas.Bool.{cases_eq}
 use Rattle.std.proofs.lemmas.List.{length-append}
 use Rattle.std.proofs.lemmas.List.Elements.{All-cons}
 use Rattle.spk_nums.specs.declared.calls.Call.{Call}
-use Rattle.spk_nums.specs.declared.replies.Reply.{Reply}
 use Rattle.spk_nums.specs.Setting.{Setting}
 use Rattle.kernel_history.specs.Legal.{IsLegal}
 use Rattle.kernel_history.specs.Trace.{Step, Trace, calls_of}
@@ -38,7 +37,8 @@ replies_of-append c [] t = sym (append-nil (replies_of t c))
 replies_of-append c (e ∷ s) t = elim (cases_eq c e.core) [
   | inl own ↦
       replies_of-own c e (s ++ t) own ∙ ap (λ l. l ++ option_to_list e.decides) (replies_of-append c s t)
-      ∙ append_assoc (replies_of t c) (replies_of s c) (option_to_list e.decides) ∙ ap (λ l. replies_of t c ++ l) (sym (replies_of-own c e s own))
+      ∙ append_assoc (replies_of t c) (replies_of s c) (option_to_list e.decides)
+      ∙ ap (λ l. replies_of t c ++ l) (sym (replies_of-own c e s own))
   | inr other ↦
       replies_of-other c e (s ++ t) other ∙ replies_of-append c s t ∙ ap (λ l. replies_of t c ++ l) (sym (replies_of-other c e s other))
 ]
@@ -59,7 +59,8 @@ replies_of-others c (e ∷ s) h =
 -- a core that is none of the machine's has no call
 pub calls_of-past : (setup : Setting) (c : ℕ) (t : Trace) → setup.cores ≤ c → IsLegal setup t → calls_of t c ≡ []
 calls_of-past setup c [] past legal = refl
-calls_of-past setup c (e ∷ t) past legal = calls_of-other c e t (λ own. let here = legal.1.is_core in omega arith) ∙ calls_of-past setup c t past legal.0
+calls_of-past setup c (e ∷ t) past legal = calls_of-other c e t (λ own. let here = legal.1.is_core in omega arith)
+    ∙ calls_of-past setup c t past legal.0
 
 module _ (setup : Setting) where
   -- the steps of the entries since older ones

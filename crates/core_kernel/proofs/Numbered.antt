@@ -8,17 +8,19 @@ use Rattle.spk_nums.specs.declared.replies.Reply.{Reply}
 use Rattle.spk_nums.specs.Setting.{Setting}
 use Rattle.kernel_history.specs.Legal.{IsLegal}
 use Rattle.kernel_history.specs.Text.{decisions_by}
-use Rattle.kernel_history.specs.Trace.{Step, Trace, calls_of, decision_at, decisions_of}
+use Rattle.kernel_history.specs.Trace.{Trace, calls_of, decision_at, decisions_of}
 use Rattle.core_kernel.specs.Replies.{replies_of}
 use Rattle.core_kernel.specs.Whole.{numbered}
 use Rattle.core_kernel.proofs.Balance.{one_more}
 use Rattle.core_kernel.proofs.Lists.{replies_of-own, replies_of-other}
 
-pub numbered-push : (c i : ℕ) (rs : List Reply) (r : Reply) → numbered c i (rs ++ r ∷ []) ≡ numbered c i rs ++ record { core = c; index = i + length rs; reply = r } ∷ []
+pub numbered-push : (c i : ℕ) (rs : List Reply) (r : Reply)
+    → numbered c i (rs ++ r ∷ []) ≡ numbered c i rs ++ record { core = c; index = i + length rs; reply = r } ∷ []
 numbered-push c i [] r = let same : i ≡ i + 0 = omega arith in ap (λ (n : ℕ). record { core = c; index = n; reply = r } ∷ []) same
 numbered-push c i (q ∷ rs) r =
     let same : (i + 1) + length rs ≡ i + length (q ∷ rs) = omega arith in
-    ap (λ l. record { core = c; index = i; reply = q } ∷ l) (numbered-push c (i + 1) rs r ∙ ap (λ (n : ℕ). numbered c (i + 1) rs ++ record { core = c; index = n; reply = r } ∷ []) same)
+    ap (λ l. record { core = c; index = i; reply = q } ∷ l) (numbered-push c (i + 1) rs r
+    ∙ ap (λ (n : ℕ). numbered c (i + 1) rs ++ record { core = c; index = n; reply = r } ∷ []) same)
 
 filter_one : (p : Decision → Bool) (x : Decision) → p x ≡ true → filter p (x ∷ []) ≡ x ∷ []
 filter_one p x is = rw is
@@ -31,7 +33,8 @@ module _ (setup : Setting) (c : ℕ) where
   of_other None d i apart = refl
   of_other (Some r) d i apart = filter_no (λ x. x.core == c) (record { core = d; index = i; reply = r }) (ne_eqb d c apart)
 
-  of_own : (o : Option Reply) (d i : ℕ) (rs : List Reply) → d ≡ c → ((r : Reply) → o ≡ Some r → i ≡ 1 + length rs) → numbered c 1 rs ++ filter (λ x. x.core == c) (decision_at o d i) ≡ numbered c 1 (rs ++ option_to_list o)
+  of_own : (o : Option Reply) (d i : ℕ) (rs : List Reply) → d ≡ c → ((r : Reply) → o ≡ Some r → i ≡ 1 + length rs)
+      → numbered c 1 rs ++ filter (λ x. x.core == c) (decision_at o d i) ≡ numbered c 1 (rs ++ option_to_list o)
   of_own None d i rs same at = append-nil (numbered c 1 rs) ∙ ap (numbered c 1) (sym (append-nil rs))
   of_own (Some r) d i rs same at =
       ap (λ l. numbered c 1 rs ++ l) (filter_one (λ x. x.core == c) (record { core = d; index = i; reply = r }) (eq-eqb d c same))

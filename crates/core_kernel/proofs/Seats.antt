@@ -6,19 +6,18 @@ use Rattle.std.proofs.lemmas.List.{length-map}
 use Rattle.std.proofs.lemmas.Option.{slice_get-map}
 use Rattle.spk_nums.specs.declared.calls.Call.{Call}
 use Rattle.spk_nums.specs.declared.replies.Reply.{Reply}
-use Rattle.spk_nums.specs.declared.translations.CoreEnd.{CoreEnd}
-use Rattle.spk_nums.specs.Setting.{Setting, IsSetting}
-use Rattle.kernel_history.specs.Trace.{Trace, Out, phase, state_after}
+use Rattle.spk_nums.specs.Setting.{Setting}
+use Rattle.kernel_history.specs.Trace.{state_after}
 use Rattle.turn_rule.specs.declared.view.Entry.{Entry}
 use Rattle.turn_rule.specs.Trace as table
 use Rattle.turn_rule.specs.Seats as turns
-use Rattle.turn_rule.specs.Seats.{TableValue, SeatValue, NoteValue, FollowsTrace}
+use Rattle.turn_rule.specs.Seats.{SeatValue, NoteValue, FollowsTrace}
 use Rattle.core_kernel.specs.declared.core_run.CoreRun.{CoreRun}
 use Rattle.core_kernel.specs.Running.{running}
 use Rattle.core_kernel.specs.Seen.{trace_of}
 use Rattle.flight.proofs.Made.{made_stands}
 use Rattle.core_kernel.specs.Replies.{EndsWith}
-use Rattle.core_kernel.specs.Kernel.{KernelValue, CoreSeatValue, IsBooted, IsSeat, seat_value, note_value}
+use Rattle.core_kernel.specs.Kernel.{IsBooted, IsSeat, seat_value, note_value}
 use Rattle.core_kernel.specs.Turns.{GoesOn}
 use Rattle.core_kernel.specs.Calls.{HasSeen, Extends, ExtendsByOthers, MakesCall, Meets}
 use Rattle.core_kernel.proofs.Along.{along, is_history, is_out, here}
@@ -29,7 +28,8 @@ use Rattle.core_kernel.proofs.Lists.{steps_since, trace_of-append, others_since}
 pub has_seen : (setup : Setting) (s : SeatValue CoreRun Call) → IsSeat setup s → HasSeen (seat_value setup s)
 has_seen setup s is = record {
   history = is_history setup is.booted.setting s.table.start is.booted.start s.seen is.follows.sound;
-  between = is_out setup is.booted.setting s.table.start is.booted.start s.seen is.follows.sound s.core s.program is.follows.runs is.between;
+  between = is_out setup is.booted.setting s.table.start is.booted.start s.seen is.follows.sound s.core s.program is.follows.runs
+      is.between;
 }
 
 -- where the seat's core stands
@@ -37,16 +37,20 @@ pub front_core : (setup : Setting) (s : SeatValue CoreRun Call) → IsSeat setup
 front_core setup s is =
     let a = along setup is.booted.setting s.table.start is.booted.start s.seen is.follows.sound in
     let inside = here setup is.booted.setting s.table.start is.booted.start s.seen s.core s.program is.follows.runs in
-    ap (λ k. k.own.core) (a.runs s.core s.program is.follows.runs) ∙ ((made_stands setup is.booted.setting (trace_of setup s.seen) a.made).each s.core inside).number
+    ap (λ k. k.own.core) (a.runs s.core s.program is.follows.runs)
+    ∙ ((made_stands setup is.booted.setting (trace_of setup s.seen) a.made).each s.core inside).number
 
-pub front_calls : (setup : Setting) (s : SeatValue CoreRun Call) → IsSeat setup s → s.program.state.own.made ≡ ((state_after setup (trace_of setup s.seen)).core s.core).counted
+pub front_calls : (setup : Setting) (s : SeatValue CoreRun Call) → IsSeat setup s
+    → s.program.state.own.made ≡ ((state_after setup (trace_of setup s.seen)).core s.core).counted
 front_calls setup s is =
     let a = along setup is.booted.setting s.table.start is.booted.start s.seen is.follows.sound in
     let inside = here setup is.booted.setting s.table.start is.booted.start s.seen s.core s.program is.follows.runs in
-    ap (λ k. k.own.made) (a.runs s.core s.program is.follows.runs) ∙ ((made_stands setup is.booted.setting (trace_of setup s.seen) a.made).each s.core inside).works.made
+    ap (λ k. k.own.made) (a.runs s.core s.program is.follows.runs)
+    ∙ ((made_stands setup is.booted.setting (trace_of setup s.seen) a.made).each s.core inside).works.made
 
 -- a seat that has gone on is one
-pub still_seat : (setup : Setting) (seat on : SeatValue CoreRun Call) (calls : List Call) → IsSeat setup seat → GoesOn setup seat calls on → on.program.state.active ≡ None → IsSeat setup on
+pub still_seat : (setup : Setting) (seat on : SeatValue CoreRun Call) (calls : List Call) → IsSeat setup seat → GoesOn setup seat calls on
+    → on.program.state.active ≡ None → IsSeat setup on
 still_seat setup seat on calls is goes between = record {
   booted = subst (IsBooted setup) (sym goes.table) is.booted;
   follows = goes.follows;
@@ -54,18 +58,21 @@ still_seat setup seat on calls is goes between = record {
 }
 
 -- a seat that has gone on through one call has made it
-pub makes_call : (setup : Setting) (seat on : SeatValue CoreRun Call) (call : Call) (r : Reply) → IsSeat setup seat → GoesOn setup seat (call ∷ []) on → on.program.state.active ≡ None
+pub makes_call : (setup : Setting) (seat on : SeatValue CoreRun Call) (call : Call) (r : Reply) → IsSeat setup seat
+    → GoesOn setup seat (call ∷ []) on → on.program.state.active ≡ None
     → on.program.last ≡ Some r → MakesCall (seat_value setup seat) call r (seat_value setup on)
 makes_call setup seat on call r is goes between last =
     let now = still_seat setup seat on (call ∷ []) is goes between in
-    let ends : EndsWith on.core r (trace_of setup on.seen) = of_last on.program.last (λ r. EndsWith on.core r (trace_of setup on.seen)) last (goes.returned between) in
+    let ends : EndsWith on.core r (trace_of setup on.seen) =
+    of_last on.program.last (λ r. EndsWith on.core r (trace_of setup on.seen)) last (goes.returned between) in
     let mine : EndsWith seat.core r (trace_of setup on.seen) = subst (λ (i : ℕ). EndsWith i r (trace_of setup on.seen)) goes.core ends in
     let seen = has_seen setup seat is in
     record {
       since = goes.since;
       begins = goes.begins;
       calls = goes.calls;
-      replies = one_reply setup seat.core goes.since (trace_of setup seat.seen) (trace_of setup on.seen) call r (has_seen setup on now).history.legal goes.begins seen.history.legal seen.between goes.calls mine;
+      replies = one_reply setup seat.core goes.since (trace_of setup seat.seen) (trace_of setup on.seen) call r
+          (has_seen setup on now).history.legal goes.begins seen.history.legal seen.between goes.calls mine;
       returns = mine;
       core = goes.core;
       kernel = λ i. record { table = goes.table i; setup = setup };
@@ -75,7 +82,8 @@ makes_call setup seat on call r is goes between last =
     of_last o F is h = subst (λ p. IsSomeAnd p F) is h
 
 module _ (setup : Setting) where
-  pub extends_by_others : (c : ℕ) (x y : List (Entry Call)) → table.ExtendsByOthers c x y → ExtendsByOthers c (trace_of setup x) (trace_of setup y)
+  pub extends_by_others : (c : ℕ) (x y : List (Entry Call)) → table.ExtendsByOthers c x y
+      → ExtendsByOthers c (trace_of setup x) (trace_of setup y)
   extends_by_others c x y h = record {
     since = steps_since setup h.since x;
     begins = ap (trace_of setup) h.whole ∙ trace_of-append setup h.since x;
@@ -86,7 +94,8 @@ module _ (setup : Setting) where
   extends x y h = record { since = steps_since setup h.since x; begins = ap (trace_of setup) h.whole ∙ trace_of-append setup h.since x }
 
   -- a seat that has met a note is one
-  pub met_seat : (seat met : SeatValue CoreRun Call) (note : NoteValue CoreRun Call) → IsSeat setup seat → turns.Meets seat note met → FollowsTrace running met → IsSeat setup met
+  pub met_seat : (seat met : SeatValue CoreRun Call) (note : NoteValue CoreRun Call) → IsSeat setup seat → turns.Meets seat note met
+      → FollowsTrace running met → IsSeat setup met
   met_seat seat met note is m follows = record {
     booted = subst (IsBooted setup) (sym m.table) is.booted;
     follows = follows;
@@ -94,7 +103,8 @@ module _ (setup : Setting) where
   }
 
   -- and has seen what the note tells
-  pub meets : (seat met : SeatValue CoreRun Call) (note : NoteValue CoreRun Call) → turns.Meets seat note met → Meets (seat_value setup seat) (note_value setup note) (seat_value setup met)
+  pub meets : (seat met : SeatValue CoreRun Call) (note : NoteValue CoreRun Call) → turns.Meets seat note met
+      → Meets (seat_value setup seat) (note_value setup note) (seat_value setup met)
   meets seat met note m = record {
     own = extends_by_others seat.core seat.seen met.seen m.own;
     told = extends note.seen met.seen m.told;

@@ -3,7 +3,7 @@ use Rattle.std.proofs.Common.{◌≡◌, ◌≢◌, ◌⊎◌, inl, inr, ℕ, �
 use Rattle.spk_nums.specs.declared.calls.Call.{Call}
 use Rattle.spk_nums.specs.declared.replies.Reply.{Reply}
 use Rattle.spk_nums.specs.declared.steps.WordOp.{WordOp}
-use Rattle.spk_nums.specs.Setting.{Setting, IsSetting}
+use Rattle.spk_nums.specs.Setting.{Setting}
 use Rattle.kernel_history.specs.Trace.{Step, Trace, calls_of}
 use Rattle.kernel_history.proofs.Steps.{calls_of-own}
 use Rattle.turn_rule.specs.declared.view.Entry.{Entry}
@@ -13,7 +13,7 @@ use Rattle.turn_rule.specs.Trace.{entry, called, program_after, IsSound}
 use Rattle.turn_rule.proofs.Traces.{program_stays}
 use Rattle.turn_rule.specs.Seats.{SeatValue, MakesStep, FollowsTrace}
 use Rattle.call_steps.specs.View.{Core}
-use Rattle.call_steps.specs.Fits.{IsCore, steps_left}
+use Rattle.call_steps.specs.Fits.{steps_left}
 use Rattle.core_invariant.specs.Events.{returned_in}
 use Rattle.call_steps.specs.Cores.{move_of, absorbed, told_of_step}
 use Rattle.word_map.specs.Moves.{told_of}
@@ -22,7 +22,7 @@ use Rattle.flight.proofs.CoreFits.{absorbed_fewer}
 use Rattle.core_kernel.specs.declared.core_run.CoreRun.{CoreRun}
 use Rattle.core_kernel.specs.Running.{answered, running}
 use Rattle.core_kernel.specs.Seen.{core_by, step_by, trace_of}
-use Rattle.core_kernel.specs.Replies.{AreOfOthers, EndsWith}
+use Rattle.core_kernel.specs.Replies.{EndsWith}
 use Rattle.core_kernel.specs.Kernel.{IsBooted}
 use Rattle.core_kernel.specs.Turns.{HasReturned, GoesOn}
 use Rattle.core_kernel.proofs.Along.{along, EntryIs, entry_is}
@@ -43,14 +43,17 @@ the_same : {A : Type 0} (x y : A) (o : Option A) → o ≡ Some x → o ≡ Some
 the_same x y o i j = cc
 
 -- a core whose step leaves it between calls keeps the reply that the step returns
-returns_kept : (p : CoreRun) (core : Core) (last : Option Reply) (n : ℕ) → p ≡ record { state = absorbed core n; last = answered last (returned_in (told_of_step core n)) } → IsSome core.active → p.state.active ≡ None
+returns_kept : (p : CoreRun) (core : Core) (last : Option Reply) (n : ℕ)
+    → p ≡ record { state = absorbed core n; last = answered last (returned_in (told_of_step core n)) } → IsSome core.active
+    → p.state.active ≡ None
     → (r : Reply) × (p.last ≡ Some r) × (returned_in (told_of_step core n) ≡ Some r)
 returns_kept p core last n is some none =
     let r = absorbed_returns core n some (ap (λ q. q.state.active) (sym is) ∙ none) in
     (r.0, ap (λ q. q.last) is ∙ ap (answered last) r.1, r.1)
 
 module _ (setup : Setting) (seat : SeatValue CoreRun Call) (call : Option Call) (op : WordOp) (made : SeatValue CoreRun Call)
-    (booted : IsBooted setup seat.table) (before : FollowsTrace running seat) (next : running.next (called running seat.program call) ≡ Some op)
+    (booted : IsBooted setup seat.table) (before : FollowsTrace running seat)
+    (next : running.next (called running seat.program call) ≡ Some op)
     (m : MakesStep running seat call op made) (follows : FollowsTrace running made) where
   abbrev c : ℕ
   c = seat.core
@@ -65,10 +68,12 @@ module _ (setup : Setting) (seat : SeatValue CoreRun Call) (call : Option Call) 
   start = seat.table.start
 
   sound : IsSound running start (e ∷ older)
-  sound = subst (λ (z : Start CoreRun × List (Entry Call)). IsSound running z.0 z.1) (λ i. (ap (λ t. t.start) m.table i, m.seen i)) follows.sound
+  sound = subst (λ (z : Start CoreRun × List (Entry Call)). IsSound running z.0 z.1)
+      (λ i. (ap (λ t. t.start) m.table i, m.seen i)) follows.sound
 
   same_program : sound.1.program ≡ seat.program
-  same_program = the_same sound.1.program seat.program (program_after running start older c) sound.1.runs (program_stays running start c m.others seat.seen m.apart ∙ before.runs)
+  same_program = the_same sound.1.program seat.program (program_after running start older c) sound.1.runs
+      (program_stays running start c m.others seat.seen m.apart ∙ before.runs)
 
   is : EntryIs setup older e seat.program
   is = subst (EntryIs setup older e) same_program
@@ -88,13 +93,19 @@ module _ (setup : Setting) (seat : SeatValue CoreRun Call) (call : Option Call) 
 
   calls : calls_of since c ≡ option_to_list call
   calls = calls_of-own c step (steps_since setup m.others seat.seen) refl
-      ∙ ap (λ l. l ++ option_to_list call) (calls_of-others c (steps_since setup m.others seat.seen) (others_since setup c m.others seat.seen m.apart))
+      ∙ ap (λ l. l ++ option_to_list call) (calls_of-others c (steps_since setup m.others seat.seen)
+      (others_since setup c m.others seat.seen m.apart))
 
   abbrev kept : Option Reply
   kept = (called running seat.program call).last
 
-  program_is : made.program ≡ record { state = absorbed core (told_of (move_of core) m.found); last = answered kept (returned_in (told_of_step core (told_of (move_of core) m.found))) }
-  program_is = m.program ∙ ap (λ (z : Core × ℕ). record { state = absorbed z.0 z.1; last = answered kept (returned_in (told_of_step z.0 z.1)) }) (λ i. (is.core i, is.told op next i))
+  program_is : made.program ≡ record {
+    state = absorbed core (told_of (move_of core) m.found);
+    last = answered kept (returned_in (told_of_step core (told_of (move_of core) m.found)));
+  }
+  program_is = m.program
+      ∙ ap (λ (z : Core × ℕ). record { state = absorbed z.0 z.1; last = answered kept (returned_in (told_of_step z.0 z.1)) })
+      (λ i. (is.core i, is.told op next i))
 
   returned : HasReturned setup made
   returned none =
@@ -117,11 +128,13 @@ module _ (setup : Setting) (seat : SeatValue CoreRun Call) (call : Option Call) 
       subst (λ (z : Core × Core). steps_left z.0 < steps_left z.1) (λ i. (ap (λ q. q.state) (sym program_is) i, sym is.core i)) less
 
 -- a seat that goes on twice
-pub goes_further : (setup : Setting) (u v w : SeatValue CoreRun Call) (xs ys : List Call) → GoesOn setup u xs v → GoesOn setup v ys w → GoesOn setup u (xs ++ ys) w
+pub goes_further : (setup : Setting) (u v w : SeatValue CoreRun Call) (xs ys : List Call) → GoesOn setup u xs v → GoesOn setup v ys w
+    → GoesOn setup u (xs ++ ys) w
 goes_further setup u v w xs ys a b = record {
   since = b.since ++ a.since;
   begins = b.begins ∙ ap (λ l. b.since ++ l) a.begins ∙ sym (append_assoc b.since a.since (trace_of setup u.seen));
-  calls = calls_of-append u.core b.since a.since ∙ ap (λ l. l ++ calls_of b.since u.core) a.calls ∙ ap (λ l. xs ++ l) (ap (calls_of b.since) (sym a.core) ∙ b.calls);
+  calls = calls_of-append u.core b.since a.since ∙ ap (λ l. l ++ calls_of b.since u.core) a.calls
+      ∙ ap (λ l. xs ++ l) (ap (calls_of b.since) (sym a.core) ∙ b.calls);
   core = b.core ∙ a.core;
   table = b.table ∙ a.table;
   follows = b.follows;

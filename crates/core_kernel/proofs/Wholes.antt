@@ -12,7 +12,6 @@ use Rattle.spk_nums.specs.declared.calls.Call.{Call}
 use Rattle.spk_nums.specs.declared.replies.Reply.{Reply}
 use Rattle.spk_nums.specs.declared.replies.Decision.{Decision}
 use Rattle.spk_nums.specs.declared.translations.CoreEnd.{CoreEnd}
-use Rattle.spk_nums.specs.Setting.{Setting}
 use Rattle.kernel_history.specs.BootWords.{shape_of}
 use Rattle.kernel_history.specs.Order.{HasCalls, list_of}
 use Rattle.kernel_history.specs.Text.{decisions_by}
@@ -41,7 +40,8 @@ at_of xs k h = elim (slice_get_cases xs k).1 [
   | inr past ↦ absurd (let far = past.0 in omega arith)
 ]
 
-module _ (of : KernelValue) (seats : List CoreSeatValue) (all : AreAllSeats of seats) (fresh : AreFresh seats) (lists : List (List Call)) (runners : List RunnerValue) (are : AreRunners seats lists runners) where
+module _ (of : KernelValue) (seats : List CoreSeatValue) (all : AreAllSeats of seats) (fresh : AreFresh seats) (lists : List (List Call))
+    (runners : List RunnerValue) (are : AreRunners seats lists runners) where
   -- they wait at the kernel
   pub all_wait : All (IsWaiting of) runners
   all_wait k d h =
@@ -85,7 +85,8 @@ module _ (of : KernelValue) (seats : List CoreSeatValue) (all : AreAllSeats of s
           before = r.x;
           now = a.x;
           at = a.at;
-          makes = subst (λ (z : RunnerValue × RunnerValue). MakesCalls free z.0 z.1) (λ i. (r.read i, a.read i)) (AllZip-get_or (MakesCalls free) runners after k r.x a.x make inside);
+          makes = subst (λ (z : RunnerValue × RunnerValue). MakesCalls free z.0 z.1) (λ i. (r.read i, a.read i))
+              (AllZip-get_or (MakesCalls free) runners after k r.x a.x make inside);
           core = all.core k r.x.seat e.seat;
           kernel = all.kernel k r.x.seat e.seat;
           calls = e.calls;
@@ -110,9 +111,11 @@ module _ (of : KernelValue) (seats : List CoreSeatValue) (all : AreAllSeats of s
         same_at k x y i j = cc
 
         below : (k : ℕ) (s : CoreSeatValue) → slice_get (map (λ r. r.seat) after) k ≡ Some s → k < of.setup.cores
-        below k s e = let lt = slice_get_within (map (λ (r : RunnerValue). r.seat) after) k s e in let n = length-map after (λ (r : RunnerValue). r.seat) in let m = count in omega arith
+        below k s e = let lt = slice_get_within (map (λ (r : RunnerValue). r.seat) after) k s e in
+            let n = length-map after (λ (r : RunnerValue). r.seat) in let m = count in omega arith
 
-    module _ (words : List ℕ) (ends : List CoreEnd) (end : EndsAt of (map (λ r. r.seat) after) words ends) (whole : All (λ r. r.held ≡ false) after) where
+    module _ (words : List ℕ) (ends : List CoreEnd) (end : EndsAt of (map (λ r. r.seat) after) words ends)
+        (whole : All (λ r. r.held ≡ false) after) where
       abbrev t : Trace
       t = end.trace
 
@@ -131,19 +134,26 @@ module _ (of : KernelValue) (seats : List CoreSeatValue) (all : AreAllSeats of s
           let a = l.now in
           let c : ℕ = a.seat.core in
           let here : c ≡ k = m.core ∙ l.core in
-          let at : slice_get (map (λ (r : RunnerValue). r.seat) after) k ≡ Some a.seat = slice_get-map (λ (r : RunnerValue). r.seat) after k ∙ ap (option_map (λ (r : RunnerValue). r.seat)) l.at in
+          let at : slice_get (map (λ (r : RunnerValue). r.seat) after) k ≡ Some a.seat =
+          slice_get-map (λ (r : RunnerValue). r.seat) after k ∙ ap (option_map (λ (r : RunnerValue). r.seat)) l.at in
           let x = end.begins k a.seat at in
           let seen : a.seat.seen ≡ m.since ++ [] = m.begins ∙ ap (λ (s : Trace). m.since ++ s) l.none in
           let held : a.held ≡ false = held_at (λ r. r.held ≡ false) after k a whole l.at in
           let all_made : length a.replies ≡ length l.before.calls = m.whole held in
           let calls_then : calls_of m.since c ≡ l.before.calls =
-          subst (λ (i : ℕ). calls_of m.since i ≡ take (length a.replies) l.before.calls) (sym m.core) m.calls_are ∙ take_all (length a.replies) l.before.calls (omega arith) in
-          let replies_then : replies_of m.since c ≡ a.replies = subst (λ (i : ℕ). replies_of m.since i ≡ a.replies) (sym m.core) m.replies_are in
+          subst (λ (i : ℕ). calls_of m.since i ≡ take (length a.replies) l.before.calls) (sym m.core) m.calls_are
+          ∙ take_all (length a.replies) l.before.calls (omega arith) in
+          let replies_then : replies_of m.since c ≡ a.replies =
+          subst (λ (i : ℕ). replies_of m.since i ≡ a.replies) (sym m.core) m.replies_are in
           let calls : calls_of t c ≡ list_of lists k =
-          ap (λ (s : Trace). calls_of s c) x.begins ∙ calls_of-append c x.since a.seat.seen ∙ ap (λ (q : List Call). calls_of a.seat.seen c ++ q) (calls_of-others c x.since x.apart) ∙ append-nil (calls_of a.seat.seen c)
+          ap (λ (s : Trace). calls_of s c) x.begins ∙ calls_of-append c x.since a.seat.seen
+          ∙ ap (λ (q : List Call). calls_of a.seat.seen c ++ q) (calls_of-others c x.since x.apart)
+          ∙ append-nil (calls_of a.seat.seen c)
           ∙ ap (λ (s : Trace). calls_of s c) seen ∙ calls_of-append c m.since [] ∙ calls_then ∙ l.calls in
           let replies : replies_of t c ≡ a.replies =
-          ap (λ (s : Trace). replies_of s c) x.begins ∙ replies_of-append c x.since a.seat.seen ∙ ap (λ (q : List Reply). replies_of a.seat.seen c ++ q) (replies_of-others c x.since x.apart) ∙ append-nil (replies_of a.seat.seen c)
+          ap (λ (s : Trace). replies_of s c) x.begins ∙ replies_of-append c x.since a.seat.seen
+          ∙ ap (λ (q : List Reply). replies_of a.seat.seen c ++ q) (replies_of-others c x.since x.apart)
+          ∙ append-nil (replies_of a.seat.seen c)
           ∙ ap (λ (s : Trace). replies_of s c) seen ∙ replies_of-append c m.since [] ∙ replies_then in
           record {
             now = a;
@@ -175,19 +185,26 @@ module _ (of : KernelValue) (seats : List CoreSeatValue) (all : AreAllSeats of s
           let more = take_more after n l.now (omega arith) in
           let read : get_or after n l.now ≡ l.now = get_or_from_slice_get after n l.now l.now l.at in
           let own : decided l.now ≡ decisions_by t n =
-          ap (λ (z : ℕ × List Reply). numbered z.0 1 z.1) (λ i. (l.core i, sym l.replies i)) ∙ sym (decisions_numbered of.setup n t end.history.legal) in
-          ap (λ (k : ℕ). flat_map decided (take k after)) next ∙ ap (flat_map decided) (more ∙ ap (λ r. take n after ++ r ∷ []) read) ∙ flat_map-append decided (take n after) (l.now ∷ [])
-          ∙ ap (λ (q : List Decision). flat_map decided (take n after) ++ q) (flat_map-cons decided l.now [] ∙ append-nil (decided l.now) ∙ own)
+          ap (λ (z : ℕ × List Reply). numbered z.0 1 z.1) (λ i. (l.core i, sym l.replies i))
+          ∙ sym (decisions_numbered of.setup n t end.history.legal) in
+          ap (λ (k : ℕ). flat_map decided (take k after)) next ∙ ap (flat_map decided) (more ∙ ap (λ r. take n after ++ r ∷ []) read)
+          ∙ flat_map-append decided (take n after) (l.now ∷ [])
+          ∙ ap (λ (q : List Decision). flat_map decided (take n after) ++ q) (flat_map-cons decided l.now [] ∙ append-nil (decided l.now)
+          ∙ own)
           ∙ ap (λ (q : List Decision). q ++ decisions_by t n) (up_to n (omega arith))
 
-      pub are_made : length lists ≡ of.setup.cores → (ran : Ran) → ran.decisions.items ≡ flat_map decided after → ran.closed.layout ≡ shape_of of.setup → ran.closed.words.items ≡ words → ran.closed.ends.items ≡ ends → AreMade of.setup lists ran
+      pub are_made : length lists ≡ of.setup.cores → (ran : Ran) → ran.decisions.items ≡ flat_map decided after
+          → ran.closed.layout ≡ shape_of of.setup → ran.closed.words.items ≡ words → ran.closed.ends.items ≡ ends
+          → AreMade of.setup lists ran
       are_made one_each ran decisions layout words_are ends_are = record {
         trace = t;
         history = end.history;
         calls = has_calls one_each;
-        decisions = decisions ∙ ap (flat_map decided) (sym (take_all of.setup.cores after (let size = count in omega arith))) ∙ up_to of.setup.cores (omega arith);
+        decisions = decisions ∙ ap (flat_map decided) (sym (take_all of.setup.cores after (let size = count in omega arith)))
+            ∙ up_to of.setup.cores (omega arith);
         layout = layout;
-        represent = subst (λ (z : List ℕ × List CoreEnd). Represent (word_in (shape_of of.setup) z.0) (end_in z.1) (state_after of.setup t)) (λ i. (sym words_are i, sym ends_are i)) end.represent;
+        represent = subst (λ (z : List ℕ × List CoreEnd). Represent (word_in (shape_of of.setup) z.0) (end_in z.1)
+            (state_after of.setup t)) (λ i. (sym words_are i, sym ends_are i)) end.represent;
         counts = subst (λ (z : List ℕ). RepresentCounts (word_in (shape_of of.setup) z) (state_after of.setup t))
             (sym words_are) end.counts;
         word_count = ap length words_are ∙ end.word_count;
@@ -196,16 +213,20 @@ module _ (of : KernelValue) (seats : List CoreSeatValue) (all : AreAllSeats of s
 
 -- runners of a free gate are not held
 pub all_free : (free : Bool) (xs ys : List RunnerValue) → free ≡ true → AllZip (MakesCalls free) xs ys → All (λ r. r.held ≡ false) ys
-all_free free xs ys is make k d h = let size = length_all_zip (MakesCalls free) xs ys make in (AllZip-get_or (MakesCalls free) xs ys k d d make (omega arith)).free is
+all_free free xs ys is make k d h = let size = length_all_zip (MakesCalls free) xs ys make in
+    (AllZip-get_or (MakesCalls free) xs ys k d d make (omega arith)).free is
 
 -- runners of short lists have few replies
-pub few_replies : (seats : List CoreSeatValue) (lists : List (List Call)) (free : Bool) (xs ys : List RunnerValue) → length lists ≡ length seats → All IsList lists → AreRunners seats lists xs → AllZip (MakesCalls free) xs ys → All (λ r. length r.replies < 2 ^ 32) ys
+pub few_replies : (seats : List CoreSeatValue) (lists : List (List Call)) (free : Bool) (xs ys : List RunnerValue)
+    → length lists ≡ length seats → All IsList lists → AreRunners seats lists xs → AllZip (MakesCalls free) xs ys
+    → All (λ r. length r.replies < 2 ^ 32) ys
 few_replies seats lists free xs ys one_each all are make k d h =
     let size = length_all_zip (MakesCalls free) xs ys make in
     let count = are.count in
     let inside : k < length xs = omega arith in
     let r = at_of xs k inside in
-    let m : MakesCalls free r.x (get_or ys k d) = subst (λ x. MakesCalls free x (get_or ys k d)) r.read (AllZip-get_or (MakesCalls free) xs ys k r.x d make inside) in
+    let m : MakesCalls free r.x (get_or ys k d) = subst (λ x. MakesCalls free x (get_or ys k d)) r.read
+    (AllZip-get_or (MakesCalls free) xs ys k r.x d make inside) in
     let list = All-get_or IsList lists k [] (omega arith) all in
     let same = ap length (are.each k r.x r.at).calls in
     let within = m.within in
@@ -213,7 +234,9 @@ few_replies seats lists free xs ys one_each all are make k d h =
     omega arith
 
 -- one more decision
-pub decisions_more : (core : ℕ) (rs : List Reply) (n i : ℕ) (r : Reply) (old all new : List Decision) → all ≡ old ++ numbered core 1 (take n rs) → new ≡ all ++ record { core = core; index = i; reply = r } ∷ [] → n < length rs → i ≡ n + 1 → r ≡ get_or rs n r
+pub decisions_more : (core : ℕ) (rs : List Reply) (n i : ℕ) (r : Reply) (old all new : List Decision)
+    → all ≡ old ++ numbered core 1 (take n rs) → new ≡ all ++ record { core = core; index = i; reply = r } ∷ [] → n < length rs → i ≡ n + 1
+    → r ≡ get_or rs n r
     → new ≡ old ++ numbered core 1 (take (n + 1) rs)
 decisions_more core rs n i r old all new before push low index at =
     let count : length (take n rs) ≡ n = length-take-le n rs (omega arith) in
@@ -221,7 +244,8 @@ decisions_more core rs n i r old all new before push low index at =
     push ∙ ap (λ (l : List Decision). l ++ record { core = core; index = i; reply = r } ∷ []) before
     ∙ append_assoc old (numbered core 1 (take n rs)) (record { core = core; index = i; reply = r } ∷ [])
     ∙ ap (λ (k : ℕ). old ++ (numbered core 1 (take n rs) ++ record { core = core; index = k; reply = r } ∷ [])) place
-    ∙ ap (λ (l : List Decision). old ++ l) (sym (numbered-push core 1 (take n rs) r) ∙ ap (numbered core 1) (ap (λ x. take n rs ++ x ∷ []) at ∙ sym (take_more rs n r low)))
+    ∙ ap (λ (l : List Decision). old ++ l) (sym (numbered-push core 1 (take n rs) r)
+    ∙ ap (numbered core 1) (ap (λ x. take n rs ++ x ∷ []) at ∙ sym (take_more rs n r low)))
 
 pub clash : (b : Bool) → b ≡ false → b ≡ true → false ≡ true
 clash b is_false is_true = sym is_false ∙ is_true

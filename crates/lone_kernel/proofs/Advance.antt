@@ -5,15 +5,13 @@ use Rattle.std.proofs.lemmas.Bool.{cases_eq}
 use Rattle.std.proofs.lemmas.List.{append-nil, length-take-le, take_more, take_all}
 use Rattle.std.proofs.lemmas.Option.{slice_get_cases}
 use Rattle.spk_nums.specs.declared.calls.Call.{Call}
-use Rattle.spk_nums.specs.Setting.{Setting, IsSetting}
+use Rattle.spk_nums.specs.Setting.{IsSetting}
 use Rattle.word_map.specs.Word.{Word}
 use Rattle.word_map.specs.Places.{Shape, IsShape, IsIn, place_of, shared}
 use Rattle.word_map.specs.Moves.{word_of}
 use Rattle.word_map.proofs.PlaceLemmas.{has_places}
-use Rattle.kernel_rules.specs.State.{put}
 use Rattle.kernel_rules.proofs.Within.{put_same, put_other}
 use Rattle.kernel_history.specs.Trace.{Step, Trace, phase, last_left, calls_of, decision_at, decisions_of}
-use Rattle.kernel_history.specs.Trace as history
 use Rattle.kernel_history.specs.Order.{IsIdle, MakesOne}
 use Rattle.kernel_history.proofs.Names.{cases_word}
 use Rattle.kernel_history.proofs.Steps.{calls_of-own, calls_of-other, last_left-here, last_left-there}
@@ -21,14 +19,14 @@ use Rattle.kernel_history.specs.BootWords.{shape_of}
 use Rattle.call_steps.specs.View.{Core}
 use Rattle.call_steps.specs.Fits.{IsCore}
 use Rattle.call_steps.specs.Cores.{move_of}
-use Rattle.flight.specs.Made.{turned, MayStep, core_after, cores_after, core_at as core_of_step, IsMade, IsMadeStep}
+use Rattle.flight.specs.Made.{turned, MayStep, core_after, cores_after, core_at as core_of_step, IsMadeStep}
 use Rattle.flight.specs.Phases.{IsWord, IsInPhase}
 use Rattle.flight.proofs.Phases.{made_phases}
 use Rattle.flight.proofs.Spelling.{moves_are_words}
 use Rattle.call_steps.specs.declared.stages.ActiveCall.{ActiveCall}
 use Rattle.lone_kernel.specs.declared.seats.Turn.{Turn}
 use Rattle.lone_kernel.specs.declared.seats.Turn.TheVariants.{Begins, GoesOn}
-use Rattle.lone_kernel.specs.Machine.{Machine, seat_at, core_at, list_at, turn_if, turn_at, IsFinished, IsFit, CanTake, enters_as, core_in, begun_by, said_by, seat_after, place_next, found_by, stepped, step_in}
+use Rattle.lone_kernel.specs.Machine.{Machine, seat_at, core_at, list_at, turn_if, turn_at, IsFinished, IsFit, CanTake, enters_as, core_in, begun_by, place_next, found_by, stepped, step_in}
 use Rattle.lone_kernel.specs.Stands.{StandsFor}
 use Rattle.lone_kernel.specs.Moves.{calls_begun, GoesFurther, MovesTo, StaysIdle, StepsOnce}
 use Rattle.lone_kernel.proofs.Fits.{IsOf, is_of, seat_same, seat_there}
@@ -43,8 +41,10 @@ word_next core (Begins call) fits can = record { is_in = fits.own.core; is_named
 word_next core GoesOn fits can = moves_are_words core fits can
 
 -- where the core stands is where the trace is
-pub phase_is : (m : Machine) (t : Trace) (c : ℕ) → IsSetting m.setup → c < m.setup.cores → StandsFor m t → IsInPhase (core_at m c) (phase t c)
-phase_is m t c setting here stands = subst (λ k. IsInPhase k (phase t c)) (sym (stands.cores c here)) (made_phases m.setup setting t stands.made c here)
+pub phase_is : (m : Machine) (t : Trace) (c : ℕ) → IsSetting m.setup → c < m.setup.cores → StandsFor m t
+    → IsInPhase (core_at m c) (phase t c)
+phase_is m t c setting here stands = subst (λ k. IsInPhase k (phase t c)) (sym (stands.cores c here))
+    (made_phases m.setup setting t stands.made c here)
 
 finished_if : (list : List Call) (n : ℕ) (o : Option ActiveCall) → turn_if list n o ≡ None → (o ≡ None) × (length list ≤ n)
 finished_if list n None none = elim (slice_get_cases list n).1 [
@@ -67,7 +67,8 @@ stays_idle m c setting here none = record {
       };
 }
 
-entered_more : (list : List Call) (begun due : ℕ) (state : Core) (o : Option ActiveCall) (f : Turn) → state.active ≡ o → turn_if list begun o ≡ Some f →
+entered_more : (list : List Call) (begun due : ℕ) (state : Core) (o : Option ActiveCall) (f : Turn) → state.active ≡ o
+    → turn_if list begun o ≡ Some f →
     take begun list ++ option_to_list (enters_as f) ≡ take (begun_by f begun) list
 entered_more list begun due state None f is begins = elim (slice_get_cases list begun).1 [
   | inl found ↦
@@ -100,7 +101,12 @@ module _ (m : Machine) (t : Trace) (c : ℕ) (f : Turn) (fit : IsFit m) (setting
   of = is_of m c f fit here begins
 
   is_shape : IsShape shape
-  is_shape = record { some_core = setting.some_core; most_cores = setting.most_cores; least_frames = setting.least_frames; most_frames = setting.most_frames }
+  is_shape = record {
+    some_core = setting.some_core;
+    most_cores = setting.most_cores;
+    least_frames = setting.least_frames;
+    most_frames = setting.most_frames;
+  }
 
   word : IsWord shape (word_of (move_of core1))
   word = subst (λ s. IsWord s (word_of (move_of core1))) (fit.each c here).shape (word_next (core_at m c) f (fit.each c here).fits of.can)
@@ -158,7 +164,8 @@ module _ (m : Machine) (t : Trace) (c : ℕ) (f : Turn) (fit : IsFit m) (setting
         ap (calls_of (e ∷ t)) same ∙ own_calls ∙ ap (λ (i : ℕ). take (begun_by f (seat_at m c).begun) (list_at m i)) (sym same)
         ∙ ap (λ k. take k.begun (list_at m d)) (sym (seat_same m c f fit here begins d same))
     | inr apart ↦
-        calls_of-other d e t apart ∙ stands.calls d h ∙ ap (λ k. take k.begun (list_at m d)) (sym (seat_there m c f fit here begins d apart))
+        calls_of-other d e t apart ∙ stands.calls d h ∙ ap (λ k. take k.begun (list_at m d))
+        (sym (seat_there m c f fit here begins d apart))
   ]
 
   count_now : length (calls_of (e ∷ t) c) ≡ begun_by f (seat_at m c).begun
@@ -180,9 +187,11 @@ module _ (m : Machine) (t : Trace) (c : ℕ) (f : Turn) (fit : IsFit m) (setting
   not_idle idle = of_call (core_at m c).active refl where
     of_call : (o : Option ActiveCall) → (core_at m c).active ≡ o → ⊥
     of_call None is =
-        let n : length (calls_of t c) ≡ (seat_at m c).begun = ap length (stands.calls c here) ∙ length-take-le (seat_at m c).begun (list_at m c) (fit.each c here).begun in
+        let n : length (calls_of t c) ≡ (seat_at m c).begun = ap length (stands.calls c here)
+        ∙ length-take-le (seat_at m c).begun (list_at m c) (fit.each c here).begun in
         let k : length (calls_of t c) ≡ length (list_at m c) = ap length idle.finished in
-        let one_more : begun_by f (seat_at m c).begun ≡ (seat_at m c).begun + 1 = of.counts ∙ ap (λ o. calls_begun o (seat_at m c).begun) is in
+        let one_more : begun_by f (seat_at m c).begun ≡ (seat_at m c).begun + 1 = of.counts
+        ∙ ap (λ o. calls_begun o (seat_at m c).begun) is in
         let within = of.within in
         omega arith
     of_call (Some g) is = (phase_is m t c setting here stands).in_call (λ none. let both = sym is ∙ none in absurd (cc)) idle.out

@@ -5,7 +5,7 @@ use Rattle.std.proofs.lemmas.Bool.{cases_eq, cases_lt}
 use Rattle.std.proofs.lemmas.List.{length-map, length-append, get_or-map, get_or_push, get_or_past, get_or_append_left}
 use Rattle.spk_nums.specs.declared.calls.Call.{Call}
 use Rattle.spk_nums.specs.declared.replies.Decision.{Decision}
-use Rattle.spk_nums.specs.Setting.{Setting, IsSetting}
+use Rattle.spk_nums.specs.Setting.{Setting}
 use Rattle.word_map.specs.Word.{Word}
 use Rattle.word_map.specs.Places.{IsIn, size_of, shared}
 use Rattle.kernel_history.specs.BootWords.{boot_word, shape_of}
@@ -27,7 +27,8 @@ pub record AreFreshBelow (setup : Setting) (lists : List (List Call)) (n : ℕ) 
 pub fresh_none : (setup : Setting) (lists : List (List Call)) (seats : List Seat) → seats ≡ [] → AreFreshBelow setup lists 0 seats
 fresh_none setup lists seats none = record { count = ap length none; each = λ c h. absurd (omega arith) }
 
-pub fresh_more : (setup : Setting) (lists : List (List Call)) (seats seats' : List Seat) (n : ℕ) (s : Seat) → AreFreshBelow setup lists n seats → seats' ≡ seats ++ s ∷ [] →
+pub fresh_more : (setup : Setting) (lists : List (List Call)) (seats seats' : List Seat) (n : ℕ) (s : Seat)
+    → AreFreshBelow setup lists n seats → seats' ≡ seats ++ s ∷ [] →
     s ≡ fresh_seat setup n (get_or lists n []) → AreFreshBelow setup lists (n + 1) seats'
 fresh_more setup lists seats seats' n s fresh more is = record {
   count = (let k = ap length more ∙ length-append seats (s ∷ []) in let size = fresh.count in omega arith);
@@ -36,21 +37,26 @@ fresh_more setup lists seats seats' n s fresh more is = record {
         ap (λ l. get_or l c (fresh_seat setup c [])) more ∙ get_or_push seats s (fresh_seat setup c []) c (fresh.count ∙ sym last) ∙ is
         ∙ ap (λ (i : ℕ). fresh_seat setup i (get_or lists i [])) (sym last)
     | inr earlier ↦
-        ap (λ l. get_or l c (fresh_seat setup c [])) more ∙ get_or_append_left seats (s ∷ []) (fresh_seat setup c []) c (let size = fresh.count in omega arith) ∙ fresh.each c (omega arith)
+        ap (λ l. get_or l c (fresh_seat setup c [])) more ∙ get_or_append_left seats (s ∷ []) (fresh_seat setup c []) c
+        (let size = fresh.count in omega arith) ∙ fresh.each c (omega arith)
   ];
 }
 
-pub fresh_is : {V : Type 0} (items : V → List Call) (setup : Setting) (lists : List V) (n due : ℕ) (v : V) (state : Core) → n < length lists → v ≡ get_or lists n v →
-    due ≡ length (items v) → state ≡ started n setup → record { begun = 0; due = due; state = state } ≡ fresh_seat setup n (get_or (map items lists) n [])
+pub fresh_is : {V : Type 0} (items : V → List Call) (setup : Setting) (lists : List V) (n due : ℕ) (v : V) (state : Core)
+    → n < length lists → v ≡ get_or lists n v →
+    due ≡ length (items v) → state ≡ started n setup → record { begun = 0; due = due; state = state } ≡ fresh_seat setup n
+    (get_or (map items lists) n [])
 fresh_is items setup lists n due v state here v_is due_is state_is =
     let list : get_or (map items lists) n [] ≡ items v = get_or-map items lists n v [] here ∙ ap items (sym v_is) in
     let all : due ≡ length (get_or (map items lists) n []) = due_is ∙ ap length (sym list) in
     λ i. record { begun = 0; due = all i; state = state_is i }
 
-pub fresh_all : (setup : Setting) (lists : List (List Call)) (n : ℕ) (seats : List Seat) → n ≡ length lists → AreFreshBelow setup lists n seats → AreFresh setup lists seats
+pub fresh_all : (setup : Setting) (lists : List (List Call)) (n : ℕ) (seats : List Seat) → n ≡ length lists
+    → AreFreshBelow setup lists n seats → AreFresh setup lists seats
 fresh_all setup lists n seats all fresh = record { count = fresh.count ∙ all; each = λ c h. fresh.each c (omega arith) }
 
-module _ {V : Type 0} (items : V → List Call) (setup : Setting) (words : List ℕ) (lists : List V) (seats : List Seat) (decisions : List Decision)
+module _ {V : Type 0} (items : V → List Call) (setup : Setting) (words : List ℕ) (lists : List V) (seats : List Seat)
+    (decisions : List Decision)
     (size : length words ≡ size_of (shape_of setup))
     (fresh : AreFresh setup (map items lists) seats) (can_run : AreLists (map items lists))
     (one_each : length lists ≡ setup.cores) (cores_fit : (c : ℕ) → c < setup.cores → IsCore (started c setup)) where
@@ -104,7 +110,8 @@ due_low (Some f) = of_decided (is_decided_at f.stage) where
   of_decided false = omega arith
 
 -- no more than n items of fewer than k each
-sum_small : (k a : ℕ) (xs : List Seat) (at : ℕ → Seat) → ((i : ℕ) → i < length xs → (get_or xs i (at i)).due < k) → fold (λ b seat. b + seat.due) a xs ≤ a + length xs * k
+sum_small : (k a : ℕ) (xs : List Seat) (at : ℕ → Seat) → ((i : ℕ) → i < length xs → (get_or xs i (at i)).due < k)
+    → fold (λ b seat. b + seat.due) a xs ≤ a + length xs * k
 sum_small k a [] at small = omega arith
 sum_small k a (x ∷ xs) at small =
     let first = small 0 (omega arith) in

@@ -11,19 +11,19 @@ use Rattle.kernel_history.specs.Trace.{decision_at}
 use Rattle.call_steps.specs.View.{Core}
 use Rattle.call_steps.specs.Fits.{IsCore, steps_left}
 use Rattle.call_acts.specs.declared.own.Own.{Own}
+use Rattle.call_acts.specs.declared.own.OwnChange.TheVariants.{Ticks}
 use Rattle.call_steps.specs.Cores.{core_after, told_by, absorbed, told_of_step, absorbed_in, told_in}
 use Rattle.core_invariant.specs.Events.{decided_in}
 use Rattle.call_steps.specs.declared.stages.Absorbed.{Absorbed}
 use Rattle.call_steps.specs.declared.stages.Absorbed.TheVariants.{Going, Decided, Returned}
 use Rattle.call_steps.specs.declared.stages.ActiveCall.{ActiveCall}
-use Rattle.call_steps.specs.Steps.{Took, GoesOn as TookOn, Decides, Returns, took}
+use Rattle.call_steps.specs.Steps.{Took, GoesOn as TookOn, Decides, Returns, Changes, took}
 use Rattle.lone_kernel.specs.declared.seats.Seat.{Seat}
 use Rattle.lone_kernel.specs.declared.seats.Turn.{Turn}
 use Rattle.lone_kernel.specs.declared.seats.Turn.TheVariants.{Begins, GoesOn}
-use Rattle.flight.specs.Decided.{is_decided_at, is_decided_in}
+use Rattle.flight.specs.Decided.{is_decided_at, is_decided_in, Turns}
 use Rattle.lone_kernel.specs.Machine.{Machine, seat_at, core_at, list_at, fresh_seat, turn_if, turn_of, turn_at, due_at, due_in, IsFitSeat, IsFit, CanRun, CanTake, core_in, begun_by, decisions_in, said_by, seat_after, found_by, stepped}
 use Rattle.lone_kernel.specs.Moves.{calls_begun, GoesFurther}
-use Rattle.flight.specs.Decided.{Turns}
 use Rattle.flight.proofs.Phases.{took_turns}
 use Rattle.lone_kernel.proofs.Small.{steps_small}
 
@@ -69,23 +69,28 @@ of_call list begun due state (Some g) f is calls sum low begins =
       goes_on = λ some. refl;
     }
 
-pub turn_is : (setup : Setting) (list : List Call) (c : ℕ) (seat : Seat) (f : Turn) → IsFitSeat setup list c seat → All CanRun list → turn_of list seat ≡ Some f → IsOf list seat f
-turn_is setup list c seat f fit calls begins = of_call list seat.begun seat.due seat.state seat.state.active f refl calls fit.sum fit.begun begins
+pub turn_is : (setup : Setting) (list : List Call) (c : ℕ) (seat : Seat) (f : Turn) → IsFitSeat setup list c seat → All CanRun list
+    → turn_of list seat ≡ Some f → IsOf list seat f
+turn_is setup list c seat f fit calls begins =
+    of_call list seat.begun seat.due seat.state seat.state.active f refl calls fit.sum fit.begun begins
 
 -- what one decides is due before it and not behind it
 pub record Counts (before after : Option ActiveCall) (said : Absorbed) : Type 0 where
   pub due : due_in before ≡ due_in after + decisions_in said
 
-counts_took : (own : Own) (f : ActiveCall) (k : Took) → Turns (is_decided_at f.stage) k → Counts (Some f) (core_after own k).active (told_by k)
+counts_took : (own : Own) (f : ActiveCall) (k : Took) → Turns (is_decided_at f.stage) k
+    → Counts (Some f) (core_after own k).active (told_by k)
 counts_took own f (TookOn g) turns = record { due = ap due_at (sym turns) ∙ omega arith }
 counts_took own f (Decides r g) turns = record { due = ap due_at turns.0 ∙ ap (λ b. due_at b + 1) (sym turns.1) }
 counts_took own f (Returns r x) turns = record { due = ap due_at turns }
+counts_took own f (Changes r change g) turns = record { due = ap due_at turns.0 ∙ ap (λ b. due_at b + 1) (sym turns.1) }
 
 counts_in : (own : Own) (o : Option ActiveCall) (found : ℕ) → IsSome o → Counts o (absorbed_in own o found).active (told_in own o found)
 counts_in own None found some = absurd (cc)
 counts_in own (Some f) found some = counts_took own f (took own f found) (took_turns own f found)
 
-pub counts_absorbed : (core : Core) (found : ℕ) → IsSome core.active → Counts core.active (absorbed core found).active (told_of_step core found)
+pub counts_absorbed : (core : Core) (found : ℕ) → IsSome core.active
+    → Counts core.active (absorbed core found).active (told_of_step core found)
 counts_absorbed core found some = counts_in core.own core.active found some
 
 -- a step leaves the core the one it is, and its machine
@@ -97,6 +102,7 @@ same_took : (own : Own) (k : Took) → IsTheSame own (core_after own k).own
 same_took own (TookOn g) = record { core = refl; layout = refl }
 same_took own (Decides r g) = record { core = refl; layout = refl }
 same_took own (Returns r x) = record { core = refl; layout = refl }
+same_took own (Changes r (Ticks charged owed) g) = record { core = refl; layout = refl }
 
 same_in : (own : Own) (o : Option ActiveCall) (found : ℕ) → IsTheSame own (absorbed_in own o found).own
 same_in own None found = record { core = refl; layout = refl }
@@ -114,10 +120,13 @@ stays_took : (own : Own) (k : Took) → Turns false k → (core_after own k).act
 stays_took own (TookOn g) turns none = cc
 stays_took own (Decides r g) turns none = cc
 stays_took own (Returns r x) turns none = cc
+stays_took own (Changes r change g) turns none = cc
 
-stays_absorbed : (own : Own) (o : Option ActiveCall) (found : ℕ) → IsSome o → is_decided_in o ≡ false → (absorbed_in own o found).active ≢ None
+stays_absorbed : (own : Own) (o : Option ActiveCall) (found : ℕ) → IsSome o → is_decided_in o ≡ false
+    → (absorbed_in own o found).active ≢ None
 stays_absorbed own None found some h = absurd (cc)
-stays_absorbed own (Some f) found some h = stays_took own (took own f found) (subst (λ b. Turns b (took own f found)) h (took_turns own f found))
+stays_absorbed own (Some f) found some h = stays_took own (took own f found) (subst (λ b. Turns b (took own f found)) h
+    (took_turns own f found))
 
 undecided_turn : (core : Core) (f : Turn) → is_decided_in core.active ≡ false → is_decided_in (core_in core f).active ≡ false
 undecided_turn core (Begins call) h = refl
@@ -165,7 +174,8 @@ module _ (m : Machine) (c : ℕ) (f : Turn) (fit : IsFit m) (here : c < m.setup.
   in_seats = let n = fit.seats in omega arith
 
   pub seat_same : (d : ℕ) → d ≡ c → seat_at (stepped m c f) d ≡ seat'
-  seat_same d is = ap (λ (i : ℕ). get_or (slice_set m.seats c seat') i (fresh_seat m.setup i [])) is ∙ get_or-set_same m.seats c seat' (fresh_seat m.setup c []) in_seats
+  seat_same d is = ap (λ (i : ℕ). get_or (slice_set m.seats c seat') i (fresh_seat m.setup i [])) is
+      ∙ get_or-set_same m.seats c seat' (fresh_seat m.setup c []) in_seats
 
   pub seat_there : (d : ℕ) → d ≢ c → seat_at (stepped m c f) d ≡ seat_at m d
   seat_there d is = get_or-set_other m.seats c d seat' (fresh_seat m.setup d []) is
@@ -178,7 +188,8 @@ module _ (m : Machine) (c : ℕ) (f : Turn) (fit : IsFit m) (here : c < m.setup.
     calls = fit.calls;
     each = λ d h. elim (cases_eq d c) [
       | inl same ↦
-          subst (λ k. IsFitSeat m.setup (list_at m d) d k) (sym (seat_same d same)) (subst (λ (i : ℕ). IsFitSeat m.setup (list_at m i) i seat') (sym same) (fits_seat fits))
+          subst (λ k. IsFitSeat m.setup (list_at m d) d k) (sym (seat_same d same))
+          (subst (λ (i : ℕ). IsFitSeat m.setup (list_at m i) i seat') (sym same) (fits_seat fits))
       | inr apart ↦
           subst (λ k. IsFitSeat m.setup (list_at m d) d k) (sym (seat_there d apart)) (fit.each d h)
     ];
@@ -218,7 +229,8 @@ undecided_in None some h = absurd (cc)
 undecided_in (Some f) some h = ap due_at h
 
 -- an undecided call's decision is due
-pub undecided_due : (list : List Call) (seat : Seat) (f : Turn) → IsOf list seat f → is_decided_in (core_in seat.state f).active ≡ false → 0 < seat.due
+pub undecided_due : (list : List Call) (seat : Seat) (f : Turn) → IsOf list seat f → is_decided_in (core_in seat.state f).active ≡ false
+    → 0 < seat.due
 undecided_due list seat f of h =
     let all = of.due in
     let low = of.within in

@@ -6,9 +6,9 @@ use Rattle.spk_nums.specs.Setting.{Setting}
 use Rattle.spk_nums.specs.declared.calls.Call.{Call}
 use Rattle.spk_nums.specs.declared.replies.Decision.{Decision}
 use Rattle.spk_nums.specs.declared.steps.WordOp.{WordOp}
-use Rattle.word_map.specs.Places.{Shape, place_of}
-use Rattle.word_map.specs.Moves.{Move, LoadOf, CompareOf, StoreOf, AddOf, word_of, op_of, left_of, told_of}
-use Rattle.spk_nums.specs.WordSteps.{place_in}
+use Rattle.word_map.specs.Places.{Shape}
+use Rattle.word_map.specs.Moves.{op_of, left_of, told_of}
+use Rattle.spk_nums.specs.WordSteps.{place_in, left_by, told_by}
 use Rattle.kernel_history.specs.Trace.{decision_at}
 use Rattle.call_steps.specs.View.{Core}
 use Rattle.flight.proofs.ByPlace.{place_is, left_is, told_is}
@@ -19,11 +19,11 @@ use Rattle.core_invariant.specs.Events.{decided_in}
 use Rattle.call_steps.specs.declared.stages.Absorbed.{Absorbed}
 use Rattle.lone_kernel.specs.declared.seats.Seat.{Seat}
 use Rattle.lone_kernel.specs.declared.seats.Turn.{Turn}
-use Rattle.spk_nums.specs.WordSteps.{left_by, told_by}
 use Rattle.lone_kernel.specs.Machine.{Machine, fresh_seat, seat_at, core_at, list_at, turn_of, turn_at, IsFit, IsFitSeat, CanRun, core_in, begun_by, decisions_in, place_next, words_after, said_by, seat_after, found_by, stepped, MakesTurn, TakesTurn}
 
 pub makes_turn : (shape : Shape) (seat seat' : Seat) (before after : List ℕ) (said : Absorbed) (op : WordOp) (found told due : ℕ) →
-    op ≡ op_of shape (move_of seat.state) → found ≡ get_or before (place_in op) 0 → after ≡ slice_set before (place_in op) (left_by op found) →
+    op ≡ op_of shape (move_of seat.state) → found ≡ get_or before (place_in op) 0
+    → after ≡ slice_set before (place_in op) (left_by op found) →
     told ≡ told_by op found → said ≡ told_of_step seat.state told → seat'.state ≡ absorbed seat.state told → seat'.begun ≡ seat.begun →
     due ≡ decisions_in said → seat'.due ≡ seat.due - due → MakesTurn shape seat seat' before after said
 makes_turn shape seat seat' before after said op found told due op_is found_is after_is told_is_by said_is state_is begun_is due_is left =
@@ -49,7 +49,8 @@ pub takes_turn : (shape : Shape) (seat between seat' : Seat) (f : Turn) (before 
     MakesTurn shape between seat' before after said → TakesTurn shape seat f seat' before after said
 takes_turn shape seat between seat' f before after said state_is begun_is due_is makes =
     let found : Core → ℕ = λ core. get_or before (place_next shape core) 0 in
-    let told : said ≡ said_by (core_in seat.state f) (found (core_in seat.state f)) = makes.told ∙ ap (λ core. said_by core (found core)) state_is in
+    let told : said ≡ said_by (core_in seat.state f) (found (core_in seat.state f)) = makes.told
+    ∙ ap (λ core. said_by core (found core)) state_is in
     let state : seat'.state ≡ absorbed (core_in seat.state f) (told_of (move_of (core_in seat.state f)) (found (core_in seat.state f))) =
     makes.state ∙ ap (λ core. absorbed core (told_of (move_of core) (found core))) state_is in
     let begun : seat'.begun ≡ begun_by f seat.begun = makes.begun ∙ begun_is in
@@ -61,7 +62,8 @@ takes_turn shape seat between seat' f before after said state_is begun_is due_is
       words = makes.words ∙ ap (λ core. words_after shape before core (found core)) state_is;
     }
 
-module _ {V : Type 0} (items : V → List Call) (setup : Setting) (words : List ℕ) (lists : List V) (seats : List Seat) (decisions : List Decision)
+module _ {V : Type 0} (items : V → List Call) (setup : Setting) (words : List ℕ) (lists : List V) (seats : List Seat)
+    (decisions : List Decision)
     (n : ℕ) (v : V) (k : Seat)
     (fit : IsFit (record { setup = setup; words = words; lists = map items lists; seats = seats; decisions = decisions }))
     (here : n < setup.cores) (v_is : v ≡ get_or lists n v) (k_is : k ≡ get_or seats n k) where
@@ -89,25 +91,36 @@ module _ {V : Type 0} (items : V → List Call) (setup : Setting) (words : List 
   pub turn_here : (f : Turn) → turn_of (items v) k ≡ Some f → turn_at m n ≡ Some f
   turn_here f begins = ap (λ l. turn_of l (seat_at m n)) list_is ∙ ap (turn_of (items v)) seat_is ∙ begins
 
-  module _ (layout : Shape) (f : Turn) (seat' : Seat) (words' : List ℕ) (said : Absorbed) (takes : TakesTurn layout k f seat' words words' said)
+  module _ (layout : Shape) (f : Turn) (seat' : Seat) (words' : List ℕ) (said : Absorbed)
+      (takes : TakesTurn layout k f seat' words words' said)
       (layout_is : layout ≡ shape_of setup) where
     pub takes_here : TakesTurn (shape_of setup) (seat_at m n) f seat' words words' said
-    takes_here = subst (λ s. TakesTurn s (seat_at m n) f seat' words words' said) layout_is (subst (λ s. TakesTurn layout s f seat' words words' said) (sym seat_is) takes)
+    takes_here = subst (λ s. TakesTurn s (seat_at m n) f seat' words words' said) layout_is
+        (subst (λ s. TakesTurn layout s f seat' words words' said) (sym seat_is) takes)
 
-    pub stepped_is : (decisions' : List Decision) (index : ℕ) → index ≡ seat'.begun → decisions' ≡ decisions ++ decision_at (decided_in said) n index →
-        record { setup = setup; words = words'; lists = map items lists; seats = slice_set seats n seat'; decisions = decisions' } ≡ stepped m n f
+    pub stepped_is : (decisions' : List Decision) (index : ℕ) → index ≡ seat'.begun
+        → decisions' ≡ decisions ++ decision_at (decided_in said) n index →
+        record {
+          setup = setup;
+          words = words';
+          lists = map items lists;
+          seats = slice_set seats n seat';
+          decisions = decisions';
+        } ≡ stepped m n f
     stepped_is decisions' index index_is noted =
         let takes = takes_here in
         let seats_at : slice_set seats n seat' ≡ (stepped m n f).seats = ap (λ s. slice_set seats n s) takes.behind in
         let decisions_at : decisions' ≡ (stepped m n f).decisions =
         noted ∙ ap (λ s. decisions ++ decision_at (decided_in s) n index) takes.told
-        ∙ ap (λ (i : ℕ). decisions ++ decision_at (decided_in (said_by (core_in (core_at m n) f) (found_by m n f))) n i) (index_is ∙ ap (λ s. s.begun) takes.behind) in
+        ∙ ap (λ (i : ℕ). decisions ++ decision_at (decided_in (said_by (core_in (core_at m n) f) (found_by m n f))) n i) (index_is
+        ∙ ap (λ s. s.begun) takes.behind) in
         λ i. record { setup = setup; words = takes.words i; lists = map items lists; seats = seats_at i; decisions = decisions_at i }
 
     pub fits_behind : IsCore seat'.state → IsCore (seat_after (seat_at m n) f (found_by m n f)).state
     fits_behind fits = subst (λ s. IsCore s.state) takes_here.behind fits
 
-    pub fewer_behind : steps_left seat'.state < steps_left (core_in k.state f) → steps_left (seat_after (seat_at m n) f (found_by m n f)).state < steps_left (core_in (core_at m n) f)
+    pub fewer_behind : steps_left seat'.state < steps_left (core_in k.state f)
+        → steps_left (seat_after (seat_at m n) f (found_by m n f)).state < steps_left (core_in (core_at m n) f)
     fewer_behind fewer =
         subst (λ s. steps_left (seat_after (seat_at m n) f (found_by m n f)).state < steps_left (core_in s.state f)) (sym seat_is)
         (subst (λ s. steps_left s.state < steps_left (core_in k.state f)) takes_here.behind fewer)

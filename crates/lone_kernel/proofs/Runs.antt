@@ -9,19 +9,19 @@ use Rattle.spk_nums.specs.declared.steps.How.{How}
 use Rattle.spk_nums.specs.declared.steps.How.TheVariants.{One, Ready, Decide, Return}
 use Rattle.spk_nums.specs.Setting.{Setting, IsSetting}
 use Rattle.kernel_rules.proofs.Within.{put_same}
-use Rattle.kernel_history.specs.Trace.{Step, Trace, phase, calls_of}
-use Rattle.kernel_history.specs.Order.{IsIdle, IsDecided, AreOf, HaveNone, StaysUnready, Stretch}
+use Rattle.kernel_history.specs.Trace.{Step, Trace, calls_of}
+use Rattle.kernel_history.specs.Order.{IsIdle, AreOf, HaveNone, StaysUnready, Stretch}
 use Rattle.call_steps.specs.Fits.{left_for}
 use Rattle.call_steps.specs.View.{Core}
 use Rattle.call_steps.specs.Cores.{ready_of}
 use Rattle.flight.specs.Decided.{is_decided_in}
-use Rattle.flight.specs.Made.{turned, core_after, cores_after, core_at as core_of_step, IsMadeStep, ready_after}
+use Rattle.flight.specs.Made.{turned, core_after, cores_after, core_at as core_of_step, ready_after}
 use Rattle.flight.specs.Phases.{AreEvents}
 use Rattle.flight.proofs.Phases.{made_events, decided_is_ready}
 use Rattle.call_steps.specs.declared.stages.ActiveCall.{ActiveCall}
 use Rattle.lone_kernel.specs.Machine.{Machine, seat_at, core_at, list_at, IsFinished, IsInCall, HasDecided, IsThere, IsDone, turn_if}
 use Rattle.lone_kernel.specs.Stands.{StandsFor}
-use Rattle.lone_kernel.specs.Moves.{MovesTo, StepsOnce, GoesBy, GoesFurther, work_in, work_at, calls_in, calls_left, calls_begun}
+use Rattle.lone_kernel.specs.Moves.{StepsOnce, GoesBy, GoesFurther, work_in, work_at, calls_in, calls_left, calls_begun}
 use Rattle.lone_kernel.proofs.Advance.{phase_is}
 
 pub begins_in_call : (m : Machine) (c : ℕ) → IsInCall m c → IsFinished m c → ⊥
@@ -36,7 +36,8 @@ busy_call : (m : Machine) (t : Trace) (c : ℕ) (o : Option ActiveCall) → IsSe
 busy_call m t c None setting is here begins stands idle = elim (slice_get_cases (list_at m c) (seat_at m c).begun).1 [
   | inl found ↦
       let within : (seat_at m c).begun < length (list_at m c) = found.1 in
-      let n : length (calls_of t c) ≡ (seat_at m c).begun = ap length (stands.calls c here) ∙ length-take-le (seat_at m c).begun (list_at m c) (omega arith) in
+      let n : length (calls_of t c) ≡ (seat_at m c).begun = ap length (stands.calls c here)
+      ∙ length-take-le (seat_at m c).begun (list_at m c) (omega arith) in
       let k : length (calls_of t c) ≡ length (list_at m c) = ap length idle.finished in
       omega arith
   | inr past ↦ begins (ap (option_map Rattle.lone_kernel.specs.declared.seats.Turn.TheVariants.Begins) (past.1))
@@ -44,7 +45,8 @@ busy_call m t c None setting is here begins stands idle = elim (slice_get_cases 
 busy_call m t c (Some f) setting is here begins stands idle =
     (phase_is m t c setting here stands).in_call (λ none. let both = sym is ∙ none in absurd (cc)) idle.out
 
-pub busy_if : (m : Machine) (c : ℕ) → IsSetting m.setup → c < m.setup.cores → (IsFinished m c → ⊥) → (t : Trace) → StandsFor m t → IsIdle m.lists t c → ⊥
+pub busy_if : (m : Machine) (c : ℕ) → IsSetting m.setup → c < m.setup.cores → (IsFinished m c → ⊥) → (t : Trace) → StandsFor m t
+    → IsIdle m.lists t c → ⊥
 busy_if m c setting here begins t stands idle = busy_call m t c (core_at m c).active setting refl here begins stands idle
 
 -- the steps so far have not come to where the item ends
@@ -70,7 +72,12 @@ none_yet Decide ready c t = All-nil (λ e. e.decides ≡ None)
 none_yet Return ready c t = All-nil (λ e. e.returns ≡ None)
 
 pub short_none : (how : How) (m : Machine) (c : ℕ) → GoesShort how m m c
-short_none how m c t stands = record { steps = []; own = All-nil (λ e. e.core ≡ c); before = none_yet how (ready_after m.setup) c t; stands = stands }
+short_none how m c t stands = record {
+  steps = [];
+  own = All-nil (λ e. e.core ≡ c);
+  before = none_yet how (ready_after m.setup) c t;
+  stands = stands;
+}
 
 -- a test that does not hold is false
 pub undecided_false : (b : Bool) → (b ≡ true → ⊥) → b ≡ false
@@ -104,7 +111,8 @@ open_after Decide m' c short = short
 open_after Return m' c short = tt
 
 -- the events of a step of core c, by where the machine stands before it and after it
-turned_undecided : (enters : Option Call) (core : Core) → is_decided_in core.active ≡ false → is_decided_in (turned enters core).active ≡ false
+turned_undecided : (enters : Option Call) (core : Core) → is_decided_in core.active ≡ false
+    → is_decided_in (turned enters core).active ≡ false
 turned_undecided None core h = h
 turned_undecided (Some call) core h = refl
 
@@ -119,14 +127,16 @@ pub events_are : (m' m'' : Machine) (c : ℕ) (t : Trace) (e : Step) → m''.set
 events_are m' m'' c t e same here own stands stands' =
     let setup = m''.setup in
     let here' : c < setup.cores = subst (λ s. c < s.cores) (sym same) here in
-    let are : AreEvents (core_of_step setup t e) (core_after (core_of_step setup t e) e.found) e.decides e.returns = made_events setup t e stands'.made.1 in
+    let are : AreEvents (core_of_step setup t e) (core_after (core_of_step setup t e) e.found) e.decides e.returns =
+    made_events setup t e stands'.made.1 in
     let now : core_at m'' c ≡ core_after (core_of_step setup t e) e.found =
     stands'.cores c here' ∙ put_same (cores_after setup t) e.core (core_after (core_of_step setup t e) e.found) c (sym own) in
     let was : core_at m' c ≡ cores_after setup t e.core =
     stands.cores c here ∙ ap (λ s. cores_after s t c) (sym same) ∙ ap (cores_after setup t) (sym own) in
     record {
       decides_now = λ un h. are.decides_now
-          (turned_undecided e.enters (cores_after setup t e.core) (ap (λ k. is_decided_in k.active) (sym was) ∙ undecided_false (is_decided_in (core_at m' c).active) un))
+          (turned_undecided e.enters (cores_after setup t e.core) (ap (λ k. is_decided_in k.active) (sym was)
+          ∙ undecided_false (is_decided_in (core_at m' c).active) un))
           (ap (λ k. is_decided_in k.active) (sym now) ∙ h);
       decides_none = λ inside un. are.decides_none (λ none. inside (ap (λ k. k.active) now ∙ none))
           (ap (λ k. is_decided_in k.active) (sym now) ∙ undecided_false (is_decided_in (core_at m'' c).active) un);
@@ -134,7 +144,8 @@ events_are m' m'' c t e same here own stands stands' =
       returns_none = λ inside. are.returns_none (λ none. inside (ap (λ k. k.active) now ∙ none));
     }
 
-ready_is : (m : Machine) (c : ℕ) (t : Trace) (setup : Setting) → setup ≡ m.setup → c < m.setup.cores → StandsFor m t → ready_after setup t c ≡ ready_of (core_at m c)
+ready_is : (m : Machine) (c : ℕ) (t : Trace) (setup : Setting) → setup ≡ m.setup → c < m.setup.cores → StandsFor m t
+    → ready_after setup t c ≡ ready_of (core_at m c)
 ready_is m c t setup same here stands = ap (λ s. ready_after s t c) same ∙ ap ready_of (sym (stands.cores c here))
 
 is_false : (b : Bool) → (b ≡ true → ⊥) → IsFalse b
@@ -142,7 +153,8 @@ is_false true un = absurd (un refl)
 is_false false un = refl
 
 -- one step of core c after others
-module _ (m m' m'' : Machine) (c : ℕ) (middle : m'.setup ≡ m.setup) (last : m''.setup ≡ m'.setup) (here : c < m'.setup.cores) (step : StepsOnce m' m'' c) where
+module _ (m m' m'' : Machine) (c : ℕ) (middle : m'.setup ≡ m.setup) (last : m''.setup ≡ m'.setup) (here : c < m'.setup.cores)
+    (step : StepsOnce m' m'' c) where
   here'' : c < m''.setup.cores
   here'' = subst (λ s. c < s.cores) (sym last) here
 
@@ -153,7 +165,8 @@ module _ (m m' m'' : Machine) (c : ℕ) (middle : m'.setup ≡ m.setup) (last : 
     before,
     is_false _ (λ ready. short (sym (ready_is m'' c (e ∷ (steps ++ t)) m.setup (sym (last ∙ middle)) here'' stands) ∙ ready)),
   )
-  longer Decide t steps e before short inside events stands = All-cons (λ x. x.decides ≡ None) e steps (events.decides_none inside short) before
+  longer Decide t steps e before short inside events stands =
+      All-cons (λ x. x.decides ≡ None) e steps (events.decides_none inside short) before
   longer Return t steps e before short inside events stands = All-cons (λ x. x.returns ≡ None) e steps (events.returns_none inside) before
 
   -- one that does not end the item
@@ -173,8 +186,10 @@ module _ (m m' m'' : Machine) (c : ℕ) (middle : m'.setup ≡ m.setup) (last : 
 
   -- the step that ends the item
   module _ (first : c < m.setup.cores) (setting : IsSetting m.setup) where
-    ends_item : (how : How) (t steps : Trace) (e : Step) → StandsFor m t → (IsDone how m c → ⊥) → StaysOpen how m' c → IsThere how m'' c → AreOf c (e ∷ steps)
-        → NotYet (ready_after m.setup) how c t steps → AreEventsOf m' m'' c e → StandsFor m'' (e ∷ (steps ++ t)) → Stretch (ready_after m.setup) how c t (e ∷ (steps ++ t))
+    ends_item : (how : How) (t steps : Trace) (e : Step) → StandsFor m t → (IsDone how m c → ⊥) → StaysOpen how m' c → IsThere how m'' c
+        → AreOf c (e ∷ steps)
+        → NotYet (ready_after m.setup) how c t steps → AreEventsOf m' m'' c e → StandsFor m'' (e ∷ (steps ++ t))
+        → Stretch (ready_after m.setup) how c t (e ∷ (steps ++ t))
     ends_item One t steps e before undone open_now there own none events stands =
         record { step = e; adds = ap (λ s. e ∷ (s ++ t)) none; own = own 0 e (omega arith) }
     ends_item Ready t steps e before undone open_now there own none events stands = inr (
@@ -195,7 +210,8 @@ module _ (m m' m'' : Machine) (c : ℕ) (middle : m'.setup ≡ m.setup) (last : 
     ends_item Return t steps e before undone open_now there own none events stands =
         record { steps = steps; last = e; adds = refl; own = own; before = none; ends = events.returns_now there }
 
-  pub there_at_last : (how : How) → c < m.setup.cores → IsSetting m.setup → (IsFinished m c → ⊥) → (IsDone how m c → ⊥) → StaysOpen how m' c → IsThere how m'' c
+  pub there_at_last : (how : How) → c < m.setup.cores → IsSetting m.setup → (IsFinished m c → ⊥) → (IsDone how m c → ⊥)
+      → StaysOpen how m' c → IsThere how m'' c
       → GoesShort how m m' c → GoesBy how m m'' c
   there_at_last how first setting begins undone open_now there goes t stands =
       let g = goes t stands in
@@ -207,17 +223,20 @@ module _ (m m' m'' : Machine) (c : ℕ) (middle : m'.setup ≡ m.setup) (last : 
         busy = busy_if m c setting first begins t stands;
         after = e ∷ (g.steps ++ t);
         stands = on;
-        is = ends_item first setting how t g.steps e stands undone open_now there (All-cons (λ x. x.core ≡ c) e g.steps s.is.own g.own) g.before events on;
+        is = ends_item first setting how t g.steps e stands undone open_now there
+            (All-cons (λ x. x.core ≡ c) e g.steps s.is.own g.own) g.before events on;
       }
 
 -- an item that is done makes no step
-pub done_stretch : (how : How) (m : Machine) (c : ℕ) (t : Trace) → IsSetting m.setup → c < m.setup.cores → IsDone how m c → StandsFor m t → Stretch (ready_after m.setup) how c t t
+pub done_stretch : (how : How) (m : Machine) (c : ℕ) (t : Trace) → IsSetting m.setup → c < m.setup.cores → IsDone how m c → StandsFor m t
+    → Stretch (ready_after m.setup) how c t t
 done_stretch One m c t setting here done stands = absurd done
 done_stretch Ready m c t setting here done stands = inl (ready_is m c t m.setup refl here stands ∙ done, refl)
 done_stretch Decide m c t setting here done stands = inl ((phase_is m t c setting here stands).decided done, refl)
 done_stretch Return m c t setting here done stands = absurd done
 
-pub nothing_done : (how : How) (m : Machine) (c : ℕ) → IsSetting m.setup → c < m.setup.cores → (IsFinished m c → ⊥) → IsDone how m c → GoesBy how m m c
+pub nothing_done : (how : How) (m : Machine) (c : ℕ) → IsSetting m.setup → c < m.setup.cores → (IsFinished m c → ⊥) → IsDone how m c
+    → GoesBy how m m c
 nothing_done how m c setting here begins done t stands = record {
   busy = busy_if m c setting here begins t stands;
   after = t;
@@ -226,21 +245,25 @@ nothing_done how m c setting here begins done t stands = record {
 }
 
 -- what a step leaves to do within its call is less, and a call that returns is one less
-work_less : (o o' : Option ActiveCall) (n n' : ℕ) → o' ≢ None → (o ≢ None → left_for n' o' < left_for n o) → left_for n' o' < 1000 → work_in n' o' < work_in n o
+work_less : (o o' : Option ActiveCall) (n n' : ℕ) → o' ≢ None → (o ≢ None → left_for n' o' < left_for n o) → left_for n' o' < 1000
+    → work_in n' o' < work_in n o
 work_less None None n n' some fewer small = absurd (some refl)
 work_less None (Some g) n n' some fewer small = small
 work_less (Some f) None n n' some fewer small = absurd (some refl)
 work_less (Some f) (Some g) n n' some fewer small = fewer (λ h. cc)
 
 pub works_on : (m m' : Machine) (c : ℕ) → IsInCall m' c → GoesFurther m m' c → work_at m' c < work_at m c
-works_on m m' c inside further = work_less (core_at m c).active (core_at m' c).active (core_at m c).own.layout.cores (core_at m' c).own.layout.cores inside further.steps further.few
+works_on m m' c inside further = work_less (core_at m c).active (core_at m' c).active (core_at m c).own.layout.cores
+    (core_at m' c).own.layout.cores inside further.steps further.few
 
-calls_less : (o : Option ActiveCall) (length begun begun' : ℕ) → begun' ≡ calls_begun o begun → begun' ≤ length → calls_in None (length - begun') < calls_in o (length - begun)
+calls_less : (o : Option ActiveCall) (length begun begun' : ℕ) → begun' ≡ calls_begun o begun → begun' ≤ length
+    → calls_in None (length - begun') < calls_in o (length - begun)
 calls_less None length begun begun' more within = omega arith
 calls_less (Some f) length begun begun' same within = let k = same in omega arith
 
 -- a call that has returned, or begun and returned, is one call less to come
-pub calls_fewer : (m m' : Machine) (c : ℕ) → m'.lists ≡ m.lists → (core_at m' c).active ≡ None → (seat_at m' c).begun ≡ calls_begun (core_at m c).active (seat_at m c).begun →
+pub calls_fewer : (m m' : Machine) (c : ℕ) → m'.lists ≡ m.lists → (core_at m' c).active ≡ None
+    → (seat_at m' c).begun ≡ calls_begun (core_at m c).active (seat_at m c).begun →
     (seat_at m' c).begun ≤ length (list_at m' c) → calls_left m' c < calls_left m c
 calls_fewer m m' c same none begun within =
     subst (λ o. calls_in o (length (list_at m' c) - (seat_at m' c).begun) < calls_left m c) (sym none)
@@ -264,12 +287,16 @@ begun_inside : (o : Option ActiveCall) (n : ℕ) → o ≢ None → calls_begun 
 begun_inside None n some = absurd (some refl)
 begun_inside (Some f) n some = refl
 
-counted_step : (m m' m'' : Machine) (c : ℕ) → GoesFurther m' m'' c → Counted m m' c → (seat_at m'' c).begun ≡ calls_begun (core_at m c).active (seat_at m c).begun
+counted_step : (m m' m'' : Machine) (c : ℕ) → GoesFurther m' m'' c → Counted m m' c
+    → (seat_at m'' c).begun ≡ calls_begun (core_at m c).active (seat_at m c).begun
 counted_step m m' m'' c further (inl same) = further.begun ∙ ap (λ x. calls_begun (core_at x c).active (seat_at x c).begun) same
-counted_step m m' m'' c further (inr counted) = further.begun ∙ begun_inside (core_at m' c).active (seat_at m' c).begun counted.inside ∙ counted.begun
+counted_step m m' m'' c further (inr counted) = further.begun ∙ begun_inside (core_at m' c).active (seat_at m' c).begun counted.inside
+    ∙ counted.begun
 
 pub counted_more : (m m' m'' : Machine) (c : ℕ) → IsInCall m'' c → GoesFurther m' m'' c → Counted m m' c → Counted m m'' c
 counted_more m m' m'' c inside further counted = inr (record { inside = inside; begun = counted_step m m' m'' c further counted })
 
-pub counted_last : (m m' m'' : Machine) (c : ℕ) → m''.lists ≡ m.lists → (core_at m'' c).active ≡ None → GoesFurther m' m'' c → Counted m m' c → calls_left m'' c < calls_left m c
-counted_last m m' m'' c same between further counted = calls_fewer m m'' c same between (counted_step m m' m'' c further counted) further.within
+pub counted_last : (m m' m'' : Machine) (c : ℕ) → m''.lists ≡ m.lists → (core_at m'' c).active ≡ None → GoesFurther m' m'' c
+    → Counted m m' c → calls_left m'' c < calls_left m c
+counted_last m m' m'' c same between further counted =
+    calls_fewer m m'' c same between (counted_step m m' m'' c further counted) further.within

@@ -47,7 +47,8 @@ bound_small (call.Transfer a b m) n h = omega arith
 bound_small (call.Delegate a b m) n h = omega arith
 bound_small (call.Test a b) n h = omega arith
 
-left_small : (core : Core) (o : Option ActiveCall) → core.own.layout.cores ≤ 8 → CallFits core.own o → left_for core.own.layout.cores o < 1000
+left_small : (core : Core) (o : Option ActiveCall) → core.own.layout.cores ≤ 8 → CallFits core.own o
+    → left_for core.own.layout.cores o < 1000
 left_small core None h fits = omega arith
 left_small core (Some f) h fits = let b = bound_small f.call core.own.layout.cores h in let s = fits.steps in omega arith
 

@@ -12,6 +12,7 @@ use Rattle.lone_kernel.specs.Machine.{Machine, core_at, seat_at, list_at}
 pub record StandsFor (m : Machine) (t : Trace) : Type 0 where
   pub made : IsMade m.setup t
   pub cores : (c : ℕ) → c < m.setup.cores → core_at m c ≡ cores_after m.setup t c
-  pub words : (w : Word) → IsIn (shape_of m.setup) w → shared w ≡ w → slice_index m.words (place_of (shape_of m.setup) w) ≡ last_left m.setup t w
+  pub words : (w : Word) → IsIn (shape_of m.setup) w → shared w ≡ w
+      → slice_index m.words (place_of (shape_of m.setup) w) ≡ last_left m.setup t w
   pub calls : (c : ℕ) → c < m.setup.cores → calls_of t c ≡ take (seat_at m c).begun (list_at m c)
   pub decisions : m.decisions ≡ decisions_of t

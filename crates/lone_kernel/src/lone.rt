@@ -9,7 +9,7 @@
 //!
 //! **Decisions.** A step that decides a call notes the reply at once, so the decisions are in the order of the trace.
 ghost use Rattle.std.specs.Prelude.{◌≡◌, ◌≢◌, ◌↔◌, false, IsSome, None, Some, [], ℕ, ◌+◌, ◌<◌, ◌≤◌, ◌^◌, ◌++◌, IsTrue, All, IfOk, map, sum_by, length, slice_index, slice_set, vec_len, vec_capacity};
-ghost use Rattle.spk_nums.specs.WordSteps.{place_in};
+ghost use Rattle.spk_nums.specs.WordSteps.{place_in, left_by, told_by};
 ghost use Rattle.word_map.specs.Places.{size_of, place_of, shared};
 ghost use Rattle.kernel_history.specs.Trace.{Trace, state_after, decision_at};
 ghost use Rattle.kernel_history.specs.FinalWords.{Represent, word_in, end_in};
@@ -19,7 +19,6 @@ ghost use Rattle.kernel_history.specs.BootWords.{shape_of};
 ghost use Rattle.call_steps.specs.Cores.{end_of};
 ghost use Rattle.core_invariant.specs.Events.{decided_in};
 ghost use Rattle.spk_nums.specs.declared.steps.How.TheVariants.{One, Ready, Decide, Return};
-ghost use Rattle.spk_nums.specs.WordSteps.{left_by, told_by};
 ghost use Rattle.flight.specs.Decided.{is_decided_in};
 ghost use Rattle.lone_kernel.specs.Machine.{IsFitSeat, CanRun, turn_of, begun_by, core_in, said_by, CanTake, MakesTurn, TakesTurn, seat_after, words_after, place_next, decisions_in, IsFinished, IsInCall, HasDecided, IsReady, IsThere, IsDone, list_at, seat_at, core_at, AreLists, AreFresh};
 ghost use Rattle.lone_kernel.specs.Stands.{StandsFor};
@@ -75,7 +74,8 @@ impl Model for LoneKernel {
       lists = map (λ v. v.items) k.lists.items;
       seats = k.seats.items;
       decisions = k.decisions.items;
-    }) × (k.layout ≡ shape_of k.setup) × IsSetting k.setup × (vec_len k.decisions + sum_by (λ seat. seat.due) k.seats.items ≤ vec_capacity k.decisions) };
+    }) × (k.layout ≡ shape_of k.setup) × IsSetting k.setup
+        × (vec_len k.decisions + sum_by (λ seat. seat.due) k.seats.items ≤ vec_capacity k.decisions) };
 }
 
 // A core's next turn: the next call of its list begins where there is none active.
@@ -274,9 +274,12 @@ impl LoneKernel {
     pub fn close(self, alloc: Global) -> Result<Closed, Memory>
         requires { (c : ℕ) → c < self.setup.cores → (core_at self c).active ≡ None }
         ensures layout { IfOk result (λ closed. closed.layout ≡ shape_of self.setup) }
-        ensures size { IfOk result (λ closed. (length closed.words.items ≡ size_of (shape_of self.setup)) × (length closed.ends.items ≡ self.setup.cores)) }
-        ensures represent { IfOk result (λ closed. (t : Trace) → StandsFor self t → Represent (word_in (shape_of self.setup) closed.words.items) (end_in closed.ends.items) (state_after self.setup t)) }
-        ensures counts { IfOk result (λ closed. (t : Trace) → StandsFor self t → RepresentCounts (word_in (shape_of self.setup) closed.words.items) (state_after self.setup t)) }
+        ensures size { IfOk result (λ closed. (length closed.words.items ≡ size_of (shape_of self.setup))
+            × (length closed.ends.items ≡ self.setup.cores)) }
+        ensures represent { IfOk result (λ closed. (t : Trace) → StandsFor self t
+            → Represent (word_in (shape_of self.setup) closed.words.items) (end_in closed.ends.items) (state_after self.setup t)) }
+        ensures counts { IfOk result (λ closed. (t : Trace) → StandsFor self t
+            → RepresentCounts (word_in (shape_of self.setup) closed.words.items) (state_after self.setup t)) }
     {
         let ends = ends_of(alloc, &self.seats)?;
         Ok(Closed {

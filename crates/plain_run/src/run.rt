@@ -4,7 +4,7 @@ ghost use Rattle.spk_nums.specs.CallLimits.{InLimits};
 ghost use Rattle.spk_nums.specs.Texts.{reply_line_text};
 ghost use Rattle.kernel_history.specs.Order.{list_of};
 ghost use Rattle.kernel_history.specs.Text.{plain_text};
-ghost use Rattle.plain_run.specs.Plain.{HasReached, RunsCall, RunsList, RunsLists};
+ghost use Rattle.plain_run.specs.Plain.{HasReached, RunsCall, RunsList, RunsLists, AreRunnable};
 
 use plain_kernel::{SeqKernel, plain_step};
 use plain_tables::tables;
@@ -111,5 +111,3 @@ pub fn plain(alloc: Global, setup: &Setup, lists: &[Vec<Call>]) -> Result<String
     text.push_str(&tables)?;
     Ok(text)
 }
-
-ghost use Rattle.plain_run.specs.Plain.{AreRunnable};

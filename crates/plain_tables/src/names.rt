@@ -1,6 +1,6 @@
 //! The frames to which there are references, each as often as it is referenced.
 
-ghost use Rattle.std.specs.Prelude.{◌≡◌, ◌<◌, ◌++◌, OnOk};
+ghost use Rattle.std.specs.Prelude.{◌≡◌, ◌<◌, ◌++◌, OnOk, [], ◌∷◌, Some, length, slice_get, reverse};
 ghost use Rattle.kernel_rules.specs.State.{Kernel};
 ghost use Rattle.kernel_rules.specs.References.{sum_below, times, named_by, place_names, frame_names, number_names, core_names, refs};
 ghost use Rattle.seq_state.specs.Parts.{place_of, object_of, frame_of, number_of, core_of};
@@ -172,5 +172,3 @@ pub fn push_all(names: &mut Vec<u64>, k: &SeqKernel) -> Result<(), AllocError>
     push_numbers(names, k)?;
     Ok(())
 }
-
-ghost use Rattle.std.specs.Prelude.{[], ◌∷◌, Some, length, slice_get, reverse};

@@ -1,6 +1,6 @@
 //! The lines of objects.
 
-ghost use Rattle.std.specs.Prelude.{◌≡◌, ◌<◌, ◌++◌, OnOk, string_bytes, reverse};
+ghost use Rattle.std.specs.Prelude.{◌≡◌, ◌<◌, ◌++◌, OnOk, string_bytes, reverse, Some, length, slice_get};
 ghost use Rattle.std.specs.List.{flat_map};
 ghost use Rattle.kernel_history.specs.Tables.{number, entry_line, node_lines, comp_line, thread_line, quality_line, tcap_lines};
 ghost use Rattle.seq_state.specs.Parts.{place_of, comp_fields_of, thread_fields_of, tcap_fields_of};
@@ -96,5 +96,3 @@ pub fn push_tcap(text: &mut String, tcap: &TcapFields) -> Result<(), AllocError>
     push_budget(text, tcap.budget)?;
     push_qualities(text, &tcap.qualities)
 }
-
-ghost use Rattle.std.specs.Prelude.{Some, length, slice_get};

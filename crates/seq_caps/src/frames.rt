@@ -1,11 +1,11 @@
 //! The blank frame and the liveness number that a `make` takes, and what becomes of them.
 
-ghost use Rattle.std.specs.Prelude.{◌≡◌, ◌<◌, ◌≤◌, ◌+◌, IfOk};
+ghost use Rattle.std.specs.Prelude.{◌≡◌, ◌<◌, ◌≤◌, ◌+◌, IfOk, [], ◌∷◌};
 ghost use Rattle.spk_nums.specs.Limits.{least_arg, end_of_arg};
 ghost use Rattle.kernel_rules.specs.Access.{found};
 ghost use Rattle.kernel_rules.specs.Rules.{unless, first_cause};
-ghost use Rattle.kernel_rules.specs.CapabilityCalls.{outside, not_blank, cleared, makes, epoch_of, not_taken};
-ghost use Rattle.seq_state.specs.Parts.{object_of};
+ghost use Rattle.kernel_rules.specs.CapabilityCalls.{outside, not_blank, cleared, makes, epoch_of, not_taken, is_blank, is_live};
+ghost use Rattle.seq_state.specs.Parts.{object_of, frame_of, number_of};
 ghost use Rattle.seq_state.specs.Maps.{state_of};
 ghost use Rattle.seq_state.specs.Representation.{Represents};
 ghost use Rattle.seq_lookups.specs.Judged.{judged};
@@ -107,7 +107,4 @@ pub(crate) fn next_epoch(k: &SeqKernel, core: CoreNo, live: u8) -> Result<u16, R
     }
 }
 
-ghost use Rattle.std.specs.Prelude.{[], ◌∷◌};
 ghost use Rattle.kernel_rules.specs.Start.{plain_cap};
-ghost use Rattle.kernel_rules.specs.CapabilityCalls.{is_blank, is_live};
-ghost use Rattle.seq_state.specs.Parts.{frame_of, number_of};

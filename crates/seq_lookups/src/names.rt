@@ -1,8 +1,8 @@
 //! What a call names, and the targets that it asks for.
 
 ghost use Rattle.std.specs.Prelude.{◌≡◌, ◌<◌, ◌≤◌, ◌+◌, IfOk};
-ghost use Rattle.kernel_rules.specs.Access.{held_in};
-ghost use Rattle.kernel_rules.specs.Rules.{named, vacant, not_vacant, held, mapped, of_kind};
+ghost use Rattle.kernel_rules.specs.Access.{held_in, found, only, usable, reached};
+ghost use Rattle.kernel_rules.specs.Rules.{named, vacant, not_vacant, held, mapped, of_kind, and_then, or_refuse, unless, refusal_of};
 ghost use Rattle.seq_state.specs.Parts.{place_of, thing_of};
 ghost use Rattle.seq_state.specs.Maps.{state_of};
 ghost use Rattle.seq_lookups.specs.Judged.{judged, wants};
@@ -183,7 +183,5 @@ pub fn mapped(k: &SeqKernel, core: CoreNo, root: FrameNo, page: PageNo) -> Resul
 }
 
 ghost use Rattle.kernel_rules.specs.State.{PlaceOf};
-ghost use Rattle.kernel_rules.specs.Access.{found, only, usable, reached};
-ghost use Rattle.kernel_rules.specs.Rules.{and_then, or_refuse, unless, refusal_of};
 ghost use Rattle.kernel_rules.specs.CapabilityCalls.{outside};
 ghost use Rattle.spk_nums.specs.declared.replies.Reply.TheVariants.{Empty};

@@ -1,8 +1,8 @@
 //! Slots, and how a core reaches them.
 
-ghost use Rattle.std.specs.Prelude.{◌≡◌, ◌<◌, ◌≤◌};
+ghost use Rattle.std.specs.Prelude.{◌≡◌, ◌<◌, ◌≤◌, Some};
 ghost use Rattle.kernel_rules.specs.Access.{place_at, usable, usable_in, linked, slot_in, reached, root_slot};
-ghost use Rattle.seq_state.specs.Parts.{place_of};
+ghost use Rattle.seq_state.specs.Parts.{place_of, thing_of};
 ghost use Rattle.seq_state.specs.Maps.{state_of};
 ghost use Rattle.seq_lookups.specs.Places.{target_of};
 
@@ -173,7 +173,5 @@ pub fn reached(k: &SeqKernel, core: CoreNo, target: Target) -> Option<Slot>
     }
 }
 
-ghost use Rattle.std.specs.Prelude.{Some};
 ghost use Rattle.kernel_rules.specs.State.{PlaceOf};
-ghost use Rattle.seq_state.specs.Parts.{thing_of};
 ghost use Rattle.seq_state.specs.Representation.{HasIndex};

@@ -1,12 +1,12 @@
 //! What stands against the retype of a frame, and against mapping it.
 
-ghost use Rattle.std.specs.Prelude.{◌≡◌, ◌<◌, ◌≤◌, ◌+◌, [], ◌∷◌, length, not, IfOk};
+ghost use Rattle.std.specs.Prelude.{◌≡◌, ◌<◌, ◌≤◌, ◌+◌, [], ◌∷◌, length, not, IfOk, is_some};
 ghost use Rattle.spk_nums.specs.declared.kinds.FrameKind.TheVariants as frame_kind;
-ghost use Rattle.kernel_rules.specs.Access.{found};
+ghost use Rattle.kernel_rules.specs.Access.{found, held_in};
 ghost use Rattle.kernel_rules.specs.Rules.{unless, first_cause};
 ghost use Rattle.kernel_rules.specs.CapabilityCalls.{outside};
 ghost use Rattle.kernel_rules.specs.MemoryCalls.{is_untyped, is_user, holds_nothing, is_empty_object, is_empty, not_retyped, not_user};
-ghost use Rattle.seq_state.specs.Parts.{object_of, frame_of};
+ghost use Rattle.seq_state.specs.Parts.{object_of, frame_of, place_of};
 ghost use Rattle.seq_state.specs.Maps.{state_of};
 ghost use Rattle.seq_lookups.specs.Judged.{judged};
 
@@ -135,7 +135,3 @@ pub(crate) fn user_in(k: &SeqKernel, range: &Cap, frame: FrameArg) -> Result<Fra
         Err(Reply::FrameKind)
     }
 }
-
-ghost use Rattle.std.specs.Prelude.{is_some};
-ghost use Rattle.kernel_rules.specs.Access.{held_in};
-ghost use Rattle.seq_state.specs.Parts.{place_of};

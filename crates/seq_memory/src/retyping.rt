@@ -1,6 +1,6 @@
 //! Retyping a frame.
 
-ghost use Rattle.std.specs.Prelude.{◌≡◌, ◌<◌, ◌≤◌, length};
+ghost use Rattle.std.specs.Prelude.{◌≡◌, ◌<◌, ◌≤◌, length, [], ◌∷◌};
 ghost use Rattle.spk_nums.specs.declared.calls.Call.TheVariants.{Retype};
 ghost use Rattle.spk_nums.specs.declared.kinds.FrameKind.TheVariants as frame_kind;
 ghost use Rattle.kernel_rules.specs.State.{thread_in};
@@ -139,5 +139,3 @@ pub(crate) fn retype(
     let frame = frame_in(k, &range, f)?;
     retype_frame(k, core, frame, kind)
 }
-
-ghost use Rattle.std.specs.Prelude.{[], ◌∷◌};

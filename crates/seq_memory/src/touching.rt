@@ -3,7 +3,7 @@
 //! A core answers a touch from its cached translations, first of all; a walk of the page table caches what it finds, as long
 //! as the core has room.
 
-ghost use Rattle.std.specs.Prelude.{◌≡◌, ◌<◌};
+ghost use Rattle.std.specs.Prelude.{◌≡◌, ◌<◌, ◌&&◌, ◌==◌, Some, length, slice_get};
 ghost use Rattle.spk_nums.specs.declared.calls.Call.TheVariants.{Touch, Flush};
 ghost use Rattle.spk_nums.specs.declared.kinds.Kind.TheVariants as kind;
 ghost use Rattle.kernel_rules.specs.Rules.{Found};
@@ -112,5 +112,3 @@ pub(crate) fn flush(k: &mut SeqKernel, core: CoreNo) -> Result<Value, Reply>
     k.flush(core);
     Ok(Value::Nothing)
 }
-
-ghost use Rattle.std.specs.Prelude.{◌&&◌, ◌==◌, Some, length, slice_get};

@@ -1,5 +1,5 @@
 //! The plain state on its happy paths, at the smallest and at the largest machine.
-ghost use Rattle.std.specs.Prelude.{◌<◌};
+ghost use Rattle.std.specs.Prelude.{◌<◌, ◌≡◌};
 
 use crate::{Core, Frame, Grace, Liveness, Object, Place, SeqKernel, Stack, Thing};
 use spk_nums::{Cap, CoreNo, CoreSet, EntryNo, FrameNo, Grant, Grants, Kind, Setup};
@@ -180,5 +180,4 @@ fn stacks(rt: HostRuntime) {
     assert_eq!(rt; stack, Stack::one(FrameNo::new(3)));
 }
 
-ghost use Rattle.std.specs.Prelude.{◌≡◌};
 ghost use Rattle.spk_nums.specs.Limits.{least_arg, end_of_arg};

@@ -1,7 +1,7 @@
 //! Gates, killing, calling and returning.
 
 ghost use Rattle.std.specs.Prelude.{◌≡◌, ◌<◌, ◌≤◌, ◌∷◌, [], length};
-ghost use Rattle.kernel_rules.specs.State.{comp_in};
+ghost use Rattle.kernel_rules.specs.State.{comp_in, FrameOf, NumberOf, Dead, with_number};
 ghost use Rattle.kernel_rules.specs.GracePeriods.{begun};
 ghost use Rattle.kernel_rules.specs.InvocationCalls.{is_live_in, with_thread, with_stack};
 ghost use Rattle.kernel_rules.specs.CallRelation.{change_of};
@@ -159,5 +159,4 @@ pub(crate) fn ret(k: &mut SeqKernel, core: CoreNo) -> Result<Value, Reply>
     Ok(Value::Nothing)
 }
 
-ghost use Rattle.kernel_rules.specs.State.{FrameOf, NumberOf, Dead, with_number};
 ghost use Rattle.spk_nums.specs.declared.kinds.Kind.TheVariants as kinds;

@@ -2,7 +2,7 @@
 
 ghost use Rattle.std.specs.Prelude.{◌≡◌, ◌<◌, ◌≤◌, ◌+◌, ◌^◌};
 ghost use Rattle.kernel_rules.specs.Rules.{outcome};
-ghost use Rattle.kernel_rules.specs.TimeCalls.{charge, with_budget, tick_rule, tcap_at};
+ghost use Rattle.kernel_rules.specs.TimeCalls.{charge, with_budget, tick_rule, tcap_at, charges};
 ghost use Rattle.seq_state.specs.Maps.{state_of};
 ghost use Rattle.seq_state.specs.Representation.{Represents};
 ghost use Rattle.seq_lookups.specs.Carried.{IsCarriedOut};
@@ -70,5 +70,4 @@ pub(crate) fn tick(k: &mut SeqKernel, core: CoreNo, ticks: u32) -> Value
     Value::Amount(charged)
 }
 
-ghost use Rattle.kernel_rules.specs.TimeCalls.{charges};
 ghost use Rattle.spk_nums.specs.declared.replies.Reply.TheVariants.{Ok};

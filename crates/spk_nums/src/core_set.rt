@@ -1,6 +1,6 @@
 //! Sets of cores.
 
-ghost use Rattle.std.specs.Prelude.{◌≡◌, ◌<◌, ◌==◌, ◌||◌, false, if◌then◌else◌};
+ghost use Rattle.std.specs.Prelude.{◌≡◌, ◌<◌, ◌==◌, ◌||◌, false, if◌then◌else◌, ℕ, true};
 ghost use Rattle.spk_nums.specs.CoreSets.{has_core};
 
 use crate::numbers::CoreNo;
@@ -41,5 +41,3 @@ impl CoreSet {
         CoreSet(self.0 & !(1 << core.number()))
     }
 }
-
-ghost use Rattle.std.specs.Prelude.{ℕ, true};

@@ -1,6 +1,6 @@
 //! Lists of qualities: for each scheduler through which time came, how good it is there.
 
-ghost use Rattle.std.specs.Prelude.{◌≡◌, ◌<◌, ◌≤◌, ◌^◌, [], ◌∷◌, ◌++◌, length, slice_get, if◌then◌else◌};
+ghost use Rattle.std.specs.Prelude.{◌≡◌, ◌<◌, ◌≤◌, ◌^◌, [], ◌∷◌, ◌++◌, length, slice_get, if◌then◌else◌, nat_lt};
 ghost use Rattle.spk_nums.specs.Qualities.{IsQualityList, takes_pair};
 
 use std::marker::Model;
@@ -105,5 +105,4 @@ impl Qualities {
     }
 }
 
-ghost use Rattle.std.specs.Prelude.{nat_lt};
 ghost use Rattle.std.specs.List.{list_all};

@@ -1,6 +1,6 @@
 //! What a machine is booted with.
 
-ghost use Rattle.std.specs.Prelude.{◌≡◌, ◌<◌, ◌≤◌, ◌+◌, ◌*◌, ◌^◌, length};
+ghost use Rattle.std.specs.Prelude.{◌≡◌, ◌<◌, ◌≤◌, ◌+◌, ◌*◌, ◌^◌, length, IsTrue, ◌↔◌, All};
 ghost use Rattle.std.specs.Option.{SomeIff};
 ghost use Rattle.spk_nums.specs.Setting.{Setting, IsSetting, GrantFits};
 
@@ -119,5 +119,3 @@ fn grants_fit(grants: &[Grant]) -> bool
     }
     true
 }
-
-ghost use Rattle.std.specs.Prelude.{IsTrue, ◌↔◌, All};

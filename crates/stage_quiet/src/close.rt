@@ -163,9 +163,9 @@ fn compared(same: bool) -> StageEnd<Stamp>
     }
 }
 
-// The stamp that is drawn from a clock, at least 1.
+/// The stamp that is drawn from a clock, at least 1.
 #[inline]
-fn drawn(clock: u64) -> Stamp
+pub fn drawn(clock: u64) -> Stamp
     ensures { result ≡ drawn_stamp clock }
 {
     if clock == 0 {

@@ -5,6 +5,6 @@ mod close;
 mod flush_mark;
 mod quiet;
 
-pub use close::Close;
+pub use close::{Close, drawn};
 pub use flush_mark::FlushMark;
 pub use quiet::Quiet;

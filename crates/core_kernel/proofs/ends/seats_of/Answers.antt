@@ -11,8 +11,11 @@ loop-seat-init c = c.in_ok-seats.ensures.items
 
 pub invariant_of-push : goal.invariant_of-push
 invariant_of-push c =
-    let turn = YieldsList-turn (YieldsList-from_vec {s = c.into_iter-seat-iterator.result} c.args.turn_seats.items (search rules) (search rules)) c.loop-seat.yielded c.loop-seat.seat-iterator c.loop-seat.yielded_by c.next.result c.next.new.self c.in-Some.seat c.in-Some.is c.next.ensures.steps in
-    subst (IsSeat c.args.setup.now) (sym turn.1) (All-get_or (IsSeat c.args.setup.now) c.args.turn_seats.items (length c.loop-seat.yielded) c.in-Some.seat turn.0 c.requires)
+    let turn = YieldsList-turn (YieldsList-from_vec {s = c.into_iter-seat-iterator.result} c.args.turn_seats.items (search rules)
+    (search rules)) c.loop-seat.yielded c.loop-seat.seat-iterator c.loop-seat.yielded_by c.next.result c.next.new.self
+    c.in-Some.seat c.in-Some.is c.next.ensures.steps in
+    subst (IsSeat c.args.setup.now) (sym turn.1) (All-get_or (IsSeat c.args.setup.now) c.args.turn_seats.items
+    (length c.loop-seat.yielded) c.in-Some.seat turn.0 c.requires)
 
 pub loop-seat-preserved : goal.loop-seat-preserved
 loop-seat-preserved c =
@@ -22,5 +25,7 @@ loop-seat-preserved c =
 
 pub returns : goal.returns
 returns c =
-    let end = YieldsList-end (YieldsList-from_vec {s = c.into_iter-seat-iterator.result} c.args.turn_seats.items (search rules) (search rules)) c.loop-seat.yielded c.loop-seat.seat-iterator c.loop-seat.yielded_by c.next.result c.next.new.self c.in-None.is c.next.ensures.steps in
+    let end = YieldsList-end (YieldsList-from_vec {s = c.into_iter-seat-iterator.result} c.args.turn_seats.items (search rules)
+    (search rules)) c.loop-seat.yielded c.loop-seat.seat-iterator c.loop-seat.yielded_by c.next.result c.next.new.self c.in-None.is
+    c.next.ensures.steps in
     c.loop-seat.invariant ∙ ap (map (seat_value c.args.setup.now)) (sym (map-id c.loop-seat.yielded) ∙ end.0)

@@ -15,18 +15,26 @@ loop-one-init c = let none = c.in_ok-turn_seats.ensures.items in record {
 
 pub loop-one-preserved : goal.loop-one-preserved
 loop-one-preserved c =
-    let turn = YieldsList-turn (YieldsList-from_vec {s = c.into_iter-one-iterator.result} c.args.seats.items (search rules) (search rules)) c.loop-one.yielded c.loop-one.one-iterator c.loop-one.yielded_by c.next.result c.next.new.self c.in-Some.one c.in-Some.is c.next.ensures.steps in
+    let turn = YieldsList-turn (YieldsList-from_vec {s = c.into_iter-one-iterator.result} c.args.seats.items (search rules)
+    (search rules)) c.loop-one.yielded c.loop-one.one-iterator c.loop-one.yielded_by c.next.result c.next.new.self c.in-Some.one
+    c.in-Some.is c.next.ensures.steps in
     let v = c.args.setup.now in
-    let of_v = subst (λ (s : CoreSeatValue). s.kernel.setup ≡ v) (sym turn.1) (All-get_or (λ (s : CoreSeatValue). s.kernel.setup ≡ v) c.args.seats.items (length c.loop-one.yielded) c.in-Some.one turn.0 c.requires) in
+    let of_v = subst (λ (s : CoreSeatValue). s.kernel.setup ≡ v) (sym turn.1)
+    (All-get_or (λ (s : CoreSeatValue). s.kernel.setup ≡ v) c.args.seats.items
+    (length c.loop-one.yielded) c.in-Some.one turn.0 c.requires) in
     let same : c.one.inside.setup ≡ v = ap (λ s. s.kernel.setup) c.one.view_is ∙ of_v in
     let inner = c.one.inside.seat in
     let is : seat_value v inner ≡ c.in-Some.one = ap (λ x. seat_value x inner) (sym same) ∙ c.one.view_is in
     let i = c.loop-one.invariant in record {
-      same = ap (map (seat_value v)) c.in_ok-push.ensures.items ∙ map-append (seat_value v) c.loop-one.turn_seats.items (inner ∷ []) ∙ (λ j. i.same j ++ is j ∷ []);
-      each = subst (All (IsSeat v)) (sym c.in_ok-push.ensures.items) (All-push (IsSeat v) c.loop-one.turn_seats.items inner i.each (subst (λ x. IsSeat x inner) same c.one.invariant));
+      same = ap (map (seat_value v)) c.in_ok-push.ensures.items ∙ map-append (seat_value v) c.loop-one.turn_seats.items (inner ∷ [])
+          ∙ (λ j. i.same j ++ is j ∷ []);
+      each = subst (All (IsSeat v)) (sym c.in_ok-push.ensures.items)
+          (All-push (IsSeat v) c.loop-one.turn_seats.items inner i.each (subst (λ x. IsSeat x inner) same c.one.invariant));
     }
 
 pub returns : goal.returns
 returns c =
-    let end = YieldsList-end (YieldsList-from_vec {s = c.into_iter-one-iterator.result} c.args.seats.items (search rules) (search rules)) c.loop-one.yielded c.loop-one.one-iterator c.loop-one.yielded_by c.next.result c.next.new.self c.in-None.is c.next.ensures.steps in
+    let end = YieldsList-end (YieldsList-from_vec {s = c.into_iter-one-iterator.result} c.args.seats.items (search rules)
+    (search rules)) c.loop-one.yielded c.loop-one.one-iterator c.loop-one.yielded_by c.next.result c.next.new.self c.in-None.is
+    c.next.ensures.steps in
     subst (λ l. AreWrapped c.args.setup.now c.loop-one.turn_seats.items l) (sym (map-id c.loop-one.yielded) ∙ end.0) c.loop-one.invariant

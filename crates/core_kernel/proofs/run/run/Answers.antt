@@ -10,7 +10,8 @@ loop-made-init g c =
     let r = c.runner.inside in
     let v : RunnerValue = record { seat = r.seat; calls = r.calls.items; replies = r.replies.items; held = r.held } in
     record {
-      made = made_none v (ap (λ x. x.replies) c.runner.view_is ∙ c.requires.none) (ap (λ x. x.held) c.runner.view_is ∙ c.requires.free) c.front-core.ensures.seen;
+      made = made_none v (ap (λ x. x.replies) c.runner.view_is ∙ c.requires.none) (ap (λ x. x.held) c.runner.view_is
+          ∙ c.requires.free) c.front-core.ensures.seen;
       room = omega arith;
     }
 
@@ -19,14 +20,22 @@ invariant_of-runner g c =
     let i = c.loop-made.invariant in
     let more = i.room in
     let was = c.runner.invariant.room_for_all in
-    subst (λ l. IsRunner l (vec_capacity c.loop-made.runner-inside.replies)) (sym i.made.list) record { fit = c.runner.invariant.fit; few = c.runner.invariant.few; room_for_all = omega arith }
+    subst (λ l. IsRunner l (vec_capacity c.loop-made.runner-inside.replies)) (sym i.made.list) record {
+      fit = c.runner.invariant.fit;
+      few = c.runner.invariant.few;
+      room_for_all = omega arith;
+    }
 
 pub invariant_of-runner-then-not-may_go : goal.invariant_of-runner-then-not-may_go
 invariant_of-runner-then-not-may_go g c =
     let i = c.loop-made.invariant in
     let more = i.room in
     let was = c.runner.invariant.room_for_all in
-    subst (λ l. IsRunner l (vec_capacity c.loop-made.runner-inside.replies)) (sym i.made.list) record { fit = c.runner.invariant.fit; few = c.runner.invariant.few; room_for_all = omega arith }
+    subst (λ l. IsRunner l (vec_capacity c.loop-made.runner-inside.replies)) (sym i.made.list) record {
+      fit = c.runner.invariant.fit;
+      few = c.runner.invariant.few;
+      room_for_all = omega arith;
+    }
 
 pub returns-then-not-may_go : goal.returns-then-not-may_go
 returns-then-not-may_go g c =
@@ -38,7 +47,8 @@ returns-then-not-may_go g c =
     let end : c.len-made-end.result ≡ length r.calls.items = c.len-made-end.ensures ∙ r.calls.ok.0 in
     let test : c.loop-made.made < c.len-made-end.result = c.loop-made-test.true in
     subst (λ x. MakesCalls (g.G.Gate.is_free c.args.gate.now) x w) c.runner.view_is
-    (stops_held (g.G.Gate.is_free c.args.gate.now) u v w c.loop-made.made c.loop-made.invariant.made (omega arith) refl (λ free. not_true c.may_go.result c.if-not-may_go.true (c.may_go.ensures free)))
+    (stops_held (g.G.Gate.is_free c.args.gate.now) u v w c.loop-made.made c.loop-made.invariant.made (omega arith) refl
+    (λ free. not_true c.may_go.result c.if-not-may_go.true (c.may_go.ensures free)))
 
 pub call-reply-requires-clause-kernel : goal.call-reply-requires-clause-kernel
 call-reply-requires-clause-kernel g c = c.loop-made.invariant.made.kernel ∙ ap (λ x. x.seat.kernel) c.runner.view_is ∙ c.requires.kernel
@@ -50,7 +60,8 @@ call-reply-requires-clause-limits g c =
     let end : c.len-made-end.result ≡ length r.calls.items = c.len-made-end.ensures ∙ r.calls.ok.0 in
     let test : c.loop-made.made < c.len-made-end.result = c.loop-made-test.true in
     let low : c.loop-made.made < length r.calls.items = omega arith in
-    let at : x ≡ get_or r.calls.items c.loop-made.made x = c.index.ensures ∙ ap (λ l. get_or l c.loop-made.made x) c.loop-made.invariant.made.list in
+    let at : x ≡ get_or r.calls.items c.loop-made.made x = c.index.ensures
+    ∙ ap (λ l. get_or l c.loop-made.made x) c.loop-made.invariant.made.list in
     (subst CanCall (sym at) (All-get_or CanCall r.calls.items c.loop-made.made x low c.runner.invariant.fit)).limits
 
 pub call-reply-requires-clause-built : goal.call-reply-requires-clause-built
@@ -60,7 +71,8 @@ call-reply-requires-clause-built g c =
     let end : c.len-made-end.result ≡ length r.calls.items = c.len-made-end.ensures ∙ r.calls.ok.0 in
     let test : c.loop-made.made < c.len-made-end.result = c.loop-made-test.true in
     let low : c.loop-made.made < length r.calls.items = omega arith in
-    let at : x ≡ get_or r.calls.items c.loop-made.made x = c.index.ensures ∙ ap (λ l. get_or l c.loop-made.made x) c.loop-made.invariant.made.list in
+    let at : x ≡ get_or r.calls.items c.loop-made.made x = c.index.ensures
+    ∙ ap (λ l. get_or l c.loop-made.made x) c.loop-made.invariant.made.list in
     (subst CanCall (sym at) (All-get_or CanCall r.calls.items c.loop-made.made x low c.runner.invariant.fit)).built
 
 pub keep-requires : goal.keep-requires
@@ -83,7 +95,12 @@ loop-made-preserved g c =
     let x = c.index.result.now in
     let u : RunnerValue = record { seat = r.seat; calls = r.calls.items; replies = r.replies.items; held = r.held } in
     let v : RunnerValue = record { seat = n.seat; calls = n.calls.items; replies = n.replies.items; held = n.held } in
-    let w : RunnerValue = record { seat = c.call-reply.new.seat; calls = n.calls.items; replies = c.keep.new.replies.items; held = n.held } in
+    let w : RunnerValue = record {
+      seat = c.call-reply.new.seat;
+      calls = n.calls.items;
+      replies = c.keep.new.replies.items;
+      held = n.held;
+    } in
     let end : c.len-made-end.result ≡ length r.calls.items = c.len-made-end.ensures ∙ r.calls.ok.0 in
     let test : c.loop-made.made < c.len-made-end.result = c.loop-made-test.true in
     let low : c.loop-made.made < length r.calls.items = omega arith in
@@ -91,7 +108,8 @@ loop-made-preserved g c =
     let before = i.room in
     let more = c.keep.ensures.room in
     record {
-      made = made_more u v w c.loop-made.made x c.call-reply.result i.made low at c.call-reply.ensures.makes c.call-reply.ensures.seen c.keep.ensures.items refl refl;
+      made = made_more u v w c.loop-made.made x c.call-reply.result i.made low at c.call-reply.ensures.makes c.call-reply.ensures.seen
+          c.keep.ensures.items refl refl;
       room = omega arith;
     }
 

@@ -6,11 +6,13 @@ use Rattle.core_kernel.proofs.seat.CoreSeat.front.Goals as goal
 
 pub returns-clause-core : goal.returns-clause-core
 returns-clause-core c =
-    c.core.ensures ∙ ap (λ p. p.state.own.core) c.program-program.ensures.program ∙ front_core c.self.inside.setup c.self.inside.seat c.self.invariant ∙ ap (λ s. s.core) c.self.view_is
+    c.core.ensures ∙ ap (λ p. p.state.own.core) c.program-program.ensures.program
+    ∙ front_core c.self.inside.setup c.self.inside.seat c.self.invariant ∙ ap (λ s. s.core) c.self.view_is
 
 pub returns-clause-calls : goal.returns-clause-calls
 returns-clause-calls c =
-    c.made.ensures ∙ ap (λ p. p.state.own.made) c.program-program.ensures.program ∙ front_calls c.self.inside.setup c.self.inside.seat c.self.invariant
+    c.made.ensures ∙ ap (λ p. p.state.own.made) c.program-program.ensures.program
+    ∙ front_calls c.self.inside.setup c.self.inside.seat c.self.invariant
     ∙ ap (λ s. ((state_after s.kernel.setup s.seen).core s.core).counted) c.self.view_is
 
 pub returns-clause-seen : goal.returns-clause-seen

@@ -25,8 +25,10 @@ returns-clause-represent c t stands =
     let m = c.args.self in
     let fit : IsFit m = subst IsFit c.self.view_is c.self.invariant.0 in
     let setting = ap (λ x. x.setup) c.self.view_is in
-    let ends = c.in_ok-ends.ensures ∙ ap (λ l. map (λ seat. end_of seat.state) l) (c.deref.ensures.value ∙ ap (λ x. x.seats) c.self.view_is) in
-    subst (λ w. Represent (word_in (shape_of m.setup) w) (end_in c.in_ok-ends.ends.items) (state_after m.setup t)) (sym (ap (λ x. x.words) c.self.view_is))
+    let ends = c.in_ok-ends.ensures ∙ ap (λ l. map (λ seat. end_of seat.state) l) (c.deref.ensures.value
+    ∙ ap (λ x. x.seats) c.self.view_is) in
+    subst (λ w. Represent (word_in (shape_of m.setup) w) (end_in c.in_ok-ends.ends.items) (state_after m.setup t))
+    (sym (ap (λ x. x.words) c.self.view_is))
     (subst (λ e. Represent (word_in (shape_of m.setup) m.words) (end_in e) (state_after m.setup t)) (sym ends)
     (closes m (subst IsSetting setting c.self.invariant.2) fit.seats c.requires t stands))
 

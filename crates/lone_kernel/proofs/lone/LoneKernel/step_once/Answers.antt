@@ -12,7 +12,13 @@ use Rattle.lone_kernel.proofs.lone.LoneKernel.step_once.Goals as goal
 use Rattle.lone_kernel.proofs.lone.LoneKernel.step_once.Goals.{In-Some, After-take-arg-2-1, After-note}
 
 abbrev machine : In-Some → Machine
-machine c = record { setup = c.self.inside.setup; words = c.self.inside.words.items; lists = map (λ v. v.items) c.self.inside.lists.items; seats = c.self.inside.seats.items; decisions = c.self.inside.decisions.items }
+machine c = record {
+  setup = c.self.inside.setup;
+  words = c.self.inside.words.items;
+  lists = map (λ v. v.items) c.self.inside.lists.items;
+  seats = c.self.inside.seats.items;
+  decisions = c.self.inside.decisions.items;
+}
 
 at : (c : In-Some) → c.from-at.result < c.self.inside.setup.cores
 at c =
@@ -25,36 +31,46 @@ at c =
 -- a seat read at the core's place
 module _ (c : In-Some) (k : Seat) (k_is : k ≡ get_or c.self.inside.seats.items c.from-at.result k) where
   pub lent_is : seat_at (machine c) c.from-at.result ≡ k
-  lent_is = seat_is (λ v. v.items) c.self.inside.setup c.self.inside.words.items c.self.inside.lists.items c.self.inside.seats.items c.self.inside.decisions.items
+  lent_is = seat_is (λ v.
+      v.items) c.self.inside.setup c.self.inside.words.items c.self.inside.lists.items c.self.inside.seats.items
+      c.self.inside.decisions.items
       c.from-at.result c.index.result.now k c.self.invariant.0 (at c) c.index.ensures k_is
 
   pub fit_lent : IsFitSeat c.self.inside.setup c.index.result.now.items c.from-at.result k
-  fit_lent = fit_here (λ v. v.items) c.self.inside.setup c.self.inside.words.items c.self.inside.lists.items c.self.inside.seats.items c.self.inside.decisions.items
+  fit_lent = fit_here (λ v.
+      v.items) c.self.inside.setup c.self.inside.words.items c.self.inside.lists.items c.self.inside.seats.items
+      c.self.inside.decisions.items
       c.from-at.result c.index.result.now k c.self.invariant.0 (at c) c.index.ensures k_is
 
   pub begins_lent : turn_of c.index.result.now.items k ≡ Some c.in-Some.turn
   begins_lent =
       let read : seat_at (machine c) c.from-at.result ≡ c.index-2.result.now =
-      seat_is (λ v. v.items) c.self.inside.setup c.self.inside.words.items c.self.inside.lists.items c.self.inside.seats.items c.self.inside.decisions.items
+      seat_is (λ v. v.items) c.self.inside.setup c.self.inside.words.items c.self.inside.lists.items c.self.inside.seats.items
+      c.self.inside.decisions.items
       c.from-at.result c.index.result.now c.index-2.result.now c.self.invariant.0 (at c) c.index.ensures c.index-2.ensures in
       ap (turn_of c.index.result.now.items) (sym lent_is ∙ read) ∙ sym c.turn.ensures ∙ c.in-Some.is
 
   pub begins_at : turn_at (machine c) c.from-at.result ≡ Some c.in-Some.turn
-  begins_at = turn_here (λ v. v.items) c.self.inside.setup c.self.inside.words.items c.self.inside.lists.items c.self.inside.seats.items c.self.inside.decisions.items
+  begins_at = turn_here
+      (λ v. v.items) c.self.inside.setup c.self.inside.words.items c.self.inside.lists.items c.self.inside.seats.items
+      c.self.inside.decisions.items
       c.from-at.result c.index.result.now k c.self.invariant.0 (at c) c.index.ensures k_is c.in-Some.turn begins_lent
 
   pub of_lent : IsOf c.index.result.now.items k c.in-Some.turn
   of_lent = turn_is c.self.inside.setup c.index.result.now.items c.from-at.result k c.in-Some.turn fit_lent
-      (calls_here (λ v. v.items) c.self.inside.setup c.self.inside.words.items c.self.inside.lists.items c.self.inside.seats.items c.self.inside.decisions.items
+      (calls_here (λ v. v.items) c.self.inside.setup c.self.inside.words.items c.self.inside.lists.items c.self.inside.seats.items
+      c.self.inside.decisions.items
       c.from-at.result c.index.result.now k c.self.invariant.0 (at c) c.index.ensures k_is) begins_lent
 
 pub take-absorbed-requires-clause-can : goal.take-absorbed-requires-clause-can
-take-absorbed-requires-clause-can c = let i = (goal.at.take-absorbed-requires-clause-can c).In-Some in (of_lent i c.index_mut.result.now c.index_mut.ensures.value).can
+take-absorbed-requires-clause-can c = let i = (goal.at.take-absorbed-requires-clause-can c).In-Some in
+    (of_lent i c.index_mut.result.now c.index_mut.ensures.value).can
 
 pub take-absorbed-requires-clause-due : goal.take-absorbed-requires-clause-due
 take-absorbed-requires-clause-due c h =
     let i = (goal.at.take-absorbed-requires-clause-due c).In-Some in
-    undecided_due c.index.result.now.items c.index_mut.result.now c.in-Some.turn (of_lent i c.index_mut.result.now c.index_mut.ensures.value) h
+    undecided_due c.index.result.now.items c.index_mut.result.now c.in-Some.turn
+    (of_lent i c.index_mut.result.now c.index_mut.ensures.value) h
 
 -- behind the turn
 module _ (i : In-Some) (k seat' read : Seat) (k_is : k ≡ get_or i.self.inside.seats.items i.from-at.result k)
@@ -68,7 +84,8 @@ module _ (i : In-Some) (k seat' read : Seat) (k_is : k ≡ get_or i.self.inside.
 pub overflow_cast-index : goal.overflow_cast-index
 overflow_cast-index c =
     let i = (goal.at.overflow_cast-index c).In-Some in
-    let read = read_same i c.index_mut.result.now c.take-absorbed.new.seat c.index-3.result.now c.index_mut.ensures.value c.index-3.ensures in
+    let read = read_same i c.index_mut.result.now c.take-absorbed.new.seat c.index-3.result.now c.index_mut.ensures.value
+    c.index-3.ensures in
     let same = ap (λ s. s.begun) read ∙ ap (λ s. s.begun) c.take-absorbed.ensures.takes.behind in
     let within = (of_lent i c.index_mut.result.now c.index_mut.ensures.value).within in
     let small = (fit_lent i c.index_mut.result.now c.index_mut.ensures.value).small in
@@ -81,9 +98,13 @@ note-requires c some =
     let a = at i in
     let seats = i.self.invariant.0.seats in
     let lent = lent_is i c.index_mut.result.now c.index_mut.ensures.value in
-    let on = due_on (machine i) c.from-at.result c.in-Some.turn i.self.invariant.0 (at i) (begins_at i c.index_mut.result.now c.index_mut.ensures.value) in
-    let takes = takes_here (λ v. v.items) c.self.inside.setup c.self.inside.words.items c.self.inside.lists.items c.self.inside.seats.items c.self.inside.decisions.items
-    c.from-at.result c.index.result.now c.index_mut.result.now i.self.invariant.0 (at i) c.index.ensures c.index_mut.ensures.value c.self.inside.layout c.in-Some.turn c.take-absorbed.new.seat
+    let on = due_on (machine i) c.from-at.result c.in-Some.turn i.self.invariant.0 (at i)
+    (begins_at i c.index_mut.result.now c.index_mut.ensures.value) in
+    let takes = takes_here
+    (λ v. v.items) c.self.inside.setup c.self.inside.words.items c.self.inside.lists.items c.self.inside.seats.items
+    c.self.inside.decisions.items
+    c.from-at.result c.index.result.now c.index_mut.result.now i.self.invariant.0
+    (at i) c.index.ensures c.index_mut.ensures.value c.self.inside.layout c.in-Some.turn c.take-absorbed.new.seat
     c.take-absorbed.new.words.items c.take-absorbed.result c.take-absorbed.ensures.takes i.self.invariant.1 in
     let told = ap decisions_in takes.told in
     let room = i.self.invariant.3 in
@@ -93,7 +114,13 @@ abbrev before : After-note → In-Some
 before c = (goal.at.returns-clause-goes c).In-Some
 
 abbrev now : After-note → Machine
-now c = record { setup = c.self.inside.setup; words = c.take-absorbed.new.words.items; lists = map (λ v. v.items) c.self.inside.lists.items; seats = slice_set c.self.inside.seats.items c.from-at.result c.take-absorbed.new.seat; decisions = c.note.new.decisions.items }
+now c = record {
+  setup = c.self.inside.setup;
+  words = c.take-absorbed.new.words.items;
+  lists = map (λ v. v.items) c.self.inside.lists.items;
+  seats = slice_set c.self.inside.seats.items c.from-at.result c.take-absorbed.new.seat;
+  decisions = c.note.new.decisions.items;
+}
 
 core_is : (c : After-note) → c.from-at.result ≡ c.args.core
 core_is c = let n = c.number.ensures.value in let f = c.from-at.ensures in omega arith
@@ -102,26 +129,40 @@ turn_at_core : (c : After-note) → turn_at (machine (before c)) c.from-at.resul
 turn_at_core c = begins_at (before c) c.index_mut.result.now c.index_mut.ensures.value
 
 index_is : (c : After-note) → c.index-3.result.now.begun ≡ c.take-absorbed.new.seat.begun
-index_is c = ap (λ s. s.begun) (read_same (before c) c.index_mut.result.now c.take-absorbed.new.seat c.index-3.result.now c.index_mut.ensures.value c.index-3.ensures)
+index_is c = ap (λ s. s.begun)
+    (read_same (before c) c.index_mut.result.now c.take-absorbed.new.seat c.index-3.result.now c.index_mut.ensures.value c.index-3.ensures)
 
 made_now : (c : After-note) → now c ≡ stepped (machine (before c)) c.from-at.result c.in-Some.turn
-made_now c = stepped_is (λ v. v.items) c.self.inside.setup c.self.inside.words.items c.self.inside.lists.items c.self.inside.seats.items c.self.inside.decisions.items
-    c.from-at.result c.index.result.now c.index_mut.result.now (before c).self.invariant.0 (at (before c)) c.index.ensures c.index_mut.ensures.value c.self.inside.layout c.in-Some.turn
-    c.take-absorbed.new.seat c.take-absorbed.new.words.items c.take-absorbed.result c.take-absorbed.ensures.takes (before c).self.invariant.1
+made_now c = stepped_is
+    (λ v. v.items) c.self.inside.setup c.self.inside.words.items c.self.inside.lists.items c.self.inside.seats.items
+    c.self.inside.decisions.items
+    c.from-at.result c.index.result.now c.index_mut.result.now (before c).self.invariant.0
+    (at (before c)) c.index.ensures c.index_mut.ensures.value c.self.inside.layout c.in-Some.turn
+    c.take-absorbed.new.seat c.take-absorbed.new.words.items c.take-absorbed.result c.take-absorbed.ensures.takes
+    (before c).self.invariant.1
     c.note.new.decisions.items c.index-3.result.now.begun (index_is c)
-    (c.note.ensures.items ∙ ap (λ (k : ℕ). c.self.inside.decisions.items ++ decision_at (decided_in c.take-absorbed.result) k c.index-3.result.now.begun) (sym (core_is c)))
+    (c.note.ensures.items
+    ∙ ap (λ (k : ℕ). c.self.inside.decisions.items ++ decision_at (decided_in c.take-absorbed.result) k c.index-3.result.now.begun)
+    (sym (core_is c)))
 
-told_now : (c : After-note) → decisions_in c.take-absorbed.result ≡ decisions_in (Rattle.lone_kernel.specs.Machine.said_by (Rattle.lone_kernel.specs.Machine.core_in (core_at (machine (before c)) c.from-at.result) c.in-Some.turn) (found_by (machine (before c)) c.from-at.result c.in-Some.turn))
-told_now c = ap decisions_in (takes_here (λ v. v.items) c.self.inside.setup c.self.inside.words.items c.self.inside.lists.items c.self.inside.seats.items c.self.inside.decisions.items
-    c.from-at.result c.index.result.now c.index_mut.result.now (before c).self.invariant.0 (at (before c)) c.index.ensures c.index_mut.ensures.value c.self.inside.layout c.in-Some.turn c.take-absorbed.new.seat
+told_now : (c : After-note) → decisions_in c.take-absorbed.result ≡ decisions_in (Rattle.lone_kernel.specs.Machine.said_by
+    (Rattle.lone_kernel.specs.Machine.core_in (core_at (machine (before c)) c.from-at.result) c.in-Some.turn)
+    (found_by (machine (before c)) c.from-at.result c.in-Some.turn))
+told_now c = ap decisions_in
+    (takes_here (λ v. v.items) c.self.inside.setup c.self.inside.words.items c.self.inside.lists.items c.self.inside.seats.items
+    c.self.inside.decisions.items
+    c.from-at.result c.index.result.now c.index_mut.result.now (before c).self.invariant.0
+    (at (before c)) c.index.ensures c.index_mut.ensures.value c.self.inside.layout c.in-Some.turn c.take-absorbed.new.seat
     c.take-absorbed.new.words.items c.take-absorbed.result c.take-absorbed.ensures.takes (before c).self.invariant.1).told
 
 fits_now : (c : After-note) → IsFit (now c)
 fits_now c =
     let i = before c in
     subst IsFit (sym (made_now c)) (fits_on (machine i) c.from-at.result c.in-Some.turn i.self.invariant.0 (at i) (turn_at_core c)
-    (fits_behind (λ v. v.items) c.self.inside.setup c.self.inside.words.items c.self.inside.lists.items c.self.inside.seats.items c.self.inside.decisions.items
-    c.from-at.result c.index.result.now c.index_mut.result.now i.self.invariant.0 (at i) c.index.ensures c.index_mut.ensures.value c.self.inside.layout c.in-Some.turn c.take-absorbed.new.seat
+    (fits_behind (λ v. v.items) c.self.inside.setup c.self.inside.words.items c.self.inside.lists.items c.self.inside.seats.items
+    c.self.inside.decisions.items
+    c.from-at.result c.index.result.now c.index_mut.result.now i.self.invariant.0
+    (at i) c.index.ensures c.index_mut.ensures.value c.self.inside.layout c.in-Some.turn c.take-absorbed.new.seat
     c.take-absorbed.new.words.items c.take-absorbed.result c.take-absorbed.ensures.takes i.self.invariant.1 c.take-absorbed.ensures.fits))
 
 pub invariant_of-self : goal.invariant_of-self
@@ -131,7 +172,8 @@ invariant_of-self c =
     let sums = ap (λ m. sum_by (λ seat. seat.due) m.seats) (made_now c) in
     let count = count_decided c.take-absorbed.result c.args.core c.index-3.result.now.begun in
     let told = told_now c in
-    let grown = ap length c.note.ensures.items ∙ length-append c.self.inside.decisions.items (decision_at (decided_in c.take-absorbed.result) c.args.core c.index-3.result.now.begun) in
+    let grown = ap length c.note.ensures.items ∙ length-append c.self.inside.decisions.items
+    (decision_at (decided_in c.take-absorbed.result) c.args.core c.index-3.result.now.begun) in
     let room = c.note.ensures.room in
     let was = i.self.invariant.3 in
     let v = c.note.new.decisions.ok.0 in
@@ -152,12 +194,17 @@ returns-clause-goes c t stands =
 pub returns-clause-work : goal.returns-clause-work
 returns-clause-work c =
     let i = before c in
-    further_like i.self.view_is (made_now c) (core_is c) (further (machine i) c.from-at.result c.in-Some.turn i.self.invariant.0 (at i) (turn_at_core c)
-    (fits_behind (λ v. v.items) c.self.inside.setup c.self.inside.words.items c.self.inside.lists.items c.self.inside.seats.items c.self.inside.decisions.items
-    c.from-at.result c.index.result.now c.index_mut.result.now i.self.invariant.0 (at i) c.index.ensures c.index_mut.ensures.value c.self.inside.layout c.in-Some.turn c.take-absorbed.new.seat
+    further_like i.self.view_is (made_now c) (core_is c) (further (machine i) c.from-at.result c.in-Some.turn i.self.invariant.0 (at i)
+    (turn_at_core c)
+    (fits_behind (λ v. v.items) c.self.inside.setup c.self.inside.words.items c.self.inside.lists.items c.self.inside.seats.items
+    c.self.inside.decisions.items
+    c.from-at.result c.index.result.now c.index_mut.result.now i.self.invariant.0
+    (at i) c.index.ensures c.index_mut.ensures.value c.self.inside.layout c.in-Some.turn c.take-absorbed.new.seat
     c.take-absorbed.new.words.items c.take-absorbed.result c.take-absorbed.ensures.takes i.self.invariant.1 c.take-absorbed.ensures.fits)
-    (fewer_behind (λ v. v.items) c.self.inside.setup c.self.inside.words.items c.self.inside.lists.items c.self.inside.seats.items c.self.inside.decisions.items
-    c.from-at.result c.index.result.now c.index_mut.result.now i.self.invariant.0 (at i) c.index.ensures c.index_mut.ensures.value c.self.inside.layout c.in-Some.turn c.take-absorbed.new.seat
+    (fewer_behind (λ v. v.items) c.self.inside.setup c.self.inside.words.items c.self.inside.lists.items c.self.inside.seats.items
+    c.self.inside.decisions.items
+    c.from-at.result c.index.result.now c.index_mut.result.now i.self.invariant.0
+    (at i) c.index.ensures c.index_mut.ensures.value c.self.inside.layout c.in-Some.turn c.take-absorbed.new.seat
     c.take-absorbed.new.words.items c.take-absorbed.result c.take-absorbed.ensures.takes i.self.invariant.1 c.take-absorbed.ensures.fewer))
 
 pub take-absorbed-requires-clause-few : goal.take-absorbed-requires-clause-few

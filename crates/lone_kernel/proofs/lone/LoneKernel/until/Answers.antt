@@ -22,23 +22,28 @@ going-preserved c =
     let v = ap (λ x. x.cores) i.setup in
     let r : c.args.core < c.args.self.now.setup.cores = c.requires.here in
     let here : c.args.core < c.going.self.setup.cores = omega arith in
-    let short : IsThere c.args.how c.step_once.new.self c.args.core → ⊥ = λ h. false≢true (sym c.if-is_there.false ∙ c.is_there.ensures.1 h) in
-    let inside : IsInCall c.step_once.new.self c.args.core = inside_after c.args.how c.going.self c.step_once.new.self c.args.core i.stays_open s.work short in
+    let short : IsThere c.args.how c.step_once.new.self c.args.core
+    → ⊥ = λ h. false≢true (sym c.if-is_there.false ∙ c.is_there.ensures.1 h) in
+    let inside : IsInCall c.step_once.new.self c.args.core =
+    inside_after c.args.how c.going.self c.step_once.new.self c.args.core i.stays_open s.work short in
     record {
       setup = s.setup ∙ i.setup;
       lists = s.lists ∙ i.lists;
       begins = begins_in_call c.step_once.new.self c.args.core inside;
       stays_open = open_after c.args.how c.step_once.new.self c.args.core short;
       counted = counted_more c.args.self.now c.going.self c.step_once.new.self c.args.core inside s.work i.counted;
-      goes = short_more c.args.self.now c.going.self c.step_once.new.self c.args.core i.setup s.setup here s.goes c.args.how short inside i.goes;
+      goes = short_more c.args.self.now c.going.self c.step_once.new.self c.args.core i.setup s.setup here s.goes c.args.how short inside
+          i.goes;
     }
 
 pub going-smaller : goal.going-smaller
 going-smaller c =
     let i = c.going.invariant in
     let s = c.step_once.ensures in
-    let short : IsThere c.args.how c.step_once.new.self c.args.core → ⊥ = λ h. false≢true (sym c.if-is_there.false ∙ c.is_there.ensures.1 h) in
-    let inside : IsInCall c.step_once.new.self c.args.core = inside_after c.args.how c.going.self c.step_once.new.self c.args.core i.stays_open s.work short in
+    let short : IsThere c.args.how c.step_once.new.self c.args.core
+    → ⊥ = λ h. false≢true (sym c.if-is_there.false ∙ c.is_there.ensures.1 h) in
+    let inside : IsInCall c.step_once.new.self c.args.core =
+    inside_after c.args.how c.going.self c.step_once.new.self c.args.core i.stays_open s.work short in
     works_on c.going.self c.step_once.new.self c.args.core inside s.work
 
 pub returns-then-is_there-clause-goes : goal.returns-then-is_there-clause-goes
