@@ -6,5 +6,6 @@ pub mod HeadLines
 pub mod ItemWords
 pub mod ReadingLines
 pub mod PrintedLines
+pub mod LineCounts
 pub mod CallLimits
 pub mod ReadLimits

@@ -7,12 +7,12 @@ use Rattle.std.proofs.lemmas.List.Elements.{All-head, All-tail, All-weaker}
 use Rattle.spk_nums.specs.declared.calls.Call.{Call}
 use Rattle.spk_nums.specs.declared.grants.Grant.{Grant}
 use Rattle.spk_nums.specs.declared.steps.Item.{Item}
-use Rattle.spk_nums.specs.Setting.{Setting, GrantFits}
+use Rattle.spk_nums.specs.Setting.{Setting, GrantFits, IsSetting}
 use Rattle.spk_nums.specs.Texts.{with_one}
 use Rattle.script_tokens.specs.declared.scanning.Ending.TheVariants.{Whole}
 use Rattle.script_tokens.specs.Bytes.{is_feed}
 use Rattle.script_tokens.specs.Words.{first_fault, line_count, ending_from, ending_of, before_fault, spans, word_at, words_of}
-use Rattle.script_reader.specs.Readings.{Meaning, rows_of, no_draft, draft_from, and_then, meaning_at, script_of}
+use Rattle.script_reader.specs.Readings.{Meaning, rows_of, no_draft, draft_from, and_then, meaning_at, script_of, BelowCores}
 use Rattle.script_printer.specs.Printing.{grant_line, size_lines, limit_lines, setup_lines, call_line, core_lines, list_lines, order_lines, printed, line}
 use Rattle.script_printer.specs.Law.{IsCallWithin, IsWithin}
 use Rattle.script_printer.proofs.Spans.{both_left, is_line, are_lines, line_onto, lines_onto, rows_from, lines_rows, lines_fault, lines_count}
@@ -85,7 +85,7 @@ setup_onto s lines =
     ∙ grants_onto s.grants limited)
     ∙ sizes_onto s (lines_onto (grants_then s.grants limited) []))
 
-printed_onto : (m : Meaning) → printed m ≡ lines_onto (script_lines m) []
+pub printed_onto : (m : Meaning) → printed m ≡ lines_onto (script_lines m) []
 unfolding printed
 printed_onto m =
     let behind : list_lines 0 m.lists ++ order_lines m.order ≡ lines_onto (lists_then 0 m.lists (order_rows m.order)) [] = ap (λ t. list_lines 0 m.lists ++ t) (order_onto m.order) ∙ lists_onto 0 m.lists (order_rows m.order) in
@@ -123,18 +123,17 @@ order_lines_are : (items : List Item) → All (λ (i : Item). i.core < 8) items 
 order_lines_are [] all = refl
 order_lines_are (i ∷ is) all = rows_lines 0 i is (All-head (λ (j : Item). j.core < 8) i is all) (All-tail (λ (j : Item). j.core < 8) i is all)
 
-script_are_lines : (m : Meaning) → IsWithin m → are_lines (script_lines m) ≡ true
-script_are_lines m within =
+pub script_are_lines : (m : Meaning) → IsSetting m.setup → length m.lists ≡ m.setup.cores → All (All IsCallWithin) m.lists → BelowCores m.setup.cores m.order → are_lines (script_lines m) ≡ true
+script_are_lines m setting n calls_in below =
     let s = m.setup in
-    let few : s.cores ≤ 8 = within.setup.most_cores in
-    let frames : s.frames ≤ 512 = within.setup.most_frames in
-    let calls : s.calls ≤ 4194304 = within.setup.most_calls in
-    let epochs : s.epochs < 2 ^ 16 = within.setup.most_epochs in
-    let n : length m.lists ≡ s.cores = within.lists in
-    let order : are_lines (order_rows m.order) ≡ true = order_lines_are m.order (All-weaker (λ (i : Item). i.core < s.cores) (λ (i : Item). i.core < 8) (λ i h. omega arith) m.order within.below) in
-    let lists : are_lines (lists_then 0 m.lists (order_rows m.order)) ≡ true = lists_lines 0 m.lists (order_rows m.order) (omega arith) within.calls order in
+    let few : s.cores ≤ 8 = setting.most_cores in
+    let frames : s.frames ≤ 512 = setting.most_frames in
+    let calls : s.calls ≤ 4194304 = setting.most_calls in
+    let epochs : s.epochs < 2 ^ 16 = setting.most_epochs in
+    let order : are_lines (order_rows m.order) ≡ true = order_lines_are m.order (All-weaker (λ (i : Item). i.core < s.cores) (λ (i : Item). i.core < 8) (λ i h. omega arith) m.order below) in
+    let lists : are_lines (lists_then 0 m.lists (order_rows m.order)) ≡ true = lists_lines 0 m.lists (order_rows m.order) (omega arith) calls_in order in
     let limits : are_lines (calls_words s.calls ∷ epochs_words s.epochs ∷ lists_then 0 m.lists (order_rows m.order)) ≡ true = and_from _ _ (one_is_line (codes "calls") s.calls refl (omega arith)) (and_from _ _ (one_is_line (codes "epochs") s.epochs refl (omega arith)) lists) in
-    and_from _ _ (one_is_line (codes "cores") s.cores refl (omega arith)) (and_from _ _ (one_is_line (codes "frames") s.frames refl (omega arith)) (grants_lines s.grants (calls_words s.calls ∷ epochs_words s.epochs ∷ lists_then 0 m.lists (order_rows m.order)) within.setup.grants_fit limits))
+    and_from _ _ (one_is_line (codes "cores") s.cores refl (omega arith)) (and_from _ _ (one_is_line (codes "frames") s.frames refl (omega arith)) (grants_lines s.grants (calls_words s.calls ∷ epochs_words s.epochs ∷ lists_then 0 m.lists (order_rows m.order)) setting.grants_fit limits))
 
 -- ---- the law
 
@@ -154,4 +153,4 @@ pub printed_read : (m : Meaning) → IsWithin m → script_of (printed m) ≡ Ok
 printed_read m within =
     let same : printed m ≡ lines_onto (script_lines m) [] = printed_onto m in
     let few : line_count (lines_onto (script_lines m) []) ≤ 20000 = subst (λ t. line_count t ≤ 20000) same within.lines in
-    ap script_of same ∙ lines_read (script_lines m) m (script_are_lines m within) few (script_says m within.setup within.lists within.calls within.below within.items)
+    ap script_of same ∙ lines_read (script_lines m) m (script_are_lines m within.setup within.lists within.calls within.below) few (script_says m within.setup within.lists within.calls within.below within.items)

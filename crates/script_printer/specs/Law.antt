@@ -1,5 +1,5 @@
 -- Which scripts are read back from their printed form, and that they are.
-use Rattle.std.specs.Prelude.{◌≡◌, ◌≤◌, ℕ, List, All, Ok, length}
+use Rattle.std.specs.Prelude.{◌≡◌, ◌≤◌, ℕ, ◌+◌, List, [], ◌∷◌, All, Ok, length}
 use Rattle.spk_nums.specs.declared.calls.Make.{Make}
 use Rattle.spk_nums.specs.declared.calls.Make.TheVariants.{Thread, Tcap, Comp}
 use Rattle.spk_nums.specs.declared.calls.Call.{Call}
@@ -64,3 +64,16 @@ ReadsBack m = IsWithin m → script_of (printed m) ≡ Ok m
 -- what bytes say is a script within the limits, where its printed form has at most 20,000 lines
 abbrev pub IsReadWithin : List ℕ → Meaning → Type 0
 IsReadWithin source m = script_of source ≡ Ok m → line_count (printed m) ≤ 20000 → IsWithin m
+
+-- a bound on the lines of lists: each core's `core` line and its calls
+abbrev pub most_list_lines : List (List Call) → ℕ
+most_list_lines [] = 0
+most_list_lines (calls ∷ lists) = 1 + length calls + most_list_lines lists
+
+-- a bound on the lines of the printed form, as if each core had calls and each item a line
+abbrev pub most_lines : Meaning → ℕ
+most_lines m = 7 + length m.setup.grants + most_list_lines m.lists + length m.order
+
+-- a script whose parts are within the limits has at most so many lines in its printed form
+abbrev pub HasFewLines : Meaning → Type 0
+HasFewLines m = IsSetting m.setup → length m.lists ≡ m.setup.cores → All (All IsCallWithin) m.lists → BelowCores m.setup.cores m.order → line_count (printed m) ≤ most_lines m

@@ -2,7 +2,7 @@
 
 ghost use Rattle.std.specs.Prelude.{ℕ, List};
 ghost use Rattle.script_reader.specs.Readings.{Meaning};
-ghost use Rattle.script_printer.specs.Law.{IsReadWithin, ReadsBack};
+ghost use Rattle.script_printer.specs.Law.{HasFewLines, IsReadWithin, ReadsBack};
 
 /// A law: the printed form of a script reads as that script, where the script is within the limits and its
 /// printed form has at most 20,000 lines.
@@ -13,4 +13,10 @@ pub fn reads_back()
 /// A law: a script that was read is within the limits, where its printed form has at most 20,000 lines.
 pub fn read_is_within()
     ensures { (source : List ℕ) (m : Meaning) → IsReadWithin source m }
+{}
+
+/// A law: how many lines the printed form of a script has at most, by its grants, its calls and its items. So who makes a
+/// script sees that it reads back.
+pub fn has_few_lines()
+    ensures { (m : Meaning) → HasFewLines m }
 {}

@@ -7,7 +7,7 @@ mod printing;
 mod reply_lines;
 mod setup;
 
-pub use law::reads_back;
+pub use law::{has_few_lines, reads_back};
 pub use printing::print;
 pub use reply_lines::{push_reply_line, reply_line};
 

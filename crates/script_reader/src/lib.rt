@@ -14,6 +14,7 @@ mod unbuilt;
 
 pub use cause::{Cause, ReadFault};
 pub use items::MOST_ITEMS;
+pub use numerals::read_number;
 pub use reading::{Script, read};
 pub use spk_nums::{How, Item};
 pub use unbuilt::first_unbuilt;

@@ -1,18 +1,22 @@
 -- What is due is the status that the input has.
-use Rattle.std.proofs.Common.{◌≡◌, ◌⊎◌, ℕ, List, [], ◌∷◌, Option, Some, None, Result, Err, Bool, refl, sym, ap, subst, ◌∙◌, arith, inl, inr, eqb}
-use Rattle.std.specs.Prelude.{◌≤◌, if◌then◌else◌, length, codes}
+use Rattle.std.proofs.Common.{◌≡◌, ◌⊎◌, ℕ, List, [], ◌∷◌, Option, Some, None, Result, Ok, Err, Bool, IfOk, refl, sym, ap, subst, ◌∙◌, arith, inl, inr, eqb}
+use Rattle.std.specs.Prelude.{◌≤◌, if◌then◌else◌, length, codes, string_bytes}
 use lib.Pointwise.{pointwise}
+use Rattle.spk_nums.specs.declared.memory.Memory.{Memory as Out_of_memory}
 use Rattle.byte_ends.specs.Ends.{HasRisen, Adds}
 use Rattle.script_tokens.specs.Words.{words_of}
+use Rattle.script_reader.specs.Numerals.{number_of}
 use Rattle.script_reader.specs.Readings.{Row, Meaning, First_fault, rows_of, script_of}
 use Rattle.script_reader.specs.Unbuilt.{IsFirstUnbuiltOf}
+use Rattle.load_maker.specs.Loads.{load_text}
 use Rattle.speck_run.specs.declared.words.Command.{Command}
 use Rattle.speck_run.specs.declared.words.Command.TheVariants.{Replay, Run, Plain, Print}
+use Rattle.speck_run.specs.declared.top.Answer.{Answer}
 use Rattle.speck_run.specs.declared.top.Status.{Status}
 use Rattle.speck_run.specs.declared.top.Status.TheVariants.{Done, Words, Script, ReadFault, WriteFault, Memory, TooLong, NotBuilt, Stopped}
 use Rattle.speck_run.specs.Ends.{GivesAll}
 use Rattle.speck_run.specs.Script.{IsTaken, IsLeft, IsAnswer, IsMade}
-use Rattle.speck_run.specs.Top.{CommandLine, texts_of, Asked, Asks, IsDue, IsDueOf, IsDone, InputMakes, CarriesOut, IsStatusOf, Answers, IsAccepted, Writes, InputRuns}
+use Rattle.speck_run.specs.Top.{CommandLine, texts_of, Asked, Asks, AsksMake, IsCommand, IsMake, IsNumberOf, IsNumberIn, IsDue, IsDueOf, IsDone, InputMakes, CarriesOut, IsStatusOf, Answers, IsAccepted, Writes, InputRuns}
 
 -- There is one first line that is not carried out, or none.
 first_same : (rows : List Row) (a b : Option ℕ) → IsFirstUnbuiltOf rows a → IsFirstUnbuiltOf rows b → a ≡ b
@@ -47,6 +51,35 @@ some_same a b e = cc
 
 pub asks_same : (words : CommandLine) (a b : Command) → Asks words a → Asks words b → a ≡ b
 asks_same words a b p q = some_same a b (sym (asks_told words a p) ∙ asks_told words b q)
+
+-- Words that ask for a command that takes a script are one, and those that ask for the script of a number are two.
+one_word : (words : CommandLine) (command : Command) → Asks words command → length (texts_of words) ≡ 1
+one_word words Replay p = ap length p
+one_word words Run p = ap length p
+one_word words Plain p = ap length p
+one_word words Print p = ap length p
+
+asks_apart : (words : CommandLine) (command : Command) → Asks words command → IsMake words → ⊥
+asks_apart words command p m = let one : length (texts_of words) ≡ 1 = one_word words command p in let two : length (texts_of words) ≡ 2 = ap length m.asks.asks in omega arith
+
+-- They ask for one number.
+second_same : (v w x y : List ℕ) → v ∷ x ∷ [] ≡ w ∷ y ∷ [] → x ≡ y
+second_same v w x y e = cc
+
+number_same : (o : Option ℕ) (m n : ℕ) → o ≡ Some m → o ≡ Some n → m ≡ n
+number_same o m n p q = cc
+
+-- The number of such words is that of their digits.
+pub number_told : (words : CommandLine) (digits : List ℕ) (o : Option ℕ) → texts_of words ≡ codes "make" ∷ digits ∷ [] → IsNumberIn digits o → IsNumberOf words o
+number_told words digits (Some n) e h = record { digits = digits; asks = e; says = h.0; range = h.1 }
+number_told words digits None e h = λ m.
+    let same : digits ≡ m.asks.digits = second_same _ _ _ _ (sym e ∙ m.asks.asks) in
+    h m.number (ap number_of same ∙ m.asks.says) m.asks.range
+
+make_same : (words : CommandLine) (m n : ℕ) → AsksMake words m → AsksMake words n → m ≡ n
+make_same words m n p q =
+    let digits : p.digits ≡ q.digits = second_same _ _ _ _ (sym p.asks ∙ q.asks) in
+    number_same (number_of p.digits) m n p.says (ap number_of digits ∙ q.says)
 
 -- An input that a command takes is a script, and no line of it is left.
 taken_fault : (command : Command) (bytes : List ℕ) (f : First_fault) → IsTaken command bytes → script_of bytes ≡ Err f → ⊥
@@ -108,7 +141,7 @@ status_same c bytes Stopped s' p q = absurd p
 -- What is due for an input that was read to its end is due.
 pub due_input : (words : CommandLine) (left left' : Option (List ℕ)) (f f' : ℕ) (command : Command) (bytes : List ℕ) (s : Status) (text : List ℕ) → Asks words command →
     GivesAll bytes left left' → length bytes ≤ 1048576 → IsDueOf command bytes s text → IsDue (record { words = words; left = left; left' = left'; faults = f; faults' = f' }) s text
-due_input words left left' f f' command bytes Done text asks input small d = record {
+due_input words left left' f f' command bytes Done text asks input small d = inl record {
   command = command;
   asks = asks;
   makes = record { bytes = bytes; input = input; small = small; made = d };
@@ -138,6 +171,20 @@ due_input words left left' f f' command bytes Stopped text asks input small d = 
   d.2,
 )
 
+-- An answer is due whose status and text are.
+pub answer_due : (a : Asked) (s : Status) (text : List ℕ) (r : Result Answer Out_of_memory) → IsDue a s text → IfOk r (λ answer. answer.status ≡ s) → IfOk r (λ answer. string_bytes answer.text ≡ text) →
+    IfOk r (λ answer. IsDue a answer.status (string_bytes answer.text))
+answer_due a s text (Ok answer) d is same = subst (λ (due : Status). IsDue a due (string_bytes answer.text)) (sym is) (subst (IsDue a s) (sym same) d)
+answer_due a s text (Err e) d is same = tt
+
+-- An answer that is due for an input is due.
+pub answer_of_input : (words : CommandLine) (left left' : Option (List ℕ)) (f f' : ℕ) (command : Command) (given bytes : List ℕ) (r : Result Answer Out_of_memory) → Asks words command → GivesAll given left left' →
+    length given ≤ 1048576 → bytes ≡ given → IfOk r (λ answer. IsDueOf command bytes answer.status (string_bytes answer.text)) →
+    IfOk r (λ answer. IsDue (record { words = words; left = left; left' = left'; faults = f; faults' = f' }) answer.status (string_bytes answer.text))
+answer_of_input words left left' f f' command given bytes (Ok answer) asks input small same d =
+    due_input words left left' f f' command given answer.status (string_bytes answer.text) asks input small (subst (λ b. IsDueOf command b answer.status (string_bytes answer.text)) same d)
+answer_of_input words left left' f f' command given bytes (Err e) asks input small same d = tt
+
 -- What a command makes of an input, it makes of one that it takes.
 made_taken : (command : Command) (bytes text : List ℕ) → IsMade command (IsAnswer command) bytes text → IsTaken command bytes
 made_taken c bytes text d = record { script = d.script; is_script = d.is_script; supported = d.supported }
@@ -146,7 +193,8 @@ module _ (words : CommandLine) (command : Command) (asks : Asks words command) w
   -- With the command that the words are.
   makes_as : (left left' : Option (List ℕ)) (f f' : ℕ) (text : List ℕ) → IsDone (record { words = words; left = left; left' = left'; faults = f; faults' = f' }) text →
       InputMakes command (IsAnswer command) left left' text
-  makes_as left left' f f' text d = subst (λ (c : Command). InputMakes c (IsAnswer c) left left' text) (asks_same words d.command command d.asks asks) d.makes
+  makes_as left left' f f' text (inl d) = subst (λ (c : Command). InputMakes c (IsAnswer c) left left' text) (asks_same words d.command command d.asks asks) d.makes
+  makes_as left left' f f' text (inr d) = absurd (asks_apart words command asks record { number = d.number; asks = d.asks })
 
   -- What is due for an input that the source tells.
   status_due : (left : List ℕ) (left' : Option (List ℕ)) (f f' : ℕ) (s : Status) (text : List ℕ) →
@@ -154,7 +202,7 @@ module _ (words : CommandLine) (command : Command) (asks : Asks words command) w
   status_due left left' f f' Done text d =
       let a = makes_as (Some left) left' f f' text d in
       inl (subst (λ (l : List ℕ). IsStatusOf command l Done) a.input.all (a.small, made_taken command a.bytes text a.made))
-  status_due left left' f f' Words text d = absurd (d.0 (record { command = command; asks = asks }))
+  status_due left left' f f' Words text d = absurd (d.0 (inl (record { command = command; asks = asks })))
   status_due left left' f f' (Script line cause) text (i, d, t) = inl (subst (λ (l : List ℕ). IsStatusOf command l (Script line cause)) d.input.all (d.small, d.fault))
   status_due left left' f f' ReadFault text d = inr (inr refl)
   status_due left left' f f' Stopped text d = inr (inl refl)
@@ -215,3 +263,25 @@ writes_due a held held' (NotBuilt line) text d w = subst (λ (t : List ℕ). Add
 -- A run that was stopped was asked for.
 pub stops_run : (a : Asked) (s : Status) (text : List ℕ) → IsDue a s text → s ≡ Stopped → InputRuns a.words a.left a.left'
 stops_run a s text d e = (subst (λ (due : Status). IsDue a due text) e d).0
+
+-- ---- the script of a number
+
+module _ (words : CommandLine) (number : ℕ) (asks : AsksMake words number) where
+  understood : IsMake words
+  understood = record { number = number; asks = asks }
+
+  apart : IsCommand words → ⊥
+  apart c = asks_apart words c.command c.asks understood
+
+  -- Nothing but its text is due.
+  pub load_due : (left left' : Option (List ℕ)) (f f' : ℕ) (s : Status) (text : List ℕ) → IsDue (record { words = words; left = left; left' = left'; faults = f; faults' = f' }) s text → (s ≡ Done) × (text ≡ load_text number)
+  load_due left left' f f' Done text (inl d) = absurd (apart record { command = d.command; asks = d.asks })
+  load_due left left' f f' Done text (inr d) = (refl, d.is_text ∙ ap load_text (make_same words d.number number d.asks asks))
+  load_due left left' f f' Words text d = absurd (d.0 (inr understood))
+  load_due left left' f f' (Script line cause) text d = absurd (apart d.0)
+  load_due left left' f f' ReadFault text d = absurd (apart d.0)
+  load_due left left' f f' WriteFault text d = absurd d
+  load_due left left' f f' Memory text d = absurd d
+  load_due left left' f f' TooLong text d = absurd (apart d.0)
+  load_due left left' f f' (NotBuilt line) text d = absurd (apart record { command = d.0.command; asks = d.0.asks })
+  load_due left left' f f' Stopped text d = absurd (apart record { command = Run; asks = d.0.asks })

@@ -1,4 +1,4 @@
--- Words that are one command alone.
+-- Words that are one command alone, or one and its number.
 use Rattle.std.proofs.Common.{◌≡◌, ℕ, List, [], ◌∷◌, length, get_or, map, eqb, Bool, true, refl, sym, ◌∙◌, ap, arith}
 use lib.Pointwise.{pointwise}
 use Rattle.std.proofs.lemmas.Bool.{and_parts, and_from, eqb-true, eq-eqb, false≢true}
@@ -27,3 +27,11 @@ one_word bytes (x ∷ []) w text b one is test = (
   λ same. test ∙ ap (λ l. pointwise eqb l text) (ap bytes is ∙ head_inj (bytes x) text [] [] same) ∙ bytes_own text,
 )
 one_word bytes (x ∷ y ∷ ws) w text b one is test = absurd (omega arith)
+
+pub two_words : {S : Type 0} (bytes : S → List ℕ) (ws : List S) (w v : S) (text : List ℕ) → length ws ≡ 2 → w ≡ get_or ws 0 w → v ≡ get_or ws 1 v → true ≡ pointwise eqb (bytes w) text → map bytes ws ≡ text ∷ bytes v ∷ []
+two_words bytes [] w v text two is other test = absurd (omega arith)
+two_words bytes (x ∷ []) w v text two is other test = absurd (omega arith)
+two_words bytes (x ∷ y ∷ []) w v text two is other test =
+    ap (λ l. l ∷ bytes y ∷ []) (ap bytes (sym is) ∙ bytes_same (bytes w) text (sym test))
+    ∙ ap (λ l. text ∷ l ∷ []) (ap bytes (sym other))
+two_words bytes (x ∷ y ∷ z ∷ ws) w v text two is other test = absurd (omega arith)

@@ -1,5 +1,5 @@
 -- What the top call answers and writes, and why.
-use Rattle.std.specs.Prelude.{◌≡◌, ◌⊎◌, ◌++◌, ℕ, ◌<◌, ◌≤◌, List, [], ◌∷◌, length, map, Option, Some, None, String, string_bytes, codes}
+use Rattle.std.specs.Prelude.{◌≡◌, ◌⊎◌, ◌++◌, ◌^◌, ℕ, ◌<◌, ◌≤◌, List, [], ◌∷◌, length, map, Option, Some, None, String, string_bytes, codes}
 use Rattle.std.specs.Fmt.{decimal}
 use Rattle.std.specs.Global.{Global, Vec}
 use Rattle.spk_nums.specs.Setting.{Setting}
@@ -8,7 +8,9 @@ use Rattle.byte_ends.specs.Ends.{HasRisen, Adds}
 use Rattle.core_kernel.specs.TakenSteps.{TakenSteps}
 use Rattle.script_reader.specs.declared.cause.Cause.{Cause}
 use Rattle.script_reader.specs.Causes.{cause_text}
+use Rattle.script_reader.specs.Numerals.{number_of}
 use Rattle.script_reader.specs.Readings.{Meaning}
+use Rattle.load_maker.specs.Loads.{load_text}
 use Rattle.speck_run.specs.declared.words.Command.{Command}
 use Rattle.speck_run.specs.declared.words.Command.TheVariants.{Replay, Run, Plain, Print}
 use Rattle.speck_run.specs.declared.top.Status.{Status}
@@ -30,10 +32,36 @@ Asks words Run = texts_of words ≡ codes "run" ∷ []
 Asks words Plain = texts_of words ≡ codes "plain" ∷ []
 Asks words Print = texts_of words ≡ codes "print" ∷ []
 
--- The words ask for some command.
+-- The words ask for the script of a number: `make`, and the number, from 0 to 4,294,967,295, as a script writes numbers.
+pub record AsksMake (words : CommandLine) (number : ℕ) : Type 0 where
+  pub digits : List ℕ
+  pub asks : texts_of words ≡ codes "make" ∷ digits ∷ []
+  pub says : number_of digits ≡ Some number
+  pub range : number < 2 ^ 32
+
+-- The words ask for the script of some number.
+pub record IsMake (words : CommandLine) : Type 0 where
+  pub number : ℕ
+  pub asks : AsksMake words number
+
+-- The number whose script the words ask for, or none where they ask for none.
+abbrev pub IsNumberOf : CommandLine → Option ℕ → Type 0
+IsNumberOf words (Some number) = AsksMake words number
+IsNumberOf words None = IsMake words → ⊥
+
+-- The number below 2^32 for which the digits stand, or none where they stand for none.
+abbrev pub IsNumberIn : List ℕ → Option ℕ → Type 0
+IsNumberIn digits (Some number) = (number_of digits ≡ Some number) × (number < 2 ^ 32)
+IsNumberIn digits None = (number : ℕ) → number_of digits ≡ Some number → number < 2 ^ 32 → ⊥
+
+-- The words ask for some command that takes a script.
 pub record IsCommand (words : CommandLine) : Type 0 where
   pub command : Command
   pub asks : Asks words command
+
+-- The words ask for something.
+abbrev pub IsUnderstood : CommandLine → Type 0
+IsUnderstood words = IsCommand words ⊎ IsMake words
 
 -- The command for which the words ask, or none where they ask for no command.
 abbrev pub IsCommandOf : CommandLine → Option Command → Type 0
@@ -103,16 +131,26 @@ pub record Asked : Type 0 where
   pub faults' : ℕ
 
 -- The words ask for a command, and the text is what it makes of the input.
-pub record IsDone (a : Asked) (text : List ℕ) : Type 0 where
+pub record IsTextOf (a : Asked) (text : List ℕ) : Type 0 where
   pub command : Command
   pub asks : Asks a.words command
   pub makes : InputMakes command (IsAnswer command) a.left a.left' text
+
+-- The words ask for the script of a number, and the text is its text.
+pub record IsLoad (words : CommandLine) (text : List ℕ) : Type 0 where
+  pub number : ℕ
+  pub asks : AsksMake words number
+  pub is_text : text ≡ load_text number
+
+-- The text is that for which the words ask.
+abbrev pub IsDone : Asked → List ℕ → Type 0
+IsDone a text = IsTextOf a text ⊎ IsLoad a.words text
 
 -- The status is due and the text is due with it: the cause of the status stands, and the text is its line or what the
 -- command makes of the input. Words are judged first, then reading, then the script.
 abbrev pub IsDue : Asked → Status → List ℕ → Type 0
 IsDue a Done text = IsDone a text
-IsDue a Words text = (IsCommand a.words → ⊥) × (text ≡ words_line)
+IsDue a Words text = (IsUnderstood a.words → ⊥) × (text ≡ words_line)
 IsDue a ReadFault text = IsCommand a.words × HasRisen a.faults a.faults' × (text ≡ read_line)
 IsDue a TooLong text = IsCommand a.words × Gives 1048577 a.left a.left' × (text ≡ long_line)
 IsDue a (Script line cause) text = IsCommand a.words × InputFaults a.left a.left' line cause × (text ≡ script_line line cause)

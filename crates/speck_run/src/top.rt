@@ -8,17 +8,19 @@ ghost use Rattle.core_kernel.specs.TakenSteps.{TakenSteps};
 ghost use Rattle.lone_kernel.specs.GivenSteps.{GivenSteps};
 ghost use Rattle.lone_kernel.specs.Machine.{AreLists};
 ghost use Rattle.script_printer.specs.Printing.{printed};
+ghost use Rattle.load_maker.specs.Loads.{load_text};
 ghost use Rattle.speck_run.specs.declared.words.Command.{Command};
 ghost use Rattle.speck_run.specs.declared.words.Command.TheVariants as commands;
 ghost use Rattle.speck_run.specs.Ends.{Gives, GivesAll, GivesAtMost};
-ghost use Rattle.speck_run.specs.Top.{Asks, IsCommand, IsDue, IsDueOf, InputFaults, InputLeft, InputRuns, IsRunOf, CarriesOut, Writes, Answers, IsUnlessUnwritten, IsAccepted, Finishes, script_line, not_built_line, status_number};
+ghost use Rattle.speck_run.specs.Top.{Asks, AsksMake, IsCommand, IsMake, IsUnderstood, IsDue, IsDueOf, InputFaults, InputLeft, InputRuns, IsRunOf, CarriesOut, Writes, Answers, IsUnlessUnwritten, IsAccepted, Finishes, script_line, not_built_line, status_number};
 
 use crate::ends::{ReadError, read_all, write_all};
 use crate::replay::replay;
 use crate::runs::run_lists;
-use crate::words::{Command, command_of};
+use crate::words::{Command, command_of, number_of_make};
 use byte_ends::{Sink, Source};
 use core_kernel::Gate;
+use load_maker::load_script;
 use plain_run::plain;
 use script_printer::print;
 use script_reader::{Cause, ReadFault, Script, first_unbuilt, read};
@@ -29,7 +31,7 @@ use std::thread::Threads;
 /// How a call of `speck` ended.
 #[derive(Clone, Copy, Debug, PartialEq, Eq)]
 pub enum Status {
-    /// The input was read to its end, and all output was taken.
+    /// The input was read to its end, where the command reads, and all output was taken.
     Done,
     /// The words are not understood.
     Words,
@@ -108,7 +110,7 @@ fn leave(alloc: Global, line: u32) -> Result<Answer, Memory>
     })
 }
 
-// The answer to an input of which a command makes this text.
+// The answer to a command that is carried out, and that makes this text.
 fn made(text: String) -> Answer
     ensures status { result.status ≡ Status.Done }
     ensures text { string_bytes result.text ≡ string_bytes text }
@@ -182,14 +184,15 @@ fn judge_input<R: Threads + Sync, G: Gate>(
     Ok(made(text))
 }
 
-// What is due: words are judged first, then reading, then the script.
-fn judge<R: Threads + Sync, G: Gate, S: Source>(
+// What is due for words that ask for no number's script: they are judged first, then reading, then the script.
+fn judge_command<R: Threads + Sync, G: Gate, S: Source>(
     rt: &R,
     alloc: Global,
     gate: &G,
     words: &Vec<String>,
     source: &mut S,
 ) -> Result<Answer, Memory>
+    requires { IsMake words.now → ⊥ }
     ensures due { IfOk result (λ answer. IsDue record {
       words = words.now;
       left = S.left source.old;
@@ -213,6 +216,33 @@ fn judge<R: Threads + Sync, G: Gate, S: Source>(
     }
 }
 
+// What is due: words are judged first. Where they ask for the script of a number, it is that script's text.
+fn judge<R: Threads + Sync, G: Gate, S: Source>(
+    rt: &R,
+    alloc: Global,
+    gate: &G,
+    words: &Vec<String>,
+    source: &mut S,
+) -> Result<Answer, Memory>
+    ensures due { IfOk result (λ answer. IsDue record {
+      words = words.now;
+      left = S.left source.old;
+      left' = S.left source.new;
+      faults = S.faults source.old;
+      faults' = S.faults source.new;
+    } answer.status (string_bytes answer.text)) }
+    ensures most { GivesAtMost 1048577 (S.left source.old) (S.left source.new) }
+    ensures unread { (IsCommand words.now → ⊥) → source.new ≡ source.old }
+    ensures free { IfOk result (λ answer. answer.status ≡ Status.Stopped → G.is_free gate.now ≡ true → ⊥) }
+    ensures steady { IfOk result (λ answer. (answer.status ≡ Status.ReadFault) ⊎ (S.faults source.new ≡ S.faults source.old)) }
+{
+    let Some(number) = number_of_make(words) else {
+        return judge_command(rt, alloc, gate, words, source);
+    };
+    let text = load_script(alloc, number)?;
+    Ok(made(text))
+}
+
 // Writes the text, and answers the status that is due with it, or that the sink failed.
 fn finish<K: Sink>(sink: &mut K, answer: &Answer) -> Status
     ensures { Finishes answer.now.status (string_bytes answer.now.text)
@@ -227,8 +257,9 @@ fn finish<K: Sink>(sink: &mut K, answer: &Answer) -> Status
 /// Does all that the program does: judges the words, reads the source, takes the script and writes
 /// the sink.
 ///
-/// Words other than `replay`, `run`, `plain` or `print` alone are `Words`, and nothing is read. A
-/// source that fails is `ReadFault`, and one that gives a byte past 1,048,576 is `TooLong`; no more
+/// Words other than `replay`, `run`, `plain` or `print` alone, and `make` with a number from 0 to
+/// 4,294,967,295, are `Words`, and nothing is read. Under `make` nothing is read either: the text of
+/// the number's script is written, and the status is `Done`. A source that fails is `ReadFault`, and one that gives a byte past 1,048,576 is `TooLong`; no more
 /// than that byte is taken. An input that is no script is `Script`, with its first fault. Under
 /// `replay` and `run` a script that has a call that is not built is `NotBuilt`, at the line of the
 /// first such call; else the script's steps are taken and their text is written, the reply lines
@@ -262,11 +293,14 @@ pub fn speck<R: Threads + Sync, G: Gate, S: Source, K: Sink>(
     ensures print { Asks words.now commands.Print → result ≡ Status.Done
         → CarriesOut commands.Print (λ script text. text ≡ printed script)
         (S.left source.old) (S.left source.new) (K.held sink.old) (K.held sink.new) }
-    ensures done { result ≡ Status.Done → IsCommand words.now }
+    ensures make { (number : ℕ) → AsksMake words.now number → result ≡ Status.Done
+        → Adds (load_text number) (K.held sink.old) (K.held sink.new) }
+    ensures done { result ≡ Status.Done → IsUnderstood words.now }
 
-    // Words are judged first: for others nothing is read.
-    ensures words { result ≡ Status.Words → IsCommand words.now → ⊥ }
-    ensures other_words { (IsCommand words.now → ⊥) → IsUnlessUnwritten Status.Words result }
+    // Words are judged first: nothing is read for others, and for those that ask for no script to be read.
+    ensures words { result ≡ Status.Words → IsUnderstood words.now → ⊥ }
+    ensures other_words { (IsUnderstood words.now → ⊥) → IsUnlessUnwritten Status.Words result }
+    ensures made { (number : ℕ) → AsksMake words.now number → IsUnlessUnwritten Status.Done result }
     ensures unread { (IsCommand words.now → ⊥) → source.new ≡ source.old }
 
     // Then reading, then the script.

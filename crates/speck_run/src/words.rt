@@ -1,9 +1,11 @@
 //! The commands, and the words by which they are asked.
 
-ghost use Rattle.std.specs.Prelude.{◌≡◌, [], ◌∷◌, ◌↔◌, IsTrue};
-ghost use Rattle.speck_run.specs.Top.{IsCommandOf, texts_of};
+ghost use Rattle.std.specs.Prelude.{◌≡◌, [], ◌∷◌, ◌↔◌, IsTrue, codes};
+ghost use Rattle.speck_run.specs.Top.{IsCommandOf, IsNumberOf, IsNumberIn, texts_of};
 
-/// A command of the program.
+use script_reader::read_number;
+
+/// A command of the program that takes a script.
 #[derive(Clone, Copy, Debug, PartialEq, Eq)]
 pub enum Command {
     /// Takes given steps of a script, and writes what they did.
@@ -43,4 +45,22 @@ pub fn command_of(words: &Vec<String>) -> Option<Command>
         return Some(Command::Print);
     }
     None
+}
+
+// The number from 0 to 4,294,967,295 that a word stands for; none for another word.
+fn number_in(word: &str) -> Option<u32>
+    ensures { IsNumberIn word.now result }
+{
+    let number = read_number(word.as_bytes())?;
+    u32::try_from(number).ok()
+}
+
+/// The number behind `make`, where the words are these two; none for other words.
+pub fn number_of_make(words: &Vec<String>) -> Option<u32>
+    ensures { IsNumberOf words.now result }
+{
+    match words.as_slice() {
+        [word, number] if word.as_str() == "make" => number_in(number.as_str()),
+        _ => None,
+    }
 }

@@ -1,8 +1,9 @@
 use Rattle.std.proofs.Common.{◌≡◌, ◌∙◌, sym, subst, inl, inr}
 use Rattle.speck_run.specs.declared.words.Command.TheVariants as commands
 use Rattle.speck_run.specs.declared.top.Status.TheVariants.{Stopped}
+use Rattle.byte_ends.specs.Ends.{Adds}
 use Rattle.speck_run.specs.Top.{Asked, Answers, Writes}
-use Rattle.speck_run.proofs.Due.{answers_due, answers_fault, asks_same, carried_out, completes, stops_run, writes_due}
+use Rattle.speck_run.proofs.Due.{answers_due, answers_fault, asks_same, carried_out, completes, load_due, stops_run, writes_due}
 use Rattle.speck_run.proofs.top.speck.Goals as goal
 
 pub returns-in-Ok-clause-replay : goal.returns-in-Ok-clause-replay
@@ -45,6 +46,22 @@ returns-in-Ok-clause-print g c asks done =
     elim c.finish.ensures [
       | inl p ↦ carried_out c.args.words.now commands.Print asks (g.S.Source.left c.args.source.now) _ _ _ c.in-Ok.answer.status _ _ _ c.in-Ok.ensures.due (sym p.0 ∙ done) p.2
       | inr p ↦ let wrong = sym p.0 ∙ done in cc
+    ]
+
+pub returns-in-Ok-clause-make : goal.returns-in-Ok-clause-make
+returns-in-Ok-clause-make g c number asks done =
+    let held = g.K.Sink.held c.args.sink.now in
+    let held' = g.K.Sink.held c.finish.new.sink in
+    elim c.finish.ensures [
+      | inl p ↦ subst (λ text. Adds text held held') (load_due c.args.words.now number asks (g.S.Source.left c.args.source.now) _ _ _ c.in-Ok.answer.status _ c.in-Ok.ensures.due).1 p.2
+      | inr p ↦ let wrong = sym p.0 ∙ done in cc
+    ]
+
+pub returns-in-Ok-clause-made : goal.returns-in-Ok-clause-made
+returns-in-Ok-clause-made g c number asks =
+    elim c.finish.ensures [
+      | inl p ↦ inl (p.0 ∙ (load_due c.args.words.now number asks (g.S.Source.left c.args.source.now) _ _ _ c.in-Ok.answer.status _ c.in-Ok.ensures.due).0)
+      | inr p ↦ inr (inl p.0)
     ]
 
 pub returns-in-Ok-clause-answers : goal.returns-in-Ok-clause-answers

@@ -1,0 +1,4 @@
+pub mod Repeats
+pub mod Within
+pub mod Tallies
+pub mod ReplyWords

@@ -1,0 +1,195 @@
+-- The script of every number is within the limits, and its text says it.
+use Rattle.std.proofs.Common.{◌≡◌, ℕ, ◌<◌, ◌≤◌, List, [], ◌∷◌, ◌++◌, length, All, Ok, refl, sym, subst, arith, inl, inr}
+use Rattle.std.proofs.lemmas.Bool.{cases_lt}
+use Rattle.std.proofs.lemmas.List.{get_or_past}
+use Rattle.std.proofs.lemmas.List.Elements.{All-append, All-from_recursion, All-get_or}
+use Rattle.spk_nums.specs.declared.calls.Make.{Make}
+use Rattle.spk_nums.specs.declared.calls.Make.TheVariants.{Tcap, Comp}
+use Rattle.spk_nums.specs.declared.calls.Call.{Call}
+use Rattle.spk_nums.specs.declared.calls.Call.TheVariants.{Make as make_call, Map, Flush, Tick}
+use Rattle.spk_nums.specs.declared.steps.Item.{Item}
+use Rattle.spk_nums.specs.CallLimits.{MakeInLimits, InLimits}
+use Rattle.spk_nums.specs.Setting.{GrantFits, IsSetting}
+use Rattle.script_tokens.specs.Words.{line_count}
+use Rattle.script_reader.specs.Readings.{Meaning, BelowCores, script_of}
+use Rattle.script_printer.specs.Printing.{printed}
+use Rattle.script_printer.specs.Law.{IsMakeWithin, IsCallWithin, IsWithin, most_lines}
+use Rattle.script_printer.proofs.LineCounts.{few_lines}
+use Rattle.script_printer.proofs.PrintedLines.{printed_read}
+use Rattle.load_maker.specs.Draws.{Draw, below, done}
+use Rattle.load_maker.specs.Loads.{a_slot, a_frame, a_tcap, a_look, a_copy, a_remove, a_retype, a_make, a_map, an_unmap, a_touch, a_tick, a_transfer, a_test, a_call, call_numbered, the_grant, the_setup, first_calls, drawn_calls, drawn_lists, an_item, first_items, drawn_items, script_made, load_text}
+use Rattle.load_maker.specs.Accepted.{IsAccepted}
+use Rattle.load_maker.proofs.Repeats.{below_range, repeated_all, repeated_length}
+
+-- ---- calls
+
+-- each call that is drawn so is within the limits
+abbrev Draws_within : Draw Call → Type 0
+Draws_within d = (x : ℕ) → IsCallWithin (d x).0
+
+small : (m x most : ℕ) → 0 < m → m ≤ most → (below m x).0 ≤ most
+small m x most some le = omega (arith, below_range m x some)
+
+slot_small : (x : ℕ) → (a_slot x).0 ≤ 65535
+slot_small x = omega (arith, below_range 44 x (omega arith))
+
+frame_small : (x : ℕ) → (a_frame x).0 ≤ 65535
+frame_small x = omega (arith, below_range 20 x (omega arith))
+
+tcap_small : (x : ℕ) → (a_tcap x).0 ≤ 65535
+tcap_small x = omega (arith, below_range 4 x (omega arith))
+
+look_in : Draws_within a_look
+look_in x = small 128 x 65535 (omega arith) (omega arith)
+
+copy_in : Draws_within a_copy
+copy_in x = (small 32 x 65535 (omega arith) (omega arith), omega arith, slot_small (below 32 x).1)
+
+remove_in : Draws_within a_remove
+remove_in x = (omega arith, slot_small x)
+
+retype_in : Draws_within a_retype
+retype_in x = (omega arith, frame_small x)
+
+make_in : Draws_within a_make
+make_in x = (tt, omega arith, frame_small x, omega arith, slot_small (a_frame x).1)
+
+map_in : Draws_within a_map
+map_in x =
+    let y = (below 64 x).1 in
+    (omega arith, small 64 x 65535 (omega arith) (omega arith), omega arith, frame_small y, (let flags = below_range 4 (a_frame y).1 (omega arith) in omega arith))
+
+unmap_in : Draws_within an_unmap
+unmap_in x = (omega arith, small 64 x 65535 (omega arith) (omega arith))
+
+touch_in : Draws_within a_touch
+touch_in x = small 64 x 65535 (omega arith) (omega arith)
+
+tick_in : Draws_within a_tick
+tick_in x = small 50 x 1000000 (omega arith) (omega arith)
+
+transfer_in : Draws_within a_transfer
+transfer_in x =
+    let y = (a_tcap x).1 in
+    (tcap_small x, tcap_small y, small 100 (a_tcap y).1 4000000000 (omega arith) (omega arith))
+
+test_in : Draws_within a_test
+test_in x = (tcap_small x, tcap_small (a_tcap x).1)
+
+numbered_in : (n : ℕ) → Draws_within (call_numbered n)
+numbered_in n =
+    let draws : List (Draw Call) = a_look ∷ a_copy ∷ a_remove ∷ a_retype ∷ a_make ∷ a_map ∷ an_unmap ∷ a_touch ∷ a_tick ∷ a_transfer ∷ done Flush ∷ [] in
+    let all : All Draws_within draws =
+    All-from_recursion Draws_within draws (look_in, (copy_in, (remove_in, (retype_in, (make_in, (map_in, (unmap_in, (touch_in, (tick_in, (transfer_in, ((λ x. tt), tt))))))))))) in
+    elim (cases_lt n (length draws)) [
+      | inl h ↦ All-get_or Draws_within draws n a_test h all
+      | inr past ↦ subst Draws_within (sym (get_or_past draws n a_test past)) test_in
+    ]
+
+call_in : Draws_within a_call
+unfolding a_call
+call_in x = numbered_in (below 12 x).0 (below 12 x).1
+
+make_limits : (what : Make) → IsMakeWithin what → MakeInLimits what
+make_limits (Tcap sched quality) h =
+    let most : sched ≤ 63 = h.0 in
+    let best : quality ≤ 16777215 = h.2 in
+    (omega arith, h.1, omega arith)
+make_limits (Comp table pages live) h = let most : live ≤ 63 = h.2 in omega arith
+make_limits _ h = tt
+
+call_limits : (c : Call) → IsCallWithin c → InLimits c
+call_limits (make_call what range frame table slot) h = make_limits what h.0
+call_limits (Map p v r f w) h = let flags : w.0 ≤ 3 = h.4 in omega arith
+call_limits (Tick n) h = h
+call_limits _ h = tt
+
+-- ---- lists
+
+calls_in : (x : ℕ) → All IsCallWithin (drawn_calls x).0
+unfolding drawn_calls
+calls_in x = repeated_all IsCallWithin a_call call_in 500 x
+
+calls_length : (x : ℕ) → length (drawn_calls x).0 ≡ 500
+unfolding drawn_calls
+calls_length x = repeated_length a_call 500 x
+
+first_in : All IsCallWithin first_calls
+first_in = All-from_recursion IsCallWithin first_calls ((omega arith, omega arith), ((tt, omega arith, omega arith, omega arith, omega arith), ((omega arith, omega arith, omega arith), tt)))
+
+lists_in : (x : ℕ) → All (All IsCallWithin) (drawn_lists x).0
+lists_in x =
+    let y = (drawn_calls x).1 in
+    let z = (drawn_calls y).1 in
+    All-from_recursion (All IsCallWithin) (drawn_lists x).0 (All-append IsCallWithin first_calls (drawn_calls x).0 first_in (calls_in x), (calls_in y, (calls_in z, (calls_in (drawn_calls z).1, tt))))
+
+-- ---- the order
+
+abbrev Is_below : Item → Type 0
+Is_below i = i.core < 4
+
+item_in : (x : ℕ) → Is_below (an_item x).0
+unfolding an_item
+item_in x = below_range 4 x (omega arith)
+
+items_in : (x : ℕ) → All Is_below (drawn_items x).0
+unfolding drawn_items
+items_in x = repeated_all Is_below an_item item_in 6000 x
+
+items_length : (x : ℕ) → length (drawn_items x).0 ≡ 6000
+unfolding drawn_items
+items_length x = repeated_length an_item 6000 x
+
+order_in : (x : ℕ) → BelowCores 4 (first_items ++ (drawn_items x).0)
+order_in x = All-append Is_below first_items (drawn_items x).0 (All-from_recursion Is_below first_items (omega arith, (omega arith, (omega arith, tt)))) (items_in x)
+
+-- ---- the script
+
+grant_fits : GrantFits the_grant
+grant_fits = (omega arith, omega arith, omega arith, omega arith)
+
+setup_in : IsSetting the_setup
+setup_in = record {
+  some_core = omega arith;
+  most_cores = omega arith;
+  least_frames = omega arith;
+  most_frames = omega arith;
+  granted = refl;
+  grants_fit = All-from_recursion GrantFits (the_setup.grants) (grant_fits, (grant_fits, (grant_fits, (grant_fits, tt))));
+  most_calls = omega arith;
+  some_epoch = omega arith;
+  most_epochs = omega arith;
+}
+
+-- a script of these parts, from where its lists and its items are drawn
+within_parts : (x y : ℕ) → IsWithin (record { setup = the_setup; lists = (drawn_lists x).0; order = first_items ++ (drawn_items y).0 })
+within_parts x y =
+    let m : Meaning = record { setup = the_setup; lists = (drawn_lists x).0; order = first_items ++ (drawn_items y).0 } in
+    let lines : line_count (printed m) ≤ most_lines m = few_lines m setup_in refl (lists_in x) (order_in y) in
+    let x1 = (drawn_calls x).1 in
+    let x2 = (drawn_calls x1).1 in
+    let x3 = (drawn_calls x2).1 in
+    record {
+      setup = setup_in;
+      lists = refl;
+      calls = lists_in x;
+      below = order_in y;
+      items = omega (arith, items_length y);
+      lines = omega (arith, lines, calls_length x, calls_length x1, calls_length x2, calls_length x3, items_length y);
+    }
+
+pub made_within : (n : ℕ) → IsWithin (script_made n)
+unfolding script_made
+made_within n = within_parts n (drawn_lists n).1
+
+-- what is printed of it says it
+pub made_reads : (n : ℕ) → script_of (load_text n) ≡ Ok (script_made n)
+unfolding load_text
+made_reads n = printed_read (script_made n) (made_within n)
+
+pub accepted : (n : ℕ) → IsAccepted n
+accepted n = record {
+  within = made_within n;
+  limits = λ k d h i e g. call_limits _ ((made_within n).calls k d h i e g);
+  reads = made_reads n;
+}

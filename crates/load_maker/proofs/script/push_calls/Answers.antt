@@ -1,0 +1,25 @@
+use Rattle.std.proofs.Common.{◌≡◌, ◌+◌, ◌++◌, sym, ap, subst, ◌∙◌, arith}
+use Rattle.load_maker.specs.Draws.{repeated}
+use Rattle.load_maker.specs.Loads.{a_call, drawn_calls}
+use Rattle.load_maker.proofs.Repeats.{Drawn, drawn_none, drawn_more}
+use Rattle.load_maker.proofs.script.push_calls.Goals as goal
+
+pub calls-init : goal.calls-init
+calls-init c = drawn_none a_call c.args.calls.now.items c.args.draws.now.at
+
+pub calls-preserved : goal.calls-preserved
+calls-preserved c =
+    subst (λ calls. Drawn a_call c.args.calls.now.items c.args.draws.now.at (c.calls.counter + 1) calls c.draw_call.new.draws.at) (sym c.in_ok-push.ensures.items)
+    (drawn_more a_call c.args.calls.now.items c.args.draws.now.at c.calls.counter c.calls.calls.items c.calls.draws.at _ _ c.calls.invariant c.draw_call.ensures.value c.draw_call.ensures.goes_on)
+
+pub returns-clause-value : goal.returns-clause-value
+unfolding drawn_calls
+returns-clause-value c =
+    let all : c.calls.counter ≡ 500 = omega arith in
+    c.calls.invariant.all ∙ ap (λ n. c.args.calls.now.items ++ (repeated n a_call c.args.draws.now.at).0) all
+
+pub returns-clause-goes_on : goal.returns-clause-goes_on
+unfolding drawn_calls
+returns-clause-goes_on c =
+    let all : c.calls.counter ≡ 500 = omega arith in
+    c.calls.invariant.goes_on ∙ ap (λ n. (repeated n a_call c.args.draws.now.at).1) all

@@ -1,0 +1,4 @@
+pub mod Draws
+pub mod Loads
+pub mod Accepted
+pub mod Summaries

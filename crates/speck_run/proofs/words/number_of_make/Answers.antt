@@ -1,0 +1,20 @@
+use Rattle.std.proofs.Common.{◌≡◌, ◌∙◌, true, sym, ap, subst, length, get_or, arith, eqb}
+use Rattle.std.specs.Prelude.{string_bytes, codes}
+use lib.Pointwise.{pointwise}
+use Rattle.speck_run.specs.Top.{IsNumberIn}
+use Rattle.speck_run.proofs.Due.{number_told}
+use Rattle.speck_run.proofs.OneWord.{two_words}
+use Rattle.speck_run.proofs.words.number_of_make.Goals as goal
+
+pub returns-in-len2 : goal.returns-in-len2
+returns-in-len2 c =
+    let words = c.args.words.now in
+    let s = c.as_slice.ensures.value in
+    let two : length words.items ≡ 2 = let l = ap length s in let a = c.in-len2.len_at_least in let b = c.in-len2.len_below in omega arith in
+    let first = c.word-item.is ∙ ap (λ l. get_or l 0 c.word-item.result) s in
+    let second = c.number-item.is ∙ ap (λ l. get_or l 1 c.number-item.result) s in
+    let test : true ≡ pointwise eqb (string_bytes c.word-item.result) (codes "make") =
+    sym c.if-eq.true ∙ c.eq.ensures ∙ ap (λ l. pointwise eqb l (codes "make")) c.as_str.ensures.value in
+    number_told words (string_bytes c.number-item.result) c.number_in.result
+    (two_words (λ w. string_bytes w) words.items c.word-item.result c.number-item.result (codes "make") two first second test)
+    (subst (λ digits. IsNumberIn digits c.number_in.result) c.as_str-in-len2.ensures.value c.number_in.ensures)
