@@ -2,7 +2,11 @@ pub mod Refusals
 pub mod WorkSteps
 pub mod Fills
 pub mod Typings
+pub mod Objects
 pub mod Makings
+pub mod OwnChanges
+pub mod Ticks
 pub mod Acts
 pub mod Lookups
 pub mod Laws
+pub mod Kills

@@ -12,26 +12,28 @@
 //! A call that is new here adds a line to each function: where its act begins, which counts that changes, its next step, what it
 //! takes, and whether that step decides.
 
-ghost use Rattle.std.specs.Prelude.{◌≡◌, ◌<◌, ◌≤◌, ◌&&◌, nat_lt, slice_get, None};
+ghost use Rattle.std.specs.Prelude.{◌≡◌, ◌<◌, ◌≤◌, ◌&&◌, nat_lt, slice_get, None, [], ◌∷◌};
 ghost use Rattle.word_map.specs.Places.{Shape, size_of};
 ghost use Rattle.word_map.specs.Moves.{op_of};
 ghost use Rattle.spk_nums.specs.WordSteps.{place_in};
 ghost use Rattle.call_acts.specs.WorkSteps.{refuse};
-ghost use Rattle.call_acts.specs.Acts.{ActFits, act_move, took_act, act_ready, looked, cap_dues, dues, acquires, next_work, filling, fills_at, fills_with, put_by, act_begun, drawn_by, took_close, is_draw, scans, stamp_in, removing, removes_held, removes_at, types_if, types_at, starts, undo, made_dues, makes_at, makes_in};
-ghost use Rattle.call_acts.specs.Makings.{node_made};
+ghost use Rattle.call_acts.specs.Acts.{ActFits, act_move, took_act, act_ready, looked, cap_dues, dues, acquires, next_work, filling, fills_at, fills_with, put_by, act_begun, drawn_by, took_close, is_draw, scans, stamp_in, removing, removes_held, removes_at, types_if, types_at, starts, undo, made_dues, makes_at, makes_in, killing_dues, kills_in, kills_at};
 ghost use Rattle.kernel_rules.specs.Access.{found as named_by_cap};
 ghost use Rattle.kernel_rules.specs.CapabilityCalls.{has_frame};
 
 use crate::fills::Fill;
-use crate::makings::{Making, MakingAt, Node, node_cap};
+use crate::kills::{Killing, KillingAt};
+use crate::makings::{Making, MakingAt};
+use crate::objects::{NewObject, object_cap, object_made};
 use crate::own::Own;
 use crate::refusals::Refusal;
+use crate::ticks::{charges, is_charging, tick_op, tick_took};
 use crate::typings::{Typing, TypingAt};
 use crate::work::{Act, Due, Tail, Work, WorkStep};
 use call_plans::{Caps, Nth};
 use entry_words::Entry;
 use spk_nums::{
-    Call, Cap, CoreNo, FrameArg, FrameKind, FrameNo, Kind, Make, StageEnd, Stamp, Value, WordOp,
+    Call, Cap, CoreNo, FrameArg, FrameKind, FrameNo, Kind, StageEnd, Stamp, Value, WordOp,
 };
 use stage_look::Found;
 use stage_pins::Pin;
@@ -57,6 +59,8 @@ pub fn act_op(act: &Act, layout: &Layout) -> WordOp
         } => WordOp::Load {
             at: layout.entry_at(*node, *entry),
         },
+        Act::Tick { charge } => tick_op(charge, layout),
+        Act::Kill { killing } => killing.next(layout),
     }
 }
 
@@ -76,6 +80,8 @@ pub fn act_took(act: &Act, layout: &Layout, found: u64) -> WorkStep
         Act::Retype { typing } => typing.take(found),
         Act::Make { making } => making.take(found),
         Act::Outside { .. } => refuse(Refusal::OutOfRange),
+        Act::Tick { charge } => tick_took(charge, layout, found),
+        Act::Kill { killing } => killing.take(found),
     }
 }
 
@@ -126,6 +132,8 @@ pub fn act_ready(act: &Act) -> bool
         Act::Retype { typing } => typing.is_ready(),
         Act::Make { making } => making.is_ready(),
         Act::Outside { .. } => false,
+        Act::Tick { charge } => is_charging(charge),
+        Act::Kill { killing } => killing.is_ready(),
     }
 }
 
@@ -166,6 +174,8 @@ fn due(act: &Act, n: u8) -> Option<Due>
         Act::Retype { typing: _ } => None,
         Act::Make { making } => made_due(making, n),
         Act::Outside { .. } => None,
+        Act::Tick { charge: _ } => None,
+        Act::Kill { killing } => killing_due(killing, n),
     }
 }
 
@@ -188,7 +198,8 @@ fn cap_due(cap: &Cap, change: i32, n: u8) -> Option<Due>
 }
 
 /// What a call of a core does whose names have led to these and whose target, if it has one, was found: a look answers at once, a
-/// copy begins to fill its target, a remove, a shrink and an unmap to remove what their target holds, a retype to type its frame. The core is one of the layout's at most 8.
+/// copy begins to fill its target, a remove, a shrink and an unmap to remove what their target holds, a retype to type its frame,
+/// a make to make its object, a tick to charge its ticks. The core is one of the layout's at most 8.
 #[inline]
 pub fn begin_act(own: &Own, call: &Call, found: &Caps, target: &Option<Found>) -> WorkStep
     requires core { own.now.core < own.now.layout.cores }
@@ -206,8 +217,16 @@ pub fn begin_act(own: &Own, call: &Call, found: &Caps, target: &Option<Found>) -
             frame,
             table: _,
             slot: _,
-        } => makes_at(own, node_made(what), &found.get(Nth::First), *frame, target),
+        } => makes_at(
+            own,
+            object_made(what, found),
+            &found.get(Nth::First),
+            *frame,
+            target,
+        ),
         Call::Retype { r: _, f, k } => types_at(own, &found.get(Nth::First), *f, *k),
+        Call::Tick { n } => charges(own, *n),
+        Call::Kill { c: _ } => kills_at(own, &found.get(Nth::First)),
         _ => refuse(Refusal::Raced),
     }
 }
@@ -310,77 +329,54 @@ pub fn undo(act: &Act) -> Tail
 // The count of this number that a making changes.
 #[inline]
 fn made_due(making: &Making, n: u8) -> Option<Due>
-    ensures { result ≡ slice_get (made_dues making.now.fill.cap making.now.at) n }
+    ensures { result ≡ slice_get (made_dues making.now.object making.now.frame making.now.at) n }
 {
     match making.at {
         MakingAt::Load => None,
         MakingAt::Mark { word: _ } => None,
-        MakingAt::Store { word: _, entry: _ } => cap_due(&making.fill.cap, 1, n),
-        MakingAt::Fill { word: _ } => cap_due(&making.fill.cap, 1, n),
+        MakingAt::Store { word: _, entry: _ } => making.object.due(making.frame, n),
+        MakingAt::Fill { word: _ } => making.object.due(making.frame, n),
     }
 }
 
-// The node that a `make` makes, if it makes one.
-#[inline]
-fn node_made(what: &Make) -> Option<Node>
-    ensures { result ≡ node_made what.now }
-{
-    match what {
-        Make::Table => Some(Node::Table),
-        Make::Leaf => Some(Node::Leaf),
-        Make::Pages => Some(Node::Pages),
-        Make::Pleaf => Some(Node::Pleaf),
-        Make::Thread { comp: _ } => None,
-        Make::Tcap {
-            sched: _,
-            quality: _,
-        } => None,
-        Make::Comp {
-            table: _,
-            pages: _,
-            live: _,
-        } => None,
-    }
-}
-
-// A node is made in a frame of this range.
+// An object is made in a frame of this range.
 #[inline]
 fn makes_at(
     own: &Own,
-    node: Option<Node>,
+    object: Option<NewObject>,
     range: &Option<Cap>,
     frame: FrameArg,
     target: &Option<Found>,
 ) -> WorkStep
     requires core { own.now.core < own.now.layout.cores }
     requires cores { own.now.layout.cores ≤ 8 }
-    ensures { result ≡ makes_at own.now node range.now frame target.now }
+    ensures { result ≡ makes_at own.now object range.now frame target.now }
 {
-    match (node, range, target) {
-        (Some(node), Some(range), Some(target)) => makes_in(own, node, range, frame, target),
+    match (object, range, target) {
+        (Some(object), Some(range), Some(target)) => makes_in(own, &object, range, frame, target),
         _ => refuse(Refusal::Raced),
     }
 }
 
-// A node is made in a frame, where the range has it, after a scan where the target is quiescing.
+// An object is made in a frame, where the range has it, after a scan where the target is quiescing.
 #[inline]
-fn makes_in(own: &Own, node: Node, range: &Cap, frame: FrameArg, target: &Found) -> WorkStep
+fn makes_in(own: &Own, object: &NewObject, range: &Cap, frame: FrameArg, target: &Found) -> WorkStep
     requires core { own.now.core < own.now.layout.cores }
     requires cores { own.now.layout.cores ≤ 8 }
-    ensures { result ≡ makes_in own.now node range.now frame target.now }
+    ensures { result ≡ makes_in own.now object.now range.now frame target.now }
 {
     let act = if has_frame(range, frame) && frame.number() < own.layout.frames() {
         let frame = FrameNo::new(frame.number());
         Act::Make {
             making: Making {
                 frame,
-                node,
+                object: *object,
                 core: own.core,
                 fill: Fill {
                     node: target.node,
                     entry: target.entry,
                     word: target.word,
-                    cap: node_cap(node, frame),
+                    cap: object_cap(*object, frame),
                 },
                 at: MakingAt::Load,
             },
@@ -465,4 +461,61 @@ fn has_frame(range: &Cap, frame: FrameArg) -> bool
     let first = u32::from(range.frame().number());
     let number = u32::from(frame.number());
     first <= number && number < first + range.arg()
+}
+
+// The count of this number that a killing changes: that of the component's frame.
+#[inline]
+fn killing_due(killing: &Killing, n: u8) -> Option<Due>
+    ensures { result ≡ slice_get (killing_dues killing.now.comp killing.now.at) n }
+{
+    match killing.at {
+        KillingAt::LoadComp => None,
+        KillingAt::LoadLive { life: _ } => None,
+        KillingAt::Close { life: _, word: _ } => one_due(killing.comp, -1, n),
+        KillingAt::Draw { life: _, word: _ } => one_due(killing.comp, -1, n),
+    }
+}
+
+// The count of this number where only that of one frame changes, by so many.
+#[inline]
+fn one_due(frame: FrameNo, change: i32, n: u8) -> Option<Due>
+    ensures { result ≡ slice_get (record { frame = frame; change = change } ∷ []) n }
+{
+    if n == 0 {
+        Some(Due { frame, change })
+    } else {
+        None
+    }
+}
+
+// The component to which a name has led is killed.
+#[inline]
+fn kills_at(own: &Own, comp: &Option<Cap>) -> WorkStep
+    ensures { result ≡ kills_at own.now comp.now }
+{
+    match comp {
+        None => refuse(Refusal::Raced),
+        Some(comp) => kills_in(own.core, comp.kind(), comp.frame()),
+    }
+}
+
+// The component in a frame is killed; a capability of another kind names none.
+#[inline]
+fn kills_in(core: CoreNo, kind: Kind, comp: FrameNo) -> WorkStep
+    ensures { result ≡ kills_in core kind comp }
+{
+    match kind {
+        Kind::Comp => WorkStep::Goes {
+            work: Work::Act {
+                act: Act::Kill {
+                    killing: Killing {
+                        comp,
+                        core,
+                        at: KillingAt::LoadComp,
+                    },
+                },
+            },
+        },
+        _ => refuse(Refusal::Raced),
+    }
 }

@@ -17,15 +17,25 @@
 //! **Retype to user or kernel.** The frame's word is loaded, and compared with the word found, which says that the frame is untyped and
 //! that no core has marked it; the compare decides.
 //!
-//! **Make a node.** The frame's word is loaded, and compared with the word found, which says that the frame is a blank kernel frame and that
-//! no core has marked it; the compare marks it. Then the count of the frame is acquired, its 64 entries are stored as free, and the target's
-//! entry is compared with the word that this call has loaded there; this compare decides. The frame's word is still to be stored: that of
-//! the node, or the word found, where the call is refused after the mark. A target that is quiescing is scanned for before the frame's
-//! word is loaded.
+//! **Make an object.** The frame's word is loaded, and compared with the word found, which says that the frame is a blank kernel frame
+//! and that no core has marked it; the compare marks it. Then the counts are acquired that the object changes: that of the frame, and
+//! of a thread that of its component. Its words are stored, and the target's entry is compared with the word that this call has loaded
+//! there; this compare decides. The frame's word is still to be stored: that of the object, or the word found, where the call is
+//! refused after the mark. A target that is quiescing is scanned for before the frame's word is loaded. A component is not made today.
+//!
+//! **Tick.** The head of the core's temporal capability is loaded, and compared with the head found, which no core has marked: with the
+//! ticks asked for and those owed less, or with no budget where it has fewer; the compare decides. What is not charged stays owed,
+//! also where the call is refused.
+//!
+//! **Kill.** The component's word is loaded, which names its liveness number and its epoch, and the number's word, which says that the
+//! component lives. Then the count of the component's frame is acquired, the number's word is marked by a compare with the word found, and
+//! a stamp is drawn, which decides. The number's word is still to be stored: dead since the stamp.
 //!
 //! **Refusals.** A refusal decides at the first step by which it is known and every earlier cause is judged: of each name in
-//! written order `no-slot`, `empty` and `wrong-cap`, then of the target `no-slot` and `occupied`, then what the act asks: `out-of-range` of a
-//! frame that is not in the range, and `frame-kind` of one that is not untyped, or for a node not blank. A lost compare is `raced`.
+//! written order `no-slot`, `empty` and `wrong-cap`, then of the target `no-slot` and `occupied`, then what the act asks:
+//! `out-of-range` of a frame that is not in the range, and `frame-kind` of one that is not untyped, or for an object not blank; `dead` of a component that does
+//! not live. A lost
+//! compare is `raced`.
 //!
 //! **A call more** adds a line to each function of `acts`: where its act begins, which counts it changes, the act's next step, what
 //! it takes, whether that step decides.
@@ -33,20 +43,25 @@
 
 mod acts;
 mod fills;
+mod kills;
 mod laws;
 mod lookups;
 mod makings;
+mod objects;
 mod own;
 mod refusals;
+mod ticks;
 mod typings;
 mod work;
 
 pub use acts::{act_op, act_ready, act_took, begin_act, next_work, refuse, starts, undo};
 pub use fills::Fill;
+pub use kills::{Killing, KillingAt, dead_op};
 pub use laws::refusals_are_replies;
 pub use lookups::{Met, frame_of, met_free, met_held, met_name};
-pub use makings::{Making, MakingAt, Node};
-pub use own::Own;
+pub use makings::{Making, MakingAt};
+pub use objects::NewObject;
+pub use own::{Own, OwnChange};
 pub use refusals::Refusal;
 pub use typings::{Typing, TypingAt};
 pub use work::{Act, Due, Tail, Work, WorkStep};

@@ -1,66 +1,51 @@
-//! The act that makes a node in a blank kernel frame, and puts its capability at the target.
+//! The act that makes an object in a blank kernel frame, and puts its capability at the target.
 //!
 //! **Marking.** The frame's word is loaded, and marked by a compare with the word found. While it is marked no other core makes an object
 //! in the frame, nor retypes it.
 //!
-//! **Filling in.** Then the count of the frame is acquired, and each word of the node is stored: 64 free entries. The frame is blank
-//! still, and no capability leads to it, so no other core reads these words.
+//! **Filling in.** Then the counts are acquired that the object changes, that of the frame first, and each word of the object is stored.
+//! The frame is blank still, and no capability leads to it, so no other core reads these words.
 //!
 //! **Publishing.** The target is compared with the word found there, which decides the call. After it the frame's word is stored, with
 //! its object and without the mark, as its kind was changed by the decision. A refused call stores the frame's word as it was found.
 
 ghost use Rattle.std.specs.Prelude.{◌≡◌, ◌<◌};
 ghost use Rattle.spk_nums.specs.WordSteps.{place_in};
-ghost use Rattle.entry_words.specs.EntryWord.{word_of_entry};
-ghost use Rattle.entry_words.specs.declared.entry.Entry.TheVariants.{Free};
 ghost use Rattle.frame_words.specs.Frame.{word_of_frame, frame_of_word};
 ghost use Rattle.word_map.specs.Places.{size_of};
 ghost use Rattle.word_map.specs.Moves.{op_of};
-ghost use Rattle.call_acts.specs.Makings.{MakingFits, marked, made, making_move, undo_at, is_filling, node_obj, node_kind, node_cap, stored};
+ghost use Rattle.call_acts.specs.Makings.{MakingFits, marked, made, making_move, undo_at, is_filling, stored};
 ghost use Rattle.call_acts.specs.Acts.{meets_blank, meets_making, took_making, published};
 
 use crate::acts::{next_work, refuse};
 use crate::fills::Fill;
+use crate::objects::NewObject;
 use crate::refusals::Refusal;
 use crate::work::{Act, Tail, Work, WorkStep};
-use entry_words::Entry;
 use frame_words::FrameWord;
-use spk_nums::{Cap, CoreNo, EntryNo, FrameKind, FrameNo, Kind, Obj, Value, WordOp};
+use spk_nums::{CoreNo, EntryNo, FrameKind, FrameNo, Obj, Value, WordOp};
 use word_map::Layout;
 
-/// A node, by its kind.
-#[derive(Clone, Copy, PartialEq, Eq, Debug)]
-pub enum Node {
-    /// The root of a capability table.
-    Table,
-    /// A leaf of a capability table.
-    Leaf,
-    /// The root of a page table.
-    Pages,
-    /// A leaf of a page table.
-    Pleaf,
-}
-
-/// Where the making of a node stands.
+/// Where a making stands.
 #[derive(Clone, Copy, PartialEq, Eq, Debug)]
 pub enum MakingAt {
     /// Before the load of the frame's word.
     Load,
     /// Before the compare that marks the frame, with the word found, which says that it is a blank kernel frame and not marked.
     Mark { word: u64 },
-    /// The frame is marked, and its word was this. Before the store of this entry of the node.
+    /// The frame is marked, and its word was this. Before the store of this word of the object.
     Store { word: u64, entry: EntryNo },
     /// The frame is marked, and its word was this. Before the compare of the target.
     Fill { word: u64 },
 }
 
-/// A node that is made, between two steps.
+/// An object that is made, between two steps.
 #[derive(Clone, Copy, PartialEq, Eq, Debug)]
 pub struct Making {
     /// The frame.
     pub frame: FrameNo,
     /// What is made.
-    pub node: Node,
+    pub object: NewObject,
     /// The core that makes it.
     pub core: CoreNo,
     /// The target's place, and the capability that is put there.
@@ -88,14 +73,14 @@ impl Making {
             },
             MakingAt::Store { word: _, entry } => WordOp::Store {
                 at: layout.entry_at(self.frame, entry),
-                word: free_word(),
+                word: self.object.word(entry),
             },
             MakingAt::Fill { word: _ } => self.fill.next(layout),
         }
     }
 
     /// Takes the word that the step found: a frame that another core has marked is `busy`, one that is no blank kernel frame
-    /// `frame-kind`. A lost compare is `raced`. After the mark the frame's count is acquired.
+    /// `frame-kind`. A lost compare is `raced`. After the mark the object's counts are acquired.
     #[inline]
     pub fn take(&self, found: u64) -> WorkStep
         ensures { result ≡ took_making self.now found }
@@ -117,7 +102,7 @@ impl Making {
             }
             MakingAt::Store { word, entry } => WorkStep::Goes {
                 work: Work::Act {
-                    act: self.at(stored(word, entry)),
+                    act: self.at(stored(self.object, word, entry)),
                 },
             },
             MakingAt::Fill { word } => self.published(word, found == self.fill.word),
@@ -198,7 +183,7 @@ impl Making {
                 drawn: None,
                 tail: Tail::Unmark {
                     frame: self.frame,
-                    word: made_word(self.node),
+                    word: made_word(self.object),
                 },
             }
         } else {
@@ -213,49 +198,13 @@ impl Making {
     }
 }
 
-impl Node {
-    /// What the frame of such a node holds.
-    #[inline]
-    pub fn object(self) -> Obj
-        ensures { result ≡ node_obj self }
-    {
-        match self {
-            Node::Table => Obj::Table,
-            Node::Leaf => Obj::Leaf,
-            Node::Pages => Obj::Pages,
-            Node::Pleaf => Obj::Pleaf,
-        }
-    }
-
-    /// The kind of the capability that leads to such a node.
-    #[inline]
-    pub fn kind(self) -> Kind
-        ensures { result ≡ node_kind self }
-    {
-        match self {
-            Node::Table => Kind::Table,
-            Node::Leaf => Kind::Leaf,
-            Node::Pages => Kind::Pages,
-            Node::Pleaf => Kind::Pleaf,
-        }
-    }
-}
-
-/// The capability that leads to such a node in a frame.
+// Where the making stands after the store of a word.
 #[inline]
-pub fn node_cap(node: Node, frame: FrameNo) -> Cap
-    ensures { result ≡ node_cap node frame }
-{
-    Cap::new(node.kind(), frame, 0)
-}
-
-// Where the making stands after the store of an entry.
-#[inline]
-fn stored(word: u64, entry: EntryNo) -> MakingAt
-    ensures { result ≡ stored word entry }
+fn stored(object: NewObject, word: u64, entry: EntryNo) -> MakingAt
+    ensures { result ≡ stored object word entry }
 {
     let at = entry.number();
-    if at < 63 {
+    if at < object.last() {
         MakingAt::Store {
             word,
             entry: EntryNo::new(at + 1),
@@ -279,24 +228,15 @@ fn marked_word(core: CoreNo) -> u64
     word.pack()
 }
 
-// The word of a frame that holds such a node.
+// The word of a frame that holds such an object.
 #[inline]
-fn made_word(node: Node) -> u64
-    ensures { result ≡ word_of_frame (made node) }
+fn made_word(object: NewObject) -> u64
+    ensures { result ≡ word_of_frame (made object) }
 {
     let word = FrameWord {
         kind: FrameKind::Kernel,
-        object: node.object(),
+        object: object.object(),
         mark: None,
     };
     word.pack()
-}
-
-// The word of a free entry.
-#[inline]
-fn free_word() -> u64
-    ensures { result ≡ word_of_entry Free }
-{
-    let entry = Entry::Free;
-    entry.pack()
 }

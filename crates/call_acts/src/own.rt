@@ -1,4 +1,7 @@
-//! What a core has of its own, beside its call.
+//! What a core has of its own, beside its call, and what a decision changes of it.
+
+ghost use Rattle.std.specs.Prelude.{◌≡◌};
+ghost use Rattle.call_acts.specs.OwnChanges.{own_changed};
 
 use spk_nums::{CoreNo, FrameNo, Stamp, Translations};
 use word_map::Layout;
@@ -35,4 +38,26 @@ pub struct Own {
     pub spent: u64,
     /// The translations that it has cached. They stand last, so that what every step reads lies together.
     pub cached: Translations,
+}
+
+/// What a decision changes of what its core has of its own, beside the calls that it has made.
+#[derive(Clone, Copy, PartialEq, Eq, Debug)]
+pub enum OwnChange {
+    /// So many ticks were charged, which are spent, and so many are owed.
+    Ticks { charged: u32, owed: u64 },
+}
+
+impl Own {
+    /// Makes the change of a decision.
+    #[inline]
+    pub fn change(&mut self, change: &OwnChange)
+        ensures { self.new ≡ own_changed self.old change.now }
+    {
+        match change {
+            OwnChange::Ticks { charged, owed } => {
+                self.spent = self.spent.saturating_add(u64::from(*charged));
+                self.owed = *owed;
+            }
+        }
+    }
 }

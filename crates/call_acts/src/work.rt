@@ -1,13 +1,17 @@
 //! The work of a call between its entry and its decision, what a step of it leads to, and what a decision leaves to be stored.
 
 use crate::fills::Fill;
+use crate::kills::Killing;
 use crate::makings::Making;
+use crate::own::OwnChange;
 use crate::refusals::Refusal;
 use crate::typings::Typing;
-use spk_nums::{Cap, EntryNo, FrameNo, Stamp, Value};
+use frame_words::CompWord;
+use spk_nums::{Cap, EntryNo, FrameNo, Reply, Stamp, Value};
 use stage_look::Look;
 use stage_pins::{Acquired, Pin};
 use stage_quiet::{Close, Quiet};
+use stage_tcap::Charge;
 
 /// What a call does after its look-ups, till it is decided.
 #[derive(Clone, Copy, PartialEq, Eq, Debug)]
@@ -25,7 +29,7 @@ pub enum Act {
     Retype {
         typing: Typing,
     },
-    /// It makes a node in a blank kernel frame.
+    /// It makes an object in a blank kernel frame.
     Make {
         making: Making,
     },
@@ -34,6 +38,14 @@ pub enum Act {
         node: FrameNo,
         entry: EntryNo,
         word: u64,
+    },
+    /// It charges ticks to the core's temporal capability.
+    Tick {
+        charge: Charge,
+    },
+    /// It kills a component.
+    Kill {
+        killing: Killing,
     },
 }
 
@@ -70,6 +82,8 @@ pub enum Tail {
     /// The word of a frame that the call has marked: with its object where the call is carried out, and as it was found where it is
     /// refused.
     Unmark { frame: FrameNo, word: u64 },
+    /// The word of a liveness number that is dead since the stamp that was drawn.
+    StoreDead { life: CompWord, stamp: Stamp },
 }
 
 /// What a step of the work of a call led to.
@@ -94,5 +108,10 @@ pub enum WorkStep {
         value: Value,
         drawn: Option<Stamp>,
         tail: Tail,
+    },
+    /// The call is decided with this reply and nothing to store, and changes this of what its core has of its own.
+    Changes {
+        reply: Reply,
+        change: OwnChange,
     },
 }

@@ -16,7 +16,7 @@ use Rattle.spk_nums.specs.declared.kinds.FrameKind.TheVariants.{Untyped, User, K
 use Rattle.spk_nums.specs.declared.calls.Make.{Make}
 use Rattle.spk_nums.specs.declared.calls.Make.TheVariants as make
 use Rattle.spk_nums.specs.declared.calls.Call.{Call}
-use Rattle.spk_nums.specs.declared.calls.Call.TheVariants.{Look as look_call, Copy, Remove, Shrink, Unmap, Retype, Make as make_call}
+use Rattle.spk_nums.specs.declared.calls.Call.TheVariants.{Look as look_call, Copy, Remove, Shrink, Unmap, Retype, Make as make_call, Tick, Kill}
 use Rattle.spk_nums.specs.declared.replies.Reply.{Reply}
 use Rattle.entry_words.specs.declared.entry.Entry.{Entry}
 use Rattle.entry_words.specs.declared.entry.Entry.TheVariants as entry
@@ -35,33 +35,52 @@ use Rattle.call_plans.specs.declared.plans.Plan.{Plan}
 use Rattle.call_plans.specs.PlanOf.{any_cap, plan_of_retype, plan_of_make, plan_for}
 use Rattle.call_acts.specs.declared.refusals.Refusal.TheVariants as refusal
 use Rattle.call_acts.specs.declared.own.Own.{Own}
+use Rattle.call_acts.specs.Ticks.{took_charge, took_tick, is_charging}
+use Rattle.stage_tcap.specs.declared.charge.Charge.{Charge}
+use Rattle.stage_tcap.specs.declared.charge.Charge.TheVariants.{AtLoad as charge_load, AtCompare as charge_compare}
+use Rattle.stage_tcap.specs.Charging.{end_by_mark, head_end, charged_end}
+use Rattle.stage_tcap.specs.Heads.{head}
+use Rattle.tcap_words.specs.Head.{word_of_head, head_of_word}
+use Rattle.tcap_words.specs.declared.head_word.HeadWord.{HeadWord}
+use Rattle.kernel_rules.specs.Laws.{IsRefusal}
+use Rattle.std.specs.Prelude.{min}
 use Rattle.call_acts.specs.declared.lookups.Met.{Met}
 use Rattle.call_acts.specs.declared.lookups.Met.TheVariants.{Finds, Refused}
 use Rattle.spk_nums.specs.declared.kinds.Obj.{Obj}
 use Rattle.spk_nums.specs.declared.kinds.Obj.TheVariants.{Blank}
-use Rattle.call_acts.specs.declared.makings.Node.{Node}
+use Rattle.call_acts.specs.declared.objects.NewObject.{NewObject}
+use Rattle.call_acts.specs.Objects.{object_made}
 use Rattle.call_acts.specs.declared.makings.Making.{Making}
 use Rattle.call_acts.specs.declared.makings.MakingAt.{MakingAt}
 use Rattle.call_acts.specs.declared.makings.MakingAt.TheVariants.{Load as make_load, Mark, Store, Fill as fill_at}
-use Rattle.call_acts.specs.Makings.{node_made, is_filling}
+use Rattle.call_acts.specs.Makings.{is_filling}
 use Rattle.call_acts.specs.declared.work.Act.{Act as ActType}
-use Rattle.call_acts.specs.declared.work.Act.TheVariants.{Fill as fill_act, Remove as remove_act, Retype as type_act, Make as make_act, Outside}
+use Rattle.call_acts.specs.declared.work.Act.TheVariants.{Fill as fill_act, Remove as remove_act, Retype as type_act, Make as make_act, Outside, Tick as tick_act, Kill as kill_act}
 use Rattle.call_acts.specs.declared.work.Work.{Work}
 use Rattle.call_acts.specs.declared.work.Work.TheVariants.{Lookup, Scan, Acquire, Act}
 use Rattle.call_steps.specs.declared.stages.Stage.{Stage}
 use Rattle.call_steps.specs.declared.stages.Stage.TheVariants.{Enter, Undecided, Decided, Leave}
 use Rattle.call_acts.specs.declared.work.Tail.{Tail}
-use Rattle.call_acts.specs.declared.work.Tail.TheVariants.{Nothing, Quiesce, Unmark}
+use Rattle.call_acts.specs.declared.work.Tail.TheVariants.{Nothing, Quiesce, Unmark, StoreDead}
 use Rattle.call_steps.specs.declared.stages.ActiveCall.{ActiveCall}
 use Rattle.call_acts.specs.declared.work.WorkStep.{WorkStep}
-use Rattle.call_acts.specs.declared.work.WorkStep.TheVariants.{Goes, Acquires, Refuses as refuses_to, Answers}
+use Rattle.call_acts.specs.declared.work.WorkStep.TheVariants.{Goes, Acquires, Refuses as refuses_to, Answers, Changes as work_changes}
 use Rattle.call_acts.specs.Refusals.{refusal_of}
 use Rattle.call_acts.proofs.Refusing.{refusal_refuses}
 use Rattle.call_acts.specs.Fills.{filled_if}
 use Rattle.call_acts.specs.WorkSteps.{refuse}
-use Rattle.call_acts.specs.Acts.{took_close, is_draw, took_act, act_ready, fills_with, removes_held, removes_at, act_begun, types_if, types_at, stamp_in, filling, starts, scans, makes_at, meets_object, meets_blank, meets_making, marks_if, published, took_making_at}
+use Rattle.call_acts.specs.Acts.{took_close, is_draw, took_act, act_ready, fills_with, removes_held, removes_at, act_begun, types_if, types_at, stamp_in, filling, starts, scans, makes_at, meets_object, meets_blank, meets_making, marks_if, published, took_making_at, kills_in, kills_at, meets_comp, meets_live, meets_number, meets_life, closes_if, took_killing_at}
 use Rattle.call_plans.specs.declared.plans.Nth.TheVariants.{First}
 use Rattle.frame_words.specs.declared.frame_word.FrameWord.{FrameWord}
+use Rattle.spk_nums.specs.declared.kinds.Kind.{Kind}
+use Rattle.spk_nums.specs.declared.kinds.Kind.TheVariants as kind
+use Rattle.frame_words.specs.declared.comp_word.CompWord.{CompWord}
+use Rattle.frame_words.specs.declared.live_word.LiveWord.{LiveWord}
+use Rattle.frame_words.specs.declared.live_word.LiveWord.TheVariants as live
+use Rattle.call_acts.specs.declared.kills.Killing.{Killing}
+use Rattle.call_acts.specs.declared.kills.KillingAt.{KillingAt}
+use Rattle.call_acts.specs.declared.kills.KillingAt.TheVariants.{LoadComp, LoadLive, Close as kill_close, Draw as kill_draw}
+use Rattle.call_acts.specs.Kills.{is_killing}
 use Rattle.call_acts.specs.declared.typings.Typing.{Typing}
 use Rattle.call_acts.specs.declared.typings.TypingAt.{TypingAt}
 use Rattle.call_acts.specs.declared.typings.TypingAt.TheVariants.{Load, Compare as type_compare}
@@ -80,6 +99,7 @@ landed_turns a (Goes work) = refl
 landed_turns a (Acquires count work) = refl
 landed_turns a (refuses_to r tail) = (refl, refl)
 landed_turns a (Answers v drawn tail) = (refl, refl)
+landed_turns a (work_changes r change) = (refl, refl)
 
 named_turns : (own : Own) (a : ActiveCall) (met : Met) → Turns None (named_one own a met)
 named_turns own a (Finds k) = landed_turns (found_more a (pushed a.found k)) _
@@ -114,6 +134,7 @@ tail_turns : (a : ActiveCall) (r : Reply) (drawn : Option ℕ) (tail : Tail) (co
     → Turns (Some r) (GoesOn (went_with a (tail_counts tail counts) (took_tail r drawn tail counts found)))
 tail_turns a r drawn (Quiesce close) counts found = refl
 tail_turns a r drawn (Unmark f word) counts found = refl
+tail_turns a r drawn (StoreDead life stamp) counts found = refl
 tail_turns a r drawn Nothing [] found = refl
 tail_turns a r drawn Nothing (x ∷ xs) found = refl
 
@@ -132,12 +153,14 @@ NoAnswer (Goes work) = Unit {0}
 NoAnswer (Acquires count work) = Unit {0}
 NoAnswer (refuses_to r tail) = Unit {0}
 NoAnswer (Answers v drawn tail) = ⊥
+NoAnswer (work_changes r change) = IsRefusal r
 
 landed_refuses : (a : ActiveCall) (step : WorkStep) → NoAnswer step → Refuses (landed a step)
 landed_refuses a (Goes work) none = tt
 landed_refuses a (Acquires count work) none = tt
 landed_refuses a (refuses_to r tail) none = refusal_refuses r
 landed_refuses a (Answers v drawn tail) none = absurd none
+landed_refuses a (work_changes r change) none = none
 
 under_no : (within : Bool) (top n : ℕ) → NoAnswer (looks_under within top n)
 under_no true top n = tt
@@ -158,6 +181,8 @@ starts_no core (fill_act fill) = tt
 starts_no core (remove_act close cap) = tt
 starts_no core (type_act typing) = tt
 starts_no core (make_act m) = tt
+starts_no core (tick_act charge) = tt
+starts_no core (kill_act m) = tt
 
 scans_no : (core : ℕ) (o : Option Quiet) (act : ActType) → NoAnswer (scans core o act)
 scans_no core None act = starts_no core act
@@ -186,12 +211,20 @@ types_no : (own : Own) (range : Option Capability) (f : ℕ) (k : FrameKind) →
 types_no own None f k = tt
 types_no own (Some range) f k = type_no _ f k
 
-makes_no : (own : Own) (node : Option Node) (range : Option Capability) (f : ℕ) (target : Option Found)
-    → NoAnswer (makes_at own node range f target)
-makes_no own (Some node) (Some range) f (Some target) = scans_no own.core _ _
+makes_no : (own : Own) (object : Option NewObject) (range : Option Capability) (f : ℕ) (target : Option Found)
+    → NoAnswer (makes_at own object range f target)
+makes_no own (Some object) (Some range) f (Some target) = scans_no own.core _ _
 makes_no own None range f target = tt
-makes_no own (Some node) None f target = tt
-makes_no own (Some node) (Some range) f None = tt
+makes_no own (Some object) None f target = tt
+makes_no own (Some object) (Some range) f None = tt
+
+kill_no : (core : ℕ) (kind : Kind) (f : ℕ) → NoAnswer (kills_in core kind f)
+kill_no core kind.Comp f = tt
+kill_no core kind f = tt
+
+kills_no : (own : Own) (comp : Option Capability) → NoAnswer (kills_at own comp)
+kills_no own None = tt
+kills_no own (Some k) = kill_no own.core k.kind k.frame
 
 act_no : (own : Own) (call : Call) (found : List Capability) (target : Option Found) → decides_at_name (plan_for call).decides ≡ false
     → NoAnswer (act_begun own call found target)
@@ -202,7 +235,8 @@ act_no own (Shrink t i) found target not = remove_no own.core target
 act_no own (Unmap p v) found target not = remove_no own.core target
 act_no own (Retype r f k) found target not = types_no own (at_place found First) f k
 act_no own (make_call what range frame table slot) found target not =
-    makes_no own (node_made what) (at_place found First) frame target
+    makes_no own (object_made what found) (at_place found First) frame target
+act_no own (Kill k) found target not = kills_no own (at_place found First)
 act_no own call found target not = tt
 
 -- A call that is decided where its last name is found has one name, and no target.
@@ -378,12 +412,54 @@ making_no m (Mark word) found not = marks_no m word _
 making_no m (Store word entry) found not = tt
 making_no m (fill_at word) found not = absurd (cc)
 
+head_no : (charge : Charge) (due : ℕ) (o : Option HeadWord) → NoAnswer (took_charge due charge (head_end o))
+head_no charge due None = tt
+head_no charge due (Some v) = by v.mark
+  where
+    by : (mark : Option ℕ) → NoAnswer (took_charge due charge (end_by_mark mark))
+    by None = tt
+    by (Some d) = tt
+
+charge_no : (charge : Charge) (found : ℕ) → is_charging charge ≡ false → NoAnswer (took_tick charge found)
+charge_no (charge_load tcap ticks) found not = head_no _ ticks (head_of_word found)
+charge_no (charge_compare tcap ticks budget version) found not = absurd (cc)
+
+lives_no : (m : Killing) (life : CompWord) (word : ℕ) (lives : Bool) → NoAnswer (meets_life m life word lives)
+lives_no m life word true = tt
+lives_no m life word false = tt
+
+number_no : (m : Killing) (life : CompWord) (word : ℕ) (v : LiveWord) → NoAnswer (meets_number m life word v)
+number_no m life word live.Free = tt
+number_no m life word (live.Live epoch f) = lives_no m life word _
+number_no m life word (live.Closing epoch by) = tt
+number_no m life word (live.Dead epoch stamp) = tt
+
+live_no : (m : Killing) (life : CompWord) (word : ℕ) (o : Option LiveWord) → NoAnswer (meets_live m life word o)
+live_no m life word None = tt
+live_no m life word (Some v) = number_no m life word v
+
+comp_no : (m : Killing) (o : Option CompWord) → NoAnswer (meets_comp m o)
+comp_no m None = tt
+comp_no m (Some life) = tt
+
+closes_no : (m : Killing) (life : CompWord) (word : ℕ) (equal : Bool) → NoAnswer (closes_if m life word equal)
+closes_no m life word true = tt
+closes_no m life word false = tt
+
+killing_no : (m : Killing) (at : KillingAt) (found : ℕ) → is_killing at ≡ false → NoAnswer (took_killing_at m at found)
+killing_no m LoadComp found not = comp_no m _
+killing_no m (LoadLive life) found not = live_no m life found _
+killing_no m (kill_close life word) found not = closes_no m life word _
+killing_no m (kill_draw life word) found not = absurd (cc)
+
 act_unready : (act : ActType) (found : ℕ) → act_ready act ≡ false → NoAnswer (took_act act found)
 act_unready (fill_act fill) found not = absurd (cc)
 act_unready (remove_act close cap) found not = close_no cap close found not
 act_unready (type_act typing) found not = typing_no typing typing.at found not
 act_unready (make_act m) found not = making_no m m.at found not
 act_unready (Outside node entry word) found not = tt
+act_unready (tick_act charge) found not = charge_no charge found not
+act_unready (kill_act m) found not = killing_no m m.at found not
 
 -- a step of a scan answers nothing
 scan_refuses : (core : ℕ) (act : ActType) (a : ActiveCall) (q : Quiet) (end : StageEnd (Unit {0}))
@@ -448,12 +524,14 @@ IsOver (Goes work) = ⊥
 IsOver (Acquires count work) = ⊥
 IsOver (refuses_to r tail) = Unit {0}
 IsOver (Answers v drawn tail) = Unit {0}
+IsOver (work_changes r change) = Unit {0}
 
 landed_decides : (a : ActiveCall) (step : WorkStep) → IsOver step → IsDecision (landed a step)
 landed_decides a (Goes work) over = absurd over
 landed_decides a (Acquires count work) over = absurd over
 landed_decides a (refuses_to r tail) over = tt
 landed_decides a (Answers v drawn tail) over = tt
+landed_decides a (work_changes r change) over = tt
 
 fill_decides : (a : ActiveCall) (equal : Bool) → IsDecision (landed a (filled_if equal))
 fill_decides a true = tt
@@ -479,6 +557,22 @@ making_decides a m (Mark word) found ready = absurd (cc)
 making_decides a m (Store word entry) found ready = absurd (cc)
 making_decides a m (fill_at word) found ready = published_decides a m word _
 
+charge_decides : (a : ActiveCall) (charge : Charge) (found : ℕ) → is_charging charge ≡ true → IsDecision (landed a (took_tick charge found))
+charge_decides a (charge_load tcap ticks) found ready = absurd (cc)
+charge_decides a (charge_compare tcap ticks budget version) found ready = by (found == word_of_head (head budget version))
+  where
+    by : (equal : Bool) → IsDecision (landed a (took_charge ticks (charge_compare tcap ticks budget version)
+        (charged_end equal (min ticks budget))))
+    by true = tt
+    by false = tt
+
+killing_decides : (a : ActiveCall) (m : Killing) (at : KillingAt) (found : ℕ) → is_killing at ≡ true
+    → IsDecision (landed a (took_killing_at m at found))
+killing_decides a m LoadComp found ready = absurd (cc)
+killing_decides a m (LoadLive life) found ready = absurd (cc)
+killing_decides a m (kill_close life word) found ready = absurd (cc)
+killing_decides a m (kill_draw life word) found ready = tt
+
 act_decides : (a : ActiveCall) (act : ActType) (found : ℕ) → act_ready act ≡ true → IsDecision (landed a (took_act act found))
 act_decides a (fill_act fill) found ready = fill_decides a _
 act_decides a (remove_act (AtCompare node index word core) cap) found ready = absurd (cc)
@@ -487,6 +581,8 @@ act_decides a (remove_act (AtStore node index stamp) cap) found ready = absurd (
 act_decides a (type_act typing) found ready = typing_decides a typing typing.at found ready
 act_decides a (make_act m) found ready = making_decides a m m.at found ready
 act_decides a (Outside node entry word) found ready = absurd (cc)
+act_decides a (tick_act charge) found ready = charge_decides a charge found ready
+act_decides a (kill_act m) found ready = killing_decides a m m.at found ready
 
 begun_over : (own : Own) (call : Call) (k : Capability) → decides_at_name (plan_for call).decides ≡ true
     → IsOver (act_begun own call (k ∷ []) None)
@@ -505,6 +601,8 @@ begun_over own (make_call make.Pleaf r f t b) k is = absurd (cc)
 begun_over own (make_call (make.Thread comp) r f t b) k is = absurd (cc)
 begun_over own (make_call (make.Tcap sched quality) r f t b) k is = absurd (cc)
 begun_over own (make_call (make.Comp table pages live) r f t b) k is = absurd (cc)
+begun_over own (Tick n) k is = absurd (cc)
+begun_over own (Kill c) k is = absurd (cc)
 begun_over own call k is = tt
 
 zero_of : (found : List Capability) → (length found + 1 == 1) ≡ true → found ≡ []

@@ -5,7 +5,7 @@ use Rattle.stage_pins.specs.Counts.{unheld}
 use Rattle.stage_pins.proofs.PinLemmas.{after_fits}
 use Rattle.std.proofs.Common.{◌≡◌, ℕ, suc, ℤ, ◌≢◌, nat_lt, if◌then◌else◌, ◌+◌, ◌*◌, ◌-◌, ◌++◌, slice_get, ◌%◌, ◌<◌, ◌≤◌, Bool, true, false, ◌==◌, List, [], ◌∷◌, length, length-append, lt-ltb, Option, Some, None, IfSome, refl, sym, ◌∙◌, ap, subst, arith, negsuc}
 use Rattle.std.proofs.lemmas.Bool.{leb-false, ltb-true, ltb-false, eqb-true, eqb-false}
-use Rattle.spk_nums.specs.declared.replies.Value.TheVariants.{Nothing as nothing}
+use Rattle.spk_nums.specs.declared.replies.Value.TheVariants.{Nothing as nothing, Amount}
 use Rattle.stage_quiet.specs.Clocks.{drawn_stamp}
 use Rattle.stage_quiet.specs.declared.close.Close.{Close}
 use Rattle.stage_quiet.specs.declared.close.Close.TheVariants.{AtCompare as close_compare, AtDraw, AtStore}
@@ -24,9 +24,6 @@ use Rattle.frame_words.specs.declared.count_word.Hold.TheVariants as hold
 use Rattle.spk_nums.specs.declared.steps.StageEnd.{StageEnd}
 use Rattle.spk_nums.specs.declared.steps.StageEnd.TheVariants as ends
 use Rattle.stage_pins.specs.Held.{AllFit, AcquiredFits, pushed as count_pushed}
-use Rattle.spk_nums.specs.Bounds.{bound_of}
-use Rattle.spk_nums.specs.CallLimits.{InLimits}
-use Rattle.supported_calls.specs.Built.{IsBuilt}
 use Rattle.spk_nums.specs.declared.kinds.FrameKind.{FrameKind}
 use Rattle.spk_nums.specs.declared.kinds.FrameKind.TheVariants.{Untyped}
 use Rattle.spk_nums.specs.Capability.{Capability}
@@ -35,7 +32,6 @@ use Rattle.spk_nums.specs.declared.replies.Reply.TheVariants as reply
 use Rattle.entry_words.specs.declared.entry.Entry.{Entry}
 use Rattle.entry_words.specs.declared.entry.Entry.TheVariants as entry
 use Rattle.word_map.specs.Places.{Shape}
-use Rattle.kernel_rules.specs.Laws.{calls_counted}
 use Rattle.kernel_rules.specs.Access.{found}
 use Rattle.stage_look.specs.Shown.{CapNames, EntryNames, shown_in, is_link}
 use Rattle.stage_look.specs.Lookup.{LookFits, end_by_link, place_end, after_link, FoundFits as PlaceFits}
@@ -49,7 +45,6 @@ use Rattle.call_plans.specs.declared.plans.Target.{Target}
 use Rattle.call_plans.specs.declared.plans.Target.TheVariants.{Nowhere, Free, Held, Own as own_page}
 use Rattle.call_plans.specs.declared.plans.Plan.{Plan}
 use Rattle.call_plans.specs.Plans.{at_place, pushed}
-use Rattle.call_plans.specs.PlanOf.{plan_for}
 use Rattle.call_plans.specs.GoesBy.{wants}
 use Rattle.call_plans.specs.After.{with_found, names_after, next_in}
 use Rattle.call_plans.specs.Bounds.{look_steps, act_steps}
@@ -59,6 +54,17 @@ use Rattle.call_plans.proofs.AfterNames.{NextBy, one_more}
 use Rattle.call_acts.specs.declared.refusals.Refusal.{Refusal}
 use Rattle.call_acts.specs.declared.refusals.Refusal.TheVariants as refusal
 use Rattle.call_acts.specs.declared.own.Own.{Own}
+use Rattle.call_acts.specs.declared.own.OwnChange.{OwnChange}
+use Rattle.call_acts.specs.declared.own.OwnChange.TheVariants.{Ticks}
+use Rattle.call_acts.specs.Ticks.{took_charge, took_tick, charge_left}
+use Rattle.stage_tcap.specs.declared.charge.Charge.{Charge}
+use Rattle.stage_tcap.specs.declared.charge.Charge.TheVariants.{AtLoad as charge_load, AtCompare as charge_compare}
+use Rattle.stage_tcap.specs.Charging.{ChargeFits, after_mark, after_head, end_by_mark, head_end, charged_end}
+use Rattle.stage_tcap.specs.Heads.{head}
+use Rattle.tcap_words.proofs.HeadLemmas.{spelling}
+use Rattle.std.specs.Prelude.{◌^◌, min}
+use Rattle.tcap_words.specs.Head.{word_of_head, head_of_word}
+use Rattle.tcap_words.specs.declared.head_word.HeadWord.{HeadWord}
 use Rattle.call_acts.specs.declared.lookups.Met.TheVariants.{Finds, Refused}
 use Rattle.spk_nums.specs.declared.kinds.FrameKind.TheVariants as frame_kind
 use Rattle.frame_words.specs.Frame.{frame_of_word}
@@ -72,30 +78,30 @@ use Rattle.spk_nums.specs.declared.kinds.Obj.TheVariants.{Blank}
 use Rattle.call_acts.specs.declared.makings.Making.{Making}
 use Rattle.call_acts.specs.declared.makings.MakingAt.{MakingAt}
 use Rattle.call_acts.specs.declared.makings.MakingAt.TheVariants.{Load as make_load, Mark, Store, Fill as fill_at}
+use Rattle.call_acts.specs.Objects.{counts_of, last_word}
 use Rattle.call_acts.specs.Makings.{MakingFits, making_left, undo_at}
 use Rattle.call_steps.specs.Tails.{tail_left, took_tail, tail_counts}
-use Rattle.call_steps.specs.Fits.{TailFits, ScanFits, WorkFits, StageFits, IsWanted, FoundFits, HasRoom, CountsWait, CountsAt, looks_later, names_left, steps_later, left_of_look, left_of_scan, left_of_pin, work_left, left_at, left_of, IsActive, CallFits, IsOwn, IsCore, left_for}
-use Rattle.call_steps.proofs.StepsFit.{StepFits, starts_fit, one_due, work_next, counts_next, first_named, act_fits}
+use Rattle.call_steps.specs.Fits.{TailFits, ScanFits, WorkFits, StageFits, IsWanted, FoundFits, HasRoom, CountsWait, CountsAt, looks_later, names_left, steps_later, left_of_look, left_of_scan, left_of_pin, work_left, left_at, left_of, IsActive, IsOwn}
+use Rattle.call_steps.proofs.StepsFit.{StepFits, starts_fit, few_dues, object_count, work_next, counts_next, first_named, act_fits}
 use Rattle.call_acts.specs.declared.work.Act.{Act as ActType}
-use Rattle.call_acts.specs.declared.work.Act.TheVariants.{Fill as fill_act, Remove as remove_act, Retype as type_act, Make as make_act, Outside}
+use Rattle.call_acts.specs.declared.work.Act.TheVariants.{Fill as fill_act, Remove as remove_act, Retype as type_act, Make as make_act, Outside, Tick as tick_act, Kill as kill_act}
 use Rattle.call_acts.specs.declared.work.Tail.{Tail}
-use Rattle.call_acts.specs.declared.work.Tail.TheVariants.{Nothing, Quiesce, Unmark}
+use Rattle.call_acts.specs.declared.work.Tail.TheVariants.{Nothing, Quiesce, Unmark, StoreDead}
 use Rattle.call_steps.specs.declared.stages.Stage.{Stage}
 use Rattle.call_steps.specs.declared.stages.Stage.TheVariants.{Enter, Undecided, Decided, Leave}
 use Rattle.call_steps.specs.declared.stages.ActiveCall.{ActiveCall}
-use Rattle.call_steps.specs.declared.stages.Told.TheVariants as told_as
 use Rattle.call_acts.specs.declared.work.Work.{Work}
 use Rattle.call_acts.specs.declared.work.Work.TheVariants.{Lookup, Scan, Acquire, Act}
 use Rattle.call_acts.specs.declared.work.WorkStep.{WorkStep}
-use Rattle.call_acts.specs.declared.work.WorkStep.TheVariants.{Goes, Acquires, Refuses, Answers}
+use Rattle.call_acts.specs.declared.work.WorkStep.TheVariants.{Goes, Acquires, Refuses, Answers, Changes as work_changes}
 use Rattle.call_acts.specs.Refusals.{refusal_of}
 use Rattle.call_acts.specs.Fills.{filled_if}
 use Rattle.call_acts.specs.WorkSteps.{refuse}
 use Rattle.call_acts.specs.Acts.{ActFits, close_left, act_left, took_close, took_act, dues, next_work, act_begun, cap_dues, starts, undo, made_dues, meets_object, meets_blank, meets_making, marks_if, published, took_making_at}
 use Rattle.call_acts.specs.Lookups.{met_name, met_free, met_held}
-use Rattle.call_steps.specs.Steps.{GoesOn, Decides, landed, found_more, next_by, took_enter, named_one, took_found, took_end, took_look, took_scan, took_count, took_work, went_with, is_spent, took_at, took, told, call_after}
-use Rattle.call_steps.proofs.Landing.{told_goes, told_decides}
-use Rattle.call_steps.proofs.LandsFit.{IsNext, TookFits, Facts, next_fits, landed_fits}
+use Rattle.call_steps.specs.Steps.{GoesOn, landed, found_more, next_by, took_enter, named_one, took_found, took_end, took_look, took_scan, took_count, took_work, went_with, is_spent, took_at, took}
+use Rattle.call_steps.proofs.LandsFit.{TookFits, Facts, names_object, next_fits, landed_fits}
+use Rattle.call_steps.proofs.KillsFit.{kill_fits}
 
 -- a step of the work of a call that has acquired its counts, or acquires them
 module _ (own : Own) (a : ActiveCall) (facts : Facts own a) (room : own.made < own.limit) where
@@ -162,59 +168,104 @@ module _ (own : Own) (a : ActiveCall) (facts : Facts own a) (room : own.made < o
       (omega arith)
 
   make_fits : (m : Making) (at : MakingAt) (found : ℕ) → MakingFits own.layout (record m { at = at })
-      → length a.counts ≡ length (made_dues m.fill.cap at)
-      → TookFits own (2 + length a.counts + making_left at) a (landed a (took_making_at m at found))
+      → length a.counts ≡ length (made_dues m.object m.frame at)
+      → TookFits own (2 + length a.counts + making_left m.object at) a (landed a (took_making_at m at found))
   make_fits m make_load found fits waits = met (frame_of_word found)
     where
-      blank : (o : Obj) → TookFits own (2 + length a.counts + 71) a (landed a (meets_object m found o))
-      blank Blank = landed_fits own a a refl refl refl facts.found facts.acquired room 70 _
-          (Goes (Act (make_act (record m { at = Mark found }))))
-          (record { frame = fits.frame; core = fits.core; fill = fits.fill; at = tt }, omega arith, waits) (omega arith)
-      blank o = act_refused _ refusal.FrameKind (omega arith)
+      some : 2 + length a.counts < 2 + length a.counts + making_left m.object make_load
+      some = omega arith
 
-      by : (k : FrameKind) (o : Obj) (mark : Option ℕ) → TookFits own (2 + length a.counts + 71) a (landed a (meets_blank m found k o mark))
-      by k o (Some d) = act_refused _ (refusal.Busy d) (omega arith)
-      by frame_kind.Untyped o None = act_refused _ refusal.FrameKind (omega arith)
-      by frame_kind.User o None = act_refused _ refusal.FrameKind (omega arith)
+      blank : (o : Obj) → TookFits own (2 + length a.counts + making_left m.object make_load) a (landed a (meets_object m found o))
+      blank Blank = landed_fits own a a refl refl refl facts.found facts.acquired room (making_left m.object (Mark found)) _
+          (Goes (Act (make_act (record m { at = Mark found }))))
+          (record { frame = fits.frame; core = fits.core; object = fits.object; fill = fits.fill; at = tt }, omega arith, waits)
+          (omega arith)
+      blank o = act_refused _ refusal.FrameKind some
+
+      by : (k : FrameKind) (o : Obj) (mark : Option ℕ) → TookFits own (2 + length a.counts + making_left m.object make_load) a
+          (landed a (meets_blank m found k o mark))
+      by k o (Some d) = act_refused _ (refusal.Busy d) some
+      by frame_kind.Untyped o None = act_refused _ refusal.FrameKind some
+      by frame_kind.User o None = act_refused _ refusal.FrameKind some
       by frame_kind.Kernel o None = blank o
 
-      met : (o : Option FrameWord) → TookFits own (2 + length a.counts + 71) a (landed a (meets_making m found o))
-      met None = act_refused _ refusal.Raced (omega arith)
+      met : (o : Option FrameWord) → TookFits own (2 + length a.counts + making_left m.object make_load) a
+          (landed a (meets_making m found o))
+      met None = act_refused _ refusal.Raced some
       met (Some v) = by v.kind v.object v.mark
   make_fits m (Mark word) found fits waits = by (found == word)
     where
-      by : (equal : Bool) → TookFits own (2 + length a.counts + 70) a (landed a (marks_if m word equal))
+      by : (equal : Bool) → TookFits own (2 + length a.counts + making_left m.object (Mark word)) a (landed a (marks_if m word equal))
       by true =
           let act : ActType = make_act (record m { at = Store word 0 }) in
-          let few = one_due act in
+          let many = object_count m.object m.frame in
+          let most : ℕ = 3 * counts_of m.object + last_word m.object + 3 in
           let next = work_next own.layout (steps_later own.layout.cores a) m.core 0 act (slice_get (dues act) 0) refl fits.core
-          (record { frame = fits.frame; core = fits.core; fill = fits.fill; at = omega arith }) in
-          landed_fits own a a refl refl refl facts.found facts.acquired room 69 _ (Goes (next_work m.core 0 act)) (
+          (record { frame = fits.frame; core = fits.core; object = fits.object; fill = fits.fill; at = omega arith }) in
+          landed_fits own a a refl refl refl facts.found facts.acquired room most _ (Goes (next_work m.core 0 act)) (
             next.0,
-            subst (λ (n : ℕ). work_left own.layout.cores (steps_later own.layout.cores a) n (next_work m.core 0 act) ≤ 69) (sym waits)
-                (let fewer = next.1 in omega arith),
+            subst (λ (n : ℕ). work_left own.layout.cores (steps_later own.layout.cores a) n (next_work m.core 0 act) ≤ most) (sym waits)
+                (let fewer = next.1 in omega (arith, fewer, many)),
             counts_next m.core 0 a.counts act (slice_get (dues act) 0) refl (sym waits) (omega arith),
           ) (omega arith)
       by false = act_refused _ refusal.Raced (omega arith)
-  make_fits m (Store word entry) found fits waits = by (nat_lt entry 63) refl
+  make_fits m (Store word entry) found fits waits = by (nat_lt entry (last_word m.object)) refl
     where
-      by : (more : Bool) → nat_lt entry 63 ≡ more → TookFits own (2 + length a.counts + (64 - entry + 2)) a
+      by : (more : Bool) → nat_lt entry (last_word m.object) ≡ more
+          → TookFits own (2 + length a.counts + (last_word m.object - entry + 3)) a
           (landed a (Goes (Act (make_act (record m { at = if more then Store word (entry + 1) else fill_at word })))))
       by true is =
-          let low = ltb-true entry 63 is in
-          landed_fits own a a refl refl refl facts.found facts.acquired room (64 - (entry + 1) + 2) _
-          (Goes (Act (make_act (record m { at = Store word (entry + 1) }))))
-          (record { frame = fits.frame; core = fits.core; fill = fits.fill; at = omega arith }, omega arith, waits) (omega arith)
+          let low = ltb-true entry (last_word m.object) is in
+          landed_fits own a a refl refl refl facts.found facts.acquired room (last_word m.object - (entry + 1) + 3) _
+          (Goes (Act (make_act (record m { at = Store word (entry + 1) })))) (
+            record { frame = fits.frame; core = fits.core; object = fits.object; fill = fits.fill; at = omega (arith, low) },
+            omega arith,
+            waits,
+          ) (omega (arith, low))
       by false is =
-          let low : entry < 64 = fits.at in
           landed_fits own a a refl refl refl facts.found facts.acquired room 2 _ (Goes (Act (make_act (record m { at = fill_at word }))))
-          (record { frame = fits.frame; core = fits.core; fill = fits.fill; at = tt }, omega arith, waits) (omega arith)
+          (record { frame = fits.frame; core = fits.core; object = fits.object; fill = fits.fill; at = tt }, omega arith, waits)
+          (omega arith)
   make_fits m (fill_at word) found fits waits = by (found == m.fill.word)
     where
       by : (equal : Bool) → TookFits own (2 + length a.counts + 2) a (landed a (published m word equal))
       by true = landed_fits own a a refl refl refl facts.found facts.acquired room 1 _ (published m word true)
           (omega arith, fits.frame) (omega arith)
       by false = act_undone _ refusal.Raced (Unmark m.frame word) fits.frame (omega arith)
+
+  -- the call is decided with nothing to store
+  act_changed : (left : ℕ) (r : Reply) (change : OwnChange) → 2 + length a.counts < left
+      → TookFits own left a (landed a (work_changes r change))
+  act_changed left r change some =
+      landed_fits own a a refl refl refl facts.found facts.acquired room 0 left (work_changes r change) tt (omega arith)
+
+  -- where the load of a head with this mark leads
+  marked_fits : (tcap ticks budget version : ℕ) (mark : Option ℕ) → tcap < own.layout.frames → version < 2 ^ 28 → length a.counts ≡ 0
+      → TookFits own (2 + length a.counts + 2) a
+      (landed a (took_charge ticks (after_mark tcap ticks budget version mark) (end_by_mark mark)))
+  marked_fits tcap ticks budget version None fits small waits =
+      landed_fits own a a refl refl refl facts.found facts.acquired room 1 (2 + length a.counts + 2)
+      (Goes (Act (tick_act (charge_compare tcap ticks budget version)))) ((fits, small), omega arith, waits) (omega arith)
+  marked_fits tcap ticks budget version (Some d) fits small waits =
+      act_changed (2 + length a.counts + 2) (reply.Busy d) (Ticks 0 ticks) (omega arith)
+
+  head_fits : (tcap ticks word : ℕ) (o : Option HeadWord) → head_of_word word ≡ o → tcap < own.layout.frames → length a.counts ≡ 0
+      → TookFits own (2 + length a.counts + 2) a (landed a (took_charge ticks (after_head tcap ticks o) (head_end o)))
+  head_fits tcap ticks word None is fits waits = act_changed (2 + length a.counts + 2) reply.Raced (Ticks 0 ticks) (omega arith)
+  head_fits tcap ticks word (Some v) is fits waits =
+      marked_fits tcap ticks v.budget v.version v.mark fits (spelling.spells word v is).0.2 waits
+
+  charged_fits : (due charged : ℕ) (charge : Charge) (equal : Bool)
+      → TookFits own (2 + length a.counts + 1) a (landed a (took_charge due charge (charged_end equal charged)))
+  charged_fits due charged charge true =
+      act_changed (2 + length a.counts + 1) (reply.Ok (Amount charged)) (Ticks charged (due - charged)) (omega arith)
+  charged_fits due charged charge false = act_changed (2 + length a.counts + 1) reply.Raced (Ticks 0 due) (omega arith)
+
+  tick_fits : (charge : Charge) (word : ℕ) → ChargeFits own.layout charge → length a.counts ≡ 0
+      → TookFits own (2 + length a.counts + charge_left charge) a (landed a (took_tick charge word))
+  tick_fits (charge_load tcap ticks) word fits waits = head_fits tcap ticks word (head_of_word word) refl fits waits
+  tick_fits (charge_compare tcap ticks budget version) word fits waits =
+      charged_fits ticks (min ticks budget) (charge_compare tcap ticks budget version) (word == word_of_head (head budget version))
 
   done_fits : (act : ActType) (found : ℕ) → ActFits own.layout act → length a.counts ≡ length (dues act)
       → TookFits own (left_at own.layout.cores a (Undecided (Act act))) a (landed a (took_act act found))
@@ -223,6 +274,8 @@ module _ (own : Own) (a : ActiveCall) (facts : Facts own a) (room : own.made < o
   done_fits (type_act typing) found fits waits = type_fits typing typing.at found fits waits
   done_fits (make_act m) found fits waits = make_fits m m.at found fits waits
   done_fits (Outside node entry word) found fits waits = act_refused _ refusal.OutOfRange (omega arith)
+  done_fits (tick_act charge) found fits waits = tick_fits charge found fits waits
+  done_fits (kill_act m) found fits waits = kill_fits own a facts room m m.at found fits waits
 
   undo_fits : (act : ActType) → ActFits own.layout act → TailFits own.layout (undo act) × (tail_left (undo act) ≤ act_left act)
   undo_fits (fill_act fill) fits = (tt, omega arith)
@@ -230,12 +283,14 @@ module _ (own : Own) (a : ActiveCall) (facts : Facts own a) (room : own.made < o
   undo_fits (type_act typing) fits = (tt, omega arith)
   undo_fits (make_act m) fits = by m.at
     where
-      by : (at : MakingAt) → TailFits own.layout (undo_at m.frame at) × (tail_left (undo_at m.frame at) ≤ making_left at)
+      by : (at : MakingAt) → TailFits own.layout (undo_at m.frame at) × (tail_left (undo_at m.frame at) ≤ making_left m.object at)
       by make_load = (tt, omega arith)
       by (Mark word) = (tt, omega arith)
       by (Store word entry) = (fits.frame, omega arith)
       by (fill_at word) = (fits.frame, omega arith)
   undo_fits (Outside node entry word) fits = (tt, omega arith)
+  undo_fits (tick_act charge) fits = (tt, omega arith)
+  undo_fits (kill_act m) fits = (tt, omega arith)
 
   -- a scan goes on to the next core, or to the act
   scan_goes : (q : Quiet) (found : ℕ) → QuietFits own.layout q → ScanFits own.layout q → quiet_end own.layout.cores q found ≡ ends.Going
@@ -361,7 +416,7 @@ module _ (own : Own) (a : ActiveCall) (facts : Facts own a) (room : own.made < o
       → 2 + length a.counts + (1 + 3 * (length (dues act) - (length a.counts + 1)) + act_left act) < left
       → TookFits own left a (landed a (Acquires (record { pin = p; change = change }) (next_work own.core (length a.counts + 1) act)))
   count_done left p change act pinned fits more some =
-      let few : length a.counts < 4 = (let one = one_due act in omega arith) in
+      let few : length a.counts < 4 = (let four = few_dues act in omega (arith, four, more)) in
       let counts : List Acquired = a.counts ++ record { pin = p; change = change } ∷ [] in
       let one_more : length counts ≡ length a.counts + 1 = length-append a.counts (record { pin = p; change = change } ∷ []) in
       let next = work_next own.layout (steps_later own.layout.cores a) own.core (length a.counts + 1) act
@@ -509,7 +564,13 @@ module _ (own : Own) (a : ActiveCall) (facts : Facts own a) (none : a.counts ≡
       (look_steps (names_left more) a.plan.target + act_steps a.call own.layout.cores) left (next_by own more)
       (subst (λ (xs : List Acquired). StepFits own.layout xs (steps_later own.layout.cores more)
       (look_steps (names_left more) a.plan.target + act_steps a.call own.layout.cores) (next_by own more)) (sym none)
-      (next_fits own more (record { own_fits = facts.own_fits; plan = facts.plan; found = fits; acquired = facts.acquired })))
+      (next_fits own more (record {
+        own_fits = facts.own_fits;
+        plan = facts.plan;
+        found = fits;
+        acquired = facts.acquired;
+        limits = facts.limits;
+      })))
       (subst (λ (names : List Name). 2 + length a.counts + (look_steps names a.plan.target + act_steps a.call own.layout.cores) < left)
       (sym (left_more name rest k is)) (omega arith))
 
@@ -534,7 +595,8 @@ module _ (own : Own) (a : ActiveCall) (facts : Facts own a) (none : a.counts ≡
   acts_on : (left : ℕ) (f : Found) → PlaceFits own.layout f → 2 + act_steps a.call own.layout.cores < left
       → TookFits own left a (landed a (act_begun own a.call a.found (Some f)))
   acts_on left f fits some =
-      works_fits (act_steps a.call own.layout.cores) left _ (act_fits own _ a.call a.found (Some f) facts.own_fits first_is fits) some
+      works_fits (act_steps a.call own.layout.cores) left _ (act_fits own _ a.call a.found (Some f) facts.own_fits first_is
+      (names_object own a facts) facts.limits fits) some
 
   free_fits : (left : ℕ) (f : Found) (value : Entry) → PlaceFits own.layout f → 2 + act_steps a.call own.layout.cores < left
       → TookFits own left a (landed a (met_free own a.call a.found f value))
@@ -659,6 +721,19 @@ tail_fits own a r drawn (Unmark f word) counts found facts is = record {
   steps = refl;
   fewer = let same : length a.counts ≡ length counts = ap length is in omega arith;
 }
+tail_fits own a r drawn (StoreDead life stamp) counts found facts is = record {
+  call = refl;
+  plan = refl;
+  found = facts.found;
+  first = tt;
+  stage = tt;
+  acquired = subst (AllFit own.layout) is facts.acquired;
+  counts = tt;
+  room = tt;
+  counted = facts.own_fits.made;
+  steps = refl;
+  fewer = let same : length a.counts ≡ length counts = ap length is in omega arith;
+}
 tail_fits own a r drawn Nothing [] found facts is = record {
   call = refl;
   plan = refl;
@@ -696,73 +771,11 @@ stage_fits own a (Leave r stamp) found facts fits counts room = omega arith
 pub took_fits : (own : Own) (a : ActiveCall) (found : ℕ) → IsOwn own → IsActive own a
     → TookFits own (left_of own.layout.cores a) a (took own a found)
 took_fits own a found h active =
-    stage_fits own a a.stage found (record { own_fits = h; plan = active.plan; found = active.found; acquired = active.acquired })
+    stage_fits own a a.stage found (record {
+      own_fits = h;
+      plan = active.plan;
+      found = active.found;
+      acquired = active.acquired;
+      limits = active.limits;
+    })
     active.stage active.counts active.room
-
--- The call after a step is the core's call.
-active_on : (own : Own) (made : ℕ) (old a : ActiveCall) → IsActive own old → IsNext own made (left_of own.layout.cores old) old a
-    → IsActive (record own { made = made }) a
-active_on own made old a active next = record {
-  limits = subst InLimits (sym next.call) active.limits;
-  built = subst IsBuilt (sym next.call) active.built;
-  plan = next.plan ∙ active.plan ∙ ap plan_for (sym next.call);
-  found = next.found;
-  first = next.first;
-  stage = next.stage;
-  acquired = next.acquired;
-  counts = next.counts;
-  room = next.room;
-  steps =
-      let before : old.steps + left_of own.layout.cores old ≤ bound_of old.call own.layout.cores = active.steps in
-      let one : a.steps ≡ old.steps + 1 = next.steps in
-      let fewer : left_of own.layout.cores a < left_of own.layout.cores old = next.fewer in
-      let same : bound_of a.call own.layout.cores ≡ bound_of old.call own.layout.cores = ap (λ call. bound_of call own.layout.cores)
-      next.call in
-      omega arith;
-}
-
-own_on : (own : Own) (made : ℕ) → IsOwn own → made ≤ own.limit → IsOwn (record own { made = made })
-own_on own made h counted = record {
-  shape = h.shape;
-  core = h.core;
-  thread = h.thread;
-  comp = h.comp;
-  table = h.table;
-  pages = h.pages;
-  tcap = h.tcap;
-  most_calls = h.most_calls;
-  made = counted;
-}
-
--- A core after a step that goes on, and after one that decides.
-pub goes_on : (own : Own) (active : Option ActiveCall) (a new : ActiveCall) (found : ℕ) → IsCore (record { own = own; active = active })
-    → active ≡ Some a
-    → told_as.Going ≡ told (took own a found) → new ≡ call_after a (took own a found)
-    → IsCore (record { own = own; active = Some new }) × (left_of own.layout.cores new < left_for own.layout.cores active)
-goes_on own active a new found h is going next =
-    let fits : IsActive own a = subst (CallFits own) is h.active in
-    let leads : TookFits own (left_of own.layout.cores a) a (GoesOn new) =
-    subst (TookFits own (left_of own.layout.cores a) a) (told_goes a (took own a found) going ∙ ap GoesOn (sym next))
-    (took_fits own a found h.own fits) in (
-      record { own = h.own; active = active_on own own.made a new fits leads },
-      subst (λ o. left_of own.layout.cores new < left_for own.layout.cores o) (sym is) leads.fewer,
-    )
-
-pub decides_on : (own : Own) (active : Option ActiveCall) (a new : ActiveCall) (r : Reply) (counted found : ℕ)
-    → IsCore (record { own = own; active = active }) → active ≡ Some a
-    → told_as.Decided r ≡ told (took own a found) → new ≡ call_after a (took own a found) → counted ≡ calls_counted r
-    → IsCore (record { own = record own { made = own.made + counted }; active = Some new }) ×
-    (left_of own.layout.cores new < left_for own.layout.cores active)
-decides_on own active a new r counted found h is decided next count =
-    let fits : IsActive own a = subst (CallFits own) is h.active in
-    let leads : TookFits own (left_of own.layout.cores a) a (Decides r new) =
-    subst (TookFits own (left_of own.layout.cores a) a) (told_decides a r (took own a found) decided ∙ ap (Decides r) (sym next))
-    (took_fits own a found h.own fits) in (
-      subst (λ n. IsCore (record { own = record own { made = own.made + n }; active = Some new })) (sym count)
-          (record {
-            own = own_on own (own.made + calls_counted r) h.own leads.counted;
-            active = active_on own (own.made + calls_counted r)
-                a new fits leads;
-          }),
-      subst (λ o. left_of own.layout.cores new < left_for own.layout.cores o) (sym is) leads.fewer,
-    )

@@ -4,6 +4,7 @@ use Rattle.stage_pins.specs.Held.{AllFit}
 use Rattle.spk_nums.specs.declared.replies.Reply.{Reply}
 use Rattle.spk_nums.specs.declared.replies.Reply.TheVariants as reply
 use Rattle.kernel_rules.specs.Laws.{calls_counted}
+use Rattle.spk_nums.specs.CallLimits.{InLimits}
 use Rattle.call_plans.specs.declared.plans.Plan.{Plan}
 use Rattle.call_plans.specs.PlanOf.{plan_for}
 use Rattle.call_plans.specs.Bounds.{look_steps, act_steps}
@@ -12,11 +13,11 @@ use Rattle.call_plans.proofs.RootedTargets.{rooted}
 use Rattle.call_acts.specs.declared.own.Own.{Own}
 use Rattle.call_steps.specs.declared.stages.ActiveCall.{ActiveCall}
 use Rattle.call_acts.specs.declared.work.WorkStep.{WorkStep}
-use Rattle.call_acts.specs.declared.work.WorkStep.TheVariants.{Goes, Acquires, Refuses, Answers}
+use Rattle.call_acts.specs.declared.work.WorkStep.TheVariants.{Goes, Acquires, Refuses, Answers, Changes as work_changes}
 use Rattle.call_acts.specs.Refusals.{reply_of}
-use Rattle.call_steps.specs.Steps.{Took, GoesOn, Decides, Returns, landed, next_by}
+use Rattle.call_steps.specs.Steps.{Took, GoesOn, Decides, Returns, Changes, landed, next_by}
 use Rattle.call_steps.specs.Fits.{StageFits, FoundFits, HasRoom, IsFirst, CountsAt, names_left, steps_later, left_of, IsOwn}
-use Rattle.call_steps.proofs.StepsFit.{StepFits, first_named, target_below, next_case}
+use Rattle.call_steps.proofs.StepsFit.{StepFits, ObjectNamed, object_named, first_named, target_below, next_case}
 
 -- What a step of a call led to fits its core, and leaves fewer steps than these; so many calls are then counted.
 pub record IsNext (own : Own) (made left : ℕ) (old a : ActiveCall) : Type 0 where
@@ -36,6 +37,7 @@ abbrev pub TookFits : Own → ℕ → ActiveCall → Took → Type 0
 TookFits own left old (GoesOn a) = IsNext own own.made left old a
 TookFits own left old (Decides r a) = IsNext own (own.made + calls_counted r) left old a
 TookFits own left old (Returns r stamp) = 0 < left
+TookFits own left old (Changes r change a) = IsNext own (own.made + calls_counted r) left old a
 
 -- a decision counts one call at most
 pub counted_most : (r : Reply) → calls_counted r ≤ 1
@@ -48,13 +50,19 @@ pub record Facts (own : Own) (a : ActiveCall) : Type 0 where
   pub plan : a.plan ≡ plan_for a.call
   pub found : FoundFits own.layout.frames a.plan a.found
   pub acquired : AllFit own.layout a.counts
+  pub limits : InLimits a.call
+
+-- The name of the component of an object that it makes is a frame of the machine.
+pub names_object : (own : Own) (a : ActiveCall) → Facts own a → ObjectNamed own.layout.frames a.call a.found
+names_object own a facts = object_named own.layout.frames a.call a.found
+    (subst (λ (p : Plan). FoundFits own.layout.frames p a.found) facts.plan facts.found)
 
 pub next_fits : (own : Own) (a : ActiveCall) → Facts own a
     → StepFits own.layout [] (steps_later own.layout.cores a) (look_steps (names_left a) a.plan.target + act_steps a.call
     own.layout.cores) (next_by own a)
 next_fits own a facts =
     next_case own a.call a.found (names_left a) a.plan.target facts.own_fits
-    (first_named own.layout.frames a.plan.names [] a.found facts.found)
+    (first_named own.layout.frames a.plan.names [] a.found facts.found) (names_object own a facts) facts.limits
     (λ none. target_below own.layout.frames a.plan a.found a.plan.target
     (subst (λ (p : Plan). IsRooted p.names p.target) (sym facts.plan) (rooted a.call)) facts.found none)
 
@@ -104,3 +112,17 @@ module _ (own : Own) (old a : ActiveCall) (call : a.call ≡ old.call) (plan : a
     steps = ap (λ n. n + 1) steps;
     fewer = let few = fits.0 in omega arith;
   }
+  landed_fits most left (work_changes r change) fits some =
+      let one : calls_counted r ≤ 1 = counted_most r in record {
+        call = call;
+        plan = plan;
+        found = found;
+        first = tt;
+        stage = tt;
+        acquired = acquired;
+        counts = tt;
+        room = tt;
+        counted = omega arith;
+        steps = ap (λ n. n + 1) steps;
+        fewer = omega arith;
+      }

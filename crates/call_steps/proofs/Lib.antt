@@ -4,3 +4,4 @@ pub mod LandsFit
 pub mod Fitting
 pub mod Begun
 pub mod Decisions
+pub mod KillsFit

@@ -7,18 +7,20 @@ use Rattle.stage_quiet.specs.declared.quiet.Quiet.TheVariants.{AtCore}
 use Rattle.stage_quiet.specs.Scan.{QuietFits, first_other, core_scan, quiet_scan}
 use Rattle.stage_pins.specs.declared.held.Acquired.{Acquired}
 use Rattle.spk_nums.specs.Capability.{Capability}
+use Rattle.spk_nums.specs.CallLimits.{InLimits, MakeInLimits}
 use Rattle.spk_nums.specs.declared.kinds.Kind.{Kind}
-use Rattle.spk_nums.specs.declared.kinds.Kind.TheVariants.{Range, Table, Pages}
+use Rattle.spk_nums.specs.declared.kinds.Kind.TheVariants.{Range, Table, Pages, Comp as KindComp}
+use Rattle.spk_nums.specs.declared.kinds.Kind.TheVariants as kind
 use Rattle.spk_nums.specs.declared.calls.Call.{Call}
-use Rattle.spk_nums.specs.declared.calls.Call.TheVariants.{Look as look_call, Copy, Remove, Shrink, Unmap, Retype, Make as make_call}
+use Rattle.spk_nums.specs.declared.calls.Call.TheVariants.{Look as look_call, Copy, Remove, Shrink, Unmap, Retype, Make as make_call, Tick, Kill}
 use Rattle.entry_words.specs.declared.entry.Entry.{Entry}
 use Rattle.entry_words.specs.declared.entry.Entry.TheVariants as entry
 use Rattle.word_map.specs.Places.{Shape}
-use Rattle.kernel_rules.specs.Access.{Named, found, root}
+use Rattle.kernel_rules.specs.Access.{Named, found, only, root}
 use Rattle.stage_look.specs.Shown.{end_of_frames, CapNames, EntryNames}
 use Rattle.stage_look.specs.Lookup.{FoundFits as PlaceFits}
 use Rattle.stage_look.specs.declared.look.Found.{Found}
-use Rattle.call_plans.specs.declared.plans.Nth.TheVariants.{First}
+use Rattle.call_plans.specs.declared.plans.Nth.TheVariants.{First, Third}
 use Rattle.call_plans.specs.declared.plans.Name.{Name}
 use Rattle.call_plans.specs.declared.plans.Spot.{Spot}
 use Rattle.call_plans.specs.declared.plans.Spot.TheVariants.{Under, InRoot}
@@ -26,6 +28,7 @@ use Rattle.call_plans.specs.declared.plans.Target.{Target}
 use Rattle.call_plans.specs.declared.plans.Target.TheVariants.{Nowhere, Free, Held, Own as own_page}
 use Rattle.call_plans.specs.declared.plans.Plan.{Plan}
 use Rattle.call_plans.specs.Plans.{at_place}
+use Rattle.call_plans.specs.PlanOf.{plan_for}
 use Rattle.call_plans.specs.GoesBy.{earlier, place_of}
 use Rattle.call_plans.specs.After.{with_found, names_after, Leads, next_in}
 use Rattle.call_plans.specs.Bounds.{look_steps, retype_steps, make_steps, act_steps}
@@ -35,21 +38,22 @@ use Rattle.call_plans.proofs.RootedTargets.{rooted}
 use Rattle.spk_nums.specs.declared.kinds.FrameKind.{FrameKind}
 use Rattle.spk_nums.specs.declared.kinds.FrameKind.TheVariants.{Untyped, User, Kernel}
 use Rattle.kernel_rules.specs.CapabilityCalls.{has_frame}
-use Rattle.std.specs.Prelude.{IsSome}
 use Rattle.spk_nums.specs.declared.calls.Make.{Make}
 use Rattle.spk_nums.specs.declared.calls.Make.TheVariants as make
-use Rattle.call_acts.specs.declared.makings.Node.{Node}
-use Rattle.call_acts.specs.declared.makings.Node.TheVariants.{Table as NodeTable, Leaf as NodeLeaf, Pages as NodePages, Pleaf as NodePleaf}
+use Rattle.call_acts.specs.declared.objects.NewObject.{NewObject}
+use Rattle.call_acts.specs.declared.objects.NewObject.TheVariants.{Table as NewTable, Leaf as NewLeaf, Pages as NewPages, Pleaf as NewPleaf, Thread as NewThread, Tcap as NewTcap}
+use Rattle.call_acts.specs.Objects.{object_cap, object_made, object_dues, counts_of, last_word, thread_on, NamesFit, ObjectFits}
 use Rattle.call_acts.specs.declared.makings.MakingAt.{MakingAt}
 use Rattle.call_acts.specs.declared.makings.MakingAt.TheVariants.{Load as make_load, Mark, Store, Fill as fill_at}
-use Rattle.call_acts.specs.Makings.{node_cap, node_made}
+use Rattle.call_acts.specs.declared.kills.KillingAt.{KillingAt}
+use Rattle.call_acts.specs.declared.kills.KillingAt.TheVariants.{LoadComp, LoadLive, Close as kill_close, Draw as kill_draw}
 use Rattle.call_acts.specs.declared.own.Own.{Own}
 use Rattle.call_acts.specs.declared.work.Act.{Act as ActType}
-use Rattle.call_acts.specs.declared.work.Act.TheVariants.{Fill as fill_act, Remove as remove_act, Retype as type_act, Make as make_act, Outside}
+use Rattle.call_acts.specs.declared.work.Act.TheVariants.{Fill as fill_act, Remove as remove_act, Retype as type_act, Make as make_act, Outside, Tick as tick_act, Kill as kill_act}
 use Rattle.call_acts.specs.declared.work.WorkStep.{WorkStep}
-use Rattle.call_acts.specs.declared.work.WorkStep.TheVariants.{Goes, Acquires, Refuses, Answers}
+use Rattle.call_acts.specs.declared.work.WorkStep.TheVariants.{Goes, Acquires, Refuses, Answers, Changes}
 use Rattle.call_acts.specs.declared.work.Due.{Due}
-use Rattle.call_acts.specs.Acts.{ActFits, act_left, looked, cap_dues, dues, acquires, scans, stamp_in, filling, fills_with, removing, removes_held, removes_at, types_if, types_at, made_dues, starts, making, making_if, makes_in, makes_at, act_begun, next_work}
+use Rattle.call_acts.specs.Acts.{ActFits, act_left, looked, cap_dues, dues, acquires, scans, stamp_in, filling, fills_with, removing, removes_held, removes_at, types_if, types_at, made_dues, starts, making, making_if, makes_in, makes_at, act_begun, next_work, killing_dues, kills_in, kills_at}
 use Rattle.call_steps.specs.Tails.{tail_left}
 use Rattle.call_acts.specs.Lookups.{looks_under, looks_entry, looks_at, next_step}
 use Rattle.call_steps.specs.Fits.{ScanFits, WorkFits, TailFits, IsWanted, FoundFits, CountsWait, looks_later, left_of_scan, work_left, IsOwn}
@@ -62,25 +66,59 @@ StepFits s counts later most (Goes work) =
 StepFits s counts later most (Acquires count work) = ⊥
 StepFits s counts later most (Refuses r tail) = (tail_left tail ≤ most) × TailFits s tail
 StepFits s counts later most (Answers v drawn tail) = (tail_left tail ≤ most) × TailFits s tail
+StepFits s counts later most (Changes r change) = Unit {0}
 
 -- a capability has one count due at most
 pub cap_one : (kind : Kind) (frame arg : ℕ) (change : ℤ) → length (cap_dues (record { kind = kind; frame = frame; arg = arg }) change) ≤ 1
 cap_one Range frame arg change = omega arith
 cap_one kind frame arg change = omega arith
 
-made_one : (k : Capability) (at : MakingAt) → length (made_dues k at) ≤ 1
-made_one k make_load = omega arith
-made_one k (Mark word) = omega arith
-made_one k (Store word entry) = cap_one k.kind k.frame k.arg (pos 1)
-made_one k (fill_at word) = cap_one k.kind k.frame k.arg (pos 1)
+-- an object has so many due
+pub object_count : (object : NewObject) (f : ℕ) → length (object_dues object f) ≡ counts_of object
+object_count NewTable f = refl
+object_count NewLeaf f = refl
+object_count NewPages f = refl
+object_count NewPleaf f = refl
+object_count (NewThread comp) f = refl
+object_count (NewTcap sched quality) f = refl
 
--- an act changes one count at most
-pub one_due : (act : ActType) → length (dues act) ≤ 1
-one_due (fill_act fill) = cap_one fill.cap.kind fill.cap.frame fill.cap.arg (pos 1)
-one_due (remove_act close cap) = cap_one cap.kind cap.frame cap.arg (negsuc 0)
-one_due (type_act typing) = omega arith
-one_due (make_act m) = made_one m.fill.cap m.at
-one_due (Outside node entry word) = omega arith
+killing_one : (f : ℕ) (at : KillingAt) → length (killing_dues f at) ≤ 1
+killing_one f LoadComp = omega arith
+killing_one f (LoadLive life) = omega arith
+killing_one f (kill_close life word) = omega arith
+killing_one f (kill_draw life word) = omega arith
+
+counts_few : (object : NewObject) → counts_of object ≤ 4
+counts_few NewTable = omega arith
+counts_few NewLeaf = omega arith
+counts_few NewPages = omega arith
+counts_few NewPleaf = omega arith
+counts_few (NewThread comp) = omega arith
+counts_few (NewTcap sched quality) = omega arith
+
+made_few : (object : NewObject) (f : ℕ) (at : MakingAt) → length (made_dues object f at) ≤ 4
+made_few object f make_load = omega arith
+made_few object f (Mark word) = omega arith
+made_few object f (Store word entry) = let many = object_count object f in let few = counts_few object in omega (arith, many, few)
+made_few object f (fill_at word) = let many = object_count object f in let few = counts_few object in omega (arith, many, few)
+
+pub last_small : (object : NewObject) → last_word object < 64
+last_small NewTable = omega arith
+last_small NewLeaf = omega arith
+last_small NewPages = omega arith
+last_small NewPleaf = omega arith
+last_small (NewThread comp) = omega arith
+last_small (NewTcap sched quality) = omega arith
+
+-- an act changes four counts at most
+pub few_dues : (act : ActType) → length (dues act) ≤ 4
+few_dues (fill_act fill) = let one = cap_one fill.cap.kind fill.cap.frame fill.cap.arg (pos 1) in omega (arith, one)
+few_dues (remove_act close cap) = let one = cap_one cap.kind cap.frame cap.arg (negsuc 0) in omega (arith, one)
+few_dues (type_act typing) = omega arith
+few_dues (make_act m) = made_few m.object m.frame m.at
+few_dues (Outside node entry word) = omega arith
+few_dues (tick_act charge) = omega arith
+few_dues (kill_act m) = let one = killing_one m.comp m.at in omega (arith, one)
 
 -- the counts that an act changes are of frames of the machine
 abbrev pub DueFits : Shape → Option Due → Type 0
@@ -94,22 +132,47 @@ cap_fit s Range frame arg change n names = tt
 cap_fit s kind frame arg change zero names = omega arith
 cap_fit s kind frame arg change (suc n) names = tt
 
-made_fit : (s : Shape) (k : Capability) (at : MakingAt) (n : ℕ) → CapNames s.frames k → DueFits s (slice_get (made_dues k at) n)
-made_fit s k make_load zero names = tt
-made_fit s k make_load (suc n) names = tt
-made_fit s k (Mark word) zero names = tt
-made_fit s k (Mark word) (suc n) names = tt
-made_fit s k (Store word entry) n names = cap_fit s k.kind k.frame k.arg (pos 1) n names
-made_fit s k (fill_at word) n names = cap_fit s k.kind k.frame k.arg (pos 1) n names
+object_fit : (s : Shape) (object : NewObject) (f n : ℕ) → f < s.frames → NamesFit s.frames object
+    → DueFits s (slice_get (object_dues object f) n)
+object_fit s object f zero below names = below
+object_fit s NewTable f (suc n) below names = tt
+object_fit s NewLeaf f (suc n) below names = tt
+object_fit s NewPages f (suc n) below names = tt
+object_fit s NewPleaf f (suc n) below names = tt
+object_fit s (NewThread comp) f (suc zero) below names = names
+object_fit s (NewThread comp) f (suc (suc n)) below names = tt
+object_fit s (NewTcap sched quality) f (suc n) below names = tt
+
+made_fit : (s : Shape) (object : NewObject) (f : ℕ) (at : MakingAt) (n : ℕ) → f < s.frames → NamesFit s.frames object
+    → DueFits s (slice_get (made_dues object f at) n)
+made_fit s object f make_load zero below names = tt
+made_fit s object f make_load (suc n) below names = tt
+made_fit s object f (Mark word) zero below names = tt
+made_fit s object f (Mark word) (suc n) below names = tt
+made_fit s object f (Store word entry) n below names = object_fit s object f n below names
+made_fit s object f (fill_at word) n below names = object_fit s object f n below names
+
+killing_fit : (s : Shape) (f : ℕ) (at : KillingAt) (n : ℕ) → f < s.frames → DueFits s (slice_get (killing_dues f at) n)
+killing_fit s f LoadComp zero below = tt
+killing_fit s f LoadComp (suc n) below = tt
+killing_fit s f (LoadLive life) zero below = tt
+killing_fit s f (LoadLive life) (suc n) below = tt
+killing_fit s f (kill_close life word) zero below = below
+killing_fit s f (kill_close life word) (suc n) below = tt
+killing_fit s f (kill_draw life word) zero below = below
+killing_fit s f (kill_draw life word) (suc n) below = tt
 
 pub dues_fit : (s : Shape) (act : ActType) (n : ℕ) → ActFits s act → DueFits s (slice_get (dues act) n)
 dues_fit s (fill_act fill) n fits = cap_fit s fill.cap.kind fill.cap.frame fill.cap.arg (pos 1) n fits.cap
 dues_fit s (remove_act close cap) n fits = cap_fit s cap.kind cap.frame cap.arg (negsuc 0) n fits.1
 dues_fit s (type_act typing) zero fits = tt
 dues_fit s (type_act typing) (suc n) fits = tt
-dues_fit s (make_act m) n fits = made_fit s m.fill.cap m.at n fits.fill.cap
+dues_fit s (make_act m) n fits = made_fit s m.object m.frame m.at n fits.frame fits.object.names
 dues_fit s (Outside node entry word) zero fits = tt
 dues_fit s (Outside node entry word) (suc n) fits = tt
+dues_fit s (tick_act charge) zero fits = tt
+dues_fit s (tick_act charge) (suc n) fits = tt
+dues_fit s (kill_act m) n fits = killing_fit s m.comp m.at n fits.comp
 
 -- what a core does for an act of whose counts it has acquired so many
 pub work_next : (s : Shape) (later core n : ℕ) (act : ActType) (o : Option Due) → slice_get (dues act) n ≡ o → core < s.cores
@@ -211,6 +274,8 @@ starts_fit s later most core (fill_act fill) here fits some = first_fits s later
 starts_fit s later most core (remove_act close cap) here fits some = first_fits s later most core (remove_act close cap) here fits some
 starts_fit s later most core (type_act typing) here fits some = first_fits s later most core (type_act typing) here fits some
 starts_fit s later most core (make_act m) here fits some = first_fits s later most core (make_act m) here fits some
+starts_fit s later most core (tick_act charge) here fits some = first_fits s later most core (tick_act charge) here fits some
+starts_fit s later most core (kill_act m) here fits some = first_fits s later most core (kill_act m) here fits some
 
 pub scans_fit : (s : Shape) (later most core : ℕ) (act : ActType) (o : Option Quiet) → core < s.cores → ActFits s act → ScanMay s o
     → s.cores - 1 + 3 * length (dues act) + act_left act ≤ most → StepFits s [] later most (scans core o act)
@@ -224,7 +289,7 @@ filled own later most None target h names fits some = (omega arith, tt)
 filled own later most (Some k) None h names fits some = (omega arith, tt)
 filled own later most (Some k) (Some f) h names fits some =
     let act : ActType = filling k f in
-    let one = one_due act in
+    let one = cap_one k.kind k.frame k.arg (pos 1) in
     let many = h.shape.some_core in
     scans_fit own.layout later most own.core act (quiet_scan (stamp_in f.value) own.core own.layout.cores false) h.core
     (record { node = fits.node; entry = fits.entry; cap = names }) (scan_may own.layout (stamp_in f.value) own.core h.core) (omega arith)
@@ -237,7 +302,7 @@ removed_held s later most core f entry.Free here names node small some = (omega 
 removed_held s later most core f (entry.Held k) here names node small some =
     let act : ActType = removing core k f in
     let next = work_next s later core 0 act (slice_get (dues act) 0) refl here ((node, small), names) in
-    let one = one_due act in
+    let one = cap_one k.kind k.frame k.arg (negsuc 0) in
     (next.0, (let fewer = next.1 in omega arith), counts_next core 0 [] act (slice_get (dues act) 0) refl refl (omega arith))
 removed_held s later most core f (entry.Closing by) here names node small some = (omega arith, tt)
 removed_held s later most core f (entry.Quiescing stamp) here names node small some = (omega arith, tt)
@@ -268,19 +333,26 @@ types own later most (Some range) f k some =
     both true y is = is
     both false y is = cc
 
--- the act that makes a node, where the range has its frame
+-- the act that makes an object, where the range has its frame
 abbrev frame_in : Own → Capability → ℕ → Bool
 frame_in own range f = has_frame (found range) f && nat_lt f own.layout.frames
 
-node_fits : (frames : ℕ) (node : Node) (f : ℕ) → f < frames → CapNames frames (node_cap node f)
-node_fits frames NodeTable f below = omega arith
-node_fits frames NodeLeaf f below = omega arith
-node_fits frames NodePages f below = omega arith
-node_fits frames NodePleaf f below = omega arith
+object_below : (frames : ℕ) (object : NewObject) (f : ℕ) → f < frames → CapNames frames (object_cap object f)
+object_below frames NewTable f below = omega (arith, below)
+object_below frames NewLeaf f below = omega (arith, below)
+object_below frames NewPages f below = omega (arith, below)
+object_below frames NewPleaf f below = omega (arith, below)
+object_below frames (NewThread comp) f below = omega (arith, below)
+object_below frames (NewTcap sched quality) f below = omega (arith, below)
 
-pub makes : (own : Own) (later most : ℕ) (node : Node) (range : Capability) (f : ℕ) (target : Found) → IsOwn own
-    → PlaceFits own.layout target → own.layout.cores + 70 ≤ most → StepFits own.layout [] later most (makes_in own node range f target)
-makes own later most node range f target h fits some = by (frame_in own range f) refl
+-- the steps of a making, and those of the scan before it
+abbrev making_steps : NewObject → ℕ → ℕ
+making_steps object cores = cores + (3 * counts_of object + last_word object + 4)
+
+pub makes : (own : Own) (later most : ℕ) (object : NewObject) (range : Capability) (f : ℕ) (target : Found) → IsOwn own
+    → ObjectFits own.layout object → PlaceFits own.layout target → making_steps object own.layout.cores ≤ most
+    → StepFits own.layout [] later most (makes_in own object range f target)
+makes own later most object range f target h objects fits some = by (frame_in own range f) refl
   where
     both : (x y : Bool) → (x && y) ≡ true → y ≡ true
     both true y is = is
@@ -288,67 +360,123 @@ makes own later most node range f target h fits some = by (frame_in own range f)
 
     by : (within : Bool) → frame_in own range f ≡ within
         → StepFits own.layout [] later most (scans own.core (quiet_scan (stamp_in target.value) own.core own.layout.cores false)
-        (making_if within own node f target))
+        (making_if within own object f target))
     by true is =
         let many = h.shape.some_core in
         let below : f < own.layout.frames = ltb-true f own.layout.frames (both (has_frame (found range) f) (nat_lt f own.layout.frames) is)
         in
-        scans_fit own.layout later most own.core (making own node f target)
+        scans_fit own.layout later most own.core (making own object f target)
         (quiet_scan (stamp_in target.value) own.core own.layout.cores false) h.core
         (record {
           frame = below;
           core = h.core;
+          object = objects;
           fill = record {
             node = fits.node;
             entry = fits.entry;
-            cap = node_fits own.layout.frames
-                node f below;
+            cap = object_below own.layout.frames
+                object f below;
           };
           at = tt;
         })
-        (scan_may own.layout (stamp_in target.value) own.core h.core) (omega arith)
+        (scan_may own.layout (stamp_in target.value) own.core h.core) (omega (arith, many, some))
     by false is =
         let many = h.shape.some_core in
         scans_fit own.layout later most own.core (Outside target.node target.entry target.word)
         (quiet_scan (stamp_in target.value) own.core own.layout.cores false) h.core (fits.node, fits.entry)
-        (scan_may own.layout (stamp_in target.value) own.core h.core) (omega arith)
+        (scan_may own.layout (stamp_in target.value) own.core h.core) (omega (arith, many, some))
 
-made_at : (own : Own) (later most : ℕ) (node : Option Node) (range : Option Capability) (f : ℕ) (target : Option Found) → IsOwn own
-    → IfSome target (PlaceFits own.layout) → (IsSome node → own.layout.cores + 70 ≤ most)
-    → StepFits own.layout [] later most (makes_at own node range f target)
-made_at own later most (Some node) (Some range) f (Some target) h fits some = makes own later most node range f target h fits (some refl)
+made_at : (own : Own) (later most : ℕ) (object : Option NewObject) (range : Option Capability) (f : ℕ) (target : Option Found)
+    → IsOwn own → IfSome target (PlaceFits own.layout)
+    → IfSome object (λ o. ObjectFits own.layout o × (making_steps o own.layout.cores ≤ most))
+    → StepFits own.layout [] later most (makes_at own object range f target)
+made_at own later most (Some object) (Some range) f (Some target) h fits some =
+    makes own later most object range f target h some.0 fits some.1
 made_at own later most None range f target h fits some = (omega arith, tt)
-made_at own later most (Some node) None f target h fits some = (omega arith, tt)
-made_at own later most (Some node) (Some range) f None h fits some = (omega arith, tt)
+made_at own later most (Some object) None f target h fits some = (omega arith, tt)
+made_at own later most (Some object) (Some range) f None h fits some = (omega arith, tt)
 
-node_steps : (what : Make) (n : ℕ) → IsSome (node_made what) → n + 70 ≤ make_steps what n
-node_steps make.Table n some = omega arith
-node_steps make.Leaf n some = omega arith
-node_steps make.Pages n some = omega arith
-node_steps make.Pleaf n some = omega arith
-node_steps (make.Thread comp) n some = absurd (cc)
-node_steps (make.Tcap sched quality) n some = absurd (cc)
-node_steps (make.Comp table pages live) n some = absurd (cc)
+-- the name of a thread's component has led to a frame of the machine
+abbrev pub ObjectNamed : ℕ → Call → List Capability → Type 0
+ObjectNamed frames (make_call (make.Thread comp) r f t b) found = IfSome (at_place found Third) (λ k. k.frame < frames)
+ObjectNamed frames call found = Unit {0}
+
+comp_below : (frames : ℕ) (kind : Kind) (frame arg : ℕ) → only KindComp kind ≡ true → end_of_frames kind frame arg ≤ frames
+    → frame < frames
+comp_below frames Range frame arg wanted names = absurd (cc)
+comp_below frames kind frame arg wanted names = omega (arith, names)
+
+pub object_named : (frames : ℕ) (call : Call) (found : List Capability) → FoundFits frames (plan_for call) found
+    → ObjectNamed frames call found
+object_named frames (make_call (make.Thread comp) r f t b) [] leads = tt
+object_named frames (make_call (make.Thread comp) r f t b) (k ∷ []) leads = tt
+object_named frames (make_call (make.Thread comp) r f t b) (k ∷ j ∷ []) leads = tt
+object_named frames (make_call (make.Thread comp) r f t b) (k ∷ j ∷ i ∷ ks) leads =
+    comp_below frames i.kind i.frame i.arg leads.1.1.0.0 leads.1.1.0.1
+object_named frames call found leads = tt
+
+made_fits : (s : Shape) (what : Make) (r f t b : ℕ) (found : List Capability) (cores : ℕ) → MakeInLimits what
+    → ObjectNamed s.frames (make_call what r f t b) found
+    → IfSome (object_made what found) (λ o. ObjectFits s o × (making_steps o cores ≤ make_steps what cores))
+made_fits s make.Table r f t b found cores limits named = (record { pair = tt; names = tt }, omega arith)
+made_fits s make.Leaf r f t b found cores limits named = (record { pair = tt; names = tt }, omega arith)
+made_fits s make.Pages r f t b found cores limits named = (record { pair = tt; names = tt }, omega arith)
+made_fits s make.Pleaf r f t b found cores limits named = (record { pair = tt; names = tt }, omega arith)
+made_fits s (make.Thread comp) r f t b found cores limits named = by (at_place found Third) named
+  where
+    by : (o : Option Capability) → IfSome o (λ k. k.frame < s.frames)
+        → IfSome (thread_on o) (λ o. ObjectFits s o × (making_steps o cores ≤ make_steps (make.Thread comp) cores))
+    by None below = tt
+    by (Some k) below = (record { pair = tt; names = below }, omega arith)
+made_fits s (make.Tcap sched quality) r f t b found cores limits named = (record { pair = limits; names = tt }, omega arith)
+made_fits s (make.Comp table pages live) r f t b found cores limits named = tt
 
 two_steps : (k : FrameKind) (n : ℕ) → 2 ≤ retype_steps k n
 two_steps Untyped n = omega arith
 two_steps User n = omega arith
 two_steps Kernel n = omega arith
 
+-- the act that kills a component
+kills : (s : Shape) (later most core : ℕ) (kind : Kind) (f arg : ℕ) → core < s.cores
+    → CapNames s.frames (record { kind = kind; frame = f; arg = arg }) → 8 ≤ most → StepFits s [] later most (kills_in core kind f)
+kills s later most core kind.Comp f arg here names some = (record { comp = omega arith; core = here; at = tt }, omega arith, refl)
+kills s later most core kind.Range f arg here names some = (omega arith, tt)
+kills s later most core kind.Table f arg here names some = (omega arith, tt)
+kills s later most core kind.Leaf f arg here names some = (omega arith, tt)
+kills s later most core kind.Pages f arg here names some = (omega arith, tt)
+kills s later most core kind.Pleaf f arg here names some = (omega arith, tt)
+kills s later most core kind.Gate f arg here names some = (omega arith, tt)
+kills s later most core kind.Thread f arg here names some = (omega arith, tt)
+kills s later most core kind.Tcap f arg here names some = (omega arith, tt)
+kills s later most core kind.Link f arg here names some = (omega arith, tt)
+kills s later most core kind.Page f arg here names some = (omega arith, tt)
+
+killed : (own : Own) (later most : ℕ) (k : Option Capability) → IsOwn own → IfSome k (CapNames own.layout.frames) → 8 ≤ most
+    → StepFits own.layout [] later most (kills_at own k)
+killed own later most None h names some = (omega arith, tt)
+killed own later most (Some k) h names some = kills own.layout later most own.core k.kind k.frame k.arg h.core names some
+
 pub act_fits : (own : Own) (later : ℕ) (call : Call) (found : List Capability) (target : Option Found) → IsOwn own
-    → IfSome (at_place found First) (CapNames own.layout.frames) → IfSome target (PlaceFits own.layout)
+    → IfSome (at_place found First) (CapNames own.layout.frames) → ObjectNamed own.layout.frames call found → InLimits call
+    → IfSome target (PlaceFits own.layout)
     → StepFits own.layout [] later (act_steps call own.layout.cores) (act_begun own call found target)
-act_fits own later (look_call a) found target h names fits = look_done own.layout later 0 _
-act_fits own later (Copy a t b) found target h names fits = filled own later (3 + own.layout.cores) _ target h names fits (omega arith)
-act_fits own later (Remove t b) found target h names fits = removed own.layout later 6 own.core target h.core fits (omega arith)
-act_fits own later (Shrink t i) found target h names fits = removed own.layout later 6 own.core target h.core fits (omega arith)
-act_fits own later (Unmap p v) found target h names fits = removed own.layout later 6 own.core target h.core fits (omega arith)
-act_fits own later (Retype r f k) found target h names fits =
+act_fits own later (look_call a) found target h names objects limits fits = look_done own.layout later 0 _
+act_fits own later (Copy a t b) found target h names objects limits fits =
+    filled own later (3 + own.layout.cores) _ target h names fits (omega arith)
+act_fits own later (Remove t b) found target h names objects limits fits =
+    removed own.layout later 6 own.core target h.core fits (omega arith)
+act_fits own later (Shrink t i) found target h names objects limits fits =
+    removed own.layout later 6 own.core target h.core fits (omega arith)
+act_fits own later (Unmap p v) found target h names objects limits fits =
+    removed own.layout later 6 own.core target h.core fits (omega arith)
+act_fits own later (Retype r f k) found target h names objects limits fits =
     types own later (retype_steps k own.layout.cores) _ f k (two_steps k own.layout.cores)
-act_fits own later (make_call what range frame table slot) found target h names fits =
-    made_at own later (make_steps what own.layout.cores) (node_made what) (at_place found First) frame target h fits
-    (node_steps what own.layout.cores)
-act_fits own later call found target h names fits = (omega arith, tt)
+act_fits own later (make_call what range frame table slot) found target h names objects limits fits =
+    made_at own later (make_steps what own.layout.cores) (object_made what found) (at_place found First) frame target h fits
+    (made_fits own.layout what range frame table slot found own.layout.cores limits objects)
+act_fits own later (Tick n) found target h names objects limits fits = (h.tcap, omega arith, refl)
+act_fits own later (Kill k) found target h names objects limits fits = killed own later 8 (at_place found First) h names (omega arith)
+act_fits own later call found target h names objects limits fits = (omega arith, tt)
 
 -- the root of a target is a frame of the machine, where its name is found
 abbrev pub RootBelow : ℕ → List Capability → Target → Type 0
@@ -383,19 +511,19 @@ at_fits s ks (Under i n) later acts most below = looks_fits s _ _ n later _ refl
 at_fits s ks (InRoot i e) later acts most below = entry_fits s _ _ e later _ refl below (omega arith)
 
 pub next_case : (own : Own) (call : Call) (found : List Capability) (names : List Name) (target : Target) → IsOwn own
-    → IfSome (at_place found First) (CapNames own.layout.frames)
+    → IfSome (at_place found First) (CapNames own.layout.frames) → ObjectNamed own.layout.frames call found → InLimits call
     → (names ≡ [] → RootBelow own.layout.frames found target)
     → StepFits own.layout [] (looks_later names target + act_steps call own.layout.cores)
     (look_steps names target + act_steps call own.layout.cores)
     (next_step own call found (next_in (with_found [] found) names target))
-next_case own call found (name ∷ names) target h first roots =
+next_case own call found (name ∷ names) target h first objects limits roots =
     looks_fits own.layout _ own.table name.number _ _ refl h.table (omega arith)
-next_case own call found [] Nowhere h first roots =
+next_case own call found [] Nowhere h first objects limits roots =
     let zero : act_steps call own.layout.cores ≡ 0 + act_steps call own.layout.cores = omega arith in
     subst (λ (most : ℕ). StepFits own.layout [] (0 + act_steps call own.layout.cores) most (act_begun own call found None)) zero
-    (act_fits own (0 + act_steps call own.layout.cores) call found None h first tt)
-next_case own call found [] (Free spot) h first roots =
+    (act_fits own (0 + act_steps call own.layout.cores) call found None h first objects limits tt)
+next_case own call found [] (Free spot) h first objects limits roots =
     at_fits own.layout found spot _ (act_steps call own.layout.cores) (omega arith) (roots refl)
-next_case own call found [] (Held spot) h first roots =
+next_case own call found [] (Held spot) h first objects limits roots =
     at_fits own.layout found spot _ (act_steps call own.layout.cores) (omega arith) (roots refl)
-next_case own call found [] (own_page v) h first roots = (omega arith, tt)
+next_case own call found [] (own_page v) h first objects limits roots = (omega arith, tt)

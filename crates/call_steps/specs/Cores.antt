@@ -9,12 +9,13 @@ use Rattle.word_map.specs.Moves.{Move, LoadOf}
 use Rattle.kernel_rules.specs.Laws.{calls_counted}
 use Rattle.call_plans.specs.PlanOf.{plan_for}
 use Rattle.call_acts.specs.declared.own.Own.{Own}
+use Rattle.call_acts.specs.OwnChanges.{own_changed}
 use Rattle.call_steps.specs.declared.stages.Stage.TheVariants.{Enter}
 use Rattle.call_steps.specs.declared.stages.ActiveCall.{ActiveCall}
 use Rattle.call_steps.specs.declared.stages.Absorbed.{Absorbed}
 use Rattle.call_steps.specs.declared.stages.Absorbed.TheVariants as absorbed_as
 use Rattle.call_steps.specs.View.{Core}
-use Rattle.call_steps.specs.Steps.{stage_move, Took, GoesOn, Decides, Returns, took, is_ready}
+use Rattle.call_steps.specs.Steps.{stage_move, Took, GoesOn, Decides, Returns, Changes, took, is_ready}
 
 -- core c at the start: on its own thread and temporal capability, in the component of the start, in no call
 abbrev pub started : ℕ → Setting → Core
@@ -83,6 +84,7 @@ abbrev pub core_after : Own → Took → Core
 core_after own (GoesOn a) = record { own = own; active = Some a }
 core_after own (Decides r a) = record { own = own_decided own r; active = Some a }
 core_after own (Returns r stamp) = record { own = record own { exit = stamp }; active = None }
+core_after own (Changes r change a) = record { own = own_decided (own_changed own change) r; active = Some a }
 
 -- the core after its step on a word in which it found this; after a store this is the word stored
 abbrev pub absorbed_in : Own → Option ActiveCall → ℕ → Core
@@ -97,6 +99,7 @@ abbrev pub told_by : Took → Absorbed
 told_by (GoesOn a) = absorbed_as.Going
 told_by (Decides r a) = absorbed_as.Decided r
 told_by (Returns r stamp) = absorbed_as.Returned r
+told_by (Changes r change a) = absorbed_as.Decided r
 
 abbrev pub told_in : Own → Option ActiveCall → ℕ → Absorbed
 told_in own None found = absorbed_as.Going

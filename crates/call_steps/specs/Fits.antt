@@ -5,6 +5,7 @@ use Rattle.spk_nums.specs.CallLimits.{InLimits}
 use Rattle.spk_nums.specs.Capability.{Capability}
 use Rattle.spk_nums.specs.declared.kinds.Kind.{Kind}
 use Rattle.supported_calls.specs.Built.{IsBuilt}
+use Rattle.frame_words.specs.Comp.{CompFits}
 use Rattle.word_map.specs.Places.{Shape, IsShape}
 use Rattle.stage_look.specs.Shown.{CapNames}
 use Rattle.stage_look.specs.Lookup.{LookFits}
@@ -22,7 +23,7 @@ use Rattle.call_acts.specs.declared.work.Work.TheVariants.{Lookup, Scan, Acquire
 use Rattle.call_steps.specs.declared.stages.Stage.{Stage}
 use Rattle.call_steps.specs.declared.stages.Stage.TheVariants.{Enter, Undecided, Decided, Leave}
 use Rattle.call_acts.specs.declared.work.Tail.{Tail}
-use Rattle.call_acts.specs.declared.work.Tail.TheVariants.{Nothing, Quiesce, Unmark}
+use Rattle.call_acts.specs.declared.work.Tail.TheVariants.{Nothing, Quiesce, Unmark, StoreDead}
 use Rattle.call_steps.specs.declared.stages.ActiveCall.{ActiveCall}
 use Rattle.stage_quiet.specs.declared.quiet.Quiet.{Quiet}
 use Rattle.stage_quiet.specs.declared.quiet.Quiet.TheVariants.{AtCore, AtFlush}
@@ -53,6 +54,7 @@ abbrev pub TailFits : Shape → Tail → Type 0
 TailFits s Nothing = Unit {0}
 TailFits s (Quiesce close) = CloseFits s close
 TailFits s (Unmark f word) = f < s.frames
+TailFits s (StoreDead life stamp) = CompFits life × (1 ≤ stamp)
 
 abbrev pub StageFits : Shape → Stage → Type 0
 StageFits s Enter = Unit {0}

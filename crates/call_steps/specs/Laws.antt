@@ -6,7 +6,7 @@ use Rattle.call_acts.specs.declared.own.Own.{Own}
 use Rattle.call_steps.specs.declared.stages.Stage.{Stage}
 use Rattle.call_steps.specs.declared.stages.Stage.TheVariants.{Enter, Undecided, Decided, Leave}
 use Rattle.call_steps.specs.declared.stages.ActiveCall.{ActiveCall}
-use Rattle.call_steps.specs.Steps.{Took, GoesOn, Decides, Returns, took, is_ready}
+use Rattle.call_steps.specs.Steps.{Took, GoesOn, Decides, Returns, Changes, took, is_ready}
 use Rattle.call_steps.specs.Fits.{IsActive}
 
 -- The reply with which a call is decided, at a stage at which it is.
@@ -22,6 +22,7 @@ abbrev pub Turns : Option Reply → Took → Type 0
 Turns o (GoesOn a) = reply_at a.stage ≡ o
 Turns o (Decides r a) = (o ≡ None) × (reply_at a.stage ≡ Some r)
 Turns o (Returns r stamp) = o ≡ Some r
+Turns o (Changes r change a) = (o ≡ None) × (reply_at a.stage ≡ Some r)
 
 -- A call is decided once, and returns the reply with which it was decided.
 abbrev pub DecidesOnce : Type 0
@@ -32,6 +33,7 @@ abbrev pub Refuses : Took → Type 0
 Refuses (GoesOn a) = Unit {0}
 Refuses (Decides r a) = IsRefusal r
 Refuses (Returns r stamp) = Unit {0}
+Refuses (Changes r change a) = IsRefusal r
 
 -- A step of a call that is not ready decides a refusal, if it decides.
 abbrev pub UnreadyRefuses : Type 0
@@ -42,6 +44,7 @@ abbrev pub IsDecision : Took → Type 0
 IsDecision (GoesOn a) = ⊥
 IsDecision (Decides r a) = Unit {0}
 IsDecision (Returns r stamp) = ⊥
+IsDecision (Changes r change a) = Unit {0}
 
 -- A call that is ready and not decided is decided by its next step, whatever word that finds.
 abbrev pub ReadyDecides : Type 0

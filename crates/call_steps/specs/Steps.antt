@@ -29,6 +29,8 @@ use Rattle.call_plans.specs.declared.plans.Plan.{Plan}
 use Rattle.call_plans.specs.After.{Next, NextName, NextFree, NextHeld, NextOwn, NextNothing, next_of}
 use Rattle.call_acts.specs.declared.refusals.Refusal.TheVariants as refusal
 use Rattle.call_acts.specs.declared.own.Own.{Own}
+use Rattle.call_acts.specs.declared.own.OwnChange.{OwnChange}
+use Rattle.call_acts.specs.declared.work.Tail.TheVariants.{Nothing}
 use Rattle.call_acts.specs.declared.lookups.Met.{Met}
 use Rattle.call_acts.specs.declared.lookups.Met.TheVariants.{Finds, Refused}
 use Rattle.call_acts.specs.declared.work.Act.{Act as ActType}
@@ -39,7 +41,7 @@ use Rattle.call_steps.specs.declared.stages.Stage.{Stage}
 use Rattle.call_steps.specs.declared.stages.Stage.TheVariants.{Enter, Undecided, Decided, Leave}
 use Rattle.call_steps.specs.declared.stages.ActiveCall.{ActiveCall}
 use Rattle.call_acts.specs.declared.work.WorkStep.{WorkStep}
-use Rattle.call_acts.specs.declared.work.WorkStep.TheVariants.{Goes, Acquires, Refuses, Answers}
+use Rattle.call_acts.specs.declared.work.WorkStep.TheVariants.{Goes, Acquires, Refuses, Answers, Changes as work_changes}
 use Rattle.call_steps.specs.declared.stages.Told.{Told}
 use Rattle.call_steps.specs.declared.stages.Told.TheVariants as told_as
 use Rattle.call_acts.specs.Refusals.{reply_of, refusal_of}
@@ -68,11 +70,12 @@ stage_move own counts (Decided r drawn tail) = tail_move r drawn tail counts
 stage_move own counts (Leave r stamp) = StoreOf (CoreAt own.core) (core_word false stamp)
 
 -- What a step led to: the call goes on; it is decided with this reply and goes on; it returns this reply, and its core word was
--- left with this stamp.
+-- left with this stamp; it is decided with this reply, changes this of what its core has of its own, and goes on.
 pub data Took : Type 0 where
   GoesOn : ActiveCall → Took
   Decides : Reply → ActiveCall → Took
   Returns : Reply → ℕ → Took
+  Changes : Reply → OwnChange → ActiveCall → Took
 
 -- the call, one step further, at this stage
 abbrev pub went : ActiveCall → Stage → ActiveCall
@@ -92,6 +95,7 @@ landed a (Goes work) = GoesOn (went a (Undecided work))
 landed a (Acquires count work) = GoesOn (went_with a (count_pushed a.counts count) (Undecided work))
 landed a (Refuses r tail) = decided a (reply_of r) None tail
 landed a (Answers v drawn tail) = decided a (Ok v) drawn tail
+landed a (work_changes r change) = Changes r change (went a (Decided r None Nothing))
 
 -- its names have led to one capability more
 abbrev pub found_more : ActiveCall → List Capability → ActiveCall
@@ -175,12 +179,14 @@ abbrev pub told : Took → Told
 told (GoesOn a) = told_as.Going
 told (Decides r a) = told_as.Decided r
 told (Returns r stamp) = told_as.Returned r stamp
+told (Changes r change a) = told_as.Changed r change
 
 -- the call after a step that led to this; one that returns stays as it was
 abbrev pub call_after : ActiveCall → Took → ActiveCall
 call_after old (GoesOn a) = a
 call_after old (Decides r a) = a
 call_after old (Returns r stamp) = old
+call_after old (Changes r change a) = a
 
 -- whether the next load is that of the place that is looked for
 abbrev pub is_last : Look → Bool

@@ -178,6 +178,11 @@ impl CoreState {
                 leave(&mut self.active);
                 Absorbed::Returned(reply)
             }
+            Told::Changed { reply, change } => {
+                self.own.change(&change);
+                self.own.made += calls_counted(&reply);
+                Absorbed::Decided(reply)
+            }
         }
     }
 

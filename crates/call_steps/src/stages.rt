@@ -1,6 +1,6 @@
 //! Where a call stands between two of its steps.
 
-use call_acts::{Tail, Work};
+use call_acts::{OwnChange, Tail, Work};
 use call_plans::{Caps, Plan};
 use spk_nums::{Call, Reply, Stamp};
 use stage_pins::AcquiredCounts;
@@ -14,8 +14,8 @@ pub enum Stage {
     Undecided {
         work: Work,
     },
-    /// Decided, with the stamp that it has drawn, if it has, and what it has still to store. Then it commits the counts that it has acquired, and then the clock is loaded,
-    /// which begins the exit.
+    /// Decided, with the stamp that it has drawn, if it has, and what it has still to store. Then it commits the counts that it has
+    /// acquired, and then the clock is loaded, which begins the exit.
     Decided {
         reply: Reply,
         drawn: Option<Stamp>,
@@ -54,6 +54,8 @@ pub enum Told {
     Decided { reply: Reply },
     /// The call returns, and the core word was left with this stamp.
     Returned { reply: Reply, stamp: Stamp },
+    /// The call was decided at this step, which changes this of what its core has of its own, and goes on.
+    Changed { reply: Reply, change: OwnChange },
 }
 
 /// What a core tells of a step that it has made.

@@ -1,19 +1,17 @@
 //! The steps of a call.
 
-ghost use Rattle.std.specs.Prelude.{◌≡◌, ◌<◌, ◌≤◌};
+ghost use Rattle.std.specs.Prelude.{◌≡◌, ◌<◌, ◌≤◌, nat_le, [], None};
 ghost use Rattle.word_map.specs.Places.{size_of};
 ghost use Rattle.word_map.specs.Moves.{op_of};
 ghost use Rattle.spk_nums.specs.WordSteps.{place_in};
-ghost use Rattle.call_plans.specs.After.{next_of};
+ghost use Rattle.call_plans.specs.After.{next_of, with_found};
 ghost use Rattle.stage_pins.specs.Held.{AllFit};
 ghost use Rattle.call_steps.specs.Tails.{tail_counts, took_tail};
-ghost use Rattle.call_steps.specs.Steps.{core_word, work_move, stage_move, went, went_with, took_scan, took_count, gives_up, landed, next_by, took_enter, took_found, took_end, took_work, took_at, took, told, call_after, is_last, decides_at_name, work_ready, is_ready, is_spent, named_one};
+ghost use Rattle.call_steps.specs.Steps.{core_word, work_move, stage_move, went, went_with, took_scan, took_count, gives_up, landed, next_by, took_enter, took_found, took_end, took_work, took_at, took, told, call_after, is_last, decides_at_name, work_ready, is_ready, is_spent, named_one, decided, Changes};
 ghost use Rattle.call_steps.specs.Fits.{WorkFits, StageFits, IsLater};
 ghost use Rattle.stage_pins.specs.Acquire.{pin_after, pin_end};
 ghost use Rattle.stage_quiet.specs.Scan.{quiet_after, quiet_end};
-ghost use Rattle.std.specs.Prelude.{nat_le, []};
 ghost use Rattle.call_plans.specs.GoesBy.{place_of};
-ghost use Rattle.call_plans.specs.After.{with_found};
 ghost use Rattle.call_acts.specs.WorkSteps.{refuse};
 ghost use Rattle.call_acts.specs.Acts.{act_begun};
 ghost use Rattle.call_acts.specs.Lookups.{looks_under, looks_entry, looks_at, met_free, met_held};
@@ -23,8 +21,8 @@ ghost use Rattle.call_acts.specs.declared.work.Work.TheVariants.{Lookup, Scan, A
 use crate::stages::{ActiveCall, Stage, Told};
 use crate::tails::{tail_op, took_tail};
 use call_acts::{
-    Act, Met, Own, Refusal, Tail, Work, WorkStep, act_op, act_ready, act_took, begin_act, frame_of,
-    met_free, met_held, met_name, next_work, refuse, starts, undo,
+    Act, Met, Own, OwnChange, Refusal, Tail, Work, WorkStep, act_op, act_ready, act_took,
+    begin_act, frame_of, met_free, met_held, met_name, next_work, refuse, starts, undo,
 };
 use call_plans::{Decides, Next, Spot};
 use frame_words::CoreWord;
@@ -551,6 +549,25 @@ impl ActiveCall {
             WorkStep::Answers { value, drawn, tail } => {
                 self.decide(&Reply::Ok(*value), *drawn, tail)
             }
+            WorkStep::Changes { reply, change } => self.decide_changing(reply, change),
+        }
+    }
+
+    // The call is decided with this reply, which changes this of what its core has of its own.
+    #[inline(never)]
+    fn decide_changing(&mut self, reply: &Reply, change: &OwnChange) -> Told
+        requires { self.old.steps < 1000 }
+        ensures told { result ≡ told (Changes reply.now change.now (went self.old (Decided reply.now None Nothing))) }
+        ensures after { self.new ≡ went self.old (Decided reply.now None Nothing) }
+    {
+        self.go_on(Stage::Decided {
+            reply: *reply,
+            drawn: None,
+            tail: Tail::Nothing,
+        });
+        Told::Changed {
+            reply: *reply,
+            change: *change,
         }
     }
 
@@ -580,4 +597,5 @@ impl ActiveCall {
     }
 }
 
-ghost use Rattle.call_steps.specs.Steps.{decided};
+ghost use Rattle.call_acts.specs.declared.work.Tail.TheVariants.{Nothing};
+ghost use Rattle.call_steps.specs.declared.stages.Stage.TheVariants.{Decided};

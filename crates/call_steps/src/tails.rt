@@ -9,7 +9,7 @@ ghost use Rattle.stage_pins.specs.Held.{AllFit};
 ghost use Rattle.call_steps.specs.Fits.{TailFits};
 
 use crate::stages::Stage;
-use call_acts::Tail;
+use call_acts::{Tail, dead_op};
 use spk_nums::{Reply, Stamp, WordOp};
 use stage_pins::AcquiredCounts;
 use word_map::Layout;
@@ -35,6 +35,7 @@ pub fn tail_op(
             at: layout.frame_at(*frame),
             word: *word,
         },
+        Tail::StoreDead { life, stamp } => dead_op(life, *stamp, layout),
         Tail::Nothing => match counts.first() {
             None => WordOp::Load {
                 at: layout.clock_at(),
@@ -70,7 +71,9 @@ pub fn took_tail(
     ensures { result ≡ took_tail reply drawn tail.now counts.now found }
 {
     match tail {
-        Tail::Quiesce { close: _ } | Tail::Unmark { frame: _, word: _ } => Stage::Decided {
+        Tail::Quiesce { close: _ }
+        | Tail::Unmark { frame: _, word: _ }
+        | Tail::StoreDead { life: _, stamp: _ } => Stage::Decided {
             reply,
             drawn,
             tail: Tail::Nothing,

@@ -1,4 +1,4 @@
-//! A look, a copy and a removal, step by step over plain words: their replies, their steps, and where they are ready.
+//! A look, a copy, a removal and a retype, step by step over plain words: their replies, their steps, and where they are ready.
 
 ghost use Rattle.std.specs.Prelude.{◌<◌};
 ghost use Rattle.spk_nums.specs.CallLimits.{InLimits};
@@ -6,7 +6,8 @@ ghost use Rattle.supported_calls.specs.Built.{IsBuilt};
 
 use crate::{Absorbed, CoreState};
 use spk_nums::{
-    Call, Cap, CapId, CoreNo, FrameNo, Grant, Grants, Kind, Reply, Setup, Value, WordOp,
+    Call, Cap, CapId, CoreNo, FrameArg, FrameKind, FrameNo, Grant, Grants, Kind, Reply, Setup,
+    Value, WordOp,
 };
 
 // A machine of one core and eight frames has 595 words, the count of frame 0 at 520, the core word at 528 and the clock at 594.
@@ -20,6 +21,13 @@ const CLOCK: usize = 594;
 const TARGET: usize = 84;
 
 const COUNT_OF_2: usize = 522;
+
+// The word of frame 6, and those of a blank kernel frame, without a mark and marked by core 1.
+const WORD_OF_6: usize = 518;
+
+const BLANK: u64 = 2;
+
+const BLANK_BY_1: u64 = 130;
 
 const LINK_TO_1: u64 = 101;
 
@@ -186,6 +194,17 @@ fn remove(b: u16) -> Call
     Call::Remove {
         t: CapId::new(1),
         b: CapId::new(b),
+    }
+}
+
+fn retype(f: u16) -> Call
+    ensures limits { InLimits result }
+    ensures built { IsBuilt result }
+{
+    Call::Retype {
+        r: CapId::new(0),
+        f: FrameArg::new(f),
+        k: FrameKind::User,
     }
 }
 
@@ -385,6 +404,30 @@ fn a_removal_is_refused_at_the_first_cause(rt: HostRuntime) {
     assert_eq!(rt;
         answers(&words, remove(20)),
         Some((Reply::Busy(CoreNo::new(1)), 7))
+    );
+}
+
+#[test]
+fn a_retype_compares_the_word_of_an_untyped_frame(rt: HostRuntime) {
+    let mut words = words();
+    let mut steps = no_steps();
+    let typed = call_by_steps(&mut words, 9, retype(6), 99, &mut steps);
+    assert_eq!(rt; typed, Some((Reply::Ok(Value::Nothing), 7, 4)));
+    let types = WordOp::Compare {
+        at: 518,
+        expected: 0,
+        word: 1,
+    };
+    assert!(rt; has_steps(&steps, &[(3, WordOp::Load { at: 518 }), (4, types)]));
+    assert_eq!(rt; words[WORD_OF_6], 1);
+    assert_eq!(rt; answers(&words, retype(6)), Some((Reply::FrameKind, 6)));
+    assert_eq!(rt; answers(&words, retype(8)), Some((Reply::OutOfRange, 5)));
+    words[WORD_OF_6] = BLANK;
+    assert_eq!(rt; answers(&words, retype(6)), Some((Reply::FrameKind, 6)));
+    words[WORD_OF_6] = BLANK_BY_1;
+    assert_eq!(rt;
+        answers(&words, retype(6)),
+        Some((Reply::Busy(CoreNo::new(1)), 6))
     );
 }
 

@@ -73,16 +73,17 @@ calm_then s s' s'' c a b = record {
 }
 
 -- where the own core works stays, but for what it has counted, where the step leaves its threads and components
-pub own_works : (s s' : State) (c : ℕ) (core after : Own) → ((f : ℕ) → thread_in (s'.frame f) ≡ thread_in (s.frame f))
-    → ((f : ℕ) → comp_in (s'.frame f) ≡ comp_in (s.frame f))
+-- A core works where it did, where its thread and its component are what they were.
+pub same_works : (s s' : State) (c : ℕ) (core after : Own)
+    → thread_in (s'.frame (s.core c).thread) ≡ thread_in (s.frame (s.core c).thread)
+    → comp_in (s'.frame (first_of_stack (thread_of s c).stack)) ≡ comp_in (s.frame (first_of_stack (thread_of s c).stack))
     → s'.core c ≡ counts (s.core c) (s'.core c).inside (s'.core c).counted
     → after ≡ record core { made = (s'.core c).counted; exit = after.exit }
     → WorksIn core s c → WorksIn after s' c
-own_works s s' c core after threads comps own same is =
+same_works s s' c core after own_thread own_comp own same is =
     let thread : (s'.core c).thread ≡ (s.core c).thread = ap (λ k. k.thread) own in
-    let whose : thread_of s' c ≡ thread_of s c = threads (s'.core c).thread ∙ ap (λ (f : ℕ). thread_in (s.frame f)) thread in
-    let comp : comp_of s' c ≡ comp_of s c = comps (first_of_stack (thread_of s' c).stack)
-    ∙ ap (λ k. comp_in (s.frame (first_of_stack k.stack))) whose in
+    let whose : thread_of s' c ≡ thread_of s c = ap (λ (f : ℕ). thread_in (s'.frame f)) thread ∙ own_thread in
+    let comp : comp_of s' c ≡ comp_of s c = ap (λ k. comp_in (s'.frame (first_of_stack k.stack))) whose ∙ own_comp in
     record {
       thread = ap (λ k. k.thread) same ∙ is.thread ∙ sym thread;
       depth = ap (λ k. k.depth) same ∙ is.depth ∙ ap (λ k. Rattle.std.proofs.Common.length k.stack) (sym whose);
@@ -95,6 +96,14 @@ own_works s s' c core after threads comps own same is =
       spent = ap (λ k. k.spent) same ∙ is.spent ∙ ap (λ k. k.spent) (sym own);
       made = ap (λ k. k.made) same;
     }
+
+pub own_works : (s s' : State) (c : ℕ) (core after : Own) → ((f : ℕ) → thread_in (s'.frame f) ≡ thread_in (s.frame f))
+    → ((f : ℕ) → comp_in (s'.frame f) ≡ comp_in (s.frame f))
+    → s'.core c ≡ counts (s.core c) (s'.core c).inside (s'.core c).counted
+    → after ≡ record core { made = (s'.core c).counted; exit = after.exit }
+    → WorksIn core s c → WorksIn after s' c
+own_works s s' c core after threads comps =
+    same_works s s' c core after (threads (s.core c).thread) (comps (first_of_stack (thread_of s c).stack))
 
 pub calm_own : (s s' : State) (c : ℕ) (core after : Own) → IsCalm s s' c
     → after ≡ record core { made = (s'.core c).counted; exit = after.exit }

@@ -1,26 +1,33 @@
 -- What a call knows it still knows after a step of another core, and after an own step that decides nothing: each kind of
 -- knowledge once, over the few things that such a step keeps.
+use Rattle.call_acts.specs.Objects.{last_word}
+use Rattle.call_acts.specs.declared.objects.NewObject.{NewObject}
 use Rattle.call_acts.specs.Makings.{is_marked}
 use Rattle.call_acts.specs.declared.makings.MakingAt.TheVariants.{Load as making_load, Mark, Store, Fill as making_fill}
 use Rattle.call_acts.specs.declared.makings.MakingAt.{MakingAt}
-use Rattle.std.proofs.Common.{◌≡◌, ◌≤◌, arith, inl, inr, ℕ, ◌&&◌, nat_le, if◌then◌else◌, cond, [], ◌∷◌, ◌++◌, List, Bool, true, false, Option, Some, None, refl, ◌∙◌, ap, subst, ◌==◌}
+use Rattle.std.proofs.Common.{◌+◌, ◌≡◌, ◌≤◌, arith, inl, inr, ℕ, ◌&&◌, nat_le, if◌then◌else◌, cond, [], ◌∷◌, ◌++◌, List, Bool, true, false, Option, Some, None, refl, ◌∙◌, ap, subst, ◌==◌, sym, IsTrue}
 use Rattle.std.specs.Prelude.{IsSome, is_some, All}
-use Rattle.std.proofs.lemmas.Bool.{eq-eqb}
+use Rattle.std.proofs.lemmas.Bool.{eq-eqb, false≢true}
 use Rattle.std.proofs.lemmas.List.Elements.{All-nil, All-cons, All-head, All-tail}
 use Rattle.stage_pins.specs.declared.held.Acquired.{Acquired}
 use Rattle.core_invariant.specs.Holding.{count_of}
 use Rattle.spk_nums.specs.Capability.{Capability}
 use Rattle.spk_nums.specs.Setting.{Setting, IsSetting}
 use Rattle.spk_nums.specs.declared.kinds.Kind.{Kind}
+use Rattle.spk_nums.specs.declared.kinds.Kind.TheVariants.{Comp as comp_kind}
+use Rattle.frame_words.specs.declared.comp_word.CompWord.{CompWord}
+use Rattle.call_acts.specs.declared.kills.KillingAt.{KillingAt}
+use Rattle.call_acts.specs.declared.kills.KillingAt.TheVariants.{LoadComp, LoadLive, Close as kill_close, Draw as kill_draw}
 use Rattle.spk_nums.specs.declared.calls.Call.{Call}
-use Rattle.word_map.specs.Word.{Word, EntryAt, CountAt, FrameAt}
+use Rattle.word_map.specs.Word.{Word, EntryAt, CountAt, FrameAt, LiveAt}
 use Rattle.word_map.specs.Places.{counter_of}
 use Rattle.word_map.specs.Moves.{word_of}
 use Rattle.stage_look.specs.declared.look.Look.{Look}
 use Rattle.stage_look.specs.declared.look.Look.TheVariants.{AtRoot, AtLeaf, AtEntry}
 use Rattle.kernel_rules.specs.Access.{Slot, Named, found, Target, Under, InRoot, usable, linked, root_slot, reached}
 use Rattle.kernel_rules.proofs.Facts.{some_inj, none_some}
-use Rattle.kernel_rules.specs.Relies.{Relies}
+use Rattle.kernel_rules.specs.Fitting.{fits}
+use Rattle.kernel_rules.specs.Relies.{is_fixed, Relies}
 use Rattle.kernel_history.specs.Trace.{Step, Trace, Open, phase, state_after, own_left, own_read, last_left}
 use Rattle.kernel_history.specs.Justified.{HasReached}
 use Rattle.kernel_history.specs.Legal.{IsLegal}
@@ -37,7 +44,7 @@ use Rattle.call_acts.specs.declared.fills.Fill.{Fill}
 use Rattle.entry_words.specs.declared.entry.Entry.{Entry}
 use Rattle.entry_words.specs.declared.entry.Entry.TheVariants as entry
 use Rattle.entry_words.specs.EntryWord.{entry_of_word}
-use Rattle.kernel_rules.specs.State.{Thing, PlaceOf}
+use Rattle.kernel_rules.specs.State.{Thing, PlaceOf, Frame, Kernel, Comp, comp_in}
 use Rattle.kernel_history.specs.Stamps.{stamp}
 use Rattle.stage_quiet.specs.declared.close.Close.{Close}
 use Rattle.stage_quiet.specs.declared.close.Close.TheVariants.{AtCompare, AtDraw, AtStore}
@@ -46,11 +53,15 @@ use Rattle.stage_quiet.specs.declared.quiet.Quiet.TheVariants.{AtCore, AtFlush}
 use Rattle.stage_pins.specs.declared.pin.Pin.{Pin}
 use Rattle.stage_pins.specs.declared.pin.Pin.TheVariants.{AtLoad, AtCompare as pin_compare}
 use Rattle.call_acts.specs.declared.work.Act.{Act as ActOf}
-use Rattle.call_acts.specs.declared.work.Act.TheVariants.{Fill as fill_act, Remove as remove_act, Retype as type_act, Make as make_act, Outside}
+use Rattle.call_acts.specs.declared.work.Act.TheVariants.{Fill as fill_act, Remove as remove_act, Retype as type_act, Make as make_act, Outside, Tick as tick_act, Kill as kill_act}
 use Rattle.call_acts.specs.declared.work.Work.{Work}
 use Rattle.call_acts.specs.declared.work.Work.TheVariants.{Lookup, Scan, Acquire, Act}
 use Rattle.call_steps.specs.declared.stages.ActiveCall.{ActiveCall}
-use Rattle.core_invariant.specs.Knows.{IsCount, IsReached, HasFound, LookIs, LooksUp, own_in, NamesAre, LooksFor, IsScanned, MayFill, IsFill, IsRemoval, KnowsClose, KnowsAct, KnowsQuiet, KnowsStore, HasLoaded, KnowsWork, KnowsUndecided, KnowsTyping, HasMetAt, IsSpot, HasStored, KnowsMakingAt}
+use Rattle.core_invariant.specs.Knows.{IsCount, IsReached, HasFound, LookIs, LooksUp, own_in, NamesAre, LooksFor, IsScanned, MayFill, IsFill, IsRemoval, KnowsClose, KnowsAct, KnowsQuiet, KnowsStore, HasLoaded, KnowsWork, KnowsUndecided, KnowsTyping, HasMetAt, ChargesBy, HasHeadAt, KnowsTick, IsSpot, HasStored, KnowsMakingAt, HasLife, HasComp, KnowsKillingAt, KnowsDead}
+use Rattle.stage_tcap.specs.declared.charge.Charge.{Charge}
+use Rattle.stage_tcap.specs.declared.charge.Charge.TheVariants.{AtLoad as charge_load, AtCompare as charge_compare}
+use Rattle.call_acts.specs.Ticks.{ticks_due}
+use Rattle.spk_nums.specs.declared.calls.Call.TheVariants.{Tick}
 use Rattle.call_acts.specs.declared.typings.Typing.{Typing}
 use Rattle.call_acts.specs.declared.typings.TypingAt.{TypingAt}
 use Rattle.call_acts.specs.declared.typings.TypingAt.TheVariants.{Load, Compare as type_compare}
@@ -81,6 +92,8 @@ stores_in (remove_act close cap) f = false
 stores_in (type_act typing) f = false
 stores_in (make_act m) f = is_marked m.at && f == m.frame
 stores_in (Outside node entry word) f = false
+stores_in (tick_act charge) f = false
+stores_in (kill_act m) f = false
 
 abbrev pub stores_of : Work → ℕ → Bool
 stores_of (Lookup look) f = false
@@ -88,10 +101,11 @@ stores_of (Scan q act) f = stores_in act f
 stores_of (Acquire pin change act) f = stores_in act f
 stores_of (Act act) f = stores_in act f
 
--- A step leaves what the core's last steps on entries and on frames' words have read, and the words of the frame that the act has stored.
+-- A step leaves what the core's last steps on entries, on frames' words and on liveness words have read, and the words of the frame that the act has stored.
 pub record ReadsSame (setup : Setting) (t : Trace) (e : Step) (c : ℕ) (act : ActOf) : Type 0 where
   pub entries : (f i : ℕ) → own_read (e ∷ t) c (EntryAt f i) ≡ own_read t c (EntryAt f i)
   pub frames : (f : ℕ) → own_read (e ∷ t) c (FrameAt f) ≡ own_read t c (FrameAt f)
+  pub numbers : (l : ℕ) → own_read (e ∷ t) c (LiveAt l) ≡ own_read t c (LiveAt l)
   pub stored : (f i : ℕ) → stores_in act f ≡ true → last_left setup (e ∷ t) (EntryAt f i) ≡ last_left setup t (EntryAt f i)
 
 module _ (setup : Setting) (setting : IsSetting setup) (t : Trace) (e : Step) (legal : IsLegal setup t) (c : ℕ) (call : Call)
@@ -237,17 +251,18 @@ module _ (setup : Setting) (setting : IsSetting setup) (t : Trace) (e : Step) (l
         (record { node = node; index = index }) has.way)) has.vacant;
   }
 
-  stored_on : (f word n : ℕ) → ((i : ℕ) → last_left setup (e ∷ t) (EntryAt f i) ≡ last_left setup t (EntryAt f i))
-      → HasStored setup t f word n → HasStored setup (e ∷ t) f word n
-  stored_on f word n same has = record { says = has.says; free = λ i below. same i ∙ has.free i below }
+  stored_on : (f : ℕ) (object : NewObject) (word n : ℕ)
+      → ((i : ℕ) → last_left setup (e ∷ t) (EntryAt f i) ≡ last_left setup t (EntryAt f i))
+      → HasStored setup t f object word n → HasStored setup (e ∷ t) f object word n
+  stored_on f object word n same has = record { says = has.says; stored = λ i below. same i ∙ has.stored i below }
 
-  making_on : (f : ℕ) (at : MakingAt) → ((g : ℕ) → own_read (e ∷ t) c (FrameAt g) ≡ own_read t c (FrameAt g))
+  making_on : (f : ℕ) (object : NewObject) (at : MakingAt) → ((g : ℕ) → own_read (e ∷ t) c (FrameAt g) ≡ own_read t c (FrameAt g))
       → (is_marked at ≡ true → (i : ℕ) → last_left setup (e ∷ t) (EntryAt f i) ≡ last_left setup t (EntryAt f i))
-      → KnowsMakingAt setup t c f at → KnowsMakingAt setup (e ∷ t) c f at
-  making_on f making_load reads stays has = tt
-  making_on f (Mark word) reads stays has = record { own = reads f ∙ has.own; says = has.says }
-  making_on f (Store word n) reads stays has = stored_on f word n (stays refl) has
-  making_on f (making_fill word) reads stays has = stored_on f word 64 (stays refl) has
+      → KnowsMakingAt setup t c f object at → KnowsMakingAt setup (e ∷ t) c f object at
+  making_on f object making_load reads stays has = tt
+  making_on f object (Mark word) reads stays has = record { own = reads f ∙ has.own; says = has.says }
+  making_on f object (Store word n) reads stays has = stored_on f object word n (stays refl) has
+  making_on f object (making_fill word) reads stays has = stored_on f object word (last_word object + 1) (stays refl) has
 
   typing_on : (of : Call) (caps : List Capability) (y : Typing) → ((f : ℕ) → own_read (e ∷ t) c (FrameAt f) ≡ own_read t c (FrameAt f))
       → KnowsTyping t c of caps y → KnowsTyping (e ∷ t) c of caps y
@@ -257,6 +272,49 @@ module _ (setup : Setting) (setting : IsSetting setup) (t : Trace) (e : Step) (l
       met_on Load has = tt
       met_on (type_compare word) has =
           record { own = same y.frame ∙ has.own; shown = has.shown; says = has.says; kind = has.kind; mark = has.mark }
+
+  tick_on : (of : Call) (charge : Charge) → ((f i : ℕ) → own_read (e ∷ t) c (EntryAt f i) ≡ own_read t c (EntryAt f i))
+      → KnowsTick setup t c of charge → KnowsTick setup (e ∷ t) c of charge
+  tick_on of charge same has = record { charges = charges_on of has.charges; at = head_on charge has.at }
+    where
+      charges_on : (of : Call) → ChargesBy (state_after setup t) c of charge → ChargesBy (state_after setup (e ∷ t)) c of charge
+      charges_on (Tick n) is = record {
+        tcap = is.tcap ∙ ap (λ k. k.tcap) (sym carries.stays.core);
+        ticks = is.ticks ∙ ap (λ k. ticks_due k.owed n) (sym carries.stays.core);
+      }
+      charges_on call is = absurd is
+
+      head_on : (charge : Charge) → HasHeadAt t c charge → HasHeadAt (e ∷ t) c charge
+      head_on (charge_load f ticks) is = tt
+      head_on (charge_compare f ticks budget version) is = record { own = same f 0 ∙ is.own; fits = is.fits }
+
+  comp_on : (f : ℕ) → HasComp (state_after setup t) c f → (state_after setup (e ∷ t)).frame f ≡ (state_after setup t).frame f
+  comp_on f has = carries.stays.frame f (comp_fixed ((state_after setup t).frame f) has.comp) has.guarded
+    where
+      comp_fixed : (x : Frame) → IsTrue (fits comp_kind x) → IsTrue (is_fixed x)
+      comp_fixed (Kernel (Comp k)) h = refl
+      comp_fixed _ h = absurd (false≢true h)
+
+  pub has_comp_on : (f : ℕ) → HasComp (state_after setup t) c f → HasComp (state_after setup (e ∷ t)) c f
+  has_comp_on f has = record {
+    comp = subst (λ x. IsTrue (fits comp_kind x)) (sym (comp_on f has)) has.comp;
+    guarded = carries.stays.guarded f has.guarded;
+  }
+
+  pub life_on : (f : ℕ) (life : CompWord) → HasComp (state_after setup t) c f → HasLife (state_after setup t) f life
+      → HasLife (state_after setup (e ∷ t)) f life
+  life_on f life comp has = record {
+    number = ap (λ x. (comp_in x).number) (comp_on f comp) ∙ has.number;
+    epoch = ap (λ x. (comp_in x).epoch) (comp_on f comp) ∙ has.epoch;
+  }
+
+  killing_on : (f : ℕ) (at : KillingAt) → ((l : ℕ) → own_read (e ∷ t) c (LiveAt l) ≡ own_read t c (LiveAt l))
+      → HasComp (state_after setup t) c f → KnowsKillingAt setup t c f at → KnowsKillingAt setup (e ∷ t) c f at
+  killing_on f LoadComp same comp has = tt
+  killing_on f (LoadLive life) same comp has = life_on f life comp has
+  killing_on f (kill_close life word) same comp has =
+      record { has_life = life_on f life comp has.has_life; own = same life.number ∙ has.own; live = has.live }
+  killing_on f (kill_draw life word) same comp has = record { has_life = life_on f life comp has.has_life; live = has.live }
 
   pub act_on : (of : Call) (plan : Plan) (caps : List Capability) (upto : ℕ) (act : ActOf) → ReadsSame setup t e c act
       → KnowsAct setup t c of plan caps upto act → KnowsAct setup (e ∷ t) c of plan caps upto act
@@ -268,11 +326,18 @@ module _ (setup : Setting) (setting : IsSetting setup) (t : Trace) (e : Step) (l
     makes = has.makes;
     core = has.core;
     cap = has.cap;
-    at = making_on m.frame m.at same.frames
+    at = making_on m.frame m.object m.at same.frames
         (λ marked i. same.stored m.frame i (ap (λ b. b && m.frame == m.frame) marked ∙ eq-eqb m.frame m.frame refl)) has.at;
   }
   act_on of plan caps upto (Outside node entry word) same has =
       record { spot = spot_on plan caps upto node entry word (same.entries node entry) has.spot; outside = has.outside }
+  act_on of plan caps upto (tick_act charge) same has = tick_on of charge same.entries has
+  act_on of plan caps upto (kill_act m) same has = record {
+    kills = has.kills;
+    core = has.core;
+    comp = has_comp_on m.comp has.comp;
+    at = killing_on m.comp m.at same.numbers has.comp has.at;
+  }
 
   quiet_on : (a : ActiveCall) (q : Quiet) (act : ActOf) → ReadsSame setup t e c act
       → KnowsQuiet setup t c a q act
@@ -290,7 +355,12 @@ module _ (setup : Setting) (setting : IsSetting setup) (t : Trace) (e : Step) (l
   reads_same : (act : ActOf) → ((w : Word) → own_read (e ∷ t) c w ≡ own_read t c w)
       → ((f i : ℕ) → stores_in act f ≡ true → last_left setup (e ∷ t) (EntryAt f i) ≡ last_left setup t (EntryAt f i))
       → ReadsSame setup t e c act
-  reads_same act same stored = record { entries = λ f i. same (EntryAt f i); frames = λ f. same (FrameAt f); stored = stored }
+  reads_same act same stored = record {
+    entries = λ f i. same (EntryAt f i);
+    frames = λ f. same (FrameAt f);
+    numbers = λ l. same (LiveAt l);
+    stored = stored;
+  }
 
   work_on : (table : ℕ) (a : ActiveCall) (work : Work) → ((w : Word) → own_read (e ∷ t) c w ≡ own_read t c w)
       → ((f i : ℕ) → stores_of work f ≡ true → last_left setup (e ∷ t) (EntryAt f i) ≡ last_left setup t (EntryAt f i))
@@ -301,6 +371,7 @@ module _ (setup : Setting) (setting : IsSetting setup) (t : Trace) (e : Step) (l
     knows = act_on a.call a.plan a.found setup.cores act (reads_same act same stored) has.knows;
     rest = has.rest;
     due = has.due;
+    apart = has.apart;
     core = has.core;
     new = has.new;
     loaded = loaded_on pin same has.loaded;
@@ -347,3 +418,9 @@ store_on setup t e c call no_entry relies (AtStore node index at) has = record {
   near = was_stays (IsNearIn c call (EntryAt node index)) setup t e c no_entry has.near;
   places = has.places;
 }
+
+-- And of the word of a liveness number that it has still to store.
+pub dead_on : (setup : Setting) (t : Trace) (e : Step) (c : ℕ) (call : Call) → (c ≡ e.core → e.enters ≡ None) → (life : CompWord)
+    → KnowsDead setup t c call life → KnowsDead setup (e ∷ t) c call life
+dead_on setup t e c call no_entry life has =
+    record { numbers = has.numbers; near = was_stays (IsNearIn c call (LiveAt life.number)) setup t e c no_entry has.near }

@@ -19,14 +19,14 @@ pub counter_once : (n core : ℕ) → core < n → times (counter_of core) (coun
 counter_once n core below = refl
 
 -- How often a number occurs in a list whose first it is, or is not.
-times_here : (d c : ℕ) (cs : List ℕ) → c ≡ d → times d (c ∷ cs) ≡ 1 + times d cs
+pub times_here : (d c : ℕ) (cs : List ℕ) → c ≡ d → times d (c ∷ cs) ≡ 1 + times d cs
 times_here d c cs here =
     let a = sums.times_cons d c cs in
     let one : ℕ = 1 in
     let b : cond (c == d) 1 0 ≡ one = ap (λ b. cond b 1 0) (eq-eqb c d here) in
     omega (arith, a, b)
 
-times_there : (d c : ℕ) (cs : List ℕ) → c ≢ d → times d (c ∷ cs) ≡ times d cs
+pub times_there : (d c : ℕ) (cs : List ℕ) → c ≢ d → times d (c ∷ cs) ≡ times d cs
 times_there d c cs there =
     let a = sums.times_cons d c cs in
     let none : ℕ = 0 in

@@ -26,7 +26,7 @@ use Rattle.core_invariant.proofs.Calm.{calm_same, calm_words, IsPlain, plain_tim
 use Rattle.core_invariant.proofs.Good.{IsGood, SparesBlanks}
 use Rattle.core_invariant.proofs.Loads.{Lands, IsOfCall, core_at, core_is, call_is, in_call, inner, inner_within, inner_disciplined, inner_near}
 
--- A step of a call, within it, on the word of a count or of an entry: what the core holds of other words stays, no other core has marked
+-- A step of a call, within it, on the word of a count, of an entry or of a frame: what the core holds of other words stays, no other core has marked
 -- the word, and what the word stands for stays too.
 module _ (setup : Setting) (setting : IsSetting setup) (cores : ℕ → Core) (t : Trace) (stands : Stands setup cores t) (c : ℕ)
     (here : c < setup.cores)

@@ -2,12 +2,13 @@
 use Rattle.frame_words.specs.declared.frame_word.FrameWord.{FrameWord}
 use Rattle.spk_nums.specs.declared.kinds.Obj.TheVariants.{Blank as BlankObject}
 use Rattle.spk_nums.specs.declared.kinds.FrameKind.TheVariants.{Untyped as FrameUntyped, User as FrameUser, Kernel as FrameKernel}
+use Rattle.call_acts.specs.declared.objects.NewObject.{NewObject}
 use Rattle.call_acts.specs.Makings.{is_marked}
 use Rattle.call_acts.specs.declared.makings.MakingAt.TheVariants.{Load as making_load, Mark, Store, Fill as making_fill}
 use Rattle.call_acts.specs.declared.makings.MakingAt.{MakingAt}
 use Rattle.call_acts.specs.declared.work.Work.TheVariants.{Lookup, Scan, Acquire, Act as act_work}
 use Rattle.call_acts.specs.declared.work.Work.{Work}
-use Rattle.call_acts.specs.declared.work.Act.TheVariants.{Fill as fill_act, Remove as remove_act, Retype as type_act, Make as make_act, Outside}
+use Rattle.call_acts.specs.declared.work.Act.TheVariants.{Fill as fill_act, Remove as remove_act, Retype as type_act, Make as make_act, Outside, Tick as tick_act, Kill as kill_act}
 use Rattle.call_acts.specs.declared.work.Act.{Act as ActOf}
 use Rattle.stage_quiet.specs.declared.quiet.Quiet.TheVariants.{AtCore, AtFlush}
 use Rattle.call_plans.specs.declared.plans.Plan.{Plan}
@@ -46,14 +47,14 @@ use Rattle.call_steps.specs.declared.stages.Stage.{Stage}
 use Rattle.call_steps.specs.declared.stages.Stage.TheVariants.{Enter, Undecided, Decided, Leave}
 use Rattle.call_steps.specs.declared.stages.ActiveCall.{ActiveCall}
 use Rattle.call_acts.specs.declared.own.Own.{Own}
-use Rattle.call_acts.specs.declared.work.Tail.TheVariants.{Nothing, Quiesce, Unmark}
+use Rattle.call_acts.specs.declared.work.Tail.TheVariants.{Nothing, Quiesce, Unmark, StoreDead}
 use Rattle.call_steps.specs.View.{Core}
 use Rattle.core_invariant.specs.Holding.{settled, MarkIs, Holding, keeps, holds_counts, settled_by}
 use Rattle.core_invariant.specs.Words.{WordIs}
 use Rattle.core_invariant.specs.Knows.{phase_at, CallIs, KnowsAt, WorksIn, CoreIs, blank_word, is_start, KnowsMakingAt, KnowsAct, KnowsWork}
 use Rattle.core_invariant.specs.Stands.{held_by, times_of, counted_in, SumIs, Stands, is_done, holds_making, holds_act, holds_work, holds_at, holds_in, holds}
 use Rattle.core_invariant.proofs.Markers.{marker_inside}
-use Rattle.core_invariant.proofs.Carries.{undecided_on, counts_on, store_on, stores_in, stores_of}
+use Rattle.core_invariant.proofs.Carries.{undecided_on, counts_on, store_on, stores_in, stores_of, dead_on}
 
 -- A step changes a word of a blank frame only where its core has marked the frame.
 abbrev pub SparesBlanks : Setting → Trace → Step → Type 0
@@ -90,20 +91,23 @@ filled_here f g word h same says = subst (λ (n : ℕ). IsFilled (keeps (FrameAt
   says = ap (λ b. frame_of_word (if b then word else h.stands (FrameAt g))) (same_same (FrameAt g)) ∙ says;
 })
 
-filled_making : (setup : Setting) (t : Trace) (c f g : ℕ) (at : MakingAt) (h : Holding) → KnowsMakingAt setup t c g at
+filled_making : (setup : Setting) (t : Trace) (c f g : ℕ) (object : NewObject) (at : MakingAt) (h : Holding)
+    → KnowsMakingAt setup t c g object at
     → (is_marked at && f == g) ≡ true → IsFilled (holds_making g at h) f
-filled_making setup t c f g making_load h knows is = absurd (false≢true is)
-filled_making setup t c f g (Mark word) h knows is = absurd (false≢true is)
-filled_making setup t c f g (Store word n) h knows is = filled_here f g word h is knows.says
-filled_making setup t c f g (making_fill word) h knows is = filled_here f g word h is knows.says
+filled_making setup t c f g object making_load h knows is = absurd (false≢true is)
+filled_making setup t c f g object (Mark word) h knows is = absurd (false≢true is)
+filled_making setup t c f g object (Store word n) h knows is = filled_here f g word h is knows.says
+filled_making setup t c f g object (making_fill word) h knows is = filled_here f g word h is knows.says
 
 filled_act : (setup : Setting) (t : Trace) (c f : ℕ) (call : Call) (plan : Plan) (ks : List Capability) (act : ActOf) (h : Holding)
     → KnowsAct setup t c call plan ks setup.cores act → stores_in act f ≡ true → IsFilled (holds_act act h) f
-filled_act setup t c f call plan ks (make_act m) h knows is = filled_making setup t c f m.frame m.at h knows.at is
+filled_act setup t c f call plan ks (make_act m) h knows is = filled_making setup t c f m.frame m.object m.at h knows.at is
 filled_act setup t c f call plan ks (fill_act fill) h knows is = absurd (false≢true is)
 filled_act setup t c f call plan ks (remove_act close cap) h knows is = absurd (false≢true is)
 filled_act setup t c f call plan ks (type_act typing) h knows is = absurd (false≢true is)
 filled_act setup t c f call plan ks (Outside node entry word) h knows is = absurd (false≢true is)
+filled_act setup t c f call plan ks (tick_act charge) h knows is = absurd (false≢true is)
+filled_act setup t c f call plan ks (kill_act m) h knows is = absurd (false≢true is)
 
 -- A scan is made before the frame is marked.
 scans_nothing : (act : ActOf) (f : ℕ) → is_start act ≡ true → stores_in act f ≡ false
@@ -116,6 +120,8 @@ scans_nothing (fill_act fill) f starts = refl
 scans_nothing (remove_act close cap) f starts = refl
 scans_nothing (type_act typing) f starts = refl
 scans_nothing (Outside node entry word) f starts = refl
+scans_nothing (tick_act charge) f starts = refl
+scans_nothing (kill_act m) f starts = refl
 
 filled_work : (setup : Setting) (t : Trace) (c table f : ℕ) (a : ActiveCall) (work : Work) (h : Holding) → KnowsWork setup t c table a work
     → stores_of work f ≡ true → IsFilled (holds_work work h) f
@@ -226,6 +232,8 @@ module _ (setup : Setting) (setting : IsSetting setup) (cores : ℕ → Core) (t
       (filled_work setup t c table f a work (holds_counts (is_done (Undecided work)) a.counts) has.knows is) i) has
   knows_other follows time blanks c table a other (Decided r drawn Nothing) held at has = has
   knows_other follows time blanks c table a other (Decided r drawn (Unmark f word)) held at has = has
+  knows_other follows time blanks c table a other (Decided r drawn (StoreDead life stamp)) held at has =
+      dead_on setup t e c a.call (λ own. absurd (other own)) life has
   knows_other follows time blanks c table a other (Decided r drawn (Quiesce close)) held at has =
       store_on setup t e c a.call (λ own. absurd (other own)) (λ f.
       (stays_in_other setup setting t stands.legal e follows c other (ap is_in at)).relies f) close has

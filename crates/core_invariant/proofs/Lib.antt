@@ -13,3 +13,4 @@ pub mod Counting
 pub mod Draws
 pub mod Places
 pub mod Refusals
+pub mod OwnChanges

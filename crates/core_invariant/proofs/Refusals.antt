@@ -1,11 +1,11 @@
 -- The refusals of a call at a load: each leaves all as it was, but counts the call.
 use Rattle.call_acts.specs.declared.work.Tail.{Tail}
-use Rattle.std.proofs.Common.{◌≡◌, ℕ, ◌+◌, ◌<◌, Option, false, Some, None, arith, refl, sym, ◌∙◌, ap, ◌∷◌}
+use Rattle.std.proofs.Common.{◌≡◌, ◌≢◌, ℕ, ◌+◌, ◌<◌, Option, Bool, true, false, Some, None, arith, refl, sym, ◌∙◌, ap, subst, List, [], ◌∷◌}
 use Rattle.std.proofs.lemmas.Bool.{false≢true, lt-leb}
 use Rattle.supported_calls.specs.Built.{IsBuilt}
 use Rattle.spk_nums.specs.Setting.{Setting, IsSetting}
 use Rattle.spk_nums.specs.declared.calls.Call.{Call}
-use Rattle.spk_nums.specs.declared.calls.Call.TheVariants.{Look, Copy, Remove, Shrink, Unmap, Retype, Make}
+use Rattle.spk_nums.specs.declared.calls.Call.TheVariants.{Look, Copy, Remove, Shrink, Unmap, Retype, Make, Tick, Kill}
 use Rattle.spk_nums.specs.declared.replies.Reply.{Reply}
 use Rattle.spk_nums.specs.declared.replies.Reply.TheVariants as reply
 use Rattle.word_map.specs.Moves.{Move, word_of}
@@ -19,15 +19,27 @@ use Rattle.kernel_history.specs.Alone.{IsAlone}
 use Rattle.kernel_history.proofs.AloneCalls.{refused_first, nobody_waits}
 use Rattle.kernel_history.proofs.Laws.{not_inside, not_changed}
 use Rattle.call_steps.specs.declared.stages.ActiveCall.{ActiveCall}
+use Rattle.call_steps.specs.declared.stages.Stage.{Stage}
+use Rattle.call_plans.specs.declared.plans.Plan.{Plan}
+use Rattle.call_plans.specs.PlanOf.{plan_for}
+use Rattle.call_plans.specs.After.{next_of}
+use Rattle.spk_nums.specs.Capability.{Capability}
+use Rattle.stage_look.specs.declared.look.Look.{Look as LookOf}
+use Rattle.stage_quiet.specs.declared.close.Close.TheVariants.{AtCompare, AtDraw, AtStore}
+use Rattle.stage_quiet.specs.declared.quiet.Quiet.TheVariants.{AtCore, AtFlush}
+use Rattle.call_acts.specs.declared.work.Act.{Act as ActOf}
+use Rattle.call_acts.specs.declared.work.Act.TheVariants.{Fill as fill_act, Remove as remove_act, Retype as type_act, Make as make_act, Outside, Tick as tick_act, Kill as kill_act}
+use Rattle.call_acts.specs.declared.work.Work.{Work}
+use Rattle.call_acts.specs.declared.work.Work.TheVariants.{Lookup, Scan, Acquire, Act}
 use Rattle.call_steps.specs.View.{Core}
 use Rattle.kernel_rules.specs.Laws.{calls_counted}
 use Rattle.call_acts.specs.declared.work.Tail.TheVariants.{Nothing}
-use Rattle.call_steps.specs.declared.stages.Stage.TheVariants.{Decided}
+use Rattle.call_steps.specs.declared.stages.Stage.TheVariants.{Enter, Undecided, Decided, Leave}
 use Rattle.call_steps.specs.Steps.{Took}
 use Rattle.call_steps.specs.Cores.{core_after, told_by}
 use Rattle.kernel_history.specs.Marking.{marked_by}
 use Rattle.core_invariant.specs.Holding.{holds_counts}
-use Rattle.core_invariant.specs.Knows.{phase_at, CoreIs, KnowsTail}
+use Rattle.core_invariant.specs.Knows.{phase_at, CoreIs, KnowsTail, NamesAre, LooksFor, KnowsAct, KnowsUndecided, KnowsAt}
 use Rattle.core_invariant.specs.Stands.{holds_in, held_by, Stands, holds_tail}
 use Rattle.core_invariant.specs.Events.{decided_in, returned_in}
 use Rattle.core_invariant.proofs.Good.{IsGood}
@@ -49,16 +61,82 @@ GoodTook setup cores t c move took =
 abbrev pub NobodyWaits : State → Type 0
 NobodyWaits s = (x : Thing) (d : ℕ) → (s.grace x).waits d ≡ false
 
--- No call that is carried out owes ticks.
-pub built_owes : (s : State) (c : ℕ) (call : Call) → IsBuilt call → owed_by s c call ≡ s
-built_owes s c (Look a) built = refl
-built_owes s c (Copy a u b) built = refl
-built_owes s c (Remove u b) built = refl
-built_owes s c (Shrink u i) built = refl
-built_owes s c (Unmap p v) built = refl
-built_owes s c (Retype r f k) built = refl
-built_owes s c (Make what r f u b) built = refl
-built_owes s c _ built = absurd built
+-- No call that is carried out owes ticks, but a tick.
+pub built_owes : (s : State) (c : ℕ) (call : Call) → IsBuilt call → ((n : ℕ) → call ≢ Tick n) → owed_by s c call ≡ s
+built_owes s c (Look a) built other = refl
+built_owes s c (Copy a u b) built other = refl
+built_owes s c (Remove u b) built other = refl
+built_owes s c (Shrink u i) built other = refl
+built_owes s c (Unmap p v) built other = refl
+built_owes s c (Retype r f k) built other = refl
+built_owes s c (Make what r f u b) built other = refl
+built_owes s c (Tick n) built other = absurd (other n refl)
+built_owes s c (Kill k) built other = refl
+built_owes s c _ built other = absurd built
+
+-- Whether a call charges ticks where it stands.
+abbrev pub ticks_in : ActOf → Bool
+ticks_in (fill_act fill) = false
+ticks_in (remove_act close cap) = false
+ticks_in (type_act typing) = false
+ticks_in (make_act m) = false
+ticks_in (Outside node entry word) = false
+ticks_in (tick_act charge) = true
+ticks_in (kill_act m) = false
+
+abbrev pub ticks_work : Work → Bool
+ticks_work (Lookup look) = false
+ticks_work (Scan q act) = ticks_in act
+ticks_work (Acquire pin change act) = ticks_in act
+ticks_work (Act act) = ticks_in act
+
+abbrev pub ticks_at : Stage → Bool
+ticks_at Enter = false
+ticks_at (Undecided work) = ticks_work work
+ticks_at (Decided r drawn tail) = false
+ticks_at (Leave r x) = false
+
+-- A tick looks nothing up, and does nothing but to charge.
+module _ (setup : Setting) (t : Trace) (c table n : ℕ) where
+  act_ticks : (plan : Plan) (ks : List Capability) (upto : ℕ) (act : ActOf) → KnowsAct setup t c (Tick n) plan ks upto act
+      → ticks_in act ≡ false → ⊥
+  act_ticks plan ks upto (fill_act fill) has is = none_some has.puts
+    where
+      none_some : None ≡ Some fill.cap → ⊥
+      none_some h = cc
+  act_ticks plan ks upto (remove_act (AtCompare node index word by) cap) has is = false≢true has.removal.removes
+  act_ticks plan ks upto (remove_act (AtDraw node index) cap) has is = false≢true has.removes
+  act_ticks plan ks upto (remove_act (AtStore node index x) cap) has is = has
+  act_ticks plan ks upto (type_act typing) has is = has.types
+  act_ticks plan ks upto (make_act m) has is = has.makes
+  act_ticks plan ks upto (Outside node entry word) has is = has.outside
+  act_ticks plan ks upto (tick_act charge) has is = false≢true (sym is)
+  act_ticks plan ks upto (kill_act m) has is = has.kills
+
+  look_ticks : (ks : List Capability) (look : LookOf) → NamesAre setup t c table (plan_for (Tick n)) ks
+      → LooksFor setup t c table (next_of (plan_for (Tick n)) ks) look → ⊥
+  look_ticks [] look names looks = looks
+  look_ticks (k ∷ ks) look names looks = names
+
+  work_ticks : (a : ActiveCall) (work : Work) → a.call ≡ Tick n → a.plan ≡ plan_for a.call → KnowsUndecided setup t c table a work
+      → ticks_work work ≡ false → ⊥
+  work_ticks a (Lookup look) of plan has is =
+      look_ticks a.found look (subst (λ p. NamesAre setup t c table p a.found) (plan ∙ ap plan_for of) has.names)
+      (subst (λ p. LooksFor setup t c table (next_of p a.found) look) (plan ∙ ap plan_for of) has.knows)
+  work_ticks a (Scan (AtCore at core upto page) act) of plan has is =
+      act_ticks a.plan a.found upto act (subst (λ x. KnowsAct setup t c x a.plan a.found upto act) of has.knows.knows) is
+  work_ticks a (Scan (AtFlush at upto) act) of plan has is = has.knows
+  work_ticks a (Acquire pin change act) of plan has is =
+      act_ticks a.plan a.found setup.cores act (subst (λ x. KnowsAct setup t c x a.plan a.found setup.cores act) of has.knows.knows) is
+  work_ticks a (Act act) of plan has is =
+      act_ticks a.plan a.found setup.cores act (subst (λ x. KnowsAct setup t c x a.plan a.found setup.cores act) of has.knows.knows) is
+
+  stage_ticks : (a : ActiveCall) (stage : Stage) → a.call ≡ Tick n → a.plan ≡ plan_for a.call → KnowsAt setup t c table a stage
+      → phase_at a.call stage ≡ Open a.call → ticks_at stage ≡ false → ⊥
+  stage_ticks a Enter of plan knows opens is = knows
+  stage_ticks a (Undecided work) of plan knows opens is = work_ticks a work of plan knows is
+  stage_ticks a (Decided r drawn tail) of plan knows opens is = cc
+  stage_ticks a (Leave r x) of plan knows opens is = cc
 
 -- The calls of a core are not spent where it may count one more.
 pub not_spent : (setup : Setting) (core : Core) (t : Trace) (c : ℕ) → CoreIs setup core t c → core.own.made < core.own.limit
@@ -138,22 +216,35 @@ module _ (setup : Setting) (setting : IsSetting setup) (cores : ℕ → Core) (t
       (λ x. refl) (λ x. refl) refl (unspent, may) tt
       (first_of reply.FrameKind first)
 
+  -- and owes no ticks, where it charges none
+  owes_none : ticks_at a.stage ≡ false → owed_by (state_after setup t) c a.call ≡ state_after setup t
+  owes_none plain = built_owes (state_after setup t) c a.call (is_active setup setting cores t stands c here a active).built
+      (λ n of. stage_ticks setup t c (cores c).own.table n a a.stage of (is_active setup setting cores t stands c here a active).plan
+      (call_is setup setting cores t stands c here a active).knows opens plain)
+
+  pub refuses_dead : RuleMay (state_after setup t) c (rule_of (state_after setup t) c a.call) reply.Dead → IsFirstCause reply.Dead
+      → RefusedWith reply.Dead
+  refuses_dead may first lands =
+      decides_on setup setting cores t stands c here a active move reply.Dead a.found looks lands (still None refl) opens refl refl
+      (λ x. refl) (λ x. refl) refl (unspent, may) tt
+      (first_of reply.Dead first)
+
   -- a word that has changed since the call's last step on it
-  pub refuses_raced : IsRaceLost t (inner setup setting cores t stands c here a active move (Some reply.Raced) None) (state_after setup t)
+  pub refuses_raced : ticks_at a.stage ≡ false → IsRaceLost t (inner setup setting cores t stands c here a active move (Some reply.Raced) None) (state_after setup t)
       (rule_of (state_after setup t) c a.call) → RefusedWith reply.Raced
-  refuses_raced lost lands =
+  refuses_raced plain lost lands =
       decides_on setup setting cores t stands c here a active move reply.Raced a.found looks lands (still None refl) opens
-      (ap (λ s. counted s c) (built_owes (state_after setup t) c a.call (is_active setup setting cores t stands c here a active).built))
+      (ap (λ s. counted s c) (owes_none plain))
       refl (λ x. refl) (λ x. refl) refl (unspent, tt) lost
       (λ is_alone. absurd (not_changed setup t (inner setup setting cores t stands c here a active move (Some reply.Raced) None) refl
       is_alone lost.own lost.has_read lost.changed))
 
   -- another core's mark
-  pub refuses_busy : (d : ℕ) → (holds_counts None a.counts).marks (word_of move) ≡ false → marked_by setup t (word_of move) ≡ Some d
+  pub refuses_busy : ticks_at a.stage ≡ false → (d : ℕ) → (holds_counts None a.counts).marks (word_of move) ≡ false → marked_by setup t (word_of move) ≡ Some d
       → IsOnWay (state_after setup t) c (rule_of (state_after setup t) c a.call) (word_of move) → RefusedWith (reply.Busy d)
-  refuses_busy d bare mark on_way lands =
+  refuses_busy plain d bare mark on_way lands =
       decides_on setup setting cores t stands c here a active move (reply.Busy d) a.found looks lands (still None refl) opens
-      (ap (λ s. counted s c) (built_owes (state_after setup t) c a.call (is_active setup setting cores t stands c here a active).built))
+      (ap (λ s. counted s c) (owes_none plain))
       refl (λ x. refl) (λ x. refl) refl (unspent, tt) blocked
       (λ is_alone. absurd (not_inside setup t (inner setup setting cores t stands c here a active move (Some (reply.Busy d)) None) refl
       is_alone d blocked.other blocked.is_inside))
@@ -185,21 +276,26 @@ module _ (setup : Setting) (setting : IsSetting setup) (cores : ℕ → Core) (t
       → IsGood setup cores t (inner setup setting cores t stands c here a active move (Some r) None)
       (core_at (cores c) ((cores c).own.made + calls_counted r) (next_at a a.found (Decided r None tail)))
 
-  pub raced_leaving : IsRaceLost t (inner setup setting cores t stands c here a active move (Some reply.Raced) None) (state_after setup t)
+  owes_not : ticks_at a.stage ≡ false → owed_by (state_after setup t) c a.call ≡ state_after setup t
+  owes_not plain = built_owes (state_after setup t) c a.call (is_active setup setting cores t stands c here a active).built
+      (λ n of. stage_ticks setup t c (cores c).own.table n a a.stage of (is_active setup setting cores t stands c here a active).plan
+      (call_is setup setting cores t stands c here a active).knows opens plain)
+
+  pub raced_leaving : ticks_at a.stage ≡ false → IsRaceLost t (inner setup setting cores t stands c here a active move (Some reply.Raced) None) (state_after setup t)
       (rule_of (state_after setup t) c a.call) → RefusedLeaving reply.Raced
-  raced_leaving lost lands =
+  raced_leaving plain lost lands =
       decides_with setup setting cores t stands c here a active move reply.Raced tail a.found looks lands same opens
-      (ap (λ s. counted s c) (built_owes (state_after setup t) c a.call (is_active setup setting cores t stands c here a active).built))
+      (ap (λ s. counted s c) (owes_not plain))
       refl (λ x. refl) (λ x. refl) refl (unspent_here, tt) lost
       (λ is_alone. absurd (not_changed setup t (inner setup setting cores t stands c here a active move (Some reply.Raced) None) refl
       is_alone lost.own lost.has_read lost.changed))
       (left (inner setup setting cores t stands c here a active move (Some reply.Raced) None))
 
-  pub busy_leaving : (d : ℕ) → (holds_in (Some a)).marks (word_of move) ≡ false → marked_by setup t (word_of move) ≡ Some d
+  pub busy_leaving : ticks_at a.stage ≡ false → (d : ℕ) → (holds_in (Some a)).marks (word_of move) ≡ false → marked_by setup t (word_of move) ≡ Some d
       → IsOnWay (state_after setup t) c (rule_of (state_after setup t) c a.call) (word_of move) → RefusedLeaving (reply.Busy d)
-  busy_leaving d bare mark on_way lands =
+  busy_leaving plain d bare mark on_way lands =
       decides_with setup setting cores t stands c here a active move (reply.Busy d) tail a.found looks lands same opens
-      (ap (λ s. counted s c) (built_owes (state_after setup t) c a.call (is_active setup setting cores t stands c here a active).built))
+      (ap (λ s. counted s c) (owes_not plain))
       refl (λ x. refl) (λ x. refl) refl (unspent_here, tt) blocked
       (λ is_alone. absurd (not_inside setup t (inner setup setting cores t stands c here a active move (Some (reply.Busy d)) None) refl
       is_alone d blocked.other blocked.is_inside))

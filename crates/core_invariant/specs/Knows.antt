@@ -1,36 +1,47 @@
 -- What a call knows where it stands, said of the state; and what a core is after a trace.
+use Rattle.stage_tcap.specs.declared.charge.Charge.{Charge}
+use Rattle.stage_tcap.specs.declared.charge.Charge.TheVariants.{AtLoad as charge_load, AtCompare as charge_compare}
+use Rattle.stage_tcap.specs.Heads.{head}
+use Rattle.tcap_words.specs.Head.{HeadFits, word_of_head}
+use Rattle.call_acts.specs.Ticks.{ticks_due, ticks_of, is_charging}
 use Rattle.kernel_history.specs.Marks.{frame_mark}
 use Rattle.spk_nums.specs.declared.kinds.Obj.TheVariants.{Blank}
-use Rattle.call_acts.specs.Makings.{node_cap, node_made, is_marked}
+use Rattle.call_acts.specs.Objects.{object_cap, object_made, object_word, last_word}
+use Rattle.call_acts.specs.Makings.{is_marked}
 use Rattle.call_acts.specs.declared.makings.MakingAt.TheVariants.{Load as making_load, Mark, Store, Fill as making_fill}
 use Rattle.call_acts.specs.declared.makings.MakingAt.{MakingAt}
 use Rattle.call_acts.specs.declared.makings.Making.{Making}
-use Rattle.call_acts.specs.declared.makings.Node.{Node}
-use Rattle.std.specs.Prelude.{◌≡◌, ◌≢◌, ◌<◌, ◌≤◌, ◌++◌, ◌/◌, ℕ, ℤ, Bool, true, false, map, All, List, [], ◌∷◌, length, Option, Some, None, IsSome, IsTrue, not, ◌^◌}
+use Rattle.call_acts.specs.declared.objects.NewObject.{NewObject}
+use Rattle.std.specs.Prelude.{◌≡◌, ◌≢◌, ◌<◌, ◌≤◌, ◌+◌, ◌++◌, ◌/◌, ℕ, ℤ, Bool, true, false, map, All, List, [], ◌∷◌, length, Option, Some, None, IsSome, IsTrue, not, ◌^◌}
 use Rattle.spk_nums.specs.Capability.{Capability}
 use Rattle.spk_nums.specs.Setting.{Setting}
 use Rattle.spk_nums.specs.declared.kinds.Kind.{Kind}
+use Rattle.spk_nums.specs.declared.kinds.Kind.TheVariants.{Comp as comp_kind}
 use Rattle.spk_nums.specs.declared.calls.Call.{Call}
-use Rattle.spk_nums.specs.declared.calls.Call.TheVariants.{Retype, Make as make_call}
+use Rattle.spk_nums.specs.declared.calls.Call.TheVariants.{Retype, Make as make_call, Tick, Kill}
 use Rattle.spk_nums.specs.declared.kinds.FrameKind.{FrameKind}
 use Rattle.spk_nums.specs.declared.kinds.FrameKind.TheVariants.{Untyped, Kernel as FrameKernel}
 use Rattle.frame_words.specs.Frame.{frame_of_word}
 use Rattle.frame_words.specs.declared.frame_word.FrameWord.{FrameWord}
-use Rattle.entry_words.specs.EntryWord.{EntryFits, entry_of_word, word_of_entry}
+use Rattle.entry_words.specs.EntryWord.{EntryFits, entry_of_word}
 use Rattle.entry_words.specs.declared.entry.Entry.{Entry}
 use Rattle.entry_words.specs.declared.entry.Entry.TheVariants as entry
 use Rattle.frame_words.specs.Count.{CountFits, word_of_count}
-use Rattle.word_map.specs.Word.{EntryAt, CountAt, FrameAt}
+use Rattle.frame_words.specs.Live.{live_of_word}
+use Rattle.frame_words.specs.declared.comp_word.CompWord.{CompWord}
+use Rattle.frame_words.specs.declared.live_word.LiveWord.TheVariants as live_word
+use Rattle.word_map.specs.Word.{EntryAt, CountAt, FrameAt, LiveAt}
 use Rattle.word_map.specs.Places.{counter_of}
-use Rattle.kernel_rules.specs.State.{Thing, PlaceOf, State, first_of_stack, thread_of, comp_of}
+use Rattle.kernel_rules.specs.State.{Thing, PlaceOf, State, first_of_stack, thread_of, comp_of, comp_in}
 use Rattle.kernel_rules.specs.Access.{Slot, Named, root_at, Target, Under, InRoot, usable, linked, root_slot, reached, found}
-use Rattle.kernel_rules.specs.Relies.{Relies}
+use Rattle.kernel_rules.specs.Fitting.{fits}
+use Rattle.kernel_rules.specs.Relies.{IsGuarded, Relies}
 use Rattle.kernel_history.specs.Graces.{IsLeave}
 use Rattle.kernel_history.specs.BootWords.{shape_of}
 use Rattle.kernel_history.specs.Trace.{Trace, Phase, Out, Open, phase, state_after, own_left, own_read, steps_in_call, WasAt, last_left}
 use Rattle.kernel_history.specs.Trace as history
 use Rattle.kernel_history.specs.Ways.{root_passed}
-use Rattle.kernel_history.specs.Discipline.{counts_references, changes_places, changes_frames}
+use Rattle.kernel_history.specs.Discipline.{counts_references, changes_places, changes_frames, changes_numbers}
 use Rattle.kernel_history.specs.Footprint.{IsNearIn, is_one_of, frame_argument}
 use Rattle.kernel_history.specs.Justified.{HasReached, IsRemoved}
 use Rattle.kernel_history.specs.Stamps.{clock, stamp, exit_of, flush_of, flush_stored}
@@ -42,6 +53,10 @@ use Rattle.stage_pins.specs.declared.pin.Pin.TheVariants.{AtLoad, AtCompare}
 use Rattle.stage_pins.specs.declared.held.Acquired.{Acquired}
 use Rattle.call_plans.specs.declared.plans.Plan.{Plan}
 use Rattle.call_plans.specs.After.{Leads, Next, NextName, NextFree, NextHeld, NextOwn, NextNothing, next_of}
+use Rattle.call_acts.specs.declared.kills.Killing.{Killing}
+use Rattle.call_acts.specs.declared.kills.KillingAt.{KillingAt}
+use Rattle.call_acts.specs.declared.kills.KillingAt.TheVariants.{LoadComp, LoadLive, Close as kill_close, Draw as kill_draw}
+use Rattle.call_acts.specs.Kills.{is_killing}
 use Rattle.call_acts.specs.declared.own.Own.{Own}
 use Rattle.call_acts.specs.declared.fills.Fill.{Fill}
 use Rattle.call_acts.specs.declared.typings.Typing.{Typing}
@@ -50,12 +65,12 @@ use Rattle.call_acts.specs.declared.typings.TypingAt.TheVariants.{Load, Compare 
 use Rattle.call_acts.specs.Typings.{is_typing}
 use Rattle.kernel_rules.specs.CapabilityCalls.{has_frame}
 use Rattle.call_acts.specs.declared.work.Act.{Act as ActOf}
-use Rattle.call_acts.specs.declared.work.Act.TheVariants.{Fill as fill_act, Remove as remove_act, Retype as type_act, Make as make_act, Outside}
+use Rattle.call_acts.specs.declared.work.Act.TheVariants.{Fill as fill_act, Remove as remove_act, Retype as type_act, Make as make_act, Outside, Tick as tick_act, Kill as kill_act}
 use Rattle.call_acts.specs.declared.work.Work.{Work}
 use Rattle.call_acts.specs.declared.work.Due.{Due}
 use Rattle.call_acts.specs.declared.work.Work.TheVariants.{Lookup, Scan, Acquire, Act}
 use Rattle.call_acts.specs.declared.work.Tail.{Tail}
-use Rattle.call_acts.specs.declared.work.Tail.TheVariants.{Nothing, Quiesce, Unmark}
+use Rattle.call_acts.specs.declared.work.Tail.TheVariants.{Nothing, Quiesce, Unmark, StoreDead}
 use Rattle.call_steps.specs.declared.stages.Stage.{Stage}
 use Rattle.call_steps.specs.declared.stages.Stage.TheVariants.{Enter, Undecided, Decided, Leave}
 use Rattle.call_steps.specs.declared.stages.ActiveCall.{ActiveCall}
@@ -235,23 +250,24 @@ pub record KnowsTyping (t : Trace) (c : ℕ) (call : Call) (ks : List Capability
   pub types : TypesBy call ks y
   pub met : HasMetAt t c y.frame y.at
 
--- The call makes this node in this frame, which the range has to which its first name has led.
-pub record IsMade (f : ℕ) (made : Option Node) (m : Making) (has : Bool) : Type 0 where
+-- The call makes this object in this frame, which the range has to which its first name has led; a thread in the component to which its
+-- third name has led.
+pub record IsMade (f : ℕ) (made : Option NewObject) (m : Making) (has : Bool) : Type 0 where
   pub frame : m.frame ≡ f
-  pub node : made ≡ Some m.node
+  pub object : made ≡ Some m.object
   pub within : has ≡ true
 
 abbrev pub MakesBy : Call → List Capability → Making → Type 0
-MakesBy (make_call what r f u b) (range ∷ ks) m = IsMade f (node_made what) m (has_frame (found range) f)
+MakesBy (make_call what r f u b) (range ∷ ks) m = IsMade f (object_made what (range ∷ ks)) m (has_frame (found range) f)
 MakesBy call ks m = ⊥
 
 -- Its frame is not in that range.
-pub record IsOutside (made : Option Node) (has : Bool) : Type 0 where
-  pub node : IsSome made
+pub record IsOutside (made : Option NewObject) (has : Bool) : Type 0 where
+  pub object : IsSome made
   pub outside : has ≡ false
 
 abbrev pub OutsideBy : Call → List Capability → Type 0
-OutsideBy (make_call what r f u b) (range ∷ ks) = IsOutside (node_made what) (has_frame (found range) f)
+OutsideBy (make_call what r f u b) (range ∷ ks) = IsOutside (object_made what (range ∷ ks)) (has_frame (found range) f)
 OutsideBy call ks = ⊥
 
 -- The frame's word as it was found: that of a blank kernel frame which no core has marked.
@@ -262,30 +278,102 @@ pub record HasBlank (t : Trace) (c f word : ℕ) : Type 0 where
   pub own : own_read t c (FrameAt f) ≡ Some word
   pub says : frame_of_word word ≡ Some blank_word
 
--- The first entries of the node are stored, and free.
-pub record HasStored (setup : Setting) (t : Trace) (f word upto : ℕ) : Type 0 where
+-- The first words of the object are stored.
+pub record HasStored (setup : Setting) (t : Trace) (f : ℕ) (object : NewObject) (word upto : ℕ) : Type 0 where
   pub says : frame_of_word word ≡ Some blank_word
-  pub free : (i : ℕ) → i < upto → last_left setup t (EntryAt f i) ≡ word_of_entry entry.Free
+  pub stored : (i : ℕ) → i < upto → last_left setup t (EntryAt f i) ≡ object_word object i
 
-abbrev pub KnowsMakingAt : Setting → Trace → ℕ → ℕ → MakingAt → Type 0
-KnowsMakingAt setup t c f making_load = Unit {0}
-KnowsMakingAt setup t c f (Mark word) = HasBlank t c f word
-KnowsMakingAt setup t c f (Store word n) = HasStored setup t f word n
-KnowsMakingAt setup t c f (making_fill word) = HasStored setup t f word 64
+abbrev pub KnowsMakingAt : Setting → Trace → ℕ → ℕ → NewObject → MakingAt → Type 0
+KnowsMakingAt setup t c f object making_load = Unit {0}
+KnowsMakingAt setup t c f object (Mark word) = HasBlank t c f word
+KnowsMakingAt setup t c f object (Store word n) = HasStored setup t f object word n
+KnowsMakingAt setup t c f object (making_fill word) = HasStored setup t f object word (last_word object + 1)
 
 pub record KnowsMaking (setup : Setting) (t : Trace) (c : ℕ) (call : Call) (plan : Plan) (ks : List Capability) (upto : ℕ) (m : Making) :
     Type 0 where
   pub spot : IsSpot setup t c plan ks upto m.fill.node m.fill.entry m.fill.word
   pub makes : MakesBy call ks m
   pub core : m.core ≡ c
-  pub cap : m.fill.cap ≡ node_cap m.node m.frame
-  pub at : KnowsMakingAt setup t c m.frame m.at
+  pub cap : m.fill.cap ≡ object_cap m.object m.frame
+  pub at : KnowsMakingAt setup t c m.frame m.object m.at
 
 pub record KnowsOutside (setup : Setting) (t : Trace) (c : ℕ) (call : Call) (plan : Plan) (ks : List Capability)
     (upto node index word : ℕ) :
     Type 0 where
   pub spot : IsSpot setup t c plan ks upto node index word
   pub outside : OutsideBy call ks
+
+-- The call charges to the temporal capability of its core the ticks that it asks for and those that the core owes.
+abbrev pub charged_tcap : Charge → ℕ
+charged_tcap (charge_load f ticks) = f
+charged_tcap (charge_compare f ticks budget version) = f
+
+pub record IsCharge (s : State) (c n : ℕ) (charge : Charge) : Type 0 where
+  pub tcap : charged_tcap charge ≡ (s.core c).tcap
+  pub ticks : ticks_of charge ≡ ticks_due (s.core c).owed n
+
+abbrev pub ChargesBy : State → ℕ → Call → Charge → Type 0
+ChargesBy s c (Tick n) charge = IsCharge s c n charge
+ChargesBy s c call charge = ⊥
+
+-- Before the compare, the call's last step on the head has read there the head that is expected, which no core has marked.
+pub record HasHead (t : Trace) (c f budget version : ℕ) : Type 0 where
+  pub own : own_read t c (EntryAt f 0) ≡ Some (word_of_head (head budget version))
+  pub fits : HeadFits (head budget version)
+
+abbrev pub HasHeadAt : Trace → ℕ → Charge → Type 0
+HasHeadAt t c (charge_load f ticks) = Unit {0}
+HasHeadAt t c (charge_compare f ticks budget version) = HasHead t c f budget version
+
+pub record KnowsTick (setup : Setting) (t : Trace) (c : ℕ) (call : Call) (charge : Charge) : Type 0 where
+  pub charges : ChargesBy (state_after setup t) c call charge
+  pub at : HasHeadAt t c charge
+
+-- The call kills the component to which its name has led.
+pub record IsKilled (f : ℕ) (comp : Capability) : Type 0 where
+  pub kind : comp.kind ≡ comp_kind
+  pub frame : f ≡ comp.frame
+
+abbrev pub KillsBy : Call → List Capability → ℕ → Type 0
+KillsBy (Kill name) (comp ∷ []) f = IsKilled f comp
+KillsBy call ks f = ⊥
+
+-- The component of a frame has this liveness number and epoch.
+pub record HasLife (s : State) (f : ℕ) (life : CompWord) : Type 0 where
+  pub number : (comp_in (s.frame f)).number ≡ life.number
+  pub epoch : (comp_in (s.frame f)).epoch ≡ life.epoch
+
+-- The number's word as it was found says that it is live in that epoch.
+pub record SaysLive (life : CompWord) (word : ℕ) : Type 0 where
+  pub frame : ℕ
+  pub says : live_of_word word ≡ Some (live_word.Live life.epoch frame)
+
+-- Before the compare the call's last step on the number's word has read this word there.
+pub record HasMetLive (setup : Setting) (t : Trace) (c f : ℕ) (life : CompWord) (word : ℕ) : Type 0 where
+  pub has_life : HasLife (state_after setup t) f life
+  pub own : own_read t c (LiveAt life.number) ≡ Some word
+  pub live : SaysLive life word
+
+pub record HasClosed (setup : Setting) (t : Trace) (f : ℕ) (life : CompWord) (word : ℕ) : Type 0 where
+  pub has_life : HasLife (state_after setup t) f life
+  pub live : SaysLive life word
+
+abbrev pub KnowsKillingAt : Setting → Trace → ℕ → ℕ → KillingAt → Type 0
+KnowsKillingAt setup t c f LoadComp = Unit {0}
+KnowsKillingAt setup t c f (LoadLive life) = HasLife (state_after setup t) f life
+KnowsKillingAt setup t c f (kill_close life word) = HasMetLive setup t c f life word
+KnowsKillingAt setup t c f (kill_draw life word) = HasClosed setup t f life word
+
+-- A component that no other core may retype.
+pub record HasComp (s : State) (c f : ℕ) : Type 0 where
+  pub comp : IsTrue (fits comp_kind (s.frame f))
+  pub guarded : IsGuarded s c f
+
+pub record KnowsKilling (setup : Setting) (t : Trace) (c : ℕ) (call : Call) (ks : List Capability) (m : Killing) : Type 0 where
+  pub kills : KillsBy call ks m.comp
+  pub core : m.core ≡ c
+  pub comp : HasComp (state_after setup t) c m.comp
+  pub at : KnowsKillingAt setup t c m.comp m.at
 
 -- What a call with this plan knows of its act, where its names have led to these and the cores below `upto` were scanned.
 abbrev pub KnowsAct : Setting → Trace → ℕ → Call → Plan → List Capability → ℕ → ActOf → Type 0
@@ -294,6 +382,8 @@ KnowsAct setup t c call plan found upto (remove_act close cap) = KnowsClose setu
 KnowsAct setup t c call plan found upto (type_act typing) = KnowsTyping t c call found typing
 KnowsAct setup t c call plan found upto (make_act making) = KnowsMaking setup t c call plan found upto making
 KnowsAct setup t c call plan found upto (Outside node entry word) = KnowsOutside setup t c call plan found upto node entry word
+KnowsAct setup t c call plan found upto (tick_act charge) = KnowsTick setup t c call charge
+KnowsAct setup t c call plan found upto (kill_act m) = KnowsKilling setup t c call found m
 
 -- An act is before its first step.
 abbrev pub is_first_of : Close → Bool
@@ -307,10 +397,13 @@ is_start (remove_act close cap) = is_first_of close
 is_start (type_act typing) = not (is_typing typing.at)
 is_start (make_act making) = not (is_marked making.at)
 is_start (Outside node entry word) = true
+is_start (tick_act charge) = not (is_charging charge)
+is_start (kill_act m) = not (is_killing m.at)
 
--- Its counts may be acquired here: no entry is closed yet.
+-- Its counts may be acquired here: no entry and no liveness number is closed yet.
 abbrev pub is_counting : ActOf → Bool
 is_counting (remove_act close cap) = is_first_of close
+is_counting (kill_act m) = not (is_killing m.at)
 is_counting act = true
 
 -- It goes on: it is not out of range.
@@ -351,11 +444,17 @@ abbrev pub HasLoaded : Trace → ℕ → Pin → Type 0
 HasLoaded t c (AtLoad frame core) = Unit {0}
 HasLoaded t c (AtCompare frame core count stamp) = HasRead t c frame core count stamp
 
+-- No frame's count is due twice.
+abbrev pub AreDuesApart : List Due → Type 0
+AreDuesApart [] = Unit {0}
+AreDuesApart (d ∷ ds) = All (λ x. d.frame ≢ x.frame) ds × AreDuesApart ds
+
 -- The counts acquired so far are the first that the act changes; this one is the next, and is not among them.
 pub record KnowsCount (setup : Setting) (t : Trace) (c : ℕ) (a : ActiveCall) (pin : Pin) (change : ℤ) (act : ActOf) : Type 0 where
   pub knows : KnowsAct setup t c a.call a.plan a.found setup.cores act
   pub rest : List Due
   pub due : dues act ≡ map due_of a.counts ++ record { frame = pin_frame pin; change = change } ∷ rest
+  pub apart : AreDuesApart (dues act)
   pub core : pin_core pin ≡ c
   pub new : (holds_counts None a.counts).marks (CountAt (pin_frame pin) (counter_of c)) ≡ false
   pub loaded : HasLoaded t c pin
@@ -397,11 +496,17 @@ pub record KnowsUnmark (call : Call) (f word : ℕ) : Type 0 where
   pub bare : frame_mark (frame_of_word word) ≡ None
   pub small : word < 2 ^ 64
 
+-- The liveness number whose word is still to be stored is near the call at a moment of it, and the call is one that changes numbers.
+pub record KnowsDead (setup : Setting) (t : Trace) (c : ℕ) (call : Call) (life : CompWord) : Type 0 where
+  pub numbers : changes_numbers call ≡ true
+  pub near : WasAt (IsNearIn c call (LiveAt life.number)) setup t c
+
 -- What a call knows that has still this to store.
 abbrev pub KnowsTail : Setting → Trace → ℕ → Call → Tail → Type 0
 KnowsTail setup t c call Nothing = Unit {0}
 KnowsTail setup t c call (Quiesce close) = KnowsStore setup t c call close
 KnowsTail setup t c call (Unmark f word) = KnowsUnmark call f word
+KnowsTail setup t c call (StoreDead life stamp) = KnowsDead setup t c call life
 
 -- What a call knows at its stage. One that has made no step is in no trace.
 abbrev pub KnowsAt : Setting → Trace → ℕ → ℕ → ActiveCall → Stage → Type 0

@@ -1,11 +1,15 @@
 -- When the cores of a machine stand for a trace: what holds between two steps, whatever the calls.
 use Rattle.call_acts.specs.declared.makings.MakingAt.TheVariants.{Load, Mark, Store, Fill as making_fill}
 use Rattle.call_acts.specs.declared.makings.MakingAt.{MakingAt}
+use Rattle.call_acts.specs.declared.kills.KillingAt.{KillingAt}
+use Rattle.call_acts.specs.declared.kills.KillingAt.TheVariants.{LoadComp, LoadLive, Close as kill_close, Draw as kill_draw}
+use Rattle.frame_words.specs.Live.{word_of_live}
+use Rattle.frame_words.specs.declared.live_word.LiveWord.TheVariants.{Dead}
 use Rattle.std.specs.Prelude.{◌≡◌, ◌+◌, ◌<◌, ◌≤◌, ℕ, List, [], Option, Some, None}
 use Rattle.spk_nums.specs.Setting.{Setting}
 use Rattle.frame_words.specs.Count.{count_of_word}
 use Rattle.frame_words.specs.declared.count_word.CountWord.{CountWord}
-use Rattle.word_map.specs.Word.{Word, CountAt, FrameAt}
+use Rattle.word_map.specs.Word.{Word, CountAt, FrameAt, LiveAt}
 use Rattle.kernel_rules.specs.State.{Thing, FrameOf, State}
 use Rattle.kernel_rules.specs.References.{sum_below}
 use Rattle.kernel_history.specs.Trace.{Trace, Out, phase, calls_of, state_after}
@@ -24,11 +28,11 @@ use Rattle.spk_nums.specs.declared.replies.Reply.{Reply}
 use Rattle.spk_nums.specs.declared.replies.Reply.TheVariants.{Ok}
 use Rattle.stage_pins.specs.declared.held.Acquired.{Acquired}
 use Rattle.call_acts.specs.declared.work.Act.{Act}
-use Rattle.call_acts.specs.declared.work.Act.TheVariants.{Fill, Remove, Retype, Make, Outside}
+use Rattle.call_acts.specs.declared.work.Act.TheVariants.{Fill, Remove, Retype, Make, Outside, Tick, Kill}
 use Rattle.call_acts.specs.declared.work.Work.{Work}
 use Rattle.call_acts.specs.declared.work.Work.TheVariants.{Lookup, Scan, Acquire, Act as act_work}
 use Rattle.call_acts.specs.declared.work.Tail.{Tail}
-use Rattle.call_acts.specs.declared.work.Tail.TheVariants.{Nothing, Quiesce, Unmark}
+use Rattle.call_acts.specs.declared.work.Tail.TheVariants.{Nothing, Quiesce, Unmark, StoreDead}
 use Rattle.call_steps.specs.View.{Core}
 use Rattle.core_invariant.specs.Holding.{Holding, nothing, holds_counts, holds_closed, holds_drawn, settled, MarkIs, keeps}
 use Rattle.core_invariant.specs.Words.{Times, WordIs, CountsAre}
@@ -52,6 +56,13 @@ holds_making f (Mark word) h = h
 holds_making f (Store word entry) h = keeps (FrameAt f) word h
 holds_making f (making_fill word) h = keeps (FrameAt f) word h
 
+-- The number of a component that a call has closed: its word stands for what was found there until the stamp is drawn.
+abbrev pub holds_killing : KillingAt → Holding → Holding
+holds_killing LoadComp h = h
+holds_killing (LoadLive life) h = h
+holds_killing (kill_close life word) h = h
+holds_killing (kill_draw life word) h = keeps (LiveAt life.number) word h
+
 -- The word that a call has marked beside its counts, at an act and at a tail.
 abbrev pub holds_act : Act → Holding → Holding
 holds_act (Fill fill) h = h
@@ -59,11 +70,14 @@ holds_act (Remove close cap) h = holds_closed close cap h
 holds_act (Retype typing) h = h
 holds_act (Make making) h = holds_making making.frame making.at h
 holds_act (Outside node entry word) h = h
+holds_act (Tick charge) h = h
+holds_act (Kill m) h = holds_killing m.at h
 
 abbrev pub holds_tail : Tail → Holding → Holding
 holds_tail Nothing h = h
 holds_tail (Quiesce close) h = holds_drawn close h
 holds_tail (Unmark f word) h = keeps (FrameAt f) word h
+holds_tail (StoreDead life stamp) h = keeps (LiveAt life.number) (word_of_live (Dead life.epoch stamp)) h
 
 abbrev pub holds_work : Work → Holding → Holding
 holds_work (Lookup look) h = h

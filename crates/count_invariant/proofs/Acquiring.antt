@@ -3,16 +3,19 @@
 use Rattle.entry_words.specs.declared.entry.Entry.TheVariants.{Held}
 use Rattle.entry_words.specs.EntryWord.{word_of_entry}
 use Rattle.call_acts.specs.Makings.{undo_at}
+use Rattle.call_acts.specs.Kills.{is_killing}
+use Rattle.call_acts.specs.declared.kills.KillingAt.{KillingAt}
+use Rattle.call_acts.specs.declared.kills.KillingAt.TheVariants.{LoadComp, LoadLive, Close as kill_close, Draw as kill_draw}
 use Rattle.call_acts.specs.declared.makings.MakingAt.TheVariants.{Load as making_load, Mark, Store, Fill as making_fill}
 use Rattle.call_acts.specs.declared.makings.MakingAt.{MakingAt}
-use Rattle.std.proofs.Common.{◌≡◌, ◌≢◌, ℕ, suc, ℤ, pos, negsuc, ◌+◌, ◌++◌, ◌==◌, ◌^◌, ◌<◌, map, slice_get, length, length-append, Bool, true, false, if◌then◌else◌, cond, List, [], ◌∷◌, Option, Some, None, IsTrue, inl, inr, arith, refl, sym, ◌∙◌, ap, subst, lt-ltb}
+use Rattle.std.proofs.Common.{◌≡◌, ◌≢◌, ℕ, suc, ℤ, pos, negsuc, ◌+◌, ◌++◌, ◌==◌, ◌^◌, ◌<◌, ◌≤◌, map, slice_get, length, length-append, Bool, true, false, if◌then◌else◌, cond, List, [], ◌∷◌, Option, Some, None, IsTrue, inl, inr, arith, refl, sym, ◌∙◌, ap, subst, lt-ltb, not}
 use Rattle.std.specs.Prelude.{All, is_some}
 use Rattle.std.proofs.lemmas.Bool.{false≢true, eq-eqb, eqb-true, eqb-false}
 use Rattle.std.proofs.lemmas.List.Elements.{All-nil, All-cons, All-head, All-tail, All-append}
 use Rattle.spk_nums.specs.Setting.{Setting, IsSetting}
 use Rattle.spk_nums.specs.Capability.{Capability}
 use Rattle.spk_nums.specs.declared.calls.Call.{Call}
-use Rattle.spk_nums.specs.declared.calls.Call.TheVariants.{Look, Copy, Remove, Shrink, Unmap, Retype, Make as make_call}
+use Rattle.spk_nums.specs.declared.calls.Call.TheVariants.{Look, Copy, Remove, Shrink, Unmap, Retype, Make as make_call, Tick, Kill}
 use Rattle.spk_nums.specs.declared.replies.Reply.{Reply}
 use Rattle.spk_nums.specs.declared.replies.Reply.TheVariants as reply
 use Rattle.supported_calls.specs.Built.{IsBuilt}
@@ -22,7 +25,7 @@ use Rattle.frame_words.specs.declared.count_word.Hold.{Hold}
 use Rattle.frame_words.specs.declared.count_word.Hold.TheVariants as hold
 use Rattle.frame_words.proofs.CountLemmas as counts
 use Rattle.spk_nums.specs.WordSteps.{left_if}
-use Rattle.word_map.specs.Word.{Word, EntryAt, CountAt, ClockAt, FrameAt, same_word}
+use Rattle.word_map.specs.Word.{Word, EntryAt, CountAt, ClockAt, FrameAt, LiveAt, same_word}
 use Rattle.word_map.specs.Places.{counter_of}
 use Rattle.word_map.specs.Moves.{Move, LoadOf, CompareOf, StoreOf, word_of, left_of}
 use Rattle.kernel_rules.specs.State.{Place, Free as Vacant, Holds, Quiescing as Removed, PlaceOf, State, put}
@@ -39,6 +42,7 @@ use Rattle.stage_quiet.specs.declared.close.Close.{Close}
 use Rattle.stage_quiet.specs.declared.close.Close.TheVariants.{AtCompare as close_compare, AtDraw, AtStore}
 use Rattle.kernel_history.specs.Trace.{Step, Trace, Open, phase, state_after, last_left, own_read}
 use Rattle.kernel_history.proofs.Carries.{was_now}
+use Rattle.kernel_history.proofs.Names.{same_word-other}
 use Rattle.kernel_history.proofs.Steps.{own_read-here, own_read-there, last_left-there}
 use Rattle.stage_pins.specs.Counts.{unheld, acquired}
 use Rattle.stage_pins.specs.Acquire.{load_end, pinned_at, compare_end, pin_move, pin_end, pin_after, after_load}
@@ -58,12 +62,13 @@ use Rattle.plan_ways.proofs.Ways.{target_is}
 use Rattle.plan_ways.proofs.Near.{one_left, one_right, near_about, near_found}
 use Rattle.call_plans.specs.GoesBy.{GoesBy, own_pages}
 use Rattle.call_plans.proofs.CallsGoBy.{calls_go}
-use Rattle.count_invariant.proofs.MakingCounts.{no_due, made_counts, made_changes, made_argument, made_near, made_due, made_left, due_named}
+use Rattle.count_invariant.proofs.MakingCounts.{no_due, made_counts, made_changes, made_argument, due_near, made_left, due_named}
+use Rattle.count_invariant.proofs.KillingCounts.{kill_counts, kill_near, killing_due}
 use Rattle.look_invariant.proofs.Findings.{found_named}
 use Rattle.call_acts.specs.declared.refusals.Refusal.TheVariants as refusal
 use Rattle.call_acts.specs.declared.work.Due.{Due}
 use Rattle.call_acts.specs.declared.work.Act.{Act as ActOf}
-use Rattle.call_acts.specs.declared.work.Act.TheVariants.{Fill as fill_act, Remove as remove_act, Retype as type_act, Make as make_act, Outside}
+use Rattle.call_acts.specs.declared.work.Act.TheVariants.{Fill as fill_act, Remove as remove_act, Retype as type_act, Make as make_act, Outside, Tick as tick_act, Kill as kill_act}
 use Rattle.call_acts.specs.declared.work.Tail.TheVariants.{Nothing}
 use Rattle.call_acts.specs.declared.work.Work.TheVariants.{Acquire}
 use Rattle.call_steps.specs.declared.stages.Stage.TheVariants.{Undecided, Decided}
@@ -74,17 +79,17 @@ use Rattle.call_steps.specs.Fits.{CountsAt, HasRoom}
 use Rattle.call_steps.specs.Steps.{GoesOn, landed, went_with, took_count, gives_up}
 use Rattle.call_steps.specs.Tails.{is_ok}
 use Rattle.call_steps.specs.View.{Core}
-use Rattle.call_steps.proofs.StepsFit.{one_due}
+use Rattle.call_steps.proofs.StepsFit.{few_dues}
 use Rattle.core_invariant.specs.Holding.{Holding, count_of, committed, holds_counts, AreApart, settled_by, settled, keeps}
 use Rattle.core_invariant.specs.Words.{SaysCount, count_room}
-use Rattle.core_invariant.specs.Knows.{own_in, HasFound, NamesAre, due_of, pin_frame, pin_core, IsRemoval, KnowsClose, KnowsAct, KnowsWork, KnowsUndecided, IsCount, HasRead, phase_at, KnowsTail, goes_on, is_counting}
-use Rattle.core_invariant.specs.Stands.{done_by, holds_act, holds_work, holds_at, holds_in, holds, held_by, Stands, holds_tail, holds_making}
+use Rattle.core_invariant.specs.Knows.{AreDuesApart, own_in, HasFound, NamesAre, due_of, pin_frame, pin_core, IsRemoval, KnowsClose, KnowsAct, KnowsWork, KnowsUndecided, IsCount, HasRead, phase_at, KnowsTail, goes_on, is_counting}
+use Rattle.core_invariant.specs.Stands.{done_by, holds_act, holds_work, holds_at, holds_in, holds, held_by, Stands, holds_tail, holds_making, holds_killing}
 use Rattle.core_invariant.proofs.Carries.{names_on, act_on, counts_on, ReadsSame}
 use Rattle.core_invariant.proofs.Writes.{same_marks}
 use Rattle.core_invariant.proofs.Good.{IsGood, spares_other}
 use Rattle.core_invariant.proofs.Counting as counters
 use Rattle.core_invariant.proofs.Loads.{IsOfCall, Lands, step_to, core_at, inner, call_is, is_active, loads_on}
-use Rattle.core_invariant.proofs.Refusals.{GoodTook, raced_leaving, busy_leaving}
+use Rattle.core_invariant.proofs.Refusals.{GoodTook, ticks_in, ticks_at, raced_leaving, busy_leaving}
 
 -- What stands in a list after those before it.
 get_after : {A : Type 0} (xs : List A) (x : A) (ys : List A) → slice_get (xs ++ x ∷ ys) (length xs) ≡ Some x
@@ -111,21 +116,39 @@ map_length : (xs : List Acquired) → length (map due_of xs) ≡ length xs
 map_length [] = refl
 map_length (z ∷ zs) = ap (λ (n : ℕ). suc n) (map_length zs)
 
-no_length : (xs : List Acquired) → length xs ≡ 0 → xs ≡ []
-no_length [] none = refl
-no_length (x ∷ xs) none = absurd (omega arith)
+-- The frame of a due is not that of one before it.
+in_middle : (f : ℕ) (xs : List Due) (d : Due) (ds : List Due) → All (λ x. f ≢ x.frame) (xs ++ d ∷ ds) → f ≢ d.frame
+in_middle f [] d ds all = All-head (λ x. f ≢ x.frame) d ds all
+in_middle f (x ∷ xs) d ds all = in_middle f xs d ds (All-tail (λ y. f ≢ y.frame) x (xs ++ d ∷ ds) all)
+
+not_acquired : (xs : List Acquired) (d : Due) (ds : List Due) → AreDuesApart (map due_of xs ++ d ∷ ds) → (n : ℕ)
+    → (holds_counts None xs).marks (CountAt d.frame n) ≡ false
+not_acquired [] d ds apart n = refl
+not_acquired (x ∷ xs) d ds apart n =
+    ap (λ b. if b then true else (holds_counts None xs).marks (CountAt d.frame n))
+    (same_word-other (CountAt d.frame n) (count_of x) (λ h. in_middle x.pin.frame (map due_of xs) d ds apart.0 (sym (same_frame _ _ _ _ h))))
+    ∙ not_acquired xs d ds apart.1 n
+  where
+    same_frame : (f d g b : ℕ) → CountAt f d ≡ CountAt g b → f ≡ g
+    same_frame f d g b h = cc
+
+-- The count of one frame is due once.
+pub one_apart : (ds : List Due) → length ds ≤ 1 → AreDuesApart ds
+one_apart [] few = tt
+one_apart (d ∷ []) few = (All-nil (λ x. d.frame ≢ x.frame), tt)
+one_apart (d ∷ e ∷ ds) few = absurd (omega arith)
 
 -- What a call knows that has acquired the first of the counts which its act changes: it acquires the next, or goes on to its act.
 pub knows_next : (setup : Setting) (t : Trace) (c table : ℕ) (a : ActiveCall) (core : ℕ) (act : ActOf) (rest : List Due) → core ≡ c
     → KnowsAct setup t c a.call a.plan a.found setup.cores act
-    → dues act ≡ map due_of a.counts ++ rest → (n : ℕ) → n ≡ length a.counts → is_counting act ≡ true
+    → dues act ≡ map due_of a.counts ++ rest → AreDuesApart (dues act) → (n : ℕ) → n ≡ length a.counts → is_counting act ≡ true
     → goes_on act ≡ true → KnowsWork setup t c table a (next_work core n act)
-knows_next setup t c table a core act [] own knows prefix n is starts goes =
+knows_next setup t c table a core act [] own knows prefix apart n is starts goes =
     subst (λ o. KnowsWork setup t c table a (acquires core act o))
     (sym (ap (slice_get (dues act)) (is ∙ sym (map_length a.counts)) ∙ ap (λ ds. slice_get ds (length (map due_of a.counts))) prefix ∙
     get_none (map due_of a.counts)))
     (record { knows = knows; all = prefix ∙ after_none (map due_of a.counts); goes = goes })
-knows_next setup t c table a core act (d ∷ ds) own knows prefix n is starts goes =
+knows_next setup t c table a core act (d ∷ ds) own knows prefix apart n is starts goes =
     subst (λ o. KnowsWork setup t c table a (acquires core act o))
     (sym (ap (slice_get (dues act)) (is ∙ sym (map_length a.counts)) ∙ ap (λ ds. slice_get ds (length (map due_of a.counts))) prefix ∙
     get_after (map due_of a.counts) d ds))
@@ -133,20 +156,12 @@ knows_next setup t c table a core act (d ∷ ds) own knows prefix n is starts go
       knows = knows;
       rest = ds;
       due = prefix;
+      apart = apart;
       core = own;
-      new = ap
-          (λ (xs : List Acquired). (holds_counts None xs).marks (CountAt d.frame (counter_of c))) none;
+      new = not_acquired a.counts d ds (subst AreDuesApart prefix apart) (counter_of c);
       loaded = tt;
       starts = starts;
     })
-  where
-    none : a.counts ≡ []
-    none = no_length a.counts
-        (let one = one_due act in
-        let all : length (dues act) ≡ length (map due_of a.counts) + suc (length ds) = ap length prefix ∙ length-append
-        (map due_of a.counts) (d ∷ ds) in
-        let same = map_length a.counts in
-        omega arith)
 
 -- While its counts are acquired an act holds what it will hold at its next step, which is what a refusal has then to store.
 undo_holds : (act : ActOf) (h : Holding) → is_counting act ≡ true → holds_tail (undo act) h ≡ holds_act act h
@@ -163,6 +178,14 @@ undo_holds (make_act m) h is = by m.at
     by (Store word entry) = refl
     by (making_fill word) = refl
 undo_holds (Outside node entry word) h is = refl
+undo_holds (tick_act charge) h is = refl
+undo_holds (kill_act m) h is = by m.at is
+  where
+    by : (at : KillingAt) → not (is_killing at) ≡ true → h ≡ holds_killing at h
+    by LoadComp is = refl
+    by (LoadLive life) is = refl
+    by (kill_close life word) is = refl
+    by (kill_draw life word) is = absurd (false≢true is)
 
 acquires_holds : (core : ℕ) (act : ActOf) (o : Option Due) (h : Holding) → holds_work (acquires core act o) h ≡ holds_act act h
 acquires_holds core act None h = refl
@@ -188,6 +211,15 @@ act_count (make_act m) h f d = by m.at
     by (Store word entry) = (refl, refl)
     by (making_fill word) = (refl, refl)
 act_count (Outside node entry word) h f d = (refl, refl)
+act_count (tick_act charge) h f d = (refl, refl)
+act_count (kill_act m) h f d = by m.at
+  where
+    by : (at : KillingAt) → ((holds_killing at h).marks (CountAt f d) ≡ h.marks (CountAt f d))
+        × ((holds_killing at h).stands (CountAt f d) ≡ h.stands (CountAt f d))
+    by LoadComp = (refl, refl)
+    by (LoadLive life) = (refl, refl)
+    by (kill_close life word) = (refl, refl)
+    by (kill_draw life word) = (refl, refl)
 
 keeps_over : (v w : Word) (x : ℕ) (h g : Holding) → (h.marks w ≡ g.marks w) × (h.stands w ≡ g.stands w)
     → ((keeps v x h).marks w ≡ (keeps v x g).marks w) × ((keeps v x h).stands w ≡ (keeps v x g).stands w)
@@ -212,6 +244,25 @@ act_over (make_act m) h g w same = by m.at
     by (Store word entry) = keeps_over (FrameAt m.frame) w word h g same
     by (making_fill word) = keeps_over (FrameAt m.frame) w word h g same
 act_over (Outside node entry word) h g w same = same
+act_over (tick_act charge) h g w same = same
+act_over (kill_act m) h g w same = by m.at
+  where
+    by : (at : KillingAt) → ((holds_killing at h).marks w ≡ (holds_killing at g).marks w)
+        × ((holds_killing at h).stands w ≡ (holds_killing at g).stands w)
+    by LoadComp = same
+    by (LoadLive life) = same
+    by (kill_close life word) = same
+    by (kill_draw life word) = keeps_over (LiveAt life.number) w word h g same
+
+-- An act that changes a count charges no ticks.
+counts_plain : (act : ActOf) (before : List Due) (due : Due) (rest : List Due) → dues act ≡ before ++ due ∷ rest → ticks_in act ≡ false
+counts_plain (fill_act fill) before due rest is = refl
+counts_plain (remove_act close cap) before due rest is = refl
+counts_plain (type_act typing) before due rest is = refl
+counts_plain (make_act m) before due rest is = refl
+counts_plain (Outside node entry word) before due rest is = refl
+counts_plain (tick_act charge) before due rest is = absurd (no_due before due rest is)
+counts_plain (kill_act m) before due rest is = refl
 
 -- A call that fills its target changes references, and the frame that it names there is near it: a line a call.
 put_counts : (call : Call) → IsBuilt call → (ks : List Capability) (k : Capability) → put_by call ks ≡ Some k
@@ -223,6 +274,8 @@ put_counts (Shrink u i) built ks k puts = absurd (cc)
 put_counts (Unmap p v) built ks k puts = absurd (cc)
 put_counts (Retype r f j) built ks k puts = absurd (cc)
 put_counts (make_call what r f u b) built ks k puts = absurd (cc)
+put_counts (Tick n) built ks k puts = absurd (cc)
+put_counts (Kill n) built ks k puts = absurd (cc)
 put_counts call built ks k puts = absurd built
 
 put_near : (s : State) (c : ℕ) (call : Call) → IsBuilt call → (ks : List Capability) (k : Capability) → put_by call ks ≡ Some k
@@ -235,6 +288,8 @@ put_near s c (Shrink u i) built ks k puts lead f names_it = absurd (cc)
 put_near s c (Unmap p v) built ks k puts lead f names_it = absurd (cc)
 put_near s c (Retype r g j) built ks k puts lead f names_it = absurd (cc)
 put_near s c (make_call what r g u b) built ks k puts lead f names_it = absurd (cc)
+put_near s c (Tick n) built ks k puts lead f names_it = absurd (cc)
+put_near s c (Kill n) built ks k puts lead f names_it = absurd (cc)
 put_near s c call built ks k puts lead f names_it = absurd built
 
 -- The word of an acquired count stands for the word that was found.
@@ -299,8 +354,8 @@ module _ (setup : Setting) (setting : IsSetting setup) (cores : ℕ → Core) (t
   few =
       let waits : length a.counts < length (dues act) = subst (CountsAt a.counts) stage_is
       (is_active setup setting cores t stands c here a active).counts in
-      let one = one_due act in
-      omega arith
+      let four = few_dues act in
+      omega (arith, waits, four)
 
   -- the core has not acquired it yet
   new : (holds_counts None a.counts).marks at ≡ false
@@ -324,6 +379,7 @@ module _ (setup : Setting) (setting : IsSetting setup) (cores : ℕ → Core) (t
   reads_kept e own none is = record {
     entries = λ f i. kept e own none is (EntryAt f i) (entry_apart f i);
     frames = λ f. kept e own none is (FrameAt f) (frame_apart f);
+    numbers = λ l. kept e own none is (LiveAt l) (number_apart l);
     stored = λ f i marked. last_left-there setup (EntryAt f i) e t (λ h. entry_apart f i (h ∙ is));
   }
     where
@@ -333,11 +389,19 @@ module _ (setup : Setting) (setting : IsSetting setup) (cores : ℕ → Core) (t
       frame_apart : (f : ℕ) → FrameAt f ≢ at
       frame_apart f h = cc
 
+      number_apart : (l : ℕ) → LiveAt l ≢ at
+      number_apart l h = cc
+
+  -- it charges no ticks
+  plain : ticks_at a.stage ≡ false
+  plain = ap ticks_at stage_is ∙ counts_plain act (map due_of a.counts) (record { frame = pin_frame pin; change = change })
+      has.knows.rest has.knows.due
+
   -- it is held by another core
   held_good : (b : ℕ) → marked_by setup t at ≡ Some b → GoodTook setup cores t c (LoadOf at) (landed a (gives_up (refusal.Busy b) act))
   held_good b mark = busy_leaving setup setting cores t stands c here a active opens (undo act) undone left room (LoadOf at)
-      (record { of_call = record { moves = counting; near = inl (near (counter_of d)) }; kept = refl; apart = λ e. refl }) b bare_here
-      mark tt
+      (record { of_call = record { moves = counting; near = inl (near (counter_of d)) }; kept = refl; apart = λ e. refl })
+      plain b bare_here mark tt
 
   -- it is loaded, and held by none
   free_good : (count : ℤ) (stamp : ℕ) → count_of_word was ≡ Some (unheld count stamp) → pin ≡ AtLoad frame d
@@ -356,6 +420,7 @@ module _ (setup : Setting) (setting : IsSetting setup) (cores : ℕ → Core) (t
               (reads_kept e refl refl refl) has.knows.knows;
           rest = has.knows.rest;
           due = has.knows.due ∙ ap (λ (f : ℕ). map due_of a.counts ++ record { frame = f; change = change } ∷ has.knows.rest) frame_is;
+          apart = has.knows.apart;
           core = own_core;
           new = subst (λ (b : ℕ). (holds_counts None a.counts).marks (CountAt frame (counter_of b)) ≡ false) own_core new;
           loaded = record {
@@ -415,7 +480,7 @@ module _ (setup : Setting) (setting : IsSetting setup) (cores : ℕ → Core) (t
     count_lost : (was == expected) ≡ false → GoodTook setup cores t c compare (landed a (gives_up refusal.Raced act))
     count_lost other =
         raced_leaving setup setting cores t stands c here a active opens (undo act) undone left room compare
-        (record { of_call = of_call; kept = kept; apart = λ e. refl })
+        (record { of_call = of_call; kept = kept; apart = λ e. refl }) plain
         (record {
           at = tt;
           reads = eq-eqb (left_of compare was) was kept;
@@ -494,6 +559,7 @@ module _ (setup : Setting) (setting : IsSetting setup) (cores : ℕ → Core) (t
                 (reads_kept e refl refl refl) has.knows.knows)
                 (has.knows.due ∙ ap (λ (f : ℕ). map due_of a.counts ++ record { frame = f; change = change } ∷ has.knows.rest) frame_is
                 ∙ sym (ap (λ ds. ds ++ has.knows.rest) (map_more a.counts x) ∙ after_one (map due_of a.counts) (due_of x) has.knows.rest))
+                has.knows.apart
                 (length a.counts + 1) (sym (length-append a.counts (x ∷ []))) has.knows.starts goes;
           })
           (All-append (IsCount setup (e ∷ t) c a.call) a.counts (x ∷ [])
@@ -638,14 +704,22 @@ acquire_good setup setting cores t stands c here a active pin change (remove_act
 acquire_good setup setting cores t stands c here a active pin change (make_act m) is has =
     acquire_near setup setting cores t stands c here a active pin change (make_act m) is has
     (made_counts a.call a.found m has.knows.knows.makes)
-    (λ b. ap (λ (n : ℕ). is_one_of n (frames_near (state_after setup t) c a.call))
-    (made_due m.node m.frame m.fill.cap has.knows.knows.cap m.at (map due_of a.counts)
+    (λ b. due_near (state_after setup t) c a.call a.found m has.knows.knows.makes
+    (call_leads setup setting cores t stands c here a active has.names) (map due_of a.counts)
     (record { frame = pin_frame pin; change = change }) has.knows.rest has.knows.due)
-    ∙ made_near (state_after setup t) c a.call a.found m has.knows.knows.makes)
-    (λ e. made_left setup t (e ∷ t) c m.frame m.at a.call (made_changes a.call a.found m has.knows.knows.makes)
+    (λ e. made_left setup t (e ∷ t) c m.frame m.object m.at a.call (made_changes a.call a.found m has.knows.knows.makes)
     (made_argument a.call a.found m has.knows.knows.makes) has.knows.knows.at) refl
 acquire_good setup setting cores t stands c here a active pin change (Outside node entry word) is has =
     absurd (no_due (map due_of a.counts) (record { frame = pin_frame pin; change = change }) has.knows.rest has.knows.due)
+acquire_good setup setting cores t stands c here a active pin change (tick_act charge) is has =
+    absurd (no_due (map due_of a.counts) (record { frame = pin_frame pin; change = change }) has.knows.rest has.knows.due)
+acquire_good setup setting cores t stands c here a active pin change (kill_act m) is has =
+    acquire_near setup setting cores t stands c here a active pin change (kill_act m) is has
+    (kill_counts a.call a.found m.comp has.knows.knows.kills)
+    (λ b. ap (λ (n : ℕ). is_one_of n (frames_near (state_after setup t) c a.call))
+    (killing_due m.comp m.at (map due_of a.counts) (record { frame = pin_frame pin; change = change }) has.knows.rest has.knows.due)
+    ∙ kill_near (state_after setup t) c a.call a.found m.comp has.knows.knows.kills
+    (call_leads setup setting cores t stands c here a active has.names)) (λ e. tt) refl
 
 -- A decided call commits its earliest count.
 module _ (setup : Setting) (setting : IsSetting setup) (cores : ℕ → Core) (t : Trace) (stands : Stands setup cores t) (c : ℕ)

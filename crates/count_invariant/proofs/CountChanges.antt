@@ -1,27 +1,26 @@
 -- What a decision makes of the counts that its call has acquired: each stands for what its commit will store, and so the counts of each
 -- frame sum to the references that the decision leaves.
-use Rattle.std.proofs.Common.{◌≡◌, ◌≢◌, ℕ, ℤ, pos, ◌+ℤ◌, ◌+◌, ◌^◌, ◌<◌, ◌≤◌, max, map, length, true, false, if◌then◌else◌, List, [], ◌∷◌, Option, Some, None, inl, inr, arith, refl, sym, ◌∙◌, ap, subst}
-use Rattle.std.proofs.lemmas.Bool.{false≢true, cases_eq, eq-eqb, ne_eqb}
+use Rattle.std.proofs.Common.{◌≡◌, ◌≢◌, ◌⊎◌, ℕ, suc, zero, ℤ, pos, negsuc, ◌+ℤ◌, ◌+◌, ◌^◌, ◌<◌, ◌≤◌, max, map, slice_get, true, false, if◌then◌else◌, List, [], ◌∷◌, Option, Some, None, inl, inr, arith, refl, sym, ◌∙◌, ap, subst}
+use Rattle.std.proofs.lemmas.Bool.{false≢true, cases_eq}
 use Rattle.std.specs.Prelude.{All}
-use Rattle.std.proofs.lemmas.List.Elements.{All-head}
+use Rattle.std.proofs.lemmas.List.Elements.{All-nil, All-cons, All-head, All-tail, All-map, All-weaker}
 use Rattle.spk_nums.specs.Setting.{Setting, IsSetting}
 use Rattle.spk_nums.specs.declared.replies.Reply.{Reply}
 use Rattle.frame_words.specs.Count.{CountFits, word_of_count, count_of_word}
 use Rattle.frame_words.specs.declared.count_word.CountWord.{CountWord}
 use Rattle.frame_words.proofs.CountLemmas as counts
-use Rattle.word_map.specs.Word.{Word, CountAt}
+use Rattle.word_map.specs.Word.{Word, CountAt, same_word}
 use Rattle.word_map.specs.Places.{counter_of}
 use Rattle.word_map.specs.Moves.{Move, word_of, left_of}
 use Rattle.kernel_rules.specs.State.{FrameOf, State, put}
-use Rattle.kernel_rules.specs.References.{times, refs}
-use Rattle.kernel_rules.proofs.Sums as sums
+use Rattle.kernel_rules.specs.References.{refs}
 use Rattle.kernel_history.specs.Counts.{counters, count_in, count_sum}
 use Rattle.kernel_history.specs.Marks.{mark_of}
 use Rattle.kernel_history.specs.Marking.{marked_by}
 use Rattle.kernel_history.specs.Stamps.{stamp}
 use Rattle.kernel_history.specs.Trace.{Step, Trace, state_after, last_left}
 use Rattle.kernel_history.proofs.Names.{cases_word, same_word-other}
-use Rattle.stage_pins.specs.Counts.{unheld, changed, later}
+use Rattle.stage_pins.specs.Counts.{unheld, later}
 use Rattle.stage_pins.specs.Held.{stamp_of_change}
 use Rattle.stage_pins.specs.declared.held.Acquired.{Acquired}
 use Rattle.stage_pins.proofs.PinLemmas.{changed_none}
@@ -29,7 +28,7 @@ use Rattle.call_acts.specs.declared.work.Due.{Due}
 use Rattle.call_steps.specs.declared.stages.ActiveCall.{ActiveCall}
 use Rattle.call_steps.specs.View.{Core}
 use Rattle.core_invariant.specs.CountWords.{stamp_in, newest_of, IsWithin}
-use Rattle.core_invariant.specs.Holding.{count_of, committed, holds_counts, settled_by, settled}
+use Rattle.core_invariant.specs.Holding.{count_of, committed, holds_counts, AreApart, settled_by, settled}
 use Rattle.core_invariant.specs.Words.{SaysCount, count_room, WordIs}
 use Rattle.core_invariant.specs.Knows.{due_of, IsCount}
 use Rattle.core_invariant.specs.Stands.{holds, held_by, times_of, count_shown, SumIs, Stands}
@@ -41,43 +40,130 @@ use Rattle.core_invariant.proofs.Sounds.{limits_of}
 use Rattle.core_invariant.proofs.WordFrames.{ReadsAlike, others_settled, own_settled}
 use Rattle.core_invariant.proofs.Writes.{room_small}
 
--- What a capability has due, by what it names.
-abbrev pub dues_of : ℤ → List ℕ → List Due
-dues_of z fs = map (λ f. record { frame = f; change = z }) fs
-
-none_named : (z : ℤ) (fs : List ℕ) → dues_of z fs ≡ [] → fs ≡ []
-none_named z [] is = refl
-none_named z (f ∷ fs) is = absurd (cc)
-
-record OneNamed (z : ℤ) (fs : List ℕ) (d : Due) : Type 0 where
-  frames : fs ≡ d.frame ∷ []
-  change : d.change ≡ z
-
-one_named : (z : ℤ) (fs : List ℕ) (d : Due) → dues_of z fs ≡ d ∷ [] → OneNamed z fs d
-one_named z [] d is = absurd (cc)
-one_named z (f ∷ []) d is = subst (OneNamed z (f ∷ [])) (head_same _ d [] [] is) (record { frames = refl; change = refl })
-  where
-    head_same : (x y : Due) (xs ys : List Due) → x ∷ xs ≡ y ∷ ys → x ≡ y
-    head_same x y xs ys h = cc
-one_named z (f ∷ g ∷ fs) d is = absurd (cc)
-
-two_named : (z : ℤ) (fs : List ℕ) (d b : Due) (ds : List Due) → length (dues_of z fs) ≤ 1 → dues_of z fs ≡ d ∷ b ∷ ds → ⊥
-two_named z fs d b ds few is = let two : length (dues_of z fs) ≡ length (d ∷ b ∷ ds) = ap length is in omega arith
-
 some_word : (v u : CountWord) → Some v ≡ Some u → v ≡ u
 some_word v u h = cc
+
+same_count : (f d g b : ℕ) → CountAt f d ≡ CountAt g b → (f ≡ g) × (d ≡ b)
+same_count f d g b h = (cc, cc)
 
 -- The later of a stamp and one that was drawn, if one was.
 later_max : (x : ℕ) (o : Option ℕ) → later x o ≡ max x (later 0 o)
 later_max x None = omega arith
 later_max x (Some y) = omega arith
 
--- The call has drawn this stamp or none, each count that its act changes is changed by z, and the frames of these are fs.
+-- The stamp that a change brings is the one that was drawn, or none.
+brought_small : (z : ℤ) (drawn : Option ℕ) → later 0 drawn < 2 ^ 28 → later 0 (stamp_of_change z drawn) < 2 ^ 28
+brought_small (pos n) drawn small = omega arith
+brought_small (negsuc n) drawn small = small
+
+-- One of the counts that a call has acquired, and the only one of its frame: what the call's words of the frame are by it.
+record IsOneOf (xs : List Acquired) (x : Acquired) : Type 0 where
+  marked : (holds_counts None xs).marks (count_of x) ≡ true
+  found : (holds_counts None xs).stands (count_of x) ≡ committed None x
+  made : (drawn : Option ℕ) → (holds_counts (Some drawn) xs).stands (count_of x) ≡ committed (Some drawn) x
+  bare : (d : ℕ) → d ≢ counter_of x.pin.core → (holds_counts None xs).marks (CountAt x.pin.frame d) ≡ false
+
+-- A frame has one of the counts, or none.
+record HasOne (xs : List Acquired) (f : ℕ) : Type 0 where
+  x : Acquired
+  i : ℕ
+  at : slice_get xs i ≡ Some x
+  frame : f ≡ x.pin.frame
+  one : IsOneOf xs x
+
+record HasNone (xs : List Acquired) (f : ℕ) : Type 0 where
+  bare : (d : ℕ) → (holds_counts None xs).marks (CountAt f d) ≡ false
+  apart : All (λ x. f ≢ x.pin.frame) xs
+
+some_count : (x y : Acquired) → Some x ≡ Some y → x ≡ y
+some_count x y h = cc
+
+all_at : (P : Acquired → Type 0) (xs : List Acquired) (i : ℕ) (x : Acquired) → slice_get xs i ≡ Some x → All P xs → P x
+all_at P [] i x is all = absurd (cc)
+all_at P (y ∷ ys) zero x is all = subst P (some_count y x is) (All-head P y ys all)
+all_at P (y ∷ ys) (suc i) x is all = all_at P ys i x is (All-tail P y ys all)
+
+due_at : (P : Due → Type 0) (xs : List Acquired) (i : ℕ) (x : Acquired) → slice_get xs i ≡ Some x → All P (map due_of xs) → P (due_of x)
+due_at P [] i x is all = absurd (cc)
+due_at P (y ∷ ys) zero x is all =
+    subst (λ z. P (due_of z)) (some_count y x is) (All-head P (due_of y) (map due_of ys) all)
+due_at P (y ∷ ys) (suc i) x is all = due_at P ys i x is (All-tail P (due_of y) (map due_of ys) all)
+
+-- Where the count of a frame is held by none of these, none of these is of the frame.
+later_bare : (c : ℕ) (x : Acquired) (xs : List Acquired) → x.pin.core ≡ c → All (λ y. y.pin.core ≡ c) xs
+    → (holds_counts None xs).marks (count_of x) ≡ false → HasOne xs x.pin.frame ⊎ HasNone xs x.pin.frame → (d : ℕ)
+    → (holds_counts None xs).marks (CountAt x.pin.frame d) ≡ false
+later_bare c x xs own cores bare (inr none) d = none.bare d
+later_bare c x xs own cores bare (inl has) d =
+    absurd (false≢true (sym bare ∙ ap (λ w. (holds_counts None xs).marks w) same_at ∙ has.one.marked))
+  where
+    same_at : count_of x ≡ count_of has.x
+    same_at = ap (λ (g : ℕ). CountAt g (counter_of x.pin.core)) has.frame ∙ ap (λ (b : ℕ). CountAt has.x.pin.frame (counter_of b))
+        (own ∙ sym (all_at (λ y. y.pin.core ≡ c) xs has.i has.x has.at cores))
+
+which : (c : ℕ) (xs : List Acquired) → All (λ x. x.pin.core ≡ c) xs → AreApart xs → (f : ℕ) → HasOne xs f ⊎ HasNone xs f
+which c [] cores apart f = inr (record { bare = λ d. refl; apart = All-nil (λ x. f ≢ x.pin.frame) })
+which c (x ∷ xs) cores apart f = elim (cases_eq f x.pin.frame) [
+  | inl same ↦ inl (record {
+    x = x;
+    i = 0;
+    at = refl;
+    frame = same;
+    one = record {
+      marked = first_marked None x xs;
+      found = first_stands None x xs;
+      made = λ drawn. first_stands (Some drawn) x xs;
+      bare = λ d other.
+          ap (λ b. if b then true else (holds_counts None xs).marks (CountAt x.pin.frame d))
+          (same_word-other (CountAt x.pin.frame d) (count_of x) (λ h. other (same_count _ _ _ _ h).1))
+          ∙ later_bare c x xs (All-head (λ y. y.pin.core ≡ c) x xs cores) rest apart.0 (which c xs rest apart.1 x.pin.frame) d;
+    };
+  })
+  | inr other ↦ elim (which c xs rest apart.1 f) [
+    | inl has ↦ inl (record {
+      x = has.x;
+      i = suc has.i;
+      at = has.at;
+      frame = has.frame;
+      one =
+          let there : (d : ℕ) → same_word (CountAt has.x.pin.frame d) (count_of x) ≡ false =
+          (λ d. same_word-other (CountAt has.x.pin.frame d) (count_of x) (λ h. other (has.frame ∙ (same_count _ _ _ _ h).0))) in
+          record {
+            marked = ap (λ b. if b then true else (holds_counts None xs).marks (count_of has.x)) (there (counter_of has.x.pin.core))
+                ∙ has.one.marked;
+            found = ap (λ b. if b then committed None x else (holds_counts None xs).stands (count_of has.x))
+                (there (counter_of has.x.pin.core)) ∙ has.one.found;
+            made = λ drawn. ap (λ b. if b then committed (Some drawn) x else (holds_counts (Some drawn) xs).stands (count_of has.x))
+                (there (counter_of has.x.pin.core)) ∙ has.one.made drawn;
+            bare = λ d at_other. ap (λ b. if b then true else (holds_counts None xs).marks (CountAt has.x.pin.frame d)) (there d)
+                ∙ has.one.bare d at_other;
+          };
+    })
+    | inr none ↦ inr (record {
+      bare = λ d. ap (λ b. if b then true else (holds_counts None xs).marks (CountAt f d))
+          (same_word-other (CountAt f d) (count_of x) (λ h. other (same_count _ _ _ _ h).0)) ∙ none.bare d;
+      apart = All-cons (λ y. f ≢ y.pin.frame) x xs other none.apart;
+    })
+  ]
+]
+  where
+    rest : All (λ y. y.pin.core ≡ c) xs
+    rest = All-tail (λ y. y.pin.core ≡ c) x xs cores
+
+-- A word that a call holds by its counts is that of a count.
+count_word : (xs : List Acquired) (w : Word) → (holds_counts None xs).marks w ≡ true → (f : ℕ) × (d : ℕ) × (w ≡ CountAt f d)
+count_word [] w mark = absurd (false≢true mark)
+count_word (x ∷ xs) w mark = elim (cases_word w (count_of x)) [
+  | inl same ↦ (x.pin.frame, counter_of x.pin.core, same)
+  | inr other ↦ count_word xs w (sym (ap (λ b. if b then true else (holds_counts None xs).marks w) (same_word-other w (count_of x) other))
+      ∙ mark)
+]
+
+-- The call has drawn this stamp or none, and the dues of the counts that it has acquired are these.
 module _ (setup : Setting) (setting : IsSetting setup) (cores : ℕ → Core) (t : Trace) (stands : Stands setup cores t) (c : ℕ)
     (here : c < setup.cores)
-    (a : ActiveCall) (active : (cores c).active ≡ Some a) (z : ℤ) (small_change : IsWithin z 1) (drawn : Option ℕ)
-    (drawn_small : later 0 (stamp_of_change z drawn) < 2 ^ 28)
-    (fs : List ℕ) (few : length (dues_of z fs) ≤ 1) (all : dues_of z fs ≡ map due_of a.counts)
+    (a : ActiveCall) (active : (cores c).active ≡ Some a) (drawn : Option ℕ) (drawn_small : later 0 drawn < 2 ^ 28)
+    (ds : List Due) (all : ds ≡ map due_of a.counts) (small_changes : All (λ d. IsWithin d.change 4) ds)
     (move : Move) (r : Reply) (after : Core) (still : (w : Word) → (holds after).marks w ≡ (holds (cores c)).marks w)
     (before_count : (f d : ℕ) → ((holds (cores c)).marks (CountAt f d) ≡ (holds_counts None a.counts).marks (CountAt f d))
     × ((holds (cores c)).stands (CountAt f d) ≡ (holds_counts None a.counts).stands (CountAt f d)))
@@ -111,13 +197,24 @@ module _ (setup : Setting) (setting : IsSetting setup) (cores : ℕ → Core) (t
       ap count_of_word (others_settled setup cores t e after still alike was now (CountAt f d) (no_count f d)
       (λ is. false≢true (sym bare ∙ own_word f d is)))
 
-  module _ (x : Acquired) (counts_are : a.counts ≡ x ∷ []) where
-    known : IsCount setup t c a.call x
-    known = All-head (IsCount setup t c a.call) x [] (subst (All (IsCount setup t c a.call)) counts_are
-        (call_is setup setting cores t stands c here a active).counts)
+  all_known : All (IsCount setup t c a.call) a.counts
+  all_known = (call_is setup setting cores t stands c here a active).counts
 
-    named : OneNamed z fs (due_of x)
-    named = one_named z fs (due_of x) (all ∙ ap (map due_of) counts_are)
+  own_cores : All (λ x. x.pin.core ≡ c) a.counts
+  own_cores = All-weaker (IsCount setup t c a.call) (λ x. x.pin.core ≡ c) (λ x known. known.core) a.counts all_known
+
+  which_of : (f : ℕ) → HasOne a.counts f ⊎ HasNone a.counts f
+  which_of = which c a.counts own_cores (call_is setup setting cores t stands c here a active).apart
+
+  module _ (f : ℕ) (has : HasOne a.counts f) where
+    abbrev x : Acquired
+    x = has.x
+
+    known : IsCount setup t c a.call x
+    known = all_at (IsCount setup t c a.call) a.counts has.i x has.at all_known
+
+    small_change : IsWithin x.change 4
+    small_change = due_at (λ d. IsWithin d.change 4) a.counts has.i x has.at (subst (All (λ d. IsWithin d.change 4)) all small_changes)
 
     abbrev frame : ℕ
     frame = x.pin.frame
@@ -131,12 +228,14 @@ module _ (setup : Setting) (setting : IsSetting setup) (cores : ℕ → Core) (t
     abbrev old : ℕ
     old = x.pin.word.stamp
 
+    abbrev brought : Option ℕ
+    brought = stamp_of_change x.change drawn
+
     abbrev new : ℕ
-    new = later old (stamp_of_change z drawn)
+    new = later old brought
 
     own_mark : marked_by setup t (count_of x) ≡ Some c
-    own_mark = (stands.marks (count_of x) c).kept ((before_count frame counter).0 ∙ ap
-        (λ (xs : List Acquired). (holds_counts None xs).marks (count_of x)) counts_are ∙ first_marked None x [])
+    own_mark = (stands.marks (count_of x) c).kept ((before_count frame counter).0 ∙ has.one.marked)
 
     -- before the decision it shows the count that was found
     found_word : committed None x ≡ word_of_count (unheld count old)
@@ -144,8 +243,7 @@ module _ (setup : Setting) (setting : IsSetting setup) (cores : ℕ → Core) (t
 
     settled_found : settled setup (held_by cores) t (count_of x) ≡ committed None x
     settled_found = ap (λ o. settled_by o (held_by cores) (count_of x) (last_left setup t (count_of x))) own_mark
-        ∙ (before_count frame counter).1 ∙ ap (λ (xs : List Acquired). (holds_counts None xs).stands (count_of x)) counts_are ∙
-        first_stands None x []
+        ∙ (before_count frame counter).1 ∙ has.one.found
 
     shows_found : shown frame counter ≡ Some (unheld count old)
     shows_found = ap count_of_word (settled_found ∙ found_word) ∙ counts.spelling.reads (unheld count old) known.fits
@@ -156,131 +254,127 @@ module _ (setup : Setting) (setting : IsSetting setup) (cores : ℕ → Core) (t
         subst (λ y. IsWithin y (count_room s)) (sym (ap (λ v. v.count) (some_word _ _ (sym shows_found ∙ says.says)))) says.within
 
     -- after it, the count with the change, and the later stamp
-    made_word : committed (Some drawn) x ≡ word_of_count (unheld (count +ℤ z) new)
-    made_word = ap (λ y. word_of_count (unheld (changed count y) (later old (stamp_of_change y drawn)))) named.change
-        ∙ ap (λ y. word_of_count (unheld y new)) (changed_is count z (count_room s) 1 within small_change
-        (let small = room_small setup setting cores t stands in omega arith))
+    made_word : committed (Some drawn) x ≡ word_of_count (unheld (count +ℤ x.change) new)
+    made_word = ap (λ y. word_of_count (unheld y new)) (changed_is count x.change (count_room s) 4 within small_change
+        (let small = room_small setup setting cores t stands in omega (arith, small)))
 
-    made_within : IsWithin (count +ℤ z) (count_room s + 1)
-    made_within = within_step count z (count_room s) 1 within small_change
+    made_within : IsWithin (count +ℤ x.change) (count_room s + 4)
+    made_within = within_step count x.change (count_room s) 4 within small_change
 
     new_small : new < 2 ^ 28
-    new_small = let a = later_max old (stamp_of_change z drawn) in let b = known.fits.2 in let d = drawn_small in omega arith
+    new_small =
+        let a = later_max old brought in
+        let b = known.fits.2 in
+        let d = brought_small x.change drawn drawn_small in
+        omega (arith, a, b, d)
 
-    made_fits : CountFits (unheld (count +ℤ z) new)
+    made_fits : CountFits (unheld (count +ℤ x.change) new)
     made_fits = (
       tt,
-      within_fits (count +ℤ z) (count_room s + 1) made_within
-          (let small = room_small setup setting cores t stands in omega arith),
+      within_fits (count +ℤ x.change) (count_room s + 4) made_within
+          (let small = room_small setup setting cores t stands in omega (arith, small)),
       new_small,
     )
 
-    shows_made : count_of_word (committed (Some drawn) x) ≡ Some (unheld (count +ℤ z) new)
-    shows_made = ap count_of_word made_word ∙ counts.spelling.reads (unheld (count +ℤ z) new) made_fits
+    shows_made : count_of_word (committed (Some drawn) x) ≡ Some (unheld (count +ℤ x.change) new)
+    shows_made = ap count_of_word made_word ∙ counts.spelling.reads (unheld (count +ℤ x.change) new) made_fits
 
     commits_one : count_room s + 4 ≤ count_room s' → SaysCount (count_room s') (count_of_word (committed (Some drawn) x))
     commits_one room = record {
-      count = count +ℤ z;
+      count = count +ℤ x.change;
       stamp = new;
       says = shows_made;
-      within = within_more (count +ℤ z) (count_room s + 1) (count_room s') (omega arith) made_within;
+      within = within_more (count +ℤ x.change) (count_room s + 4) (count_room s') room made_within;
     }
 
-    bare : (f d : ℕ) → CountAt f d ≢ count_of x → (holds_counts None a.counts).marks (CountAt f d) ≡ false
-    bare f d other = ap (λ (xs : List Acquired). (holds_counts None xs).marks (CountAt f d)) counts_are
-        ∙ ap (λ b. if b then true else false) (same_word-other (CountAt f d) (count_of x) other)
-
-    shows_after : shown' frame counter ≡ Some (unheld (count +ℤ z) new)
+    shows_after : shown' frame counter ≡ Some (unheld (count +ℤ x.change) new)
     shows_after = ap count_of_word (own_settled setup cores t e after still alike was now (count_of x) (no_count frame counter) own_mark
-        ∙ after_count frame counter ∙ ap (λ (xs : List Acquired). (holds_counts (Some drawn) xs).stands (count_of x)) counts_are ∙
-        first_stands (Some drawn) x [])
+        ∙ after_count frame counter ∙ has.one.made drawn)
         ∙ shows_made
 
     core_below : x.pin.core < s.limits.cores
     core_below =
         let own = known.core in
         let limits : s.limits.cores ≡ setup.cores = ap (λ l. l.cores) (limits_of setup t) in
-        omega arith
+        omega (arith, own, limits, here)
 
     there_shown : (d : ℕ) → d ≢ counter → shown' frame d ≡ shown frame d
-    there_shown d there = other_shown frame d (bare frame d (λ same. there (second_same _ _ _ _ same)))
-      where
-        second_same : (f d g b : ℕ) → CountAt f d ≡ CountAt g b → d ≡ b
-        second_same f d g b h = cc
+    there_shown d there = other_shown frame d (has.one.bare d there)
 
-    -- the sum of the counts of its frame, and of another
-    sum_here : count_sum (shown' frame) (counters s.limits.cores) ≡ count_sum (shown frame) (counters s.limits.cores) +ℤ z
-    sum_here = sum_by (shown frame) (shown' frame) (counters s.limits.cores) counter z (counter_once s.limits.cores x.pin.core core_below)
+    -- the sum of the counts of its frame, and the newest of their stamps
+    sum_here : count_sum (shown' frame) (counters s.limits.cores) ≡ count_sum (shown frame) (counters s.limits.cores) +ℤ x.change
+    sum_here = sum_by (shown frame) (shown' frame) (counters s.limits.cores) counter x.change
+        (counter_once s.limits.cores x.pin.core core_below)
         there_shown
-        (ap count_in shows_after ∙ sym (ap (λ y. y +ℤ z) (ap count_in shows_found)))
+        (ap count_in shows_after ∙ sym (ap (λ y. y +ℤ x.change) (ap count_in shows_found)))
 
     newest_here : newest_of (shown' frame) (counters s.limits.cores) ≡ max (newest_of (shown frame) (counters s.limits.cores))
-        (later 0 (stamp_of_change z drawn))
-    newest_here = newest_one (shown frame) (shown' frame) (counters s.limits.cores) counter (later 0 (stamp_of_change z drawn))
+        (later 0 brought)
+    newest_here = newest_one (shown frame) (shown' frame) (counters s.limits.cores) counter (later 0 brought)
         (counter_once s.limits.cores x.pin.core core_below)
         (λ d there. ap stamp_in (there_shown d there))
-        (ap stamp_in shows_after ∙ later_max old (stamp_of_change z drawn) ∙ sym
-        (ap (λ (n : ℕ). max n (later 0 (stamp_of_change z drawn))) (ap stamp_in shows_found)))
+        (ap stamp_in shows_after ∙ later_max old brought ∙ sym
+        (ap (λ (n : ℕ). max n (later 0 brought)) (ap stamp_in shows_found)))
 
-    shown_apart : (f : ℕ) → f ≢ frame → (d : ℕ) → shown' f d ≡ shown f d
-    shown_apart f other d = other_shown f d (bare f d (λ same. other (first_same _ _ _ _ same)))
-      where
-        first_same : (f d g b : ℕ) → CountAt f d ≡ CountAt g b → f ≡ g
-        first_same f d g b h = cc
-
-  -- and so of every frame: the references change by z exactly where the frame is named, and its last release is then the stamp drawn
-  module _ (cores_same : s'.limits.cores ≡ s.limits.cores) (kept : (f : ℕ) → times f fs ≡ 0 → (refs s' f ≡ refs s f) ×
+  -- and so of every frame: the references change exactly where a due names the frame, by its change, and the last release is then the
+  -- stamp that it brings
+  module _ (cores_same : s'.limits.cores ≡ s.limits.cores) (kept : (f : ℕ) → All (λ d. f ≢ d.frame) ds → (refs s' f ≡ refs s f) ×
       (stamp setup (e ∷ t) (FrameOf f) ≡ stamp setup t (FrameOf f)))
-      (changes : (f : ℕ) → times f fs ≡ 1 → (pos (refs s' f) ≡ pos (refs s f) +ℤ z)
-      × (stamp setup (e ∷ t) (FrameOf f) ≡ max (stamp setup t (FrameOf f)) (later 0 (stamp_of_change z drawn)))) where
-    stays : (f : ℕ) → times f fs ≡ 0 → ((d : ℕ) → shown' f d ≡ shown f d) → SumIs setup (held_by (put cores c after)) (e ∷ t) f
-    stays f none same = record {
-      sum = ap (λ (n : ℕ). count_sum (shown' f) (counters n)) cores_same
-          ∙ sum_same (shown f) (shown' f) (counters s.limits.cores) same ∙ (stands.sums f).sum ∙ ap (λ (n : ℕ). pos n)
-          (sym (kept f none).0);
-      newest = ap (λ (n : ℕ). newest_of (shown' f) (counters n)) cores_same
-          ∙ newest_same (shown f) (shown' f) (counters s.limits.cores) (λ d. ap stamp_in (same d)) ∙ (stands.sums f).newest ∙ sym
-          (kept f none).1;
-    }
+      (changes : All (λ d. (pos (refs s' d.frame) ≡ pos (refs s d.frame) +ℤ d.change)
+      × (stamp setup (e ∷ t) (FrameOf d.frame) ≡ max (stamp setup t (FrameOf d.frame)) (later 0 (stamp_of_change d.change drawn)))) ds)
+    where
+      abbrev Changes : Due → Type 0
+      Changes d = (pos (refs s' d.frame) ≡ pos (refs s d.frame) +ℤ d.change)
+          × (stamp setup (e ∷ t) (FrameOf d.frame) ≡ max (stamp setup t (FrameOf d.frame)) (later 0 (stamp_of_change d.change drawn)))
 
-    here_now : (x : Acquired) → a.counts ≡ x ∷ [] → times x.pin.frame fs ≡ 1
-        → SumIs setup (held_by (put cores c after)) (e ∷ t) x.pin.frame
-    here_now x is one = record {
-      sum = ap (λ (n : ℕ). count_sum (shown' x.pin.frame) (counters n)) cores_same
-          ∙ sum_here x is ∙ ap (λ y. y +ℤ z) (stands.sums x.pin.frame).sum ∙ sym (changes x.pin.frame one).0;
-      newest = ap (λ (n : ℕ). newest_of (shown' x.pin.frame) (counters n)) cores_same
-          ∙ newest_here x is ∙ ap (λ (n : ℕ). max n (later 0 (stamp_of_change z drawn))) (stands.sums x.pin.frame).newest ∙ sym
-          (changes x.pin.frame one).1;
-    }
+      stays : (f : ℕ) → HasNone a.counts f → SumIs setup (held_by (put cores c after)) (e ∷ t) f
+      stays f none =
+          let same : (d : ℕ) → shown' f d ≡ shown f d = (λ d. other_shown f d (none.bare d)) in
+          let stay = kept f (subst (All (λ d. f ≢ d.frame)) (sym all) (All-map (λ d. f ≢ d.frame) due_of a.counts none.apart)) in
+          record {
+            sum = ap (λ (n : ℕ). count_sum (shown' f) (counters n)) cores_same
+                ∙ sum_same (shown f) (shown' f) (counters s.limits.cores) same ∙ (stands.sums f).sum ∙ ap (λ (n : ℕ). pos n) (sym stay.0);
+            newest = ap (λ (n : ℕ). newest_of (shown' f) (counters n)) cores_same
+                ∙ newest_same (shown f) (shown' f) (counters s.limits.cores) (λ d. ap stamp_in (same d)) ∙ (stands.sums f).newest ∙ sym
+                stay.1;
+          }
 
-    by_counts : (xs : List Acquired) → a.counts ≡ xs → (f : ℕ) → SumIs setup (held_by (put cores c after)) (e ∷ t) f
-    by_counts [] is f = stays f (ap (times f) (none_named z fs (all ∙ ap (map due_of) is)))
-        (λ d. other_shown f d (ap (λ (xs : List Acquired). (holds_counts None xs).marks (CountAt f d)) is))
-    by_counts (x ∷ []) is f = elim (cases_eq f x.pin.frame) [
-      | inl same ↦ subst (λ (g : ℕ). SumIs setup (held_by (put cores c after)) (e ∷ t) g) (sym same) (here_now x is
-          (ap (times x.pin.frame) (named x is).frames ∙ sums.times_cons x.pin.frame x.pin.frame [] ∙ ap (λ b. (if b then 1 else 0) + 0)
-          (eq-eqb x.pin.frame x.pin.frame refl)))
-      | inr there ↦ stays f (ap (times f) (named x is).frames ∙ sums.times_cons f x.pin.frame [] ∙ ap (λ b. (if b then 1 else 0) + 0)
-          (ne_eqb x.pin.frame f (λ h. there (sym h))))
-          (shown_apart x is f there)
+      here_now : (f : ℕ) (has : HasOne a.counts f) → SumIs setup (held_by (put cores c after)) (e ∷ t) has.x.pin.frame
+      here_now f has =
+          let change : Changes (due_of has.x) = due_at Changes a.counts has.i has.x has.at (subst (All Changes) all changes) in
+          record {
+            sum = ap (λ (n : ℕ). count_sum (shown' has.x.pin.frame) (counters n)) cores_same
+                ∙ sum_here f has ∙ ap (λ y. y +ℤ has.x.change) (stands.sums has.x.pin.frame).sum ∙ sym change.0;
+            newest = ap (λ (n : ℕ). newest_of (shown' has.x.pin.frame) (counters n)) cores_same
+                ∙ newest_here f has ∙ ap (λ (n : ℕ). max n (later 0 (stamp_of_change has.x.change drawn))) (stands.sums has.x.pin.frame).newest
+                ∙ sym change.1;
+          }
+
+      pub dues_sum : (f : ℕ) → SumIs setup (held_by (put cores c after)) (e ∷ t) f
+      dues_sum f = elim (which_of f) [
+        | inl has ↦ subst (λ (g : ℕ). SumIs setup (held_by (put cores c after)) (e ∷ t) g) (sym has.frame) (here_now f has)
+        | inr none ↦ stays f none
+      ]
+
+  commits_count : count_room s + 4 ≤ count_room s' → (f d : ℕ) → (holds_counts None a.counts).marks (CountAt f d) ≡ true
+      → WordIs s' (times_of setup (e ∷ t)) (CountAt f d) ((holds_counts (Some drawn) a.counts).stands (CountAt f d))
+  commits_count room f d mark = elim (which_of f) [
+    | inl has ↦ elim (cases_eq d (counter_of has.x.pin.core)) [
+      | inl same ↦
+          let at : CountAt f d ≡ count_of has.x =
+          ap (λ (g : ℕ). CountAt g d) has.frame ∙ ap (λ (b : ℕ). CountAt has.x.pin.frame b) same in
+          subst (λ v. WordIs s' (times_of setup (e ∷ t)) v ((holds_counts (Some drawn) a.counts).stands v)) (sym at)
+          (subst (λ (n : ℕ). SaysCount (count_room s') (count_of_word n)) (sym (has.one.made drawn)) (commits_one f has room))
+      | inr other ↦ absurd (false≢true (sym (ap (λ (g : ℕ). (holds_counts None a.counts).marks (CountAt g d)) has.frame
+          ∙ has.one.bare d other) ∙ mark))
     ]
-    by_counts (x ∷ y ∷ xs) is f = absurd (two_named z fs (due_of x) (due_of y) (map due_of xs) few (all ∙ ap (map due_of) is))
-
-    pub counts_sum : (f : ℕ) → SumIs setup (held_by (put cores c after)) (e ∷ t) f
-    counts_sum = by_counts a.counts refl
-
-  commits_by : (xs : List Acquired) → a.counts ≡ xs → count_room s + 4 ≤ count_room s' → (w : Word)
-      → (holds_counts None xs).marks w ≡ true
-      → WordIs s' (times_of setup (e ∷ t)) w ((holds_counts (Some drawn) xs).stands w)
-  commits_by [] is room w mark = absurd (false≢true mark)
-  commits_by (x ∷ []) is room w mark = elim (cases_word w (count_of x)) [
-    | inl same ↦ subst (λ v. WordIs s' (times_of setup (e ∷ t)) v ((holds_counts (Some drawn) (x ∷ [])).stands v)) (sym same)
-        (subst (λ (n : ℕ). SaysCount (count_room s') (count_of_word n)) (sym (first_stands (Some drawn) x [])) (commits_one x is room))
-    | inr other ↦ absurd (false≢true (sym (ap (λ b. if b then true else false) (same_word-other w (count_of x) other)) ∙ mark))
+    | inr none ↦ absurd (false≢true (sym (none.bare d) ∙ mark))
   ]
-  commits_by (x ∷ y ∷ xs) is room w mark = absurd (two_named z fs (due_of x) (due_of y) (map due_of xs) few (all ∙ ap (map due_of) is))
 
   -- each count that the call holds says then what its commit will store
-  pub counts_commit : count_room s + 4 ≤ count_room s' → (w : Word) → (holds_counts None a.counts).marks w ≡ true
+  pub dues_commit : count_room s + 4 ≤ count_room s' → (w : Word) → (holds_counts None a.counts).marks w ≡ true
       → WordIs s' (times_of setup (e ∷ t)) w ((holds_counts (Some drawn) a.counts).stands w)
-  counts_commit room = commits_by a.counts refl room
+  dues_commit room w mark =
+      let is = count_word a.counts w mark in
+      subst (λ v. WordIs s' (times_of setup (e ∷ t)) v ((holds_counts (Some drawn) a.counts).stands v)) (sym is.2)
+      (commits_count room is.0 is.1 (subst (λ v. (holds_counts None a.counts).marks v ≡ true) is.2 mark))

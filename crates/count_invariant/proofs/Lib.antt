@@ -1,3 +1,5 @@
 pub mod Acquiring
 pub mod CountChanges
+pub mod CapChanges
 pub mod MakingCounts
+pub mod KillingCounts

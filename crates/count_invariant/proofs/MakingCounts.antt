@@ -1,10 +1,19 @@
 -- The counts and the frame of a call that makes an object, and what it has still to store where it is refused.
-use Rattle.std.specs.Prelude.{List, ℤ, pos}
-use Rattle.std.proofs.Common.{◌≡◌, Bool, true, false, Some, refl, ℕ, ◌<◌, ◌^◌, ◌==◌, sym, [], ◌∷◌, ◌++◌, ap, subst, IsTrue, ◌||◌, map}
+use Rattle.std.specs.Prelude.{List, ℤ, pos, if◌then◌else◌}
+use Rattle.std.proofs.Common.{◌≡◌, Bool, true, false, Option, Some, None, ◌∙◌, refl, ℕ, ◌<◌, ◌^◌, ◌==◌, sym, [], ◌∷◌, ◌++◌, ap, subst, IsTrue, ◌||◌, map}
 use Rattle.std.proofs.lemmas.Bool.{eqb-true, eq-eqb, false≢true}
 use Rattle.spk_nums.specs.Capability.{Capability}
 use Rattle.spk_nums.specs.Setting.{Setting}
 use Rattle.spk_nums.specs.declared.calls.Call.{Call}
+use Rattle.spk_nums.specs.declared.calls.Make.{Make}
+use Rattle.spk_nums.specs.declared.calls.Make.TheVariants as make
+use Rattle.spk_nums.specs.declared.kinds.Kind.{Kind}
+use Rattle.spk_nums.specs.declared.kinds.Kind.TheVariants as kind
+use Rattle.kernel_rules.specs.Access.{only, own, reached, usable}
+use Rattle.kernel_rules.specs.Rules.{Found, Refused, named, and_then, or_refuse, of_kind}
+use Rattle.kernel_rules.proofs.Facts.{then_parts, found_inj, refused_found}
+use Rattle.kernel_rules.proofs.Sound.{only_is}
+use Rattle.spk_nums.specs.declared.replies.Reply.TheVariants as reply
 use Rattle.spk_nums.specs.declared.calls.Call.TheVariants.{Make as make_call}
 use Rattle.frame_words.proofs.FrameLemmas as frames
 use Rattle.frame_words.specs.Frame.{frame_of_word}
@@ -16,14 +25,19 @@ use Rattle.kernel_history.specs.Footprint.{frames_near, is_one_of, frames_named,
 use Rattle.kernel_history.specs.Marks.{frame_mark}
 use Rattle.kernel_history.specs.Trace.{Trace}
 use Rattle.kernel_history.specs.Ways.{target_of}
-use Rattle.plan_ways.proofs.Near.{one_right, near_about}
+use Rattle.plan_ways.proofs.Near.{one_right, near_about, near_found}
+use Rattle.call_plans.specs.declared.plans.Nth.TheVariants.{Third}
+use Rattle.call_plans.specs.Plans.{at_place}
+use Rattle.call_plans.specs.PlanOf.{plan_for, of_kind as of_kind_name}
+use Rattle.call_plans.specs.After.{Leads, LeadsIn}
 use Rattle.call_acts.specs.Acts.{made_dues}
-use Rattle.call_acts.specs.Makings.{undo_at, node_cap, node_kind}
+use Rattle.call_acts.specs.Objects.{object_names, object_dues, object_made, thread_on}
+use Rattle.call_acts.specs.Makings.{undo_at}
 use Rattle.call_acts.specs.declared.makings.Making.{Making}
 use Rattle.call_acts.specs.declared.makings.MakingAt.{MakingAt}
 use Rattle.call_acts.specs.declared.makings.MakingAt.TheVariants.{Mark, Store, Load as making_load, Fill as making_fill}
-use Rattle.call_acts.specs.declared.makings.Node.{Node}
-use Rattle.call_acts.specs.declared.makings.Node.TheVariants.{Table, Pages, Leaf, Pleaf}
+use Rattle.call_acts.specs.declared.objects.NewObject.{NewObject}
+use Rattle.call_acts.specs.declared.objects.NewObject.TheVariants.{Table, Leaf, Pages, Pleaf, Thread, Tcap}
 use Rattle.call_acts.specs.declared.work.Due.{Due}
 use Rattle.core_invariant.specs.Knows.{KnowsTail, MakesBy, KnowsMakingAt, KnowsUnmark, blank_word}
 
@@ -76,29 +90,100 @@ pub no_due : (xs : List Due) (d : Due) (rest : List Due) → [] ≡ xs ++ d ∷ 
 no_due [] d rest h = cc
 no_due (x ∷ xs) d rest h = cc
 
-named_one : (f g : ℕ) → ((f == g) || false) ≡ true → g ≡ f
-named_one f g is = by (f == g) refl is
+-- The frames of the counts that a making has due are its own, and those that the object names.
+due_here : (object : NewObject) (f : ℕ) (xs : List Due) (d : Due) (rest : List Due) → object_dues object f ≡ xs ++ d ∷ rest
+    → is_one_of d.frame (f ∷ object_names object) ≡ true
+due_here object f xs d rest is = due_named (f ∷ object_names object) (pos 1) xs d rest is
+
+pub made_due : (object : NewObject) (f : ℕ) (at : MakingAt) (xs : List Due) (d : Due) (rest : List Due)
+    → made_dues object f at ≡ xs ++ d ∷ rest → is_one_of d.frame (f ∷ object_names object) ≡ true
+made_due object f making_load xs d rest is = absurd (no_due xs d rest is)
+made_due object f (Mark word) xs d rest is = absurd (no_due xs d rest is)
+made_due object f (Store word entry) xs d rest is = due_here object f xs d rest is
+made_due object f (making_fill word) xs d rest is = due_here object f xs d rest is
+
+-- A name leads to a capability of a wanted kind.
+named_kind : (s : State) (c n : ℕ) (wanted : Kind → Bool) (k : Capability) → named s c n wanted ≡ Found k → wanted k.kind ≡ true
+named_kind s c n wanted k e =
+    let a = then_parts (or_refuse (reached s c (own s c n)) reply.NoSlot)
+    (λ at. and_then (or_refuse (usable s c at) reply.Empty) λ k. of_kind wanted k) k e in
+    let b = then_parts (or_refuse (usable s c a.0) reply.Empty) (λ k. of_kind wanted k) k a.2 in
+    of_wanted b.0 (wanted b.0.kind) refl b.2
   where
-    by : (b : Bool) → (f == g) ≡ b → (b || false) ≡ true → g ≡ f
-    by true same h = sym (eqb-true f g same)
-    by false same h = absurd (false≢true h)
+    of_wanted : (j : Capability) (b : Bool) → wanted j.kind ≡ b → (if b then Found j else Refused reply.WrongCap) ≡ Found k
+        → wanted k.kind ≡ true
+    of_wanted j true is q = ap (λ (x : Capability). wanted x.kind) (sym (found_inj j k q)) ∙ is
+    of_wanted j false is q = absurd (refused_found reply.WrongCap k q)
 
-node_named : (node : Node) (f g : ℕ) → is_one_of g (named_by (node_kind node) f) ≡ true → g ≡ f
-node_named Table f g is = named_one f g is
-node_named Leaf f g is = named_one f g is
-node_named Pages f g is = named_one f g is
-node_named Pleaf f g is = named_one f g is
+same_object : (x y : NewObject) → Some x ≡ Some y → x ≡ y
+same_object x y h = cc
 
-pub made_due : (node : Node) (f : ℕ) (k : Capability) → k ≡ node_cap node f → (at : MakingAt) (xs : List Due) (d : Due) (rest : List Due)
-    → made_dues k at ≡ xs ++ d ∷ rest → d.frame ≡ f
-made_due node f k cap making_load xs d rest is = absurd (no_due xs d rest is)
-made_due node f k cap (Mark word) xs d rest is = absurd (no_due xs d rest is)
-made_due node f k cap (Store word entry) xs d rest is =
-    node_named node f d.frame (subst (λ (j : Capability). is_one_of d.frame (named_by j.kind j.frame) ≡ true) cap
-    (due_named (named_by k.kind k.frame) (pos 1) xs d rest is))
-made_due node f k cap (making_fill word) xs d rest is =
-    node_named node f d.frame (subst (λ (j : Capability). is_one_of d.frame (named_by j.kind j.frame) ≡ true) cap
-    (due_named (named_by k.kind k.frame) (pos 1) xs d rest is))
+same_cap : (x y : Capability) → Some x ≡ Some y → x ≡ y
+same_cap x y h = cc
+
+-- The frames of an object's counts are near the call: its own is its argument, and a name has led to a thread's component.
+none_named : (object : NewObject) (g : ℕ) (R : Type 0) → object_names object ≡ [] → is_one_of g (object_names object) ≡ true → R
+none_named object g R none names_it = absurd (false≢true (sym (ap (is_one_of g) none) ∙ names_it))
+
+comp_named : (s : State) (c r u n : ℕ) (qs : List Capability) (k : Capability) → at_place qs Third ≡ Some k
+    → Leads (LeadsIn s c) (of_kind_name kind.Range r ∷ of_kind_name kind.Table u ∷ of_kind_name kind.Comp n ∷ []) [] qs
+    → named_by k.kind k.frame ≡ k.frame ∷ []
+comp_named s c r u n [] k at lead = absurd (cc)
+comp_named s c r u n (x ∷ []) k at lead = absurd (cc)
+comp_named s c r u n (x ∷ y ∷ []) k at lead = absurd (cc)
+comp_named s c r u n (x ∷ y ∷ z ∷ zs) k at lead =
+    ap (λ (j : Kind). named_by j k.frame) (only_is kind.Comp k.kind
+    (ap (λ (q : Capability). only kind.Comp q.kind) (sym (same_cap z k at)) ∙ named_kind s c n (only kind.Comp) z lead.1.1.0))
+
+third_near : (s : State) (c r f u b n g : ℕ) (qs : List Capability) (o : Option Capability) → at_place qs Third ≡ o → (object : NewObject)
+    → thread_on o ≡ Some object → Leads (LeadsIn s c) (plan_for (make_call (make.Thread n) r f u b)).names [] qs
+    → is_one_of g (object_names object) ≡ true → is_one_of g (frames_near s c (make_call (make.Thread n) r f u b)) ≡ true
+third_near s c r f u b n g qs None at object made lead names_it = absurd (cc)
+third_near s c r f u b n g qs (Some k) at object made lead names_it =
+    near_found s c (make_call (make.Thread n) r f u b) qs lead Third k at g
+    (ap (is_one_of g) (comp_named s c r u n qs k at lead) ∙ ap (λ (x : NewObject). is_one_of g (object_names x))
+    (same_object (Thread k.frame) object made) ∙ names_it)
+
+by_make : (s : State) (c r f u b g : ℕ) (what : Make) (qs : List Capability) (object : NewObject) → object_made what qs ≡ Some object
+    → Leads (LeadsIn s c) (plan_for (make_call what r f u b)).names [] qs
+    → is_one_of g (object_names object) ≡ true → is_one_of g (frames_near s c (make_call what r f u b)) ≡ true
+by_make s c r f u b g make.Table qs object made lead names_it =
+    none_named object g (is_one_of g (frames_near s c (make_call make.Table r f u b)) ≡ true)
+    (ap object_names (sym (same_object Table object made))) names_it
+by_make s c r f u b g make.Leaf qs object made lead names_it =
+    none_named object g (is_one_of g (frames_near s c (make_call make.Leaf r f u b)) ≡ true)
+    (ap object_names (sym (same_object Leaf object made))) names_it
+by_make s c r f u b g make.Pages qs object made lead names_it =
+    none_named object g (is_one_of g (frames_near s c (make_call make.Pages r f u b)) ≡ true)
+    (ap object_names (sym (same_object Pages object made))) names_it
+by_make s c r f u b g make.Pleaf qs object made lead names_it =
+    none_named object g (is_one_of g (frames_near s c (make_call make.Pleaf r f u b)) ≡ true)
+    (ap object_names (sym (same_object Pleaf object made))) names_it
+by_make s c r f u b g (make.Thread n) qs object made lead names_it =
+    third_near s c r f u b n g qs (at_place qs Third) refl object made lead names_it
+by_make s c r f u b g (make.Tcap sched quality) qs object made lead names_it =
+    none_named object g (is_one_of g (frames_near s c (make_call (make.Tcap sched quality) r f u b)) ≡ true)
+    (ap object_names (sym (same_object (Tcap sched quality) object made))) names_it
+by_make s c r f u b g (make.Comp table pages live) qs object made lead names_it = absurd (cc)
+
+named_near : (s : State) (c : ℕ) (call : Call) (ks : List Capability) (m : Making) → MakesBy call ks m
+    → Leads (LeadsIn s c) (plan_for call).names [] ks → (g : ℕ) → is_one_of g (object_names m.object) ≡ true
+    → is_one_of g (frames_near s c call) ≡ true
+named_near s c (make_call what r f u b) (range ∷ ks) m is lead g names_it =
+    by_make s c r f u b g what (range ∷ ks) m.object is.object lead names_it
+named_near s c (make_call what r f u b) [] m is lead g names_it = absurd is
+named_near s c call ks m is lead g names_it = absurd is
+
+pub due_near : (s : State) (c : ℕ) (call : Call) (ks : List Capability) (m : Making) → MakesBy call ks m
+    → Leads (LeadsIn s c) (plan_for call).names [] ks → (xs : List Due) (d : Due) (rest : List Due)
+    → made_dues m.object m.frame m.at ≡ xs ++ d ∷ rest → is_one_of d.frame (frames_near s c call) ≡ true
+due_near s c call ks m is lead xs d rest due = by (m.frame == d.frame) refl (made_due m.object m.frame m.at xs d rest due)
+  where
+    by : (b : Bool) → (m.frame == d.frame) ≡ b → (b || is_one_of d.frame (object_names m.object)) ≡ true
+        → is_one_of d.frame (frames_near s c call) ≡ true
+    by true same one = subst (λ (g : ℕ). is_one_of g (frames_near s c call) ≡ true) (eqb-true m.frame d.frame same)
+        (made_near s c call ks m is)
+    by false other one = named_near s c call ks m is lead d.frame one
 
 -- What a refused making has to store is the word of its frame, as it was found.
 pub blank_left : (f word : ℕ) (call : Call) → changes_frames call ≡ true → is_one_of f (frame_argument call) ≡ true
@@ -112,9 +197,10 @@ blank_left f word call changes argument says = record {
       subst (λ (n : ℕ). n < 2 ^ 64) spells.1 (frames.spelling.small blank_word spells.0);
 }
 
-pub made_left : (setup : Setting) (t u : Trace) (c f : ℕ) (at : MakingAt) (call : Call) → changes_frames call ≡ true
-    → is_one_of f (frame_argument call) ≡ true → KnowsMakingAt setup t c f at → KnowsTail setup u c call (undo_at f at)
-made_left setup t u c f making_load call changes argument knows = tt
-made_left setup t u c f (Mark word) call changes argument knows = tt
-made_left setup t u c f (Store word entry) call changes argument knows = blank_left f word call changes argument knows.says
-made_left setup t u c f (making_fill word) call changes argument knows = blank_left f word call changes argument knows.says
+pub made_left : (setup : Setting) (t u : Trace) (c f : ℕ) (object : NewObject) (at : MakingAt) (call : Call)
+    → changes_frames call ≡ true → is_one_of f (frame_argument call) ≡ true → KnowsMakingAt setup t c f object at
+    → KnowsTail setup u c call (undo_at f at)
+made_left setup t u c f object making_load call changes argument knows = tt
+made_left setup t u c f object (Mark word) call changes argument knows = tt
+made_left setup t u c f object (Store word entry) call changes argument knows = blank_left f word call changes argument knows.says
+made_left setup t u c f object (making_fill word) call changes argument knows = blank_left f word call changes argument knows.says

@@ -2,9 +2,10 @@
 use Rattle.std.proofs.Common.{◌≡◌, ℕ, Option, Some, None, IsSome, refl}
 use Rattle.spk_nums.specs.declared.replies.Reply.{Reply}
 use Rattle.call_steps.specs.declared.stages.ActiveCall.{ActiveCall}
-use Rattle.call_steps.specs.Steps.{Took, GoesOn, Decides, Returns, took}
+use Rattle.call_steps.specs.Steps.{Took, GoesOn, Decides, Returns, Changes, took}
 use Rattle.call_steps.specs.View.{Core}
 use Rattle.call_acts.specs.declared.own.Own.{Own}
+use Rattle.call_acts.specs.declared.own.OwnChange.TheVariants.{Ticks}
 use Rattle.call_steps.specs.Cores.{core_after, absorbed_in, absorbed, told_by, told_in, told_of_step}
 use Rattle.core_invariant.specs.Events.{returned_in}
 
@@ -12,6 +13,7 @@ after_shape : (own : Own) (k : Took) → (core_after own k).own.layout ≡ own.l
 after_shape own (GoesOn a) = refl
 after_shape own (Decides r a) = refl
 after_shape own (Returns r x) = refl
+after_shape own (Changes r (Ticks charged owed) a) = refl
 
 absorbed_in_shape : (own : Own) (o : Option ActiveCall) (found : ℕ) → (absorbed_in own o found).own.layout ≡ own.layout
 absorbed_in_shape own None found = refl
@@ -26,6 +28,7 @@ after_returns : (own : Own) (k : Took) → (core_after own k).active ≡ None �
 after_returns own (GoesOn a) none = absurd (cc)
 after_returns own (Decides r a) none = absurd (cc)
 after_returns own (Returns r x) none = (r, refl)
+after_returns own (Changes r change a) none = absurd (cc)
 
 absorbed_in_returns : (own : Own) (o : Option ActiveCall) (found : ℕ) → IsSome o → (absorbed_in own o found).active ≡ None
     → (r : Reply) × (returned_in (told_in own o found) ≡ Some r)

@@ -7,13 +7,17 @@ use Rattle.spk_nums.specs.declared.calls.Call.{Call}
 use Rattle.supported_calls.specs.Built.{IsBuilt}
 use Rattle.kernel_rules.specs.Laws.{calls_counted}
 use Rattle.call_acts.specs.declared.own.Own.{Own}
+use Rattle.call_acts.specs.declared.own.OwnChange.{OwnChange}
+use Rattle.call_acts.specs.declared.own.OwnChange.TheVariants.{Ticks}
+use Rattle.spk_nums.specs.declared.replies.Reply.{Reply}
 use Rattle.call_steps.specs.declared.stages.ActiveCall.{ActiveCall}
 use Rattle.call_steps.specs.View.{Core}
-use Rattle.call_steps.specs.Steps.{Took, GoesOn, Decides, Returns, took, told, call_after}
+use Rattle.call_steps.specs.Steps.{Took, GoesOn, Decides, Returns, Changes, took, told, call_after}
 use Rattle.call_steps.specs.Cores.{started, fresh, begun, core_after, absorbed_in, absorbed}
 use Rattle.call_steps.specs.Fits.{IsOwn, IsCore, left_of, left_for, steps_left}
 use Rattle.call_steps.proofs.LandsFit.{TookFits}
-use Rattle.call_steps.proofs.Fitting.{took_fits, goes_on, decides_on}
+use Rattle.call_steps.proofs.Fitting.{took_fits}
+use Rattle.call_steps.proofs.CoreFitting.{goes_on, decides_on, changes_on}
 use Rattle.call_steps.proofs.Begun as begun
 
 pub started_fits : (c : ℕ) (setting : Setting) → IsSetting setting → c < setting.cores → IsCore (started c setting)
@@ -57,6 +61,11 @@ left_fits own x h = record {
   made = h.made;
 }
 
+further_changed : (own : Own) (a : ActiveCall) (r : Reply) (change : OwnChange) (new : ActiveCall)
+    → IsCore (core_after own (Changes r change new)) → left_of own.layout.cores new < left_of own.layout.cores a
+    → GoesFurther own a (core_after own (Changes r change new))
+further_changed own a r (Ticks charged owed) new fits fewer = record { fits = fits; fewer = fewer }
+
 further : (own : Own) (a : ActiveCall) (found : ℕ) (k : Took) → took own a found ≡ k → IsCore (record { own = own; active = Some a })
     → GoesFurther own a (core_after own k)
 further own a found (GoesOn new) is h =
@@ -69,6 +78,9 @@ further own a found (Returns r stamp) is h =
     let some : 0 < left_of own.layout.cores a = subst (TookFits own (left_of own.layout.cores a) a) is
     (took_fits own a found h.own h.active) in
     record { fits = record { own = left_fits own stamp h.own; active = tt }; fewer = some }
+further own a found (Changes r change new) is h =
+    let on = changes_on own (Some a) a new r change (calls_counted r) found h refl (sym (ap told is)) (sym (ap (call_after a) is)) refl in
+    further_changed own a r change new on.0 on.1
 
 pub after_fits : (own : Own) (a : ActiveCall) (found : ℕ) → IsCore (record { own = own; active = Some a })
     → IsCore (core_after own (took own a found))

@@ -5,7 +5,7 @@ use Rattle.spk_nums.specs.Setting.{Setting, IsSetting}
 use Rattle.spk_nums.specs.declared.kinds.Kind.{Kind}
 use Rattle.spk_nums.specs.declared.calls.Call.{Call}
 use Rattle.spk_nums.specs.declared.kinds.FrameKind.TheVariants.{Untyped, User, Kernel}
-use Rattle.spk_nums.specs.declared.calls.Call.TheVariants.{Look as look_call, Copy, Remove, Shrink, Unmap, Retype, Make as make_call}
+use Rattle.spk_nums.specs.declared.calls.Call.TheVariants.{Look as look_call, Copy, Remove, Shrink, Unmap, Retype, Make as make_call, Tick, Kill}
 use Rattle.spk_nums.specs.declared.calls.Make.TheVariants as make
 use Rattle.spk_nums.specs.declared.replies.Reply.TheVariants as reply
 use Rattle.supported_calls.specs.Built.{IsBuilt}
@@ -32,7 +32,11 @@ use Rattle.call_plans.specs.After.{NextName, next_of, NextMay}
 use Rattle.call_plans.proofs.CallsGoBy.{calls_go}
 use Rattle.call_plans.proofs.AfterNames.{next_may}
 use Rattle.call_acts.specs.declared.refusals.Refusal.TheVariants as refusal
-use Rattle.call_acts.specs.declared.work.Work.TheVariants.{Lookup}
+use Rattle.call_acts.specs.declared.work.Work.TheVariants.{Lookup, Act}
+use Rattle.call_acts.specs.declared.work.Act.{Act as ActOf}
+use Rattle.call_acts.specs.declared.work.Act.TheVariants.{Tick as tick_act}
+use Rattle.stage_tcap.specs.declared.charge.Charge.TheVariants.{AtLoad}
+use Rattle.call_acts.specs.Ticks.{ticks_due, charges}
 use Rattle.call_acts.specs.declared.work.WorkStep.TheVariants.{Goes}
 use Rattle.call_acts.specs.declared.work.Tail.TheVariants.{Nothing}
 use Rattle.call_steps.specs.declared.stages.Stage.TheVariants.{Undecided, Decided}
@@ -42,7 +46,7 @@ use Rattle.call_acts.specs.Lookups.{looks_under, next_step}
 use Rattle.call_steps.specs.Steps.{core_word, Took, landed, next_by, took_enter, is_spent}
 use Rattle.call_steps.specs.Cores.{fresh, core_after, told_by}
 use Rattle.core_invariant.specs.Events.{decided_in, returned_in}
-use Rattle.core_invariant.specs.Knows.{LooksUp, own_in, LooksFor, CallIs}
+use Rattle.core_invariant.specs.Knows.{LooksUp, own_in, LooksFor, CallIs, ChargesBy}
 use Rattle.core_invariant.specs.Stands.{Stands}
 use Rattle.core_invariant.proofs.Sounds.{limits_of}
 use Rattle.core_invariant.proofs.Good.{IsGood}
@@ -184,6 +188,37 @@ module _ (setup : Setting) (setting : IsSetting setup) (cores : ℕ → Core) (t
         subst (λ x. GoodEntry (landed (fresh call) (next_step (cores c).own call [] x))) (sym next)
         (enters_within unspent (nat_le n 4095) refl)
 
+  -- a tick charges its ticks, and those that the core owes
+  enters_tick : (n : ℕ) → call ≡ Tick n → is_spent (cores c).own ≡ false
+      → GoodEntry (landed (fresh call) (charges (cores c).own n))
+  enters_tick n is unspent lands =
+      let act : ActOf = tick_act (AtLoad (cores c).own.tcap (ticks_due (cores c).own.owed n)) in
+      let works = (stands.each c here).works in
+      enters_on setup setting cores t stands c here (cores c).own.made call None (Undecided (Act act))
+      may.between may.limits lands refl refl
+      (calm_entered s c)
+      (record { begins = λ x. refl; ends = λ x. refl; flushes = refl; apart = λ d. refl; same = refl })
+      (let made = works.made in let same = same_count in omega arith)
+      (λ g i. refl)
+      tt
+      tt
+      (record {
+        names = tt;
+        knows = record {
+          knows = record {
+            charges = subst (λ x. ChargesBy (entered s c) c x (AtLoad (cores c).own.tcap (ticks_due (cores c).own.owed n))) (sym is)
+                (record {
+                  tcap = works.tcap ∙ ap (λ k. k.tcap) (sym (put_same s.core c (record (s.core c) { inside = true }) c refl));
+                  ticks = ap (λ (m : ℕ). ticks_due m n)
+                      (works.owed ∙ ap (λ k. k.owed) (sym (put_same s.core c (record (s.core c) { inside = true }) c refl)));
+                });
+            at = tt;
+          };
+          all = refl;
+          goes = refl;
+        };
+      })
+
 -- a call enters
 module _ (setup : Setting) (setting : IsSetting setup) (cores : ℕ → Core) (t : Trace) (stands : Stands setup cores t) (c : ℕ)
     (here : c < setup.cores) where
@@ -207,6 +242,12 @@ module _ (setup : Setting) (setting : IsSetting setup) (cores : ℕ → Core) (t
       enters_name setup setting cores t stands c here (make_call make.Pages r f u b) may r _ refl unspent
   enters_first (make_call make.Pleaf r f u b) may built unspent =
       enters_name setup setting cores t stands c here (make_call make.Pleaf r f u b) may r _ refl unspent
+  enters_first (make_call (make.Thread comp) r f u b) may built unspent =
+      enters_name setup setting cores t stands c here (make_call (make.Thread comp) r f u b) may r _ refl unspent
+  enters_first (make_call (make.Tcap sched quality) r f u b) may built unspent =
+      enters_name setup setting cores t stands c here (make_call (make.Tcap sched quality) r f u b) may r _ refl unspent
+  enters_first (Tick n) may built unspent = enters_tick setup setting cores t stands c here (Tick n) may n refl unspent
+  enters_first (Kill n) may built unspent = enters_name setup setting cores t stands c here (Kill n) may n _ refl unspent
   enters_first _ may built unspent = absurd built
 
   pub enter_good : (call : Call) (may : MayBegin call (cores c))

@@ -6,7 +6,9 @@ pub mod Advance
 pub mod Final
 pub mod Made
 pub mod Places
+pub mod Lives
 pub mod Phases
 pub mod ByPlace
 pub mod AfterStep
 pub mod Alike
+pub mod Time

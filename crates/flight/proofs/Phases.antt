@@ -25,7 +25,7 @@ use Rattle.flight.specs.Phases.{IsInPhase, MadePhases, MadeOfItsCores, AreEvents
 use Rattle.call_steps.specs.declared.stages.ActiveCall.{ActiveCall}
 use Rattle.call_steps.specs.declared.stages.Stage.{Stage}
 use Rattle.call_steps.specs.declared.stages.Stage.TheVariants.{Enter, Undecided, Decided, Leave}
-use Rattle.call_steps.specs.Steps.{Took, GoesOn, Decides, Returns, took, ready_at}
+use Rattle.call_steps.specs.Steps.{Took, GoesOn, Decides, Returns, Changes, took, ready_at}
 
 -- A core in a call that is or is not decided, as its phase.
 pub record IsInCall (f : ActiveCall) (p : Phase) : Type 0 where
@@ -55,6 +55,7 @@ turns_by : (s : Stage) (k : Took) → laws.Turns (reply_at s) k → Turns (is_de
 turns_by s (GoesOn a) h = decided_by a.stage ∙ ap is_some h ∙ sym (decided_by s)
 turns_by s (Decides r a) h = (decided_by s ∙ ap is_some h.0, decided_by a.stage ∙ ap is_some h.1)
 turns_by s (Returns r x) h = decided_by s ∙ ap is_some h
+turns_by s (Changes r change a) h = (decided_by s ∙ ap is_some h.0, decided_by a.stage ∙ ap is_some h.1)
 
 pub took_turns : (own : Own) (a : ActiveCall) (found : ℕ) → Turns (is_decided_at a.stage) (took own a found)
 took_turns own a found = turns_by a.stage (took own a found) (decides_once own a found)
@@ -82,6 +83,14 @@ took_phase own f p (Returns r x) turns is = record {
   decided = λ h. absurd (cc);
   was_decided = λ h. absurd h;
 }
+took_phase own f p (Changes r change s) turns is =
+    let now = decides_open p r is.inside (λ h. false≢true (sym turns.0 ∙ is.was_decided h)) in
+    record {
+      out = λ none. absurd (cc);
+      in_call = λ some. is_decided_inside (after_decide (Some r) p) now;
+      decided = λ h. now;
+      was_decided = λ h. turns.1;
+    }
 
 in_flight : (own : Own) (o : Option ActiveCall) (p : Phase) (found : ℕ) → IsSome o → ((f : ActiveCall) → o ≡ Some f → IsInCall f p)
     → IsInPhase (absorbed_in own o found) (after_return (returned_in (told_in own o found))
@@ -167,6 +176,12 @@ took_events own f (Returns r x) turns = record {
   decides_none = λ some h. refl;
   returns_now = λ none. refl;
   returns_none = λ some. absurd (some refl);
+}
+took_events own f (Changes r change s) turns = record {
+  decides_now = λ before after. refl;
+  decides_none = λ some h. absurd (false≢true (sym h ∙ turns.1));
+  returns_now = λ none. absurd (cc);
+  returns_none = λ some. refl;
 }
 
 events_in : (own : Own) (o : Option ActiveCall) (found : ℕ) → IsSome o

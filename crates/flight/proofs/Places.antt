@@ -1,6 +1,6 @@
 -- What an undecided call has found held stays usable; and whom a scan has passed is waited for no longer.
-use Rattle.std.proofs.Common.{◌≡◌, ◌⊎◌, inl, inr, ℕ, ◌<◌, ◌/◌, ◌&&◌, Bool, true, false, cond, [], ◌∷◌, ◌++◌, Option, Some, None, refl, sym, ◌∙◌, ap, subst}
-use Rattle.std.specs.Prelude.{is_some}
+use Rattle.std.proofs.Common.{◌≡◌, ◌⊎◌, inl, inr, ℕ, ◌<◌, ◌/◌, ◌&&◌, Bool, true, false, IsTrue, cond, [], ◌∷◌, ◌++◌, Option, Some, None, refl, sym, ◌∙◌, ap, subst}
+use Rattle.std.specs.Prelude.{is_some, IsTrue}
 use Rattle.std.proofs.lemmas.Bool.{cases_eq, eqb-true, false≢true}
 use Rattle.spk_nums.specs.Capability.{Capability}
 use Rattle.spk_nums.specs.Setting.{Setting, IsSetting}
@@ -13,16 +13,23 @@ use Rattle.frame_words.specs.declared.core_word.CoreWord.{CoreWord}
 use Rattle.word_map.specs.Word.{Word, EntryAt, CoreAt}
 use Rattle.word_map.specs.Moves.{word_of, left_of}
 use Rattle.word_map.specs.Places.{IsIn}
-use Rattle.kernel_rules.specs.State.{Thing, PlaceOf}
+use Rattle.kernel_rules.specs.State.{Thing, PlaceOf, Frame, Kernel, Tcap, Comp}
+use Rattle.spk_nums.specs.declared.kinds.Kind.TheVariants.{Comp as comp_kind}
+use Rattle.kernel_rules.specs.Fitting.{fits}
 use Rattle.kernel_rules.specs.Access.{Target, Under, InRoot, usable_in}
-use Rattle.kernel_rules.specs.Relies.{Relies}
+use Rattle.kernel_rules.specs.Relies.{is_node, Relies, is_fixed}
+use Rattle.spk_nums.specs.declared.kinds.Kind.TheVariants as kind
+use Rattle.spk_nums.specs.declared.calls.Call.TheVariants.{Tick}
+use Rattle.stage_tcap.specs.Charging.{charge_move}
+use Rattle.stage_tcap.specs.declared.charge.Charge.{Charge}
+use Rattle.stage_tcap.specs.declared.charge.Charge.TheVariants.{AtLoad as charge_load, AtCompare as charge_compare}
 use Rattle.kernel_rules.proofs.Facts.{some_inj, none_some}
 use Rattle.kernel_history.specs.Trace.{Step, Trace, Phase, Out, Open, Decided as decided_phase, phase, after_enter, after_decide, after_return, state_after, last_left, own_read, reads, only_reads}
 use Rattle.kernel_history.specs.Graces.{KeepsTime}
 use Rattle.kernel_history.specs.Legal.{IsLegal, MayFollow}
 use Rattle.kernel_history.specs.Stamps.{stamp, clock, exit_of}
 use Rattle.kernel_history.proofs.Names.{cases_word}
-use Rattle.kernel_history.proofs.Stays.{Stays, stays_other, stays_plain, relies_reached}
+use Rattle.kernel_history.proofs.Stays.{Stays, stays_other, stays_plain, relies_reached, sound_of, opened_is}
 use Rattle.kernel_history.proofs.Steps.{phase-own, phase-other, own_read-here, own_read-there, own_read-other, last_left-here}
 use Rattle.kernel_history.proofs.Waiting.{Passed, out_passed, later_passed, still_past, passed_on}
 use Rattle.stage_look.specs.Lookup.{look_move}
@@ -35,14 +42,18 @@ use Rattle.stage_quiet.specs.declared.quiet.Quiet.TheVariants.{AtCore, AtFlush}
 use Rattle.stage_quiet.specs.Removal.{close_move}
 use Rattle.call_plans.specs.After.{Next, NextName, NextFree, NextHeld, NextOwn, NextNothing, next_of}
 use Rattle.call_acts.specs.declared.own.Own.{Own}
-use Rattle.call_acts.specs.declared.work.Act.TheVariants.{Fill, Remove, Retype, Make, Outside}
+use Rattle.call_acts.specs.declared.work.Act.TheVariants.{Fill, Remove, Retype, Make, Outside, Tick as tick_act, Kill}
 use Rattle.call_acts.specs.declared.typings.Typing.{Typing}
 use Rattle.call_acts.specs.declared.typings.TypingAt.{TypingAt}
 use Rattle.call_acts.specs.declared.typings.TypingAt.TheVariants.{Load, Compare as type_compare}
 use Rattle.call_acts.specs.Typings.{typing_at}
+use Rattle.call_acts.specs.declared.kills.KillingAt.{KillingAt}
+use Rattle.call_acts.specs.declared.kills.KillingAt.TheVariants.{LoadComp, LoadLive, Close as kill_close, Draw as kill_draw}
+use Rattle.call_acts.specs.Kills.{killing_at}
 use Rattle.call_acts.specs.declared.fills.Fill.{Fill as FillOf}
 use Rattle.call_acts.specs.declared.makings.MakingAt.{MakingAt}
 use Rattle.call_acts.specs.declared.makings.MakingAt.TheVariants as making
+use Rattle.call_acts.specs.declared.objects.NewObject.{NewObject}
 use Rattle.call_acts.specs.Makings.{making_at}
 use Rattle.call_acts.specs.declared.work.Work.{Work}
 use Rattle.call_acts.specs.declared.work.Work.TheVariants.{Lookup, Scan, Acquire, Act}
@@ -52,7 +63,7 @@ use Rattle.call_steps.specs.declared.stages.ActiveCall.{ActiveCall}
 use Rattle.call_steps.specs.Steps.{work_move, stage_move}
 use Rattle.call_steps.specs.Cores.{move_in, move_of}
 use Rattle.call_steps.specs.View.{Core}
-use Rattle.core_invariant.specs.Knows.{IsSpot, LooksUp, own_in, LooksFor, KnowsClose, KnowsWork, KnowsAt, CallIs, phase_at}
+use Rattle.core_invariant.specs.Knows.{IsSpot, LooksUp, own_in, LooksFor, KnowsClose, ChargesBy, KnowsWork, KnowsAt, CallIs, phase_at, HasComp}
 use Rattle.core_invariant.specs.Stands.{Stands}
 use Rattle.core_invariant.proofs.Carries.{slot_relies}
 use Rattle.core_invariant.proofs.Places.{IsMarked, IsPlain, place_reads}
@@ -81,14 +92,23 @@ was_open (Some q) None (Open other) call is = absurd (cc)
 was_open (Some q) None (decided_phase other v) call is = absurd (cc)
 was_open d (Some r) p call is = absurd (cc)
 
--- An undecided call relies on the node of the entry on which it steps next, unless it stores there an entry of a node that it makes.
+-- The word is of the temporal capability of core c.
+abbrev pub IsOwnTcap : Setting → Trace → ℕ → ℕ → Type 0
+IsOwnTcap setup t c f = ((state_after setup t).core c).tcap ≡ f
+
+-- The word is of no node: of the temporal capability of core c, or of a component that no other core may retype.
+abbrev pub IsNoEntry : Setting → Trace → ℕ → ℕ → Type 0
+IsNoEntry setup t c f = IsOwnTcap setup t c f ⊎ HasComp (state_after setup t) c f
+
+-- An undecided call relies on the node of the entry on which it steps next, unless it stores there an entry of a node that it makes, or
+-- the word is of no node.
 module _ (setup : Setting) (setting : IsSetting setup) (t : Trace) (cores : ℕ → Core) (stands : Stands setup cores t)
     (c : ℕ) (call : Call) (is_open : phase t c ≡ Open call) (f i : ℕ) where
   abbrev Rests : Type 0
-  Rests = Relies (state_after setup t) c f
+  Rests = Relies (state_after setup t) c f ⊎ IsNoEntry setup t c f
 
   of_frame : (g j : ℕ) → EntryAt g j ≡ EntryAt f i → Relies (state_after setup t) c g → Rests
-  of_frame g j on = subst (Relies (state_after setup t) c) (ap frame_in on)
+  of_frame g j on relies = inl (subst (Relies (state_after setup t) c) (ap frame_in on) relies)
 
   by_look : (target : Target) (look : Look) → LooksUp setup t c target look → word_of (look_move look) ≡ EntryAt f i → Rests
   by_look (Under table n) (AtRoot root number) looks on =
@@ -120,14 +140,26 @@ module _ (setup : Setting) (setting : IsSetting setup) (t : Trace) (cores : ℕ 
   by_typing g y Load on = absurd (cc)
   by_typing g y (type_compare word) on = absurd (cc)
 
-  by_making : (a : ActiveCall) (g core : ℕ) (fill : FillOf) (at : MakingAt)
+  by_making : (a : ActiveCall) (g : ℕ) (object : NewObject) (core : ℕ) (fill : FillOf) (at : MakingAt)
       → IsSpot setup t c a.plan a.found setup.cores fill.node fill.entry fill.word
-      → word_of (making_at g core fill at) ≡ EntryAt f i → reads (making_at g core fill at) ≡ true → Rests
-  by_making a g core fill making.Load spot on read = absurd (cc)
-  by_making a g core fill (making.Mark word) spot on read = absurd (cc)
-  by_making a g core fill (making.Store word entry) spot on read = absurd (false≢true read)
-  by_making a g core fill (making.Fill word) spot on read = of_frame fill.node fill.entry on
+      → word_of (making_at g object core fill at) ≡ EntryAt f i → reads (making_at g object core fill at) ≡ true → Rests
+  by_making a g object core fill making.Load spot on read = absurd (cc)
+  by_making a g object core fill (making.Mark word) spot on read = absurd (cc)
+  by_making a g object core fill (making.Store word entry) spot on read = absurd (false≢true read)
+  by_making a g object core fill (making.Fill word) spot on read = of_frame fill.node fill.entry on
       (slot_relies setup setting t stands.legal c call is_open spot.target (record { node = fill.node; index = fill.entry }) spot.way)
+
+  by_charge : (call : Call) (charge : Charge) → ChargesBy (state_after setup t) c call charge → word_of (charge_move charge) ≡ EntryAt f i
+      → Rests
+  by_charge (Tick n) (charge_load g ticks) has on = inr (inl (sym has.tcap ∙ ap frame_in on))
+  by_charge (Tick n) (charge_compare g ticks budget version) has on = inr (inl (sym has.tcap ∙ ap frame_in on))
+  by_charge call charge has on = absurd has
+
+  by_killing : (g core : ℕ) (at : KillingAt) → HasComp (state_after setup t) c g → word_of (killing_at g core at) ≡ EntryAt f i → Rests
+  by_killing g core LoadComp comp on = inr (inr (subst (HasComp (state_after setup t) c) (ap frame_in on) comp))
+  by_killing g core (LoadLive life) comp on = absurd (cc)
+  by_killing g core (kill_close life word) comp on = absurd (cc)
+  by_killing g core (kill_draw life word) comp on = absurd (cc)
 
   by_work : (table : ℕ) (a : ActiveCall) (work : Work) → KnowsWork setup t c table a work → word_of (work_move work) ≡ EntryAt f i
       → reads (work_move work) ≡ true → Rests
@@ -141,8 +173,10 @@ module _ (setup : Setting) (setting : IsSetting setup) (t : Trace) (cores : ℕ 
       has.knows.way)
   by_work table a (Act (Remove close cap)) has on read = by_close a close cap has.knows on
   by_work table a (Act (Retype typing)) has on read = by_typing typing.frame typing typing.at on
-  by_work table a (Act (Make m)) has on read = by_making a m.frame m.core m.fill m.at has.knows.spot on read
+  by_work table a (Act (Make m)) has on read = by_making a m.frame m.object m.core m.fill m.at has.knows.spot on read
   by_work table a (Act (Outside node entry word)) has on read = absurd (false≢true has.goes)
+  by_work table a (Act (tick_act charge)) has on read = by_charge a.call charge has.knows.charges on
+  by_work table a (Act (Kill m)) has on read = by_killing m.comp m.core m.at has.knows.comp on
 
   by_stage : (table : ℕ) (own : Own) (a : ActiveCall) (stage : Stage) → phase_at a.call stage ≡ Open call
       → KnowsAt setup t c table a stage
@@ -184,11 +218,26 @@ entered_none : (o : Option Call) (r : Option ℕ) (w : ℕ) → cond (is_some o)
 entered_none None r w h = (refl, h)
 entered_none (Some call) r w h = absurd (none_some w h)
 
--- What an undecided call has found held, its core may use still.
+-- What an undecided call has found held, its core may use still, unless the word is of no node.
+abbrev IsFound : Setting → Trace → ℕ → ℕ → ℕ → Capability → Type 0
+IsFound setup t c f i k = MayUse (state_after setup t) c (record { node = f; index = i }) k ⊎ IsNoEntry setup t c f
+
 abbrev FoundLasts : Setting → Trace → Type 0
 FoundLasts setup t = (c : ℕ) (call : Call) → phase t c ≡ Open call → (f i w : ℕ) (k : Capability)
-    → own_read t c (EntryAt f i) ≡ Some w → entry_of_word w ≡ Some (Held k)
-    → MayUse (state_after setup t) c (record { node = f; index = i }) k
+    → own_read t c (EntryAt f i) ≡ Some w → entry_of_word w ≡ Some (Held k) → IsFound setup t c f i k
+
+-- A component is no node, and no call changes it; nor is a temporal capability a node.
+comp_fixed : (x : Frame) → IsTrue (fits comp_kind x) → IsTrue (is_fixed x)
+comp_fixed (Kernel (Comp k)) h = refl
+comp_fixed _ h = absurd (false≢true h)
+
+comp_no_node : (x : Frame) → IsTrue (fits comp_kind x) → IsTrue (is_node x) → ⊥
+comp_no_node (Kernel (Comp k)) h node = false≢true node
+comp_no_node _ h node = absurd (false≢true h)
+
+tcap_no_node : (x : Frame) → IsTrue (fits kind.Tcap x) → is_node x ≡ false
+tcap_no_node (Kernel (Tcap q)) fit = refl
+tcap_no_node x fit = absurd (false≢true fit)
 
 module _ (setup : Setting) (setting : IsSetting setup) where
   -- what a call may use, it may use after a step through which it stays
@@ -199,6 +248,23 @@ module _ (setup : Setting) (setting : IsSetting setup) where
     relies = stays.relies f may.relies;
     usable = stays.usable (record { node = f; index = i }) k may.relies may.usable;
   }
+
+  comp_kept : (t : Trace) (e : Step) (c f : ℕ) → Stays setup t e c → HasComp (state_after setup t) c f
+      → HasComp (state_after setup (e ∷ t)) c f
+  comp_kept t e c f stays has = record {
+    comp = subst (λ x. IsTrue (fits comp_kind x))
+        (sym (stays.frame f (comp_fixed ((state_after setup t).frame f) has.comp) has.guarded)) has.comp;
+    guarded = stays.guarded f has.guarded;
+  }
+
+  no_entry_kept : (t : Trace) (e : Step) (c f : ℕ) → Stays setup t e c → IsNoEntry setup t c f → IsNoEntry setup (e ∷ t) c f
+  no_entry_kept t e c f stays (inl own) = inl (ap (λ x. x.tcap) stays.core ∙ own)
+  no_entry_kept t e c f stays (inr comp) = inr (comp_kept t e c f stays comp)
+
+  found_kept : (t : Trace) (e : Step) (c f i : ℕ) (k : Capability) → Stays setup t e c → IsFound setup t c f i k
+      → IsFound setup (e ∷ t) c f i k
+  found_kept t e c f i k stays (inl may) = inl (kept t e c f i k stays may)
+  found_kept t e c f i k stays (inr none) = inr (no_entry_kept t e c f stays none)
 
   -- what an unmarked word of a node says to be held is usable
   holds_it : (t : Trace) → IsMade setup t → (c f i : ℕ) (k : Capability) → Relies (state_after setup t) c f → i < 64
@@ -239,9 +305,8 @@ module _ (setup : Setting) (setting : IsSetting setup) where
     -- its own step on the entry itself
     read_now : (call : Call) → phase t e.core ≡ Open call → Stays setup t e e.core → e.enters ≡ None → (f i w : ℕ) (k : Capability)
         → EntryAt f i ≡ word_of e.move → HasReadIt e w
-        → entry_of_word w ≡ Some (Held k) → MayUse (state_after setup (e ∷ t)) e.core (record { node = f; index = i }) k
-    read_now call is_open stays no_entry f i w k on read held = holds_it (e ∷ t) made e.core f i k (stays.relies f relies) word.1
-        (ap entry_of_word (last_left-here setup (EntryAt f i) e t on ∙ read.left ∙ read.found) ∙ held)
+        → entry_of_word w ≡ Some (Held k) → IsFound setup (e ∷ t) e.core f i k
+    read_now call is_open stays no_entry f i w k on read held = by rests
       where
         core : Core
         core = cores_after setup t e.core
@@ -256,18 +321,23 @@ module _ (setup : Setting) (setting : IsSetting setup) where
         word = subst (IsIn core.own.layout) moves
             (moves_are_words core (stands.each e.core made.1.is_core).fits (subst (λ o. MayStep o core) no_entry made.1.may)).is_in
 
-        relies : Relies (state_after setup t) e.core f
-        relies = step_relies setup setting t (cores_after setup t) stands e.core call is_open f i core.own.table core.own core.active
+        rests : Relies (state_after setup t) e.core f ⊎ IsNoEntry setup t e.core f
+        rests = step_relies setup setting t (cores_after setup t) stands e.core call is_open f i core.own.table core.own core.active
             (stands.each e.core made.1.is_core).active moves reads_it
+
+        by : Relies (state_after setup t) e.core f ⊎ IsNoEntry setup t e.core f → IsFound setup (e ∷ t) e.core f i k
+        by (inl relies) = inl (holds_it (e ∷ t) made e.core f i k (stays.relies f relies) word.1
+            (ap entry_of_word (last_left-here setup (EntryAt f i) e t on ∙ read.left ∙ read.found) ∙ held))
+        by (inr none) = inr (no_entry_kept t e e.core f stays none)
 
   -- what holds before a step within a call or beside it holds after it
   lasts_on : (t : Trace) (e : Step) → IsMade setup (e ∷ t) → FoundLasts setup t → FoundLasts setup (e ∷ t)
-  lasts_on t e made lasts c call is f i w k own held = elim (cases_eq c e.core) [
+  lasts_on t e made found c call is f i w k own held = elim (cases_eq c e.core) [
     | inr other ↦ (let before : phase t c ≡ Open call = sym (phase-other c e t other) ∙ is in
         let legal : IsLegal setup (e ∷ t) = (made_stands setup setting (e ∷ t) made).legal in
-        kept t e c f i k (stays_other setup setting t legal.0 e legal.1 c other call before)
-        (lasts c call before f i w k (sym (own_read-other c e t other (EntryAt f i)) ∙ own) held))
-    | inl same ↦ subst (λ (d : ℕ). MayUse (state_after setup (e ∷ t)) d (record { node = f; index = i }) k) (sym same)
+        found_kept t e c f i k (stays_other setup setting t legal.0 e legal.1 c other call before)
+        (found c call before f i w k (sym (own_read-other c e t other (EntryAt f i)) ∙ own) held))
+    | inl same ↦ subst (λ (d : ℕ). IsFound setup (e ∷ t) d f i k) (sym same)
         (by_own (subst (λ (d : ℕ). phase (e ∷ t) d ≡ Open call) same is)
         (subst (λ (d : ℕ). own_read (e ∷ t) d (EntryAt f i) ≡ Some w) same own))
   ] where
@@ -280,7 +350,7 @@ module _ (setup : Setting) (setting : IsSetting setup) where
     through no_entry was = stays_plain setup t e e.core no_entry was.no_decision was.no_return
 
     by_own : phase (e ∷ t) e.core ≡ Open call → own_read (e ∷ t) e.core (EntryAt f i) ≡ Some w
-        → MayUse (state_after setup (e ∷ t)) e.core (record { node = f; index = i }) k
+        → IsFound setup (e ∷ t) e.core f i k
     by_own now read = elim (cases_word (EntryAt f i) (word_of e.move)) [
       | inl on ↦ (let no_entry : e.enters ≡ None = enters_none t e made e.enters refl f i on in
           let was : WasOpen e.decides e.returns (phase t e.core) call = opened no_entry now in
@@ -289,7 +359,7 @@ module _ (setup : Setting) (setting : IsSetting setup) where
       | inr there ↦ (let had : (e.enters ≡ None) × (own_read t e.core (EntryAt f i) ≡ Some w) =
           entered_none e.enters (own_read t e.core (EntryAt f i)) w (sym (own_read-there e.core e t refl (EntryAt f i) there) ∙ read) in
           let was : WasOpen e.decides e.returns (phase t e.core) call = opened had.0 now in
-          kept t e e.core f i k (through had.0 was) (lasts e.core call was.before f i w k had.1 held))
+          found_kept t e e.core f i k (through had.0 was) (found e.core call was.before f i w k had.1 held))
     ]
 
   lasts_along : (t : Trace) → IsMade setup t → FoundLasts setup t
@@ -297,7 +367,20 @@ module _ (setup : Setting) (setting : IsSetting setup) where
   lasts_along (e ∷ t) made = lasts_on t e made (lasts_along t made.0)
 
 pub places_found : PlacesFound
-places_found setup setting t made c call is f i w k own held node = lasts_along setup setting t made c call is f i w k own held
+places_found setup setting t made c call is f i w k own held node = by (lasts_along setup setting t made c call is f i w k own held)
+  where
+    stands : Stands setup (cores_after setup t) t
+    stands = made_stands setup setting t made
+
+    below : c < (state_after setup t).limits.cores
+    below = ((sound_of setup setting t stands.legal).inside c (opened_is t c call is)).1
+
+    by : IsFound setup t c f i k → MayUse (state_after setup t) c (record { node = f; index = i }) k
+    by (inl may) = may
+    by (inr (inl own)) = absurd (false≢true (sym (tcap_no_node ((state_after setup t).frame f)
+        (subst (λ (g : ℕ). IsTrue (fits kind.Tcap ((state_after setup t).frame g))) own
+        ((sound_of setup setting t stands.legal).cores c below).1)) ∙ node))
+    by (inr (inr comp)) = absurd (comp_no_node ((state_after setup t).frame f) comp.comp node)
 
 -- A scan for a stamp that is past has passed a core.
 record HasPassed (setup : Setting) (t : Trace) (x : Thing) (at d : ℕ) : Type 0 where

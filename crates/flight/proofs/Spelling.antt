@@ -1,6 +1,6 @@
 -- The next step of a call is on a word of its machine, by the one name of the word's place.
-use Rattle.std.proofs.Common.{◌≡◌, ℕ, ◌<◌, Option, Some, None, refl}
-use Rattle.std.specs.Prelude.{IsSome}
+use Rattle.std.proofs.Common.{◌≡◌, ℕ, ◌<◌, Option, Some, None, arith, refl}
+use Rattle.std.specs.Prelude.{IsSome, List, [], ◌∷◌}
 use Rattle.word_map.specs.Places.{Shape, IsIn, shared}
 use Rattle.word_map.specs.Moves.{word_of}
 use Rattle.stage_look.specs.Lookup.{look_move}
@@ -9,9 +9,12 @@ use Rattle.stage_look.specs.declared.look.Look.TheVariants.{AtRoot, AtLeaf, AtEn
 use Rattle.stage_look.proofs.LookLemmas.{look_is_in}
 use Rattle.call_steps.specs.Fits.{TailFits, StageFits, CallFits}
 use Rattle.call_steps.specs.Cores.{move_in}
+use Rattle.call_acts.specs.declared.kills.KillingAt.{KillingAt}
+use Rattle.call_acts.specs.declared.kills.KillingAt.TheVariants.{LoadComp, LoadLive, Close as kill_close, Draw as kill_draw}
+use Rattle.call_acts.specs.Kills.{KillingAtFits, killing_at}
 use Rattle.call_acts.specs.declared.own.Own.{Own}
 use Rattle.call_acts.specs.declared.work.Act.{Act}
-use Rattle.call_acts.specs.declared.work.Act.TheVariants.{Fill, Remove, Retype, Make, Outside}
+use Rattle.call_acts.specs.declared.work.Act.TheVariants.{Fill, Remove, Retype, Make, Outside, Tick, Kill}
 use Rattle.spk_nums.specs.declared.kinds.FrameKind.{FrameKind}
 use Rattle.call_acts.specs.declared.typings.TypingAt.{TypingAt}
 use Rattle.call_acts.specs.declared.typings.TypingAt.TheVariants.{Load, Compare as type_compare}
@@ -20,13 +23,14 @@ use Rattle.call_acts.specs.declared.fills.Fill.{Fill as FillOf}
 use Rattle.call_acts.specs.declared.makings.MakingAt.{MakingAt}
 use Rattle.call_acts.specs.declared.makings.MakingAt.TheVariants as making
 use Rattle.call_acts.specs.Fills.{FillFits}
+use Rattle.call_acts.specs.declared.objects.NewObject.{NewObject}
 use Rattle.call_acts.specs.Makings.{MakingAtFits, making_at}
+use Rattle.call_steps.proofs.StepsFit.{last_small}
 use Rattle.call_acts.specs.declared.work.Work.TheVariants.{Lookup, Scan, Acquire, Act as act_work}
 use Rattle.call_acts.specs.declared.work.Tail.{Tail}
-use Rattle.call_acts.specs.declared.work.Tail.TheVariants.{Nothing, Quiesce, Unmark}
+use Rattle.call_acts.specs.declared.work.Tail.TheVariants.{Nothing, Quiesce, Unmark, StoreDead}
 use Rattle.call_acts.specs.Acts.{ActFits, act_move}
-use Rattle.call_steps.specs.Tails.{tail_move}
-use Rattle.std.specs.Prelude.{List, [], ◌∷◌}
+use Rattle.call_steps.specs.Tails.{tail_move, is_ok}
 use Rattle.std.proofs.lemmas.List.Elements.{All-head}
 use Rattle.spk_nums.specs.declared.replies.Reply.{Reply}
 use Rattle.stage_pins.specs.declared.pin.Pin.{Pin}
@@ -36,6 +40,10 @@ use Rattle.stage_pins.specs.Acquire.{pin_move}
 use Rattle.stage_pins.specs.Held.{commit_of, AcquiredFits, AllFit}
 use Rattle.stage_pins.proofs.PinLemmas.{pin_is_in, settle_is_in}
 use Rattle.stage_pins.proofs.HeldLemmas.{commit_fits}
+use Rattle.stage_tcap.specs.Charging.{charge_move}
+use Rattle.stage_tcap.specs.declared.charge.Charge.{Charge}
+use Rattle.stage_tcap.specs.declared.charge.Charge.TheVariants.{AtLoad as charge_load, AtCompare as charge_compare}
+use Rattle.stage_tcap.proofs.PairLemmas.{charge_is_in}
 use Rattle.stage_quiet.specs.declared.close.Close.{Close}
 use Rattle.stage_quiet.specs.declared.close.Close.TheVariants.{AtCompare as close_compare, AtDraw, AtStore}
 use Rattle.stage_quiet.specs.declared.quiet.Quiet.{Quiet}
@@ -43,7 +51,6 @@ use Rattle.stage_quiet.specs.declared.quiet.Quiet.TheVariants.{AtCore, AtFlush}
 use Rattle.stage_quiet.specs.Removal.{close_move}
 use Rattle.stage_quiet.specs.Scan.{quiet_move}
 use Rattle.stage_quiet.proofs.QuietLemmas.{quiet_is_in, close_is_in}
-use Rattle.call_steps.specs.Tails.{is_ok}
 use Rattle.call_steps.specs.Steps.{stage_move}
 use Rattle.flight.specs.Phases.{IsWord, MovesAreWords}
 use Rattle.call_steps.specs.declared.stages.ActiveCall.{ActiveCall}
@@ -68,19 +75,31 @@ typing_named : (f : ℕ) (k : FrameKind) (at : TypingAt) → shared (word_of (ty
 typing_named f k Load = refl
 typing_named f k (type_compare word) = refl
 
-making_named : (f core : ℕ) (fill : FillOf) (at : MakingAt)
-    → shared (word_of (making_at f core fill at)) ≡ word_of (making_at f core fill at)
-making_named f core fill making.Load = refl
-making_named f core fill (making.Mark word) = refl
-making_named f core fill (making.Store word entry) = refl
-making_named f core fill (making.Fill word) = refl
+making_named : (f : ℕ) (object : NewObject) (core : ℕ) (fill : FillOf) (at : MakingAt)
+    → shared (word_of (making_at f object core fill at)) ≡ word_of (making_at f object core fill at)
+making_named f object core fill making.Load = refl
+making_named f object core fill (making.Mark word) = refl
+making_named f object core fill (making.Store word entry) = refl
+making_named f object core fill (making.Fill word) = refl
+
+charge_named : (charge : Charge) → shared (word_of (charge_move charge)) ≡ word_of (charge_move charge)
+charge_named (charge_load tcap ticks) = refl
+charge_named (charge_compare tcap ticks budget version) = refl
+
+killing_named : (f core : ℕ) (at : KillingAt) → shared (word_of (killing_at f core at)) ≡ word_of (killing_at f core at)
+killing_named f core LoadComp = refl
+killing_named f core (LoadLive life) = refl
+killing_named f core (kill_close life word) = refl
+killing_named f core (kill_draw life word) = refl
 
 act_named : (act : Act) → shared (word_of (act_move act)) ≡ word_of (act_move act)
 act_named (Fill fill) = refl
 act_named (Remove close cap) = close_named close
 act_named (Retype typing) = typing_named typing.frame typing.kind typing.at
-act_named (Make m) = making_named m.frame m.core m.fill m.at
+act_named (Make m) = making_named m.frame m.object m.core m.fill m.at
 act_named (Outside node entry word) = refl
+act_named (Tick charge) = charge_named charge
+act_named (Kill m) = killing_named m.comp m.core m.at
 
 -- a count's word is that of its core's counter
 pin_named : (pin : Pin) → shared (word_of (pin_move pin)) ≡ word_of (pin_move pin)
@@ -91,6 +110,7 @@ tail_named : (r : Reply) (drawn : Option ℕ) (tail : Tail) (counts : List Acqui
     → shared (word_of (tail_move r drawn tail counts)) ≡ word_of (tail_move r drawn tail counts)
 tail_named r drawn (Quiesce close) counts = close_named close
 tail_named r drawn (Unmark f word) counts = refl
+tail_named r drawn (StoreDead life stamp) counts = refl
 tail_named r drawn Nothing [] = refl
 tail_named r drawn Nothing (x ∷ xs) = refl
 
@@ -108,25 +128,36 @@ typing_in : (shape : Shape) (f : ℕ) (k : FrameKind) (at : TypingAt) → f < sh
 typing_in shape f k Load fits = fits
 typing_in shape f k (type_compare word) fits = fits
 
-making_in : (shape : Shape) (f core : ℕ) (fill : FillOf) (at : MakingAt) → f < shape.frames → FillFits shape fill → MakingAtFits at
-    → IsIn shape (word_of (making_at f core fill at))
-making_in shape f core fill making.Load frame fits at = frame
-making_in shape f core fill (making.Mark word) frame fits at = frame
-making_in shape f core fill (making.Store word entry) frame fits at = (frame, at)
-making_in shape f core fill (making.Fill word) frame fits at = (fits.node, fits.entry)
+making_in : (shape : Shape) (f : ℕ) (object : NewObject) (core : ℕ) (fill : FillOf) (at : MakingAt) → f < shape.frames
+    → FillFits shape fill → MakingAtFits object at → IsIn shape (word_of (making_at f object core fill at))
+making_in shape f object core fill making.Load frame fits at = frame
+making_in shape f object core fill (making.Mark word) frame fits at = frame
+making_in shape f object core fill (making.Store word entry) frame fits at =
+    (frame, (let small = last_small object in omega (arith, at, small)))
+making_in shape f object core fill (making.Fill word) frame fits at = (fits.node, fits.entry)
+
+killing_in : (shape : Shape) (f core : ℕ) (at : KillingAt) → f < shape.frames → KillingAtFits at
+    → IsIn shape (word_of (killing_at f core at))
+killing_in shape f core LoadComp below fits = (below, omega arith)
+killing_in shape f core (LoadLive life) below fits = fits.0
+killing_in shape f core (kill_close life word) below fits = fits.0
+killing_in shape f core (kill_draw life word) below fits = tt
 
 act_in : (shape : Shape) (act : Act) → ActFits shape act → IsIn shape (word_of (act_move act))
 act_in shape (Fill fill) fits = (fits.node, fits.entry)
 act_in shape (Remove close cap) fits = close_is_in shape close fits.0
 act_in shape (Retype typing) fits = typing_in shape typing.frame typing.kind typing.at fits
-act_in shape (Make m) fits = making_in shape m.frame m.core m.fill m.at fits.frame fits.fill fits.at
+act_in shape (Make m) fits = making_in shape m.frame m.object m.core m.fill m.at fits.frame fits.fill fits.at
 act_in shape (Outside node entry word) fits = fits
+act_in shape (Tick charge) fits = charge_is_in shape charge fits
+act_in shape (Kill m) fits = killing_in shape m.comp m.core m.at fits.comp fits.at
 
 tail_in : (shape : Shape) (r : Reply) (drawn : Option ℕ) (tail : Tail) (counts : List Acquired) → TailFits shape tail
     → AllFit shape counts
     → IsIn shape (word_of (tail_move r drawn tail counts))
 tail_in shape r drawn (Quiesce close) counts fits fit = close_is_in shape close fits
 tail_in shape r drawn (Unmark f word) counts fits fit = fits
+tail_in shape r drawn (StoreDead life stamp) counts fits fit = fits.0.0
 tail_in shape r drawn Nothing [] fits fit = tt
 tail_in shape r drawn Nothing (x ∷ xs) fits fit =
     settle_is_in shape (commit_of (is_ok r) drawn x) (commit_fits shape (is_ok r) drawn x (All-head (AcquiredFits shape) x xs fit))

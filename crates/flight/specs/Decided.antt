@@ -3,7 +3,7 @@ use Rattle.std.specs.Prelude.{◌≡◌, Bool, true, false, Option, Some, None}
 use Rattle.call_steps.specs.declared.stages.Stage.{Stage}
 use Rattle.call_steps.specs.declared.stages.Stage.TheVariants.{Enter, Undecided, Decided, Leave}
 use Rattle.call_steps.specs.declared.stages.ActiveCall.{ActiveCall}
-use Rattle.call_steps.specs.Steps.{Took, GoesOn, Decides, Returns}
+use Rattle.call_steps.specs.Steps.{Took, GoesOn, Decides, Returns, Changes}
 
 -- Whether a call is decided that stands at this stage.
 abbrev pub is_decided_at : Stage → Bool
@@ -22,3 +22,4 @@ abbrev pub Turns : Bool → Took → Type 0
 Turns decided (GoesOn a) = is_decided_at a.stage ≡ decided
 Turns decided (Decides r a) = (decided ≡ false) × (is_decided_at a.stage ≡ true)
 Turns decided (Returns r x) = decided ≡ true
+Turns decided (Changes r change a) = (decided ≡ false) × (is_decided_at a.stage ≡ true)

@@ -4,3 +4,5 @@ pub mod Decided
 pub mod Theorems
 pub mod Places
 pub mod Phases
+pub mod Time
+pub mod Lives

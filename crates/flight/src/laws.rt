@@ -1,7 +1,9 @@
 //! What is proved of the step machine, as laws: cores that stand for a trace go on standing for it, step by step.
 
 ghost use Rattle.flight.specs.Histories.{MadeHistories};
+ghost use Rattle.flight.specs.Lives.{DeadForGood};
 ghost use Rattle.flight.specs.Places.{PlacesFound, ScannedCores};
+ghost use Rattle.flight.specs.Time.{HeadsSay, TicksAreCounted, TimeIsKept};
 ghost use Rattle.flight.specs.Theorems.{Boots, StepsOn, MadeStands, SaysWords, Represents, RepresentsCounts};
 
 /// The start stands for no step.
@@ -59,4 +61,29 @@ pub fn places_found()
 #[tactic(auto, using(crate::proofs::Places::scanned_cores))]
 pub fn scanned_cores()
     ensures { ScannedCores }
+{}
+
+/// At each moment the budgets of all temporal capabilities and the ticks that all cores have spent sum to the grants.
+#[tactic(auto, using(crate::proofs::Time::time_kept))]
+pub fn time_is_kept()
+    ensures { TimeIsKept }
+{}
+
+/// At each moment what a core has spent and what it owes sum to the ticks of its decided `tick` calls, but for those answered
+/// `calls-spent`: so a tick that has lost a race is charged by a later one.
+#[tactic(auto, using(crate::proofs::Time::ticks_counted))]
+pub fn ticks_are_counted()
+    ensures { TicksAreCounted }
+{}
+
+/// At each moment the head of a temporal capability that no core has marked shows its budget.
+#[tactic(auto, using(crate::proofs::Time::heads_say))]
+pub fn heads_say()
+    ensures { HeadsSay }
+{}
+
+/// A dead epoch never lives again: where a liveness number is dead after an epoch, its word shows it live later in higher epochs alone.
+#[tactic(auto, using(crate::proofs::Lives::dead_for_good))]
+pub fn dead_for_good()
+    ensures { DeadForGood }
 {}

@@ -9,6 +9,6 @@ pub use call_steps::{
     Absorbed, ActiveCall, CoreState, decides_once, ready_decides, unready_refuses,
 };
 pub use laws::{
-    boots, made_histories, made_stands, places_found, represents, represents_counts, says_words,
-    scanned_cores, steps_on,
+    boots, dead_for_good, heads_say, made_histories, made_stands, places_found, represents,
+    represents_counts, says_words, scanned_cores, steps_on, ticks_are_counted, time_is_kept,
 };

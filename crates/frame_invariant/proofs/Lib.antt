@@ -1,5 +1,6 @@
 pub mod Beyond
-pub mod MadeNodes
+pub mod NewObjects
+pub mod MadeObjects
 pub mod MakeCalls
 pub mod Makes
 pub mod Typings

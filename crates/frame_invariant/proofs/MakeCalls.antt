@@ -1,6 +1,6 @@
--- A call that makes a node, at its act: what it knows, and what is left of its rule.
+-- A call that makes an object, at its act: what it knows, and what is left of its rule.
 use Rattle.std.specs.Prelude.{if◌then◌else◌, List}
-use Rattle.std.proofs.Common.{◌≡◌, Bool, true, false, Some, None, refl, ℕ, ◌<◌, ◌≢◌, sym, ◌&&◌, [], ◌∷◌, ap, ◌∙◌, subst, IsTrue, not}
+use Rattle.std.proofs.Common.{◌≡◌, arith, Bool, true, false, Some, None, refl, ℕ, ◌<◌, ◌≢◌, sym, ◌&&◌, [], ◌∷◌, ap, ◌∙◌, subst, IsTrue, not}
 use Rattle.std.proofs.lemmas.Bool.{lt-ltb, false≢true}
 use Rattle.spk_nums.specs.Capability.{Capability}
 use Rattle.spk_nums.specs.Setting.{Setting, IsSetting}
@@ -13,10 +13,13 @@ use Rattle.word_map.proofs.WordLemmas.{same_same}
 use Rattle.word_map.specs.Word.{EntryAt, FrameAt}
 use Rattle.kernel_rules.specs.Access.{found, Target, Under, Slot, reached}
 use Rattle.kernel_rules.specs.CallRelation.{rule_of, change_of}
-use Rattle.kernel_rules.specs.CapabilityCalls.{has_frame, not_blank, is_blank, cleared, makes}
+use Rattle.kernel_rules.specs.CapabilityCalls.{has_frame, not_blank, is_blank, makes}
 use Rattle.kernel_rules.specs.Relies.{is_node}
 use Rattle.kernel_rules.specs.Rules.{Found, Change, first_cause, and_then, unless, vacant, outcome, first_of}
 use Rattle.kernel_rules.specs.State.{Blank, Kernel, State, Leaf}
+use Rattle.kernel_rules.proofs.SoundRuns.{opened}
+use Rattle.kernel_history.specs.Events.{events_of}
+use Rattle.kernel_history.proofs.Stays.{sound_of, opened_is}
 use Rattle.kernel_history.specs.Marking.{marked_by}
 use Rattle.kernel_history.specs.Marks.{mark_in_frame}
 use Rattle.kernel_history.specs.ObjectWords.{frame_value}
@@ -29,7 +32,8 @@ use Rattle.call_plans.specs.GoesBy.{own_pages, GoesBy}
 use Rattle.call_plans.specs.PlanOf.{plan_for}
 use Rattle.call_plans.specs.declared.plans.Plan.{Plan}
 use Rattle.plan_ways.specs.Laws.{IsTargetOf}
-use Rattle.call_acts.specs.Makings.{MakingFits, node_made, node_kind}
+use Rattle.call_acts.specs.Makings.{MakingFits}
+use Rattle.call_acts.specs.Objects.{NamesFit, object_kind, object_made, object_dues}
 use Rattle.call_acts.specs.declared.makings.Making.{Making}
 use Rattle.call_acts.specs.declared.makings.MakingAt.{MakingAt}
 use Rattle.call_acts.specs.declared.work.Act.TheVariants.{Make as make_act}
@@ -42,15 +46,16 @@ use Rattle.core_invariant.proofs.Good.{blank_is}
 use Rattle.core_invariant.proofs.Loads.{is_active, call_is}
 use Rattle.core_invariant.proofs.Sounds.{limits_of}
 use Rattle.core_invariant.specs.Holding.{holds_counts, settled_by, settled, keeps}
-use Rattle.core_invariant.specs.Knows.{phase_at, KnowsUndecided, KnowsMaking, MakesBy, blank_word}
+use Rattle.core_invariant.specs.Knows.{AreDuesApart, phase_at, KnowsUndecided, KnowsMaking, MakesBy, blank_word}
 use Rattle.core_invariant.specs.Stands.{holds_in, Stands, holds, held_by}
 use Rattle.count_invariant.proofs.Acquiring.{plan_leads, goes_by}
-use Rattle.place_invariant.proofs.NodeMakes.{node_object, make_rest, IsNodeMake, node_make}
+use Rattle.place_invariant.proofs.ObjectMakes.{new_object, readied, make_rest, IsObjectMake, object_make, HasObjects, dues_apart}
 use Rattle.place_invariant.proofs.Outside.{none_left_of}
 use Rattle.place_invariant.proofs.Vacancy.{in_leaf}
+use Rattle.frame_invariant.proofs.NewObjects.{names_small}
 
--- It makes this node in this frame, which the range has to which its first name has led.
-pub record IsNodeCall (call : Call) (ks : List Capability) (m : Making) : Type 0 where
+-- It makes this object in this frame, which the range has to which its first name has led.
+pub record IsObjectCall (call : Call) (ks : List Capability) (m : Making) : Type 0 where
   pub what : Make
   pub name : ℕ
   pub root : ℕ
@@ -59,11 +64,11 @@ pub record IsNodeCall (call : Call) (ks : List Capability) (m : Making) : Type 0
   pub rest : List Capability
   pub call_is : call ≡ make_call what name m.frame root slot
   pub found_is : ks ≡ range ∷ rest
-  pub node_is : node_made what ≡ Some m.node
+  pub object_is : object_made what ks ≡ Some m.object
   pub within : has_frame (found range) m.frame ≡ true
 
-node_call : (call : Call) (ks : List Capability) (m : Making) → MakesBy call ks m → IsNodeCall call ks m
-node_call (make_call what r f u b) (range ∷ ks) m is = record {
+object_call : (call : Call) (ks : List Capability) (m : Making) → MakesBy call ks m → IsObjectCall call ks m
+object_call (make_call what r f u b) (range ∷ ks) m is = record {
   what = what;
   name = r;
   root = u;
@@ -72,16 +77,16 @@ node_call (make_call what r f u b) (range ∷ ks) m is = record {
   rest = ks;
   call_is = ap (λ (x : ℕ). make_call what r x u b) (sym is.frame);
   found_is = refl;
-  node_is = is.node;
+  object_is = is.object;
   within = ap (has_frame (found range)) is.frame ∙ is.within;
 }
-node_call (make_call what r f u b) [] m is = absurd is
-node_call call ks m is = absurd is
+object_call (make_call what r f u b) [] m is = absurd is
+object_call call ks m is = absurd is
 
 -- It makes it wherever its steps stand.
 pub makes_on : (call : Call) (ks : List Capability) (m : Making) (at : MakingAt) → MakesBy call ks m
     → MakesBy call ks (record m { at = at })
-makes_on (make_call what r f u b) (range ∷ ks) m at is = record { frame = is.frame; node = is.node; within = is.within }
+makes_on (make_call what r f u b) (range ∷ ks) m at is = record { frame = is.frame; object = is.object; within = is.within }
 makes_on (make_call what r f u b) [] m at is = absurd is
 makes_on call ks m at is = absurd is
 
@@ -98,8 +103,8 @@ module _ (setup : Setting) (setting : IsSetting setup) (cores : ℕ → Core) (t
   abbrev slot : Slot
   slot = record { node = m.fill.node; index = m.fill.entry }
 
-  pub is : IsNodeCall a.call a.found m
-  is = node_call a.call a.found m knows.makes
+  pub is : IsObjectCall a.call a.found m
+  is = object_call a.call a.found m knows.makes
 
   pub opens : phase_at a.call a.stage ≡ Open a.call
   opens = ap (phase_at a.call) stage_is
@@ -119,6 +124,13 @@ module _ (setup : Setting) (setting : IsSetting setup) (cores : ℕ → Core) (t
   pub below : m.frame < s.limits.frames
   below = subst (λ (n : ℕ). m.frame < n) frames_are fits_in.frame
 
+  -- what its object names is a frame of the largest machine
+  pub small_names : NamesFit 512 m.object
+  small_names = names_small m.object (cores c).own.layout.frames
+      (let most = setting.most_frames in
+      let same : (cores c).own.layout.frames ≡ setup.frames = ap (λ x. x.frames) (stands.each c here).shape in
+      omega (arith, most, same)) fits_in.object.names
+
   pub node_below : m.fill.node < s.limits.frames
   node_below = subst (λ (n : ℕ). m.fill.node < n) frames_are fits_in.fill.node
 
@@ -131,8 +143,8 @@ module _ (setup : Setting) (setting : IsSetting setup) (cores : ℕ → Core) (t
   plan_call : a.plan ≡ plan_for (make_call is.what is.name m.frame is.root is.slot)
   plan_call = (is_active setup setting cores t stands c here a active).plan ∙ ap plan_for is.call_is
 
-  pub make : IsNodeMake s c is.name m.frame is.root is.slot is.what m.node a.found
-  make = node_make s c is.name m.frame is.root is.slot is.what m.node is.node_is a.found
+  pub make : IsObjectMake s c is.name m.frame is.root is.slot is.what m.object a.found
+  make = object_make s c is.name m.frame is.root is.slot is.what m.object a.found is.object_is
       (subst (λ (p : Plan). Leads (LeadsIn s c) p.names [] a.found) plan_call leads)
       (subst (λ (p : Plan). names_after p.names a.found ≡ []) plan_call
       (none_left_of a.plan a.found knows.spot.target knows.spot.next))
@@ -161,7 +173,7 @@ module _ (setup : Setting) (setting : IsSetting setup) (cores : ℕ → Core) (t
       first_same : (k j : Capability) (ks js : List Capability) → k ∷ ks ≡ j ∷ js → k ≡ j
       first_same k j ks js h = cc
 
-  pub left : rule_after (rule_of s c a.call) a.found ≡ make_rest s make.two.range m.frame m.node target
+  pub left : rule_after (rule_of s c a.call) a.found ≡ make_rest s make.two.range m.frame m.object target
   left = ap (λ x. rule_after (rule_of s c x) a.found) is.call_is ∙ make.rule
 
   pub target_slot : target_of s c (rule_of s c a.call) ≡ Some slot
@@ -171,14 +183,15 @@ module _ (setup : Setting) (setting : IsSetting setup) (cores : ℕ → Core) (t
 
   -- the change that it makes, and what comes of the call where its target is vacant
   abbrev pub change : Change
-  change = makes (cleared s m.frame) m.frame (node_object m.node) (node_kind m.node) slot
+  change = makes (readied m.object s m.frame) m.frame (new_object m.object) (object_kind m.object) slot
 
   pub by_blank : vacant s c target ≡ Found slot → (blank : Bool) → is_blank (s.frame m.frame) ≡ blank
       → change_of s c a.call ≡ unless (if not blank then Some reply.FrameKind else None) change
   by_blank free blank at_frame =
       outcome_left s c (own_pages s c) a.plan (rule_of s c a.call) a.found by_plan leads ∙ ap (outcome s c) left
       ∙ ap (λ x. and_then x λ at. unless (first_of (if not (has_frame (found make.two.range) m.frame) then Some reply.OutOfRange else None)
-      (first_cause s c (not_blank s m.frame ∷ []))) (makes (cleared s m.frame) m.frame (node_object m.node) (node_kind m.node) at)) free
+      (first_cause s c (not_blank s m.frame ∷ [])))
+      (makes (readied m.object s m.frame) m.frame (new_object m.object) (object_kind m.object) at)) free
       ∙ ap (λ b. unless (first_of (if not b then Some reply.OutOfRange else None) (first_cause s c (not_blank s m.frame ∷ []))) change)
       within
       ∙ ap (λ b. unless (first_of (if b && not (is_blank (s.frame m.frame)) then Some reply.FrameKind else None) None) change)
@@ -190,6 +203,13 @@ module _ (setup : Setting) (setting : IsSetting setup) (cores : ℕ → Core) (t
           ≡ unless (if not b then Some reply.FrameKind else None) change
       last true = refl
       last false = refl
+
+  -- what its object names has objects, so its counts are of frames that differ
+  pub names_objects : HasObjects s m.object
+  names_objects = make.names (opened (events_of t)) (sound_of setup setting t stands.legal) (opened_is t c a.call is_open)
+
+  pub counts_apart : s.frame m.frame ≡ Kernel Blank → AreDuesApart (object_dues m.object m.frame)
+  counts_apart blank = dues_apart s m.frame m.object blank names_objects
 
   -- Where the frame is marked for it, as it was found, the frame is blank.
   module _ (word : ℕ) (held : holds_in (Some a) ≡ keeps (FrameAt m.frame) word (holds_counts None a.counts))

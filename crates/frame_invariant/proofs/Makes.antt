@@ -1,7 +1,7 @@
 -- The steps by which a call makes a node, up to its decision: the load of the frame's word, the compare that marks it, the stores of its
 -- places, and a compare of the target that is lost; and the store that gives the frame's word back.
-use Rattle.std.specs.Prelude.{if◌then◌else◌, List, pos}
-use Rattle.std.proofs.Common.{◌≡◌, Bool, true, false, cond, Option, Some, None, refl, ℕ, ◌<◌, ◌^◌, ◌==◌, arith, ◌≢◌, ◌+◌, sym, nat_lt, ◌&&◌, [], ◌∷◌, ◌++◌, length, ap, ◌∙◌, subst, IsTrue, inl, inr, not, is_some, map}
+use Rattle.std.specs.Prelude.{if◌then◌else◌, List}
+use Rattle.std.proofs.Common.{◌≡◌, ◌≤◌, Bool, true, false, cond, Option, Some, None, refl, ℕ, ◌<◌, ◌^◌, ◌==◌, arith, ◌≢◌, ◌+◌, sym, nat_lt, ◌&&◌, [], ◌∷◌, ◌++◌, length, ap, ◌∙◌, subst, IsTrue, inl, inr, not, is_some, map}
 use Rattle.std.proofs.lemmas.Bool.{lt-ltb, eqb-true, eqb-false, ltb-false, cases_eq, eq-eqb, false≢true}
 use Rattle.spk_nums.specs.Capability.{Capability}
 use Rattle.spk_nums.specs.Setting.{Setting, IsSetting}
@@ -14,7 +14,7 @@ use Rattle.spk_nums.specs.declared.kinds.Obj.{Obj}
 use Rattle.spk_nums.specs.declared.kinds.Obj.TheVariants as obj
 use Rattle.spk_nums.specs.declared.replies.Reply.{Reply}
 use Rattle.spk_nums.specs.declared.replies.Reply.TheVariants as reply
-use Rattle.entry_words.proofs.Spelling as entries
+use Rattle.frame_invariant.proofs.NewObjects.{word_small}
 use Rattle.entry_words.specs.EntryWord.{word_of_entry}
 use Rattle.entry_words.specs.declared.entry.Entry.TheVariants as entry
 use Rattle.frame_words.proofs.FrameLemmas as frames
@@ -48,8 +48,10 @@ use Rattle.call_plans.specs.GoesBy.{own_pages}
 use Rattle.plan_ways.proofs.Ways.{next_on_way}
 use Rattle.plan_ways.specs.Laws.{NextPlace}
 use Rattle.stage_pins.specs.declared.held.Acquired.{Acquired}
-use Rattle.call_acts.specs.Acts.{dues, next_work, cap_dues, made_dues, meets_object, meets_blank, meets_making, marks_if, published, meets_kernel}
-use Rattle.call_acts.specs.Makings.{stored, MakingAtFits, marked}
+use Rattle.call_acts.specs.Acts.{dues, next_work, made_dues, meets_object, meets_blank, meets_making, marks_if, published, meets_kernel}
+use Rattle.call_acts.specs.Objects.{object_word, object_dues, last_word}
+use Rattle.call_acts.specs.declared.objects.NewObject.{NewObject}
+use Rattle.call_acts.specs.Makings.{stored, MakingAtFits, MakingFits, marked}
 use Rattle.call_acts.specs.WorkSteps.{refuse}
 use Rattle.call_acts.specs.declared.makings.Making.{Making}
 use Rattle.call_acts.specs.declared.makings.MakingAt.{MakingAt}
@@ -66,9 +68,9 @@ use Rattle.call_steps.specs.declared.stages.ActiveCall.{ActiveCall}
 use Rattle.call_steps.specs.declared.stages.Stage.TheVariants.{Undecided, Decided}
 use Rattle.core_invariant.proofs.Carries.{names_on, counts_on, spot_on}
 use Rattle.core_invariant.proofs.Counting as counting
-use Rattle.core_invariant.proofs.Good.{spares_other}
+use Rattle.core_invariant.proofs.Good.{spares_other, blank_is}
 use Rattle.core_invariant.proofs.Loads.{decides_on, step_to, OnlyLooks, next_at, loads_on, IsOfCall, core_at, inner, call_is, core_is}
-use Rattle.core_invariant.proofs.Refusals.{GoodTook, refuses_busy, refuses_raced, raced_leaving, not_spent}
+use Rattle.core_invariant.proofs.Refusals.{GoodTook, ticks_at, refuses_busy, refuses_raced, raced_leaving, not_spent}
 use Rattle.core_invariant.proofs.Writes.{stores_on}
 use Rattle.core_invariant.specs.Holding.{holds_counts, Holding, settled_by, settled, keeps}
 use Rattle.core_invariant.specs.Knows.{phase_at, due_of, KnowsUndecided, KnowsMaking, MakesBy, KnowsMakingAt, KnowsUnmark, blank_word, HasStored, HasBlank}
@@ -82,30 +84,34 @@ use Rattle.place_invariant.proofs.Outside.{vacant_slot, vacant_here, stands_alon
 use Rattle.frame_invariant.proofs.MakeCalls as calls
 use Rattle.frame_invariant.proofs.MakeCalls.{makes_on}
 
--- The words of the node that is made are stored one after another, and then the target is compared.
-stored_holds : (f word n : ℕ) (h : Holding) → holds_making f (stored word n) h ≡ keeps (FrameAt f) word h
-stored_holds f word n h = by (nat_lt n 63)
+-- The words of the object that is made are stored one after another, and then the target is compared.
+stored_holds : (object : NewObject) (f word n : ℕ) (h : Holding) → holds_making f (stored object word n) h ≡ keeps (FrameAt f) word h
+stored_holds object f word n h = by (nat_lt n (last_word object))
   where
     by : (b : Bool) → holds_making f (if b then Store word (n + 1) else making_fill word) h ≡ keeps (FrameAt f) word h
     by true = refl
     by false = refl
 
-stored_dues : (k : Capability) (word n : ℕ) → made_dues k (stored word n) ≡ cap_dues k (pos 1)
-stored_dues k word n = by (nat_lt n 63)
+stored_dues : (object : NewObject) (f word n : ℕ) → made_dues object f (stored object word n) ≡ object_dues object f
+stored_dues object f word n = by (nat_lt n (last_word object))
   where
-    by : (b : Bool) → made_dues k (if b then Store word (n + 1) else making_fill word) ≡ cap_dues k (pos 1)
+    by : (b : Bool) → made_dues object f (if b then Store word (n + 1) else making_fill word) ≡ object_dues object f
     by true = refl
     by false = refl
 
-stored_knows : (setup : Setting) (t : Trace) (c f word n : ℕ) → HasStored setup t f word (n + 1) → n < 64
-    → KnowsMakingAt setup t c f (stored word n)
-stored_knows setup t c f word n has small = by (nat_lt n 63) refl
+stored_knows : (setup : Setting) (t : Trace) (c f : ℕ) (object : NewObject) (word n : ℕ) → HasStored setup t f object word (n + 1)
+    → n ≤ last_word object → KnowsMakingAt setup t c f object (stored object word n)
+stored_knows setup t c f object word n has small = by (nat_lt n (last_word object)) refl
   where
-    by : (b : Bool) → nat_lt n 63 ≡ b → KnowsMakingAt setup t c f (if b then Store word (n + 1) else making_fill word)
+    by : (b : Bool) → nat_lt n (last_word object) ≡ b
+        → KnowsMakingAt setup t c f object (if b then Store word (n + 1) else making_fill word)
     by true is = has
-    by false is = record { says = has.says; free = λ i below. has.free i (let q = ltb-false n 63 is in omega (arith, q, below)) }
+    by false is = record {
+      says = has.says;
+      stored = λ i below. has.stored i (let q = ltb-false n (last_word object) is in omega (arith, q, below));
+    }
 
--- A call that makes a node loads and changes the word of its frame, and the words of a blank frame.
+-- A call that makes an object loads and changes the word of its frame, and the words of a blank frame.
 made_looks : (call : Call) → changes_frames call ≡ true → IsTrue (looks_at_frames call)
 made_looks (Map p v r f w) is = absurd (false≢true is)
 made_looks call is = is
@@ -176,11 +182,11 @@ module _ (setup : Setting) (setting : IsSetting setup) (cores : ℕ → Core) (t
   held_at : (at : MakingAt) → m.at ≡ at → holds_in (Some a) ≡ holds_making f at (holds_counts None a.counts)
   held_at at is = ap (λ stage. holds_at stage a.counts) stage_is ∙ ap (λ x. holds_making f x (holds_counts None a.counts)) is
 
-  dues_at : (at : MakingAt) → m.at ≡ at → made_dues m.fill.cap at ≡ map due_of a.counts
-  dues_at at is = ap (made_dues m.fill.cap) (sym is) ∙ has.knows.all
+  dues_at : (at : MakingAt) → m.at ≡ at → made_dues m.object f at ≡ map due_of a.counts
+  dues_at at is = ap (made_dues m.object f) (sym is) ∙ has.knows.all
 
-  knows_at : (at : MakingAt) → m.at ≡ at → KnowsMakingAt setup t c f at
-  knows_at at is = subst (KnowsMakingAt setup t c f) is knows.at
+  knows_at : (at : MakingAt) → m.at ≡ at → KnowsMakingAt setup t c f m.object at
+  knows_at at is = subst (KnowsMakingAt setup t c f m.object) is knows.at
 
   near : is_one_of f (frames_near s c a.call) ≡ true
   near = made_near s c a.call a.found m knows.makes
@@ -194,7 +200,7 @@ module _ (setup : Setting) (setting : IsSetting setup) (cores : ℕ → Core) (t
 
   -- where it goes on, what it knows of its target it still knows after a step on another word
   goes_on_at : (e : Step) → e.core ≡ c → e.enters ≡ None → EntryAt node index ≢ word_of e.move → Carries setup t e c → (at : MakingAt)
-      → KnowsMakingAt setup (e ∷ t) c f at
+      → KnowsMakingAt setup (e ∷ t) c f m.object at
       → KnowsMaking setup (e ∷ t) c a.call a.plan a.found setup.cores (record m { at = at })
   goes_on_at e own no_entry there carries at now = record {
     spot = spot_on setup setting t e stands.legal c a.call is_open carries a.plan a.found setup.cores node index m.fill.word
@@ -228,7 +234,8 @@ module _ (setup : Setting) (setting : IsSetting setup) (cores : ℕ → Core) (t
 
     marked_good : (d : ℕ) → marked_by setup t (FrameAt f) ≡ Some d
         → GoodTook setup cores t c (LoadOf (FrameAt f)) (landed a (refuse (refusal.Busy d)))
-    marked_good d mark = refuses_busy setup setting cores t stands c here a active opens held_is room (LoadOf (FrameAt f)) loading d
+    marked_good d mark = refuses_busy setup setting cores t stands c here a active opens held_is room (LoadOf (FrameAt f)) loading
+        (ap ticks_at stage_is) d
         (ap (λ (xs : List Acquired). (holds_counts None xs).marks (FrameAt f)) no_counts) mark tt
 
     abbrev target : Target
@@ -361,7 +368,7 @@ module _ (setup : Setting) (setting : IsSetting setup) (cores : ℕ → Core) (t
     mark_lost : (was == word) ≡ false → GoodTook setup cores t c mark_it (landed a (marks_if m word false))
     mark_lost other =
         refuses_raced setup setting cores t stands c here a active opens (held_at (Mark word) at_is) room mark_it
-        (record { of_call = mark_of_call; kept = kept; apart = λ d. refl })
+        (record { of_call = mark_of_call; kept = kept; apart = λ d. refl }) (ap ticks_at stage_is)
         (record {
           at = tt;
           reads = eq-eqb (left_of mark_it was) was kept;
@@ -399,8 +406,9 @@ module _ (setup : Setting) (setting : IsSetting setup) (cores : ℕ → Core) (t
           names = names_on setup setting t e stands.legal c a.call is_open carries (cores c).own.table a.plan a.found has.names;
           knows = knows_next setup (e ∷ t) c (cores c).own.table next m.core act (dues act) knows.core
               (goes_on_at e refl refl (λ h. cc) carries (Store word 0)
-              (record { says = met.says; free = λ i none. absurd (omega (arith, none)) }))
-              (ap (λ (xs : List Acquired). map due_of xs ++ dues act) (sym no_counts)) 0
+              (record { says = met.says; stored = λ i none. absurd (omega (arith, none)) }))
+              (ap (λ (xs : List Acquired). map due_of xs ++ dues act) (sym no_counts))
+              (calls.counts_apart setup setting cores t stands c here a active m stage_is has blank) 0
               (ap (λ (xs : List Acquired). length xs) (sym no_counts)) refl refl;
         })
         (counts_on setup t e c a.call (λ own. refl) a.counts (call_is setup setting cores t stands c here a active).counts)
@@ -436,6 +444,9 @@ module _ (setup : Setting) (setting : IsSetting setup) (cores : ℕ → Core) (t
         bare : marked_by setup t (FrameAt f) ≡ None
         bare = ap (λ (n : ℕ). frame_mark (frame_of_word n)) (eqb-true was word equal) ∙ ap frame_mark met.says
 
+        blank : s.frame f ≡ Kernel Blank
+        blank = blank_is (s.frame f) (sym (frame_says bare) ∙ ap frame_of_word (eqb-true was word equal) ∙ met.says)
+
     pub mark_good : GoodTook setup cores t c mark_it (landed a (marks_if m word (was == word)))
     mark_good = by_test (was == word) refl
       where
@@ -443,22 +454,25 @@ module _ (setup : Setting) (setting : IsSetting setup) (cores : ℕ → Core) (t
         by_test true same = mark_won same
         by_test false other = mark_lost other
 
-  -- The store of a place.
+  -- The store of a word.
   module _ (word n : ℕ) (at_is : m.at ≡ Store word n) where
-    abbrev free : ℕ
-    free = word_of_entry entry.Free
+    abbrev new_word : ℕ
+    new_word = object_word m.object n
 
     abbrev store : Move
-    store = StoreOf (EntryAt f n) free
+    store = StoreOf (EntryAt f n) new_word
 
     abbrev e : Step
     e = inner setup setting cores t stands c here a active store None None
 
-    stored_so : HasStored setup t f word n
+    stored_so : HasStored setup t f m.object word n
     stored_so = knows_at (Store word n) at_is
 
-    small : n < 64
-    small = subst MakingAtFits at_is (calls.fits_in setup setting cores t stands c here a active m stage_is has).at
+    fits_in : MakingFits (cores c).own.layout m
+    fits_in = calls.fits_in setup setting cores t stands c here a active m stage_is has
+
+    small : n ≤ last_word m.object
+    small = subst (MakingAtFits m.object) at_is fits_in.at
 
     held_store : holds_in (Some a) ≡ keeps (FrameAt f) word (holds_counts None a.counts)
     held_store = held_at (Store word n) at_is
@@ -478,34 +492,36 @@ module _ (setup : Setting) (setting : IsSetting setup) (cores : ℕ → Core) (t
     some_same : (x y : ℕ) → x ≡ y → Some x ≡ Some y
     some_same x y h = ap (λ (n : ℕ). Some n) h
 
-    pub store_good : GoodTook setup cores t c store (landed a (Goes (Act (make_act (record m { at = stored word n })))))
+    pub store_good : GoodTook setup cores t c store (landed a (Goes (Act (make_act (record m { at = stored m.object word n })))))
     store_good lands =
-        stores_on setup setting cores t stands c here a active store a.found (Undecided (Act (make_act (record m { at = stored word n }))))
+        stores_on setup setting cores t stands c here a active store a.found
+        (Undecided (Act (make_act (record m { at = stored m.object word n }))))
         (calls.no_mark setup setting cores t stands c here a active m stage_is has word held_store stored_so.says n)
-        (ap (λ x. mark_in_frame x n free) blank)
-        (entries.spelling.small entry.Free tt)
+        (ap (λ x. mark_in_frame x n new_word) blank)
+        (word_small m.object n fits_in.object.pair (calls.small_names setup setting cores t stands c here a active m stage_is has))
         (record { moves = makes_in_blank a.call a.found m knows.makes (s.frame f) blank; near = inl near })
         (λ b. refl) (λ h. cc) (λ g b h. cc) lands
-        (stored_holds f word n (holds_counts None a.counts) ∙ sym held_store) opens
-        (subst (λ x. IsFrameWord s.limits.frames x (s.place f n) (stamp setup t (PlaceOf f n)) n free) (sym blank) tt)
+        (stored_holds m.object f word n (holds_counts None a.counts) ∙ sym held_store) opens
+        (subst (λ x. IsFrameWord s.limits.frames x (s.place f n) (stamp setup t (PlaceOf f n)) n new_word) (sym blank) tt)
         (λ g i at is_blank. inl (ap (λ (h : ℕ). marked_by setup t (FrameAt h)) (sym (same_frame g i at)) ∙ own_mark))
         (λ carries. record {
           names = names_on setup setting t e stands.legal c a.call is_open carries (cores c).own.table a.plan a.found has.names;
           knows = record {
             knows = goes_on_at e refl refl
                 (λ h. calls.apart setup setting cores t stands c here a active m stage_is has word held_store stored_so.says
-                (same_frame node index (sym h))) carries (stored word n)
-                (stored_knows setup (e ∷ t) c f word n (record { says = stored_so.says; free = now_free }) small);
-            all = stored_dues m.fill.cap word n ∙ dues_at (Store word n) at_is;
+                (same_frame node index (sym h))) carries (stored m.object word n)
+                (stored_knows setup (e ∷ t) c f m.object word n (record { says = stored_so.says; stored = now_stored }) small);
+            all = stored_dues m.object f word n ∙ dues_at (Store word n) at_is;
             goes = refl;
           };
         })
       where
-        now_free : (i : ℕ) → i < n + 1 → last_left setup (e ∷ t) (EntryAt f i) ≡ free
-        now_free i below = elim (cases_eq i n) [
+        now_stored : (i : ℕ) → i < n + 1 → last_left setup (e ∷ t) (EntryAt f i) ≡ object_word m.object i
+        now_stored i below = elim (cases_eq i n) [
           | inl same ↦ ap (λ (j : ℕ). last_left setup (e ∷ t) (EntryAt f j)) same ∙ last_left-here setup (EntryAt f n) e t refl
+              ∙ ap (object_word m.object) (sym same)
           | inr other ↦ last_left-there setup (EntryAt f i) e t (λ h. other (same_index f i h))
-              ∙ stored_so.free i (omega (arith, below, other))
+              ∙ stored_so.stored i (omega (arith, below, other))
         ]
 
   -- The compare of the target, where it is lost.
@@ -516,7 +532,7 @@ module _ (setup : Setting) (setting : IsSetting setup) (cores : ℕ → Core) (t
     abbrev found_there : ℕ
     found_there = last_left setup t (EntryAt node index)
 
-    abbrev stored_all : HasStored setup t f word 64
+    abbrev stored_all : HasStored setup t f m.object word (last_word m.object + 1)
     stored_all = knows_at (making_fill word) at_is
 
     pub put_of_call : IsOfCall setup t c a.call put_it
@@ -535,7 +551,7 @@ module _ (setup : Setting) (setting : IsSetting setup) (cores : ℕ → Core) (t
         raced_leaving setup setting cores t stands c here a active opens (Unmark f word) (sym (held_at (making_fill word) at_is))
         (λ e. blank_left f word a.call (made_changes a.call a.found m knows.makes) (made_argument a.call a.found m knows.makes)
         stored_all.says)
-        room put_it (record { of_call = put_of_call; kept = kept; apart = λ d. refl })
+        room put_it (record { of_call = put_of_call; kept = kept; apart = λ d. refl }) (ap ticks_at stage_is)
         (record {
           at = inl (subst (λ o. IsSlot o node index)
               (sym (calls.target_slot setup setting cores t stands c here a active m stage_is has)) (refl, refl));

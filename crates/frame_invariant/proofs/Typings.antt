@@ -72,7 +72,7 @@ use Rattle.core_invariant.proofs.Carries.{names_on, own_kept}
 use Rattle.core_invariant.proofs.CountSums.{counted_refs}
 use Rattle.core_invariant.proofs.Good.{spares_other}
 use Rattle.core_invariant.proofs.Loads.{IsOfCall, OnlyLooks, step_to, next_at, core_at, inner, call_is, is_active, loads_on}
-use Rattle.core_invariant.proofs.Refusals.{GoodTook, not_spent, refuses_raced, refuses_busy, refuses_frame_kind}
+use Rattle.core_invariant.proofs.Refusals.{GoodTook, ticks_at, not_spent, refuses_raced, refuses_busy, refuses_frame_kind}
 use Rattle.core_invariant.proofs.Sounds.{limits_of}
 use Rattle.core_invariant.proofs.Sums.{sums_keep}
 use Rattle.core_invariant.proofs.WordFrames.{SameFor, ReadsAlike, StaysSaid, word_stays, others_settled}
@@ -287,7 +287,8 @@ module _ (setup : Setting) (setting : IsSetting setup) (cores : ℕ → Core) (t
   module _ (at_load : at ≡ Load) where
     marked_good : (d : ℕ) → marked_by setup t (FrameAt f) ≡ Some d
         → GoodTook setup cores t c (LoadOf (FrameAt f)) (landed a (refuse (refusal.Busy d)))
-    marked_good d mark = refuses_busy setup setting cores t stands c here a active opens held_is room (LoadOf (FrameAt f)) loading d
+    marked_good d mark = refuses_busy setup setting cores t stands c here a active opens held_is room (LoadOf (FrameAt f)) loading
+        (ap ticks_at stage_is) d
         (bare None (FrameAt f)) mark tt
 
     kind_good : (v : FrameWord) → frame_of_word was ≡ Some v → (v.mark ≡ None) → (j : FrameKind) → v.kind ≡ j → (j ≡ kind.Untyped → ⊥)
@@ -375,7 +376,7 @@ module _ (setup : Setting) (setting : IsSetting setup) (cores : ℕ → Core) (t
     lost : (was == word) ≡ false → GoodTook setup cores t c compare (landed a (typed_if false))
     lost other =
         refuses_raced setup setting cores t stands c here a active opens held_is room compare
-        (record { of_call = of_call; kept = kept; apart = λ d. refl })
+        (record { of_call = of_call; kept = kept; apart = λ d. refl }) (ap ticks_at stage_is)
         (record {
           at = tt;
           reads = eq-eqb (left_of compare was) was kept;

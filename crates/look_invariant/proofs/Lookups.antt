@@ -50,7 +50,7 @@ use Rattle.core_invariant.specs.Knows.{ReliesOn, LooksUp, Knows, phase_at}
 use Rattle.core_invariant.specs.Stands.{holds_at, holds_in, Stands}
 use Rattle.core_invariant.proofs.Loads.{OnlyLooks, step_to, next_at, is_active, loads_on}
 use Rattle.core_invariant.proofs.Places.{IsMarked, IsPlain, place_reads}
-use Rattle.core_invariant.proofs.Refusals.{GoodTook, NobodyWaits, refuses_no_slot, refuses_busy}
+use Rattle.core_invariant.proofs.Refusals.{GoodTook, ticks_at, NobodyWaits, refuses_no_slot, refuses_busy}
 
 -- What an entry shows of a place.
 pub record ShowsHeld (frames : ℕ) (p : Place) (k : Capability) : Type 0 where
@@ -236,7 +236,8 @@ module _ (setup : Setting) (setting : IsSetting setup) (cores : ℕ → Core) (t
       busy : (g i d : ℕ) → is_slot_in (wide_way_to (state_after setup t) target) g i ≡ true → (m : IsMarked setup t g i) → m.by ≡ d
           → GoodTook setup cores t c (LoadOf (EntryAt g i)) (landed a (refuse (refusal.Busy d)))
       busy g i d way m same =
-          refuses_busy setup setting cores t stands c here a active opens held_is room (LoadOf (EntryAt g i)) (looks_at g i way) d
+          refuses_busy setup setting cores t stands c here a active opens held_is room (LoadOf (EntryAt g i)) (looks_at g i way)
+          (ap ticks_at at) d
           (ap (λ xs. (holds_counts None xs).marks (EntryAt g i)) no_counts) (m.mark ∙ ap Some same) (λ node. on_way g i way)
 
       nowhere : (g i : ℕ) → is_slot_in (wide_way_to (state_after setup t) target) g i ≡ true

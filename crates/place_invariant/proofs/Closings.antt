@@ -50,7 +50,7 @@ use Rattle.core_invariant.proofs.Carries.{names_on, removal_on, slot_relies, cou
 use Rattle.core_invariant.proofs.Counting as counters
 use Rattle.core_invariant.proofs.Loads.{IsOfCall, core_at, inner, call_is, is_active}
 use Rattle.core_invariant.proofs.Places.{node_mark, node_says}
-use Rattle.core_invariant.proofs.Refusals.{GoodTook, refuses_raced}
+use Rattle.core_invariant.proofs.Refusals.{GoodTook, ticks_at, refuses_raced}
 use Rattle.count_invariant.proofs.Acquiring.{removal_places, plan_leads, goes_by}
 use Rattle.place_invariant.proofs.Fills.{changes_node, target_way}
 use Rattle.look_invariant.proofs.Lookups.{near_way}
@@ -152,7 +152,7 @@ module _ (setup : Setting) (setting : IsSetting setup) (cores : ℕ → Core) (t
         → GoodTook setup cores t c compare (landed a (took_close cap (close_at false node index word by) (close_compared false)))
     lost other =
         refuses_raced setup setting cores t stands c here a active opens held_is room compare
-        (record { of_call = of_call; kept = kept; apart = λ d. refl })
+        (record { of_call = of_call; kept = kept; apart = λ d. refl }) (ap ticks_at stage_is)
         (record {
           at = inl (subst (λ o. IsSlot o node index) (sym target_slot) (refl, refl));
           reads = eq-eqb (left_of compare was) was kept;

@@ -7,7 +7,7 @@ use Rattle.spk_nums.specs.Capability.{Capability}
 use Rattle.spk_nums.specs.Setting.{Setting, IsSetting}
 use Rattle.spk_nums.specs.declared.kinds.Kind.TheVariants as kind
 use Rattle.spk_nums.specs.declared.calls.Call.{Call}
-use Rattle.spk_nums.specs.declared.calls.Call.TheVariants.{Look, Copy, Remove, Shrink, Unmap, Retype, Make as make_call}
+use Rattle.spk_nums.specs.declared.calls.Call.TheVariants.{Look, Copy, Remove, Shrink, Unmap, Retype, Make as make_call, Tick, Kill}
 use Rattle.spk_nums.specs.declared.kinds.Kind.{Kind}
 use Rattle.supported_calls.specs.Built.{IsBuilt}
 use Rattle.spk_nums.specs.declared.replies.Value.TheVariants.{Nothing}
@@ -53,13 +53,13 @@ use Rattle.call_steps.specs.declared.stages.Stage.TheVariants.{Undecided, Decide
 use Rattle.call_steps.specs.declared.stages.ActiveCall.{ActiveCall}
 use Rattle.call_acts.specs.Fills.{FillFits, filled_if, fill_move}
 use Rattle.call_acts.specs.Acts.{cap_dues, put_by}
-use Rattle.call_steps.proofs.StepsFit.{one_due}
+use Rattle.call_steps.proofs.StepsFit.{cap_one}
 use Rattle.kernel_rules.specs.References.{named_by, times, refs}
 use Rattle.core_invariant.proofs.WordFrames.{reads_alike}
 use Rattle.core_invariant.proofs.Calm.{room_grows, IsCalm, calm_core, IsPlain, plain_stamp}
 use Rattle.core_invariant.proofs.CountSums.{fill_refs}
 use Rattle.core_invariant.proofs.Sounds.{limits_of}
-use Rattle.count_invariant.proofs.CountChanges.{counts_commit, counts_sum}
+use Rattle.count_invariant.proofs.CapChanges.{counts_commit, counts_sum}
 use Rattle.count_invariant.proofs.Acquiring.{plan_leads}
 use Rattle.place_invariant.proofs.Vacancy.{in_leaf, IsVacant, vacant_by}
 use Rattle.core_invariant.specs.Holding.{holds_counts}
@@ -74,7 +74,7 @@ use Rattle.core_invariant.specs.Stands.{holds_at, holds_in, holds, times_of, Sta
 use Rattle.core_invariant.proofs.Carries.{own_kept, slot_relies}
 use Rattle.core_invariant.proofs.Loads.{IsOfCall, next_at, core_at, inner, call_is, is_active}
 use Rattle.core_invariant.proofs.Places.{IsMarked, IsPlain as IsUnmarked, node_mark, place_reads}
-use Rattle.core_invariant.proofs.Refusals.{GoodTook, not_spent, refuses_raced}
+use Rattle.core_invariant.proofs.Refusals.{GoodTook, ticks_at, not_spent, refuses_raced}
 use Rattle.look_invariant.proofs.Lookups.{slot_right, slot_one, near_way}
 use Rattle.look_invariant.proofs.Findings.{own_is, found_named, way_gone}
 use Rattle.look_invariant.proofs.Next.{Rest, ANameLeft, NoneLeft, rest_of, next_name}
@@ -215,7 +215,7 @@ module _ (setup : Setting) (setting : IsSetting setup) (cores : ℕ → Core) (t
   lost : (was == word) ≡ false → GoodTook setup cores t c compare (landed a (filled_if false))
   lost other =
       refuses_raced setup setting cores t stands c here a active opens held_is room compare
-      (record { of_call = of_call; kept = kept; apart = λ d. refl })
+      (record { of_call = of_call; kept = kept; apart = λ d. refl }) (ap ticks_at stage_is)
       (record {
         at = inl (subst (λ o. IsSlot o node index) (sym target_slot) (refl, refl));
         reads = eq-eqb (left_of compare was) was kept;
@@ -357,7 +357,7 @@ module _ (setup : Setting) (setting : IsSetting setup) (cores : ℕ → Core) (t
     no_count f d h = cc
 
     few : length (cap_dues k (pos 1)) ≤ 1
-    few = one_due (fill_act (record { node = node; entry = index; word = word; cap = k }))
+    few = cap_one k.kind k.frame k.arg (pos 1)
 
     node_below : node < s.limits.frames
     node_below = subst (λ (n : ℕ). node < n) (ap (λ x. x.frames) (stands.each c here).shape ∙ sym
@@ -470,6 +470,8 @@ puts_by s c target q (Shrink u i) built ks lead none next puts = absurd (cc)
 puts_by s c target q (Unmap p v) built ks lead none next puts = absurd (cc)
 puts_by s c target q (Retype r f k) built ks lead none next puts = absurd (cc)
 puts_by s c target q (make_call what r f u b) built ks lead none next puts = absurd (cc)
+puts_by s c target q (Tick n) built ks lead none next puts = absurd (cc)
+puts_by s c target q (Kill n) built ks lead none next puts = absurd (cc)
 puts_by s c target q call built ks lead none next puts = absurd built
 
 module _ (setup : Setting) (setting : IsSetting setup) (cores : ℕ → Core) (t : Trace) (stands : Stands setup cores t) (c : ℕ)

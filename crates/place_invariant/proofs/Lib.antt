@@ -1,5 +1,5 @@
 pub mod Starts
-pub mod NodeMakes
+pub mod ObjectMakes
 pub mod Outside
 pub mod Fills
 pub mod Vacancy

@@ -16,7 +16,7 @@ use Rattle.kernel_rules.specs.State.{State, PlaceOf, Kernel, Leaf}
 use Rattle.kernel_rules.specs.Access.{Slot, Target, Under, found, place_at, reached}
 use Rattle.kernel_rules.specs.Rules.{RuleMay, Refused, Found, and_then, or_refuse, unless, first_of, first_cause, vacant, not_vacant, outcome}
 use Rattle.kernel_rules.specs.Relies.{is_node}
-use Rattle.kernel_rules.specs.CapabilityCalls.{has_frame, not_blank, makes, cleared}
+use Rattle.kernel_rules.specs.CapabilityCalls.{has_frame, not_blank, makes}
 use Rattle.kernel_rules.specs.CallRelation.{rule_of, change_of}
 use Rattle.kernel_history.specs.Alone.{IsAlone}
 use Rattle.kernel_history.specs.Trace.{Step, Trace, Open, phase, state_after, last_left}
@@ -26,8 +26,8 @@ use Rattle.call_plans.specs.PlanOf.{plan_for}
 use Rattle.call_plans.specs.GoesBy.{GoesBy, own_pages}
 use Rattle.call_plans.specs.After.{Leads, LeadsIn, rule_after, names_after, NextName, NextFree, next_of}
 use Rattle.call_plans.proofs.AfterNames.{left_may, outcome_left}
-use Rattle.call_acts.specs.declared.makings.Node.{Node}
-use Rattle.call_acts.specs.Makings.{node_kind, node_made}
+use Rattle.call_acts.specs.declared.objects.NewObject.{NewObject}
+use Rattle.call_acts.specs.Objects.{object_kind, object_made}
 use Rattle.call_steps.specs.declared.stages.ActiveCall.{ActiveCall}
 use Rattle.call_steps.specs.View.{Core}
 use Rattle.core_invariant.specs.Knows.{IsSpot, MayFill, OutsideBy, NamesAre, phase_at}
@@ -37,7 +37,7 @@ use Rattle.core_invariant.proofs.Places.{IsMarked, IsPlain as IsUnmarked, place_
 use Rattle.core_invariant.proofs.Sounds.{limits_of}
 use Rattle.count_invariant.proofs.Acquiring.{plan_leads, goes_by}
 use Rattle.look_invariant.proofs.Next.{Rest, ANameLeft, NoneLeft, rest_of, next_name}
-use Rattle.place_invariant.proofs.NodeMakes.{node_object, make_rest, IsNodeMake, node_make}
+use Rattle.place_invariant.proofs.ObjectMakes.{new_object, readied, make_rest, IsObjectMake, object_make}
 use Rattle.place_invariant.proofs.Starts.{IsRefusedOutside}
 use Rattle.place_invariant.proofs.Vacancy.{in_leaf, IsVacant, vacant_by}
 
@@ -48,19 +48,19 @@ vacant_slot s c target at is free =
     ap (λ o. and_then (or_refuse o reply.NoSlot) λ at. unless (not_vacant s c (PlaceOf at.node at.index) (place_at s at)) at) is
     ∙ ap (λ o. unless o at) free
 
--- The call is one that makes a node, in a frame that is not in its range.
+-- The call is one that makes an object, in a frame that is not in its range.
 pub record IsOutsideMake (call : Call) (ks : List Capability) : Type 0 where
   pub what : Make
   pub name : ℕ
   pub frame : ℕ
   pub root : ℕ
   pub slot : ℕ
-  pub node : Node
+  pub object : NewObject
   pub range : Capability
   pub rest : List Capability
   pub call_is : call ≡ make_call what name frame root slot
   pub found_is : ks ≡ range ∷ rest
-  pub node_is : node_made what ≡ Some node
+  pub object_is : object_made what ks ≡ Some object
   pub outside : has_frame (found range) frame ≡ false
 
 some_of : {A : Type 0} (o : Option A) → IsSome o → (R : Type 0) → ((x : A) → o ≡ Some x → R) → R
@@ -68,20 +68,20 @@ some_of None some R f = absurd (false≢true some)
 some_of (Some x) some R f = f x refl
 
 outside_make : (call : Call) (ks : List Capability) → OutsideBy call ks → IsOutsideMake call ks
-outside_make (make_call what r f u b) (range ∷ ks) is = some_of (node_made what) is.node (IsOutsideMake (make_call what r f u b)
-    (range ∷ ks))
-    (λ node node_is. record {
+outside_make (make_call what r f u b) (range ∷ ks) is = some_of (object_made what (range ∷ ks)) is.object
+    (IsOutsideMake (make_call what r f u b) (range ∷ ks))
+    (λ object object_is. record {
       what = what;
       name = r;
       frame = f;
       root = u;
       slot = b;
-      node = node;
+      object = object;
       range = range;
       rest = ks;
       call_is = refl;
       found_is = refl;
-      node_is = node_is;
+      object_is = object_is;
       outside = is.outside;
     })
 outside_make (make_call what r f u b) [] is = absurd is
@@ -99,7 +99,7 @@ none_left_of plan ks target next = by (rest_of plan ks)
     by (ANameLeft name rest is) = absurd (not_free _ _ (sym (next_name plan ks name rest is) ∙ next))
     by (NoneLeft none) = none
 
--- A call that makes a node is refused in a frame outside its range, where its target is reached and, if the call is alone, vacant.
+-- A call that makes an object is refused in a frame outside its range, where its target is reached and, if the call is alone, vacant.
 module _ (setup : Setting) (setting : IsSetting setup) (cores : ℕ → Core) (t : Trace) (stands : Stands setup cores t) (c : ℕ)
     (here : c < setup.cores)
     (a : ActiveCall) (active : (cores c).active ≡ Some a) (opens : phase_at a.call a.stage ≡ Open a.call)
@@ -131,8 +131,8 @@ module _ (setup : Setting) (setting : IsSetting setup) (cores : ℕ → Core) (t
   plan_call : a.plan ≡ plan_for (make_call is.what is.name is.frame is.root is.slot)
   plan_call = (is_active setup setting cores t stands c here a active).plan ∙ ap plan_for is.call_is
 
-  make : IsNodeMake s c is.name is.frame is.root is.slot is.what is.node a.found
-  make = node_make s c is.name is.frame is.root is.slot is.what is.node is.node_is a.found
+  make : IsObjectMake s c is.name is.frame is.root is.slot is.what is.object a.found
+  make = object_make s c is.name is.frame is.root is.slot is.what is.object a.found is.object_is
       (subst (λ (p : Plan). Leads (LeadsIn s c) p.names [] a.found) plan_call leads)
       (subst (λ (p : Plan). names_after p.names a.found ≡ []) plan_call (none_left_of a.plan a.found target next))
 
@@ -154,7 +154,7 @@ module _ (setup : Setting) (setting : IsSetting setup) (cores : ℕ → Core) (t
       first_same : (k j : Capability) (ks js : List Capability) → k ∷ ks ≡ j ∷ js → k ≡ j
       first_same k j ks js h = cc
 
-  left : rule_after (rule_of s c a.call) a.found ≡ make_rest s make.two.range is.frame is.node (Under (found make.two.table) is.slot)
+  left : rule_after (rule_of s c a.call) a.found ≡ make_rest s make.two.range is.frame is.object (Under (found make.two.table) is.slot)
   left = ap (λ x. rule_after (rule_of s c x) a.found) is.call_is ∙ make.rule
 
   first : IsAlone t (step_to c None move (last_left setup t (word_of move)) (Some reply.OutOfRange) None)
@@ -162,10 +162,11 @@ module _ (setup : Setting) (setting : IsSetting setup) (cores : ℕ → Core) (t
   first alone =
       outcome_left s c (own_pages s c) a.plan (rule_of s c a.call) a.found by_plan leads ∙ ap (outcome s c) left
       ∙ ap (λ x. and_then x λ at. unless (first_of (if not (has_frame (found make.two.range) is.frame) then Some reply.OutOfRange else None)
-      (first_cause s c (not_blank s is.frame ∷ []))) (makes (cleared s is.frame) is.frame (node_object is.node) (node_kind is.node) at))
+      (first_cause s c (not_blank s is.frame ∷ [])))
+      (makes (readied is.object s is.frame) is.frame (new_object is.object) (object_kind is.object) at))
       (vacant_slot s c (Under (found make.two.table) is.slot) slot reached_is (vacant_alone leaf alone).vacant)
       ∙ ap (λ b. unless (first_of (if not b then Some reply.OutOfRange else None) (first_cause s c (not_blank s is.frame ∷ [])))
-      (makes (cleared s is.frame) is.frame (node_object is.node) (node_kind is.node) slot)) outside_is
+      (makes (readied is.object s is.frame) is.frame (new_object is.object) (object_kind is.object) slot)) outside_is
 
   pub refused_vacant : IsRefusedOutside setup t c a.call move
   refused_vacant = record {

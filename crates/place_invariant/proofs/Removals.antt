@@ -23,7 +23,7 @@ use Rattle.word_map.specs.Moves.{AddOf, word_of, told_of}
 use Rattle.word_map.proofs.WordLemmas.{same_same}
 use Rattle.kernel_rules.specs.State.{Place, Free, Holds, Quiescing, Thing, PlaceOf, FrameOf, NumberOf, Grace, State, comp_of, with_place, with_grace}
 use Rattle.kernel_rules.specs.Access.{Slot, Target, Under, InRoot, found, own, place_at, held_in, reached}
-use Rattle.kernel_rules.specs.Rules.{Found, IsFoundAnd, Does, and_then, or_refuse, held, outcome, removes, frames_of}
+use Rattle.kernel_rules.specs.Rules.{Found, IsFoundAnd, Does, and_then, or_refuse, outcome, removes, frames_of}
 use Rattle.kernel_rules.specs.Rules as rules
 use Rattle.kernel_rules.specs.References.{named_by, times, refs}
 use Rattle.kernel_rules.specs.CallRelation.{MayReply, rule_of, ends_by, flushes_by, changed, change_of, counted, begins_in}
@@ -66,7 +66,7 @@ use Rattle.call_acts.specs.Acts.{took_close, cap_dues, removes_by}
 use Rattle.call_steps.specs.Fits.{StageFits, HasRoom}
 use Rattle.call_steps.specs.Steps.{GoesOn, landed, went_with}
 use Rattle.call_steps.specs.View.{Core}
-use Rattle.call_steps.proofs.StepsFit.{one_due}
+use Rattle.call_steps.proofs.StepsFit.{cap_one}
 use Rattle.core_invariant.specs.CountWords.{IsWithin}
 use Rattle.core_invariant.specs.Holding.{Holding, holds_counts, settled_by, settled}
 use Rattle.core_invariant.specs.Words.{PlaceIs, WordIs}
@@ -84,7 +84,7 @@ use Rattle.core_invariant.proofs.WordFrames.{SameFor, ReadsAlike, reads_alike, S
 use Rattle.core_invariant.proofs.Writes.{clock_small, same_marks}
 use Rattle.count_invariant.proofs.Acquiring.{removal_places, removal_raises, plan_leads, goes_by}
 use Rattle.place_invariant.proofs.Closings.{close_good, store_at}
-use Rattle.count_invariant.proofs.CountChanges.{counts_commit, counts_sum}
+use Rattle.count_invariant.proofs.CapChanges.{counts_commit, counts_sum}
 use Rattle.place_invariant.proofs.Fills.{node_word, target_way}
 use Rattle.look_invariant.proofs.Findings.{own_is, found_named, way_gone}
 use Rattle.look_invariant.proofs.Lookups.{near_way}
@@ -413,7 +413,7 @@ module _ (setup : Setting) (setting : IsSetting setup) (cores : ℕ → Core) (t
     still w = ap (λ b. if same_word w at then true else b) (same_marks (Some (Some now_at)) None a.counts w) ∙ sym (before w).0
 
     few : length (cap_dues cap (negsuc 0)) ≤ 1
-    few = one_due (remove_act (AtDraw node index) cap)
+    few = cap_one cap.kind cap.frame cap.arg (negsuc 0)
 
     node_below : node < s.limits.frames
     node_below = subst (λ (n : ℕ). node < n) (ap (λ y. y.frames) (stands.each c here).shape ∙ sym

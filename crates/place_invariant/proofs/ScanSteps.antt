@@ -13,7 +13,7 @@ use Rattle.entry_words.specs.declared.entry.Entry.{Entry}
 use Rattle.entry_words.specs.declared.entry.Entry.TheVariants as entry
 use Rattle.frame_words.specs.Core.{core_of_word}
 use Rattle.frame_words.specs.declared.core_word.CoreWord.{CoreWord}
-use Rattle.word_map.specs.Word.{EntryAt, CoreAt, FrameAt}
+use Rattle.word_map.specs.Word.{EntryAt, CoreAt, FrameAt, LiveAt}
 use Rattle.word_map.specs.Moves.{LoadOf, word_of, told_of}
 use Rattle.kernel_rules.specs.State.{Thing, PlaceOf, State}
 use Rattle.kernel_rules.specs.Access.{Slot, Target, reached}
@@ -38,7 +38,7 @@ use Rattle.call_plans.proofs.AfterNames.{Begins, left_begins, next_may}
 use Rattle.plan_ways.proofs.Ways.{asked_left}
 use Rattle.call_acts.specs.declared.refusals.Refusal.TheVariants as refusal
 use Rattle.call_acts.specs.declared.work.Act.{Act as ActOf}
-use Rattle.call_acts.specs.declared.work.Act.TheVariants.{Fill as fill_act, Remove as remove_act, Retype as type_act, Make as make_act, Outside}
+use Rattle.call_acts.specs.declared.work.Act.TheVariants.{Fill as fill_act, Remove as remove_act, Retype as type_act, Make as make_act, Outside, Tick as tick_act, Kill as kill_act}
 use Rattle.call_acts.specs.declared.work.Work.TheVariants.{Scan}
 use Rattle.call_steps.specs.declared.stages.Stage.TheVariants.{Undecided}
 use Rattle.call_steps.specs.declared.stages.ActiveCall.{ActiveCall}
@@ -212,6 +212,9 @@ module _ (setup : Setting) (setting : IsSetting setup) (cores : ℕ → Core) (t
     frame_apart : (f : ℕ) → FrameAt f ≢ CoreAt at
     frame_apart f h = cc
 
+    number_apart : (l : ℕ) → LiveAt l ≢ CoreAt at
+    number_apart l h = cc
+
     carried : (upto : ℕ) → ((d : ℕ) → d < upto → d ≢ c → (d < at) ⊎ (d ≡ at))
         → Carries setup t (step_to c None (LoadOf (CoreAt at)) was None None) c
         → KnowsAct setup (step_to c None (LoadOf (CoreAt at)) was None None ∷ t) c a.call a.plan a.found upto act
@@ -221,6 +224,7 @@ module _ (setup : Setting) (setting : IsSetting setup) (cores : ℕ → Core) (t
         (record {
           entries = λ f i. own_read-there c e t refl (EntryAt f i) (entry_apart f i);
           frames = λ f. own_read-there c e t refl (FrameAt f) (frame_apart f);
+          numbers = λ l. own_read-there c e t refl (LiveAt l) (number_apart l);
           stored = λ f i marked. last_left-there setup (EntryAt f i) e t (entry_apart f i);
         }) (more upto before)
 
@@ -320,6 +324,8 @@ scan_good setup setting cores t stands c here a active (AtCore x by at page) act
         (quiet_end setup.cores (AtCore x by at page) (last_left setup t (CoreAt at)))))
     by_act (remove_act close cap) is knows = absurd (none_scanned (remove_act close cap) is knows.knows.stamp)
     by_act (type_act typing) is knows = absurd (none_scanned (type_act typing) is knows.knows.stamp)
+    by_act (tick_act charge) is knows = absurd (none_scanned (tick_act charge) is knows.knows.stamp)
+    by_act (kill_act m) is knows = absurd (none_scanned (kill_act m) is knows.knows.stamp)
     by_act (fill_act fill) is knows =
         core_good setup setting cores t stands c here a active x by at page (fill_act fill) fill.node fill.entry fill.word is knows
         (record {

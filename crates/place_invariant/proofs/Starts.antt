@@ -1,5 +1,5 @@
 -- Where an act starts, after its look-ups or its scan: it acquires its first count or makes its first step, or its frame is out of range.
-use Rattle.std.proofs.Common.{◌≡◌, ℕ, ◌<◌, ◌++◌, map, length, not, true, false, List, [], ◌∷◌, Some, None, refl, sym, ◌∙◌, ap}
+use Rattle.std.proofs.Common.{◌≡◌, ℕ, pos, negsuc, ◌<◌, ◌++◌, map, length, not, true, false, List, [], ◌∷◌, Some, None, refl, sym, ◌∙◌, ap, arith}
 use Rattle.std.proofs.lemmas.Bool.{false≢true}
 use Rattle.spk_nums.specs.Setting.{Setting, IsSetting}
 use Rattle.spk_nums.specs.declared.calls.Call.{Call}
@@ -17,23 +17,27 @@ use Rattle.call_acts.specs.declared.refusals.Refusal.TheVariants as refusal
 use Rattle.call_acts.specs.declared.makings.MakingAt.{MakingAt}
 use Rattle.call_acts.specs.declared.makings.MakingAt.TheVariants.{Load as making_load, Mark, Store, Fill as making_fill}
 use Rattle.call_acts.specs.Makings.{is_marked}
+use Rattle.call_acts.specs.Kills.{is_killing}
+use Rattle.call_acts.specs.declared.kills.KillingAt.{KillingAt}
+use Rattle.call_acts.specs.declared.kills.KillingAt.TheVariants.{LoadComp, LoadLive, Close as kill_close, Draw as kill_draw}
 use Rattle.call_acts.specs.declared.work.Act.{Act as ActOf}
-use Rattle.call_acts.specs.declared.work.Act.TheVariants.{Fill as fill_act, Remove as remove_act, Retype as type_act, Make as make_act, Outside}
+use Rattle.call_acts.specs.declared.work.Act.TheVariants.{Fill as fill_act, Remove as remove_act, Retype as type_act, Make as make_act, Outside, Tick as tick_act, Kill as kill_act}
 use Rattle.call_acts.specs.declared.work.WorkStep.TheVariants.{Goes}
 use Rattle.call_acts.specs.WorkSteps.{refuse}
-use Rattle.call_acts.specs.Acts.{dues, next_work, starts}
+use Rattle.call_acts.specs.Acts.{dues, made_dues, next_work, starts, killing_dues}
 use Rattle.call_steps.specs.declared.stages.Stage.{Stage}
 use Rattle.call_steps.specs.declared.stages.Stage.TheVariants.{Undecided}
 use Rattle.call_steps.specs.declared.stages.ActiveCall.{ActiveCall}
 use Rattle.call_steps.specs.Steps.{landed}
 use Rattle.call_steps.specs.View.{Core}
+use Rattle.call_steps.proofs.StepsFit.{cap_one}
 use Rattle.core_invariant.specs.Holding.{Holding, holds_counts}
-use Rattle.core_invariant.specs.Knows.{due_of, KnowsAct, NamesAre, is_start, is_counting, goes_on, phase_at}
-use Rattle.core_invariant.specs.Stands.{holds_act, holds_making, holds_in, Stands}
+use Rattle.core_invariant.specs.Knows.{AreDuesApart, due_of, KnowsAct, NamesAre, is_start, is_counting, goes_on, phase_at}
+use Rattle.core_invariant.specs.Stands.{holds_act, holds_making, holds_in, Stands, holds_killing}
 use Rattle.core_invariant.proofs.Carries.{names_on}
 use Rattle.core_invariant.proofs.Loads.{OnlyLooks, step_to, next_at, core_is, call_is, loads_on, decides_on}
 use Rattle.core_invariant.proofs.Refusals.{GoodTook, not_spent}
-use Rattle.count_invariant.proofs.Acquiring.{knows_next, next_holds}
+use Rattle.count_invariant.proofs.Acquiring.{knows_next, next_holds, one_apart}
 
 -- Before its first step an act holds nothing.
 start_holds : (act : ActOf) (h : Holding) → is_start act ≡ true → holds_act act h ≡ h
@@ -50,6 +54,14 @@ start_holds (make_act m) h is = by m.at is
     by (Store word entry) is = absurd (false≢true is)
     by (making_fill word) is = absurd (false≢true is)
 start_holds (Outside node entry word) h is = refl
+start_holds (tick_act charge) h is = refl
+start_holds (kill_act m) h is = by m.at is
+  where
+    by : (at : KillingAt) → not (is_killing at) ≡ true → holds_killing at h ≡ h
+    by LoadComp is = refl
+    by (LoadLive life) is = refl
+    by (kill_close life word) is = refl
+    by (kill_draw life word) is = absurd (false≢true is)
 
 start_counts : (act : ActOf) → is_start act ≡ true → is_counting act ≡ true
 start_counts (fill_act fill) is = refl
@@ -57,6 +69,30 @@ start_counts (remove_act close cap) is = is
 start_counts (type_act typing) is = refl
 start_counts (make_act m) is = refl
 start_counts (Outside node entry word) is = refl
+start_counts (tick_act charge) is = refl
+start_counts (kill_act m) is = is
+
+-- Before its first step an act changes one count at most.
+start_apart : (act : ActOf) → is_start act ≡ true → AreDuesApart (dues act)
+start_apart (fill_act fill) is = one_apart (dues (fill_act fill)) (cap_one fill.cap.kind fill.cap.frame fill.cap.arg (pos 1))
+start_apart (remove_act close cap) is = one_apart (dues (remove_act close cap)) (cap_one cap.kind cap.frame cap.arg (negsuc 0))
+start_apart (type_act typing) is = tt
+start_apart (make_act m) is = by m.at is
+  where
+    by : (at : MakingAt) → not (is_marked at) ≡ true → AreDuesApart (made_dues m.object m.frame at)
+    by making_load is = tt
+    by (Mark word) is = tt
+    by (Store word entry) is = absurd (false≢true is)
+    by (making_fill word) is = absurd (false≢true is)
+start_apart (Outside node entry word) is = tt
+start_apart (tick_act charge) is = tt
+start_apart (kill_act m) is = by m.at
+  where
+    by : (at : KillingAt) → AreDuesApart (killing_dues m.comp at)
+    by LoadComp = tt
+    by (LoadLive life) = tt
+    by (kill_close life word) = one_apart (killing_dues m.comp (kill_close life word)) (omega arith)
+    by (kill_draw life word) = one_apart (killing_dues m.comp (kill_draw life word)) (omega arith)
 
 -- A call whose frame is not in its range is refused so, and nothing before that refuses it.
 pub record IsRefusedOutside (setup : Setting) (t : Trace) (c : ℕ) (call : Call) (move : Move) : Type 0 where
@@ -90,7 +126,7 @@ module _ (setup : Setting) (setting : IsSetting setup) (cores : ℕ → Core) (t
         names = names_on setup setting t e stands.legal c a.call is_open carries (cores c).own.table a.plan a.found names;
         knows = knows_next setup (e ∷ t) c (cores c).own.table (next_at a a.found stage) (cores c).own.core act (dues act)
             (stands.each c here).number (known carries)
-            (ap (λ (xs : List Acquired). map due_of xs ++ dues act) (sym no_counts)) 0
+            (ap (λ (xs : List Acquired). map due_of xs ++ dues act) (sym no_counts)) (start_apart act is) 0
             (ap (λ (xs : List Acquired). length xs) (sym no_counts)) (start_counts act is) goes;
       })
 
@@ -109,3 +145,5 @@ module _ (setup : Setting) (setting : IsSetting setup) (cores : ℕ → Core) (t
   starts_good (type_act typing) is known refused = goes_good (type_act typing) is refl known
   starts_good (make_act m) is known refused = goes_good (make_act m) is refl known
   starts_good (Outside node entry word) is known refused = outside_good (refused refl)
+  starts_good (tick_act charge) is known refused = goes_good (tick_act charge) is refl known
+  starts_good (kill_act m) is known refused = goes_good (kill_act m) is refl known

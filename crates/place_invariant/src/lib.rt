@@ -6,5 +6,7 @@
 //!
 //! **Scanning.** A step of a scan is refused by a core that may still use what was removed, or goes on to the next core.
 //!
+//! **Out of the range.** A make whose frame is not in its range is refused where its target was found, or scanned for.
+//!
 //! The lemmas stand in this crate's proofs.
 #![tactic(auto)]

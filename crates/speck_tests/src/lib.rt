@@ -2,24 +2,16 @@
 #![tactic(auto)]
 
 #[cfg(test)]
-mod machine;
-#[cfg(test)]
-mod makes;
+mod loads;
 #[cfg(test)]
 mod numbers;
 #[cfg(test)]
 mod plains;
 #[cfg(test)]
-mod removals;
-#[cfg(test)]
 mod replays;
-#[cfg(test)]
-mod retypes;
 #[cfg(test)]
 mod runs;
 #[cfg(test)]
 mod schedules;
-#[cfg(test)]
-mod shrinks;
 #[cfg(test)]
 mod texts;

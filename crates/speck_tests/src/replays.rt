@@ -2,9 +2,6 @@
 
 ghost use Rattle.std.specs.Prelude.{◌≡◌};
 
-use crate::machine::{
-    AMPLE, Ends, FROM_ENTRIES, MACHINE, TO_ENTRIES, answers, is_counted, is_done, list_of, replays,
-};
 use byte_ends::{SureSink, SureSource};
 use core_kernel::FreeGate;
 use script_reader::Cause;
@@ -12,6 +9,9 @@ use speck_run::{Status, speck};
 use std::alloc::Global;
 use std::test::Fail;
 use std::thread::Threads;
+use test_machine::{
+    AMPLE, Ends, FROM_ENTRIES, MACHINE, TO_ENTRIES, answers, is_counted, is_done, list_of, replays,
+};
 
 // The smallest machine, and the tables of its start.
 const ALONE: &str = "speck 1\ncores 1\nframes 8\ngrant 100 0 1\n";
@@ -357,10 +357,10 @@ fn the_first_line_that_is_not_built_is_told(rt: HostRuntime) -> Result<(), Fail>
             "core 1\nlook 0\n\ncore 0\nremove 1 20\nretype 0 8 untyped\n",
             11,
         ),
-        ("core 0\nmake tcap 0 8 1 20 0 5\norder\n0\n", 7),
+        ("core 0\nmake comp 0 8 1 20 1 2 7\norder\n0\n", 7),
         (
-            "core 0\nmake table 0 8 1 20\nmake leaf 0 8 1 20\nmake pages 0 8 1 20\nmake pleaf 0 8 1 20\nmake thread 0 8 1 20 3\n",
-            11,
+            "core 0\nmake table 0 8 1 20\nmake leaf 0 8 1 20\nmake pages 0 8 1 20\nmake pleaf 0 8 1 20\nmake thread 0 8 1 20 3\nmake tcap 0 8 1 20 0 5\ntouch 1\n",
+            13,
         ),
         ("core 0\nmake leaf 0 8 1 20\nmake comp 0 8 1 21 1 2 7\n", 8),
         ("calls 4194304\nepochs 1\ncore 0\nret\n", 9),

@@ -2,15 +2,12 @@
 
 ghost use Rattle.std.specs.Prelude.{◌≡◌, false};
 
-use crate::machine::{FROM_ENTRIES, TO_ENTRIES};
-use byte_ends::{MemSink, MemSource};
 use core_kernel::{FreeGate, Gate};
-use speck_run::{Status, speck};
+use speck_run::Status;
 use spk_nums::CoreNo;
-use std::alloc::Global;
 use std::sync::atomic::{AtomicU64, Ordering};
 use std::test::Fail;
-use std::thread::Threads;
+use test_machine::{FROM_ENTRIES, TO_ENTRIES, runs};
 
 // Two cores that make two calls each, on entries of their own.
 const TWO_LISTS: &str =
@@ -126,27 +123,6 @@ impl Gate for Shut {
     fn may_go(&self, _core: CoreNo, _made: u32) -> bool {
         false
     }
-}
-
-// Whether `run` of this script ends with this status, and the sink then holds this text.
-pub(crate) fn runs<R: Threads + Sync, G: Gate>(
-    rt: &R,
-    alloc: Global,
-    gate: &G,
-    script: &str,
-    status: Status,
-    text: &str,
-) -> Result<bool, Fail> {
-    let mut words = Vec::new(alloc);
-    let word = String::from_str(alloc, "run")?;
-    words.push(word)?;
-    let bytes = Vec::from_slice(alloc, script.as_bytes())?;
-    let none = Vec::new(alloc);
-    let mut source = MemSource::new(bytes, 4096, none);
-    let none = Vec::new(alloc);
-    let mut sink = MemSink::new(alloc, 4096, 4096, none)?;
-    let answer = speck(rt, alloc, gate, &words, &mut source, &mut sink);
-    Ok(answer == status && sink.bytes() == text.as_bytes())
 }
 
 #[test]

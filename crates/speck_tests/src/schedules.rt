@@ -9,8 +9,6 @@
 
 ghost use Rattle.std.specs.Prelude.{◌≡◌, false};
 
-use crate::machine::{FROM_ENTRIES, MACHINE, TO_ENTRIES};
-use crate::runs::runs;
 use core_kernel::Gate;
 use speck_run::Status;
 use spk_nums::CoreNo;
@@ -18,6 +16,7 @@ use std::alloc::Global;
 use std::sync::atomic::{AtomicU64, Ordering};
 use std::test::Fail;
 use std::thread::Threads;
+use test_machine::{FROM_ENTRIES, MACHINE, TO_ENTRIES, runs};
 
 // The orders of two calls of core 0 and two of core 1.
 const ORDERS: [[u8; 4]; 6] = [

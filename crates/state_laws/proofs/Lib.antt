@@ -1,6 +1,7 @@
 pub mod Phases
 pub mod Kept
 pub mod Lives
+pub mod CompsApart
 pub mod Gates
 pub mod Threads
 pub mod Flushes

@@ -19,6 +19,13 @@ abbrev pub LiveNumbersFit : Type 0
 LiveNumbersFit = (setting : Setting) → IsSetting setting → (events : List Event) → IsRun setting events → (l e f : ℕ)
     → (after setting events).number l ≡ Live e f → IsCompOf ((after setting events).frame f) l e
 
+-- No two frames have components of one liveness number and one epoch.
+abbrev pub CompsApart : Type 0
+CompsApart = (setting : Setting) → IsSetting setting → (events : List Event) → IsRun setting events → (f g : ℕ)
+    → IsTrue (fits kind.Comp ((after setting events).frame f)) → IsTrue (fits kind.Comp ((after setting events).frame g))
+    → (comp_in ((after setting events).frame f)).number ≡ (comp_in ((after setting events).frame g)).number
+    → (comp_in ((after setting events).frame f)).epoch ≡ (comp_in ((after setting events).frame g)).epoch → f ≡ g
+
 -- A gate's epoch is that in which its component was made.
 abbrev pub IsOfEpoch : State → Capability → Type 0
 IsOfEpoch s k = k.kind ≡ kind.Gate → k.arg ≡ (comp_in (s.frame k.frame)).epoch

@@ -1,8 +1,8 @@
-//! Laws of the states that runs of the sequential kernel reach, which no other crate needs: liveness numbers, gates and threads,
+//! Laws of the states that runs of the sequential kernel reach: liveness numbers, gates and threads,
 //! cached translations, and what an open call has found. Each is the contract of a function.
 #![tactic(auto)]
 
-ghost use Rattle.state_laws.specs.Lives.{LiveNumbersFit, GatesFit, DeadStays, ThreadsRun};
+ghost use Rattle.state_laws.specs.Lives.{LiveNumbersFit, CompsApart, GatesFit, DeadStays, ThreadsRun};
 ghost use Rattle.state_laws.specs.Cached.{TranslationsStand};
 ghost use Rattle.state_laws.specs.Looking.{FoundStays};
 
@@ -10,6 +10,12 @@ ghost use Rattle.state_laws.specs.Looking.{FoundStays};
 #[tactic(auto, using(crate::proofs::Lives::live_numbers_fit))]
 pub fn live_numbers_fit()
     ensures { LiveNumbersFit }
+{}
+
+/// In every state that a run reaches, no two frames have components of one liveness number and one epoch.
+#[tactic(auto, using(crate::proofs::CompsApart::comps_apart))]
+pub fn comps_apart()
+    ensures { CompsApart }
 {}
 
 /// In every state that a run reaches, a gate that a place holds, or that a core in an open call may use, has the epoch in which

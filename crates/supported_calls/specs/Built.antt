@@ -2,7 +2,7 @@
 use Rattle.spk_nums.specs.declared.kinds.FrameKind.{FrameKind}
 use Rattle.spk_nums.specs.declared.kinds.FrameKind.TheVariants.{Untyped, User, Kernel}
 use Rattle.spk_nums.specs.declared.calls.Call.{Call}
-use Rattle.spk_nums.specs.declared.calls.Call.TheVariants.{Look, Copy, Remove, Shrink, Retype, Make as make_call, Unmap}
+use Rattle.spk_nums.specs.declared.calls.Call.TheVariants.{Look, Copy, Remove, Shrink, Retype, Make as make_call, Unmap, Tick, Kill}
 use Rattle.spk_nums.specs.declared.calls.Make.{Make}
 use Rattle.spk_nums.specs.declared.calls.Make.TheVariants.{Table, Leaf, Pages, Pleaf, Thread, Tcap, Comp}
 
@@ -12,18 +12,18 @@ IsTyping Untyped = ⊥
 IsTyping User = Unit {0}
 IsTyping Kernel = Unit {0}
 
--- a make is carried out of a node
-abbrev pub IsNodeMade : Make → Type 0
-IsNodeMade Table = Unit {0}
-IsNodeMade Leaf = Unit {0}
-IsNodeMade Pages = Unit {0}
-IsNodeMade Pleaf = Unit {0}
-IsNodeMade (Thread comp) = ⊥
-IsNodeMade (Tcap sched quality) = ⊥
-IsNodeMade (Comp table pages live) = ⊥
+-- a make is carried out of any object but a component
+abbrev pub IsObjectMade : Make → Type 0
+IsObjectMade Table = Unit {0}
+IsObjectMade Leaf = Unit {0}
+IsObjectMade Pages = Unit {0}
+IsObjectMade Pleaf = Unit {0}
+IsObjectMade (Thread comp) = Unit {0}
+IsObjectMade (Tcap sched quality) = Unit {0}
+IsObjectMade (Comp table pages live) = ⊥
 
--- the calls that the machine carries out today: `look`, `copy`, `remove`, `shrink`, `unmap`, `retype` to user and to kernel, and `make` of
--- a node
+-- the calls that the machine carries out today: `look`, `copy`, `remove`, `shrink`, `unmap`, `retype` to user and to kernel, `make` of
+-- any object but a component, `tick`, and `kill`
 abbrev pub IsBuilt : Call → Type 0
 IsBuilt (Look a) = Unit {0}
 IsBuilt (Copy a t b) = Unit {0}
@@ -31,5 +31,7 @@ IsBuilt (Remove t b) = Unit {0}
 IsBuilt (Shrink t i) = Unit {0}
 IsBuilt (Retype r f k) = IsTyping k
 IsBuilt (Unmap p v) = Unit {0}
-IsBuilt (make_call what range frame table slot) = IsNodeMade what
+IsBuilt (make_call what range frame table slot) = IsObjectMade what
+IsBuilt (Tick n) = Unit {0}
+IsBuilt (Kill k) = Unit {0}
 IsBuilt _ = ⊥

@@ -23,12 +23,19 @@ pub fn is_built(call: &Call) -> bool
                 k: FrameKind::User | FrameKind::Kernel
             }
             | Call::Make {
-                what: Make::Table | Make::Leaf | Make::Pages | Make::Pleaf,
+                what: Make::Table
+                    | Make::Leaf
+                    | Make::Pages
+                    | Make::Pleaf
+                    | Make::Thread { .. }
+                    | Make::Tcap { .. },
                 range: _,
                 frame: _,
                 table: _,
                 slot: _
             }
             | Call::Unmap { .. }
+            | Call::Tick { .. }
+            | Call::Kill { .. }
     )
 }

@@ -1,4 +1,4 @@
--- The act with which a call begins at a target that is to be free: it fills the place, it makes a node in a frame of its range, or this
+-- The act with which a call begins at a target that is to be free: it fills the place, it makes an object in a frame of its range, or this
 -- frame is out of range.
 use Rattle.std.specs.Prelude.{IsSome}
 use Rattle.std.proofs.Common.{◌≡◌, inl, ℕ, ◌<◌, ◌&&◌, nat_lt, Bool, true, false, List, [], ◌∷◌, Option, Some, refl, sym, ◌∙◌, ap, subst, IsTrue}
@@ -9,10 +9,10 @@ use Rattle.spk_nums.specs.declared.kinds.FrameKind.TheVariants as frame_kind
 use Rattle.spk_nums.specs.declared.kinds.Kind.{Kind}
 use Rattle.spk_nums.specs.declared.kinds.Kind.TheVariants as kind
 use Rattle.spk_nums.specs.declared.calls.Call.{Call}
-use Rattle.spk_nums.specs.declared.calls.Call.TheVariants.{Look as look_call, Copy, Remove, Shrink, Unmap, Retype, Make as make_call}
+use Rattle.spk_nums.specs.declared.calls.Call.TheVariants.{Look as look_call, Copy, Remove, Shrink, Unmap, Retype, Make as make_call, Tick, Kill}
 use Rattle.spk_nums.specs.declared.calls.Make.{Make}
 use Rattle.spk_nums.specs.declared.calls.Make.TheVariants as make
-use Rattle.supported_calls.specs.Built.{IsBuilt, IsNodeMade}
+use Rattle.supported_calls.specs.Built.{IsBuilt, IsObjectMade}
 use Rattle.entry_words.specs.EntryWord.{EntryFits, entry_of_word}
 use Rattle.entry_words.specs.declared.entry.Entry.TheVariants as entry
 use Rattle.kernel_rules.specs.State.{State}
@@ -38,15 +38,15 @@ use Rattle.call_plans.specs.Plans.{at_place}
 use Rattle.call_plans.specs.PlanOf.{any_cap, of_kind, plan_for}
 use Rattle.call_plans.specs.After.{Leads, LeadsIn, names_after}
 use Rattle.call_acts.specs.declared.own.Own.{Own}
-use Rattle.call_acts.specs.declared.makings.Node.{Node}
-use Rattle.call_acts.specs.declared.makings.Node.TheVariants as nodes
+use Rattle.call_acts.specs.declared.objects.NewObject.{NewObject}
+use Rattle.call_acts.specs.declared.objects.NewObject.TheVariants as objects
 use Rattle.call_acts.specs.declared.work.Act.{Act as ActOf}
 use Rattle.call_acts.specs.declared.work.Act.TheVariants.{Outside}
-use Rattle.call_acts.specs.Makings.{node_made}
+use Rattle.call_acts.specs.Objects.{object_made}
 use Rattle.call_acts.specs.Acts.{scans, stamp_in, stamp_shown, stamp_of_act, filling, making, making_if, makes_at, act_begun}
 use Rattle.core_invariant.specs.Knows.{IsSpot, KnowsAct, OutsideBy, is_start, goes_on}
 use Rattle.core_invariant.proofs.Sounds.{limits_of}
-use Rattle.place_invariant.proofs.NodeMakes.{TwoFound, node_make}
+use Rattle.place_invariant.proofs.ObjectMakes.{TwoFound, object_make}
 use Rattle.work_invariant.proofs.AtName.{range_below}
 
 -- What such a call begins with where it has found its place: an act, which starts after a scan, if there is one; what it knows of it where
@@ -107,8 +107,9 @@ module _ (own : Own) (plan : Plan) (c : ℕ) (own_core : own.core ≡ c) (at : F
     outside = λ out. absurd (false≢true (sym out));
   }
 
-  -- it makes a node
-  module _ (what : Make) (r f u b : ℕ) (node : Node) (is : node_made what ≡ Some node) (range : Capability) (rest : List Capability) where
+  -- it makes an object
+  module _ (what : Make) (r f u b : ℕ) (object : NewObject) (range : Capability) (rest : List Capability)
+      (is : object_made what (range ∷ rest) ≡ Some object) where
     abbrev ks : List Capability
     ks = range ∷ rest
 
@@ -116,22 +117,22 @@ module _ (own : Own) (plan : Plan) (c : ℕ) (own_core : own.core ≡ c) (at : F
     scan act = scans own.core (quiet_scan (stamp_in at.value) own.core own.layout.cores false) act
 
     within_is : (has : Bool) → has_frame (found range) f ≡ has
-        → act_begun own (make_call what r f u b) ks (Some at) ≡ scan (making_if (has && nat_lt f own.layout.frames) own node f at)
+        → act_begun own (make_call what r f u b) ks (Some at) ≡ scan (making_if (has && nat_lt f own.layout.frames) own object f at)
     within_is has by = ap (λ o. makes_at own o (Some range) f (Some at)) is
-        ∙ ap (λ b. scan (making_if (b && nat_lt f own.layout.frames) own node f at)) by
+        ∙ ap (λ b. scan (making_if (b && nat_lt f own.layout.frames) own object f at)) by
 
     begins_make : (has_frame (found range) f ≡ true → f < own.layout.frames) → Begins own (make_call what r f u b) plan ks c at
     begins_make below = by (has_frame (found range) f) refl
       where
         by : (has : Bool) → has_frame (found range) f ≡ has → Begins own (make_call what r f u b) plan ks c at
         by true has = record {
-          act = making own node f at;
-          begins = within_is true has ∙ ap (λ b. scan (making_if b own node f at)) (lt-ltb f own.layout.frames (below has));
+          act = making own object f at;
+          begins = within_is true has ∙ ap (λ b. scan (making_if b own object f at)) (lt-ltb f own.layout.frames (below has));
           stamp = refl;
           starts = refl;
           knows = λ setup t upto spot. record {
             spot = spot;
-            makes = record { frame = refl; node = is; within = has };
+            makes = record { frame = refl; object = is; within = has };
             core = own_core;
             cap = refl;
             at = tt;
@@ -145,17 +146,34 @@ module _ (own : Own) (plan : Plan) (c : ℕ) (own_core : own.core ≡ c) (at : F
           starts = refl;
           knows = λ setup t upto spot. record {
             spot = spot;
-            outside = record { node = subst (λ (o : Option Node). IsSome o) (sym is) refl; outside = has };
+            outside = record { object = subst (λ (o : Option NewObject). IsSome o) (sym is) refl; outside = has };
           };
-          outside = λ out. record { node = subst (λ (o : Option Node). IsSome o) (sym is) refl; outside = has };
+          outside = λ out. record { object = subst (λ (o : Option NewObject). IsSome o) (sym is) refl; outside = has };
         }
 
-made_of : (what : Make) → IsNodeMade what → (R : Type 0) → ((node : Node) → node_made what ≡ Some node → R) → R
-made_of make.Table built R by = by nodes.Table refl
-made_of make.Leaf built R by = by nodes.Leaf refl
-made_of make.Pages built R by = by nodes.Pages refl
-made_of make.Pleaf built R by = by nodes.Pleaf refl
-made_of what built R by = absurd built
+-- The object that a call makes whose names have all led to something.
+made_of : (what : Make) → IsObjectMade what → (r f u b : ℕ) (ks : List Capability)
+    → names_after (plan_for (make_call what r f u b)).names ks ≡ []
+    → (R : Type 0) → ((object : NewObject) → object_made what ks ≡ Some object → R) → R
+made_of make.Table built r f u b ks none R by = by objects.Table refl
+made_of make.Leaf built r f u b ks none R by = by objects.Leaf refl
+made_of make.Pages built r f u b ks none R by = by objects.Pages refl
+made_of make.Pleaf built r f u b ks none R by = by objects.Pleaf refl
+made_of (make.Tcap sched quality) built r f u b ks none R by = by (objects.Tcap sched quality) refl
+made_of (make.Thread comp) built r f u b [] none R by = absurd (not_none none)
+  where
+    not_none : of_kind kind.Range r ∷ of_kind kind.Table u ∷ of_kind kind.Comp comp ∷ [] ≡ [] → ⊥
+    not_none h = cc
+made_of (make.Thread comp) built r f u b (k ∷ []) none R by = absurd (not_none none)
+  where
+    not_none : of_kind kind.Table u ∷ of_kind kind.Comp comp ∷ [] ≡ [] → ⊥
+    not_none h = cc
+made_of (make.Thread comp) built r f u b (k ∷ j ∷ []) none R by = absurd (not_none none)
+  where
+    not_none : of_kind kind.Comp comp ∷ [] ≡ [] → ⊥
+    not_none h = cc
+made_of (make.Thread comp) built r f u b (k ∷ j ∷ i ∷ ks) none R by = by (objects.Thread i.frame) refl
+made_of (make.Comp table pages live) built r f u b ks none R by = absurd built
 
 pub begins_free : (own : Own) (call : Call) → IsBuilt call → (spot : Spot) → (plan_for call).target ≡ Free spot
     → (s : State) (plan : Plan) (ks : List Capability) (c : ℕ) → own.core ≡ c
@@ -196,8 +214,17 @@ begins_free own (Retype r f frame_kind.Kernel) built spot to s plan ks c core no
     not_target : Nowhere ≡ Free spot → ⊥
     not_target h = cc
 begins_free own (make_call what r f u b) built spot to s plan ks c core none leads fits within at =
-    made_of what built (Begins own (make_call what r f u b) plan ks c at) (λ node is.
-    let two : TwoFound s c r u ks = (node_make s c r f u b what node is ks leads none).two in
+    made_of what built r f u b ks none (Begins own (make_call what r f u b) plan ks c at) (λ object is.
+    let two : TwoFound s c r u ks = (object_make s c r f u b what object ks is leads none).two in
     subst (λ ks. Begins own (make_call what r f u b) plan ks c at) (sym two.found_is)
-    (begins_make own plan c core at what r f u b node is two.range (two.table ∷ []) (within r f two.range two.first)))
+    (begins_make own plan c core at what r f u b object two.range (two.table ∷ two.rest)
+    (subst (λ ks. object_made what ks ≡ Some object) two.found_is is) (within r f two.range two.first)))
+begins_free own (Tick n) built spot to s plan ks c core none leads fits within at = absurd (not_target to)
+  where
+    not_target : Nowhere ≡ Free spot → ⊥
+    not_target h = cc
+begins_free own (Kill n) built spot to s plan ks c core none leads fits within at = absurd (not_target to)
+  where
+    not_target : Nowhere ≡ Free spot → ⊥
+    not_target h = cc
 begins_free own call built spot to s plan ks c core none leads fits within at = absurd built

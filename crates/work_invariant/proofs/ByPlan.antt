@@ -1,11 +1,11 @@
 -- A step of any look-up of a call is good: the look-up goes by the call's plan.
-use Rattle.std.proofs.Common.{◌≡◌, ℕ, suc, ◌≢◌, ◌<◌, ◌≤◌, ◌+◌, map, length, arith, nat_le, Bool, true, false, if◌then◌else◌, IsTrue, List, [], ◌∷◌, ◌++◌, Option, Some, None, refl, sym, ◌∙◌, ap, subst}
+use Rattle.std.proofs.Common.{◌≡◌, ℕ, suc, negsuc, ◌≢◌, ◌<◌, ◌≤◌, ◌+◌, map, length, arith, nat_le, Bool, true, false, if◌then◌else◌, IsTrue, List, [], ◌∷◌, ◌++◌, Option, Some, None, refl, sym, ◌∙◌, ap, subst}
 use Rattle.std.proofs.lemmas.Bool.{leb-true, eq-eqb}
 use Rattle.spk_nums.specs.Capability.{Capability}
 use Rattle.spk_nums.specs.Setting.{Setting, IsSetting}
 use Rattle.spk_nums.specs.declared.kinds.Kind.{Kind}
 use Rattle.spk_nums.specs.declared.calls.Call.{Call}
-use Rattle.spk_nums.specs.declared.calls.Call.TheVariants.{Look as look_call, Copy, Remove, Shrink, Unmap, Retype, Make as make_call}
+use Rattle.spk_nums.specs.declared.calls.Call.TheVariants.{Look as look_call, Copy, Remove, Shrink, Unmap, Retype, Make as make_call, Tick, Kill}
 use Rattle.supported_calls.specs.Built.{IsBuilt}
 use Rattle.spk_nums.specs.declared.replies.Reply.{Reply}
 use Rattle.spk_nums.specs.declared.replies.Reply.TheVariants as reply
@@ -56,9 +56,10 @@ use Rattle.call_steps.specs.declared.stages.Stage.TheVariants.{Undecided}
 use Rattle.call_steps.specs.declared.stages.ActiveCall.{ActiveCall}
 use Rattle.spk_nums.specs.declared.kinds.FrameKind.{FrameKind}
 use Rattle.spk_nums.specs.declared.kinds.FrameKind.TheVariants as frame_kind
-use Rattle.spk_nums.specs.declared.kinds.Kind.TheVariants.{Range as range_kind}
+use Rattle.spk_nums.specs.declared.kinds.Kind.TheVariants.{Range as range_kind, Comp as comp_kind}
 use Rattle.kernel_rules.proofs.Sound.{only_is}
 use Rattle.work_invariant.proofs.AtName.{one_name, ranges_good, looked_good}
+use Rattle.live_invariant.proofs.KillStarts.{kills_good}
 use Rattle.call_acts.specs.declared.work.WorkStep.TheVariants.{Goes}
 use Rattle.stage_pins.specs.declared.held.Acquired.{Acquired}
 use Rattle.call_acts.specs.declared.work.Act.{Act as ActOf}
@@ -67,7 +68,7 @@ use Rattle.call_acts.specs.Acts.{dues, next_work, scans, starts, stamp_shown, re
 use Rattle.call_steps.specs.Fits.{CountsAt, HasRoom}
 use Rattle.core_invariant.specs.Holding.{holds_counts}
 use Rattle.core_invariant.specs.Knows.{due_of, IsScanned, MayFill, KnowsAct, KnowsQuiet, LooksUp, own_in, HasFound, NamesAre, LooksFor, KnowsUndecided, phase_at}
-use Rattle.count_invariant.proofs.Acquiring.{knows_next, next_holds}
+use Rattle.count_invariant.proofs.Acquiring.{knows_next, next_holds, one_apart}
 use Rattle.place_invariant.proofs.Scans.{ScanBegins, scan_begins, scan_none, ShowsSince, since_is}
 use Rattle.place_invariant.proofs.Starts.{starts_good}
 use Rattle.place_invariant.proofs.Outside.{refused_vacant}
@@ -77,6 +78,7 @@ use Rattle.stage_quiet.specs.Scan.{quiet_scan}
 use Rattle.kernel_history.specs.Stamps.{clock, stamp}
 use Rattle.call_acts.specs.Lookups.{looks_under, looks_entry, looks_at, next_step, met_name, met_free, met_held}
 use Rattle.call_steps.specs.Steps.{landed, found_more, next_by as what_next, named_one, took_look, took_found}
+use Rattle.call_steps.proofs.StepsFit.{cap_one}
 use Rattle.call_steps.specs.View.{Core}
 use Rattle.core_invariant.specs.Stands.{holds_at, holds_in, Stands}
 use Rattle.core_invariant.proofs.Carries.{names_on}
@@ -86,7 +88,7 @@ use Rattle.core_invariant.proofs.Refusals.{GoodTook, not_spent, refuses_empty, r
 use Rattle.look_invariant.proofs.Lookups.{Shows, ShowsHeld, Arrives, under_step, in_root_step}
 use Rattle.look_invariant.proofs.Findings.{own_is, past_slot, past_unreached, reaches_none, reaches_held, reaches_other, use_held, use_free, use_removed_at, named_of, named_no_slot, named_empty, named_wrong, found_named, arriving, reached_now, found_now}
 use Rattle.look_invariant.proofs.Next.{MayUse, spot_relies, Rest, ANameLeft, NoneLeft, rest_of, next_name, next_end}
-use Rattle.work_invariant.proofs.ByCall.{vacant_no_slot, vacant_occupied, held_no_slot, held_empty, past_entry, past_entry_unreached, no_own, make_target, BeginsRemoval, begins_removal}
+use Rattle.work_invariant.proofs.ByCall.{none_after, vacant_no_slot, vacant_occupied, held_no_slot, held_empty, past_entry, past_entry_unreached, no_own, make_target, BeginsRemoval, begins_removal, free_somewhere, held_somewhere}
 use Rattle.work_invariant.proofs.AtTarget.{Begins, begins_free, range_within, was_while_open}
 
 module _ (setup : Setting) (setting : IsSetting setup) (cores : ℕ → Core) (t : Trace) (stands : Stands setup cores t) (c : ℕ)
@@ -143,6 +145,20 @@ module _ (setup : Setting) (setting : IsSetting setup) (cores : ℕ → Core) (t
 
     first : (r : Reply) → NextRefused s c (own_pages s c) (next_of a.plan ks) r → change_of s c a.call ≡ Refused r
     first r h = next_first s c (own_pages s c) a.plan (rule_of s c a.call) ks goes_by lead r h
+
+  -- The step of this look-up is good.
+  abbrev Looked : Type 0
+  Looked = GoodTook setup cores t c (look_move look) (took_look (cores c).own a look (last_left setup t (word_of (look_move look)))
+      (shown_in setup.frames (last_left setup t (word_of (look_move look)))))
+
+  -- Where a look-up ends, the call goes on by what its plan looks up next.
+  abbrev ended_by : Next → Slot → Entry → Type 0
+  ended_by next at v = GoodTook setup cores t c (LoadOf (EntryAt at.node at.index))
+      (took_found (cores c).own a next (found_at at.node at.index (last_left setup t (EntryAt at.node at.index)) v))
+
+  ends_for : {next : Next} → next_of a.plan a.found ≡ next → (at : Slot) (v : Entry) → ended_by next at v
+      → ended_by (next_of a.plan a.found) at v
+  ends_for is at v = subst (λ x. ended_by x at v) (sym is)
 
   way : (target : place) → NextPlace s c (next_of a.plan a.found) target → (g i : ℕ) → is_slot_in (wide_way_to s target) g i ≡ true
       → is_slot_in (wide_ways s c (rule_of s c a.call)) g i ≡ true
@@ -364,29 +380,32 @@ module _ (setup : Setting) (setting : IsSetting setup) (cores : ℕ → Core) (t
         (landed (found_more a ks) (act_begun (cores c).own (look_call n) ks None))) (sym more_is)
         (looked_good setup setting cores t stands c here a active opens held_is no_counts room at looks n
         (subst (λ (m : ℕ). Arrives setup t c (own_in table m) at) (ap (λ (x : Name). x.number) only_one.1) arrives) k named_it is)
-    acts_at_name (Copy b u v) is built nowhere = absurd (not_nowhere nowhere)
-      where
-        not_nowhere : Free (spot_of.Under Second v) ≡ Nowhere → ⊥
-        not_nowhere h = cc
-    acts_at_name (Remove u v) is built nowhere = absurd (not_nowhere nowhere)
-      where
-        not_nowhere : Held (spot_of.Under First v) ≡ Nowhere → ⊥
-        not_nowhere h = cc
-    acts_at_name (Shrink u i) is built nowhere = absurd (not_nowhere nowhere)
-      where
-        not_nowhere : Held (spot_of.InRoot First i) ≡ Nowhere → ⊥
-        not_nowhere h = cc
-    acts_at_name (Unmap p v) is built nowhere = absurd (not_nowhere nowhere)
-      where
-        not_nowhere : Held (spot_of.Under First v) ≡ Nowhere → ⊥
-        not_nowhere h = cc
+    acts_at_name (Copy b u v) is built nowhere = absurd (free_somewhere (spot_of.Under Second v) nowhere)
+    acts_at_name (Remove u v) is built nowhere = absurd (held_somewhere (spot_of.Under First v) nowhere)
+    acts_at_name (Shrink u i) is built nowhere = absurd (held_somewhere (spot_of.InRoot First i) nowhere)
+    acts_at_name (Unmap p v) is built nowhere = absurd (held_somewhere (spot_of.Under First v) nowhere)
     acts_at_name (Retype r f frame_kind.Untyped) is built nowhere = absurd built
     acts_at_name (Retype r f frame_kind.User) is built nowhere = range_at_name r f frame_kind.User is refl
     acts_at_name (Retype r f frame_kind.Kernel) is built nowhere = range_at_name r f frame_kind.Kernel is refl
-    acts_at_name (make_call what r f u b) is built nowhere = absurd (not_nowhere (sym (make_target what r u b) ∙ nowhere))
+    acts_at_name (make_call what r f u b) is built nowhere =
+        absurd (free_somewhere (spot_of.Under Second b) (sym (make_target what r u b) ∙ nowhere))
+    acts_at_name (Kill n) is built nowhere =
+        let plan_kill : a.plan ≡ plan_for (Kill n) = plan_is ∙ ap plan_for is in
+        let only_one = one_name a.plan.names (of_kind comp_kind n) name rest a.found k.kind (ap (λ (p : Plan). p.names) plan_kill) left
+        wanted in
+        let more_is : more ≡ k ∷ [] = ap (λ ks. ks ++ k ∷ []) only_one.0 in
+        subst (λ ks. GoodTook setup cores t c (LoadOf (EntryAt at.node at.index))
+        (landed (found_more a ks) (act_begun (cores c).own (Kill n) ks None))) (sym more_is)
+        (kills_good setup setting cores t stands c here a active opens held_is no_counts (LoadOf (EntryAt at.node at.index)) looks n k is
+        (only_is comp_kind k.kind only_one.2)
+        (subst (λ (ks : List Capability). Leads (LeadsIn s c) (of_kind comp_kind n ∷ []) [] ks) more_is
+        (subst (λ (p : Plan). Leads (LeadsIn s c) p.names [] more) plan_kill leads_then)).0
+        (λ carries. subst (λ (ks : List Capability). NamesAre setup (e ∷ t) c table a.plan ks) more_is (names_then carries)))
+    acts_at_name (Tick n) is built nowhere = absurd (no_name (sym left
+        ∙ ap (λ (p : Plan). names_after p.names a.found) (plan_is ∙ ap plan_for is) ∙ none_after a.found))
       where
-        not_nowhere : Free (spot_of.Under Second b) ≡ Nowhere → ⊥
-        not_nowhere h = cc
+        no_name : name ∷ rest ≡ [] → ⊥
+        no_name h = cc
     acts_at_name call is built nowhere = absurd built
 
     -- the name is found
@@ -446,9 +465,7 @@ module _ (setup : Setting) (setting : IsSetting setup) (cores : ℕ → Core) (t
           (λ nobody. first_here reply.Empty (named_empty s c name.number wanted_of at reach
           (use_removed_at s c at shows.held shows.removed nobody)))
 
-    pub name_step : LooksUp setup t c (own_in table name.number) look
-        → GoodTook setup cores t c (look_move look) (took_look (cores c).own a look (last_left setup t (word_of (look_move look)))
-        (shown_in setup.frames (last_left setup t (word_of (look_move look)))))
+    pub name_step : LooksUp setup t c (own_in table name.number) look → Looked
     name_step looks =
         under_step setup setting cores t stands c here a active (root_at table) name.number is_open
         (λ h. may_here reply.NoSlot (subst (λ x. IsTrue (has_no_slot s x)) (own_target name.number) h))
@@ -460,9 +477,7 @@ module _ (setup : Setting) (setting : IsSetting setup) (cores : ℕ → Core) (t
           names = names_on setup setting t e stands.legal c a.call is_open carries table a.plan a.found has.names;
           knows = subst (λ x. LooksFor setup (e ∷ t) c table x look2) (sym next) up;
         })
-        (λ at v arrives reads shows only. subst (λ x. GoodTook setup cores t c (LoadOf (EntryAt at.node at.index))
-        (took_found (cores c).own a x (found_at at.node at.index (last_left setup t (EntryAt at.node at.index)) v)))
-        (sym next) (name_good at arrives only v shows))
+        (λ at v arrives reads shows only. ends_for next at v (name_good at arrives only v shows))
         room look stage_is looks
 
   -- A target that is to be free is looked up.
@@ -631,9 +646,7 @@ module _ (setup : Setting) (setting : IsSetting setup) (cores : ℕ → Core) (t
         (fills_removed at arrives x reads looks)
 
   free_step : (spot : Spot) (to : a.plan.target ≡ Free spot) (none : names_after a.plan.names a.found ≡ [])
-      → LooksUp setup t c (place_of (with_found [] a.found) spot) look
-      → GoodTook setup cores t c (look_move look) (took_look (cores c).own a look (last_left setup t (word_of (look_move look)))
-      (shown_in setup.frames (last_left setup t (word_of (look_move look)))))
+      → LooksUp setup t c (place_of (with_found [] a.found) spot) look → Looked
   free_step (spot_of.Under i n) to none looks =
       let spot = spot_of.Under i n in
       let next = next_free spot to none in
@@ -645,9 +658,7 @@ module _ (setup : Setting) (setting : IsSetting setup) (cores : ℕ → Core) (t
         names = names_on setup setting t e stands.legal c a.call is_open carries table a.plan a.found has.names;
         knows = subst (λ x. LooksFor setup (e ∷ t) c table x look2) (sym next) up;
       })
-      (λ at v arrives reads shows only. subst (λ x. GoodTook setup cores t c (LoadOf (EntryAt at.node at.index))
-      (took_found (cores c).own a x (found_at at.node at.index (last_left setup t (EntryAt at.node at.index)) v)))
-      (sym next) (free_at spot to none at v arrives reads shows only))
+      (λ at v arrives reads shows only. ends_for next at v (free_at spot to none at v arrives reads shows only))
       room look stage_is looks
   free_step (spot_of.InRoot i x) to none looks =
       let spot = spot_of.InRoot i x in
@@ -660,9 +671,7 @@ module _ (setup : Setting) (setting : IsSetting setup) (cores : ℕ → Core) (t
         names = names_on setup setting t e stands.legal c a.call is_open carries table a.plan a.found has.names;
         knows = subst (λ y. LooksFor setup (e ∷ t) c table y look2) (sym next) up;
       })
-      (λ at v arrives reads shows only. subst (λ y. GoodTook setup cores t c (LoadOf (EntryAt at.node at.index))
-      (took_found (cores c).own a y (found_at at.node at.index (last_left setup t (EntryAt at.node at.index)) v)))
-      (sym next) (free_at spot to none at v arrives reads shows only))
+      (λ at v arrives reads shows only. ends_for next at v (free_at spot to none at v arrives reads shows only))
       room look stage_is looks
 
   -- A target that is to be held is looked up.
@@ -714,7 +723,8 @@ module _ (setup : Setting) (setting : IsSetting setup) (cores : ℕ → Core) (t
                 held = reads;
                 core = (stands.each c here).number;
               })
-              (ap (λ (xs : List Acquired). map due_of xs ++ dues act) (sym no_counts)) 0
+              (ap (λ (xs : List Acquired). map due_of xs ++ dues act) (sym no_counts))
+              (one_apart (dues act) (cap_one k.kind k.frame k.arg (negsuc 0))) 0
               (ap (λ (xs : List Acquired). length xs) (sym no_counts)) refl refl;
         })
 
@@ -738,9 +748,7 @@ module _ (setup : Setting) (setting : IsSetting setup) (cores : ℕ → Core) (t
         (λ nobody. first_held reply.Empty (held_empty s c held_target at arrives.reached (ap held_in shows.removed)))
 
   held_step : (spot : Spot) (to : a.plan.target ≡ Held spot) (none : names_after a.plan.names a.found ≡ [])
-      → LooksUp setup t c (place_of (with_found [] a.found) spot) look
-      → GoodTook setup cores t c (look_move look) (took_look (cores c).own a look (last_left setup t (word_of (look_move look)))
-      (shown_in setup.frames (last_left setup t (word_of (look_move look)))))
+      → LooksUp setup t c (place_of (with_found [] a.found) spot) look → Looked
   held_step (spot_of.Under i n) to none looks =
       let spot = spot_of.Under i n in
       let next = next_held spot to none in
@@ -752,9 +760,7 @@ module _ (setup : Setting) (setting : IsSetting setup) (cores : ℕ → Core) (t
         names = names_on setup setting t e stands.legal c a.call is_open carries table a.plan a.found has.names;
         knows = subst (λ x. LooksFor setup (e ∷ t) c table x look2) (sym next) up;
       })
-      (λ at v arrives reads shows only. subst (λ x. GoodTook setup cores t c (LoadOf (EntryAt at.node at.index))
-      (took_found (cores c).own a x (found_at at.node at.index (last_left setup t (EntryAt at.node at.index)) v)))
-      (sym next) (held_at spot to none at v arrives reads shows only))
+      (λ at v arrives reads shows only. ends_for next at v (held_at spot to none at v arrives reads shows only))
       room look stage_is looks
   held_step (spot_of.InRoot i x) to none looks =
       let spot = spot_of.InRoot i x in
@@ -767,21 +773,16 @@ module _ (setup : Setting) (setting : IsSetting setup) (cores : ℕ → Core) (t
         names = names_on setup setting t e stands.legal c a.call is_open carries table a.plan a.found has.names;
         knows = subst (λ y. LooksFor setup (e ∷ t) c table y look2) (sym next) up;
       })
-      (λ at v arrives reads shows only. subst (λ y. GoodTook setup cores t c (LoadOf (EntryAt at.node at.index))
-      (took_found (cores c).own a y (found_at at.node at.index (last_left setup t (EntryAt at.node at.index)) v)))
-      (sym next) (held_at spot to none at v arrives reads shows only))
+      (λ at v arrives reads shows only. ends_for next at v (held_at spot to none at v arrives reads shows only))
       room look stage_is looks
 
-  pub lookup_good : GoodTook setup cores t c (look_move look) (took_look (cores c).own a look
-      (last_left setup t (word_of (look_move look))) (shown_in setup.frames (last_left setup t (word_of (look_move look)))))
+  pub lookup_good : Looked
   lookup_good = by (rest_of a.plan a.found)
     where
       for : (next : Next) → next_of a.plan a.found ≡ next → LooksFor setup t c table next look
       for next is = subst (λ x. LooksFor setup t c table x look) is has.knows
 
-      by_target : (to : Target) → a.plan.target ≡ to → names_after a.plan.names a.found ≡ []
-          → GoodTook setup cores t c (look_move look) (took_look (cores c).own a look (last_left setup t (word_of (look_move look)))
-          (shown_in setup.frames (last_left setup t (word_of (look_move look)))))
+      by_target : (to : Target) → a.plan.target ≡ to → names_after a.plan.names a.found ≡ [] → Looked
       by_target Nowhere to none = absurd (for NextNothing (next_end a.plan a.found Nowhere none to))
       by_target (Free spot) to none =
           free_step spot to none (for (NextFree (place_of (with_found [] a.found) spot)) (next_end a.plan a.found (Free spot) none to))
@@ -789,9 +790,7 @@ module _ (setup : Setting) (setting : IsSetting setup) (cores : ℕ → Core) (t
           held_step spot to none (for (NextHeld (place_of (with_found [] a.found) spot)) (next_end a.plan a.found (Held spot) none to))
       by_target (own_page v) to none = absurd (for (NextOwn v) (next_end a.plan a.found (own_page v) none to))
 
-      by : Rest a.plan a.found
-          → GoodTook setup cores t c (look_move look) (took_look (cores c).own a look (last_left setup t (word_of (look_move look)))
-          (shown_in setup.frames (last_left setup t (word_of (look_move look)))))
+      by : Rest a.plan a.found → Looked
       by (ANameLeft name rest left) =
           name_step name rest left (for (NextName name.number (wants (with_found [] a.found) name.wanted))
           (next_name a.plan a.found name rest left))

@@ -2,39 +2,18 @@
 //! word found, which decides (5), and leaves (6 and 7). A frame that the range does not have is refused at 3, and one that is not
 //! untyped at 4.
 
-use crate::machine::{AMPLE, FROM_ENTRIES, MACHINE, TO_ENTRIES, replays};
-use crate::runs::runs;
 use core_kernel::FreeGate;
 use speck_run::Status;
 use std::alloc::Global;
 use std::test::Fail;
 use std::thread::Threads;
+use test_machine::{MACHINE, is_typed, place_of, runs, tables};
 
 // The steps of a retype that is carried out, of which the load of the frame's word is the fourth and the compare the fifth.
 const STEPS: usize = 7;
 
 // The orders of 14 steps of two cores.
 const ORDERS: u32 = 16_384;
-
-// The tables of the start with these entry lines added, and these lines of frames behind those of the start.
-pub(crate) fn tables(alloc: Global, added: &str, frames: &str) -> Result<String, Fail> {
-    let start = format!(in alloc; "{TO_ENTRIES}{added}{FROM_ENTRIES}")?;
-    let typed = format!(in alloc; "{frames}live 0 epoch")?;
-    let text = start.replace(alloc, "live 0 epoch", &typed)?;
-    Ok(text)
-}
-
-// Whether the script of these lines ends with these reply lines and these tables.
-pub(crate) fn is_typed<R: Threads + Sync>(
-    rt: &R,
-    alloc: Global,
-    lines: &str,
-    replies: &str,
-    tables: &str,
-) -> Result<bool, Fail> {
-    let text = format!(in alloc; "{replies}{tables}")?;
-    replays(rt, alloc, lines, &AMPLE, Status::Done, &text)
-}
 
 #[test]
 fn an_untyped_frame_of_a_range_is_typed_once(rt: HostRuntime) -> Result<(), Fail> {
@@ -125,20 +104,6 @@ fn order_of(number: u32) -> [u8; 14] {
         order[at as usize] = if (number >> at) & 1 == 1 { 1 } else { 0 };
     }
     order
-}
-
-// Where a core's step of this number, from 0, stands in an order, if it stands there.
-pub(crate) fn place_of(order: &[u8], core: u8, step: usize) -> Option<usize> {
-    let mut left = step;
-    for (at, next) in order.iter().enumerate() {
-        if *next == core {
-            if left == 0 {
-                return Some(at);
-            }
-            left -= 1;
-        }
-    }
-    None
 }
 
 // The core whose retype of a frame is carried out in this order of the single steps of two, and how the other's is answered; none where

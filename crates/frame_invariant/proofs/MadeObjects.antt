@@ -1,36 +1,41 @@
--- The decision of a call that makes a node: the compare of its target, where it is won, makes the frame a node whose places are free,
--- and puts its capability there.
-use Rattle.std.specs.Prelude.{if◌then◌else◌, pos}
-use Rattle.std.proofs.Common.{◌≡◌, Bool, true, false, Some, None, refl, ℕ, ◌<◌, ◌^◌, ◌==◌, arith, ◌≢◌, ◌+◌, sym, nat_lt, ◌&&◌, [], ◌∷◌, length, ap, ◌∙◌, subst, ◌≤◌, IsTrue, ◌⊎◌, inl, inr, max, map, ◌+ℤ◌}
-use Rattle.std.proofs.lemmas.Bool.{ne_eqb, ltb-true, eqb-true, ltb-false, cases_eq, false≢true}
+-- The decision of a call that makes an object: the compare of its target, where it is won, makes the frame that object, and puts its
+-- capability there.
+use Rattle.std.specs.Prelude.{if◌then◌else◌, pos, All}
+use Rattle.std.proofs.Common.{◌≡◌, List, Bool, true, false, Some, None, refl, ℕ, ◌<◌, ◌^◌, ◌==◌, arith, ◌≢◌, ◌+◌, sym, ◌&&◌, [], ◌∷◌, ap, ◌∙◌, subst, ◌≤◌, IsTrue, ◌⊎◌, inl, inr, max, map, ◌+ℤ◌}
+use Rattle.std.proofs.lemmas.List.Elements.{All-nil, All-cons, All-head, All-tail}
+use Rattle.std.proofs.lemmas.Bool.{ne_eqb, eqb-true, cases_eq, false≢true}
 use Rattle.spk_nums.specs.Capability.{Capability}
 use Rattle.spk_nums.specs.Setting.{Setting, IsSetting}
 use Rattle.spk_nums.specs.WordSteps.{left_if}
-use Rattle.spk_nums.specs.declared.calls.Call.TheVariants.{Make as make_call}
-use Rattle.spk_nums.specs.declared.calls.Make.{Make}
-use Rattle.spk_nums.specs.declared.calls.Make.TheVariants as make
 use Rattle.spk_nums.specs.declared.kinds.Kind.{Kind}
+use Rattle.spk_nums.specs.declared.kinds.Kind.TheVariants as kind
 use Rattle.spk_nums.specs.declared.replies.Reply.TheVariants as reply
 use Rattle.spk_nums.specs.declared.replies.Value.TheVariants.{Nothing}
 use Rattle.entry_words.proofs.Spelling as entries
 use Rattle.entry_words.specs.EntryWord.{entry_of_word, EntryFits, word_of_entry}
-use Rattle.entry_words.specs.declared.entry.Entry.TheVariants.{Free, Held}
+use Rattle.entry_words.specs.declared.entry.Entry.TheVariants.{Held}
 use Rattle.frame_words.proofs.FrameLemmas as frames
-use Rattle.frame_words.specs.Frame.{frame_of_word, FrameFits, word_of_frame}
+use Rattle.frame_words.specs.Frame.{frame_of_word, word_of_frame}
 use Rattle.word_map.proofs.WordLemmas.{same_same}
 use Rattle.word_map.specs.Moves.{left_of, word_of, Move, CompareOf, told_of}
 use Rattle.word_map.specs.Word.{EntryAt, Word, same_word, ClockAt, FrameAt, CountAt, CoreAt, FlushAt, LiveAt}
 use Rattle.kernel_rules.proofs.Apart.{slot_is, place_here, place_there}
-use Rattle.kernel_rules.proofs.Refs.{place_refs, frame_refs, cleared_refs}
+use Rattle.kernel_rules.proofs.Refs.{place_refs}
+use Rattle.kernel_rules.proofs.Sound.{IsSound}
+use Rattle.kernel_rules.proofs.SoundRuns.{opened}
+use Rattle.kernel_rules.proofs.Stays.{comp_fit}
+use Rattle.kernel_rules.proofs.Sums as sums
+use Rattle.kernel_rules.specs.Fitting.{fits as fits_kind}
 use Rattle.kernel_rules.proofs.Within.{put_same, put_other}
+use Rattle.kernel_history.specs.Events.{events_of}
 use Rattle.kernel_rules.specs.Access.{Slot, own}
 use Rattle.kernel_rules.specs.CallRelation.{rule_of, change_of, changed, counted, MayReply, begins_in, ends_by, flushes_by}
-use Rattle.kernel_rules.specs.CapabilityCalls.{is_blank, cleared, makes, is_place_of}
+use Rattle.kernel_rules.specs.CapabilityCalls.{is_blank, makes, is_place_of}
 use Rattle.kernel_rules.specs.Laws.{calls_counted}
-use Rattle.kernel_rules.specs.References.{refs, named_by, place_names, times, frame_names}
+use Rattle.kernel_rules.specs.References.{refs, place_names, times}
 use Rattle.kernel_rules.specs.Relies.{is_node}
 use Rattle.kernel_rules.specs.Rules.{Found, IsFoundAnd}
-use Rattle.kernel_rules.specs.State.{Blank, Kernel, State, put, comp_of, thread_in, Object, FrameOf, with_frame, Thing, NumberOf, comp_in, Holds, PlaceOf, with_place, Free as Vacant}
+use Rattle.kernel_rules.specs.State.{Blank, Kernel, State, put, comp_of, thread_in, thread_of, first_of_stack, Object, FrameOf, with_frame, Thing, NumberOf, comp_in, Holds, PlaceOf, with_place}
 use Rattle.kernel_history.proofs.AloneCalls.{ok_first}
 use Rattle.kernel_history.proofs.Inside.{decided-inside}
 use Rattle.kernel_history.proofs.Names.{cases_word, same_word-other}
@@ -48,25 +53,24 @@ use Rattle.call_plans.specs.After.{LeadsIn}
 use Rattle.call_plans.specs.GoesBy.{own_pages}
 use Rattle.plan_ways.proofs.Ways.{all_ways}
 use Rattle.stage_look.specs.Shown.{CapNames}
-use Rattle.call_acts.specs.Acts.{cap_dues, made_dues, published, took_making_at, took_making}
-use Rattle.call_acts.specs.Makings.{node_cap, node_made, node_kind, made, making_move, making_at}
+use Rattle.call_acts.specs.Acts.{made_dues, published, took_making_at, took_making}
+use Rattle.call_acts.specs.Objects.{object_cap, object_kind, object_names, object_dues, one_more as due_one, last_word}
+use Rattle.call_acts.specs.declared.work.Due.{Due}
+use Rattle.call_acts.specs.Makings.{MakingFits, made, making_move, making_at}
 use Rattle.call_acts.specs.declared.makings.Making.{Making}
 use Rattle.call_acts.specs.declared.makings.MakingAt.{MakingAt}
 use Rattle.call_acts.specs.declared.makings.MakingAt.TheVariants.{Mark, Store, Load as making_load, Fill as making_fill}
-use Rattle.call_acts.specs.declared.makings.Node.{Node}
-use Rattle.call_acts.specs.declared.makings.Node.TheVariants as nodes
 use Rattle.call_acts.specs.declared.work.Act.TheVariants.{Make as make_act}
 use Rattle.call_acts.specs.declared.work.Tail.TheVariants.{Unmark}
 use Rattle.call_acts.specs.declared.work.Work.TheVariants.{Act}
-use Rattle.call_steps.proofs.StepsFit.{one_due}
 use Rattle.call_steps.specs.Steps.{landed}
 use Rattle.call_steps.specs.View.{Core}
 use Rattle.call_steps.specs.declared.stages.ActiveCall.{ActiveCall}
 use Rattle.call_steps.specs.declared.stages.Stage.{Stage}
 use Rattle.call_steps.specs.declared.stages.Stage.TheVariants.{Undecided, Decided}
-use Rattle.core_invariant.proofs.Calm.{calm_counted, plain_exit, counted_rises, BeginsNone, room_grows, counts, own_works, none_flush}
+use Rattle.core_invariant.proofs.Calm.{calm_counted, plain_exit, counted_rises, BeginsNone, room_grows, counts, same_works, none_flush}
 use Rattle.core_invariant.proofs.Carries.{own_kept}
-use Rattle.core_invariant.proofs.CountSums.{counted_refs}
+use Rattle.core_invariant.proofs.CountSums.{counted_refs, times_here, times_there}
 use Rattle.core_invariant.proofs.Good.{spares_node}
 use Rattle.core_invariant.proofs.Loads.{next_at, IsOfCall, core_at, inner, call_is}
 use Rattle.core_invariant.proofs.Places.{IsMarked, place_reads, IsPlain as IsUnmarked, node_mark}
@@ -76,83 +80,59 @@ use Rattle.core_invariant.proofs.WordFrames.{ReadsAlike, StaysSaid, word_stays, 
 use Rattle.core_invariant.proofs.Writes.{same_marks, decides_writing}
 use Rattle.core_invariant.specs.CountWords.{IsWithin}
 use Rattle.core_invariant.specs.Holding.{holds_counts, settled_by, settled, keeps}
-use Rattle.core_invariant.specs.Knows.{HasFound, own_in, phase_at, due_of, KnowsUndecided, KnowsMaking, KnowsMakingAt, KnowsUnmark, WorksIn, MayFill, HasStored}
+use Rattle.core_invariant.specs.Knows.{AreDuesApart, HasFound, own_in, phase_at, due_of, KnowsUndecided, KnowsMaking, KnowsMakingAt, KnowsUnmark, WorksIn, MayFill, HasStored}
 use Rattle.core_invariant.specs.Stands.{holds_at, holds_in, Stands, holds, held_by, holds_making, times_of, SumIs, counted_in}
-use Rattle.core_invariant.specs.Words.{PlaceIs, count_room, WordIs}
+use Rattle.core_invariant.specs.Words.{PlaceIs, count_room, IsFrameWord, WordIs}
 use Rattle.look_invariant.proofs.Findings.{found_named, own_is, way_gone}
 use Rattle.count_invariant.proofs.MakingCounts.{made_changes, made_argument}
-use Rattle.count_invariant.proofs.CountChanges.{counts_commit, counts_sum}
+use Rattle.stage_pins.specs.Counts.{later}
+use Rattle.stage_pins.specs.Held.{stamp_of_change}
+use Rattle.count_invariant.proofs.CountChanges.{dues_commit, dues_sum}
 use Rattle.place_invariant.proofs.Fills.{node_word}
-use Rattle.place_invariant.proofs.NodeMakes.{node_object}
+use Rattle.place_invariant.proofs.ObjectMakes.{new_object, ready_place, readied}
 use Rattle.place_invariant.proofs.Outside.{vacant_slot, vacant_here}
 use Rattle.place_invariant.proofs.Vacancy.{IsVacant}
 use Rattle.frame_invariant.proofs.Beyond.{free_beyond}
 use Rattle.frame_invariant.proofs.MakeCalls as calls
-use Rattle.frame_invariant.proofs.MakeCalls.{IsNodeCall}
+use Rattle.frame_invariant.proofs.MakeCalls.{IsObjectCall}
+use Rattle.frame_invariant.proofs.NewObjects.{made_value, made_fits, made_cap, made_caps, cap_names, made_ends, SaysNew, says_new, bare_new, PlaceReady, place_ready, ready_there, word_new, new_refs}
 use Rattle.frame_invariant.proofs.Makes.{load_good, mark_good, store_good, put_lost, put_of_call}
 
--- A node's object, in the words and in the state.
-made_value : (n : Node) → frame_value (Kernel (node_object n)) ≡ made n
-made_value nodes.Table = refl
-made_value nodes.Leaf = refl
-made_value nodes.Pages = refl
-made_value nodes.Pleaf = refl
+-- Each frame of a list without repetition occurs once, and no other does.
+named_not : (f : ℕ) (fs : List ℕ) → All (λ d. f ≢ d.frame) (map due_one fs) → times f fs ≡ 0
+named_not f [] apart = refl
+named_not f (g ∷ fs) apart =
+    times_there f g fs (λ h. All-head (λ d. f ≢ d.frame) (due_one g) (map due_one fs) apart (sym h))
+    ∙ named_not f fs (All-tail (λ d. f ≢ d.frame) (due_one g) (map due_one fs) apart)
 
-made_fits : (n : Node) → FrameFits (made n)
-made_fits nodes.Table = (tt, omega arith)
-made_fits nodes.Leaf = (tt, omega arith)
-made_fits nodes.Pages = (tt, omega arith)
-made_fits nodes.Pleaf = (tt, omega arith)
+others_each : (P : ℕ → Type 0) (g : ℕ) (fs : List ℕ) → All (λ d. g ≢ d.frame) (map due_one fs)
+    → All (λ d. (d.frame ≢ g) → P d.frame) (map due_one fs) → All (λ d. P d.frame) (map due_one fs)
+others_each P g [] others rest = All-nil (λ d. P d.frame)
+others_each P g (f ∷ fs) others rest =
+    All-cons (λ d. P d.frame) (due_one f) (map due_one fs)
+    (All-head (λ d. (d.frame ≢ g) → P d.frame) (due_one f) (map due_one fs) rest
+    (λ h. All-head (λ d. g ≢ d.frame) (due_one f) (map due_one fs) others (sym h)))
+    (others_each P g fs (All-tail (λ d. g ≢ d.frame) (due_one f) (map due_one fs) others)
+    (All-tail (λ d. (d.frame ≢ g) → P d.frame) (due_one f) (map due_one fs) rest))
 
-made_names : (n : Node) → frame_names (Kernel (node_object n)) ≡ []
-made_names nodes.Table = refl
-made_names nodes.Leaf = refl
-made_names nodes.Pages = refl
-made_names nodes.Pleaf = refl
+named_once : (P : ℕ → Type 0) (fs : List ℕ) → AreDuesApart (map due_one fs) → ((f : ℕ) → times f fs ≡ 1 → P f)
+    → All (λ d. P d.frame) (map due_one fs)
+named_once P [] apart each = All-nil (λ d. P d.frame)
+named_once P (g ∷ fs) apart each =
+    All-cons (λ d. P d.frame) (due_one g) (map due_one fs)
+    (each g (let here = times_here g g fs refl in let none = named_not g fs apart.0 in omega (arith, here, none)))
+    (others_each P g fs apart.0 (named_once (λ f. (f ≢ g) → P f) fs apart.1
+    (λ f once other. each f (times_there f g fs (λ h. other (sym h)) ∙ once))))
 
-made_thread : (n : Node) → thread_in (Kernel (node_object n)) ≡ thread_in (Kernel Blank)
-made_thread nodes.Table = refl
-made_thread nodes.Leaf = refl
-made_thread nodes.Pages = refl
-made_thread nodes.Pleaf = refl
+small_changes : (fs : List ℕ) → All (λ d. IsWithin d.change 4) (map due_one fs)
+small_changes [] = All-nil (λ d. IsWithin d.change 4)
+small_changes (f ∷ fs) = All-cons (λ d. IsWithin d.change 4) (due_one f) (map due_one fs) (omega arith) (small_changes fs)
 
-made_comp : (n : Node) → comp_in (Kernel (node_object n)) ≡ comp_in (Kernel Blank)
-made_comp nodes.Table = refl
-made_comp nodes.Leaf = refl
-made_comp nodes.Pages = refl
-made_comp nodes.Pleaf = refl
-
-made_node : (n : Node) → IsTrue (is_node (Kernel (node_object n)))
-made_node nodes.Table = refl
-made_node nodes.Leaf = refl
-made_node nodes.Pages = refl
-made_node nodes.Pleaf = refl
-
-made_cap : (n : Node) (f : ℕ) → f < 512 → EntryFits (Held (node_cap n f))
-made_cap nodes.Table f small = (small, omega arith, omega arith)
-made_cap nodes.Leaf f small = (small, omega arith, omega arith)
-made_cap nodes.Pages f small = (small, omega arith, omega arith)
-made_cap nodes.Pleaf f small = (small, omega arith, omega arith)
-
-made_caps : (n : Node) (frames f : ℕ) → f < frames → CapNames frames (node_cap n f)
-made_caps nodes.Table frames f below = omega (arith, below)
-made_caps nodes.Leaf frames f below = omega (arith, below)
-made_caps nodes.Pages frames f below = omega (arith, below)
-made_caps nodes.Pleaf frames f below = omega (arith, below)
-
--- What the decision ends: the grace periods of the places of its frame.
-made_ends : (what : Make) (n : Node) → node_made what ≡ Some n → (r f u b : ℕ) (x : Thing)
-    → ends_by (make_call what r f u b) x ≡ is_place_of f x
-made_ends make.Table n is r f u b x = refl
-made_ends make.Leaf n is r f u b x = refl
-made_ends make.Pages n is r f u b x = refl
-made_ends make.Pleaf n is r f u b x = refl
-made_ends (make.Thread comp) n is r f u b x = absurd (cc)
-made_ends (make.Tcap sched quality) n is r f u b x = absurd (cc)
-made_ends (make.Comp table pages live) n is r f u b x = absurd (cc)
-
-unmarked_free : entry_mark (Some Free) ≡ None
-unmarked_free = refl
+change_is_one : (P : Due → Type 0) (fs : List ℕ) → All (λ d. P (due_one d.frame)) (map due_one fs) → All P (map due_one fs)
+change_is_one P [] all = All-nil P
+change_is_one P (f ∷ fs) all = All-cons P (due_one f) (map due_one fs)
+    (All-head (λ d. P (due_one d.frame)) (due_one f) (map due_one fs) all)
+    (change_is_one P fs (All-tail (λ d. P (due_one d.frame)) (due_one f) (map due_one fs) all))
 
 module _ (setup : Setting) (setting : IsSetting setup) (cores : ℕ → Core) (t : Trace) (stands : Stands setup cores t) (c : ℕ)
     (here : c < setup.cores)
@@ -189,19 +169,19 @@ module _ (setup : Setting) (setting : IsSetting setup) (cores : ℕ → Core) (t
   slot = record { node = node; index = index }
 
   abbrev made_word : ℕ
-  made_word = word_of_frame (made m.node)
+  made_word = word_of_frame (made m.object)
 
   abbrev object : Object
-  object = node_object m.node
+  object = new_object m.object
 
   held : holds_in (Some a) ≡ keeps (FrameAt f) word (holds_counts None a.counts)
   held = ap (λ stage. holds_at stage a.counts) stage_is ∙ ap (λ x. holds_making f x (holds_counts None a.counts)) at_is
 
-  stored : HasStored setup t f word 64
-  stored = subst (KnowsMakingAt setup t c f) at_is knows.at
+  stored : HasStored setup t f m.object word (last_word m.object + 1)
+  stored = subst (KnowsMakingAt setup t c f m.object) at_is knows.at
 
-  dues_are : cap_dues k (pos 1) ≡ map due_of a.counts
-  dues_are = ap (made_dues k) (sym at_is) ∙ has.knows.all
+  dues_are : object_dues m.object f ≡ map due_of a.counts
+  dues_are = ap (made_dues m.object f) (sym at_is) ∙ has.knows.all
 
   opens : phase_at a.call a.stage ≡ Open a.call
   opens = ap (phase_at a.call) stage_is
@@ -233,18 +213,23 @@ module _ (setup : Setting) (setting : IsSetting setup) (cores : ℕ → Core) (t
   of_call : IsOfCall setup t c a.call put_it
   of_call = put_of_call setup setting cores t stands c here a active m stage_is has word at_is
 
-  -- every word of the frame says that it is free
-  free_says : (i : ℕ) → entry_of_word (last_left setup t (EntryAt f i)) ≡ Some Free
-  free_says i = by (nat_lt i 64) refl
-    where
-      by : (b : Bool) → nat_lt i 64 ≡ b → entry_of_word (last_left setup t (EntryAt f i)) ≡ Some Free
-      by true is = ap entry_of_word (stored.free i (ltb-true i 64 is)) ∙ entries.spelling.reads Free tt
-      by false is = free_beyond setup setting i (ltb-false i 64 is) t stands.legal f
+  fits_in : MakingFits (cores c).own.layout m
+  fits_in = calls.fits_in setup setting cores t stands c here a active m stage_is has
+
+  few_frames : s.limits.frames ≤ 512
+  few_frames =
+      let most = setting.most_frames in let limit : s.limits.frames ≡ setup.frames = ap (λ l. l.frames) (limits_of setup t) in
+      omega (arith, most, limit)
+
+  -- every word of the frame says what the object is
+  word_says : (i : ℕ) → SaysNew m.object i (last_left setup t (EntryAt f i))
+  word_says i = says_new m.object i (last_left setup t (EntryAt f i)) fits_in.object.pair
+      (calls.small_names setup setting cores t stands c here a active m stage_is has)
+      (λ low. stored.stored i (omega (arith, low))) (λ past. free_beyond setup setting i past t stands.legal f)
 
   fits : EntryFits (Held k)
-  fits = subst (λ x. EntryFits (Held x)) (sym knows.cap) (made_cap m.node f
-      (let most = setting.most_frames in let limit : s.limits.frames ≡ setup.frames = ap (λ l. l.frames) (limits_of setup t) in
-      let low = below in omega (arith, most, limit, low)))
+  fits = subst (λ x. EntryFits (Held x)) (sym knows.cap) (made_cap m.object f
+      (let few = few_frames in let low = below in omega (arith, few, low)))
 
   new_says : entry_of_word new ≡ Some (Held k)
   new_says = entries.spelling.reads (Held k) fits
@@ -266,10 +251,10 @@ module _ (setup : Setting) (setting : IsSetting setup) (cores : ℕ → Core) (t
     after = core_at (cores c) count (next_at a a.found stage)
 
     abbrev framed : State
-    framed = with_frame (cleared s f) f (Kernel object)
+    framed = with_frame (readied m.object s f) f (Kernel object)
 
     abbrev filled : State
-    filled = with_place framed node index (Holds (node_cap m.node f))
+    filled = with_place framed node index (Holds (object_cap m.object f))
 
     leaves_it : left_of put_it was ≡ new
     leaves_it = ap (λ b. left_if b was new) equal
@@ -291,7 +276,7 @@ module _ (setup : Setting) (setting : IsSetting setup) (cores : ℕ → Core) (t
     empty = vacant_here setup setting cores t stands c here a active opens has.names node index m.fill.word knows.spot small_index
         (calls.leaf setup setting cores t stands c here a active m stage_is has) same
 
-    change_is : change_of s c a.call ≡ Found (makes (cleared s f) f object (node_kind m.node) slot)
+    change_is : change_of s c a.call ≡ Found (makes (readied m.object s f) f object (object_kind m.object) slot)
     change_is = calls.by_blank setup setting cores t stands c here a active m stage_is has
         (vacant_slot s c (calls.target setup setting cores t stands c here a active m stage_is has) slot
         (calls.reached_is setup setting cores t stands c here a active m stage_is has) empty.vacant) true (ap is_blank blank)
@@ -312,21 +297,13 @@ module _ (setup : Setting) (setting : IsSetting setup) (cores : ℕ → Core) (t
     was_blank : (g : ℕ) → g ≡ f → s.frame g ≡ Kernel Blank
     was_blank g same = ap s.frame same ∙ blank
 
-    threads : (g : ℕ) → thread_in (s'.frame g) ≡ thread_in (s.frame g)
-    threads g = elim (cases_eq g f) [
-      | inl same ↦ ap thread_in (frame_here g same) ∙ made_thread m.node ∙ ap thread_in (sym (was_blank g same))
-      | inr other ↦ ap thread_in (frame_there g other)
-    ]
-
-    comps : (g : ℕ) → comp_in (s'.frame g) ≡ comp_in (s.frame g)
-    comps g = elim (cases_eq g f) [
-      | inl same ↦ ap comp_in (frame_here g same) ∙ made_comp m.node ∙ ap comp_in (sym (was_blank g same))
-      | inr other ↦ ap comp_in (frame_there g other)
-    ]
+    -- a frame with an object is another one
+    object_kept : (g : ℕ) (j : Kind) → IsTrue (fits_kind j (s.frame g)) → fits_kind j (Kernel Blank) ≡ false → s'.frame g ≡ s.frame g
+    object_kept g j fit none = frame_there g (λ same. false≢true (sym none ∙ sym (ap (fits_kind j) (was_blank g same)) ∙ fit))
 
     -- what the places are
-    place_target : s'.place node index ≡ Holds (node_cap m.node f)
-    place_target = ap (λ x. x.place node index) now ∙ place_here framed node index (Holds (node_cap m.node f)) node index refl refl
+    place_target : s'.place node index ≡ Holds (object_cap m.object f)
+    place_target = ap (λ x. x.place node index) now ∙ place_here framed node index (Holds (object_cap m.object f)) node index refl refl
 
     away : (g i : ℕ) → EntryAt g i ≢ EntryAt node index → (g == node && i == index) ≡ false
     away g i other = by (g == node && i == index) refl
@@ -336,19 +313,19 @@ module _ (setup : Setting) (setting : IsSetting setup) (cores : ℕ → Core) (t
             absurd (other (ap (λ (x : ℕ). EntryAt x i) at.0 ∙ ap (λ (x : ℕ). EntryAt node x) at.1))
         by false is = is
 
-    place_away : (g i : ℕ) → EntryAt g i ≢ EntryAt node index → s'.place g i ≡ (cleared s f).place g i
+    place_away : (g i : ℕ) → EntryAt g i ≢ EntryAt node index → s'.place g i ≡ ready_place m.object s f g i
     place_away g i other = ap (λ x. x.place g i) now
-        ∙ place_there framed node index (Holds (node_cap m.node f)) g i (away g i other)
+        ∙ place_there framed node index (Holds (object_cap m.object f)) g i (away g i other)
 
-    place_made : (g i : ℕ) → g ≡ f → s'.place g i ≡ Vacant
-    place_made g i same = place_away g i (λ h. apart (sym same ∙ same_node g i node index h))
-        ∙ ap (λ r. r i) (put_same s.place f (λ i. Vacant) g same)
+    place_made : (g i : ℕ) → g ≡ f → PlaceReady m.object (s'.place g i)
+    place_made g i same = subst (PlaceReady m.object) (sym (place_away g i (λ h. apart (sym same ∙ same_node g i node index h))))
+        (place_ready m.object s f g i same)
       where
         same_node : (g i h j : ℕ) → EntryAt g i ≡ EntryAt h j → g ≡ h
         same_node g i h j is = cc
 
     place_kept : (g i : ℕ) → g ≢ f → EntryAt g i ≢ EntryAt node index → s'.place g i ≡ s.place g i
-    place_kept g i other there = place_away g i there ∙ ap (λ r. r i) (put_other s.place f (λ i. Vacant) g other)
+    place_kept g i other there = place_away g i there ∙ ready_there m.object s f g i other
 
     -- its times
     begins_none : BeginsNone setup t e
@@ -362,9 +339,9 @@ module _ (setup : Setting) (setting : IsSetting setup) (cores : ℕ → Core) (t
 
     stamp_kept : (x : Thing) → is_place_of f x ≡ false → stamp setup (e ∷ t) x ≡ stamp setup t x
     stamp_kept x other = stamp-kept setup e t x (begins_none.begins x) (ap (λ p. ends_in (Some (reply.Ok Nothing)) p x) is_open
-        ∙ ap (λ y. ends_by y x) call.call_is ∙ made_ends call.what m.node call.node_is call.name f call.root call.slot x ∙ other)
+        ∙ ap (λ y. ends_by y x) call.call_is ∙ made_ends call.what call.name f call.root call.slot x other)
       where
-        call : IsNodeCall a.call a.found m
+        call : IsObjectCall a.call a.found m
         call = calls.is setup setting cores t stands c here a active m stage_is has
 
     -- the calls that were counted
@@ -378,15 +355,22 @@ module _ (setup : Setting) (setting : IsSetting setup) (cores : ℕ → Core) (t
     own_stays : s'.core c ≡ counts (s.core c) (s'.core c).inside (s'.core c).counted
     own_stays = subst (λ y. y.core c ≡ counts (s.core c) (y.core c).inside (y.core c).counted) (sym now) (calm_counted s c).own
 
+    core_below : c < s.limits.cores
+    core_below = subst (λ (n : ℕ). c < n) (sym (ap (λ l. l.cores) (limits_of setup t))) here
+
+    sound : IsSound s (opened (events_of t))
+    sound = sound_of setup setting t stands.legal
+
     works : WorksIn (record (cores c).own { made = count }) s' c
-    works = own_works s s' c (cores c).own (record (cores c).own { made = count }) threads comps own_stays
+    works = same_works s s' c (cores c).own (record (cores c).own { made = count })
+        (ap thread_in (object_kept (s.core c).thread kind.Thread (sound.cores c core_below).0 refl))
+        (ap comp_in (object_kept (first_of_stack (thread_of s c).stack) kind.Comp
+        (comp_fit s (opened (events_of t)) c sound core_below) refl))
+        own_stays
         (ap (λ (m : ℕ). record (cores c).own { made = m }) count_is) (stands.each c here).works
 
     rises : counted_in setup s ≤ counted_in setup s'
     rises = subst (λ y. counted_in setup s ≤ counted_in setup y) (sym now) (counted_rises setup s (counted s c) c (calm_counted s c))
-
-    core_below : c < s.limits.cores
-    core_below = subst (λ (n : ℕ). c < n) (sym (ap (λ l. l.cores) (limits_of setup t))) here
 
     more_room : count_room s + 4 ≤ count_room s'
     more_room = subst (λ y. count_room s + 4 ≤ count_room y) (sym now) (room_grows s (counted s c) c (calm_counted s c) core_below
@@ -403,8 +387,8 @@ module _ (setup : Setting) (setting : IsSetting setup) (cores : ℕ → Core) (t
     alike : ReadsAlike setup t e
     alike (EntryAt g i) = elim (cases_eq g f) [
       | inl same ↦ ap (λ x. mark_in_frame x i (last_left setup (e ∷ t) (EntryAt g i))) (frame_here g same)
-          ∙ node_mark (Kernel object) i (last_left setup (e ∷ t) (EntryAt g i)) (made_node m.node)
-          ∙ ap (λ (n : ℕ). entry_mark (entry_of_word n)) (kept_left g i same) ∙ ap entry_mark (free_says i)
+          ∙ ap (mark_in_frame (Kernel object) i) (kept_left g i same)
+          ∙ bare_new m.object i (last_left setup t (EntryAt f i)) (word_says i)
           ∙ ap (λ x. mark_in_frame x i (last_left setup (e ∷ t) (EntryAt g i))) (sym (was_blank g same))
       | inr other ↦ ap (λ x. mark_in_frame x i (last_left setup (e ∷ t) (EntryAt g i))) (frame_there g other)
     ]
@@ -419,14 +403,13 @@ module _ (setup : Setting) (setting : IsSetting setup) (cores : ℕ → Core) (t
     said : (w : Word) → SameFor s s' (times_of setup t) (times_of setup (e ∷ t)) w → StaysSaid setup cores t e w
     said w same = word_stays s s' (times_of setup t) (times_of setup (e ∷ t)) w (settled setup (held_by cores) t w) same
 
-    -- a word of the frame says that its place is free
+    -- a word of the frame says what the object is
     made_says : (g i : ℕ) → g ≡ f → StaysSaid setup cores t e (EntryAt g i)
     made_says g i same before =
-        node_word s'.limits.frames (s'.frame g) (s'.place g i) (stamp setup (e ∷ t) (PlaceOf g i)) i
-        (settled setup (held_by cores) t (EntryAt g i)) (subst (λ x. IsTrue (is_node x)) (sym (frame_here g same)) (made_node m.node))
-        (subst (λ p. PlaceIs s'.limits.frames p (stamp setup (e ∷ t) (PlaceOf g i))
-        (entry_of_word (settled setup (held_by cores) t (EntryAt g i))))
-        (sym (place_made g i same)) (ap entry_of_word settled_is ∙ free_says i))
+        subst (λ x. IsFrameWord s'.limits.frames x (s'.place g i) (stamp setup (e ∷ t) (PlaceOf g i)) i
+        (settled setup (held_by cores) t (EntryAt g i))) (sym (frame_here g same))
+        (word_new m.object s'.limits.frames (s'.place g i) (stamp setup (e ∷ t) (PlaceOf g i)) i
+        (settled setup (held_by cores) t (EntryAt g i)) (place_made g i same) (subst (SaysNew m.object i) (sym settled_is) (word_says i)))
       where
         settled_is : settled setup (held_by cores) t (EntryAt g i) ≡ last_left setup t (EntryAt f i)
         settled_is = ap (λ (h : ℕ). settled setup (held_by cores) t (EntryAt h i)) same
@@ -459,7 +442,7 @@ module _ (setup : Setting) (setting : IsSetting setup) (cores : ℕ → Core) (t
         (subst (λ x. IsTrue (is_node x)) (sym (frame_there node (λ h. apart (sym h)))) in_node)
         (subst (λ p. PlaceIs s'.limits.frames p (stamp setup (e ∷ t) (PlaceOf node index)) (entry_of_word new)) (sym place_target) (
           new_says ∙ ap (λ x. Some (Held x)) knows.cap,
-          subst (λ n. CapNames n (node_cap m.node f)) (sym (ap (λ l. l.frames) limits)) (made_caps m.node s.limits.frames f below),
+          subst (λ n. CapNames n (object_cap m.object f)) (sym (ap (λ l. l.frames) limits)) (made_caps m.object s.limits.frames f below),
         ))
 
     bare_now : mark_of s (EntryAt node index) (left_of put_it was) ≡ None
@@ -483,12 +466,6 @@ module _ (setup : Setting) (setting : IsSetting setup) (cores : ℕ → Core) (t
     no_count : (g d : ℕ) → CountAt g d ≢ EntryAt node index
     no_count g d h = cc
 
-    few : length (cap_dues k (pos 1)) ≤ 1
-    few = subst (λ (at : MakingAt). length (made_dues k at) ≤ 1) at_is (one_due (make_act m))
-
-    one_small : IsWithin (pos 1) 1
-    one_small = omega arith
-
     none_small : 0 < 2 ^ 28
     none_small = omega arith
 
@@ -499,12 +476,13 @@ module _ (setup : Setting) (setting : IsSetting setup) (cores : ℕ → Core) (t
     commits w own = elim (cases_word w (FrameAt f)) [
       | inl same ↦ subst (λ v. WordIs s' (times_of setup (e ∷ t)) v ((holds_at stage a.counts).stands v)) (sym same)
           (ap (λ b. frame_of_word (if b then made_word else (holds_counts (Some None) a.counts).stands (FrameAt f))) (same_same (FrameAt f))
-          ∙ frames.spelling.reads (made m.node) (made_fits m.node) ∙ ap (λ v. Some v) (sym (made_value m.node))
+          ∙ frames.spelling.reads (made m.object) (made_fits m.object) ∙ ap (λ v. Some v) (sym (made_value m.object))
           ∙ ap (λ x. Some (frame_value x)) (sym (frame_here f refl)))
       | inr other ↦ subst (WordIs s' (times_of setup (e ∷ t)) w)
           (sym (ap (λ b. if b then made_word else (holds_counts (Some None) a.counts).stands w) (same_word-other w (FrameAt f) other)))
-          (counts_commit setup setting cores t stands c here a active (pos 1) one_small None none_small (named_by k.kind k.frame) few
-          dues_are put_it (reply.Ok Nothing) after still before_count (λ g d. refl) alike unmarked.mark bare_now no_count more_room w
+          (dues_commit setup setting cores t stands c here a active None none_small (object_dues m.object f) dues_are
+          (small_changes (f ∷ object_names m.object)) put_it (reply.Ok Nothing) after still before_count (λ g d. refl) alike
+          unmarked.mark bare_now no_count more_room w
           (sym (ap (λ h. h.marks w) holds_is
           ∙ ap (λ b. if b then true else (holds_counts None a.counts).marks w) (same_word-other w (FrameAt f) other))
           ∙ (stands.marks w c).owned own))
@@ -515,32 +493,45 @@ module _ (setup : Setting) (setting : IsSetting setup) (cores : ℕ → Core) (t
     nothing_held i j is = false≢true (sym (ap is_node blank) ∙ ((sound_of setup setting t stands.legal).bare f i j is).0)
 
     target_kept : framed.place node index ≡ s.place node index
-    target_kept = ap (λ r. r index) (put_other s.place f (λ i. Vacant) node (λ h. apart (sym h)))
+    target_kept = ready_there m.object s f node index (λ h. apart (sym h))
 
-    grows : (g : ℕ) → refs s' g ≡ refs s g + times g (named_by k.kind k.frame)
+    grows : (g : ℕ) → refs s' g ≡ refs s g + times g (f ∷ object_names m.object)
     grows g =
         let z : refs s' g ≡ refs filled g = ap (λ x. refs x g) now ∙ counted_refs filled c g in
-        let p = place_refs framed node index (Holds (node_cap m.node f)) g
+        let p = place_refs framed node index (Holds (object_cap m.object f)) g
         (calls.node_below setup setting cores t stands c here a active m stage_is has) small_index in
         let q : times g (place_names (framed.place node index)) ≡ 0 = ap (λ p. times g (place_names p)) target_kept
         ∙ ap (times g) empty.names in
-        let r = frame_refs (cleared s f) f (Kernel object) g below in
-        let u : times g (frame_names ((cleared s f).frame f)) ≡ 0 = ap (λ x. times g (frame_names x)) blank in
-        let v : times g (frame_names (Kernel object)) ≡ 0 = ap (times g) (made_names m.node) in
-        let w = cleared_refs s f g nothing_held in
-        let n : times g (place_names (Holds (node_cap m.node f))) ≡ times g (named_by k.kind k.frame) =
-        ap (λ (x : Capability). times g (place_names (Holds x))) (sym knows.cap) in
-        omega (arith, z, p, q, r, u, v, w, n)
+        let r = new_refs m.object s f g below blank nothing_held in
+        let u : times g (place_names (Holds (object_cap m.object f))) ≡ times g (f ∷ []) = ap (times g) (cap_names m.object f) in
+        let v = sums.times_cons g f (object_names m.object) in
+        let w = sums.times_cons g f [] in
+        omega (arith, z, p, q, r, u, v, w)
 
-    grows_one : (g : ℕ) → times g (named_by k.kind k.frame) ≡ 1 → pos (refs s' g) ≡ pos (refs s g) +ℤ pos 1
-    grows_one g one = ap (λ (n : ℕ). pos n) (let more = grows g in omega (arith, more, one))
+    -- each by one
+    abbrev Grows : ℕ → Type 0
+    Grows g = (pos (refs s' g) ≡ pos (refs s g) +ℤ pos 1)
+        × (stamp setup (e ∷ t) (FrameOf g) ≡ max (stamp setup t (FrameOf g)) (later 0 (stamp_of_change (pos 1) None)))
 
-    sums : (g : ℕ) → SumIs setup (held_by (put cores c after)) (e ∷ t) g
-    sums = counts_sum setup setting cores t stands c here a active (pos 1) one_small None none_small (named_by k.kind k.frame) few
-        dues_are put_it (reply.Ok Nothing) after still before_count (λ g d. refl) alike unmarked.mark bare_now no_count
-        (ap (λ l. l.cores) limits)
-        (λ g none. ((let more = grows g in omega (arith, more, none)), stamp_kept (FrameOf g) refl))
-        (λ g one. (grows_one g one, stamp_kept (FrameOf g) refl ∙ max_zero (stamp setup t (FrameOf g))))
+    grows_one : (g : ℕ) → times g (f ∷ object_names m.object) ≡ 1 → Grows g
+    grows_one g one = (
+      ap (λ (n : ℕ). pos n) (let more = grows g in omega (arith, more, one)),
+      stamp_kept (FrameOf g) refl ∙ max_zero (stamp setup t (FrameOf g)),
+    )
+
+    sums_are : (g : ℕ) → SumIs setup (held_by (put cores c after)) (e ∷ t) g
+    sums_are = dues_sum setup setting cores t stands c here a active None none_small (object_dues m.object f) dues_are
+        (small_changes (f ∷ object_names m.object)) put_it (reply.Ok Nothing) after still before_count (λ g d. refl) alike unmarked.mark
+        bare_now no_count (ap (λ l. l.cores) limits)
+        (λ g none. (
+          (let more = grows g in let zero_times = named_not g (f ∷ object_names m.object) none in omega (arith, more, zero_times)),
+          stamp_kept (FrameOf g) refl,
+        ))
+        (change_is_one (λ d. (pos (refs s' d.frame) ≡ pos (refs s d.frame) +ℤ d.change)
+        × (stamp setup (e ∷ t) (FrameOf d.frame) ≡ max (stamp setup t (FrameOf d.frame)) (later 0 (stamp_of_change d.change None))))
+        (f ∷ object_names m.object)
+        (named_once Grows (f ∷ object_names m.object)
+        (calls.counts_apart setup setting cores t stands c here a active m stage_is has blank) grows_one))
 
     -- the reply
     permitted : MayReply s c a.call (reply.Ok Nothing)
@@ -577,8 +568,8 @@ module _ (setup : Setting) (setting : IsSetting setup) (cores : ℕ → Core) (t
     unmarks = record {
       changes = made_changes a.call a.found m knows.makes;
       argument = made_argument a.call a.found m knows.makes;
-      bare = ap frame_mark (frames.spelling.reads (made m.node) (made_fits m.node));
-      small = frames.spelling.small (made m.node) (made_fits m.node);
+      bare = ap frame_mark (frames.spelling.reads (made m.object) (made_fits m.object));
+      small = frames.spelling.small (made m.object) (made_fits m.object);
     }
 
     pub put_won : GoodTook setup cores t c put_it (landed a (published m word true))
@@ -586,7 +577,7 @@ module _ (setup : Setting) (setting : IsSetting setup) (cores : ℕ → Core) (t
         unmarked.mark bare_now (subst (λ (n : ℕ). n < 2 ^ 64) (sym leaves_it) (entries.spelling.small (Held k) fits)) of_call lands opens
         refl
         same_held alike begins_none (spares_node setup t e node index refl in_node) rises works stays
-        (subst (WordIs s' (times_of setup (e ∷ t)) (EntryAt node index)) (sym leaves_it) word_now) commits sums
+        (subst (WordIs s' (times_of setup (e ∷ t)) (EntryAt node index)) (sym leaves_it) word_now) commits sums_are
         (record { call = a.call; is_open = is_open; permitted = permitted; justified = gone })
         (λ is_alone. ok_first s c a.call Nothing permitted)
         unmarks
@@ -608,8 +599,9 @@ pub making_good : (setup : Setting) → IsSetting setup → (cores : ℕ → Cor
 making_good setup setting cores t stands c here a active m stage_is has = by m.at refl
   where
     by : (at : MakingAt) → m.at ≡ at
-        → GoodTook setup cores t c (making_at m.frame m.core m.fill at) (landed a (took_making_at m at
-        (told_of (making_at m.frame m.core m.fill at) (last_left setup t (word_of (making_at m.frame m.core m.fill at))))))
+        → GoodTook setup cores t c (making_at m.frame m.object m.core m.fill at) (landed a (took_making_at m at
+        (told_of (making_at m.frame m.object m.core m.fill at)
+        (last_left setup t (word_of (making_at m.frame m.object m.core m.fill at))))))
     by making_load at_is = load_good setup setting cores t stands c here a active m stage_is has at_is
     by (Mark word) at_is = mark_good setup setting cores t stands c here a active m stage_is has word at_is
     by (Store word n) at_is = store_good setup setting cores t stands c here a active m stage_is has word n at_is

@@ -1,0 +1,217 @@
+//! The act that kills a component: its liveness number is dead from then on, and releases its reference to the component's frame.
+//!
+//! **Finding.** The component's word says which liveness number it has, and in which epoch it was made. The number's word says whether the
+//! component lives: it does where the number is live in that epoch.
+//!
+//! **Closing.** The count of the component's frame is acquired, and the number's word is marked by a compare with the word found. While it
+//! is marked no other core kills the component or gives the number to another, and no call is begun through a gate to it.
+//!
+//! **Killing.** A stamp is drawn, which decides the call. Then the number's word is stored: dead since the stamp. The draw must come after
+//! the mark: between them no core can find the number live and begin a call that the stamp takes for a later one.
+
+ghost use Rattle.std.specs.Prelude.{◌≡◌, ◌<◌, ◌≤◌};
+ghost use Rattle.spk_nums.specs.WordSteps.{place_in};
+ghost use Rattle.frame_words.specs.Comp.{CompFits, comp_of_word};
+ghost use Rattle.frame_words.specs.Live.{word_of_live, live_of_word};
+ghost use Rattle.frame_words.specs.declared.live_word.LiveWord.TheVariants.{Closing, Dead};
+ghost use Rattle.word_map.specs.Places.{size_of};
+ghost use Rattle.word_map.specs.Moves.{op_of};
+ghost use Rattle.call_acts.specs.Kills.{KillingFits, killing_move, is_killing, dead_move};
+ghost use Rattle.call_acts.specs.Acts.{meets_comp, meets_live, meets_number, meets_life, took_killing, drawn_dead};
+
+use crate::acts::{next_work, refuse};
+use crate::refusals::Refusal;
+use crate::work::{Act, Tail, Work, WorkStep};
+use frame_words::{CompWord, LiveWord};
+use spk_nums::{CoreNo, EntryNo, FrameNo, Stamp, Value, WordOp};
+use stage_quiet::drawn;
+use word_map::Layout;
+
+/// Where the killing of a component stands.
+#[derive(Clone, Copy, PartialEq, Eq, Debug)]
+pub enum KillingAt {
+    /// Before the load of the component's word.
+    LoadComp,
+    /// Before the load of its number's word.
+    LoadLive { life: CompWord },
+    /// Before the compare that marks the number's word, which was this and says that the component lives.
+    Close { life: CompWord, word: u64 },
+    /// The number's word is marked, and was this. Before the draw of the stamp.
+    Draw { life: CompWord, word: u64 },
+}
+
+/// A component that is killed, between two steps.
+#[derive(Clone, Copy, PartialEq, Eq, Debug)]
+pub struct Killing {
+    /// The component's frame.
+    pub comp: FrameNo,
+    /// The core that kills it.
+    pub core: CoreNo,
+    /// Where this stands.
+    pub at: KillingAt,
+}
+
+impl Killing {
+    /// The next step. What it names is of the layout's machine.
+    #[inline]
+    pub fn next(&self, layout: &Layout) -> WordOp
+        requires { KillingFits layout.now self.now }
+        ensures step { result ≡ op_of layout.now (killing_move self.now) }
+        ensures below { place_in result < size_of layout.now }
+    {
+        match self.at {
+            KillingAt::LoadComp => WordOp::Load {
+                at: layout.entry_at(self.comp, EntryNo::new(2)),
+            },
+            KillingAt::LoadLive { life } => WordOp::Load {
+                at: layout.live_at(life.number),
+            },
+            KillingAt::Close { life, word } => WordOp::Compare {
+                at: layout.live_at(life.number),
+                expected: word,
+                word: closing_word(life.epoch, self.core),
+            },
+            KillingAt::Draw { life: _, word: _ } => WordOp::Add {
+                at: layout.clock_at(),
+                by: 1,
+            },
+        }
+    }
+
+    /// Takes the word that the step found: a number that another core is closing is `busy`, one that is not live in the component's epoch
+    /// `dead`. A lost compare is `raced`. After the load of the number's word the count of the component's frame is acquired. The draw
+    /// carries the call out, with the clock found as its stamp.
+    #[inline]
+    pub fn take(&self, found: u64) -> WorkStep
+        ensures { result ≡ took_killing self.now found }
+    {
+        match self.at {
+            KillingAt::LoadComp => self.meets_comp(CompWord::unpack(found)),
+            KillingAt::LoadLive { life } => self.meets_live(life, found, LiveWord::unpack(found)),
+            KillingAt::Close { life, word } => {
+                if found == word {
+                    WorkStep::Goes {
+                        work: Work::Act {
+                            act: self.at(KillingAt::Draw { life, word }),
+                        },
+                    }
+                } else {
+                    refuse(Refusal::Raced)
+                }
+            }
+            KillingAt::Draw { life, word: _ } => drawn_dead(life, drawn(found)),
+        }
+    }
+
+    /// Whether the next step draws the stamp.
+    #[inline]
+    pub fn is_ready(&self) -> bool
+        ensures { result ≡ is_killing self.now.at }
+    {
+        matches!(self.at, KillingAt::Draw { .. })
+    }
+
+    // The killing that stands here.
+    #[inline]
+    fn at(&self, at: KillingAt) -> Act
+        ensures { result ≡ Act.Kill (record self.now { at = at }) }
+    {
+        Act::Kill {
+            killing: Killing { at, ..*self },
+        }
+    }
+
+    // What the load of the component's word leads to, where it shows this.
+    #[inline]
+    fn meets_comp(&self, shown: Option<CompWord>) -> WorkStep
+        ensures { result ≡ meets_comp self.now shown }
+    {
+        match shown {
+            None => refuse(Refusal::Raced),
+            Some(life) => WorkStep::Goes {
+                work: Work::Act {
+                    act: self.at(KillingAt::LoadLive { life }),
+                },
+            },
+        }
+    }
+
+    // What the load of its number's word leads to, where it shows this.
+    #[inline]
+    fn meets_live(&self, life: CompWord, word: u64, shown: Option<LiveWord>) -> WorkStep
+        ensures { result ≡ meets_live self.now life word shown }
+    {
+        match shown {
+            None => refuse(Refusal::Raced),
+            Some(shown) => self.meets_number(life, word, &shown),
+        }
+    }
+
+    #[inline]
+    fn meets_number(&self, life: CompWord, word: u64, shown: &LiveWord) -> WorkStep
+        ensures { result ≡ meets_number self.now life word shown.now }
+    {
+        match shown {
+            LiveWord::Free => refuse(Refusal::Dead),
+            LiveWord::Live { epoch, frame: _ } => {
+                self.meets_life(life, word, *epoch == life.epoch)
+            }
+            LiveWord::Closing { epoch: _, by } => refuse(Refusal::Busy(*by)),
+            LiveWord::Dead { epoch: _, stamp: _ } => refuse(Refusal::Dead),
+        }
+    }
+
+    #[inline]
+    fn meets_life(&self, life: CompWord, word: u64, lives: bool) -> WorkStep
+        ensures { result ≡ meets_life self.now life word lives }
+    {
+        if lives {
+            let act = self.at(KillingAt::Close { life, word });
+            WorkStep::Goes {
+                work: next_work(self.core, 0, &act),
+            }
+        } else {
+            refuse(Refusal::Dead)
+        }
+    }
+}
+
+// The call is carried out, and has still to store that the number is dead since this stamp.
+#[inline]
+fn drawn_dead(life: CompWord, stamp: Stamp) -> WorkStep
+    ensures { result ≡ drawn_dead life stamp }
+{
+    WorkStep::Answers {
+        value: Value::Nothing,
+        drawn: Some(stamp),
+        tail: Tail::StoreDead { life, stamp },
+    }
+}
+
+// The word of a number that a core is closing.
+#[inline]
+fn closing_word(epoch: u16, core: CoreNo) -> u64
+    ensures { result ≡ word_of_live (Closing epoch core) }
+{
+    let _number = core.number();
+    let word = LiveWord::Closing { epoch, by: core };
+    word.pack()
+}
+
+/// The store of the word of a number that is dead since a stamp.
+#[inline]
+pub fn dead_op(life: &CompWord, stamp: Stamp, layout: &Layout) -> WordOp
+    requires fits { CompFits life.now }
+    requires drawn { 1 ≤ stamp }
+    ensures step { result ≡ op_of layout.now (dead_move life.now stamp) }
+    ensures below { place_in result < size_of layout.now }
+{
+    let word = LiveWord::Dead {
+        epoch: life.epoch,
+        stamp,
+    };
+    WordOp::Store {
+        at: layout.live_at(life.number),
+        word: word.pack(),
+    }
+}

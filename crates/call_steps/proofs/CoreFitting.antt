@@ -1,0 +1,154 @@
+-- The core and its call after a step stay in their ranges.
+use Rattle.std.proofs.lemmas.List.Elements.{All-nil, All-cons, All-tail, All-append}
+use Rattle.std.proofs.Common.{◌≡◌, ℕ, suc, ℤ, ◌≢◌, nat_lt, if◌then◌else◌, ◌+◌, ◌*◌, ◌-◌, ◌++◌, slice_get, ◌%◌, ◌<◌, ◌≤◌, Bool, true, false, ◌==◌, List, [], ◌∷◌, length, length-append, lt-ltb, Option, Some, None, IfSome, refl, sym, ◌∙◌, ap, subst, arith, negsuc}
+use Rattle.std.proofs.lemmas.Bool.{leb-false, ltb-true, ltb-false, eqb-true, eqb-false}
+use Rattle.spk_nums.specs.Bounds.{bound_of}
+use Rattle.spk_nums.specs.CallLimits.{InLimits}
+use Rattle.supported_calls.specs.Built.{IsBuilt}
+use Rattle.spk_nums.specs.declared.replies.Reply.{Reply}
+use Rattle.kernel_rules.specs.Laws.{calls_counted}
+use Rattle.kernel_rules.specs.Access.{found}
+use Rattle.call_plans.specs.PlanOf.{plan_for}
+use Rattle.call_acts.specs.declared.own.Own.{Own}
+use Rattle.call_acts.specs.declared.own.OwnChange.{OwnChange}
+use Rattle.call_acts.specs.declared.own.OwnChange.TheVariants.{Ticks}
+use Rattle.call_acts.specs.OwnChanges.{own_changed}
+use Rattle.std.specs.Prelude.{◌^◌, min}
+use Rattle.call_steps.specs.Fits.{left_of, IsActive, CallFits, IsOwn, IsCore, left_for}
+use Rattle.call_steps.specs.declared.stages.Stage.TheVariants.{Decided}
+use Rattle.call_steps.specs.declared.stages.ActiveCall.{ActiveCall}
+use Rattle.call_steps.specs.declared.stages.Told.TheVariants as told_as
+use Rattle.call_steps.specs.Steps.{GoesOn, Decides, took, told, call_after, Changes}
+use Rattle.call_steps.proofs.Landing.{told_goes, told_decides, told_changes}
+use Rattle.call_steps.proofs.LandsFit.{IsNext, TookFits}
+use Rattle.call_steps.proofs.Fitting.{took_fits}
+
+-- The call after a step is the core's call.
+active_on : (own : Own) (made : ℕ) (old a : ActiveCall) → IsActive own old → IsNext own made (left_of own.layout.cores old) old a
+    → IsActive (record own { made = made }) a
+active_on own made old a active next = record {
+  limits = subst InLimits (sym next.call) active.limits;
+  built = subst IsBuilt (sym next.call) active.built;
+  plan = next.plan ∙ active.plan ∙ ap plan_for (sym next.call);
+  found = next.found;
+  first = next.first;
+  stage = next.stage;
+  acquired = next.acquired;
+  counts = next.counts;
+  room = next.room;
+  steps =
+      let before : old.steps + left_of own.layout.cores old ≤ bound_of old.call own.layout.cores = active.steps in
+      let one : a.steps ≡ old.steps + 1 = next.steps in
+      let fewer : left_of own.layout.cores a < left_of own.layout.cores old = next.fewer in
+      let same : bound_of a.call own.layout.cores ≡ bound_of old.call own.layout.cores = ap (λ call. bound_of call own.layout.cores)
+      next.call in
+      omega arith;
+}
+
+-- What a decision changes beside leaves the core in its ranges.
+changed_on : (own : Own) (change : OwnChange) → IsOwn own → IsOwn (own_changed own change)
+changed_on own (Ticks charged owed) h = record {
+  shape = h.shape;
+  core = h.core;
+  thread = h.thread;
+  comp = h.comp;
+  table = h.table;
+  pages = h.pages;
+  tcap = h.tcap;
+  most_calls = h.most_calls;
+  made = h.made;
+}
+
+own_on : (own : Own) (made : ℕ) → IsOwn own → made ≤ own.limit → IsOwn (record own { made = made })
+own_on own made h counted = record {
+  shape = h.shape;
+  core = h.core;
+  thread = h.thread;
+  comp = h.comp;
+  table = h.table;
+  pages = h.pages;
+  tcap = h.tcap;
+  most_calls = h.most_calls;
+  made = counted;
+}
+
+-- A core after a step that goes on, and after one that decides.
+pub goes_on : (own : Own) (active : Option ActiveCall) (a new : ActiveCall) (found : ℕ) → IsCore (record { own = own; active = active })
+    → active ≡ Some a
+    → told_as.Going ≡ told (took own a found) → new ≡ call_after a (took own a found)
+    → IsCore (record { own = own; active = Some new }) × (left_of own.layout.cores new < left_for own.layout.cores active)
+goes_on own active a new found h is going next =
+    let fits : IsActive own a = subst (CallFits own) is h.active in
+    let leads : TookFits own (left_of own.layout.cores a) a (GoesOn new) =
+    subst (TookFits own (left_of own.layout.cores a) a) (told_goes a (took own a found) going ∙ ap GoesOn (sym next))
+    (took_fits own a found h.own fits) in (
+      record { own = h.own; active = active_on own own.made a new fits leads },
+      subst (λ o. left_of own.layout.cores new < left_for own.layout.cores o) (sym is) leads.fewer,
+    )
+
+pub decides_on : (own : Own) (active : Option ActiveCall) (a new : ActiveCall) (r : Reply) (counted found : ℕ)
+    → IsCore (record { own = own; active = active }) → active ≡ Some a
+    → told_as.Decided r ≡ told (took own a found) → new ≡ call_after a (took own a found) → counted ≡ calls_counted r
+    → IsCore (record { own = record own { made = own.made + counted }; active = Some new }) ×
+    (left_of own.layout.cores new < left_for own.layout.cores active)
+decides_on own active a new r counted found h is decided next count =
+    let fits : IsActive own a = subst (CallFits own) is h.active in
+    let leads : TookFits own (left_of own.layout.cores a) a (Decides r new) =
+    subst (TookFits own (left_of own.layout.cores a) a) (told_decides a r (took own a found) decided ∙ ap (Decides r) (sym next))
+    (took_fits own a found h.own fits) in (
+      subst (λ n. IsCore (record { own = record own { made = own.made + n }; active = Some new })) (sym count)
+          (record {
+            own = own_on own (own.made + calls_counted r) h.own leads.counted;
+            active = active_on own (own.made + calls_counted r)
+                a new fits leads;
+          }),
+      subst (λ o. left_of own.layout.cores new < left_for own.layout.cores o) (sym is) leads.fewer,
+    )
+
+pub changes_on : (own : Own) (active : Option ActiveCall) (a new : ActiveCall) (r : Reply) (change : OwnChange) (counted found : ℕ)
+    → IsCore (record { own = own; active = active }) → active ≡ Some a
+    → told_as.Changed r change ≡ told (took own a found) → new ≡ call_after a (took own a found) → counted ≡ calls_counted r
+    → IsCore (record { own = record (own_changed own change) { made = (own_changed own change).made + counted }; active = Some new }) ×
+    (left_of own.layout.cores new < left_for own.layout.cores active)
+changes_on own active a new r (Ticks charged owed) counted found h is decided next count =
+    let change : OwnChange = Ticks charged owed in
+    let fits : IsActive own a = subst (CallFits own) is h.active in
+    let leads : TookFits own (left_of own.layout.cores a) a (Changes r change new) =
+    subst (TookFits own (left_of own.layout.cores a) a) (told_changes a r change (took own a found) decided ∙ ap (Changes r change)
+    (sym next)) (took_fits own a found h.own fits) in
+    let on : IsActive (record own { made = own.made + calls_counted r }) new = active_on own (own.made + calls_counted r) a new fits leads
+    in (
+      subst (λ n. IsCore (record { own = record (own_changed own change) { made = own.made + n }; active = Some new })) (sym count)
+          (record {
+            own = own_on (own_changed own change) (own.made + calls_counted r) (changed_on own change h.own) leads.counted;
+            active = record {
+              limits = on.limits;
+              built = on.built;
+              plan = on.plan;
+              found = on.found;
+              first = on.first;
+              stage = on.stage;
+              acquired = on.acquired;
+              counts = on.counts;
+              room = on.room;
+              steps = on.steps;
+            };
+          }),
+      subst (λ o. left_of own.layout.cores new < left_for own.layout.cores o) (sym is) leads.fewer,
+    )
+
+layout_changed : (own : Own) (change : OwnChange) → (own_changed own change).layout ≡ own.layout
+layout_changed own (Ticks charged owed) = refl
+
+pub changes_to : (own own' : Own) (active : Option ActiveCall) (a new : ActiveCall) (r : Reply) (change : OwnChange) (counted found : ℕ)
+    → IsCore (record { own = own; active = active }) → active ≡ Some a
+    → told_as.Changed r change ≡ told (took own a found) → new ≡ call_after a (took own a found) → counted ≡ calls_counted r
+    → own' ≡ own_changed own change
+    → IsCore (record { own = record own' { made = own'.made + counted }; active = Some new }) ×
+    (left_of own'.layout.cores new < left_for own.layout.cores active)
+changes_to own own' active a new r change counted found h is decided next count changed =
+    let on = changes_on own active a new r change counted found h is decided next count in (
+      subst (λ k. IsCore (record { own = record k { made = k.made + counted }; active = Some new })) (sym changed) on.0,
+      subst (λ (n : ℕ). left_of n new < left_for own.layout.cores active)
+          (sym (ap (λ k. k.layout.cores) changed ∙ ap (λ l. l.cores) (layout_changed own change))) on.1,
+    )

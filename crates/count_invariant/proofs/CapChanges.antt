@@ -1,0 +1,101 @@
+-- What a decision makes of the counts of a call that acquires those of what one capability names, each for the same change.
+use Rattle.std.proofs.Common.{◌≡◌, ◌≢◌, ℕ, ℤ, pos, ◌+ℤ◌, ◌+◌, ◌^◌, ◌<◌, ◌≤◌, max, map, length, true, if◌then◌else◌, List, [], ◌∷◌, Option, Some, None, arith, refl, sym, ◌∙◌, ap}
+use Rattle.std.proofs.lemmas.Bool.{eq-eqb, ne_eqb}
+use Rattle.std.specs.Prelude.{All}
+use Rattle.std.proofs.lemmas.List.Elements.{All-nil, All-cons, All-head}
+use Rattle.spk_nums.specs.Setting.{Setting, IsSetting}
+use Rattle.spk_nums.specs.declared.replies.Reply.{Reply}
+use Rattle.word_map.specs.Word.{Word, CountAt}
+use Rattle.word_map.specs.Moves.{Move, word_of, left_of}
+use Rattle.kernel_rules.specs.State.{FrameOf, State, put}
+use Rattle.kernel_rules.specs.References.{times, refs}
+use Rattle.kernel_rules.proofs.Sums as sums
+use Rattle.kernel_history.specs.Marks.{mark_of}
+use Rattle.kernel_history.specs.Marking.{marked_by}
+use Rattle.kernel_history.specs.Stamps.{stamp}
+use Rattle.kernel_history.specs.Trace.{Step, Trace, state_after, last_left}
+use Rattle.stage_pins.specs.Counts.{later}
+use Rattle.stage_pins.specs.Held.{stamp_of_change}
+use Rattle.call_acts.specs.declared.work.Due.{Due}
+use Rattle.call_steps.specs.declared.stages.ActiveCall.{ActiveCall}
+use Rattle.call_steps.specs.View.{Core}
+use Rattle.core_invariant.specs.CountWords.{IsWithin}
+use Rattle.core_invariant.specs.Holding.{holds_counts}
+use Rattle.core_invariant.specs.Words.{count_room, WordIs}
+use Rattle.core_invariant.specs.Knows.{due_of}
+use Rattle.core_invariant.specs.Stands.{holds, held_by, times_of, SumIs, Stands}
+use Rattle.core_invariant.proofs.Loads.{inner}
+use Rattle.core_invariant.proofs.Ranges.{within_more}
+use Rattle.core_invariant.proofs.WordFrames.{ReadsAlike}
+use Rattle.count_invariant.proofs.CountChanges.{dues_sum, dues_commit}
+
+-- What a capability has due, by what it names.
+abbrev pub dues_of : ℤ → List ℕ → List Due
+dues_of z fs = map (λ f. record { frame = f; change = z }) fs
+
+two_named : (z : ℤ) (f g : ℕ) (fs : List ℕ) → length (dues_of z (f ∷ g ∷ fs)) ≤ 1 → ⊥
+two_named z f g fs few = omega arith
+
+each_change : (P : ℤ → Type 0) (z : ℤ) → P z → (fs : List ℕ) → All (λ d. P d.change) (dues_of z fs)
+each_change P z holds [] = All-nil (λ d. P d.change)
+each_change P z holds (f ∷ fs) = All-cons (λ d. P d.change) (record { frame = f; change = z }) (dues_of z fs) holds
+    (each_change P z holds fs)
+
+-- The call has drawn this stamp or none, each count that its act changes is changed by z, and the frames of these are fs.
+module _ (setup : Setting) (setting : IsSetting setup) (cores : ℕ → Core) (t : Trace) (stands : Stands setup cores t) (c : ℕ)
+    (here : c < setup.cores)
+    (a : ActiveCall) (active : (cores c).active ≡ Some a) (z : ℤ) (small_change : IsWithin z 1) (drawn : Option ℕ)
+    (drawn_small : later 0 drawn < 2 ^ 28)
+    (fs : List ℕ) (few : length (dues_of z fs) ≤ 1) (all : dues_of z fs ≡ map due_of a.counts)
+    (move : Move) (r : Reply) (after : Core) (still : (w : Word) → (holds after).marks w ≡ (holds (cores c)).marks w)
+    (before_count : (f d : ℕ) → ((holds (cores c)).marks (CountAt f d) ≡ (holds_counts None a.counts).marks (CountAt f d))
+    × ((holds (cores c)).stands (CountAt f d) ≡ (holds_counts None a.counts).stands (CountAt f d)))
+    (after_count : (f d : ℕ) → (holds after).stands (CountAt f d) ≡ (holds_counts (Some drawn) a.counts).stands (CountAt f d))
+    (alike : ReadsAlike setup t (inner setup setting cores t stands c here a active move (Some r) None))
+    (was : marked_by setup t (word_of move) ≡ None) (now : mark_of (state_after setup t) (word_of move)
+    (left_of move (last_left setup t (word_of move))) ≡ None)
+    (no_count : (f d : ℕ) → CountAt f d ≢ word_of move) where
+  abbrev e : Step
+  e = inner setup setting cores t stands c here a active move (Some r) None
+
+  abbrev s : State
+  s = state_after setup t
+
+  abbrev s' : State
+  s' = state_after setup (e ∷ t)
+
+  small : All (λ d. IsWithin d.change 4) (dues_of z fs)
+  small = each_change (λ y. IsWithin y 4) z (within_more z 1 4 (omega arith) small_change) fs
+
+  -- the references change by z exactly where the frame is named, and its last release is then the stamp drawn
+  module _ (cores_same : s'.limits.cores ≡ s.limits.cores) (kept : (f : ℕ) → times f fs ≡ 0 → (refs s' f ≡ refs s f) ×
+      (stamp setup (e ∷ t) (FrameOf f) ≡ stamp setup t (FrameOf f)))
+      (changes : (f : ℕ) → times f fs ≡ 1 → (pos (refs s' f) ≡ pos (refs s f) +ℤ z)
+      × (stamp setup (e ∷ t) (FrameOf f) ≡ max (stamp setup t (FrameOf f)) (later 0 (stamp_of_change z drawn)))) where
+    abbrev Changes : Due → Type 0
+    Changes d = (pos (refs s' d.frame) ≡ pos (refs s d.frame) +ℤ d.change)
+        × (stamp setup (e ∷ t) (FrameOf d.frame) ≡ max (stamp setup t (FrameOf d.frame)) (later 0 (stamp_of_change d.change drawn)))
+
+    named_not : (f : ℕ) (gs : List ℕ) → length (dues_of z gs) ≤ 1 → All (λ d. f ≢ d.frame) (dues_of z gs) → times f gs ≡ 0
+    named_not f [] one apart = refl
+    named_not f (g ∷ []) one apart = sums.times_cons f g [] ∙ ap (λ b. (if b then 1 else 0) + 0)
+        (ne_eqb g f (λ h. All-head (λ d. f ≢ d.frame) (record { frame = g; change = z }) [] apart (sym h)))
+    named_not f (g ∷ h ∷ gs) one apart = absurd (two_named z g h gs one)
+
+    named_once : (gs : List ℕ) → length (dues_of z gs) ≤ 1 → ((f : ℕ) → times f gs ≡ 1 → Changes (record { frame = f; change = z }))
+        → All Changes (dues_of z gs)
+    named_once [] one each = All-nil Changes
+    named_once (g ∷ []) one each = All-cons Changes (record { frame = g; change = z }) []
+        (each g (sums.times_cons g g [] ∙ ap (λ b. (if b then 1 else 0) + 0) (eq-eqb g g refl))) (All-nil Changes)
+    named_once (g ∷ h ∷ gs) one each = absurd (two_named z g h gs one)
+
+    pub counts_sum : (f : ℕ) → SumIs setup (held_by (put cores c after)) (e ∷ t) f
+    counts_sum = dues_sum setup setting cores t stands c here a active drawn drawn_small (dues_of z fs) all small move r after still
+        before_count after_count alike was now no_count cores_same (λ f apart. kept f (named_not f fs few apart))
+        (named_once fs few changes)
+
+  -- each count that the call holds says then what its commit will store
+  pub counts_commit : count_room s + 4 ≤ count_room s' → (w : Word) → (holds_counts None a.counts).marks w ≡ true
+      → WordIs s' (times_of setup (e ∷ t)) w ((holds_counts (Some drawn) a.counts).stands w)
+  counts_commit = dues_commit setup setting cores t stands c here a active drawn drawn_small (dues_of z fs) all small move r after still
+      before_count after_count alike was now no_count

@@ -1,0 +1,106 @@
+-- What a call that kills a component knows of its rule: what is left of it after its name, and what refuses it.
+use Rattle.std.proofs.Common.{◌≡◌, inl, ℕ, ◌<◌, ◌==◌, ◌&&◌, ◌||◌, not, Bool, true, false, if◌then◌else◌, List, [], ◌∷◌, Option, Some, None, IsTrue, refl, sym, ◌∙◌, ap, subst}
+use Rattle.std.proofs.lemmas.Bool.{eq-eqb}
+use Rattle.spk_nums.specs.Setting.{Setting, IsSetting}
+use Rattle.spk_nums.specs.declared.calls.Call.TheVariants.{Kill}
+use Rattle.spk_nums.specs.declared.replies.Reply.TheVariants as reply
+use Rattle.kernel_rules.specs.State.{CompFields, Comp, Kernel, State, comp_in}
+use Rattle.kernel_rules.specs.Access.{found}
+use Rattle.kernel_rules.specs.Rules.{Cause, Does, RuleMay, outcome, unless, first_of}
+use Rattle.kernel_rules.specs.InvocationCalls.{is_live_in, not_live, kills, kill_comp}
+use Rattle.kernel_rules.specs.CallRelation.{rule_of, change_of}
+use Rattle.kernel_history.specs.Footprint.{is_one_of, frames_near, numbers_near, number_argument, number_in}
+use Rattle.kernel_history.specs.Trace.{Trace, Open, phase, state_after}
+use Rattle.call_plans.specs.declared.plans.Plan.{Plan}
+use Rattle.call_plans.specs.GoesBy.{GoesBy, own_pages}
+use Rattle.call_plans.specs.After.{rule_after, Leads, LeadsIn}
+use Rattle.call_plans.proofs.AfterNames.{outcome_left, left_may}
+use Rattle.call_acts.specs.declared.kills.Killing.{Killing}
+use Rattle.call_acts.specs.declared.kills.KillingAt.{KillingAt}
+use Rattle.call_acts.specs.Kills.{KillingFits}
+use Rattle.call_acts.specs.declared.work.Act.TheVariants.{Kill as kill_act}
+use Rattle.call_acts.specs.declared.work.Work.TheVariants.{Act}
+use Rattle.call_steps.specs.declared.stages.Stage.TheVariants.{Undecided}
+use Rattle.call_steps.specs.declared.stages.ActiveCall.{ActiveCall}
+use Rattle.call_steps.specs.Fits.{StageFits, HasRoom}
+use Rattle.call_steps.specs.View.{Core}
+use Rattle.core_invariant.specs.Knows.{KnowsUndecided, phase_at}
+use Rattle.core_invariant.specs.Stands.{Stands}
+use Rattle.core_invariant.proofs.Loads.{call_is, is_active}
+use Rattle.count_invariant.proofs.Acquiring.{plan_leads, goes_by}
+use Rattle.count_invariant.proofs.KillingCounts.{IsKill, kill_of, kill_near}
+use Rattle.live_invariant.proofs.Numbers.{one_of_many, comp_is}
+use Rattle.plan_ways.proofs.Near.{one_right}
+
+module _ (setup : Setting) (setting : IsSetting setup) (cores : ℕ → Core) (t : Trace) (stands : Stands setup cores t) (c : ℕ)
+    (here : c < setup.cores)
+    (a : ActiveCall) (active : (cores c).active ≡ Some a) (f by : ℕ) (at : KillingAt)
+    (stage_is : a.stage ≡ Undecided (Act (kill_act (record { comp = f; core = by; at = at }))))
+    (has : KnowsUndecided setup t c (cores c).own.table a (Act (kill_act (record { comp = f; core = by; at = at })))) where
+  abbrev s : State
+  s = state_after setup t
+
+  abbrev killing : Killing
+  killing = record { comp = f; core = by; at = at }
+
+  pub is : IsKill a.call a.found f
+  is = kill_of a.call a.found f has.knows.knows.kills
+
+  pub opens : phase_at a.call a.stage ≡ Open a.call
+  opens = ap (phase_at a.call) stage_is
+
+  pub is_open : phase t c ≡ Open a.call
+  is_open = (call_is setup setting cores t stands c here a active).phase ∙ opens
+
+  pub room : (cores c).own.made < (cores c).own.limit
+  room = subst (HasRoom (cores c).own.made (cores c).own.limit) stage_is (is_active setup setting cores t stands c here a active).room
+
+  pub fits : KillingFits (cores c).own.layout killing
+  fits = subst (StageFits (cores c).own.layout) stage_is (is_active setup setting cores t stands c here a active).stage
+
+  pub leads : Leads (LeadsIn s c) a.plan.names [] a.found
+  leads = plan_leads setup setting cores t stands c here a active has.names
+
+  pub by_plan : GoesBy (own_pages s c) a.plan (rule_of s c a.call)
+  by_plan = goes_by setup setting cores t stands c here a active has.names
+
+  -- the component
+  abbrev pub fields : CompFields
+  fields = comp_in (s.frame f)
+
+  pub holds_comp : s.frame f ≡ Kernel (Comp (comp_in (s.frame f)))
+  holds_comp = comp_is (s.frame f) has.knows.knows.comp.comp
+
+  -- what is left of the rule
+  abbrev causes : List Cause
+  causes = not_live s (found is.comp) fields.number fields.epoch ∷ []
+
+  pub left : rule_after (rule_of s c a.call) a.found ≡ Does (not_live s (found is.comp) fields.number fields.epoch ∷ []) (kills s fields)
+  left = ap (λ x. rule_after (rule_of s c x) a.found) is.call_is ∙ ap (rule_after (rule_of s c (Kill is.name))) is.found_is
+      ∙ ap (λ (g : ℕ). kill_comp s (found is.comp) (comp_in (s.frame g))) (sym is.frame)
+
+  pub by_life : (lives : Bool) → is_live_in (s.number fields.number) fields.epoch ≡ lives
+      → change_of s c a.call ≡ unless (if not lives then Some reply.Dead else None) (kills s fields)
+  by_life lives so =
+      outcome_left s c (own_pages s c) a.plan (rule_of s c a.call) a.found by_plan leads ∙ ap (outcome s c) left
+      ∙ ap (λ b. unless (first_of (if not b then Some reply.Dead else None) None) (kills s fields)) so
+      ∙ last lives
+    where
+      last : (b : Bool) → unless (first_of (if not b then Some reply.Dead else None) None) (kills s fields)
+          ≡ unless (if not b then Some reply.Dead else None) (kills s fields)
+      last true = refl
+      last false = refl
+
+  pub may_be_dead : is_live_in (s.number fields.number) fields.epoch ≡ false → RuleMay s c (rule_of s c a.call) reply.Dead
+  may_be_dead none = left_may s c (own_pages s c) a.plan (rule_of s c a.call) a.found by_plan leads reply.Dead
+      (subst (λ x. RuleMay s c x reply.Dead) (sym left) (inl (ap (λ b. not b) none, refl)))
+
+  -- the component and its number are near
+  pub near : is_one_of f (frames_near s c a.call) ≡ true
+  near = kill_near s c a.call a.found f has.knows.knows.kills
+      (subst (λ (p : Plan). Leads (LeadsIn s c) p.names [] a.found) (is_active setup setting cores t stands c here a active).plan leads)
+
+  pub number_near : (l : ℕ) → fields.number ≡ l → is_one_of l (numbers_near s c a.call) ≡ true
+  number_near l same = one_right l (number_argument a.call) _
+      (one_of_many (λ g. number_in (s.frame g)) l f (frames_near s c a.call) near
+      (ap (λ x. is_one_of l (number_in x)) holds_comp ∙ ap (λ b. b || false) (eq-eqb fields.number l same)))

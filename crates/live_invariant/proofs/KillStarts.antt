@@ -1,0 +1,97 @@
+-- A killing starts where its name has led to a component.
+use Rattle.std.proofs.Common.{◌≡◌, ℕ, ◌<◌, map, Bool, true, false, if◌then◌else◌, List, [], ◌∷◌, Some, None, IsTrue, refl, sym, ◌∙◌, ap, subst}
+use Rattle.spk_nums.specs.Capability.{Capability}
+use Rattle.spk_nums.specs.Setting.{Setting, IsSetting}
+use Rattle.spk_nums.specs.declared.kinds.Kind.{Kind}
+use Rattle.spk_nums.specs.declared.kinds.Kind.TheVariants as kind
+use Rattle.spk_nums.specs.declared.calls.Call.{Call}
+use Rattle.spk_nums.specs.declared.calls.Call.TheVariants.{Kill}
+use Rattle.spk_nums.specs.declared.replies.Reply.TheVariants as reply
+use Rattle.word_map.specs.Moves.{Move, word_of}
+use Rattle.kernel_rules.specs.State.{State}
+use Rattle.kernel_rules.specs.Access.{only}
+use Rattle.kernel_rules.specs.References.{named_by}
+use Rattle.kernel_rules.specs.Rules.{Found, Refused, named, of_kind}
+use Rattle.kernel_rules.proofs.Facts.{named_fit}
+use Rattle.kernel_rules.proofs.SoundRuns.{opened}
+use Rattle.kernel_rules.proofs.Stays.{name_parts}
+use Rattle.kernel_history.specs.Events.{events_of}
+use Rattle.kernel_history.specs.Legal.{IsLegal}
+use Rattle.kernel_history.specs.Trace.{Step, Trace, Open, phase, state_after, last_left}
+use Rattle.kernel_history.proofs.Carries.{Carries}
+use Rattle.kernel_history.proofs.Stays.{sound_of, opened_is, guarded_usable}
+use Rattle.stage_pins.specs.declared.held.Acquired.{Acquired}
+use Rattle.call_acts.specs.declared.kills.KillingAt.TheVariants.{LoadComp}
+use Rattle.call_acts.specs.declared.work.Act.TheVariants.{Kill as kill_act}
+use Rattle.call_acts.specs.declared.work.Work.TheVariants.{Act}
+use Rattle.call_acts.specs.Acts.{kills_in}
+use Rattle.call_steps.specs.declared.stages.Stage.TheVariants.{Undecided}
+use Rattle.call_steps.specs.declared.stages.ActiveCall.{ActiveCall}
+use Rattle.call_steps.specs.Steps.{landed, found_more}
+use Rattle.call_steps.specs.View.{Core}
+use Rattle.core_invariant.specs.Holding.{holds_counts}
+use Rattle.core_invariant.specs.Knows.{due_of, HasComp, KillsBy, NamesAre, phase_at}
+use Rattle.core_invariant.specs.Stands.{holds_in, Stands}
+use Rattle.core_invariant.proofs.Carries.{has_comp_on}
+use Rattle.core_invariant.proofs.Loads.{OnlyLooks, step_to, call_is, loads_on}
+use Rattle.core_invariant.proofs.Refusals.{GoodTook}
+
+-- What a name leads to is of a wanted kind, and is what was found.
+same_found : (wanted : Kind → Bool) (j k : Capability) → of_kind wanted j ≡ Found k → j ≡ k
+same_found wanted j k = by (wanted j.kind)
+  where
+    by : (b : Bool) → (if b then Found j else Refused reply.WrongCap) ≡ Found k → j ≡ k
+    by true h = cc
+    by false h = absurd (cc)
+
+-- A component that an open call has named is there, and no other core may retype it.
+pub comp_named : (setup : Setting) → IsSetting setup → (t : Trace) → IsLegal setup t → (c : ℕ) (call : Call) → phase t c ≡ Open call
+    → (n : ℕ) (k : Capability) → k.kind ≡ kind.Comp → named (state_after setup t) c n (only kind.Comp) ≡ Found k
+    → HasComp (state_after setup t) c k.frame
+comp_named setup setting t legal c call is n k kind_is found =
+    let s : State = state_after setup t in
+    let parts = name_parts s c n (only kind.Comp) k found in
+    record {
+      comp = named_fit s (opened (events_of t)) c n kind.Comp k (sound_of setup setting t legal) (opened_is t c call is) found;
+      guarded = guarded_usable setup setting t legal c call is parts.0 k
+          (ap (λ (j : Kind). named_by j k.frame) kind_is)
+          (parts.3 ∙ ap (λ (j : Capability). Some j) (same_found (only kind.Comp) parts.2 k parts.4));
+    }
+
+module _ (setup : Setting) (setting : IsSetting setup) (cores : ℕ → Core) (t : Trace) (stands : Stands setup cores t) (c : ℕ)
+    (here : c < setup.cores)
+    (a : ActiveCall) (active : (cores c).active ≡ Some a) (opens : phase_at a.call a.stage ≡ Open a.call)
+    (held_is : holds_in (Some a) ≡ holds_counts None a.counts) (no_counts : a.counts ≡ [])
+    (move : Move) (looks : OnlyLooks setup t c a.call move) (n : ℕ) (k : Capability) (call_so : a.call ≡ Kill n)
+    (kind_is : k.kind ≡ kind.Comp)
+    (found : named (state_after setup t) c n (only kind.Comp) ≡ Found k)
+    (names : Carries setup t (step_to c None move (last_left setup t (word_of move)) None None) c
+    → NamesAre setup (step_to c None move (last_left setup t (word_of move)) None None ∷ t) c (cores c).own.table a.plan (k ∷ [])) where
+  abbrev e : Step
+  e = step_to c None move (last_left setup t (word_of move)) None None
+
+  open_now : phase t c ≡ Open a.call
+  open_now = (call_is setup setting cores t stands c here a active).phase ∙ opens
+
+  starts : GoodTook setup cores t c move (landed (found_more a (k ∷ [])) (kills_in (cores c).own.core kind.Comp k.frame))
+  starts lands =
+      loads_on setup setting cores t stands c here a active move (k ∷ [])
+      (Undecided (Act (kill_act (record { comp = k.frame; core = (cores c).own.core; at = LoadComp })))) looks lands (sym held_is) opens
+      (λ carries. record {
+        names = names carries;
+        knows = record {
+          knows = record {
+            kills = subst (λ x. KillsBy x (k ∷ []) k.frame) (sym call_so) (record { kind = kind_is; frame = refl });
+            core = (stands.each c here).number;
+            comp = has_comp_on setup setting t e stands.legal c a.call open_now carries k.frame
+                (comp_named setup setting t stands.legal c a.call open_now n k kind_is found);
+            at = tt;
+          };
+          all = ap (λ (xs : List Acquired). map due_of xs) (sym no_counts);
+          goes = refl;
+        };
+      })
+
+  pub kills_good : GoodTook setup cores t c move (landed (found_more a (k ∷ [])) (kills_in (cores c).own.core k.kind k.frame))
+  kills_good = subst (λ (j : Kind). GoodTook setup cores t c move (landed (found_more a (k ∷ [])) (kills_in (cores c).own.core j k.frame)))
+      (sym kind_is) starts

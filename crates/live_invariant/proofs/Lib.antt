@@ -1,0 +1,5 @@
+pub mod Numbers
+pub mod KillCalls
+pub mod Kills
+pub mod Killed
+pub mod KillStarts

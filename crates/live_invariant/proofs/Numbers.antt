@@ -1,0 +1,118 @@
+-- Liveness numbers: what their words show, which are near a call, and whose component lives under one.
+use Rattle.std.proofs.Common.{◌≡◌, ℕ, ◌^◌, ◌<◌, ◌==◌, ◌||◌, Bool, true, false, List, [], ◌∷◌, ◌++◌, Option, Some, None, IsTrue, refl, sym, ◌∙◌, ap, subst}
+use Rattle.std.specs.List.{flat_map}
+use Rattle.std.proofs.lemmas.Bool.{eqb-true, false≢true}
+use Rattle.spk_nums.specs.Setting.{Setting, IsSetting}
+use Rattle.spk_nums.specs.declared.kinds.Kind.TheVariants as kind
+use Rattle.frame_words.specs.Live.{live_of_word}
+use Rattle.frame_words.specs.declared.live_word.LiveWord.{LiveWord}
+use Rattle.frame_words.specs.declared.live_word.LiveWord.TheVariants as live_word
+use Rattle.frame_words.proofs.LiveLemmas as lives
+use Rattle.kernel_rules.specs.State.{Comp, Frame, Kernel, Liveness, Unused, Live, Dead, State, comp_in}
+use Rattle.kernel_rules.specs.Fitting.{fits}
+use Rattle.kernel_rules.specs.InvocationCalls.{is_live_in}
+use Rattle.kernel_history.specs.Footprint.{is_one_of}
+use Rattle.kernel_history.specs.Marks.{live_mark}
+use Rattle.kernel_history.specs.Legal.{IsLegal}
+use Rattle.kernel_history.specs.Trace.{Trace, state_after}
+use Rattle.kernel_history.proofs.Events.{state_is, run_of}
+use Rattle.kernel_rules.specs.Runs.{after}
+use Rattle.kernel_history.specs.Events.{events_of}
+use Rattle.plan_ways.proofs.Near.{one_left, one_right}
+use Rattle.stage_pins.specs.declared.held.Acquired.{Acquired}
+use Rattle.word_map.specs.Word.{LiveAt}
+use Rattle.state_laws.specs.Lives.{IsCompOf}
+use Rattle.state_laws.proofs.Lives.{live_numbers_fit}
+use Rattle.state_laws.proofs.CompsApart.{comps_apart}
+use Rattle.core_invariant.specs.Holding.{holds_counts}
+use Rattle.core_invariant.specs.Words.{NumberIs}
+
+-- No count is the word of a liveness number.
+pub no_number : (fate : Option (Option ℕ)) (xs : List Acquired) (l : ℕ) → (holds_counts fate xs).marks (LiveAt l) ≡ false
+no_number fate [] l = refl
+no_number fate (x ∷ xs) l = no_number fate xs l
+
+-- A word without a mark that says what a number is, is spelled.
+pub record IsSpelled (x : ℕ) : Type 0 where
+  pub unmarked : live_mark (live_of_word x) ≡ None
+  pub small : x < 2 ^ 64
+
+by_value : (v : LiveWord) (x : ℕ) → live_of_word x ≡ Some v → live_mark (Some v) ≡ None → IsSpelled x
+by_value v x is bare = let spells = lives.spelling.spells x v is in record {
+  unmarked = ap live_mark is ∙ bare;
+  small = subst (λ (n : ℕ). n < 2 ^ 64) spells.1 (lives.spelling.small v spells.0);
+}
+
+pub spelled : (p : Liveness) (r x : ℕ) → NumberIs p r (live_of_word x) → IsSpelled x
+spelled Unused r x is = by_value live_word.Free x is refl
+spelled (Live e f) r x is = by_value (live_word.Live e f) x is refl
+spelled (Dead e) r x is = by_value (live_word.Dead e r) x is.says refl
+
+-- Whether a word shows a number live in an epoch.
+abbrev pub shows_live : Option LiveWord → ℕ → Bool
+shows_live None e = false
+shows_live (Some live_word.Free) e = false
+shows_live (Some (live_word.Live d f)) e = d == e
+shows_live (Some (live_word.Closing d by)) e = false
+shows_live (Some (live_word.Dead d stamp)) e = false
+
+pub lives_as_shown : (p : Liveness) (r e : ℕ) (o : Option LiveWord) → NumberIs p r o → is_live_in p e ≡ shows_live o e
+lives_as_shown Unused r e o is = ap (λ x. shows_live x e) (sym is)
+lives_as_shown (Live d f) r e o is = ap (λ x. shows_live x e) (sym is)
+lives_as_shown (Dead d) r e o is = ap (λ x. shows_live x e) (sym is.says)
+
+-- A word that says what a number is shows something.
+pub shows_some : (p : Liveness) (r : ℕ) (o : Option LiveWord) → NumberIs p r o → o ≡ None → ⊥
+shows_some Unused r o is none = absurd (cc)
+shows_some (Live d f) r o is none = absurd (cc)
+shows_some (Dead d) r o is none = absurd (not_none _ (sym none ∙ is.says))
+  where
+    not_none : (v : LiveWord) → None ≡ Some v → ⊥
+    not_none v h = cc
+
+-- One that shows it live is that of a number that lives.
+pub number_is : (p : Liveness) (r e f : ℕ) (o : Option LiveWord) → NumberIs p r o → o ≡ Some (live_word.Live e f) → p ≡ Live e f
+number_is Unused r e f o is shows = absurd (not_live (sym is ∙ shows))
+  where
+    not_live : Some live_word.Free ≡ Some (live_word.Live e f) → ⊥
+    not_live h = cc
+number_is (Live d g) r e f o is shows = same (sym is ∙ shows)
+  where
+    same : Some (live_word.Live d g) ≡ Some (live_word.Live e f) → Live d g ≡ Live e f
+    same h = cc
+number_is (Dead d) r e f o is shows = absurd (not_live (sym is.says ∙ shows))
+  where
+    not_live : Some (live_word.Dead d r) ≡ Some (live_word.Live e f) → ⊥
+    not_live h = cc
+
+-- A number of a frame that is near is near.
+pub one_of_many : (g : ℕ → List ℕ) (l f : ℕ) (fs : List ℕ) → is_one_of f fs ≡ true → is_one_of l (g f) ≡ true
+    → is_one_of l (flat_map g fs) ≡ true
+one_of_many g l f [] is here = absurd (false≢true is)
+one_of_many g l f (x ∷ xs) is here = by (x == f) refl is (λ h. one_of_many g l f xs h here)
+  where
+    by : (b : Bool) → (x == f) ≡ b → (b || is_one_of f xs) ≡ true → (is_one_of f xs ≡ true → is_one_of l (flat_map g xs) ≡ true)
+        → is_one_of l (flat_map g (x ∷ xs)) ≡ true
+    by true same h rest = one_left l (g x) (flat_map g xs) (ap (λ (n : ℕ). is_one_of l (g n)) (eqb-true x f same) ∙ here)
+    by false same h rest = one_right l (g x) (flat_map g xs) (rest h)
+
+-- The component of a frame, and its number.
+pub comp_is : (x : Frame) → IsTrue (fits kind.Comp x) → x ≡ Kernel (Comp (comp_in x))
+comp_is (Kernel (Comp k)) fit = refl
+comp_is _ fit = absurd (false≢true fit)
+
+-- Where a number lives in the epoch of a component that has it, it lives for this component.
+pub lives_for : (setup : Setting) → IsSetting setup → (t : Trace) → IsLegal setup t → (f l e g : ℕ)
+    → IsTrue (fits kind.Comp ((state_after setup t).frame f)) → (comp_in ((state_after setup t).frame f)).number ≡ l
+    → (comp_in ((state_after setup t).frame f)).epoch ≡ e → (state_after setup t).number l ≡ Live e g → g ≡ f
+lives_for setup setting t legal f l e g = subst Said (sym (state_is setup t)) said
+  where
+    Said : State → Type 0
+    Said s = IsTrue (fits kind.Comp (s.frame f)) → (comp_in (s.frame f)).number ≡ l → (comp_in (s.frame f)).epoch ≡ e
+        → s.number l ≡ Live e g → g ≡ f
+
+    said : Said (after setup (events_of t))
+    said comp number epoch live =
+        let of : IsCompOf ((after setup (events_of t)).frame g) l e =
+        live_numbers_fit setup setting (events_of t) (run_of setup t legal) l e g live in
+        comps_apart setup setting (events_of t) (run_of setup t legal) g f of.comp comp (of.number ∙ sym number) (of.epoch ∙ sym epoch)

@@ -1,0 +1,186 @@
+-- A call that makes an object: its names, and what is left of its rule after them.
+use Rattle.std.proofs.Common.{◌≡◌, ◌≢◌, ℕ, Bool, true, List, [], ◌∷◌, Some, None, refl, sym, ◌∙◌, ap, subst, IsTrue, if◌then◌else◌}
+use Rattle.std.proofs.lemmas.Bool.{false≢true}
+use Rattle.std.proofs.lemmas.List.Elements.{All-nil, All-cons}
+use Rattle.spk_nums.specs.Capability.{Capability}
+use Rattle.spk_nums.specs.declared.kinds.Kind.TheVariants as kind
+use Rattle.spk_nums.specs.declared.calls.Call.TheVariants.{Make as make_call}
+use Rattle.spk_nums.specs.declared.calls.Make.{Make}
+use Rattle.spk_nums.specs.declared.calls.Make.TheVariants as make
+use Rattle.kernel_rules.specs.State.{Place, Free, Grace, Object, Blank, Table, Leaf, Pages, Pleaf, Thread, Tcap, Kernel, Thing, State, put}
+use Rattle.kernel_rules.specs.Start.{no_grace}
+use Rattle.kernel_rules.specs.Access.{Target, Under, found, only}
+use Rattle.kernel_rules.specs.Fitting.{fits}
+use Rattle.kernel_rules.specs.Rules.{Rule, Vacant, Does, Found, named}
+use Rattle.kernel_rules.specs.CapabilityCalls.{outside, not_blank, makes, is_place_of}
+use Rattle.kernel_rules.specs.CallRelation.{rule_of}
+use Rattle.kernel_rules.proofs.Facts.{named_fit}
+use Rattle.kernel_rules.proofs.Sound.{IsSound}
+use Rattle.call_plans.specs.PlanOf.{of_kind, plan_for}
+use Rattle.call_plans.specs.After.{Leads, LeadsIn, rule_after, names_after, NextFree, next_of}
+use Rattle.call_acts.specs.declared.objects.NewObject.{NewObject}
+use Rattle.call_acts.specs.declared.objects.NewObject.TheVariants as objects
+use Rattle.call_acts.specs.Objects.{object_kind, object_made, object_dues, one_more}
+use Rattle.call_acts.specs.declared.work.Due.{Due}
+use Rattle.core_invariant.specs.Knows.{AreDuesApart}
+
+-- The object that is made.
+abbrev pub new_object : NewObject → Object
+new_object objects.Table = Table
+new_object objects.Leaf = Leaf
+new_object objects.Pages = Pages
+new_object objects.Pleaf = Pleaf
+new_object (objects.Thread comp) = Thread (record { stack = comp ∷ []; runs_on = None })
+new_object (objects.Tcap sched quality) = Tcap (record { budget = 0; qualities = (sched, quality) ∷ [] })
+
+-- The state in which the frame is made ready for it: every place of a node is free, without a grace period.
+abbrev pub ready_place : NewObject → State → ℕ → ℕ → ℕ → Place
+ready_place objects.Table s f = put s.place f (λ i. Free)
+ready_place objects.Leaf s f = put s.place f (λ i. Free)
+ready_place objects.Pages s f = put s.place f (λ i. Free)
+ready_place objects.Pleaf s f = put s.place f (λ i. Free)
+ready_place (objects.Thread comp) s f = s.place
+ready_place (objects.Tcap sched quality) s f = s.place
+
+abbrev pub ready_grace : NewObject → State → ℕ → Thing → Grace
+ready_grace objects.Table s f = λ x. if is_place_of f x then no_grace else s.grace x
+ready_grace objects.Leaf s f = λ x. if is_place_of f x then no_grace else s.grace x
+ready_grace objects.Pages s f = λ x. if is_place_of f x then no_grace else s.grace x
+ready_grace objects.Pleaf s f = λ x. if is_place_of f x then no_grace else s.grace x
+ready_grace (objects.Thread comp) s f = s.grace
+ready_grace (objects.Tcap sched quality) s f = s.grace
+
+abbrev pub readied : NewObject → State → ℕ → State
+readied object s f = record s { place = ready_place object s f; grace = ready_grace object s f }
+
+-- What is left of the rule of such a call after its names.
+abbrev pub make_rest : State → Capability → ℕ → NewObject → Target → Rule
+make_rest s range f object target =
+    Vacant target λ at. Does (outside (found range) f ∷ not_blank s f ∷ [])
+    (makes (readied object s f) f (new_object object) (object_kind object) at)
+
+-- Its first two names have led to a range and a table.
+pub record TwoFound (s : State) (c r u : ℕ) (ks : List Capability) : Type 0 where
+  pub range : Capability
+  pub table : Capability
+  pub rest : List Capability
+  pub found_is : ks ≡ range ∷ table ∷ rest
+  pub first : named s c r (only kind.Range) ≡ Found range
+  pub second : named s c u (only kind.Table) ≡ Found table
+
+two_found : (s : State) (c r u : ℕ) (ks : List Capability) → Leads (LeadsIn s c) (of_kind kind.Range r ∷ of_kind kind.Table u ∷ []) [] ks
+    → names_after (of_kind kind.Range r ∷ of_kind kind.Table u ∷ []) ks ≡ []
+    → (k : Capability) × (j : Capability) × (ks ≡ k ∷ j ∷ []) × (named s c r (only kind.Range) ≡ Found k)
+    × (named s c u (only kind.Table) ≡ Found j)
+two_found s c r u [] leads none = absurd (not_none none)
+  where
+    not_none : of_kind kind.Range r ∷ of_kind kind.Table u ∷ [] ≡ [] → ⊥
+    not_none h = cc
+two_found s c r u (k ∷ []) leads none = absurd (not_none none)
+  where
+    not_none : of_kind kind.Table u ∷ [] ≡ [] → ⊥
+    not_none h = cc
+two_found s c r u (k ∷ j ∷ []) leads none = (k, j, refl, leads.0, leads.1.0)
+two_found s c r u (k ∷ j ∷ i ∷ ks) leads none = absurd leads.1.1
+
+-- A thread's third name has led to a component.
+three_found : (s : State) (c r u n : ℕ) (ks : List Capability)
+    → Leads (LeadsIn s c) (of_kind kind.Range r ∷ of_kind kind.Table u ∷ of_kind kind.Comp n ∷ []) [] ks
+    → names_after (of_kind kind.Range r ∷ of_kind kind.Table u ∷ of_kind kind.Comp n ∷ []) ks ≡ []
+    → (k : Capability) × (j : Capability) × (i : Capability) × (ks ≡ k ∷ j ∷ i ∷ []) × (named s c r (only kind.Range) ≡ Found k)
+    × (named s c u (only kind.Table) ≡ Found j) × (named s c n (only kind.Comp) ≡ Found i)
+three_found s c r u n [] leads none = absurd (not_none none)
+  where
+    not_none : of_kind kind.Range r ∷ of_kind kind.Table u ∷ of_kind kind.Comp n ∷ [] ≡ [] → ⊥
+    not_none h = cc
+three_found s c r u n (k ∷ []) leads none = absurd (not_none none)
+  where
+    not_none : of_kind kind.Table u ∷ of_kind kind.Comp n ∷ [] ≡ [] → ⊥
+    not_none h = cc
+three_found s c r u n (k ∷ j ∷ []) leads none = absurd (not_none none)
+  where
+    not_none : of_kind kind.Comp n ∷ [] ≡ [] → ⊥
+    not_none h = cc
+three_found s c r u n (k ∷ j ∷ i ∷ []) leads none = (k, j, i, refl, leads.0, leads.1.0, leads.1.1.0)
+three_found s c r u n (k ∷ j ∷ i ∷ h ∷ ks) leads none = absurd leads.1.1.1
+
+-- The frames that an object names have objects of their own.
+abbrev pub HasObjects : State → NewObject → Type 0
+HasObjects s (objects.Thread comp) = IsTrue (fits kind.Comp (s.frame comp))
+HasObjects s object = Unit {0}
+
+-- A call that makes an object.
+pub record IsObjectMake (s : State) (c r f u b : ℕ) (what : Make) (object : NewObject) (ks : List Capability) : Type 0 where
+  pub two : TwoFound s c r u ks
+  pub rule : rule_after (rule_of s c (make_call what r f u b)) ks ≡ make_rest s two.range f object (Under (found two.table) b)
+  pub next : next_of (plan_for (make_call what r f u b)) ks ≡ NextFree (Under (found two.table) b)
+  pub names : (o : ℕ → Bool) → IsSound s o → o c ≡ true → HasObjects s object
+
+some_object : (x y : NewObject) → Some x ≡ Some y → x ≡ y
+some_object x y h = cc
+
+module _ (s : State) (c r f u b : ℕ) where
+  -- a node, or a temporal capability, which have two names
+  by_two : (what : Make) (object made : NewObject) → Some made ≡ Some object → (ks : List Capability)
+      → Leads (LeadsIn s c) (of_kind kind.Range r ∷ of_kind kind.Table u ∷ []) [] ks
+      → names_after (of_kind kind.Range r ∷ of_kind kind.Table u ∷ []) ks ≡ []
+      → ((k j : Capability) → rule_after (rule_of s c (make_call what r f u b)) (k ∷ j ∷ []) ≡ make_rest s k f made (Under (found j) b))
+      → ((k j : Capability) → next_of (plan_for (make_call what r f u b)) (k ∷ j ∷ []) ≡ NextFree (Under (found j) b))
+      → HasObjects s made
+      → IsObjectMake s c r f u b what object ks
+  by_two what object made is ks leads none rule next names =
+      let two = two_found s c r u ks leads none in record {
+        two = record { range = two.0; table = two.1; rest = []; found_is = two.2; first = two.3; second = two.4 };
+        rule = ap (rule_after (rule_of s c (make_call what r f u b))) two.2 ∙ rule two.0 two.1
+            ∙ ap (λ o. make_rest s two.0 f o (Under (found two.1) b)) (some_object made object is);
+        next = ap (next_of (plan_for (make_call what r f u b))) two.2 ∙ next two.0 two.1;
+        names = λ o sound inside. subst (HasObjects s) (some_object made object is) names;
+      }
+
+  pub object_make : (what : Make) (object : NewObject) (ks : List Capability) → object_made what ks ≡ Some object
+      → Leads (LeadsIn s c) (plan_for (make_call what r f u b)).names [] ks
+      → names_after (plan_for (make_call what r f u b)).names ks ≡ []
+      → IsObjectMake s c r f u b what object ks
+  object_make make.Table object ks is leads none =
+      by_two make.Table object objects.Table is ks leads none (λ k j. refl) (λ k j. refl) tt
+  object_make make.Leaf object ks is leads none =
+      by_two make.Leaf object objects.Leaf is ks leads none (λ k j. refl) (λ k j. refl) tt
+  object_make make.Pages object ks is leads none =
+      by_two make.Pages object objects.Pages is ks leads none (λ k j. refl) (λ k j. refl) tt
+  object_make make.Pleaf object ks is leads none =
+      by_two make.Pleaf object objects.Pleaf is ks leads none (λ k j. refl) (λ k j. refl) tt
+  object_make (make.Tcap sched quality) object ks is leads none =
+      by_two (make.Tcap sched quality) object (objects.Tcap sched quality) is ks leads none (λ k j. refl) (λ k j. refl) tt
+  object_make (make.Thread comp) object ks is leads none =
+      let three = three_found s c r u comp ks leads none in
+      let made : NewObject = objects.Thread three.2.frame in
+      let same : made ≡ object = some_object made object (sym (ap (object_made (make.Thread comp)) three.3) ∙ is) in
+      record {
+        two = record {
+          range = three.0;
+          table = three.1;
+          rest = three.2 ∷ [];
+          found_is = three.3;
+          first = three.4;
+          second = three.5;
+        };
+        rule = ap (rule_after (rule_of s c (make_call (make.Thread comp) r f u b))) three.3
+            ∙ ap (λ o. make_rest s three.0 f o (Under (found three.1) b)) same;
+        next = ap (next_of (plan_for (make_call (make.Thread comp) r f u b))) three.3;
+        names = λ o sound inside. subst (HasObjects s) same (named_fit s o c comp kind.Comp three.2 sound inside three.6);
+      }
+  object_make (make.Comp table pages live) object ks is leads none = absurd (cc)
+
+-- What such an object names is not its frame, which is blank.
+pub dues_apart : (s : State) (f : ℕ) (object : NewObject) → s.frame f ≡ Kernel Blank → HasObjects s object
+    → AreDuesApart (object_dues object f)
+dues_apart s f objects.Table blank names = (All-nil (λ (x : Due). f ≢ x.frame), tt)
+dues_apart s f objects.Leaf blank names = (All-nil (λ (x : Due). f ≢ x.frame), tt)
+dues_apart s f objects.Pages blank names = (All-nil (λ (x : Due). f ≢ x.frame), tt)
+dues_apart s f objects.Pleaf blank names = (All-nil (λ (x : Due). f ≢ x.frame), tt)
+dues_apart s f (objects.Tcap sched quality) blank names = (All-nil (λ (x : Due). f ≢ x.frame), tt)
+dues_apart s f (objects.Thread comp) blank names = (
+  All-cons (λ (x : Due). f ≢ x.frame) (one_more comp) []
+      (λ same. false≢true (sym (ap (fits kind.Comp) (sym (ap s.frame same) ∙ blank)) ∙ names)) (All-nil (λ (x : Due). f ≢ x.frame)),
+  (All-nil (λ (x : Due). comp ≢ x.frame), tt),
+)

@@ -1,0 +1,7 @@
+//! Tests of the calls that remove what places hold: `remove`, `shrink` and `unmap`, and of what fills such a place again.
+#![tactic(auto)]
+
+#[cfg(test)]
+mod removals;
+#[cfg(test)]
+mod shrinks;

@@ -1,0 +1,15 @@
+//! Orders of the steps of cores.
+
+/// Where a core's step of this number, from 0, stands in an order, if it stands there.
+pub fn place_of(order: &[u8], core: u8, step: usize) -> Option<usize> {
+    let mut left = step;
+    for (at, next) in order.iter().enumerate() {
+        if *next == core {
+            if left == 0 {
+                return Some(at);
+            }
+            left -= 1;
+        }
+    }
+    None
+}

@@ -1,0 +1,51 @@
+-- The numbers of a core and of temporal capabilities after a legal trace.
+use Rattle.std.proofs.Common.{◌≡◌, ℕ, ◌*◌, ◌^◌, ◌<◌, ◌≤◌, arith, refl, sym, ap, subst, IsTrue}
+use Rattle.std.proofs.lemmas.Bool.{false≢true}
+use Rattle.spk_nums.specs.Setting.{Setting, IsSetting}
+use Rattle.spk_nums.specs.declared.kinds.Kind.TheVariants as kind
+use Rattle.kernel_rules.specs.Fitting.{fits}
+use Rattle.kernel_rules.specs.Ranges.{CoreInRange, InRanges}
+use Rattle.kernel_rules.specs.State.{Frame, Kernel, Tcap, TcapFields, State}
+use Rattle.kernel_laws.proofs.RangesLaw.{ranges_hold}
+use Rattle.kernel_history.specs.Events.{events_of}
+use Rattle.kernel_history.specs.Legal.{IsLegal}
+use Rattle.kernel_history.specs.Trace.{Trace, state_after}
+use Rattle.kernel_history.proofs.Events.{state_is, run_of}
+use Rattle.kernel_history.proofs.Stays.{sound_of}
+use Rattle.core_invariant.proofs.Sounds.{limits_of}
+
+-- A frame has a temporal capability.
+pub record IsTcap (x : Frame) : Type 0 where
+  pub fields : TcapFields
+  pub is : x ≡ Kernel (Tcap fields)
+
+pub tcap_is : (x : Frame) → IsTrue (fits kind.Tcap x) → IsTcap x
+tcap_is (Kernel (Tcap q)) fit = record { fields = q; is = refl }
+tcap_is _ fit = absurd (false≢true fit)
+
+pub ranges_of : (setup : Setting) → IsSetting setup → (t : Trace) → IsLegal setup t → InRanges (state_after setup t)
+ranges_of setup setting t legal = subst InRanges (sym (state_is setup t)) (ranges_hold setup setting (events_of t) (run_of setup t legal))
+
+-- A core of the machine has counted no more calls than a core may, owes at most 1,000,000 ticks for each, and has spent fewer than 2^32;
+-- and its temporal capability is one.
+pub record Numbers (s : State) (c : ℕ) : Type 0 where
+  pub counted : (s.core c).counted ≤ 4194304
+  pub owed : (s.core c).owed ≤ 1000000 * (s.core c).counted
+  pub spent : (s.core c).spent < 2 ^ 32
+  pub tcap : IsTrue (fits kind.Tcap (s.frame (s.core c).tcap))
+
+pub numbers_of : (setup : Setting) → IsSetting setup → (t : Trace) → IsLegal setup t → (c : ℕ) → c < setup.cores
+    → Numbers (state_after setup t) c
+numbers_of setup setting t legal c here =
+    let below : c < (state_after setup t).limits.cores = subst (λ (m : ℕ). c < m) (sym (ap (λ l. l.cores) (limits_of setup t))) here in
+    let ranges : CoreInRange (state_after setup t).limits.calls ((state_after setup t).core c) =
+    (ranges_of setup setting t legal).cores c below in
+    let limit : (state_after setup t).limits.calls ≡ setup.calls = ap (λ l. l.calls) (limits_of setup t) in
+    let most = setting.most_calls in
+    let counted = ranges.counted in
+    record {
+      counted = omega arith;
+      owed = ranges.owed;
+      spent = ranges.spent;
+      tcap = ((sound_of setup setting t legal).cores c below).1;
+    }

@@ -1,0 +1,38 @@
+-- The calls that charge ticks, and what lies near them.
+use Rattle.std.proofs.Common.{◌≡◌, ℕ, ◌||◌, ◌++◌, ◌==◌, Bool, true, false, [], ◌∷◌, refl, sym, ◌∙◌, ap, subst}
+use Rattle.std.proofs.lemmas.Bool.{eq-eqb}
+use Rattle.spk_nums.specs.declared.calls.Call.{Call}
+use Rattle.spk_nums.specs.declared.calls.Call.TheVariants.{Tick}
+use Rattle.kernel_rules.specs.State.{Frame, Kernel, Tcap, TcapFields, State, thread_of, comp_of}
+use Rattle.kernel_history.specs.Footprint.{is_one_of, frames_own, frames_near}
+use Rattle.kernel_history.specs.Justified.{HasRacedHead}
+use Rattle.kernel_history.proofs.Inside.{decided-inside}
+use Rattle.kernel_history.proofs.Steps.{own_read-here}
+use Rattle.plan_ways.proofs.Near.{one_left}
+use Rattle.stage_tcap.specs.declared.charge.Charge.{Charge}
+use Rattle.core_invariant.specs.Knows.{IsCharge, ChargesBy}
+
+-- The call that charges ticks.
+pub record IsTick (s : State) (c : ℕ) (call : Call) (charge_at : Charge) : Type 0 where
+  pub ticks : ℕ
+  pub call_is : call ≡ Tick ticks
+  pub charged : IsCharge s c ticks charge_at
+
+pub tick_of : (s : State) (c : ℕ) (call : Call) (charge_at : Charge) → ChargesBy s c call charge_at → IsTick s c call charge_at
+tick_of s c (Tick n) charge_at is = record { ticks = n; call_is = refl; charged = is }
+tick_of s c call charge_at is = absurd is
+
+-- The temporal capability of a core is near each of its calls.
+pub own_near : (s : State) (c : ℕ) (call : Call) → is_one_of (s.core c).tcap (frames_near s c call) ≡ true
+own_near s c call = one_left (s.core c).tcap (frames_own s c) _
+    (ap (λ b. ((s.core c).thread == (s.core c).tcap) || (b || is_one_of (s.core c).tcap ((thread_of s c).stack ++
+    ((comp_of s c).table ∷ (comp_of s c).pages ∷ [])))) (eq-eqb (s.core c).tcap (s.core c).tcap refl)
+    ∙ last ((s.core c).thread == (s.core c).tcap))
+  where
+    last : (b : Bool) → (b || true) ≡ true
+    last true = refl
+    last false = refl
+
+-- A frame with a temporal capability has a head for which calls race, and is no node.
+pub raced_head : (x : Frame) (q : TcapFields) → x ≡ Kernel (Tcap q) → HasRacedHead x
+raced_head x q is = subst HasRacedHead (sym is) tt

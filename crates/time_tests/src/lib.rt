@@ -1,0 +1,5 @@
+//! Tests of the calls on temporal capabilities: `tick`.
+#![tactic(auto)]
+
+#[cfg(test)]
+mod ticks;
