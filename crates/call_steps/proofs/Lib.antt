@@ -5,3 +5,4 @@ pub mod Fitting
 pub mod Begun
 pub mod Decisions
 pub mod KillsFit
+pub mod CoreFitting
