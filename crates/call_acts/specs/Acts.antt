@@ -1,8 +1,8 @@
 -- The acts of calls, and the counts that they change.
-use Rattle.std.specs.Prelude.{ℕ, ℤ, ◌<◌, ◌==◌, pos, negsuc, Bool, true, false, ◌&&◌, nat_lt, Option, Some, None, List, map, slice_get, if◌then◌else◌, [], ◌∷◌}
+use Rattle.std.specs.Prelude.{ℕ, ℤ, ◌<◌, ◌==◌, pos, negsuc, Bool, true, false, ◌&&◌, nat_lt, nat_le, Option, Some, None, List, map, slice_get, if◌then◌else◌, [], ◌∷◌}
 use Rattle.spk_nums.specs.Capability.{Capability}
 use Rattle.spk_nums.specs.declared.calls.Call.{Call}
-use Rattle.spk_nums.specs.declared.calls.Call.TheVariants.{Look, Copy, Remove, Shrink, Retype, Make as make_call, Unmap, Tick, Kill}
+use Rattle.spk_nums.specs.declared.calls.Call.TheVariants.{Look, Copy, Remove, Shrink, Retype, Make as make_call, Unmap, Tick, Gate, Kill}
 use Rattle.spk_nums.specs.declared.replies.Value.TheVariants.{Cap, Nothing as nothing}
 use Rattle.spk_nums.specs.declared.steps.StageEnd.{StageEnd}
 use Rattle.spk_nums.specs.declared.steps.StageEnd.TheVariants as ends
@@ -305,10 +305,28 @@ abbrev pub removes_at : ℕ → Option Found → WorkStep
 removes_at core None = refuse Raced
 removes_at core (Some f) = removes_held core f f.value
 
--- what a call that fills its target puts there, where its names have led to these
-abbrev pub put_by : Call → List Capability → Option Capability
-put_by (Copy a t b) found = at_place found First
-put_by _ found = None
+-- the gate to a component whose word has been read in this epoch; an epoch of 0 is none
+abbrev pub gate_if : Bool → ℕ → ℕ → Option Capability
+gate_if some f epoch = if some then Some (record { kind = kind.Gate; frame = f; arg = epoch }) else None
+
+abbrev pub gate_to : Option Capability → Option ℕ → Option Capability
+gate_to (Some comp) (Some epoch) = gate_if (nat_le 1 epoch) comp.frame epoch
+gate_to _ _ = None
+
+-- what a call that fills its target puts there, where its names have led to these and it has read this
+abbrev pub put_by : Call → List Capability → Option ℕ → Option Capability
+put_by (Copy a t b) found read = at_place found First
+put_by (Gate c t b) found read = gate_to (at_place found First) read
+put_by _ found read = None
+
+-- the frame of the component whose word a call reads before it looks its target up, where its names have led to these
+abbrev pub frame_named : Option Capability → Option ℕ
+frame_named None = None
+frame_named (Some k) = Some k.frame
+
+abbrev pub reads_of : Call → List Capability → Option ℕ
+reads_of (Gate c t b) found = frame_named (at_place found First)
+reads_of _ found = None
 
 -- whether a call removes what its target holds
 abbrev pub removes_by : Call → Bool
@@ -370,16 +388,17 @@ abbrev pub kills_at : Own → Option Capability → WorkStep
 kills_at own None = refuse Raced
 kills_at own (Some k) = kills_in own.core k.kind k.frame
 
--- what a call of a core does whose names have led to these and whose target, if it has one, was found
-abbrev pub act_begun : Own → Call → List Capability → Option Found → WorkStep
-act_begun own (Look a) found target = looked (at_place found First)
-act_begun own (Copy a t b) found target = fills_with own (put_by (Copy a t b) found) target
-act_begun own (Remove t b) found target = removes_at own.core target
-act_begun own (Shrink t i) found target = removes_at own.core target
-act_begun own (Unmap p v) found target = removes_at own.core target
-act_begun own (Retype r f k) found target = types_at own (at_place found First) f k
-act_begun own (make_call what range frame table slot) found target =
+-- what a call of a core does whose names have led to these, which has read this, and whose target, if it has one, was found
+abbrev pub act_begun : Own → Call → List Capability → Option ℕ → Option Found → WorkStep
+act_begun own (Look a) found read target = looked (at_place found First)
+act_begun own (Copy a t b) found read target = fills_with own (put_by (Copy a t b) found read) target
+act_begun own (Remove t b) found read target = removes_at own.core target
+act_begun own (Shrink t i) found read target = removes_at own.core target
+act_begun own (Unmap p v) found read target = removes_at own.core target
+act_begun own (Retype r f k) found read target = types_at own (at_place found First) f k
+act_begun own (make_call what range frame table slot) found read target =
     makes_at own (object_made what found) (at_place found First) frame target
-act_begun own (Tick n) found target = charges own n
-act_begun own (Kill k) found target = kills_at own (at_place found First)
-act_begun own _ found target = refuse Raced
+act_begun own (Tick n) found read target = charges own n
+act_begun own (Gate c t b) found read target = fills_with own (put_by (Gate c t b) found read) target
+act_begun own (Kill k) found read target = kills_at own (at_place found First)
+act_begun own _ found read target = refuse Raced

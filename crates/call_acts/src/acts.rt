@@ -17,7 +17,7 @@ ghost use Rattle.word_map.specs.Places.{Shape, size_of};
 ghost use Rattle.word_map.specs.Moves.{op_of};
 ghost use Rattle.spk_nums.specs.WordSteps.{place_in};
 ghost use Rattle.call_acts.specs.WorkSteps.{refuse};
-ghost use Rattle.call_acts.specs.Acts.{ActFits, act_move, took_act, act_ready, looked, cap_dues, dues, acquires, next_work, filling, fills_at, fills_with, put_by, act_begun, drawn_by, took_close, is_draw, scans, stamp_in, removing, removes_held, removes_at, types_if, types_at, starts, undo, made_dues, makes_at, makes_in, killing_dues, kills_in, kills_at};
+ghost use Rattle.call_acts.specs.Acts.{gate_if, gate_to, frame_named, reads_of, ActFits, act_move, took_act, act_ready, looked, cap_dues, dues, acquires, next_work, filling, fills_at, fills_with, put_by, act_begun, drawn_by, took_close, is_draw, scans, stamp_in, removing, removes_held, removes_at, types_if, types_at, starts, undo, made_dues, makes_at, makes_in, killing_dues, kills_in, kills_at};
 ghost use Rattle.kernel_rules.specs.Access.{found as named_by_cap};
 ghost use Rattle.kernel_rules.specs.CapabilityCalls.{has_frame};
 
@@ -197,14 +197,20 @@ fn cap_due(cap: &Cap, change: i32, n: u8) -> Option<Due>
     }
 }
 
-/// What a call of a core does whose names have led to these and whose target, if it has one, was found: a look answers at once, a
-/// copy begins to fill its target, a remove, a shrink and an unmap to remove what their target holds, a retype to type its frame,
+/// What a call of a core does whose names have led to these, which has read this, and whose target, if it has one, was found: a look answers at once, a
+/// copy and a gate begin to fill their targets, a remove, a shrink and an unmap to remove what their target holds, a retype to type its frame,
 /// a make to make its object, a tick to charge its ticks. The core is one of the layout's at most 8.
 #[inline]
-pub fn begin_act(own: &Own, call: &Call, found: &Caps, target: &Option<Found>) -> WorkStep
+pub fn begin_act(
+    own: &Own,
+    call: &Call,
+    found: &Caps,
+    read: Option<u16>,
+    target: &Option<Found>,
+) -> WorkStep
     requires core { own.now.core < own.now.layout.cores }
     requires cores { own.now.layout.cores ≤ 8 }
-    ensures { result ≡ act_begun own.now call.now found.now target.now }
+    ensures { result ≡ act_begun own.now call.now found.now read target.now }
 {
     match call {
         Call::Look { a: _ } => looked(&found.get(Nth::First)),
@@ -226,8 +232,45 @@ pub fn begin_act(own: &Own, call: &Call, found: &Caps, target: &Option<Found>) -
         ),
         Call::Retype { r: _, f, k } => types_at(own, &found.get(Nth::First), *f, *k),
         Call::Tick { n } => charges(own, *n),
+        Call::Gate { .. } => fills_with(own, &gate_to(&found.get(Nth::First), read), target),
         Call::Kill { c: _ } => kills_at(own, &found.get(Nth::First)),
         _ => refuse(Refusal::Raced),
+    }
+}
+
+// The gate to a component whose word has been read in this epoch; an epoch of 0 is none.
+#[inline]
+fn gate_to(comp: &Option<Cap>, read: Option<u16>) -> Option<Cap>
+    ensures { result ≡ gate_to comp.now read }
+{
+    match (comp, read) {
+        (Some(comp), Some(epoch)) if 1 <= epoch => {
+            Some(Cap::new(Kind::Gate, comp.frame(), u32::from(epoch)))
+        }
+        _ => None,
+    }
+}
+
+/// The frame of the component whose word a call reads before it looks its target up, where its names have led to these; None of a call
+/// that reads none.
+#[inline]
+pub fn reads_of(call: &Call, found: &Caps) -> Option<FrameNo>
+    ensures { result ≡ reads_of call.now found.now }
+{
+    match call {
+        Call::Gate { .. } => frame_named(&found.get(Nth::First)),
+        _ => None,
+    }
+}
+
+// The frame of what a name has led to.
+#[inline]
+fn frame_named(cap: &Option<Cap>) -> Option<FrameNo>
+    ensures { result ≡ frame_named cap.now }
+{
+    match cap {
+        Some(cap) => Some(cap.frame()),
+        None => None,
     }
 }
 

@@ -27,6 +27,9 @@
 //! ticks asked for and those owed less, or with no budget where it has fewer; the compare decides. What is not charged stays owed,
 //! also where the call is refused.
 //!
+//! **Gate.** The component's word is loaded before the target is looked up, and names the epoch that the gate carries. Then the target
+//! is filled, as by a copy; the count is that of the component's frame.
+//!
 //! **Kill.** The component's word is loaded, which names its liveness number and its epoch, and the number's word, which says that the
 //! component lives. Then the count of the component's frame is acquired, the number's word is marked by a compare with the word found, and
 //! a stamp is drawn, which decides. The number's word is still to be stored: dead since the stamp.
@@ -54,7 +57,9 @@ mod ticks;
 mod typings;
 mod work;
 
-pub use acts::{act_op, act_ready, act_took, begin_act, next_work, refuse, starts, undo};
+pub use acts::{
+    act_op, act_ready, act_took, begin_act, next_work, reads_of, refuse, starts, undo,
+};
 pub use fills::Fill;
 pub use kills::{Killing, KillingAt, dead_op};
 pub use laws::refusals_are_replies;

@@ -66,18 +66,24 @@ pub fn met_name(found: &Caps, wanted: Wanted, entry: &Entry) -> Met
     }
 }
 
-/// What a call of a core does whose target is to be free, where its place was found.
+/// What a call of a core does that has read this and whose target is to be free, where its place was found.
 #[inline]
-pub fn met_free(own: &Own, call: &Call, found: &Caps, target: &Found) -> WorkStep
+pub fn met_free(
+    own: &Own,
+    call: &Call,
+    found: &Caps,
+    read: Option<u16>,
+    target: &Found,
+) -> WorkStep
     requires core { own.now.core < own.now.layout.cores }
     requires cores { own.now.layout.cores ≤ 8 }
-    ensures { result ≡ met_free own.now call.now found.now target.now target.now.value }
+    ensures { result ≡ met_free own.now call.now found.now read target.now target.now.value }
 {
     match target.value {
-        Entry::Free => begin_act(own, call, found, &Some(*target)),
+        Entry::Free => begin_act(own, call, found, read, &Some(*target)),
         Entry::Held(_) => refuse(Refusal::Occupied),
         Entry::Closing { by } => refuse(Refusal::Busy(by)),
-        Entry::Quiescing { stamp: _ } => begin_act(own, call, found, &Some(*target)),
+        Entry::Quiescing { stamp: _ } => begin_act(own, call, found, read, &Some(*target)),
     }
 }
 
@@ -90,7 +96,7 @@ pub fn met_held(own: &Own, call: &Call, found: &Caps, target: &Found) -> WorkSte
 {
     match target.value {
         Entry::Free => refuse(Refusal::Empty),
-        Entry::Held(_) => begin_act(own, call, found, &Some(*target)),
+        Entry::Held(_) => begin_act(own, call, found, None, &Some(*target)),
         Entry::Closing { by } => refuse(Refusal::Busy(by)),
         Entry::Quiescing { stamp: _ } => refuse(Refusal::Empty),
     }

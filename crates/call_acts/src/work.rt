@@ -63,6 +63,8 @@ pub struct Due {
 pub enum Work {
     /// What its plan names next is looked up.
     Lookup { look: Look },
+    /// Its names are found, and the word of a component is loaded, which names its epoch, before this look-up of its target.
+    Read { comp: FrameNo, look: Look },
     /// Its look-ups are made, and the other cores are scanned for the calls that still use what was removed from its target.
     Scan { quiet: Quiet, act: Act },
     /// Its look-ups are made, and it acquires a count that its act changes by so many references.

@@ -16,7 +16,7 @@ use Rattle.spk_nums.specs.declared.kinds.FrameKind.TheVariants.{Untyped, User, K
 use Rattle.spk_nums.specs.declared.calls.Make.{Make}
 use Rattle.spk_nums.specs.declared.calls.Make.TheVariants as make
 use Rattle.spk_nums.specs.declared.calls.Call.{Call}
-use Rattle.spk_nums.specs.declared.calls.Call.TheVariants.{Look as look_call, Copy, Remove, Shrink, Unmap, Retype, Make as make_call, Tick, Kill}
+use Rattle.spk_nums.specs.declared.calls.Call.TheVariants.{Look as look_call, Copy, Remove, Shrink, Unmap, Retype, Make as make_call, Tick, Gate, Kill}
 use Rattle.spk_nums.specs.declared.replies.Reply.{Reply}
 use Rattle.entry_words.specs.declared.entry.Entry.{Entry}
 use Rattle.entry_words.specs.declared.entry.Entry.TheVariants as entry
@@ -57,7 +57,7 @@ use Rattle.call_acts.specs.Makings.{is_filling}
 use Rattle.call_acts.specs.declared.work.Act.{Act as ActType}
 use Rattle.call_acts.specs.declared.work.Act.TheVariants.{Fill as fill_act, Remove as remove_act, Retype as type_act, Make as make_act, Outside, Tick as tick_act, Kill as kill_act}
 use Rattle.call_acts.specs.declared.work.Work.{Work}
-use Rattle.call_acts.specs.declared.work.Work.TheVariants.{Lookup, Scan, Acquire, Act}
+use Rattle.call_acts.specs.declared.work.Work.TheVariants.{Lookup, Read, Scan, Acquire, Act}
 use Rattle.call_steps.specs.declared.stages.Stage.{Stage}
 use Rattle.call_steps.specs.declared.stages.Stage.TheVariants.{Enter, Undecided, Decided, Leave}
 use Rattle.call_acts.specs.declared.work.Tail.{Tail}
@@ -69,7 +69,7 @@ use Rattle.call_acts.specs.Refusals.{refusal_of}
 use Rattle.call_acts.proofs.Refusing.{refusal_refuses}
 use Rattle.call_acts.specs.Fills.{filled_if}
 use Rattle.call_acts.specs.WorkSteps.{refuse}
-use Rattle.call_acts.specs.Acts.{took_close, is_draw, took_act, act_ready, fills_with, removes_held, removes_at, act_begun, types_if, types_at, stamp_in, filling, starts, scans, makes_at, meets_object, meets_blank, meets_making, marks_if, published, took_making_at, kills_in, kills_at, meets_comp, meets_live, meets_number, meets_life, closes_if, took_killing_at}
+use Rattle.call_acts.specs.Acts.{took_close, is_draw, took_act, act_ready, reads_of, fills_with, removes_held, removes_at, act_begun, types_if, types_at, stamp_in, filling, starts, scans, makes_at, meets_object, meets_blank, meets_making, marks_if, published, took_making_at, kills_in, kills_at, meets_comp, meets_live, meets_number, meets_life, closes_if, took_killing_at}
 use Rattle.call_plans.specs.declared.plans.Nth.TheVariants.{First}
 use Rattle.frame_words.specs.declared.frame_word.FrameWord.{FrameWord}
 use Rattle.spk_nums.specs.declared.kinds.Kind.{Kind}
@@ -85,11 +85,11 @@ use Rattle.call_acts.specs.declared.typings.Typing.{Typing}
 use Rattle.call_acts.specs.declared.typings.TypingAt.{TypingAt}
 use Rattle.call_acts.specs.declared.typings.TypingAt.TheVariants.{Load, Compare as type_compare}
 use Rattle.call_acts.specs.Typings.{meets_frame, meets_word, typed_if, took_typing_at, is_typing}
-use Rattle.call_acts.specs.Lookups.{looks_under, looks_entry, looks_at, next_step, met_free, met_held}
+use Rattle.call_acts.specs.Lookups.{looks_under, looks_entry, looks_at, read_first, next_step, met_free, met_held}
 use Rattle.call_steps.specs.Fits.{FoundFits, IsFirst, IsActive}
 use Rattle.call_steps.specs.Tails.{took_tail, tail_counts}
 use Rattle.call_plans.specs.After.{with_found, names_after, next_in, Next, NextName, NextFree, NextHeld, NextOwn, NextNothing, next_of}
-use Rattle.call_steps.specs.Steps.{GoesOn, landed, next_by, found_more, took_enter, named_one, took_found, took_end, took_look, took_scan, took_count, gives_up, took_work, went_with, took_at, is_last, decides_at_name, is_last_name, work_ready, ready_at}
+use Rattle.call_steps.specs.Steps.{GoesOn, landed, next_by, found_more, took_enter, named_one, read_more, took_read, took_found, took_end, took_look, took_scan, took_count, gives_up, took_work, went_with, took_at, is_last, decides_at_name, is_last_name, work_ready, ready_at}
 use Rattle.call_steps.specs.Laws.{reply_at, Turns, DecidesOnce, Refuses, UnreadyRefuses, IsDecision, ReadyDecides}
 
 -- a call is decided once
@@ -122,8 +122,13 @@ enter_turns : (spent : Bool) (own : Own) (a : ActiveCall) → Turns None (took_e
 enter_turns true own a = landed_turns a (refuse refusal.CallsSpent)
 enter_turns false own a = landed_turns a (next_by own a)
 
+read_turns : (a : ActiveCall) (look : Look) (o : Option CompWord) → Turns None (took_read a look o)
+read_turns a look None = landed_turns a (refuse refusal.Raced)
+read_turns a look (Some life) = landed_turns (read_more a life.epoch) (Goes (Lookup look))
+
 work_turns : (own : Own) (a : ActiveCall) (work : Work) (found : ℕ) → Turns None (took_work own a work found)
 work_turns own a (Lookup look) found = end_turns own a _ _
+work_turns own a (Read comp look) found = read_turns a look _
 work_turns own a (Scan q act) found =
     landed_turns a (took_scan own.core act (quiet_after own.layout.cores q found) (quiet_end own.layout.cores q found))
 work_turns own a (Acquire pin change act) found =
@@ -226,18 +231,19 @@ kills_no : (own : Own) (comp : Option Capability) → NoAnswer (kills_at own com
 kills_no own None = tt
 kills_no own (Some k) = kill_no own.core k.kind k.frame
 
-act_no : (own : Own) (call : Call) (found : List Capability) (target : Option Found) → decides_at_name (plan_for call).decides ≡ false
-    → NoAnswer (act_begun own call found target)
-act_no own (look_call a) found target not = absurd (cc)
-act_no own (Copy a t b) found target not = fill_no own _ target
-act_no own (Remove t b) found target not = remove_no own.core target
-act_no own (Shrink t i) found target not = remove_no own.core target
-act_no own (Unmap p v) found target not = remove_no own.core target
-act_no own (Retype r f k) found target not = types_no own (at_place found First) f k
-act_no own (make_call what range frame table slot) found target not =
+act_no : (own : Own) (call : Call) (found : List Capability) (read : Option ℕ) (target : Option Found) → decides_at_name (plan_for call).decides ≡ false
+    → NoAnswer (act_begun own call found read target)
+act_no own (look_call a) found read target not = absurd (cc)
+act_no own (Copy a t b) found read target not = fill_no own _ target
+act_no own (Remove t b) found read target not = remove_no own.core target
+act_no own (Shrink t i) found read target not = remove_no own.core target
+act_no own (Unmap p v) found read target not = remove_no own.core target
+act_no own (Retype r f k) found read target not = types_no own (at_place found First) f k
+act_no own (make_call what range frame table slot) found read target not =
     makes_no own (object_made what found) (at_place found First) frame target
-act_no own (Kill k) found target not = kills_no own (at_place found First)
-act_no own call found target not = tt
+act_no own (Gate c t b) found read target not = fill_no own _ target
+act_no own (Kill k) found read target not = kills_no own (at_place found First)
+act_no own call found read target not = tt
 
 -- A call that is decided where its last name is found has one name, and no target.
 record OneName (plan : Plan) : Type 0 where
@@ -265,14 +271,23 @@ one_name (Retype r f k) is = retype_one k r is
 one_name (make_call what r f t b) is = make_one what r t b is
 one_name call is = absurd (cc)
 
+read_no : (o : Option ℕ) (step : WorkStep) → NoAnswer step → NoAnswer (read_first o step)
+read_no None step none = none
+read_no (Some f) (Goes (Lookup look)) none = tt
+read_no (Some f) (Goes work) none = none
+read_no (Some f) (Acquires count work) none = none
+read_no (Some f) (refuses_to r tail) none = none
+read_no (Some f) (Answers v drawn tail) none = none
+read_no (Some f) (work_changes r change) none = none
+
 -- what comes next of a call answers nothing, where no call with its plan is decided where its last name is found
 next_no : (own : Own) (call : Call) (found : List Capability) (next : Next) → decides_at_name (plan_for call).decides ≡ false
     → NoAnswer (next_step own call found next)
 next_no own call found (NextName n wanted) not = under_no _ own.table n
-next_no own call found (NextFree target) not = target_no target
+next_no own call found (NextFree target) not = read_no (reads_of call found) _ (target_no target)
 next_no own call found (NextHeld target) not = target_no target
 next_no own call found (NextOwn v) not = tt
-next_no own call found NextNothing not = act_no own call found None not
+next_no own call found NextNothing not = act_no own call found None None not
 
 module _ (own : Own) (a : ActiveCall) (not : decides_at_name (plan_for a.call).decides ≡ false) where
   met_refuses : (met : Met) → Refuses (named_one own a met)
@@ -280,15 +295,15 @@ module _ (own : Own) (a : ActiveCall) (not : decides_at_name (plan_for a.call).d
       landed_refuses (found_more a (pushed a.found k)) _ (next_no own a.call (pushed a.found k) (next_of a.plan (pushed a.found k)) not)
   met_refuses (Refused r) = landed_refuses a (refuse r) tt
 
-  free_refuses : (f : Found) (value : Entry) → Refuses (landed a (met_free own a.call a.found f value))
-  free_refuses f entry.Free = landed_refuses a _ (act_no own a.call a.found (Some f) not)
+  free_refuses : (f : Found) (value : Entry) → Refuses (landed a (met_free own a.call a.found a.read f value))
+  free_refuses f entry.Free = landed_refuses a _ (act_no own a.call a.found a.read (Some f) not)
   free_refuses f (entry.Held k) = tt
   free_refuses f (entry.Closing by) = tt
-  free_refuses f (entry.Quiescing stamp) = landed_refuses a _ (act_no own a.call a.found (Some f) not)
+  free_refuses f (entry.Quiescing stamp) = landed_refuses a _ (act_no own a.call a.found a.read (Some f) not)
 
   held_refuses : (f : Found) (value : Entry) → Refuses (landed a (met_held own a.call a.found f value))
   held_refuses f entry.Free = tt
-  held_refuses f (entry.Held k) = landed_refuses a _ (act_no own a.call a.found (Some f) not)
+  held_refuses f (entry.Held k) = landed_refuses a _ (act_no own a.call a.found None (Some f) not)
   held_refuses f (entry.Closing by) = tt
   held_refuses f (entry.Quiescing stamp) = tt
 
@@ -477,9 +492,14 @@ count_refuses core n change act a pin (ends.Decided r) = landed_refuses a (gives
 count_refuses core n change act a pin (ends.Done p) = tt
 count_refuses core n change act a pin (ends.Refuse r) = landed_refuses a (gives_up (refusal_of r) act) tt
 
+read_refuses : (a : ActiveCall) (look : Look) (o : Option CompWord) → Refuses (took_read a look o)
+read_refuses a look None = landed_refuses a (refuse refusal.Raced) tt
+read_refuses a look (Some life) = tt
+
 work_refuses : (own : Own) (a : ActiveCall) (decides : Bool) (work : Work) (found : ℕ) → decides ≡ decides_at_name a.plan.decides
     → IsActive own a → work_ready a.plan a.found work ≡ false
     → Refuses (took_work own a work found)
+work_refuses own a decides (Read comp look) found is active not = read_refuses a look _
 work_refuses own a decides (Scan q act) found is active not =
     scan_refuses own.core act a (quiet_after own.layout.cores q found) (quiet_end own.layout.cores q found)
 work_refuses own a decides (Acquire pin change act) found is active not =
@@ -585,7 +605,7 @@ act_decides a (tick_act charge) found ready = charge_decides a charge found read
 act_decides a (kill_act m) found ready = killing_decides a m m.at found ready
 
 begun_over : (own : Own) (call : Call) (k : Capability) → decides_at_name (plan_for call).decides ≡ true
-    → IsOver (act_begun own call (k ∷ []) None)
+    → IsOver (act_begun own call (k ∷ []) None None)
 begun_over own (look_call a) k is = tt
 begun_over own (Copy a t b) k is = absurd (cc)
 begun_over own (Remove t b) k is = absurd (cc)
@@ -602,6 +622,7 @@ begun_over own (make_call (make.Thread comp) r f t b) k is = absurd (cc)
 begun_over own (make_call (make.Tcap sched quality) r f t b) k is = absurd (cc)
 begun_over own (make_call (make.Comp table pages live) r f t b) k is = absurd (cc)
 begun_over own (Tick n) k is = absurd (cc)
+begun_over own (Gate c t b) k is = absurd (cc)
 begun_over own (Kill c) k is = absurd (cc)
 begun_over own call k is = tt
 
@@ -654,6 +675,7 @@ three false b c is = absurd (cc)
 
 work_decides : (own : Own) (a : ActiveCall) (work : Work) (found : ℕ) → IsActive own a → work_ready a.plan a.found work ≡ true
     → IsDecision (took_work own a work found)
+work_decides own a (Read comp look) found active ready = absurd (cc)
 work_decides own a (Scan q act) found active ready = absurd (cc)
 work_decides own a (Acquire pin change act) found active ready = absurd (cc)
 work_decides own a (Act act) found active ready = act_decides a act found ready

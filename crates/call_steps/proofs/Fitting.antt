@@ -80,8 +80,10 @@ use Rattle.call_acts.specs.declared.makings.MakingAt.{MakingAt}
 use Rattle.call_acts.specs.declared.makings.MakingAt.TheVariants.{Load as make_load, Mark, Store, Fill as fill_at}
 use Rattle.call_acts.specs.Objects.{counts_of, last_word}
 use Rattle.call_acts.specs.Makings.{MakingFits, making_left, undo_at}
+use Rattle.frame_words.specs.Comp.{comp_of_word}
+use Rattle.frame_words.specs.declared.comp_word.CompWord.{CompWord}
 use Rattle.call_steps.specs.Tails.{tail_left, took_tail, tail_counts}
-use Rattle.call_steps.specs.Fits.{TailFits, ScanFits, WorkFits, StageFits, IsWanted, FoundFits, HasRoom, CountsWait, CountsAt, looks_later, names_left, steps_later, left_of_look, left_of_scan, left_of_pin, work_left, left_at, left_of, IsActive, IsOwn}
+use Rattle.call_steps.specs.Fits.{TailFits, ScanFits, WorkFits, StageFits, IsWanted, FoundFits, HasRoom, CountsWait, CountsAt, looks_later, after_reading, acts_later, names_left, steps_later, left_of_look, left_of_scan, left_of_pin, work_left, left_at, left_of, IsActive, IsOwn}
 use Rattle.call_steps.proofs.StepsFit.{StepFits, starts_fit, few_dues, object_count, work_next, counts_next, first_named, act_fits}
 use Rattle.call_acts.specs.declared.work.Act.{Act as ActType}
 use Rattle.call_acts.specs.declared.work.Act.TheVariants.{Fill as fill_act, Remove as remove_act, Retype as type_act, Make as make_act, Outside, Tick as tick_act, Kill as kill_act}
@@ -91,7 +93,7 @@ use Rattle.call_steps.specs.declared.stages.Stage.{Stage}
 use Rattle.call_steps.specs.declared.stages.Stage.TheVariants.{Enter, Undecided, Decided, Leave}
 use Rattle.call_steps.specs.declared.stages.ActiveCall.{ActiveCall}
 use Rattle.call_acts.specs.declared.work.Work.{Work}
-use Rattle.call_acts.specs.declared.work.Work.TheVariants.{Lookup, Scan, Acquire, Act}
+use Rattle.call_acts.specs.declared.work.Work.TheVariants.{Lookup, Read, Scan, Acquire, Act}
 use Rattle.call_acts.specs.declared.work.WorkStep.{WorkStep}
 use Rattle.call_acts.specs.declared.work.WorkStep.TheVariants.{Goes, Acquires, Refuses, Answers, Changes as work_changes}
 use Rattle.call_acts.specs.Refusals.{refusal_of}
@@ -99,7 +101,7 @@ use Rattle.call_acts.specs.Fills.{filled_if}
 use Rattle.call_acts.specs.WorkSteps.{refuse}
 use Rattle.call_acts.specs.Acts.{ActFits, close_left, act_left, took_close, took_act, dues, next_work, act_begun, cap_dues, starts, undo, made_dues, meets_object, meets_blank, meets_making, marks_if, published, took_making_at}
 use Rattle.call_acts.specs.Lookups.{met_name, met_free, met_held}
-use Rattle.call_steps.specs.Steps.{GoesOn, landed, found_more, next_by, took_enter, named_one, took_found, took_end, took_look, took_scan, took_count, took_work, went_with, is_spent, took_at, took}
+use Rattle.call_steps.specs.Steps.{GoesOn, landed, found_more, next_by, took_enter, named_one, read_more, took_read, took_found, took_end, took_look, took_scan, took_count, took_work, went_with, is_spent, took_at, took}
 use Rattle.call_steps.proofs.LandsFit.{TookFits, Facts, names_object, next_fits, landed_fits}
 use Rattle.call_steps.proofs.KillsFit.{kill_fits}
 
@@ -592,30 +594,30 @@ module _ (own : Own) (a : ActiveCall) (facts : Facts own a) (none : a.counts ≡
   first_is : IfSome (at_place a.found First) (CapNames own.layout.frames)
   first_is = first_named own.layout.frames a.plan.names [] a.found facts.found
 
-  acts_on : (left : ℕ) (f : Found) → PlaceFits own.layout f → 2 + act_steps a.call own.layout.cores < left
-      → TookFits own left a (landed a (act_begun own a.call a.found (Some f)))
-  acts_on left f fits some =
-      works_fits (act_steps a.call own.layout.cores) left _ (act_fits own _ a.call a.found (Some f) facts.own_fits first_is
+  acts_on : (left : ℕ) (read : Option ℕ) (f : Found) → PlaceFits own.layout f → 2 + after_reading a.call own.layout.cores < left
+      → TookFits own left a (landed a (act_begun own a.call a.found read (Some f)))
+  acts_on left read f fits some =
+      works_fits (after_reading a.call own.layout.cores) left _ (act_fits own _ a.call a.found read (Some f) facts.own_fits first_is
       (names_object own a facts) facts.limits fits) some
 
-  free_fits : (left : ℕ) (f : Found) (value : Entry) → PlaceFits own.layout f → 2 + act_steps a.call own.layout.cores < left
-      → TookFits own left a (landed a (met_free own a.call a.found f value))
-  free_fits left f entry.Free fits some = acts_on left f fits some
+  free_fits : (left : ℕ) (f : Found) (value : Entry) → PlaceFits own.layout f → 2 + after_reading a.call own.layout.cores < left
+      → TookFits own left a (landed a (met_free own a.call a.found a.read f value))
+  free_fits left f entry.Free fits some = acts_on left a.read f fits some
   free_fits left f (entry.Held k) fits some = refused_fits left refusal.Occupied (omega arith)
   free_fits left f (entry.Closing by) fits some = refused_fits left (refusal.Busy by) (omega arith)
-  free_fits left f (entry.Quiescing stamp) fits some = acts_on left f fits some
+  free_fits left f (entry.Quiescing stamp) fits some = acts_on left a.read f fits some
 
-  held_fits : (left : ℕ) (f : Found) (value : Entry) → PlaceFits own.layout f → 2 + act_steps a.call own.layout.cores < left
+  held_fits : (left : ℕ) (f : Found) (value : Entry) → PlaceFits own.layout f → 2 + after_reading a.call own.layout.cores < left
       → TookFits own left a (landed a (met_held own a.call a.found f value))
   held_fits left f entry.Free fits some = refused_fits left refusal.Empty (omega arith)
-  held_fits left f (entry.Held k) fits some = acts_on left f fits some
+  held_fits left f (entry.Held k) fits some = acts_on left None f fits some
   held_fits left f (entry.Closing by) fits some = refused_fits left (refusal.Busy by) (omega arith)
   held_fits left f (entry.Quiescing stamp) fits some = refused_fits left refusal.Empty (omega arith)
 
   -- the place that was looked for is found
   found_case : (left : ℕ) (names : List Name) (target : Target) (f : Found) → names_left a ≡ names → a.plan.target ≡ target
       → PlaceFits own.layout f
-      → 2 + (looks_later names target + act_steps a.call own.layout.cores) < left
+      → 2 + (looks_later names target + acts_later names a.call own.layout.cores) < left
       → TookFits own left a (took_found own a (next_in (with_found [] a.found) names target) f)
   found_case left (name ∷ rest) target f is to fits some =
       met_fits left name rest f.value is fits.names (subst (λ (t : Target). 2 + (look_steps rest t + act_steps a.call own.layout.cores) <
@@ -658,6 +660,15 @@ module _ (own : Own) (a : ActiveCall) (facts : Facts own a) (none : a.counts ≡
   look_fits (AtEntry top index) word shown look names =
       place_fits _ (AtEntry top index) top index word shown names look.0 look.1 (omega arith)
 
+-- the component's word is loaded, and the target is looked up next
+read_fits : (own : Own) (a : ActiveCall) (look : Look) (o : Option CompWord) → Facts own a → own.made < own.limit
+    → LookFits own.layout look → a.counts ≡ []
+    → TookFits own (2 + length a.counts + (1 + left_of_look look + steps_later own.layout.cores a)) a (took_read a look o)
+read_fits own a look None facts room fits counts = refused_fits own a facts counts room _ refusal.Raced (omega arith)
+read_fits own a look (Some life) facts room fits counts =
+    landed_fits own a (read_more a life.epoch) refl refl refl facts.found facts.acquired room
+    (left_of_look look + steps_later own.layout.cores a) _ (Goes (Lookup look)) (fits, omega arith, counts) (omega arith)
+
 work_fits : (own : Own) (a : ActiveCall) (work : Work) (found : ℕ) → Facts own a → own.made < own.limit → WorkFits own.layout work
     → CountsWait a.counts work
     → TookFits own (left_at own.layout.cores a (Undecided work)) a (took_work own a work found)
@@ -666,6 +677,7 @@ work_fits own a (Lookup look) found facts room fits counts =
     (took_look own a look found (shown_in own.layout.frames found)))
     (sym (ap length counts)) (look_fits own a facts counts room look found (shown_in own.layout.frames found) fits
     (shown_names own.layout.frames found))
+work_fits own a (Read comp look) found facts room fits counts = read_fits own a look (comp_of_word found) facts room fits.1 counts
 work_fits own a (Scan q act) found facts room fits counts = scan_fits own a facts room q act found fits.0 fits.1 fits.2 counts
 work_fits own a (Acquire pin change act) found facts room fits counts =
     count_fits own a facts room pin change act found fits.0 fits.1 counts

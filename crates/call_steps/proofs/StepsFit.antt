@@ -12,7 +12,7 @@ use Rattle.spk_nums.specs.declared.kinds.Kind.{Kind}
 use Rattle.spk_nums.specs.declared.kinds.Kind.TheVariants.{Range, Table, Pages, Comp as KindComp}
 use Rattle.spk_nums.specs.declared.kinds.Kind.TheVariants as kind
 use Rattle.spk_nums.specs.declared.calls.Call.{Call}
-use Rattle.spk_nums.specs.declared.calls.Call.TheVariants.{Look as look_call, Copy, Remove, Shrink, Unmap, Retype, Make as make_call, Tick, Kill}
+use Rattle.spk_nums.specs.declared.calls.Call.TheVariants.{Look as look_call, Copy, Remove, Shrink, Unmap, Retype, Make as make_call, Tick, Gate, Kill}
 use Rattle.entry_words.specs.declared.entry.Entry.{Entry}
 use Rattle.entry_words.specs.declared.entry.Entry.TheVariants as entry
 use Rattle.word_map.specs.Places.{Shape}
@@ -29,6 +29,7 @@ use Rattle.call_plans.specs.declared.plans.Target.TheVariants.{Nowhere, Free, He
 use Rattle.call_plans.specs.declared.plans.Plan.{Plan}
 use Rattle.call_plans.specs.Plans.{at_place}
 use Rattle.call_plans.specs.PlanOf.{plan_for}
+use Rattle.kernel_rules.specs.Access.{Target as place, Under as place_under, InRoot as place_in}
 use Rattle.call_plans.specs.GoesBy.{earlier, place_of}
 use Rattle.call_plans.specs.After.{with_found, names_after, Leads, next_in}
 use Rattle.call_plans.specs.Bounds.{look_steps, retype_steps, make_steps, act_steps}
@@ -53,10 +54,10 @@ use Rattle.call_acts.specs.declared.work.Act.TheVariants.{Fill as fill_act, Remo
 use Rattle.call_acts.specs.declared.work.WorkStep.{WorkStep}
 use Rattle.call_acts.specs.declared.work.WorkStep.TheVariants.{Goes, Acquires, Refuses, Answers, Changes}
 use Rattle.call_acts.specs.declared.work.Due.{Due}
-use Rattle.call_acts.specs.Acts.{ActFits, act_left, looked, cap_dues, dues, acquires, scans, stamp_in, filling, fills_with, removing, removes_held, removes_at, types_if, types_at, made_dues, starts, making, making_if, makes_in, makes_at, act_begun, next_work, killing_dues, kills_in, kills_at}
+use Rattle.call_acts.specs.Acts.{ActFits, act_left, looked, cap_dues, dues, acquires, scans, stamp_in, filling, fills_with, removing, removes_held, removes_at, types_if, types_at, gate_if, gate_to, frame_named, reads_of, made_dues, starts, making, making_if, makes_in, makes_at, act_begun, next_work, killing_dues, kills_in, kills_at}
 use Rattle.call_steps.specs.Tails.{tail_left}
-use Rattle.call_acts.specs.Lookups.{looks_under, looks_entry, looks_at, next_step}
-use Rattle.call_steps.specs.Fits.{ScanFits, WorkFits, TailFits, IsWanted, FoundFits, CountsWait, looks_later, left_of_scan, work_left, IsOwn}
+use Rattle.call_acts.specs.Lookups.{looks_under, looks_entry, looks_at, read_first, next_step}
+use Rattle.call_steps.specs.Fits.{ScanFits, WorkFits, TailFits, IsWanted, FoundFits, CountsWait, looks_later, after_reading, acts_later, left_of_scan, work_left, IsOwn}
 
 -- where a step of the work leads to fits, where so many counts are acquired, and leaves at most so many steps before these are
 -- committed; it acquires none
@@ -399,6 +400,7 @@ made_at own later most (Some object) (Some range) f None h fits some = (omega ar
 -- the name of a thread's component has led to a frame of the machine
 abbrev pub ObjectNamed : ℕ → Call → List Capability → Type 0
 ObjectNamed frames (make_call (make.Thread comp) r f t b) found = IfSome (at_place found Third) (λ k. k.frame < frames)
+ObjectNamed frames (Gate c t b) found = IfSome (at_place found First) (λ k. k.frame < frames)
 ObjectNamed frames call found = Unit {0}
 
 comp_below : (frames : ℕ) (kind : Kind) (frame arg : ℕ) → only KindComp kind ≡ true → end_of_frames kind frame arg ≤ frames
@@ -413,6 +415,8 @@ object_named frames (make_call (make.Thread comp) r f t b) (k ∷ []) leads = tt
 object_named frames (make_call (make.Thread comp) r f t b) (k ∷ j ∷ []) leads = tt
 object_named frames (make_call (make.Thread comp) r f t b) (k ∷ j ∷ i ∷ ks) leads =
     comp_below frames i.kind i.frame i.arg leads.1.1.0.0 leads.1.1.0.1
+object_named frames (Gate c t b) [] leads = tt
+object_named frames (Gate c t b) (k ∷ ks) leads = comp_below frames k.kind k.frame k.arg leads.0.0 leads.0.1
 object_named frames call found leads = tt
 
 made_fits : (s : Shape) (what : Make) (r f t b : ℕ) (found : List Capability) (cores : ℕ) → MakeInLimits what
@@ -456,27 +460,40 @@ killed : (own : Own) (later most : ℕ) (k : Option Capability) → IsOwn own �
 killed own later most None h names some = (omega arith, tt)
 killed own later most (Some k) h names some = kills own.layout later most own.core k.kind k.frame k.arg h.core names some
 
-pub act_fits : (own : Own) (later : ℕ) (call : Call) (found : List Capability) (target : Option Found) → IsOwn own
+-- a gate leads to a frame of the machine
+gate_names : (frames : ℕ) (comp : Option Capability) (read : Option ℕ) → IfSome comp (λ k. k.frame < frames)
+    → IfSome (gate_to comp read) (CapNames frames)
+gate_names frames None read below = tt
+gate_names frames (Some k) None below = tt
+gate_names frames (Some k) (Some epoch) below = by (nat_le 1 epoch)
+  where
+    by : (some : Bool) → IfSome (gate_if some k.frame epoch) (CapNames frames)
+    by true = omega (arith, below)
+    by false = tt
+
+pub act_fits : (own : Own) (later : ℕ) (call : Call) (found : List Capability) (read : Option ℕ) (target : Option Found) → IsOwn own
     → IfSome (at_place found First) (CapNames own.layout.frames) → ObjectNamed own.layout.frames call found → InLimits call
     → IfSome target (PlaceFits own.layout)
-    → StepFits own.layout [] later (act_steps call own.layout.cores) (act_begun own call found target)
-act_fits own later (look_call a) found target h names objects limits fits = look_done own.layout later 0 _
-act_fits own later (Copy a t b) found target h names objects limits fits =
+    → StepFits own.layout [] later (after_reading call own.layout.cores) (act_begun own call found read target)
+act_fits own later (look_call a) found read target h names objects limits fits = look_done own.layout later 0 _
+act_fits own later (Copy a t b) found read target h names objects limits fits =
     filled own later (3 + own.layout.cores) _ target h names fits (omega arith)
-act_fits own later (Remove t b) found target h names objects limits fits =
+act_fits own later (Remove t b) found read target h names objects limits fits =
     removed own.layout later 6 own.core target h.core fits (omega arith)
-act_fits own later (Shrink t i) found target h names objects limits fits =
+act_fits own later (Shrink t i) found read target h names objects limits fits =
     removed own.layout later 6 own.core target h.core fits (omega arith)
-act_fits own later (Unmap p v) found target h names objects limits fits =
+act_fits own later (Unmap p v) found read target h names objects limits fits =
     removed own.layout later 6 own.core target h.core fits (omega arith)
-act_fits own later (Retype r f k) found target h names objects limits fits =
+act_fits own later (Retype r f k) found read target h names objects limits fits =
     types own later (retype_steps k own.layout.cores) _ f k (two_steps k own.layout.cores)
-act_fits own later (make_call what range frame table slot) found target h names objects limits fits =
+act_fits own later (make_call what range frame table slot) found read target h names objects limits fits =
     made_at own later (make_steps what own.layout.cores) (object_made what found) (at_place found First) frame target h fits
     (made_fits own.layout what range frame table slot found own.layout.cores limits objects)
-act_fits own later (Tick n) found target h names objects limits fits = (h.tcap, omega arith, refl)
-act_fits own later (Kill k) found target h names objects limits fits = killed own later 8 (at_place found First) h names (omega arith)
-act_fits own later call found target h names objects limits fits = (omega arith, tt)
+act_fits own later (Tick n) found read target h names objects limits fits = (h.tcap, omega arith, refl)
+act_fits own later (Gate c t b) found read target h names objects limits fits =
+    filled own later (3 + own.layout.cores) _ target h (gate_names own.layout.frames (at_place found First) read objects) fits (omega arith)
+act_fits own later (Kill k) found read target h names objects limits fits = killed own later 8 (at_place found First) h names (omega arith)
+act_fits own later call found read target h names objects limits fits = (omega arith, tt)
 
 -- the root of a target is a frame of the machine, where its name is found
 abbrev pub RootBelow : ℕ → List Capability → Target → Type 0
@@ -510,20 +527,88 @@ pub at_fits : (s : Shape) (ks : List Capability) (spot : Spot) (later acts : ℕ
 at_fits s ks (Under i n) later acts most below = looks_fits s _ _ n later _ refl below (omega arith)
 at_fits s ks (InRoot i e) later acts most below = entry_fits s _ _ e later _ refl below (omega arith)
 
+-- the act takes no more steps than with what the call reads before, which is one
+after_most : (call : Call) (n : ℕ) → after_reading call n ≤ act_steps call n
+after_most (Gate c t b) n = omega arith
+after_most call n = omega arith
+
+after_one : (call : Call) (found : List Capability) (f n : ℕ) → reads_of call found ≡ Some f → 1 + after_reading call n ≤ act_steps call n
+after_one (Gate c t b) found f n is = omega arith
+after_one call found f n is = absurd (cc)
+
+-- the component whose word is read is in a frame of the machine
+reads_below : (frames : ℕ) (call : Call) (found : List Capability) (f : ℕ) → reads_of call found ≡ Some f → ObjectNamed frames call found
+    → f < frames
+reads_below frames (Gate c t b) found f is below = by (at_place found First) is below
+  where
+    by : (o : Option Capability) → frame_named o ≡ Some f → IfSome o (λ k. k.frame < frames) → f < frames
+    by None is below = absurd (cc)
+    by (Some k) is below = rw (is, below)
+reads_below frames call found f is below = absurd (cc)
+
+-- where more steps may be left, the same step fits
+more_steps : (s : Shape) (later most more : ℕ) (step : WorkStep) → most ≤ more → StepFits s [] later most step → StepFits s [] later more step
+more_steps s later most more (Goes work) few fits = (fits.0, (let left = fits.1 in omega (arith, left, few)), fits.2)
+more_steps s later most more (Acquires count work) few fits = fits
+more_steps s later most more (Refuses r tail) few fits = ((let left = fits.0 in omega (arith, left, few)), fits.1)
+more_steps s later most more (Answers v drawn tail) few fits = ((let left = fits.0 in omega (arith, left, few)), fits.1)
+more_steps s later most more (Changes r change) few fits = fits
+
+-- a step that begins a look-up, or refuses
+abbrev IsLook : WorkStep → Type 0
+IsLook (Goes (Lookup look)) = Unit {0}
+IsLook (Goes work) = ⊥
+IsLook (Acquires count work) = ⊥
+IsLook (Refuses r tail) = Unit {0}
+IsLook (Answers v drawn tail) = ⊥
+IsLook (Changes r change) = ⊥
+
+under_looks : (within : Bool) (top n : ℕ) → IsLook (looks_under within top n)
+under_looks true top n = tt
+under_looks false top n = tt
+
+entry_looks : (within : Bool) (top i : ℕ) → IsLook (looks_entry within top i)
+entry_looks true top i = tt
+entry_looks false top i = tt
+
+at_looks : (target : place) → IsLook (looks_at target)
+at_looks (place_under table n) = under_looks _ table.frame n
+at_looks (place_in table i) = entry_looks _ table.frame i
+
+-- a look-up that comes after the load of a component's word
+read_fits : (s : Shape) (later most f : ℕ) (step : WorkStep) → f < s.frames → IsLook step → StepFits s [] later most step
+    → StepFits s [] later (1 + most) (read_first (Some f) step)
+read_fits s later most f (Goes (Lookup look)) below is fits = ((below, fits.0), (let left = fits.1 in omega (arith, left)), refl)
+read_fits s later most f (Refuses r tail) below is fits = ((let left = fits.0 in omega (arith, left)), fits.1)
+
 pub next_case : (own : Own) (call : Call) (found : List Capability) (names : List Name) (target : Target) → IsOwn own
     → IfSome (at_place found First) (CapNames own.layout.frames) → ObjectNamed own.layout.frames call found → InLimits call
     → (names ≡ [] → RootBelow own.layout.frames found target)
-    → StepFits own.layout [] (looks_later names target + act_steps call own.layout.cores)
+    → StepFits own.layout [] (looks_later names target + acts_later names call own.layout.cores)
     (look_steps names target + act_steps call own.layout.cores)
     (next_step own call found (next_in (with_found [] found) names target))
 next_case own call found (name ∷ names) target h first objects limits roots =
     looks_fits own.layout _ own.table name.number _ _ refl h.table (omega arith)
 next_case own call found [] Nowhere h first objects limits roots =
-    let zero : act_steps call own.layout.cores ≡ 0 + act_steps call own.layout.cores = omega arith in
-    subst (λ (most : ℕ). StepFits own.layout [] (0 + act_steps call own.layout.cores) most (act_begun own call found None)) zero
-    (act_fits own (0 + act_steps call own.layout.cores) call found None h first objects limits tt)
-next_case own call found [] (Free spot) h first objects limits roots =
-    at_fits own.layout found spot _ (act_steps call own.layout.cores) (omega arith) (roots refl)
+    more_steps own.layout _ (after_reading call own.layout.cores) _ (act_begun own call found None None)
+    (let most = after_most call own.layout.cores in omega (arith, most))
+    (act_fits own (0 + after_reading call own.layout.cores) call found None None h first objects limits tt)
+next_case own call found [] (Free spot) h first objects limits roots = by (reads_of call found) refl
+  where
+    by : (o : Option ℕ) → reads_of call found ≡ o
+        → StepFits own.layout [] (0 + after_reading call own.layout.cores) (look_steps [] (Free spot) + act_steps call own.layout.cores)
+        (read_first o (looks_at (place_of (with_found [] found) spot)))
+    by None is =
+        let most = after_most call own.layout.cores in
+        at_fits own.layout found spot _ (act_steps call own.layout.cores) (omega (arith, most)) (roots refl)
+    by (Some f) is =
+        let one = after_one call found f own.layout.cores is in
+        more_steps own.layout _ (1 + (look_steps [] (Free spot) + after_reading call own.layout.cores)) _
+        (read_first (Some f) (looks_at (place_of (with_found [] found) spot))) (omega (arith, one))
+        (read_fits own.layout _ (look_steps [] (Free spot) + after_reading call own.layout.cores) f _
+        (reads_below own.layout.frames call found f is objects) (at_looks (place_of (with_found [] found) spot))
+        (at_fits own.layout found spot _ (after_reading call own.layout.cores) (omega arith) (roots refl)))
 next_case own call found [] (Held spot) h first objects limits roots =
-    at_fits own.layout found spot _ (act_steps call own.layout.cores) (omega arith) (roots refl)
+    let most = after_most call own.layout.cores in
+    at_fits own.layout found spot _ (act_steps call own.layout.cores) (omega (arith, most)) (roots refl)
 next_case own call found [] (own_page v) h first objects limits roots = (omega arith, tt)

@@ -53,7 +53,7 @@ end_of c = record {
 
 -- a call that has made no step
 abbrev pub fresh : Call → ActiveCall
-fresh call = record { steps = 0; stage = Enter; found = []; counts = []; call = call; plan = plan_for call }
+fresh call = record { steps = 0; stage = Enter; found = []; read = None; counts = []; call = call; plan = plan_for call }
 
 -- the core that has begun this call
 abbrev pub begun : Core → Call → Core

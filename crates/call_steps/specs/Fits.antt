@@ -4,6 +4,8 @@ use Rattle.spk_nums.specs.Bounds.{bound_of}
 use Rattle.spk_nums.specs.CallLimits.{InLimits}
 use Rattle.spk_nums.specs.Capability.{Capability}
 use Rattle.spk_nums.specs.declared.kinds.Kind.{Kind}
+use Rattle.spk_nums.specs.declared.calls.Call.{Call}
+use Rattle.spk_nums.specs.declared.calls.Call.TheVariants.{Gate}
 use Rattle.supported_calls.specs.Built.{IsBuilt}
 use Rattle.frame_words.specs.Comp.{CompFits}
 use Rattle.word_map.specs.Places.{Shape, IsShape}
@@ -19,7 +21,7 @@ use Rattle.call_plans.specs.After.{Leads, names_after}
 use Rattle.call_plans.specs.Bounds.{look_steps, act_steps}
 use Rattle.call_acts.specs.declared.own.Own.{Own}
 use Rattle.call_acts.specs.declared.work.Work.{Work}
-use Rattle.call_acts.specs.declared.work.Work.TheVariants.{Lookup, Scan, Acquire, Act}
+use Rattle.call_acts.specs.declared.work.Work.TheVariants.{Lookup, Read, Scan, Acquire, Act}
 use Rattle.call_steps.specs.declared.stages.Stage.{Stage}
 use Rattle.call_steps.specs.declared.stages.Stage.TheVariants.{Enter, Undecided, Decided, Leave}
 use Rattle.call_acts.specs.declared.work.Tail.{Tail}
@@ -46,6 +48,7 @@ ScanFits s (AtFlush stamp at) = ⊥
 -- a stage names frames of the machine alone
 abbrev pub WorkFits : Shape → Work → Type 0
 WorkFits s (Lookup look) = LookFits s look
+WorkFits s (Read comp look) = (comp < s.frames) × LookFits s look
 WorkFits s (Scan q act) = QuietFits s q × ScanFits s q × ActFits s act
 WorkFits s (Acquire pin change act) = PinFits s pin × ActFits s act
 WorkFits s (Act act) = ActFits s act
@@ -97,9 +100,19 @@ abbrev pub looks_later : List Name → Target → ℕ
 looks_later [] target = 0
 looks_later (name ∷ names) target = look_steps names target
 
+-- the steps of a call's act, but for the load of what the call reads before it looks its target up
+abbrev pub after_reading : Call → ℕ → ℕ
+after_reading (Gate c t b) n = 3 + n
+after_reading call n = act_steps call n
+
+-- those that are still to come where these of its names are left: the load comes after the last
+abbrev pub acts_later : List Name → Call → ℕ → ℕ
+acts_later [] call n = after_reading call n
+acts_later (name ∷ names) call n = act_steps call n
+
 -- the most steps that come after the look-up of a call, till it is decided and has stored what it has to
 abbrev pub steps_later : ℕ → ActiveCall → ℕ
-steps_later cores a = looks_later (names_left a) a.plan.target + act_steps a.call cores
+steps_later cores a = looks_later (names_left a) a.plan.target + acts_later (names_left a) a.call cores
 
 -- the steps of the acquiring of a count that are still to come
 abbrev pub left_of_pin : Pin → ℕ
@@ -115,6 +128,7 @@ left_of_scan cores (AtFlush stamp at) = 0
 -- count that is still to be acquired takes two steps, and one for its commit
 abbrev pub work_left : ℕ → ℕ → ℕ → Work → ℕ
 work_left cores later n (Lookup look) = left_of_look look + later
+work_left cores later n (Read comp look) = 1 + left_of_look look + later
 work_left cores later n (Scan q act) = left_of_scan cores q + 3 * length (dues act) + act_left act
 work_left cores later n (Acquire pin change act) = left_of_pin pin + 1 + 3 * (length (dues act) - (n + 1)) + act_left act
 work_left cores later n (Act act) = act_left act
@@ -139,6 +153,7 @@ IsFirst (Leave r stamp) found = Unit {0}
 -- a call acquires no count before its look-ups are made, and none but those that its act changes; before the act's further steps, all
 abbrev pub CountsWait : List Acquired → Work → Type 0
 CountsWait counts (Lookup look) = counts ≡ []
+CountsWait counts (Read comp look) = counts ≡ []
 CountsWait counts (Scan q act) = counts ≡ []
 CountsWait counts (Acquire pin change act) = length counts < length (dues act)
 CountsWait counts (Act act) = length counts ≡ length (dues act)

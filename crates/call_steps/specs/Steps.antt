@@ -1,6 +1,6 @@
 -- The steps of a call: the next one, and what it takes from the word found. They depend on what the core has of its own, on
 -- where the call stands, and on the word found, and on nothing else.
-use Rattle.std.specs.Prelude.{ℕ, ℤ, ◌+◌, Bool, true, false, ◌&&◌, ◌==◌, nat_le, length, Option, None, if◌then◌else◌, List}
+use Rattle.std.specs.Prelude.{ℕ, ℤ, ◌+◌, Bool, true, false, ◌&&◌, ◌==◌, nat_le, length, Option, Some, None, if◌then◌else◌, List}
 use Rattle.call_plans.specs.Plans.{pushed}
 use Rattle.spk_nums.specs.Capability.{Capability}
 use Rattle.spk_nums.specs.declared.replies.Reply.{Reply}
@@ -8,9 +8,11 @@ use Rattle.spk_nums.specs.declared.replies.Reply.TheVariants.{Ok}
 use Rattle.spk_nums.specs.declared.steps.StageEnd.{StageEnd}
 use Rattle.spk_nums.specs.declared.steps.StageEnd.TheVariants as ends
 use Rattle.entry_words.specs.declared.entry.Entry.{Entry}
+use Rattle.frame_words.specs.Comp.{comp_of_word}
 use Rattle.frame_words.specs.Core.{word_of_core}
-use Rattle.word_map.specs.Word.{CoreAt}
-use Rattle.word_map.specs.Moves.{Move, StoreOf}
+use Rattle.frame_words.specs.declared.comp_word.CompWord.{CompWord}
+use Rattle.word_map.specs.Word.{EntryAt, CoreAt}
+use Rattle.word_map.specs.Moves.{Move, LoadOf, StoreOf}
 use Rattle.stage_look.specs.Shown.{shown_in}
 use Rattle.stage_look.specs.Lookup.{look_move, look_end, look_after}
 use Rattle.stage_look.specs.declared.look.Look.{Look}
@@ -35,7 +37,7 @@ use Rattle.call_acts.specs.declared.lookups.Met.{Met}
 use Rattle.call_acts.specs.declared.lookups.Met.TheVariants.{Finds, Refused}
 use Rattle.call_acts.specs.declared.work.Act.{Act as ActType}
 use Rattle.call_acts.specs.declared.work.Work.{Work}
-use Rattle.call_acts.specs.declared.work.Work.TheVariants.{Lookup, Scan, Acquire, Act}
+use Rattle.call_acts.specs.declared.work.Work.TheVariants.{Lookup, Read, Scan, Acquire, Act}
 use Rattle.call_acts.specs.declared.work.Tail.{Tail}
 use Rattle.call_steps.specs.declared.stages.Stage.{Stage}
 use Rattle.call_steps.specs.declared.stages.Stage.TheVariants.{Enter, Undecided, Decided, Leave}
@@ -58,6 +60,7 @@ core_word inside stamp = word_of_core (record { inside = inside; stamp = stamp }
 -- the next step of the work of a call, and of a call
 abbrev pub work_move : Work → Move
 work_move (Lookup look) = look_move look
+work_move (Read comp look) = LoadOf (EntryAt comp 2)
 work_move (Scan q act) = quiet_move q
 work_move (Acquire pin change act) = pin_move pin
 work_move (Act act) = act_move act
@@ -101,6 +104,10 @@ landed a (work_changes r change) = Changes r change (went a (Decided r None Noth
 abbrev pub found_more : ActiveCall → List Capability → ActiveCall
 found_more a found = record a { found = found }
 
+-- it has read this epoch
+abbrev pub read_more : ActiveCall → ℕ → ActiveCall
+read_more a epoch = record a { read = Some epoch }
+
 -- what comes next of a core's call
 abbrev pub next_by : Own → ActiveCall → WorkStep
 next_by own a = next_step own a.call a.found (next_of a.plan a.found)
@@ -117,7 +124,7 @@ named_one own a (Refused r) = landed a (refuse r)
 -- what a call that has looked this up takes from the place that was found
 abbrev pub took_found : Own → ActiveCall → Next → Found → Took
 took_found own a (NextName n wanted) f = named_one own a (met_name wanted f.value)
-took_found own a (NextFree target) f = landed a (met_free own a.call a.found f f.value)
+took_found own a (NextFree target) f = landed a (met_free own a.call a.found a.read f f.value)
 took_found own a (NextHeld target) f = landed a (met_held own a.call a.found f f.value)
 took_found own a (NextOwn v) f = landed a (refuse refusal.Raced)
 took_found own a NextNothing f = landed a (refuse refusal.Raced)
@@ -132,6 +139,11 @@ took_end own a look (ends.Refuse r) = landed a (refuse (refusal_of r))
 -- what a call takes from a step of a look-up that has found this word, which shows this
 abbrev pub took_look : Own → ActiveCall → Look → ℕ → Option Entry → Took
 took_look own a look word shown = took_end own a (look_after look shown) (look_end look word shown)
+
+-- what a call takes from the load of a component's word, which names this: its target is looked up next
+abbrev pub took_read : ActiveCall → Look → Option CompWord → Took
+took_read a look None = landed a (refuse refusal.Raced)
+took_read a look (Some life) = landed (read_more a life.epoch) (Goes (Lookup look))
 
 -- a call that acquires a count for an act is refused, with what it has then still to store
 abbrev pub gives_up : Refusal → ActType → WorkStep
@@ -154,6 +166,7 @@ took_scan core act q (ends.Refuse r) = refuse (refusal_of r)
 -- what a call takes from a step of its work
 abbrev pub took_work : Own → ActiveCall → Work → ℕ → Took
 took_work own a (Lookup look) found = took_look own a look found (shown_in own.layout.frames found)
+took_work own a (Read comp look) found = took_read a look (comp_of_word found)
 took_work own a (Scan q act) found =
     landed a (took_scan own.core act (quiet_after own.layout.cores q found) (quiet_end own.layout.cores q found))
 took_work own a (Acquire pin change act) found =
@@ -206,6 +219,7 @@ is_last_name plan found = length found + 1 == length plan.names
 -- whether the next step of its work is the one that decides the call's `ok`
 abbrev pub work_ready : Plan → List Capability → Work → Bool
 work_ready plan found (Lookup look) = decides_at_name plan.decides && is_last_name plan found && is_last look
+work_ready plan found (Read comp look) = false
 work_ready plan found (Scan q act) = false
 work_ready plan found (Acquire pin change act) = false
 work_ready plan found (Act act) = act_ready act

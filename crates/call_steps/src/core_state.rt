@@ -88,6 +88,7 @@ impl CoreState {
             steps: 0,
             stage: Stage::Enter,
             found: Caps::none(),
+            read: None,
             counts: AcquiredCounts::none(),
             call,
             plan,

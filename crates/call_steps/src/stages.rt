@@ -37,6 +37,8 @@ pub struct ActiveCall {
     pub stage: Stage,
     /// What its names have led to so far.
     pub found: Caps,
+    /// The epoch of the component whose word it has read before it looks its target up.
+    pub read: Option<u16>,
     /// The counts that it has acquired and not committed.
     pub counts: AcquiredCounts,
     /// The call.

@@ -1,31 +1,31 @@
 //! The steps of a call.
 
-ghost use Rattle.std.specs.Prelude.{◌≡◌, ◌<◌, ◌≤◌, nat_le, [], None};
+ghost use Rattle.std.specs.Prelude.{◌≡◌, ◌<◌, ◌≤◌, nat_le, [], Some, None};
 ghost use Rattle.word_map.specs.Places.{size_of};
 ghost use Rattle.word_map.specs.Moves.{op_of};
 ghost use Rattle.spk_nums.specs.WordSteps.{place_in};
 ghost use Rattle.call_plans.specs.After.{next_of, with_found};
 ghost use Rattle.stage_pins.specs.Held.{AllFit};
 ghost use Rattle.call_steps.specs.Tails.{tail_counts, took_tail};
-ghost use Rattle.call_steps.specs.Steps.{core_word, work_move, stage_move, went, went_with, took_scan, took_count, gives_up, landed, next_by, took_enter, took_found, took_end, took_work, took_at, took, told, call_after, is_last, decides_at_name, work_ready, is_ready, is_spent, named_one, decided, Changes};
+ghost use Rattle.call_steps.specs.Steps.{took_read, read_more, core_word, work_move, stage_move, went, went_with, took_scan, took_count, gives_up, landed, next_by, took_enter, took_found, took_end, took_work, took_at, took, told, call_after, is_last, decides_at_name, work_ready, is_ready, is_spent, named_one, decided, Changes};
 ghost use Rattle.call_steps.specs.Fits.{WorkFits, StageFits, IsLater};
 ghost use Rattle.stage_pins.specs.Acquire.{pin_after, pin_end};
 ghost use Rattle.stage_quiet.specs.Scan.{quiet_after, quiet_end};
 ghost use Rattle.call_plans.specs.GoesBy.{place_of};
 ghost use Rattle.call_acts.specs.WorkSteps.{refuse};
-ghost use Rattle.call_acts.specs.Acts.{act_begun};
-ghost use Rattle.call_acts.specs.Lookups.{looks_under, looks_entry, looks_at, met_free, met_held};
+ghost use Rattle.call_acts.specs.Acts.{act_begun, reads_of};
+ghost use Rattle.call_acts.specs.Lookups.{read_first, looks_under, looks_entry, looks_at, met_free, met_held};
 ghost use Rattle.call_acts.specs.declared.work.WorkStep.TheVariants.{Goes};
-ghost use Rattle.call_acts.specs.declared.work.Work.TheVariants.{Lookup, Scan, Acquire};
+ghost use Rattle.call_acts.specs.declared.work.Work.TheVariants.{Lookup, Read, Scan, Acquire};
 
 use crate::stages::{ActiveCall, Stage, Told};
 use crate::tails::{tail_op, took_tail};
 use call_acts::{
     Act, Met, Own, OwnChange, Refusal, Tail, Work, WorkStep, act_op, act_ready, act_took,
-    begin_act, frame_of, met_free, met_held, met_name, next_work, refuse, starts, undo,
+    begin_act, frame_of, met_free, met_held, met_name, next_work, reads_of, refuse, starts, undo,
 };
 use call_plans::{Decides, Next, Spot};
-use frame_words::CoreWord;
+use frame_words::{CompWord, CoreWord};
 use spk_nums::{CapId, CoreNo, EntryNo, FrameNo, Reply, StageEnd, Stamp, WordOp};
 use stage_look::{Found, Look};
 use stage_pins::{Acquired, AcquiredCounts, Pin, Pinned};
@@ -64,6 +64,9 @@ fn work_op(work: &Work, layout: &Layout) -> WordOp
 {
     match work {
         Work::Lookup { look } => look.next(layout),
+        Work::Read { comp, look: _ } => WordOp::Load {
+            at: layout.entry_at(*comp, EntryNo::new(2)),
+        },
         Work::Scan { quiet, act: _ } => quiet.next(layout),
         Work::Acquire {
             pin,
@@ -213,6 +216,7 @@ impl ActiveCall {
                     && self.found.count() + 1 == self.plan.names.count()
                     && is_last(look)
             }
+            Work::Read { comp: _, look: _ } => false,
             Work::Scan { quiet: _, act: _ } => false,
             Work::Acquire {
                 pin: _,
@@ -241,6 +245,7 @@ impl ActiveCall {
                     let look = *look;
                     self.absorb_look(own, look, found)
                 }
+                Work::Read { comp: _, look: _ } => self.absorb_later(own, found),
                 Work::Scan { quiet: _, act: _ } => self.absorb_later(own, found),
                 Work::Acquire {
                     pin: _,
@@ -274,6 +279,10 @@ impl ActiveCall {
             Stage::Enter => unreachable!(),
             Stage::Undecided { work } => match work {
                 Work::Lookup { look: _ } => unreachable!(),
+                Work::Read { comp: _, look } => {
+                    let look = *look;
+                    self.has_read(look, CompWord::unpack(found))
+                }
                 Work::Scan { quiet, act } => {
                     let step = scan_step(own, quiet, act, found);
                     self.land(&step)
@@ -407,10 +416,10 @@ impl ActiveCall {
         requires core { own.now.core < own.now.layout.cores }
         requires cores { own.now.layout.cores ≤ 8 }
         requires few { self.old.steps < 1000 }
-        ensures told { result ≡ told (landed self.old (met_free own.now self.old.call self.old.found found.now found.now.value)) }
-        ensures after { self.new ≡ call_after self.old (landed self.old (met_free own.now self.old.call self.old.found found.now found.now.value)) }
+        ensures told { result ≡ told (landed self.old (met_free own.now self.old.call self.old.found self.old.read found.now found.now.value)) }
+        ensures after { self.new ≡ call_after self.old (landed self.old (met_free own.now self.old.call self.old.found self.old.read found.now found.now.value)) }
     {
-        let step = met_free(own, &self.call, &self.found, found);
+        let step = met_free(own, &self.call, &self.found, self.read, found);
         self.land(&step)
     }
 
@@ -438,10 +447,80 @@ impl ActiveCall {
     {
         match self.plan.next(&self.found) {
             Next::Name { name } => self.look_under(own.table, name.number.number()),
-            Next::Free { spot } => self.look_at(spot),
+            Next::Free { spot } => self.look_free(spot),
             Next::Held { spot } => self.look_at(spot),
             Next::Own { page: _ } => self.refused(Refusal::Raced),
             Next::Nothing => self.begin_act(own),
+        }
+    }
+
+    // The place of a target that is to be free is looked up, after the load of a component's word where the call reads one.
+    #[inline]
+    fn look_free(&mut self, spot: Spot) -> Told
+        requires { self.old.steps < 1000 }
+        ensures told { result ≡ told (landed self.old (read_first (reads_of self.old.call self.old.found) (looks_at (place_of (with_found [] self.old.found) spot)))) }
+        ensures after { self.new ≡ call_after self.old (landed self.old (read_first (reads_of self.old.call self.old.found) (looks_at (place_of (with_found [] self.old.found) spot)))) }
+    {
+        match reads_of(&self.call, &self.found) {
+            None => self.look_at(spot),
+            Some(comp) => self.read_at(comp, spot),
+        }
+    }
+
+    // A component's word is loaded before the place of a target is looked up.
+    #[inline(never)]
+    fn read_at(&mut self, comp: FrameNo, spot: Spot) -> Told
+        requires { self.old.steps < 1000 }
+        ensures told { result ≡ told (landed self.old (read_first (Some comp) (looks_at (place_of (with_found [] self.old.found) spot)))) }
+        ensures after { self.new ≡ call_after self.old (landed self.old (read_first (Some comp) (looks_at (place_of (with_found [] self.old.found) spot)))) }
+    {
+        match spot {
+            Spot::Under { root, number } => {
+                let root = frame_of(&self.found, root);
+                if number <= 4095 {
+                    self.read(comp, Look::place(root, CapId::new(number)))
+                } else {
+                    self.refused(Refusal::NoSlot)
+                }
+            }
+            Spot::InRoot { root, entry } => {
+                let root = frame_of(&self.found, root);
+                if entry.number() <= 63 {
+                    self.read(comp, Look::root(root, entry))
+                } else {
+                    self.refused(Refusal::NoSlot)
+                }
+            }
+        }
+    }
+
+    // The word of this component is loaded before this look-up.
+    #[inline]
+    fn read(&mut self, comp: FrameNo, look: Look) -> Told
+        requires { self.old.steps < 1000 }
+        ensures told { result ≡ told (landed self.old (Goes (Read comp look))) }
+        ensures after { self.new ≡ call_after self.old (landed self.old (Goes (Read comp look))) }
+    {
+        self.go_on(Stage::Undecided {
+            work: Work::Read { comp, look },
+        });
+        Told::Going
+    }
+
+    // A component's word was loaded, which names this, and this look-up comes next.
+    #[inline]
+    #[tactic(auto, using(crate::proofs::Landing::same_call))]
+    fn has_read(&mut self, look: Look, life: Option<CompWord>) -> Told
+        requires { self.old.steps < 1000 }
+        ensures told { result ≡ told (took_read self.old look life) }
+        ensures after { self.new ≡ call_after self.old (took_read self.old look life) }
+    {
+        match life {
+            None => self.refused(Refusal::Raced),
+            Some(life) => {
+                self.read = Some(life.epoch);
+                self.look(look)
+            }
         }
     }
 
@@ -451,10 +530,10 @@ impl ActiveCall {
         requires core { own.now.core < own.now.layout.cores }
         requires cores { own.now.layout.cores ≤ 8 }
         requires few { self.old.steps < 1000 }
-        ensures told { result ≡ told (landed self.old (act_begun own.now self.old.call self.old.found None)) }
-        ensures after { self.new ≡ call_after self.old (landed self.old (act_begun own.now self.old.call self.old.found None)) }
+        ensures told { result ≡ told (landed self.old (act_begun own.now self.old.call self.old.found None None)) }
+        ensures after { self.new ≡ call_after self.old (landed self.old (act_begun own.now self.old.call self.old.found None None)) }
     {
-        let step = begin_act(own, &self.call, &self.found, &None);
+        let step = begin_act(own, &self.call, &self.found, None, &None);
         self.land(&step)
     }
 

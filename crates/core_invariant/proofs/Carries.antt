@@ -55,9 +55,10 @@ use Rattle.stage_pins.specs.declared.pin.Pin.TheVariants.{AtLoad, AtCompare as p
 use Rattle.call_acts.specs.declared.work.Act.{Act as ActOf}
 use Rattle.call_acts.specs.declared.work.Act.TheVariants.{Fill as fill_act, Remove as remove_act, Retype as type_act, Make as make_act, Outside, Tick as tick_act, Kill as kill_act}
 use Rattle.call_acts.specs.declared.work.Work.{Work}
-use Rattle.call_acts.specs.declared.work.Work.TheVariants.{Lookup, Scan, Acquire, Act}
+use Rattle.call_acts.specs.declared.work.Work.TheVariants.{Lookup, Read, Scan, Acquire, Act}
+use Rattle.call_acts.specs.Acts.{reads_of}
 use Rattle.call_steps.specs.declared.stages.ActiveCall.{ActiveCall}
-use Rattle.core_invariant.specs.Knows.{IsCount, IsReached, HasFound, LookIs, LooksUp, own_in, NamesAre, LooksFor, IsScanned, MayFill, IsFill, IsRemoval, KnowsClose, KnowsAct, KnowsQuiet, KnowsStore, HasLoaded, KnowsWork, KnowsUndecided, KnowsTyping, HasMetAt, ChargesBy, HasHeadAt, KnowsTick, IsSpot, HasStored, KnowsMakingAt, HasLife, HasComp, KnowsKillingAt, KnowsDead}
+use Rattle.core_invariant.specs.Knows.{IsCount, IsReached, HasFound, LookIs, LooksUp, own_in, NamesAre, LooksFor, IsScanned, MayFill, IsFill, IsRemoval, KnowsClose, KnowsAct, KnowsQuiet, KnowsStore, HasLoaded, KnowsWork, KnowsUndecided, KnowsTyping, HasMetAt, ChargesBy, HasHeadAt, KnowsTick, IsSpot, HasStored, KnowsMakingAt, HasLife, HasComp, KnowsKillingAt, KnowsDead, ReadIs, ReadBefore}
 use Rattle.stage_tcap.specs.declared.charge.Charge.{Charge}
 use Rattle.stage_tcap.specs.declared.charge.Charge.TheVariants.{AtLoad as charge_load, AtCompare as charge_compare}
 use Rattle.call_acts.specs.Ticks.{ticks_due}
@@ -97,6 +98,7 @@ stores_in (kill_act m) f = false
 
 abbrev pub stores_of : Work → ℕ → Bool
 stores_of (Lookup look) f = false
+stores_of (Read comp look) f = false
 stores_of (Scan q act) f = stores_in act f
 stores_of (Acquire pin change act) f = stores_in act f
 stores_of (Act act) f = stores_in act f
@@ -198,6 +200,44 @@ module _ (setup : Setting) (setting : IsSetting setup) (t : Trace) (e : Step) (l
   may_fill_on x upto (Some (entry.Closing by)) rises has = has
   may_fill_on x upto (Some (entry.Quiescing at)) rises has = scanned_on x at upto rises has
 
+  comp_on : (f : ℕ) → HasComp (state_after setup t) c f → (state_after setup (e ∷ t)).frame f ≡ (state_after setup t).frame f
+  comp_on f has = carries.stays.frame f (comp_fixed ((state_after setup t).frame f) has.comp) has.guarded
+    where
+      comp_fixed : (x : Frame) → IsTrue (fits comp_kind x) → IsTrue (is_fixed x)
+      comp_fixed (Kernel (Comp k)) h = refl
+      comp_fixed _ h = absurd (false≢true h)
+
+  pub has_comp_on : (f : ℕ) → HasComp (state_after setup t) c f → HasComp (state_after setup (e ∷ t)) c f
+  has_comp_on f has = record {
+    comp = subst (λ x. IsTrue (fits comp_kind x)) (sym (comp_on f has)) has.comp;
+    guarded = carries.stays.guarded f has.guarded;
+  }
+
+  pub life_on : (f : ℕ) (life : CompWord) → HasComp (state_after setup t) c f → HasLife (state_after setup t) f life
+      → HasLife (state_after setup (e ∷ t)) f life
+  life_on f life comp has = record {
+    number = ap (λ x. (comp_in x).number) (comp_on f comp) ∙ has.number;
+    epoch = ap (λ x. (comp_in x).epoch) (comp_on f comp) ∙ has.epoch;
+  }
+
+  pub read_on : (o read : Option ℕ) → ReadIs (state_after setup t) c o read → ReadIs (state_after setup (e ∷ t)) c o read
+  read_on None read has = tt
+  read_on (Some f) read has = record {
+    comp = has_comp_on f has.comp;
+    life = has.life;
+    has_life = life_on f has.life has.comp has.has_life;
+    fits = has.fits;
+    epoch = has.epoch;
+  }
+
+  pub read_before_on : (o read : Option ℕ) (next : Next) → ReadBefore (state_after setup t) c o read next
+      → ReadBefore (state_after setup (e ∷ t)) c o read next
+  read_before_on o read (NextName n wanted) has = has
+  read_before_on o read (NextFree target) has = read_on o read has
+  read_before_on o read (NextHeld target) has = has
+  read_before_on o read (NextOwn v) has = has
+  read_before_on o read NextNothing has = has
+
   fill_on : (of : Call) (plan : Plan) (caps : List Capability) (upto : ℕ) (fill : Fill)
       → ((f i : ℕ) → own_read (e ∷ t) c (EntryAt f i) ≡ own_read t c (EntryAt f i))
       → IsFill setup t c of plan caps upto fill → IsFill setup (e ∷ t) c of plan caps upto fill
@@ -210,6 +250,8 @@ module _ (setup : Setting) (setting : IsSetting setup) (t : Trace) (e : Step) (l
         (carries.place_rises fill.node fill.entry (slot_relies setup setting t legal c call is_open has.target
         (record { node = fill.node; index = fill.entry }) has.way)) has.vacant;
     fits = has.fits;
+    read = has.read;
+    has_read = read_on (reads_of of caps) has.read has.has_read;
     puts = has.puts;
   }
 
@@ -288,26 +330,6 @@ module _ (setup : Setting) (setting : IsSetting setup) (t : Trace) (e : Step) (l
       head_on (charge_load f ticks) is = tt
       head_on (charge_compare f ticks budget version) is = record { own = same f 0 ∙ is.own; fits = is.fits }
 
-  comp_on : (f : ℕ) → HasComp (state_after setup t) c f → (state_after setup (e ∷ t)).frame f ≡ (state_after setup t).frame f
-  comp_on f has = carries.stays.frame f (comp_fixed ((state_after setup t).frame f) has.comp) has.guarded
-    where
-      comp_fixed : (x : Frame) → IsTrue (fits comp_kind x) → IsTrue (is_fixed x)
-      comp_fixed (Kernel (Comp k)) h = refl
-      comp_fixed _ h = absurd (false≢true h)
-
-  pub has_comp_on : (f : ℕ) → HasComp (state_after setup t) c f → HasComp (state_after setup (e ∷ t)) c f
-  has_comp_on f has = record {
-    comp = subst (λ x. IsTrue (fits comp_kind x)) (sym (comp_on f has)) has.comp;
-    guarded = carries.stays.guarded f has.guarded;
-  }
-
-  pub life_on : (f : ℕ) (life : CompWord) → HasComp (state_after setup t) c f → HasLife (state_after setup t) f life
-      → HasLife (state_after setup (e ∷ t)) f life
-  life_on f life comp has = record {
-    number = ap (λ x. (comp_in x).number) (comp_on f comp) ∙ has.number;
-    epoch = ap (λ x. (comp_in x).epoch) (comp_on f comp) ∙ has.epoch;
-  }
-
   killing_on : (f : ℕ) (at : KillingAt) → ((l : ℕ) → own_read (e ∷ t) c (LiveAt l) ≡ own_read t c (LiveAt l))
       → HasComp (state_after setup t) c f → KnowsKillingAt setup t c f at → KnowsKillingAt setup (e ∷ t) c f at
   killing_on f LoadComp same comp has = tt
@@ -365,7 +387,17 @@ module _ (setup : Setting) (setting : IsSetting setup) (t : Trace) (e : Step) (l
   work_on : (table : ℕ) (a : ActiveCall) (work : Work) → ((w : Word) → own_read (e ∷ t) c w ≡ own_read t c w)
       → ((f i : ℕ) → stores_of work f ≡ true → last_left setup (e ∷ t) (EntryAt f i) ≡ last_left setup t (EntryAt f i))
       → KnowsWork setup t c table a work → KnowsWork setup (e ∷ t) c table a work
-  work_on table a (Lookup look) same stored has = looks_for_on table (next_of a.plan a.found) look has
+  work_on table a (Lookup look) same stored has = record {
+    looks = looks_for_on table (next_of a.plan a.found) look has.looks;
+    has_read = read_before_on (reads_of a.call a.found) a.read (next_of a.plan a.found) has.has_read;
+  }
+  work_on table a (Read f look) same stored has = record {
+    target = has.target;
+    next = has.next;
+    looks = looks_on has.target look has.looks;
+    reads = has.reads;
+    comp = has_comp_on f has.comp;
+  }
   work_on table a (Scan q act) same stored has = quiet_on a q act (reads_same act same stored) has
   work_on table a (Acquire pin change act) same stored has = record {
     knows = act_on a.call a.plan a.found setup.cores act (reads_same act same stored) has.knows;

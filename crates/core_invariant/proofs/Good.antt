@@ -6,7 +6,7 @@ use Rattle.call_acts.specs.declared.objects.NewObject.{NewObject}
 use Rattle.call_acts.specs.Makings.{is_marked}
 use Rattle.call_acts.specs.declared.makings.MakingAt.TheVariants.{Load as making_load, Mark, Store, Fill as making_fill}
 use Rattle.call_acts.specs.declared.makings.MakingAt.{MakingAt}
-use Rattle.call_acts.specs.declared.work.Work.TheVariants.{Lookup, Scan, Acquire, Act as act_work}
+use Rattle.call_acts.specs.declared.work.Work.TheVariants.{Lookup, Read, Scan, Acquire, Act as act_work}
 use Rattle.call_acts.specs.declared.work.Work.{Work}
 use Rattle.call_acts.specs.declared.work.Act.TheVariants.{Fill as fill_act, Remove as remove_act, Retype as type_act, Make as make_act, Outside, Tick as tick_act, Kill as kill_act}
 use Rattle.call_acts.specs.declared.work.Act.{Act as ActOf}
@@ -126,6 +126,7 @@ scans_nothing (kill_act m) f starts = refl
 filled_work : (setup : Setting) (t : Trace) (c table f : ℕ) (a : ActiveCall) (work : Work) (h : Holding) → KnowsWork setup t c table a work
     → stores_of work f ≡ true → IsFilled (holds_work work h) f
 filled_work setup t c table f a (Lookup look) h knows is = absurd (false≢true is)
+filled_work setup t c table f a (Read comp look) h knows is = absurd (false≢true is)
 filled_work setup t c table f a (Scan (AtCore at core upto page) act) h knows is =
     absurd (false≢true (sym (scans_nothing act f knows.starts) ∙ is))
 filled_work setup t c table f a (Scan (AtFlush at upto) act) h knows is = absurd knows

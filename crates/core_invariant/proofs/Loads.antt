@@ -55,9 +55,14 @@ step_to c enters move found decides returns = record {
   returns = returns;
 }
 
--- A call after one step more, whose names have led to these and which stands at this stage.
+-- A call after one step more, whose names have led to these, which has read this, and which stands at this stage.
+abbrev pub next_with : ActiveCall → List Capability → Option ℕ → Stage → ActiveCall
+next_with a found read stage =
+    record { steps = a.steps + 1; stage = stage; found = found; read = read; counts = a.counts; call = a.call; plan = a.plan }
+
+-- A call after a step that has read nothing more.
 abbrev pub next_at : ActiveCall → List Capability → Stage → ActiveCall
-next_at a found stage = record { steps = a.steps + 1; stage = stage; found = found; counts = a.counts; call = a.call; plan = a.plan }
+next_at a found stage = next_with a found a.read stage
 
 -- The core with so many calls made, and this call.
 abbrev pub core_at : Core → ℕ → ActiveCall → Core
@@ -144,13 +149,13 @@ module _ (setup : Setting) (setting : IsSetting setup) (cores : ℕ → Core) (t
         calm_own (state_after setup t) (state_after setup (inner ∷ t)) c (cores c).own (record (cores c).own { made = made }) calm
         (ap (λ (m : ℕ). record (cores c).own { made = m }) counts) core_is.works
 
-    pub inner_own : returns ≡ None → BeginsNone setup t inner → (made : ℕ) (found : List Capability) (stage : Stage)
-        → IsCore (core_at (cores c) made (next_at a found stage))
+    pub inner_with : returns ≡ None → BeginsNone setup t inner → (made : ℕ) (found : List Capability) (read : Option ℕ) (stage : Stage)
+        → IsCore (core_at (cores c) made (next_with a found read stage))
         → WorksIn (record (cores c).own { made = made }) (state_after setup (inner ∷ t)) c
         → after_decide decides (phase_at a.call a.stage) ≡ phase_at a.call stage
-        → Knows setup (inner ∷ t) c (cores c).own.table (next_at a found stage)
-        → CoreIs setup (core_at (cores c) made (next_at a found stage)) (inner ∷ t) c
-    inner_own none plain made found stage fits works at knows = record {
+        → Knows setup (inner ∷ t) c (cores c).own.table (next_with a found read stage)
+        → CoreIs setup (core_at (cores c) made (next_with a found read stage)) (inner ∷ t) c
+    inner_with none plain made found read stage fits works at knows = record {
       fits = fits;
       number = core_is.number;
       shape = core_is.shape;
@@ -168,26 +173,38 @@ module _ (setup : Setting) (setting : IsSetting setup) (cores : ℕ → Core) (t
       };
     }
 
+    pub inner_own : returns ≡ None → BeginsNone setup t inner → (made : ℕ) (found : List Capability) (stage : Stage)
+        → IsCore (core_at (cores c) made (next_at a found stage))
+        → WorksIn (record (cores c).own { made = made }) (state_after setup (inner ∷ t)) c
+        → after_decide decides (phase_at a.call a.stage) ≡ phase_at a.call stage
+        → Knows setup (inner ∷ t) c (cores c).own.table (next_at a found stage)
+        → CoreIs setup (core_at (cores c) made (next_at a found stage)) (inner ∷ t) c
+    inner_own none plain made found stage fits works at knows = inner_with none plain made found a.read stage fits works at knows
+
     -- the core holds at the next stage what it held
+    pub still_with : (made : ℕ) (found : List Capability) (read : Option ℕ) (stage : Stage) → holds_at stage a.counts ≡ holds_in (Some a)
+        → holds (core_at (cores c) made (next_with a found read stage)) ≡ holds (cores c)
+    still_with made found read stage same = same ∙ ap holds_in (sym active)
+
     pub still_holds : (made : ℕ) (found : List Capability) (stage : Stage) → holds_at stage a.counts ≡ holds_in (Some a)
         → holds (core_at (cores c) made (next_at a found stage)) ≡ holds (cores c)
-    still_holds made found stage same = same ∙ ap holds_in (sym active)
+    still_holds made found stage same = still_with made found a.read stage same
 
     -- a step that leaves its word as found leaves one of 64 bits
     pub kept_small : left_of move (last_left setup t (word_of move)) ≡ last_left setup t (word_of move)
         → left_of move (last_left setup t (word_of move)) < 2 ^ 64
     kept_small kept = subst (λ (n : ℕ). n < 2 ^ 64) (sym kept) (last_small setup setting t stands.legal (word_of move))
 
-  -- An undecided load, after which the call is at this stage; what it knew it still knows.
-  pub loads_on : (move : Move) (found : List Capability) (stage : Stage) → OnlyLooks setup t c a.call move
-      → Lands setup (core_at (cores c) (cores c).own.made (next_at a found stage)) (word_of move)
+  -- An undecided load, after which the call has read this and is at this stage; what it knew it still knows.
+  pub reads_on : (move : Move) (found : List Capability) (read : Option ℕ) (stage : Stage) → OnlyLooks setup t c a.call move
+      → Lands setup (core_at (cores c) (cores c).own.made (next_with a found read stage)) (word_of move)
       → holds_at stage a.counts ≡ holds_in (Some a) → phase_at a.call a.stage ≡ phase_at a.call stage
-      → (Carries setup t (inner move None None) c → Knows setup (inner move None None ∷ t) c (cores c).own.table (next_at a found stage))
-      → IsGood setup cores t (inner move None None) (core_at (cores c) (cores c).own.made (next_at a found stage))
-  loads_on move found stage looks lands same at knows =
+      → (Carries setup t (inner move None None) c → Knows setup (inner move None None ∷ t) c (cores c).own.table (next_with a found read stage))
+      → IsGood setup cores t (inner move None None) (core_at (cores c) (cores c).own.made (next_with a found read stage))
+  reads_on move found read stage looks lands same at knows =
       let e : Step = inner move None None in
-      let after : Core = core_at (cores c) (cores c).own.made (next_at a found stage) in
-      let still = still_holds move None None (cores c).own.made found stage same in
+      let after : Core = core_at (cores c) (cores c).own.made (next_with a found read stage) in
+      let still = still_with move None None (cores c).own.made found read stage same in
       let plain : IsPlain setup t e = record {
         begins = λ x. refl;
         ends = λ x. refl;
@@ -225,9 +242,17 @@ module _ (setup : Setting) (setting : IsSetting setup) (cores : ℕ → Core) (t
         draws = (let d = stands.draws in let b = plain.same in omega arith);
         time = plain_time setup t e plain;
         leaves = tt;
-        own = inner_own move None None refl (plain_begins setup t e plain) (cores c).own.made found stage lands.fits core_is.works at
+        own = inner_with move None None refl (plain_begins setup t e plain) (cores c).own.made found read stage lands.fits core_is.works at
             (knows (carries_own setup setting t stands.legal e follows (plain_time setup t e plain) stands.graces refl refl refl));
       }
+
+  -- An undecided load, after which the call is at this stage, and has read nothing more.
+  pub loads_on : (move : Move) (found : List Capability) (stage : Stage) → OnlyLooks setup t c a.call move
+      → Lands setup (core_at (cores c) (cores c).own.made (next_at a found stage)) (word_of move)
+      → holds_at stage a.counts ≡ holds_in (Some a) → phase_at a.call a.stage ≡ phase_at a.call stage
+      → (Carries setup t (inner move None None) c → Knows setup (inner move None None ∷ t) c (cores c).own.table (next_at a found stage))
+      → IsGood setup cores t (inner move None None) (core_at (cores c) (cores c).own.made (next_at a found stage))
+  loads_on move found stage looks lands same at knows = reads_on move found a.read stage looks lands same at knows
 
   -- A decision at a load or at a lost compare, which leaves all as it was but counts the call.
   pub decides_with : (move : Move) (r : Reply) (tail : Tail) (found : List Capability) → OnlyLooks setup t c a.call move

@@ -18,6 +18,7 @@ use Rattle.kernel_history.specs.Justified.{IsOnWay, IsRaceLost, IsHeldUp}
 use Rattle.kernel_history.specs.Alone.{IsAlone}
 use Rattle.kernel_history.proofs.AloneCalls.{refused_first, nobody_waits}
 use Rattle.kernel_history.proofs.Laws.{not_inside, not_changed}
+use Rattle.call_acts.specs.Acts.{reads_of}
 use Rattle.call_steps.specs.declared.stages.ActiveCall.{ActiveCall}
 use Rattle.call_steps.specs.declared.stages.Stage.{Stage}
 use Rattle.call_plans.specs.declared.plans.Plan.{Plan}
@@ -30,7 +31,7 @@ use Rattle.stage_quiet.specs.declared.quiet.Quiet.TheVariants.{AtCore, AtFlush}
 use Rattle.call_acts.specs.declared.work.Act.{Act as ActOf}
 use Rattle.call_acts.specs.declared.work.Act.TheVariants.{Fill as fill_act, Remove as remove_act, Retype as type_act, Make as make_act, Outside, Tick as tick_act, Kill as kill_act}
 use Rattle.call_acts.specs.declared.work.Work.{Work}
-use Rattle.call_acts.specs.declared.work.Work.TheVariants.{Lookup, Scan, Acquire, Act}
+use Rattle.call_acts.specs.declared.work.Work.TheVariants.{Lookup, Read, Scan, Acquire, Act}
 use Rattle.call_steps.specs.View.{Core}
 use Rattle.kernel_rules.specs.Laws.{calls_counted}
 use Rattle.call_acts.specs.declared.work.Tail.TheVariants.{Nothing}
@@ -86,6 +87,7 @@ ticks_in (kill_act m) = false
 
 abbrev pub ticks_work : Work → Bool
 ticks_work (Lookup look) = false
+ticks_work (Read comp look) = false
 ticks_work (Scan q act) = ticks_in act
 ticks_work (Acquire pin change act) = ticks_in act
 ticks_work (Act act) = ticks_in act
@@ -122,7 +124,11 @@ module _ (setup : Setting) (t : Trace) (c table n : ℕ) where
       → ticks_work work ≡ false → ⊥
   work_ticks a (Lookup look) of plan has is =
       look_ticks a.found look (subst (λ p. NamesAre setup t c table p a.found) (plan ∙ ap plan_for of) has.names)
-      (subst (λ p. LooksFor setup t c table (next_of p a.found) look) (plan ∙ ap plan_for of) has.knows)
+      (subst (λ p. LooksFor setup t c table (next_of p a.found) look) (plan ∙ ap plan_for of) has.knows.looks)
+  work_ticks a (Read f look) of plan has is = none_some (subst (λ x. reads_of x a.found ≡ Some f) of has.knows.reads)
+    where
+      none_some : None ≡ Some f → ⊥
+      none_some h = cc
   work_ticks a (Scan (AtCore at core upto page) act) of plan has is =
       act_ticks a.plan a.found upto act (subst (λ x. KnowsAct setup t c x a.plan a.found upto act) of has.knows.knows) is
   work_ticks a (Scan (AtFlush at upto) act) of plan has is = has.knows

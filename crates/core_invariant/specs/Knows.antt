@@ -26,6 +26,7 @@ use Rattle.frame_words.specs.declared.frame_word.FrameWord.{FrameWord}
 use Rattle.entry_words.specs.EntryWord.{EntryFits, entry_of_word}
 use Rattle.entry_words.specs.declared.entry.Entry.{Entry}
 use Rattle.entry_words.specs.declared.entry.Entry.TheVariants as entry
+use Rattle.frame_words.specs.Comp.{CompFits}
 use Rattle.frame_words.specs.Count.{CountFits, word_of_count}
 use Rattle.frame_words.specs.Live.{live_of_word}
 use Rattle.frame_words.specs.declared.comp_word.CompWord.{CompWord}
@@ -68,7 +69,7 @@ use Rattle.call_acts.specs.declared.work.Act.{Act as ActOf}
 use Rattle.call_acts.specs.declared.work.Act.TheVariants.{Fill as fill_act, Remove as remove_act, Retype as type_act, Make as make_act, Outside, Tick as tick_act, Kill as kill_act}
 use Rattle.call_acts.specs.declared.work.Work.{Work}
 use Rattle.call_acts.specs.declared.work.Due.{Due}
-use Rattle.call_acts.specs.declared.work.Work.TheVariants.{Lookup, Scan, Acquire, Act}
+use Rattle.call_acts.specs.declared.work.Work.TheVariants.{Lookup, Read, Scan, Acquire, Act}
 use Rattle.call_acts.specs.declared.work.Tail.{Tail}
 use Rattle.call_acts.specs.declared.work.Tail.TheVariants.{Nothing, Quiesce, Unmark, StoreDead}
 use Rattle.call_steps.specs.declared.stages.Stage.{Stage}
@@ -78,7 +79,7 @@ use Rattle.stage_quiet.specs.declared.close.Close.{Close}
 use Rattle.stage_quiet.specs.declared.close.Close.TheVariants.{AtCompare as close_compare, AtDraw, AtStore}
 use Rattle.stage_quiet.specs.declared.quiet.Quiet.{Quiet}
 use Rattle.stage_quiet.specs.declared.quiet.Quiet.TheVariants.{AtCore, AtFlush}
-use Rattle.call_acts.specs.Acts.{dues, put_by, removes_by, stamp_of_act}
+use Rattle.call_acts.specs.Acts.{dues, put_by, reads_of, removes_by, stamp_of_act}
 use Rattle.call_steps.specs.View.{Core}
 use Rattle.call_steps.specs.Fits.{IsCore}
 use Rattle.core_invariant.specs.Holding.{count_of, holds_counts, AreApart}
@@ -187,6 +188,29 @@ pub record IsSpot (setup : Setting) (t : Trace) (c : ℕ) (plan : Plan) (ks : Li
   pub own : own_read t c (EntryAt node index) ≡ Some word
   pub vacant : MayFill setup t c (PlaceOf node index) upto (entry_of_word word)
 
+-- A component that no other core may retype.
+pub record HasComp (s : State) (c f : ℕ) : Type 0 where
+  pub comp : IsTrue (fits comp_kind (s.frame f))
+  pub guarded : IsGuarded s c f
+
+-- The component of a frame has this liveness number and epoch.
+pub record HasLife (s : State) (f : ℕ) (life : CompWord) : Type 0 where
+  pub number : (comp_in (s.frame f)).number ≡ life.number
+  pub epoch : (comp_in (s.frame f)).epoch ≡ life.epoch
+
+-- The word of the component in this frame has been read: this is its epoch, and no other core may retype it.
+pub record IsRead (s : State) (c f : ℕ) (read : Option ℕ) : Type 0 where
+  pub comp : HasComp s c f
+  pub life : CompWord
+  pub has_life : HasLife s f life
+  pub fits : CompFits life
+  pub epoch : read ≡ Some life.epoch
+
+-- A call that reads the word of a component, of which this is the frame, before it looks its target up, has read this.
+abbrev pub ReadIs : State → ℕ → Option ℕ → Option ℕ → Type 0
+ReadIs s c None read = Unit {0}
+ReadIs s c (Some f) read = IsRead s c f read
+
 -- The slot of the target is reached, and the call's last step on its entry has read this word there, which it may fill; and what is to
 -- be put there is what the call puts.
 pub record IsFill (setup : Setting) (t : Trace) (c : ℕ) (call : Call) (plan : Plan) (found : List Capability) (upto : ℕ) (fill : Fill) :
@@ -197,7 +221,9 @@ pub record IsFill (setup : Setting) (t : Trace) (c : ℕ) (call : Call) (plan : 
   pub own : own_read t c (EntryAt fill.node fill.entry) ≡ Some fill.word
   pub vacant : MayFill setup t c (PlaceOf fill.node fill.entry) upto (entry_of_word fill.word)
   pub fits : EntryFits (entry.Held fill.cap)
-  pub puts : put_by call found ≡ Some fill.cap
+  pub read : Option ℕ
+  pub has_read : ReadIs (state_after setup t) c (reads_of call found) read
+  pub puts : put_by call found read ≡ Some fill.cap
 
 -- A call that removes what its target holds has reached the target, and may use there what it removes.
 pub record IsRemoval (setup : Setting) (t : Trace) (c : ℕ) (call : Call) (plan : Plan) (found : List Capability) (node index : ℕ)
@@ -338,11 +364,6 @@ abbrev pub KillsBy : Call → List Capability → ℕ → Type 0
 KillsBy (Kill name) (comp ∷ []) f = IsKilled f comp
 KillsBy call ks f = ⊥
 
--- The component of a frame has this liveness number and epoch.
-pub record HasLife (s : State) (f : ℕ) (life : CompWord) : Type 0 where
-  pub number : (comp_in (s.frame f)).number ≡ life.number
-  pub epoch : (comp_in (s.frame f)).epoch ≡ life.epoch
-
 -- The number's word as it was found says that it is live in that epoch.
 pub record SaysLive (life : CompWord) (word : ℕ) : Type 0 where
   pub frame : ℕ
@@ -363,11 +384,6 @@ KnowsKillingAt setup t c f LoadComp = Unit {0}
 KnowsKillingAt setup t c f (LoadLive life) = HasLife (state_after setup t) f life
 KnowsKillingAt setup t c f (kill_close life word) = HasMetLive setup t c f life word
 KnowsKillingAt setup t c f (kill_draw life word) = HasClosed setup t f life word
-
--- A component that no other core may retype.
-pub record HasComp (s : State) (c f : ℕ) : Type 0 where
-  pub comp : IsTrue (fits comp_kind (s.frame f))
-  pub guarded : IsGuarded s c f
 
 pub record KnowsKilling (setup : Setting) (t : Trace) (c : ℕ) (call : Call) (ks : List Capability) (m : Killing) : Type 0 where
   pub kills : KillsBy call ks m.comp
@@ -466,9 +482,30 @@ pub record KnowsActing (setup : Setting) (t : Trace) (c : ℕ) (a : ActiveCall) 
   pub all : dues act ≡ map due_of a.counts
   pub goes : goes_on act ≡ true
 
+-- What a look-up of a target that is to be free knows of what the call has read.
+abbrev pub ReadBefore : State → ℕ → Option ℕ → Option ℕ → Next → Type 0
+ReadBefore s c reads read (NextName n wanted) = Unit {0}
+ReadBefore s c reads read (NextFree target) = ReadIs s c reads read
+ReadBefore s c reads read (NextHeld target) = Unit {0}
+ReadBefore s c reads read (NextOwn v) = Unit {0}
+ReadBefore s c reads read NextNothing = Unit {0}
+
+pub record KnowsLookup (setup : Setting) (t : Trace) (c table : ℕ) (a : ActiveCall) (look : Look) : Type 0 where
+  pub looks : LooksFor setup t c table (next_of a.plan a.found) look
+  pub has_read : ReadBefore (state_after setup t) c (reads_of a.call a.found) a.read (next_of a.plan a.found)
+
+-- What a call knows that is to read the word of this component before this look-up of its target.
+pub record KnowsReading (setup : Setting) (t : Trace) (c : ℕ) (a : ActiveCall) (f : ℕ) (look : Look) : Type 0 where
+  pub target : Target
+  pub next : next_of a.plan a.found ≡ NextFree target
+  pub looks : LooksUp setup t c target look
+  pub reads : reads_of a.call a.found ≡ Some f
+  pub comp : HasComp (state_after setup t) c f
+
 -- And of its work.
 abbrev pub KnowsWork : Setting → Trace → ℕ → ℕ → ActiveCall → Work → Type 0
-KnowsWork setup t c table a (Lookup look) = LooksFor setup t c table (next_of a.plan a.found) look
+KnowsWork setup t c table a (Lookup look) = KnowsLookup setup t c table a look
+KnowsWork setup t c table a (Read comp look) = KnowsReading setup t c a comp look
 KnowsWork setup t c table a (Scan q act) = KnowsQuiet setup t c a q act
 KnowsWork setup t c table a (Acquire pin change act) = KnowsCount setup t c a pin change act
 KnowsWork setup t c table a (Act act) = KnowsActing setup t c a act

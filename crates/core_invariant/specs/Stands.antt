@@ -30,7 +30,7 @@ use Rattle.stage_pins.specs.declared.held.Acquired.{Acquired}
 use Rattle.call_acts.specs.declared.work.Act.{Act}
 use Rattle.call_acts.specs.declared.work.Act.TheVariants.{Fill, Remove, Retype, Make, Outside, Tick, Kill}
 use Rattle.call_acts.specs.declared.work.Work.{Work}
-use Rattle.call_acts.specs.declared.work.Work.TheVariants.{Lookup, Scan, Acquire, Act as act_work}
+use Rattle.call_acts.specs.declared.work.Work.TheVariants.{Lookup, Read, Scan, Acquire, Act as act_work}
 use Rattle.call_acts.specs.declared.work.Tail.{Tail}
 use Rattle.call_acts.specs.declared.work.Tail.TheVariants.{Nothing, Quiesce, Unmark, StoreDead}
 use Rattle.call_steps.specs.View.{Core}
@@ -81,6 +81,7 @@ holds_tail (StoreDead life stamp) h = keeps (LiveAt life.number) (word_of_live (
 
 abbrev pub holds_work : Work → Holding → Holding
 holds_work (Lookup look) h = h
+holds_work (Read comp look) h = h
 holds_work (Scan q act) h = h
 holds_work (Acquire pin change act) h = holds_act act h
 holds_work (act_work act) h = holds_act act h

@@ -8,14 +8,14 @@ use Rattle.call_acts.specs.declared.kills.KillingAt.{KillingAt}
 use Rattle.call_acts.specs.declared.kills.KillingAt.TheVariants.{LoadComp, LoadLive, Close as kill_close, Draw as kill_draw}
 use Rattle.call_acts.specs.declared.makings.MakingAt.TheVariants.{Load as making_load, Mark, Store, Fill as making_fill}
 use Rattle.call_acts.specs.declared.makings.MakingAt.{MakingAt}
-use Rattle.std.proofs.Common.{◌≡◌, ◌≢◌, ℕ, suc, ℤ, pos, negsuc, ◌+◌, ◌++◌, ◌==◌, ◌^◌, ◌<◌, ◌≤◌, map, slice_get, length, length-append, Bool, true, false, if◌then◌else◌, cond, List, [], ◌∷◌, Option, Some, None, IsTrue, inl, inr, arith, refl, sym, ◌∙◌, ap, subst, lt-ltb, not}
+use Rattle.std.proofs.Common.{◌≡◌, ◌≢◌, ℕ, suc, ℤ, pos, negsuc, ◌+◌, ◌++◌, ◌==◌, ◌^◌, ◌<◌, ◌≤◌, map, slice_get, length, length-append, Bool, true, false, if◌then◌else◌, nat_le, cond, List, [], ◌∷◌, Option, Some, None, IsTrue, inl, inr, arith, refl, sym, ◌∙◌, ap, subst, lt-ltb, not}
 use Rattle.std.specs.Prelude.{All, is_some}
 use Rattle.std.proofs.lemmas.Bool.{false≢true, eq-eqb, eqb-true, eqb-false}
 use Rattle.std.proofs.lemmas.List.Elements.{All-nil, All-cons, All-head, All-tail, All-append}
 use Rattle.spk_nums.specs.Setting.{Setting, IsSetting}
 use Rattle.spk_nums.specs.Capability.{Capability}
 use Rattle.spk_nums.specs.declared.calls.Call.{Call}
-use Rattle.spk_nums.specs.declared.calls.Call.TheVariants.{Look, Copy, Remove, Shrink, Unmap, Retype, Make as make_call, Tick, Kill}
+use Rattle.spk_nums.specs.declared.calls.Call.TheVariants.{Look, Copy, Remove, Shrink, Unmap, Retype, Make as make_call, Tick, Gate, Kill}
 use Rattle.spk_nums.specs.declared.replies.Reply.{Reply}
 use Rattle.spk_nums.specs.declared.replies.Reply.TheVariants as reply
 use Rattle.supported_calls.specs.Built.{IsBuilt}
@@ -37,7 +37,13 @@ use Rattle.kernel_history.specs.Discipline.{counts_references, changes_places, r
 use Rattle.kernel_history.specs.Footprint.{IsNearIn, frame_of_cap, frame_at_slot, frame_argument, frames_named, is_one_of, frames_near}
 use Rattle.kernel_history.specs.Ways.{capability_in, target_of}
 use Rattle.kernel_rules.specs.CallRelation.{rule_of}
-use Rattle.kernel_rules.specs.Access.{usable_in}
+use Rattle.spk_nums.specs.declared.kinds.Kind.TheVariants.{Comp as comp_kind, Gate as gate_kind}
+use Rattle.spk_nums.specs.declared.replies.Reply.TheVariants.{WrongCap}
+use Rattle.kernel_rules.specs.Access.{usable_in, only}
+use Rattle.kernel_rules.specs.Rules.{Found, Refused, of_kind}
+use Rattle.kernel_rules.proofs.Sound.{only_is}
+use Rattle.kernel_rules.proofs.Stays.{name_parts}
+use Rattle.call_plans.specs.Plans.{at_place}
 use Rattle.stage_quiet.specs.declared.close.Close.{Close}
 use Rattle.stage_quiet.specs.declared.close.Close.TheVariants.{AtCompare as close_compare, AtDraw, AtStore}
 use Rattle.kernel_history.specs.Trace.{Step, Trace, Open, phase, state_after, last_left, own_read}
@@ -74,7 +80,7 @@ use Rattle.call_acts.specs.declared.work.Work.TheVariants.{Acquire}
 use Rattle.call_steps.specs.declared.stages.Stage.TheVariants.{Undecided, Decided}
 use Rattle.call_steps.specs.declared.stages.ActiveCall.{ActiveCall}
 use Rattle.call_acts.specs.declared.work.WorkStep.TheVariants.{Goes, Acquires}
-use Rattle.call_acts.specs.Acts.{dues, acquires, next_work, put_by, removes_by, undo}
+use Rattle.call_acts.specs.Acts.{dues, acquires, next_work, gate_if, gate_to, put_by, removes_by, undo}
 use Rattle.call_steps.specs.Fits.{CountsAt, HasRoom}
 use Rattle.call_steps.specs.Steps.{GoesOn, landed, went_with, took_count, gives_up}
 use Rattle.call_steps.specs.Tails.{is_ok}
@@ -265,32 +271,69 @@ counts_plain (tick_act charge) before due rest is = absurd (no_due before due re
 counts_plain (kill_act m) before due rest is = refl
 
 -- A call that fills its target changes references, and the frame that it names there is near it: a line a call.
-put_counts : (call : Call) → IsBuilt call → (ks : List Capability) (k : Capability) → put_by call ks ≡ Some k
+put_counts : (call : Call) → IsBuilt call → (ks : List Capability) (read : Option ℕ) (k : Capability) → put_by call ks read ≡ Some k
     → IsTrue (counts_references call)
-put_counts (Look a) built ks k puts = absurd (cc)
-put_counts (Copy a u b) built ks k puts = refl
-put_counts (Remove u b) built ks k puts = absurd (cc)
-put_counts (Shrink u i) built ks k puts = absurd (cc)
-put_counts (Unmap p v) built ks k puts = absurd (cc)
-put_counts (Retype r f j) built ks k puts = absurd (cc)
-put_counts (make_call what r f u b) built ks k puts = absurd (cc)
-put_counts (Tick n) built ks k puts = absurd (cc)
-put_counts (Kill n) built ks k puts = absurd (cc)
-put_counts call built ks k puts = absurd built
+put_counts (Look a) built ks read k puts = absurd (cc)
+put_counts (Copy a u b) built ks read k puts = refl
+put_counts (Remove u b) built ks read k puts = absurd (cc)
+put_counts (Shrink u i) built ks read k puts = absurd (cc)
+put_counts (Unmap p v) built ks read k puts = absurd (cc)
+put_counts (Retype r f j) built ks read k puts = absurd (cc)
+put_counts (make_call what r f u b) built ks read k puts = absurd (cc)
+put_counts (Tick n) built ks read k puts = absurd (cc)
+put_counts (Gate n u b) built ks read k puts = refl
+put_counts (Kill n) built ks read k puts = absurd (cc)
+put_counts call built ks read k puts = absurd built
 
-put_near : (s : State) (c : ℕ) (call : Call) → IsBuilt call → (ks : List Capability) (k : Capability) → put_by call ks ≡ Some k
+cap_same : (j k : Capability) → Some j ≡ Some k → j ≡ k
+cap_same j k h = cc
+
+found_same : (j k : Capability) → Found j ≡ Found k → j ≡ k
+found_same j k h = cc
+
+-- A name that wants a component has led to one.
+wanted_is : (j k : Capability) → of_kind (only comp_kind) j ≡ Found k → k.kind ≡ comp_kind
+wanted_is j k = by (only comp_kind j.kind) refl
+  where
+    by : (b : Bool) → only comp_kind j.kind ≡ b → (if b then Found j else Refused WrongCap) ≡ Found k → k.kind ≡ comp_kind
+    by true is h = ap (λ (x : Capability). x.kind) (sym (found_same j k h)) ∙ only_is comp_kind j.kind (subst IsTrue (sym is) refl)
+    by false is h = absurd (cc)
+
+-- A gate names the frame of the component to which its call's first name has led.
+gate_near : (s : State) (c : ℕ) (n u b : ℕ) (ks : List Capability) (o : Option Capability) (read : Option ℕ) (k : Capability)
+    → at_place ks First ≡ o → gate_to o read ≡ Some k
+    → Leads (LeadsIn s c) (plan_for (Gate n u b)).names [] ks
+    → (f : ℕ) → is_one_of f (named_by k.kind k.frame) ≡ true → is_one_of f (frames_near s c (Gate n u b)) ≡ true
+gate_near s c n u b ks None read k is puts lead f names_it = absurd (cc)
+gate_near s c n u b ks (Some comp) None k is puts lead f names_it = absurd (cc)
+gate_near s c n u b [] (Some comp) (Some epoch) k is puts lead f names_it = absurd (cc)
+gate_near s c n u b (j ∷ ks) (Some comp) (Some epoch) k is puts lead f names_it =
+    near_found s c (Gate n u b) (j ∷ ks) lead First j refl f (by (nat_le 1 epoch) puts)
+  where
+    by : (some : Bool) → gate_if some comp.frame epoch ≡ Some k → is_one_of f (named_by j.kind j.frame) ≡ true
+    by true h =
+        let parts = name_parts s c n (only comp_kind) j lead.0 in
+        subst (λ x. is_one_of f (named_by x j.frame) ≡ true) (sym (wanted_is parts.2 j parts.4))
+        (subst (λ (x : Capability). is_one_of f (x.frame ∷ []) ≡ true) (sym (cap_same j comp is))
+        (subst (λ (x : Capability). is_one_of f (named_by x.kind x.frame) ≡ true)
+        (sym (cap_same (record { kind = gate_kind; frame = comp.frame; arg = epoch }) k h)) names_it))
+    by false h = absurd (cc)
+
+put_near : (s : State) (c : ℕ) (call : Call) → IsBuilt call → (ks : List Capability) (read : Option ℕ) (k : Capability)
+    → put_by call ks read ≡ Some k
     → Leads (LeadsIn s c) (plan_for call).names [] ks
     → (f : ℕ) → is_one_of f (named_by k.kind k.frame) ≡ true → is_one_of f (frames_near s c call) ≡ true
-put_near s c (Look a) built ks k puts lead f names_it = absurd (cc)
-put_near s c (Copy a u b) built ks k puts lead f names_it = near_found s c (Copy a u b) ks lead First k puts f names_it
-put_near s c (Remove u b) built ks k puts lead f names_it = absurd (cc)
-put_near s c (Shrink u i) built ks k puts lead f names_it = absurd (cc)
-put_near s c (Unmap p v) built ks k puts lead f names_it = absurd (cc)
-put_near s c (Retype r g j) built ks k puts lead f names_it = absurd (cc)
-put_near s c (make_call what r g u b) built ks k puts lead f names_it = absurd (cc)
-put_near s c (Tick n) built ks k puts lead f names_it = absurd (cc)
-put_near s c (Kill n) built ks k puts lead f names_it = absurd (cc)
-put_near s c call built ks k puts lead f names_it = absurd built
+put_near s c (Look a) built ks read k puts lead f names_it = absurd (cc)
+put_near s c (Copy a u b) built ks read k puts lead f names_it = near_found s c (Copy a u b) ks lead First k puts f names_it
+put_near s c (Remove u b) built ks read k puts lead f names_it = absurd (cc)
+put_near s c (Shrink u i) built ks read k puts lead f names_it = absurd (cc)
+put_near s c (Unmap p v) built ks read k puts lead f names_it = absurd (cc)
+put_near s c (Retype r g j) built ks read k puts lead f names_it = absurd (cc)
+put_near s c (make_call what r g u b) built ks read k puts lead f names_it = absurd (cc)
+put_near s c (Tick n) built ks read k puts lead f names_it = absurd (cc)
+put_near s c (Gate n u b) built ks read k puts lead f names_it = gate_near s c n u b ks (at_place ks First) read k refl puts lead f names_it
+put_near s c (Kill n) built ks read k puts lead f names_it = absurd (cc)
+put_near s c call built ks read k puts lead f names_it = absurd built
 
 -- The word of an acquired count stands for the word that was found.
 stands_found : (frame core : ℕ) (count change : ℤ) (stamp : ℕ) → CountFits (unheld count stamp)
@@ -687,8 +730,10 @@ pub acquire_good : (setup : Setting) → IsSetting setup → (cores : ℕ → Co
     (pin_end pin (last_left setup t (word_of (pin_move pin))))))
 acquire_good setup setting cores t stands c here a active pin change (fill_act fill) is has =
     acquire_near setup setting cores t stands c here a active pin change (fill_act fill) is has
-    (put_counts a.call (is_active setup setting cores t stands c here a active).built a.found fill.cap has.knows.knows.puts)
-    (λ b. put_near (state_after setup t) c a.call (is_active setup setting cores t stands c here a active).built a.found fill.cap
+    (put_counts a.call (is_active setup setting cores t stands c here a active).built a.found has.knows.knows.read fill.cap
+    has.knows.knows.puts)
+    (λ b. put_near (state_after setup t) c a.call (is_active setup setting cores t stands c here a active).built a.found
+    has.knows.knows.read fill.cap
     has.knows.knows.puts
     (call_leads setup setting cores t stands c here a active has.names) (pin_frame pin)
     (due_named (named_by fill.cap.kind fill.cap.frame) (pos 1) (map due_of a.counts) (record { frame = pin_frame pin; change = change })

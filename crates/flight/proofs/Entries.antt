@@ -5,7 +5,7 @@ use Rattle.spk_nums.specs.Setting.{Setting, IsSetting}
 use Rattle.spk_nums.specs.declared.kinds.Kind.{Kind}
 use Rattle.spk_nums.specs.declared.calls.Call.{Call}
 use Rattle.spk_nums.specs.declared.kinds.FrameKind.TheVariants.{Untyped, User, Kernel}
-use Rattle.spk_nums.specs.declared.calls.Call.TheVariants.{Look as look_call, Copy, Remove, Shrink, Unmap, Retype, Make as make_call, Tick, Kill}
+use Rattle.spk_nums.specs.declared.calls.Call.TheVariants.{Look as look_call, Copy, Remove, Shrink, Unmap, Retype, Make as make_call, Tick, Gate, Kill}
 use Rattle.spk_nums.specs.declared.calls.Make.TheVariants as make
 use Rattle.spk_nums.specs.declared.replies.Reply.TheVariants as reply
 use Rattle.supported_calls.specs.Built.{IsBuilt}
@@ -36,6 +36,7 @@ use Rattle.call_acts.specs.declared.work.Work.TheVariants.{Lookup, Act}
 use Rattle.call_acts.specs.declared.work.Act.{Act as ActOf}
 use Rattle.call_acts.specs.declared.work.Act.TheVariants.{Tick as tick_act}
 use Rattle.stage_tcap.specs.declared.charge.Charge.TheVariants.{AtLoad}
+use Rattle.call_acts.specs.Acts.{reads_of}
 use Rattle.call_acts.specs.Ticks.{ticks_due, charges}
 use Rattle.call_acts.specs.declared.work.WorkStep.TheVariants.{Goes}
 use Rattle.call_acts.specs.declared.work.Tail.TheVariants.{Nothing}
@@ -46,7 +47,7 @@ use Rattle.call_acts.specs.Lookups.{looks_under, next_step}
 use Rattle.call_steps.specs.Steps.{core_word, Took, landed, next_by, took_enter, is_spent}
 use Rattle.call_steps.specs.Cores.{fresh, core_after, told_by}
 use Rattle.core_invariant.specs.Events.{decided_in, returned_in}
-use Rattle.core_invariant.specs.Knows.{LooksUp, own_in, LooksFor, CallIs, ChargesBy}
+use Rattle.core_invariant.specs.Knows.{LooksUp, own_in, LooksFor, ReadBefore, CallIs, ChargesBy}
 use Rattle.core_invariant.specs.Stands.{Stands}
 use Rattle.core_invariant.proofs.Sounds.{limits_of}
 use Rattle.core_invariant.proofs.Good.{IsGood}
@@ -161,8 +162,11 @@ module _ (setup : Setting) (setting : IsSetting setup) (cores : ℕ → Core) (t
         tt
         (record {
           names = tt;
-          knows = subst (λ x. LooksFor setup (e ∷ t) c (cores c).own.table x (AtRoot (cores c).own.table n)) (sym next)
-              (first_looks lands.is_in within);
+          knows = record {
+            looks = subst (λ x. LooksFor setup (e ∷ t) c (cores c).own.table x (AtRoot (cores c).own.table n)) (sym next)
+                (first_looks lands.is_in within);
+            has_read = subst (λ x. ReadBefore (entered s c) c (reads_of call []) None x) (sym next) tt;
+          };
         })
 
     -- by whether its number is within range
@@ -247,6 +251,7 @@ module _ (setup : Setting) (setting : IsSetting setup) (cores : ℕ → Core) (t
   enters_first (make_call (make.Tcap sched quality) r f u b) may built unspent =
       enters_name setup setting cores t stands c here (make_call (make.Tcap sched quality) r f u b) may r _ refl unspent
   enters_first (Tick n) may built unspent = enters_tick setup setting cores t stands c here (Tick n) may n refl unspent
+  enters_first (Gate n u b) may built unspent = enters_name setup setting cores t stands c here (Gate n u b) may n _ refl unspent
   enters_first (Kill n) may built unspent = enters_name setup setting cores t stands c here (Kill n) may n _ refl unspent
   enters_first _ may built unspent = absurd built
 

@@ -56,7 +56,7 @@ use Rattle.call_acts.specs.declared.makings.MakingAt.TheVariants as making
 use Rattle.call_acts.specs.declared.objects.NewObject.{NewObject}
 use Rattle.call_acts.specs.Makings.{making_at}
 use Rattle.call_acts.specs.declared.work.Work.{Work}
-use Rattle.call_acts.specs.declared.work.Work.TheVariants.{Lookup, Scan, Acquire, Act}
+use Rattle.call_acts.specs.declared.work.Work.TheVariants.{Lookup, Read, Scan, Acquire, Act}
 use Rattle.call_steps.specs.declared.stages.Stage.{Stage}
 use Rattle.call_steps.specs.declared.stages.Stage.TheVariants.{Enter, Undecided, Decided, Leave}
 use Rattle.call_steps.specs.declared.stages.ActiveCall.{ActiveCall}
@@ -163,7 +163,8 @@ module _ (setup : Setting) (setting : IsSetting setup) (t : Trace) (cores : ℕ 
 
   by_work : (table : ℕ) (a : ActiveCall) (work : Work) → KnowsWork setup t c table a work → word_of (work_move work) ≡ EntryAt f i
       → reads (work_move work) ≡ true → Rests
-  by_work table a (Lookup look) has on read = by_next table (next_of a.plan a.found) look has on
+  by_work table a (Lookup look) has on read = by_next table (next_of a.plan a.found) look has.looks on
+  by_work table a (Read g look) has on read = inr (inr (subst (HasComp (state_after setup t) c) (ap frame_in on) has.comp))
   by_work table a (Scan (AtCore at by upto page) act) has on read = absurd (cc)
   by_work table a (Scan (AtFlush at upto) act) has on read = absurd (cc)
   by_work table a (Acquire (AtLoad frame core) change act) has on read = absurd (cc)

@@ -26,7 +26,7 @@ use Rattle.call_acts.specs.Fills.{FillFits}
 use Rattle.call_acts.specs.declared.objects.NewObject.{NewObject}
 use Rattle.call_acts.specs.Makings.{MakingAtFits, making_at}
 use Rattle.call_steps.proofs.StepsFit.{last_small}
-use Rattle.call_acts.specs.declared.work.Work.TheVariants.{Lookup, Scan, Acquire, Act as act_work}
+use Rattle.call_acts.specs.declared.work.Work.TheVariants.{Lookup, Read, Scan, Acquire, Act as act_work}
 use Rattle.call_acts.specs.declared.work.Tail.{Tail}
 use Rattle.call_acts.specs.declared.work.Tail.TheVariants.{Nothing, Quiesce, Unmark, StoreDead}
 use Rattle.call_acts.specs.Acts.{ActFits, act_move}
@@ -118,6 +118,7 @@ pub stage_named : (own : Own) (counts : List Acquired) (s : Stage)
     → shared (word_of (stage_move own counts s)) ≡ word_of (stage_move own counts s)
 stage_named own counts Enter = refl
 stage_named own counts (Undecided (Lookup look)) = look_named look
+stage_named own counts (Undecided (Read comp look)) = refl
 stage_named own counts (Undecided (Scan q act)) = quiet_named q
 stage_named own counts (Undecided (Acquire pin change act)) = pin_named pin
 stage_named own counts (Undecided (act_work act)) = act_named act
@@ -167,6 +168,7 @@ stage_in : (own : Own) (counts : List Acquired) (s : Stage) → own.core < own.l
     → IsIn own.layout (word_of (stage_move own counts s))
 stage_in own counts Enter here acquired fits = here
 stage_in own counts (Undecided (Lookup look)) here acquired fits = look_is_in own.layout look fits
+stage_in own counts (Undecided (Read comp look)) here acquired fits = (fits.0, omega arith)
 stage_in own counts (Undecided (Scan q act)) here acquired fits = quiet_is_in own.layout q fits.0
 stage_in own counts (Undecided (Acquire pin change act)) here acquired fits = pin_is_in own.layout pin fits.0
 stage_in own counts (Undecided (act_work act)) here acquired fits = act_in own.layout act fits

@@ -7,7 +7,7 @@ use Rattle.spk_nums.specs.Capability.{Capability}
 use Rattle.spk_nums.specs.Setting.{Setting, IsSetting}
 use Rattle.spk_nums.specs.declared.kinds.Kind.TheVariants as kind
 use Rattle.spk_nums.specs.declared.calls.Call.{Call}
-use Rattle.spk_nums.specs.declared.calls.Call.TheVariants.{Look, Copy, Remove, Shrink, Unmap, Retype, Make as make_call, Tick, Kill}
+use Rattle.spk_nums.specs.declared.calls.Call.TheVariants.{Look, Copy, Remove, Shrink, Unmap, Retype, Make as make_call, Tick, Gate, Kill}
 use Rattle.spk_nums.specs.declared.kinds.Kind.{Kind}
 use Rattle.supported_calls.specs.Built.{IsBuilt}
 use Rattle.spk_nums.specs.declared.replies.Value.TheVariants.{Nothing}
@@ -19,7 +19,7 @@ use Rattle.entry_words.proofs.Spelling.{spelling}
 use Rattle.word_map.specs.Word.{Word, EntryAt, CountAt}
 use Rattle.word_map.specs.Moves.{Move, CompareOf, left_of}
 use Rattle.spk_nums.specs.WordSteps.{left_if}
-use Rattle.kernel_rules.specs.State.{Place, comp_of, Free as Vacant, Holds, Quiescing as Removed, Frame, Kernel, Table, Leaf, Pages, Pleaf, Thing, PlaceOf, FrameOf, State, with_place}
+use Rattle.kernel_rules.specs.State.{Place, comp_of, comp_in, Free as Vacant, Holds, Quiescing as Removed, Frame, Kernel, Table, Leaf, Pages, Pleaf, Thing, PlaceOf, FrameOf, State, with_place}
 use Rattle.kernel_rules.specs.Access.{Slot, found, Target, Under, InRoot, only, place_at, usable_in, linked, slot_in, root_slot, reached, own}
 use Rattle.kernel_rules.specs.Rules.{Found, IsFoundAnd, Vacant as to_be_free, Does, and_then, or_refuse, unless, not_vacant, named, outcome, fills}
 use Rattle.kernel_rules.specs.CallRelation.{MayReply, rule_of, ends_by, flushes_by, changed, change_of, counted, begins_in}
@@ -52,7 +52,7 @@ use Rattle.call_acts.specs.declared.work.Tail.TheVariants.{Nothing as no_tail}
 use Rattle.call_steps.specs.declared.stages.Stage.TheVariants.{Undecided, Decided}
 use Rattle.call_steps.specs.declared.stages.ActiveCall.{ActiveCall}
 use Rattle.call_acts.specs.Fills.{FillFits, filled_if, fill_move}
-use Rattle.call_acts.specs.Acts.{cap_dues, put_by}
+use Rattle.call_acts.specs.Acts.{cap_dues, gate_if, gate_to, put_by, reads_of}
 use Rattle.call_steps.proofs.StepsFit.{cap_one}
 use Rattle.kernel_rules.specs.References.{named_by, times, refs}
 use Rattle.core_invariant.proofs.WordFrames.{reads_alike}
@@ -69,7 +69,7 @@ use Rattle.call_steps.specs.Steps.{landed}
 use Rattle.call_steps.specs.View.{Core}
 use Rattle.call_steps.specs.Fits.{StageFits, HasRoom}
 use Rattle.core_invariant.specs.Words.{PlaceIs, IsFrameWord, WordIs}
-use Rattle.core_invariant.specs.Knows.{HasFound, MayFill, KnowsUndecided, own_in, phase_at}
+use Rattle.core_invariant.specs.Knows.{HasFound, IsRead, ReadIs, MayFill, KnowsUndecided, own_in, phase_at}
 use Rattle.core_invariant.specs.Stands.{holds_at, holds_in, holds, times_of, Stands}
 use Rattle.core_invariant.proofs.Carries.{own_kept, slot_relies}
 use Rattle.core_invariant.proofs.Loads.{IsOfCall, next_at, core_at, inner, call_is, is_active}
@@ -438,11 +438,24 @@ target_in p q is = cc
 cap_same : (k j : Capability) → Some k ≡ Some j → k ≡ j
 cap_same k j is = cc
 
+-- A gate carries the epoch of its component, which the call has read.
+gate_is : (s : State) (c : ℕ) (comp q : Capability) (read : Option ℕ) → IsRead s c comp.frame read → gate_to (Some comp) read ≡ Some q
+    → record { kind = kind.Gate; frame = comp.frame; arg = (comp_in (s.frame comp.frame)).epoch } ≡ q
+gate_is s c comp q read has puts =
+    ap (λ (n : ℕ). record { kind = kind.Gate; frame = comp.frame; arg = n }) has.has_life.epoch
+    ∙ by (nat_le 1 has.life.epoch) (ap (gate_to (Some comp)) (sym has.epoch) ∙ puts)
+  where
+    by : (some : Bool) → gate_if some comp.frame has.life.epoch ≡ Some q
+        → record { kind = kind.Gate; frame = comp.frame; arg = has.life.epoch } ≡ q
+    by true h = cap_same (record { kind = kind.Gate; frame = comp.frame; arg = has.life.epoch }) q h
+    by false h = absurd (cc)
+
 -- What a call puts at its target is what its rule puts there: a line a call that fills.
 puts_by : (s : State) (c : ℕ) (target : Target) (q : Capability) (call : Call) → IsBuilt call → (ks : List Capability)
     → Leads (LeadsIn s c) (plan_for call).names [] ks → names_after (plan_for call).names ks ≡ []
-    → next_of (plan_for call) ks ≡ NextFree target → put_by call ks ≡ Some q → Puts s c call ks target q
-puts_by s c target q (Copy a u b) built (k ∷ j ∷ []) lead none next puts =
+    → next_of (plan_for call) ks ≡ NextFree target → (read : Option ℕ) → ReadIs s c (reads_of call ks) read → put_by call ks read ≡ Some q
+    → Puts s c call ks target q
+puts_by s c target q (Copy a u b) built (k ∷ j ∷ []) lead none next read has_read puts =
     subst (λ (q : Capability). Puts s c (Copy a u b) (k ∷ j ∷ []) target q) (cap_same k q puts)
     (subst (λ p. Puts s c (Copy a u b) (k ∷ j ∷ []) p k) (target_in (Under (found j) b) target next)
     (record {
@@ -455,24 +468,47 @@ puts_by s c target q (Copy a u b) built (k ∷ j ∷ []) lead none next puts =
       ends = λ x. refl;
       flushes = refl;
     }))
-puts_by s c target q (Copy a u b) built [] lead none next puts = absurd (not_none none)
+puts_by s c target q (Copy a u b) built [] lead none next read has_read puts = absurd (not_none none)
   where
     not_none : any_cap a ∷ of_kind kind.Table u ∷ [] ≡ [] → ⊥
     not_none h = cc
-puts_by s c target q (Copy a u b) built (k ∷ []) lead none next puts = absurd (not_none none)
+puts_by s c target q (Copy a u b) built (k ∷ []) lead none next read has_read puts = absurd (not_none none)
   where
     not_none : of_kind kind.Table u ∷ [] ≡ [] → ⊥
     not_none h = cc
-puts_by s c target q (Copy a u b) built (k ∷ j ∷ i ∷ ks) lead none next puts = absurd lead.1.1
-puts_by s c target q (Look a) built ks lead none next puts = absurd (cc)
-puts_by s c target q (Remove u b) built ks lead none next puts = absurd (cc)
-puts_by s c target q (Shrink u i) built ks lead none next puts = absurd (cc)
-puts_by s c target q (Unmap p v) built ks lead none next puts = absurd (cc)
-puts_by s c target q (Retype r f k) built ks lead none next puts = absurd (cc)
-puts_by s c target q (make_call what r f u b) built ks lead none next puts = absurd (cc)
-puts_by s c target q (Tick n) built ks lead none next puts = absurd (cc)
-puts_by s c target q (Kill n) built ks lead none next puts = absurd (cc)
-puts_by s c target q call built ks lead none next puts = absurd built
+puts_by s c target q (Copy a u b) built (k ∷ j ∷ i ∷ ks) lead none next read has_read puts = absurd lead.1.1
+puts_by s c target q (Look a) built ks lead none next read has_read puts = absurd (cc)
+puts_by s c target q (Remove u b) built ks lead none next read has_read puts = absurd (cc)
+puts_by s c target q (Shrink u i) built ks lead none next read has_read puts = absurd (cc)
+puts_by s c target q (Unmap p v) built ks lead none next read has_read puts = absurd (cc)
+puts_by s c target q (Retype r f k) built ks lead none next read has_read puts = absurd (cc)
+puts_by s c target q (make_call what r f u b) built ks lead none next read has_read puts = absurd (cc)
+puts_by s c target q (Tick n) built ks lead none next read has_read puts = absurd (cc)
+puts_by s c target q (Gate n u b) built (k ∷ j ∷ []) lead none next read has_read puts =
+    subst (λ (q : Capability). Puts s c (Gate n u b) (k ∷ j ∷ []) target q) (gate_is s c k q read has_read puts)
+    (subst (λ p. Puts s c (Gate n u b) (k ∷ j ∷ []) p
+    (record { kind = kind.Gate; frame = k.frame; arg = (comp_in (s.frame k.frame)).epoch })) (target_in (Under (found j) b) target next)
+    (record {
+      rule = refl;
+      places = refl;
+      leaf = λ setup setting t legal in_call same at is. subst (λ x. x.frame at.node ≡ Kernel Leaf) (sym same)
+          (in_leaf setup setting t legal c (Gate n u b) in_call u b j at
+          (subst (λ x. named x c u (only kind.Table) ≡ Found j) same lead.1.0)
+          (subst (λ x. reached x c (Under (found j) b) ≡ Some at) same is));
+      ends = λ x. refl;
+      flushes = refl;
+    }))
+puts_by s c target q (Gate n u b) built [] lead none next read has_read puts = absurd (not_none none)
+  where
+    not_none : of_kind kind.Comp n ∷ of_kind kind.Table u ∷ [] ≡ [] → ⊥
+    not_none h = cc
+puts_by s c target q (Gate n u b) built (k ∷ []) lead none next read has_read puts = absurd (not_none none)
+  where
+    not_none : of_kind kind.Table u ∷ [] ≡ [] → ⊥
+    not_none h = cc
+puts_by s c target q (Gate n u b) built (k ∷ j ∷ i ∷ ks) lead none next read has_read puts = absurd lead.1.1
+puts_by s c target q (Kill n) built ks lead none next read has_read puts = absurd (cc)
+puts_by s c target q call built ks lead none next read has_read puts = absurd built
 
 module _ (setup : Setting) (setting : IsSetting setup) (cores : ℕ → Core) (t : Trace) (stands : Stands setup cores t) (c : ℕ)
     (here : c < setup.cores)
@@ -501,4 +537,4 @@ module _ (setup : Setting) (setting : IsSetting setup) (cores : ℕ → Core) (t
       (plan_leads setup setting cores t stands c here a active has.names))
       (subst (λ (p : Plan). names_after p.names a.found ≡ []) plan_is none_left)
       (ap (λ p. next_of p a.found) (sym plan_is) ∙ has.knows.knows.next)
-      has.knows.knows.puts)
+      has.knows.knows.read has.knows.knows.has_read has.knows.knows.puts)

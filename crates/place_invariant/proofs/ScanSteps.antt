@@ -342,6 +342,8 @@ scan_good setup setting cores t stands c here a active (AtCore x by at page) act
           own = spot.own;
           vacant = spot.vacant;
           fits = knows.knows.knows.fits;
+          read = knows.knows.knows.read;
+          has_read = knows.knows.knows.has_read;
           puts = knows.knows.knows.puts;
         }) (λ out. absurd (false≢true (sym out)))
     by_act (make_act m) is knows =

@@ -36,6 +36,7 @@ pub fn is_built(call: &Call) -> bool
             }
             | Call::Unmap { .. }
             | Call::Tick { .. }
+            | Call::Gate { .. }
             | Call::Kill { .. }
     )
 }

@@ -179,7 +179,7 @@ module _ (setup : Setting) (setting : IsSetting setup) (cores : ℕ → Core) (t
       (gone_with setup t c (own_in (cores c).own.table n) at answer refl refl (own_kept t answer c refl refl) arrives))
 
   pub looked_good : GoodTook setup cores t c (LoadOf (EntryAt at.node at.index))
-      (landed (found_more a (k ∷ [])) (act_begun (cores c).own (look_call n) (k ∷ []) None))
+      (landed (found_more a (k ∷ [])) (act_begun (cores c).own (look_call n) (k ∷ []) None None))
   looked_good lands =
       decides_on setup setting cores t stands c here a active (LoadOf (EntryAt at.node at.index)) (reply.Ok (Cap k)) (k ∷ []) looks
       lands (ap (holds_counts (Some None)) no_counts ∙ sym (ap (holds_counts None) no_counts) ∙ sym held_is) opens

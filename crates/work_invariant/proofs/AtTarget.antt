@@ -2,14 +2,14 @@
 -- frame is out of range.
 use Rattle.std.specs.Prelude.{IsSome}
 use Rattle.std.proofs.Common.{◌≡◌, inl, ℕ, ◌<◌, ◌&&◌, nat_lt, Bool, true, false, List, [], ◌∷◌, Option, Some, refl, sym, ◌∙◌, ap, subst, IsTrue}
-use Rattle.std.proofs.lemmas.Bool.{lt-ltb, false≢true}
+use Rattle.std.proofs.lemmas.Bool.{lt-ltb, le-leb, false≢true}
 use Rattle.spk_nums.specs.Capability.{Capability}
 use Rattle.spk_nums.specs.Setting.{Setting, IsSetting}
 use Rattle.spk_nums.specs.declared.kinds.FrameKind.TheVariants as frame_kind
 use Rattle.spk_nums.specs.declared.kinds.Kind.{Kind}
 use Rattle.spk_nums.specs.declared.kinds.Kind.TheVariants as kind
 use Rattle.spk_nums.specs.declared.calls.Call.{Call}
-use Rattle.spk_nums.specs.declared.calls.Call.TheVariants.{Look as look_call, Copy, Remove, Shrink, Unmap, Retype, Make as make_call, Tick, Kill}
+use Rattle.spk_nums.specs.declared.calls.Call.TheVariants.{Look as look_call, Copy, Remove, Shrink, Unmap, Retype, Make as make_call, Tick, Gate, Kill}
 use Rattle.spk_nums.specs.declared.calls.Make.{Make}
 use Rattle.spk_nums.specs.declared.calls.Make.TheVariants as make
 use Rattle.supported_calls.specs.Built.{IsBuilt, IsObjectMade}
@@ -43,21 +43,21 @@ use Rattle.call_acts.specs.declared.objects.NewObject.TheVariants as objects
 use Rattle.call_acts.specs.declared.work.Act.{Act as ActOf}
 use Rattle.call_acts.specs.declared.work.Act.TheVariants.{Outside}
 use Rattle.call_acts.specs.Objects.{object_made}
-use Rattle.call_acts.specs.Acts.{scans, stamp_in, stamp_shown, stamp_of_act, filling, making, making_if, makes_at, act_begun}
-use Rattle.core_invariant.specs.Knows.{IsSpot, KnowsAct, OutsideBy, is_start, goes_on}
+use Rattle.call_acts.specs.Acts.{gate_if, gate_to, put_by, reads_of, fills_with, scans, stamp_in, stamp_shown, stamp_of_act, filling, making, making_if, makes_at, act_begun}
+use Rattle.core_invariant.specs.Knows.{IsRead, ReadIs, IsSpot, KnowsAct, OutsideBy, is_start, goes_on}
 use Rattle.core_invariant.proofs.Sounds.{limits_of}
 use Rattle.place_invariant.proofs.ObjectMakes.{TwoFound, object_make}
 use Rattle.work_invariant.proofs.AtName.{range_below}
 
 -- What such a call begins with where it has found its place: an act, which starts after a scan, if there is one; what it knows of it where
 -- it may fill the place; and one that is out of range is so by the call.
-pub record Begins (own : Own) (call : Call) (plan : Plan) (ks : List Capability) (c : ℕ) (f : Found) : Type 0 where
+pub record Begins (own : Own) (call : Call) (plan : Plan) (ks : List Capability) (read : Option ℕ) (c : ℕ) (f : Found) : Type 0 where
   pub act : ActOf
-  pub begins : act_begun own call ks (Some f) ≡ scans own.core (quiet_scan (stamp_in f.value) own.core own.layout.cores false) act
+  pub begins : act_begun own call ks read (Some f) ≡ scans own.core (quiet_scan (stamp_in f.value) own.core own.layout.cores false) act
   pub stamp : stamp_of_act act ≡ stamp_shown (entry_of_word f.word)
   pub starts : is_start act ≡ true
   pub knows : (setup : Setting) (t : Trace) (upto : ℕ) → IsSpot setup t c plan ks upto f.node f.entry f.word
-      → KnowsAct setup t c call plan ks upto act
+      → ReadIs (state_after setup t) c (reads_of call ks) read → KnowsAct setup t c call plan ks upto act
   pub outside : goes_on act ≡ false → OutsideBy call ks
 
 -- A range that is named ends within the machine's frames, and so each of its frames is one of them.
@@ -85,23 +85,25 @@ was_while_open P setup [] c call is now = absurd (not_out is)
     not_out h = cc
 was_while_open P setup (e ∷ t) c call is now = inl now
 
-module _ (own : Own) (plan : Plan) (c : ℕ) (own_core : own.core ≡ c) (at : Found) where
+module _ (own : Own) (plan : Plan) (read : Option ℕ) (c : ℕ) (own_core : own.core ≡ c) (at : Found) where
   -- it fills the place
   begins_fill : (call : Call) (ks : List Capability) (k : Capability)
-      → act_begun own call ks (Some at) ≡ scans own.core (quiet_scan (stamp_in at.value) own.core own.layout.cores false) (filling k at)
-      → EntryFits (entry.Held k) → Rattle.call_acts.specs.Acts.put_by call ks ≡ Some k → Begins own call plan ks c at
+      → act_begun own call ks read (Some at) ≡ scans own.core (quiet_scan (stamp_in at.value) own.core own.layout.cores false) (filling k at)
+      → EntryFits (entry.Held k) → put_by call ks read ≡ Some k → Begins own call plan ks read c at
   begins_fill call ks k begins fits puts = record {
     act = filling k at;
     begins = begins;
     stamp = refl;
     starts = refl;
-    knows = λ setup t upto spot. record {
+    knows = λ setup t upto spot reads. record {
       target = spot.target;
       next = spot.next;
       way = spot.way;
       own = spot.own;
       vacant = spot.vacant;
       fits = fits;
+      read = read;
+      has_read = reads;
       puts = puts;
     };
     outside = λ out. absurd (false≢true (sym out));
@@ -117,20 +119,20 @@ module _ (own : Own) (plan : Plan) (c : ℕ) (own_core : own.core ≡ c) (at : F
     scan act = scans own.core (quiet_scan (stamp_in at.value) own.core own.layout.cores false) act
 
     within_is : (has : Bool) → has_frame (found range) f ≡ has
-        → act_begun own (make_call what r f u b) ks (Some at) ≡ scan (making_if (has && nat_lt f own.layout.frames) own object f at)
+        → act_begun own (make_call what r f u b) ks read (Some at) ≡ scan (making_if (has && nat_lt f own.layout.frames) own object f at)
     within_is has by = ap (λ o. makes_at own o (Some range) f (Some at)) is
         ∙ ap (λ b. scan (making_if (b && nat_lt f own.layout.frames) own object f at)) by
 
-    begins_make : (has_frame (found range) f ≡ true → f < own.layout.frames) → Begins own (make_call what r f u b) plan ks c at
+    begins_make : (has_frame (found range) f ≡ true → f < own.layout.frames) → Begins own (make_call what r f u b) plan ks read c at
     begins_make below = by (has_frame (found range) f) refl
       where
-        by : (has : Bool) → has_frame (found range) f ≡ has → Begins own (make_call what r f u b) plan ks c at
+        by : (has : Bool) → has_frame (found range) f ≡ has → Begins own (make_call what r f u b) plan ks read c at
         by true has = record {
           act = making own object f at;
           begins = within_is true has ∙ ap (λ b. scan (making_if b own object f at)) (lt-ltb f own.layout.frames (below has));
           stamp = refl;
           starts = refl;
-          knows = λ setup t upto spot. record {
+          knows = λ setup t upto spot reads. record {
             spot = spot;
             makes = record { frame = refl; object = is; within = has };
             core = own_core;
@@ -144,12 +146,26 @@ module _ (own : Own) (plan : Plan) (c : ℕ) (own_core : own.core ≡ c) (at : F
           begins = within_is false has;
           stamp = refl;
           starts = refl;
-          knows = λ setup t upto spot. record {
+          knows = λ setup t upto spot reads. record {
             spot = spot;
             outside = record { object = subst (λ (o : Option NewObject). IsSome o) (sym is) refl; outside = has };
           };
           outside = λ out. record { object = subst (λ (o : Option NewObject). IsSome o) (sym is) refl; outside = has };
         }
+
+-- The gate to a component whose word a call has read.
+record GateOf (comp : Capability) (read : Option ℕ) : Type 0 where
+  cap : Capability
+  is : gate_to (Some comp) read ≡ Some cap
+  fits : EntryFits (entry.Held cap)
+
+gate_of : (s : State) (c : ℕ) (comp : Capability) (read : Option ℕ) → IsRead s c comp.frame read → EntryFits (entry.Held comp)
+    → GateOf comp read
+gate_of s c comp read has fits = record {
+  cap = record { kind = kind.Gate; frame = comp.frame; arg = has.life.epoch };
+  is = ap (gate_to (Some comp)) has.epoch ∙ ap (λ b. gate_if b comp.frame has.life.epoch) (le-leb 1 has.life.epoch has.fits.1.0);
+  fits = (fits.0, has.fits.1.0, has.fits.1.1);
+}
 
 -- The object that a call makes whose names have all led to something.
 made_of : (what : Make) → IsObjectMade what → (r f u b : ℕ) (ks : List Capability)
@@ -176,55 +192,63 @@ made_of (make.Thread comp) built r f u b (k ∷ j ∷ i ∷ ks) none R by = by (
 made_of (make.Comp table pages live) built r f u b ks none R by = absurd built
 
 pub begins_free : (own : Own) (call : Call) → IsBuilt call → (spot : Spot) → (plan_for call).target ≡ Free spot
-    → (s : State) (plan : Plan) (ks : List Capability) (c : ℕ) → own.core ≡ c
+    → (s : State) (plan : Plan) (ks : List Capability) (read : Option ℕ) (c : ℕ) → own.core ≡ c
     → names_after (plan_for call).names ks ≡ [] → Leads (LeadsIn s c) (plan_for call).names [] ks
     → ((k : Capability) → at_place ks First ≡ Some k → EntryFits (entry.Held k))
     → ((r f : ℕ) (range : Capability) → named s c r (only kind.Range) ≡ Found_it range → has_frame (found range) f ≡ true
     → f < own.layout.frames)
-    → (at : Found) → Begins own call plan ks c at
-begins_free own (look_call a) built spot to s plan ks c core none leads fits within at = absurd (not_free to)
+    → ReadIs s c (reads_of call ks) read
+    → (at : Found) → Begins own call plan ks read c at
+begins_free own (look_call a) built spot to s plan ks read c core none leads fits within reads at = absurd (not_free to)
   where
     not_free : Nowhere ≡ Free spot → ⊥
     not_free h = cc
-begins_free own (Copy a u b) built spot to s plan [] c core none leads fits within at = absurd (not_none none)
+begins_free own (Copy a u b) built spot to s plan [] read c core none leads fits within reads at = absurd (not_none none)
   where
     not_none : any_cap a ∷ of_kind kind.Table u ∷ [] ≡ [] → ⊥
     not_none h = cc
-begins_free own (Copy a u b) built spot to s plan (k ∷ ks) c core none leads fits within at =
-    begins_fill own plan c core at (Copy a u b) (k ∷ ks) k refl (fits k refl) refl
-begins_free own (Remove u b) built spot to s plan ks c core none leads fits within at = absurd (not_free to)
+begins_free own (Copy a u b) built spot to s plan (k ∷ ks) read c core none leads fits within reads at =
+    begins_fill own plan read c core at (Copy a u b) (k ∷ ks) k refl (fits k refl) refl
+begins_free own (Remove u b) built spot to s plan ks read c core none leads fits within reads at = absurd (not_free to)
   where
     not_free : Held (spot_of.Under First b) ≡ Free spot → ⊥
     not_free h = cc
-begins_free own (Shrink u i) built spot to s plan ks c core none leads fits within at = absurd (not_free to)
+begins_free own (Shrink u i) built spot to s plan ks read c core none leads fits within reads at = absurd (not_free to)
   where
     not_free : Held (spot_of.InRoot First i) ≡ Free spot → ⊥
     not_free h = cc
-begins_free own (Unmap p v) built spot to s plan ks c core none leads fits within at = absurd (not_free to)
+begins_free own (Unmap p v) built spot to s plan ks read c core none leads fits within reads at = absurd (not_free to)
   where
     not_free : Held (spot_of.Under First v) ≡ Free spot → ⊥
     not_free h = cc
-begins_free own (Retype r f frame_kind.Untyped) built spot to s plan ks c core none leads fits within at = absurd built
-begins_free own (Retype r f frame_kind.User) built spot to s plan ks c core none leads fits within at = absurd (not_target to)
+begins_free own (Retype r f frame_kind.Untyped) built spot to s plan ks read c core none leads fits within reads at = absurd built
+begins_free own (Retype r f frame_kind.User) built spot to s plan ks read c core none leads fits within reads at = absurd (not_target to)
   where
     not_target : Nowhere ≡ Free spot → ⊥
     not_target h = cc
-begins_free own (Retype r f frame_kind.Kernel) built spot to s plan ks c core none leads fits within at = absurd (not_target to)
+begins_free own (Retype r f frame_kind.Kernel) built spot to s plan ks read c core none leads fits within reads at = absurd (not_target to)
   where
     not_target : Nowhere ≡ Free spot → ⊥
     not_target h = cc
-begins_free own (make_call what r f u b) built spot to s plan ks c core none leads fits within at =
-    made_of what built r f u b ks none (Begins own (make_call what r f u b) plan ks c at) (λ object is.
+begins_free own (make_call what r f u b) built spot to s plan ks read c core none leads fits within reads at =
+    made_of what built r f u b ks none (Begins own (make_call what r f u b) plan ks read c at) (λ object is.
     let two : TwoFound s c r u ks = (object_make s c r f u b what object ks is leads none).two in
-    subst (λ ks. Begins own (make_call what r f u b) plan ks c at) (sym two.found_is)
-    (begins_make own plan c core at what r f u b object two.range (two.table ∷ two.rest)
+    subst (λ ks. Begins own (make_call what r f u b) plan ks read c at) (sym two.found_is)
+    (begins_make own plan read c core at what r f u b object two.range (two.table ∷ two.rest)
     (subst (λ ks. object_made what ks ≡ Some object) two.found_is is) (within r f two.range two.first)))
-begins_free own (Tick n) built spot to s plan ks c core none leads fits within at = absurd (not_target to)
+begins_free own (Tick n) built spot to s plan ks read c core none leads fits within reads at = absurd (not_target to)
   where
     not_target : Nowhere ≡ Free spot → ⊥
     not_target h = cc
-begins_free own (Kill n) built spot to s plan ks c core none leads fits within at = absurd (not_target to)
+begins_free own (Gate n u b) built spot to s plan [] read c core none leads fits within reads at = absurd (not_none none)
+  where
+    not_none : of_kind kind.Comp n ∷ of_kind kind.Table u ∷ [] ≡ [] → ⊥
+    not_none h = cc
+begins_free own (Gate n u b) built spot to s plan (k ∷ ks) read c core none leads fits within reads at =
+    let gate : GateOf k read = gate_of s c k read reads (fits k refl) in
+    begins_fill own plan read c core at (Gate n u b) (k ∷ ks) gate.cap (ap (λ o. fills_with own o (Some at)) gate.is) gate.fits gate.is
+begins_free own (Kill n) built spot to s plan ks read c core none leads fits within reads at = absurd (not_target to)
   where
     not_target : Nowhere ≡ Free spot → ⊥
     not_target h = cc
-begins_free own call built spot to s plan ks c core none leads fits within at = absurd built
+begins_free own call built spot to s plan ks read c core none leads fits within reads at = absurd built

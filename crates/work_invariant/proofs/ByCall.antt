@@ -3,7 +3,7 @@ use Rattle.std.proofs.Common.{◌≡◌, ℕ, nat_le, nat_lt, ◌&&◌, Bool, tr
 use Rattle.std.proofs.lemmas.Bool.{leb-false, lt-ltb}
 use Rattle.spk_nums.specs.Capability.{Capability}
 use Rattle.spk_nums.specs.declared.calls.Call.{Call}
-use Rattle.spk_nums.specs.declared.calls.Call.TheVariants.{Look as look_call, Copy, Remove, Shrink, Unmap, Retype, Make as make_call, Tick, Kill}
+use Rattle.spk_nums.specs.declared.calls.Call.TheVariants.{Look as look_call, Copy, Remove, Shrink, Unmap, Retype, Make as make_call, Tick, Gate, Kill}
 use Rattle.spk_nums.specs.declared.calls.Make.{Make}
 use Rattle.spk_nums.specs.declared.calls.Make.TheVariants as make
 use Rattle.spk_nums.specs.declared.kinds.FrameKind.TheVariants as frame_kind
@@ -89,6 +89,7 @@ no_own (make_call what r f u b) built v is = absurd (not_own (sym (make_target w
     not_own : Free (spot_of.Under Second b) ≡ own_page v → ⊥
     not_own h = cc
 no_own (Tick n) built v is = cc
+no_own (Gate k u b) built v is = cc
 no_own (Kill n) built v is = cc
 no_own call built v is = built
 
@@ -117,7 +118,7 @@ first_same name rest one is = some_inj name one (ap head is)
 -- The removing act of a core's call with a target that is to be held.
 pub record BeginsRemoval (own : Own) (call : Call) (ks : List Capability) : Type 0 where
   pub removes : removes_by call ≡ true
-  pub act : (f : Found) → act_begun own call ks (Some f) ≡ removes_at own.core (Some f)
+  pub act : (f : Found) → act_begun own call ks None (Some f) ≡ removes_at own.core (Some f)
 
 pub begins_removal : (own : Own) (call : Call) → IsBuilt call → (spot : Spot) → (plan_for call).target ≡ Held spot → (ks : List Capability)
     → BeginsRemoval own call ks
@@ -151,6 +152,10 @@ begins_removal own (make_call what r f u b) built spot to ks = absurd (not_held 
 begins_removal own (Tick n) built spot to ks = absurd (not_held to)
   where
     not_held : Nowhere ≡ Held spot → ⊥
+    not_held h = cc
+begins_removal own (Gate k u b) built spot to ks = absurd (not_held to)
+  where
+    not_held : Free (spot_of.Under Second b) ≡ Held spot → ⊥
     not_held h = cc
 begins_removal own (Kill n) built spot to ks = absurd (not_held to)
   where

@@ -5,7 +5,7 @@ use Rattle.spk_nums.specs.Capability.{Capability}
 use Rattle.spk_nums.specs.Setting.{Setting, IsSetting}
 use Rattle.spk_nums.specs.declared.kinds.Kind.{Kind}
 use Rattle.spk_nums.specs.declared.calls.Call.{Call}
-use Rattle.spk_nums.specs.declared.calls.Call.TheVariants.{Look as look_call, Copy, Remove, Shrink, Unmap, Retype, Make as make_call, Tick, Kill}
+use Rattle.spk_nums.specs.declared.calls.Call.TheVariants.{Look as look_call, Copy, Remove, Shrink, Unmap, Retype, Make as make_call, Tick, Gate, Kill}
 use Rattle.supported_calls.specs.Built.{IsBuilt}
 use Rattle.spk_nums.specs.declared.replies.Reply.{Reply}
 use Rattle.spk_nums.specs.declared.replies.Reply.TheVariants as reply
@@ -51,7 +51,7 @@ use Rattle.plan_ways.specs.Laws.{NextPlace, NextRefused}
 use Rattle.plan_ways.proofs.Ways.{next_on_way, next_first}
 use Rattle.call_acts.specs.declared.refusals.Refusal.TheVariants as refusal
 use Rattle.call_acts.specs.declared.lookups.Met.TheVariants.{Finds, Refused as met_refused}
-use Rattle.call_acts.specs.declared.work.Work.TheVariants.{Lookup, Scan}
+use Rattle.call_acts.specs.declared.work.Work.TheVariants.{Lookup, Read, Scan}
 use Rattle.call_steps.specs.declared.stages.Stage.TheVariants.{Undecided}
 use Rattle.call_steps.specs.declared.stages.ActiveCall.{ActiveCall}
 use Rattle.spk_nums.specs.declared.kinds.FrameKind.{FrameKind}
@@ -61,13 +61,14 @@ use Rattle.kernel_rules.proofs.Sound.{only_is}
 use Rattle.work_invariant.proofs.AtName.{one_name, ranges_good, looked_good}
 use Rattle.live_invariant.proofs.KillStarts.{kills_good}
 use Rattle.call_acts.specs.declared.work.WorkStep.TheVariants.{Goes}
+use Rattle.call_acts.specs.declared.work.WorkStep.{WorkStep}
 use Rattle.stage_pins.specs.declared.held.Acquired.{Acquired}
 use Rattle.call_acts.specs.declared.work.Act.{Act as ActOf}
 use Rattle.call_acts.specs.WorkSteps.{refuse}
-use Rattle.call_acts.specs.Acts.{dues, next_work, scans, starts, stamp_shown, removing, act_begun}
+use Rattle.call_acts.specs.Acts.{reads_of, dues, next_work, scans, starts, stamp_shown, removing, act_begun}
 use Rattle.call_steps.specs.Fits.{CountsAt, HasRoom}
 use Rattle.core_invariant.specs.Holding.{holds_counts}
-use Rattle.core_invariant.specs.Knows.{due_of, IsScanned, MayFill, KnowsAct, KnowsQuiet, LooksUp, own_in, HasFound, NamesAre, LooksFor, KnowsUndecided, phase_at}
+use Rattle.core_invariant.specs.Knows.{due_of, ReadIs, ReadBefore, IsScanned, MayFill, KnowsAct, KnowsQuiet, LooksUp, own_in, HasFound, NamesAre, LooksFor, KnowsUndecided, phase_at}
 use Rattle.count_invariant.proofs.Acquiring.{knows_next, next_holds, one_apart}
 use Rattle.place_invariant.proofs.Scans.{ScanBegins, scan_begins, scan_none, ShowsSince, since_is}
 use Rattle.place_invariant.proofs.Starts.{starts_good}
@@ -76,7 +77,7 @@ use Rattle.place_invariant.proofs.Vacancy.{vacant_by}
 use Rattle.stage_quiet.specs.declared.quiet.Quiet.{Quiet}
 use Rattle.stage_quiet.specs.Scan.{quiet_scan}
 use Rattle.kernel_history.specs.Stamps.{clock, stamp}
-use Rattle.call_acts.specs.Lookups.{looks_under, looks_entry, looks_at, next_step, met_name, met_free, met_held}
+use Rattle.call_acts.specs.Lookups.{read_first, looks_under, looks_entry, looks_at, next_step, met_name, met_free, met_held}
 use Rattle.call_steps.specs.Steps.{landed, found_more, next_by as what_next, named_one, took_look, took_found}
 use Rattle.call_steps.proofs.StepsFit.{cap_one}
 use Rattle.call_steps.specs.View.{Core}
@@ -89,6 +90,7 @@ use Rattle.look_invariant.proofs.Lookups.{Shows, ShowsHeld, Arrives, under_step,
 use Rattle.look_invariant.proofs.Findings.{own_is, past_slot, past_unreached, reaches_none, reaches_held, reaches_other, use_held, use_free, use_removed_at, named_of, named_no_slot, named_empty, named_wrong, found_named, arriving, reached_now, found_now}
 use Rattle.look_invariant.proofs.Next.{MayUse, spot_relies, Rest, ANameLeft, NoneLeft, rest_of, next_name, next_end}
 use Rattle.work_invariant.proofs.ByCall.{none_after, vacant_no_slot, vacant_occupied, held_no_slot, held_empty, past_entry, past_entry_unreached, no_own, make_target, BeginsRemoval, begins_removal, free_somewhere, held_somewhere}
+use Rattle.work_invariant.proofs.Reading.{reads_comp}
 use Rattle.work_invariant.proofs.AtTarget.{Begins, begins_free, range_within, was_while_open}
 
 module _ (setup : Setting) (setting : IsSetting setup) (cores : ℕ → Core) (t : Trace) (stands : Stands setup cores t) (c : ℕ)
@@ -217,56 +219,79 @@ module _ (setup : Setting) (setting : IsSetting setup) (cores : ℕ → Core) (t
         (subst (λ (names : List Name). NextBy (LeadsIn s c) (next_in (with_found [] a.found) names a.plan.target) k) (sym left)
         here_named)
 
+    -- What comes next of the call, after the load of the word of this component, if it reads one, is good.
+    abbrev Begun : Option ℕ → WorkStep → Type 0
+    Begun o step = GoodTook setup cores t c (LoadOf (EntryAt at.node at.index)) (landed (found_more a more) (read_first o step))
+
     -- the next look-up begins
-    looks_on_at : (next : Look) → ((carries : Carries setup t e c) → LooksFor setup (e ∷ t) c table (next_of a.plan more) next)
-        → GoodTook setup cores t c (LoadOf (EntryAt at.node at.index)) (landed (found_more a more) (Goes (Lookup next)))
-    looks_on_at next knows lands =
-        loads_on setup setting cores t stands c here a active (LoadOf (EntryAt at.node at.index)) more (Undecided (Lookup next)) looks
+    looks_next : (next : Next) → next_of a.plan more ≡ next → ReadBefore s c (reads_of a.call more) a.read next
+        → (look : Look) → LooksFor setup (e ∷ t) c table next look → Begun None (Goes (Lookup look))
+    looks_next next is reads look looks_for lands =
+        loads_on setup setting cores t stands c here a active (LoadOf (EntryAt at.node at.index)) more (Undecided (Lookup look)) looks
         lands (still None) opens
-        (λ carries. record { names = names_then carries; knows = knows carries })
+        (λ carries. record {
+          names = names_then carries;
+          knows = record {
+            looks = subst (λ x. LooksFor setup (e ∷ t) c table x look) (sym is) looks_for;
+            has_read = subst (ReadBefore s c (reads_of a.call more) a.read) (sym is) reads;
+          };
+        })
+
+    -- the component's word is loaded before the next look-up
+    reads_next : (f : ℕ) → reads_of a.call more ≡ Some f → (target : place) → next_of a.plan more ≡ NextFree target
+        → (look : Look) → LooksUp setup (e ∷ t) c target look → Begun (Some f) (Goes (Lookup look))
+    reads_next f reads target is look up lands =
+        loads_on setup setting cores t stands c here a active (LoadOf (EntryAt at.node at.index)) more (Undecided (Read f look)) looks
+        lands (still None) opens
+        (λ carries. record {
+          names = names_then carries;
+          knows = record {
+            target = target;
+            next = is;
+            looks = up;
+            reads = reads;
+            comp = reads_comp setup setting t stands.legal c a.call is_open more
+                (subst (λ (p : Plan). Leads (LeadsIn s c) p.names [] more) plan_is leads_then) f reads;
+          };
+        })
+
+    no_slot_first : (o : Option ℕ) → RuleMay s c (rule_of s c a.call) reply.NoSlot → change_of s c a.call ≡ Refused reply.NoSlot
+        → Begun o (refuse refusal.NoSlot)
+    no_slot_first None = no_slot_with more at looks
+    no_slot_first (Some f) = no_slot_with more at looks
 
     -- what the next is, said of the slot
-    under_good : (next : Next) → next_of a.plan more ≡ next → (root : Named) (n : ℕ) → root.found ≡ true
+    under_good : (o : Option ℕ) (next : Next) → next_of a.plan more ≡ next → (root : Named) (n : ℕ) → root.found ≡ true
         → Rattle.kernel_rules.specs.Relies.Relies s c root.frame
-        → (((look : Look) → LooksUp setup (e ∷ t) c (Under root n) look → LooksFor setup (e ∷ t) c table next look))
+        → (((look : Look) → LooksUp setup (e ∷ t) c (Under root n) look → Begun o (Goes (Lookup look))))
         → (nat_le n 4095 ≡ false → NextMay s c (own_pages s c) next reply.NoSlot)
         → (nat_le n 4095 ≡ false → NextRefused s c (own_pages s c) next reply.NoSlot)
-        → GoodTook setup cores t c (LoadOf (EntryAt at.node at.index))
-        (landed (found_more a more) (looks_under (nat_le n 4095) root.frame n))
-    under_good next is root n found relies for may_not refused = by (nat_le n 4095) refl
+        → Begun o (looks_under (nat_le n 4095) root.frame n)
+    under_good o next is root n found relies for may_not refused = by (nat_le n 4095) refl
       where
-        by : (within : Bool) → nat_le n 4095 ≡ within
-            → GoodTook setup cores t c (LoadOf (EntryAt at.node at.index)) (landed (found_more a more) (looks_under within root.frame n))
-        by true within = looks_on_at (AtRoot root.frame n) (λ carries. subst (λ x. LooksFor setup (e ∷ t) c table x (AtRoot root.frame n))
-            (sym is)
-            (for (AtRoot root.frame n) (record {
-              relies = relies;
-              at = record
-                  { found = found; frame = refl; same = refl; within = leb-true n 4095 within };
-            })))
-        by false past = no_slot_with more at looks (may more leads_then reply.NoSlot
+        by : (within : Bool) → nat_le n 4095 ≡ within → Begun o (looks_under within root.frame n)
+        by true within = for (AtRoot root.frame n) (record {
+          relies = relies;
+          at = record { found = found; frame = refl; same = refl; within = leb-true n 4095 within };
+        })
+        by false past = no_slot_first o (may more leads_then reply.NoSlot
             (subst (λ x. NextMay s c (own_pages s c) x reply.NoSlot) (sym is) (may_not past)))
             (first more leads_then reply.NoSlot (subst (λ x. NextRefused s c (own_pages s c) x reply.NoSlot) (sym is) (refused past)))
 
-    entry_good : (next : Next) → next_of a.plan more ≡ next → (root : Named) (i : ℕ) → root.found ≡ true
+    entry_good : (o : Option ℕ) (next : Next) → next_of a.plan more ≡ next → (root : Named) (i : ℕ) → root.found ≡ true
         → Rattle.kernel_rules.specs.Relies.Relies s c root.frame
-        → (((look : Look) → LooksUp setup (e ∷ t) c (InRoot root i) look → LooksFor setup (e ∷ t) c table next look))
+        → (((look : Look) → LooksUp setup (e ∷ t) c (InRoot root i) look → Begun o (Goes (Lookup look))))
         → (nat_le i 63 ≡ false → NextMay s c (own_pages s c) next reply.NoSlot)
         → (nat_le i 63 ≡ false → NextRefused s c (own_pages s c) next reply.NoSlot)
-        → GoodTook setup cores t c (LoadOf (EntryAt at.node at.index))
-        (landed (found_more a more) (looks_entry (nat_le i 63) root.frame i))
-    entry_good next is root i found relies for may_not refused = by (nat_le i 63) refl
+        → Begun o (looks_entry (nat_le i 63) root.frame i)
+    entry_good o next is root i found relies for may_not refused = by (nat_le i 63) refl
       where
-        by : (within : Bool) → nat_le i 63 ≡ within
-            → GoodTook setup cores t c (LoadOf (EntryAt at.node at.index)) (landed (found_more a more) (looks_entry within root.frame i))
-        by true within = looks_on_at (AtEntry root.frame i) (λ carries. subst
-            (λ x. LooksFor setup (e ∷ t) c table x (AtEntry root.frame i)) (sym is)
-            (for (AtEntry root.frame i) (record {
-              relies = relies;
-              at = record
-                  { found = found; frame = refl; same = refl; within = leb-true i 63 within };
-            })))
-        by false past = no_slot_with more at looks (may more leads_then reply.NoSlot
+        by : (within : Bool) → nat_le i 63 ≡ within → Begun o (looks_entry within root.frame i)
+        by true within = for (AtEntry root.frame i) (record {
+          relies = relies;
+          at = record { found = found; frame = refl; same = refl; within = leb-true i 63 within };
+        })
+        by false past = no_slot_first o (may more leads_then reply.NoSlot
             (subst (λ x. NextMay s c (own_pages s c) x reply.NoSlot) (sym is) (may_not past)))
             (first more leads_then reply.NoSlot (subst (λ x. NextRefused s c (own_pages s c) x reply.NoSlot) (sym is) (refused past)))
 
@@ -274,23 +299,30 @@ module _ (setup : Setting) (setting : IsSetting setup) (cores : ℕ → Core) (t
     is_rooted : (target : Target) → a.plan.target ≡ target → IsRooted a.plan.names target
     is_rooted target to = subst (IsRooted a.plan.names) to (subst (λ p. IsRooted p.names p.target) (sym plan_is) (rooted a.call))
 
+    -- one that is to be free, after the load of what the call reads
+    free_first : (o : Option ℕ) → reads_of a.call more ≡ o → (target : place) → next_of a.plan more ≡ NextFree target
+        → (look : Look) → LooksUp setup (e ∷ t) c target look → Begun o (Goes (Lookup look))
+    free_first None reads target is = looks_next (NextFree target) is (subst (λ o. ReadIs s c o a.read) (sym reads) tt)
+    free_first (Some f) reads target is = reads_next f reads target is
+
     free_good : (spot : Spot) → a.plan.target ≡ Free spot → names_after a.plan.names more ≡ []
         → next_of a.plan more ≡ NextFree (place_of (with_found [] more) spot)
-        → GoodTook setup cores t c (LoadOf (EntryAt at.node at.index))
-        (landed (found_more a more) (looks_at (place_of (with_found [] more) spot)))
+        → Begun (reads_of a.call more) (looks_at (place_of (with_found [] more) spot))
     free_good (spot_of.Under i n) to none is =
         let root = spot_relies setup setting t stands.legal c a.call is_open a.plan more (spot_of.Under i n)
         (is_rooted (Free (spot_of.Under i n)) to) uses_then none in
-        under_good (NextFree (Under (earlier (with_found [] more) i) n)) is (earlier (with_found [] more) i) n root.1 root.0
-        (λ look looks. looks)
+        under_good (reads_of a.call more) (NextFree (Under (earlier (with_found [] more) i) n)) is (earlier (with_found [] more) i) n
+        root.1 root.0
+        (free_first (reads_of a.call more) refl (Under (earlier (with_found [] more) i) n) is)
         (λ past. past_slot s (earlier (with_found [] more) i) n past)
         (λ past. vacant_no_slot s c (Under (earlier (with_found [] more) i) n)
         (past_unreached s c (earlier (with_found [] more) i) n past))
     free_good (spot_of.InRoot i x) to none is =
         let root = spot_relies setup setting t stands.legal c a.call is_open a.plan more (spot_of.InRoot i x)
         (is_rooted (Free (spot_of.InRoot i x)) to) uses_then none in
-        entry_good (NextFree (InRoot (earlier (with_found [] more) i) x)) is (earlier (with_found [] more) i) x root.1 root.0
-        (λ look looks. looks)
+        entry_good (reads_of a.call more) (NextFree (InRoot (earlier (with_found [] more) i) x)) is (earlier (with_found [] more) i) x
+        root.1 root.0
+        (free_first (reads_of a.call more) refl (InRoot (earlier (with_found [] more) i) x) is)
         (λ past. past_entry x past) (λ past. vacant_no_slot s c (InRoot (earlier (with_found [] more) i) x)
         (past_entry_unreached s c (earlier (with_found [] more) i) x past))
 
@@ -301,22 +333,22 @@ module _ (setup : Setting) (setting : IsSetting setup) (cores : ℕ → Core) (t
     held_good (spot_of.Under i n) to none is =
         let root = spot_relies setup setting t stands.legal c a.call is_open a.plan more (spot_of.Under i n)
         (is_rooted (Held (spot_of.Under i n)) to) uses_then none in
-        under_good (NextHeld (Under (earlier (with_found [] more) i) n)) is (earlier (with_found [] more) i) n root.1 root.0
-        (λ look looks. looks)
+        under_good None (NextHeld (Under (earlier (with_found [] more) i) n)) is (earlier (with_found [] more) i) n root.1 root.0
+        (looks_next (NextHeld (Under (earlier (with_found [] more) i) n)) is tt)
         (λ past. past_slot s (earlier (with_found [] more) i) n past)
         (λ past. held_no_slot s c (Under (earlier (with_found [] more) i) n)
         (past_unreached s c (earlier (with_found [] more) i) n past))
     held_good (spot_of.InRoot i x) to none is =
         let root = spot_relies setup setting t stands.legal c a.call is_open a.plan more (spot_of.InRoot i x)
         (is_rooted (Held (spot_of.InRoot i x)) to) uses_then none in
-        entry_good (NextHeld (InRoot (earlier (with_found [] more) i) x)) is (earlier (with_found [] more) i) x root.1 root.0
-        (λ look looks. looks)
+        entry_good None (NextHeld (InRoot (earlier (with_found [] more) i) x)) is (earlier (with_found [] more) i) x root.1 root.0
+        (looks_next (NextHeld (InRoot (earlier (with_found [] more) i) x)) is tt)
         (λ past. past_entry x past) (λ past. held_no_slot s c (InRoot (earlier (with_found [] more) i) x)
         (past_entry_unreached s c (earlier (with_found [] more) i) x past))
 
     target_good : (target : Target) → a.plan.target ≡ target → names_after a.plan.names more ≡ []
         → (target ≡ Nowhere → GoodTook setup cores t c (LoadOf (EntryAt at.node at.index))
-        (landed (found_more a more) (act_begun (cores c).own a.call more None)))
+        (landed (found_more a more) (act_begun (cores c).own a.call more None None)))
         → GoodTook setup cores t c (LoadOf (EntryAt at.node at.index))
         (landed (found_more a more) (next_step (cores c).own a.call more (next_target (with_found [] more) target)))
     target_good Nowhere to none acts = acts refl
@@ -328,7 +360,7 @@ module _ (setup : Setting) (setting : IsSetting setup) (cores : ℕ → Core) (t
 
     next_good : (a.plan.target ≡ Nowhere → names_after a.plan.names more ≡ []
         → GoodTook setup cores t c (LoadOf (EntryAt at.node at.index))
-        (landed (found_more a more) (act_begun (cores c).own a.call more None)))
+        (landed (found_more a more) (act_begun (cores c).own a.call more None None)))
         → GoodTook setup cores t c (LoadOf (EntryAt at.node at.index))
         (landed (found_more a more) (what_next (cores c).own (found_more a more)))
     next_good acts = by (rest_of a.plan more)
@@ -340,11 +372,11 @@ module _ (setup : Setting) (setting : IsSetting setup) (cores : ℕ → Core) (t
         by : Rest a.plan more → Goal (next_of a.plan more)
         by (ANameLeft name2 rest2 is) =
             let next = next_name a.plan more name2 rest2 is in
-            subst Goal (sym next) (under_good (NextName name2.number (wants (with_found [] more) name2.wanted)) next (root_at table)
+            subst Goal (sym next) (under_good None (NextName name2.number (wants (with_found [] more) name2.wanted)) next (root_at table)
             name2.number refl
             (subst (Rattle.kernel_rules.specs.Relies.Relies s c) (sym table_is)
             (relies_table setup setting t stands.legal c a.call is_open))
-            (λ look looks. looks)
+            (looks_next (NextName name2.number (wants (with_found [] more) name2.wanted)) next tt)
             (λ past. subst (λ x. IsTrue (has_no_slot s x)) (own_target name2.number) (past_slot s (root_at table) name2.number past))
             (λ past. named_no_slot s c name2.number (wants (with_found [] more) name2.wanted)
             (ap (reached s c) (sym (own_target name2.number)) ∙ past_unreached s c (root_at table) name2.number past)))
@@ -354,13 +386,13 @@ module _ (setup : Setting) (setting : IsSetting setup) (cores : ℕ → Core) (t
     -- a retype has found its range
     range_at_name : (r f : ℕ) (j : FrameKind) → a.call ≡ Retype r f j → (plan_for (Retype r f j)).names ≡ of_kind range_kind r ∷ []
         → GoodTook setup cores t c (LoadOf (EntryAt at.node at.index))
-        (landed (found_more a more) (act_begun (cores c).own (Retype r f j) more None))
+        (landed (found_more a more) (act_begun (cores c).own (Retype r f j) more None None))
     range_at_name r f j is one =
         let only_one = one_name a.plan.names (of_kind range_kind r) name rest a.found k.kind
         (ap (λ (p : Plan). p.names) (plan_is ∙ ap plan_for is) ∙ one) left wanted in
         let more_is : more ≡ k ∷ [] = ap (λ ks. ks ++ k ∷ []) only_one.0 in
         subst (λ ks. GoodTook setup cores t c (LoadOf (EntryAt at.node at.index))
-        (landed (found_more a ks) (act_begun (cores c).own (Retype r f j) ks None))) (sym more_is)
+        (landed (found_more a ks) (act_begun (cores c).own (Retype r f j) ks None None))) (sym more_is)
         (ranges_good setup setting cores t stands c here a active opens held_is no_counts room goes_by at looks k
         (subst (λ (ks : List Capability). Leads (LeadsIn s c) a.plan.names [] ks) more_is leads_then)
         (λ carries. subst (λ (ks : List Capability). NamesAre setup (e ∷ t) c table a.plan ks) more_is (names_then carries)) r f j is
@@ -369,7 +401,7 @@ module _ (setup : Setting) (setting : IsSetting setup) (cores : ℕ → Core) (t
     -- a look answers what its name has led to
     acts_at_name : (call : Call) → a.call ≡ call → IsBuilt call → (plan_for call).target ≡ Nowhere
         → GoodTook setup cores t c (LoadOf (EntryAt at.node at.index))
-        (landed (found_more a more) (act_begun (cores c).own call more None))
+        (landed (found_more a more) (act_begun (cores c).own call more None None))
     acts_at_name (look_call n) is built nowhere =
         let plan_look : a.plan ≡ plan_for (look_call n) = plan_is ∙ ap plan_for is in
         let only_one = one_name a.plan.names (any_cap n) name rest a.found k.kind (ap (λ (p : Plan). p.names) plan_look) left wanted in
@@ -377,7 +409,7 @@ module _ (setup : Setting) (setting : IsSetting setup) (cores : ℕ → Core) (t
         let named_it : named s c n any ≡ Found_it k = (subst (λ (ks : List Capability). Leads (LeadsIn s c) (any_cap n ∷ []) [] ks) more_is
         (subst (λ (p : Plan). Leads (LeadsIn s c) p.names [] more) plan_look leads_then)).0 in
         subst (λ ks. GoodTook setup cores t c (LoadOf (EntryAt at.node at.index))
-        (landed (found_more a ks) (act_begun (cores c).own (look_call n) ks None))) (sym more_is)
+        (landed (found_more a ks) (act_begun (cores c).own (look_call n) ks None None))) (sym more_is)
         (looked_good setup setting cores t stands c here a active opens held_is no_counts room at looks n
         (subst (λ (m : ℕ). Arrives setup t c (own_in table m) at) (ap (λ (x : Name). x.number) only_one.1) arrives) k named_it is)
     acts_at_name (Copy b u v) is built nowhere = absurd (free_somewhere (spot_of.Under Second v) nowhere)
@@ -389,13 +421,14 @@ module _ (setup : Setting) (setting : IsSetting setup) (cores : ℕ → Core) (t
     acts_at_name (Retype r f frame_kind.Kernel) is built nowhere = range_at_name r f frame_kind.Kernel is refl
     acts_at_name (make_call what r f u b) is built nowhere =
         absurd (free_somewhere (spot_of.Under Second b) (sym (make_target what r u b) ∙ nowhere))
+    acts_at_name (Gate n u b) is built nowhere = absurd (free_somewhere (spot_of.Under Second b) nowhere)
     acts_at_name (Kill n) is built nowhere =
         let plan_kill : a.plan ≡ plan_for (Kill n) = plan_is ∙ ap plan_for is in
         let only_one = one_name a.plan.names (of_kind comp_kind n) name rest a.found k.kind (ap (λ (p : Plan). p.names) plan_kill) left
         wanted in
         let more_is : more ≡ k ∷ [] = ap (λ ks. ks ++ k ∷ []) only_one.0 in
         subst (λ ks. GoodTook setup cores t c (LoadOf (EntryAt at.node at.index))
-        (landed (found_more a ks) (act_begun (cores c).own (Kill n) ks None))) (sym more_is)
+        (landed (found_more a ks) (act_begun (cores c).own (Kill n) ks None None))) (sym more_is)
         (kills_good setup setting cores t stands c here a active opens held_is no_counts (LoadOf (EntryAt at.node at.index)) looks n k is
         (only_is comp_kind k.kind only_one.2)
         (subst (λ (ks : List Capability). Leads (LeadsIn s c) (of_kind comp_kind n ∷ []) [] ks) more_is
@@ -475,7 +508,10 @@ module _ (setup : Setting) (setting : IsSetting setup) (cores : ℕ → Core) (t
         (subst (λ x. is_slot_in (wide_way_to s x) g i ≡ true) (own_target name.number) h))
         (λ e look2 carries up. record {
           names = names_on setup setting t e stands.legal c a.call is_open carries table a.plan a.found has.names;
-          knows = subst (λ x. LooksFor setup (e ∷ t) c table x look2) (sym next) up;
+          knows = record {
+            looks = subst (λ x. LooksFor setup (e ∷ t) c table x look2) (sym next) up;
+            has_read = subst (ReadBefore s c (reads_of a.call a.found) a.read) (sym next) tt;
+          };
         })
         (λ at v arrives reads shows only. ends_for next at v (name_good at arrives only v shows))
         room look stage_is looks
@@ -494,16 +530,20 @@ module _ (setup : Setting) (setting : IsSetting setup) (cores : ℕ → Core) (t
     first_free : (r : Reply) → vacant s c target ≡ Refused r → change_of s c a.call ≡ Refused r
     first_free r h = first a.found leads r (subst (λ x. NextRefused s c (own_pages s c) x r) (sym next_free) h)
 
+    -- what it has read, if it reads anything
+    has_read : ReadIs s c (reads_of a.call a.found) a.read
+    has_read = subst (ReadBefore s c (reads_of a.call a.found) a.read) next_free has.knows.has_read
+
     -- the act with which the call begins at the place
     begins_with : (at : Slot) (v : Entry)
-        → Begins (cores c).own a.call a.plan a.found c (found_at at.node at.index (last_left setup t (EntryAt at.node at.index)) v)
+        → Begins (cores c).own a.call a.plan a.found a.read c (found_at at.node at.index (last_left setup t (EntryAt at.node at.index)) v)
     begins_with at v = begins_free (cores c).own a.call (is_active setup setting cores t stands c here a active).built spot
-        (ap (λ (p : Plan). p.target) (sym plan_is) ∙ to) s a.plan a.found c (stands.each c here).number
+        (ap (λ (p : Plan). p.target) (sym plan_is) ∙ to) s a.plan a.found a.read c (stands.each c here).number
         (subst (λ (p : Plan). names_after p.names a.found ≡ []) plan_is none)
         (subst (λ (p : Plan). Leads (LeadsIn s c) p.names [] a.found) plan_is leads)
         (λ k is. fits_of a.plan.names a.found k has.names is)
         (λ r f range is in_range. subst (λ (n : ℕ). f < n) (sym (ap (λ x. x.frames) (stands.each c here).shape))
-        (range_within setup setting t stands.legal c a.call is_open r f range is in_range))
+        (range_within setup setting t stands.legal c a.call is_open r f range is in_range)) has_read
         (found_at at.node at.index (last_left setup t (EntryAt at.node at.index)) v)
       where
         fits_of : (names : List Name) (ks : List Capability) (k : Capability)
@@ -526,7 +566,7 @@ module _ (setup : Setting) (setting : IsSetting setup) (cores : ℕ → Core) (t
       abbrev thing : Thing
       thing = PlaceOf at.node at.index
 
-      abbrev begun : Begins (cores c).own a.call a.plan a.found c (found_at at.node at.index word v)
+      abbrev begun : Begins (cores c).own a.call a.plan a.found a.read c (found_at at.node at.index word v)
       begun = begins_with at v
 
       knows_begun : (upto : ℕ) → MayFill setup (load ∷ t) c thing upto (Some v)
@@ -538,7 +578,7 @@ module _ (setup : Setting) (setting : IsSetting setup) (cores : ℕ → Core) (t
         own = own_read-here c load t refl (EntryAt at.node at.index) refl ∙ ap (λ b. if b then Some word else None)
             (eq-eqb word word refl);
         vacant = subst (MayFill setup (load ∷ t) c thing upto) (sym reads) may;
-      })
+      }) has_read
 
       -- it starts without a scan
       starts_now : MayFill setup (load ∷ t) c thing setup.cores (Some v) → MayFill setup t c thing setup.cores (Some v)
@@ -629,7 +669,7 @@ module _ (setup : Setting) (setting : IsSetting setup) (cores : ℕ → Core) (t
         → entry_of_word (last_left setup t (EntryAt at.node at.index)) ≡ Some v → Shows setup.frames (place_at s at) v
         → OnlyLooks setup t c a.call (LoadOf (EntryAt at.node at.index))
         → GoodTook setup cores t c (LoadOf (EntryAt at.node at.index))
-        (landed a (met_free (cores c).own a.call a.found (found_at at.node at.index (last_left setup t (EntryAt at.node at.index)) v)
+        (landed a (met_free (cores c).own a.call a.found a.read (found_at at.node at.index (last_left setup t (EntryAt at.node at.index)) v)
         v))
     free_at at entry.Free arrives reads shows looks =
         subst (λ step. GoodTook setup cores t c (LoadOf (EntryAt at.node at.index)) (landed a step))
@@ -656,7 +696,7 @@ module _ (setup : Setting) (setting : IsSetting setup) (cores : ℕ → Core) (t
       (λ g j h. way (target spot to none) (subst (λ x. NextPlace s c x (target spot to none)) (sym next) refl) g j h)
       (λ e look2 carries up. record {
         names = names_on setup setting t e stands.legal c a.call is_open carries table a.plan a.found has.names;
-        knows = subst (λ x. LooksFor setup (e ∷ t) c table x look2) (sym next) up;
+        knows = record { looks = subst (λ x. LooksFor setup (e ∷ t) c table x look2) (sym next) up; has_read = has.knows.has_read };
       })
       (λ at v arrives reads shows only. ends_for next at v (free_at spot to none at v arrives reads shows only))
       room look stage_is looks
@@ -669,7 +709,7 @@ module _ (setup : Setting) (setting : IsSetting setup) (cores : ℕ → Core) (t
       (λ g j h. way (target spot to none) (subst (λ y. NextPlace s c y (target spot to none)) (sym next) refl) g j h)
       (λ e look2 carries up. record {
         names = names_on setup setting t e stands.legal c a.call is_open carries table a.plan a.found has.names;
-        knows = subst (λ y. LooksFor setup (e ∷ t) c table y look2) (sym next) up;
+        knows = record { looks = subst (λ y. LooksFor setup (e ∷ t) c table y look2) (sym next) up; has_read = has.knows.has_read };
       })
       (λ at v arrives reads shows only. ends_for next at v (free_at spot to none at v arrives reads shows only))
       room look stage_is looks
@@ -758,7 +798,7 @@ module _ (setup : Setting) (setting : IsSetting setup) (cores : ℕ → Core) (t
       (λ g j h. way (held_target spot to none) (subst (λ x. NextPlace s c x (held_target spot to none)) (sym next) refl) g j h)
       (λ e look2 carries up. record {
         names = names_on setup setting t e stands.legal c a.call is_open carries table a.plan a.found has.names;
-        knows = subst (λ x. LooksFor setup (e ∷ t) c table x look2) (sym next) up;
+        knows = record { looks = subst (λ x. LooksFor setup (e ∷ t) c table x look2) (sym next) up; has_read = has.knows.has_read };
       })
       (λ at v arrives reads shows only. ends_for next at v (held_at spot to none at v arrives reads shows only))
       room look stage_is looks
@@ -771,7 +811,7 @@ module _ (setup : Setting) (setting : IsSetting setup) (cores : ℕ → Core) (t
       (λ g j h. way (held_target spot to none) (subst (λ y. NextPlace s c y (held_target spot to none)) (sym next) refl) g j h)
       (λ e look2 carries up. record {
         names = names_on setup setting t e stands.legal c a.call is_open carries table a.plan a.found has.names;
-        knows = subst (λ y. LooksFor setup (e ∷ t) c table y look2) (sym next) up;
+        knows = record { looks = subst (λ y. LooksFor setup (e ∷ t) c table y look2) (sym next) up; has_read = has.knows.has_read };
       })
       (λ at v arrives reads shows only. ends_for next at v (held_at spot to none at v arrives reads shows only))
       room look stage_is looks
@@ -780,7 +820,7 @@ module _ (setup : Setting) (setting : IsSetting setup) (cores : ℕ → Core) (t
   lookup_good = by (rest_of a.plan a.found)
     where
       for : (next : Next) → next_of a.plan a.found ≡ next → LooksFor setup t c table next look
-      for next is = subst (λ x. LooksFor setup t c table x look) is has.knows
+      for next is = subst (λ x. LooksFor setup t c table x look) is has.knows.looks
 
       by_target : (to : Target) → a.plan.target ≡ to → names_after a.plan.names a.found ≡ [] → Looked
       by_target Nowhere to none = absurd (for NextNothing (next_end a.plan a.found Nowhere none to))

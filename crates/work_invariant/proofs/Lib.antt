@@ -1,5 +1,6 @@
 pub mod ByCall
 pub mod AtName
 pub mod AtTarget
+pub mod Reading
 pub mod ByPlan
 pub mod Work

@@ -10,7 +10,7 @@ use Rattle.stage_look.specs.declared.look.Look.{Look}
 use Rattle.stage_look.specs.declared.look.Look.TheVariants.{AtRoot, AtLeaf, AtEntry}
 use Rattle.call_acts.specs.declared.work.Act.TheVariants.{Fill as fill_act, Remove as remove_act, Retype as type_act, Make as make_act, Outside, Tick as tick_act, Kill as kill_act}
 use Rattle.call_acts.specs.declared.work.Work.{Work}
-use Rattle.call_acts.specs.declared.work.Work.TheVariants.{Lookup, Scan, Acquire, Act}
+use Rattle.call_acts.specs.declared.work.Work.TheVariants.{Lookup, Read, Scan, Acquire, Act}
 use Rattle.call_steps.specs.declared.stages.Stage.TheVariants.{Undecided}
 use Rattle.call_steps.specs.declared.stages.ActiveCall.{ActiveCall}
 use Rattle.call_steps.specs.View.{Core}
@@ -21,6 +21,7 @@ use Rattle.core_invariant.proofs.Refusals.{GoodTook}
 use Rattle.stage_pins.specs.declared.pin.Pin.TheVariants.{AtLoad, AtCompare}
 use Rattle.count_invariant.proofs.Acquiring.{acquire_good}
 use Rattle.work_invariant.proofs.ByPlan.{lookup_good}
+use Rattle.work_invariant.proofs.Reading.{read_good}
 use Rattle.place_invariant.proofs.Fills.{fill_good}
 use Rattle.place_invariant.proofs.Removals.{remove_good}
 use Rattle.place_invariant.proofs.ScanSteps.{scan_good}
@@ -51,6 +52,8 @@ work_good setup setting cores t stands c here a active (Lookup (AtLeaf leaf numb
     look_good setup setting cores t stands c here a active (AtLeaf leaf number) is knows
 work_good setup setting cores t stands c here a active (Lookup (AtEntry top index)) is knows =
     look_good setup setting cores t stands c here a active (AtEntry top index) is knows
+work_good setup setting cores t stands c here a active (Read f look) is knows =
+    read_good setup setting cores t stands c here a active f look is knows
 work_good setup setting cores t stands c here a active (Acquire (AtLoad frame core) change act) is knows =
     acquire_good setup setting cores t stands c here a active (AtLoad frame core) change act is knows
 work_good setup setting cores t stands c here a active (Acquire (AtCompare frame core count stamp) change act) is knows =
