@@ -1,6 +1,6 @@
 -- A core that begins a call.
 use Rattle.std.proofs.lemmas.List.Elements.{All-nil}
-use Rattle.std.proofs.Common.{◌≡◌, List, [], Some, refl, arith}
+use Rattle.std.proofs.Common.{◌≡◌, List, [], Some, None, refl, arith}
 use Rattle.stage_pins.specs.declared.held.Acquired.{Acquired}
 use Rattle.stage_pins.specs.Held.{AcquiredFits}
 use Rattle.spk_nums.specs.CallLimits.{InLimits}

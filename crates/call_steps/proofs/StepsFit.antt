@@ -51,6 +51,7 @@ use Rattle.call_acts.specs.declared.kills.KillingAt.TheVariants.{LoadComp, LoadL
 use Rattle.call_acts.specs.declared.own.Own.{Own}
 use Rattle.call_acts.specs.declared.work.Act.{Act as ActType}
 use Rattle.call_acts.specs.declared.work.Act.TheVariants.{Fill as fill_act, Remove as remove_act, Retype as type_act, Make as make_act, Outside, Tick as tick_act, Kill as kill_act}
+use Rattle.call_acts.specs.declared.work.Work.TheVariants.{Lookup}
 use Rattle.call_acts.specs.declared.work.WorkStep.{WorkStep}
 use Rattle.call_acts.specs.declared.work.WorkStep.TheVariants.{Goes, Acquires, Refuses, Answers, Changes}
 use Rattle.call_acts.specs.declared.work.Due.{Due}
@@ -539,12 +540,15 @@ after_one call found f n is = absurd (cc)
 -- the component whose word is read is in a frame of the machine
 reads_below : (frames : ℕ) (call : Call) (found : List Capability) (f : ℕ) → reads_of call found ≡ Some f → ObjectNamed frames call found
     → f < frames
-reads_below frames (Gate c t b) found f is below = by (at_place found First) is below
+reads_below frames (Gate c t b) ks f is below = by (at_place ks First) is below
   where
+    frame_is : (g : ℕ) → Some g ≡ Some f → g ≡ f
+    frame_is g h = cc
+
     by : (o : Option Capability) → frame_named o ≡ Some f → IfSome o (λ k. k.frame < frames) → f < frames
     by None is below = absurd (cc)
-    by (Some k) is below = rw (is, below)
-reads_below frames call found f is below = absurd (cc)
+    by (Some k) is below = subst (λ (g : ℕ). g < frames) (frame_is k.frame is) below
+reads_below frames call ks f is below = absurd (cc)
 
 -- where more steps may be left, the same step fits
 more_steps : (s : Shape) (later most more : ℕ) (step : WorkStep) → most ≤ more → StepFits s [] later most step → StepFits s [] later more step
@@ -580,6 +584,7 @@ read_fits : (s : Shape) (later most f : ℕ) (step : WorkStep) → f < s.frames 
     → StepFits s [] later (1 + most) (read_first (Some f) step)
 read_fits s later most f (Goes (Lookup look)) below is fits = ((below, fits.0), (let left = fits.1 in omega (arith, left)), refl)
 read_fits s later most f (Refuses r tail) below is fits = ((let left = fits.0 in omega (arith, left)), fits.1)
+read_fits s later most f step below is fits = absurd is
 
 pub next_case : (own : Own) (call : Call) (found : List Capability) (names : List Name) (target : Target) → IsOwn own
     → IfSome (at_place found First) (CapNames own.layout.frames) → ObjectNamed own.layout.frames call found → InLimits call
