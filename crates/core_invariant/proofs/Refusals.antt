@@ -5,7 +5,7 @@ use Rattle.std.proofs.lemmas.Bool.{false≢true, lt-leb}
 use Rattle.supported_calls.specs.Built.{IsBuilt}
 use Rattle.spk_nums.specs.Setting.{Setting, IsSetting}
 use Rattle.spk_nums.specs.declared.calls.Call.{Call}
-use Rattle.spk_nums.specs.declared.calls.Call.TheVariants.{Look, Copy, Remove, Shrink, Unmap, Retype, Make, Tick, Kill}
+use Rattle.spk_nums.specs.declared.calls.Call.TheVariants.{Look, Copy, Remove, Shrink, Unmap, Retype, Make, Tick, Gate, Kill}
 use Rattle.spk_nums.specs.declared.replies.Reply.{Reply}
 use Rattle.spk_nums.specs.declared.replies.Reply.TheVariants as reply
 use Rattle.word_map.specs.Moves.{Move, word_of}
@@ -72,6 +72,7 @@ built_owes s c (Unmap p v) built other = refl
 built_owes s c (Retype r f k) built other = refl
 built_owes s c (Make what r f u b) built other = refl
 built_owes s c (Tick n) built other = absurd (other n refl)
+built_owes s c (Gate k u b) built other = refl
 built_owes s c (Kill k) built other = refl
 built_owes s c _ built other = absurd built
 
