@@ -1,5 +1,7 @@
-//! Tests of the calls on components: `kill`.
+//! Tests of the calls on components: `gate` and `kill`.
 #![tactic(auto)]
 
+#[cfg(test)]
+mod gates;
 #[cfg(test)]
 mod kills;
