@@ -163,8 +163,8 @@ gate_of : (s : State) (c : ℕ) (comp : Capability) (read : Option ℕ) → IsRe
     → GateOf comp read
 gate_of s c comp read has fits = record {
   cap = record { kind = kind.Gate; frame = comp.frame; arg = has.life.epoch };
-  is = ap (gate_to (Some comp)) has.epoch ∙ ap (λ b. gate_if b comp.frame has.life.epoch) (le-leb 1 has.life.epoch has.fits.1.0);
-  fits = (fits.0, has.fits.1.0, has.fits.1.1);
+  is = ap (gate_to (Some comp)) has.epoch ∙ ap (λ b. gate_if b comp.frame has.life.epoch) (le-leb 1 has.life.epoch has.fits.1);
+  fits = (fits.0, has.fits.1, has.fits.2);
 }
 
 -- The object that a call makes whose names have all led to something.

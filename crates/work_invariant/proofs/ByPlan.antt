@@ -82,7 +82,7 @@ use Rattle.call_steps.specs.Steps.{landed, found_more, next_by as what_next, nam
 use Rattle.call_steps.proofs.StepsFit.{cap_one}
 use Rattle.call_steps.specs.View.{Core}
 use Rattle.core_invariant.specs.Stands.{holds_at, holds_in, Stands}
-use Rattle.core_invariant.proofs.Carries.{names_on}
+use Rattle.core_invariant.proofs.Carries.{names_on, read_before_on}
 use Rattle.core_invariant.proofs.Loads.{OnlyLooks, next_at, core_is, call_is, is_active, loads_on, decides_on}
 use Rattle.core_invariant.proofs.Sounds.{limits_of}
 use Rattle.core_invariant.proofs.Refusals.{GoodTook, not_spent, refuses_empty, refuses_wrong, refuses_occupied}
@@ -165,6 +165,19 @@ module _ (setup : Setting) (setting : IsSetting setup) (cores : ℕ → Core) (t
   way : (target : place) → NextPlace s c (next_of a.plan a.found) target → (g i : ℕ) → is_slot_in (wide_way_to s target) g i ≡ true
       → is_slot_in (wide_ways s c (rule_of s c a.call)) g i ≡ true
   way target is g i h = next_on_way s c (own_pages s c) a.plan (rule_of s c a.call) a.found goes_by leads target g i is h
+
+  -- the look-up goes on, and the call knows what it knew
+  looks_more : (next : Next) → next_of a.plan a.found ≡ next → (e : Step) (on : Look) → Carries setup t e c
+      → LooksFor setup (e ∷ t) c table next on
+      → KnowsUndecided setup (e ∷ t) c table (next_at a a.found (Undecided (Lookup on))) (Lookup on)
+  looks_more next is e on carries up = record {
+    names = names_on setup setting t e stands.legal c a.call is_open carries table a.plan a.found has.names;
+    knows = record {
+      looks = subst (λ x. LooksFor setup (e ∷ t) c table x on) (sym is) up;
+      has_read = read_before_on setup setting t e stands.legal c a.call is_open carries (reads_of a.call a.found) a.read
+          (next_of a.plan a.found) has.knows.has_read;
+    };
+  }
 
   own_target : (n : ℕ) → own_in table n ≡ own s c n
   own_target n = own_is s c table n table_is
@@ -506,13 +519,7 @@ module _ (setup : Setting) (setting : IsSetting setup) (cores : ℕ → Core) (t
         (ap (reached s c) (sym (own_target name.number)) ∙ none)))
         (λ g i h. way (own s c name.number) (subst (λ x. NextPlace s c x (own s c name.number)) (sym next) refl) g i
         (subst (λ x. is_slot_in (wide_way_to s x) g i ≡ true) (own_target name.number) h))
-        (λ e look2 carries up. record {
-          names = names_on setup setting t e stands.legal c a.call is_open carries table a.plan a.found has.names;
-          knows = record {
-            looks = subst (λ x. LooksFor setup (e ∷ t) c table x look2) (sym next) up;
-            has_read = subst (ReadBefore s c (reads_of a.call a.found) a.read) (sym next) tt;
-          };
-        })
+        (looks_more (NextName name.number wanted_of) next)
         (λ at v arrives reads shows only. ends_for next at v (name_good at arrives only v shows))
         room look stage_is looks
 
@@ -694,10 +701,7 @@ module _ (setup : Setting) (setting : IsSetting setup) (cores : ℕ → Core) (t
       (λ h. may_free spot to none reply.NoSlot h) (λ out. first_free spot to none reply.NoSlot
       (vacant_no_slot s c (target spot to none) out))
       (λ g j h. way (target spot to none) (subst (λ x. NextPlace s c x (target spot to none)) (sym next) refl) g j h)
-      (λ e look2 carries up. record {
-        names = names_on setup setting t e stands.legal c a.call is_open carries table a.plan a.found has.names;
-        knows = record { looks = subst (λ x. LooksFor setup (e ∷ t) c table x look2) (sym next) up; has_read = has.knows.has_read };
-      })
+      (looks_more (NextFree (target spot to none)) next)
       (λ at v arrives reads shows only. ends_for next at v (free_at spot to none at v arrives reads shows only))
       room look stage_is looks
   free_step (spot_of.InRoot i x) to none looks =
@@ -707,10 +711,7 @@ module _ (setup : Setting) (setting : IsSetting setup) (cores : ℕ → Core) (t
       (λ h. may_free spot to none reply.NoSlot h) (λ out. first_free spot to none reply.NoSlot
       (vacant_no_slot s c (target spot to none) out))
       (λ g j h. way (target spot to none) (subst (λ y. NextPlace s c y (target spot to none)) (sym next) refl) g j h)
-      (λ e look2 carries up. record {
-        names = names_on setup setting t e stands.legal c a.call is_open carries table a.plan a.found has.names;
-        knows = record { looks = subst (λ y. LooksFor setup (e ∷ t) c table y look2) (sym next) up; has_read = has.knows.has_read };
-      })
+      (looks_more (NextFree (target spot to none)) next)
       (λ at v arrives reads shows only. ends_for next at v (free_at spot to none at v arrives reads shows only))
       room look stage_is looks
 
@@ -796,10 +797,7 @@ module _ (setup : Setting) (setting : IsSetting setup) (cores : ℕ → Core) (t
       (λ h. may_held spot to none reply.NoSlot h) (λ out. first_held spot to none reply.NoSlot
       (held_no_slot s c (held_target spot to none) out))
       (λ g j h. way (held_target spot to none) (subst (λ x. NextPlace s c x (held_target spot to none)) (sym next) refl) g j h)
-      (λ e look2 carries up. record {
-        names = names_on setup setting t e stands.legal c a.call is_open carries table a.plan a.found has.names;
-        knows = record { looks = subst (λ x. LooksFor setup (e ∷ t) c table x look2) (sym next) up; has_read = has.knows.has_read };
-      })
+      (looks_more (NextHeld (held_target spot to none)) next)
       (λ at v arrives reads shows only. ends_for next at v (held_at spot to none at v arrives reads shows only))
       room look stage_is looks
   held_step (spot_of.InRoot i x) to none looks =
@@ -809,10 +807,7 @@ module _ (setup : Setting) (setting : IsSetting setup) (cores : ℕ → Core) (t
       (λ h. may_held spot to none reply.NoSlot h) (λ out. first_held spot to none reply.NoSlot
       (held_no_slot s c (held_target spot to none) out))
       (λ g j h. way (held_target spot to none) (subst (λ y. NextPlace s c y (held_target spot to none)) (sym next) refl) g j h)
-      (λ e look2 carries up. record {
-        names = names_on setup setting t e stands.legal c a.call is_open carries table a.plan a.found has.names;
-        knows = record { looks = subst (λ y. LooksFor setup (e ∷ t) c table y look2) (sym next) up; has_read = has.knows.has_read };
-      })
+      (looks_more (NextHeld (held_target spot to none)) next)
       (λ at v arrives reads shows only. ends_for next at v (held_at spot to none at v arrives reads shows only))
       room look stage_is looks
 
