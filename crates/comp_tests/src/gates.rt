@@ -327,6 +327,7 @@ impl Made {
 }
 
 // How core 0's gate and core 1's kill end.
+#[derive(Drop)]
 struct End {
     replies: String,
     gate: bool,
