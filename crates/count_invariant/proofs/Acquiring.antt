@@ -63,6 +63,7 @@ use Rattle.plan_ways.proofs.Near.{one_left, one_right, near_about, near_found}
 use Rattle.call_plans.specs.GoesBy.{GoesBy, own_pages}
 use Rattle.call_plans.proofs.CallsGoBy.{calls_go}
 use Rattle.count_invariant.proofs.MakingCounts.{no_due, made_counts, made_changes, made_argument, due_near, made_left, due_named}
+use Rattle.count_invariant.proofs.LinkCounts.{link_near}
 use Rattle.count_invariant.proofs.KillingCounts.{kill_counts, kill_near, killing_due}
 use Rattle.look_invariant.proofs.Findings.{found_named}
 use Rattle.call_acts.specs.declared.refusals.Refusal.TheVariants as refusal
@@ -269,6 +270,7 @@ put_counts : (call : Call) → IsBuilt call → (ks : List Capability) (k : Capa
     → IsTrue (counts_references call)
 put_counts (Look a) built ks k puts = absurd (cc)
 put_counts (Copy a u b) built ks k puts = refl
+put_counts (Grow u i l) built ks k puts = refl
 put_counts (Remove u b) built ks k puts = absurd (cc)
 put_counts (Shrink u i) built ks k puts = absurd (cc)
 put_counts (Unmap p v) built ks k puts = absurd (cc)
@@ -283,6 +285,7 @@ put_near : (s : State) (c : ℕ) (call : Call) → IsBuilt call → (ks : List C
     → (f : ℕ) → is_one_of f (named_by k.kind k.frame) ≡ true → is_one_of f (frames_near s c call) ≡ true
 put_near s c (Look a) built ks k puts lead f names_it = absurd (cc)
 put_near s c (Copy a u b) built ks k puts lead f names_it = near_found s c (Copy a u b) ks lead First k puts f names_it
+put_near s c (Grow u i l) built ks k puts lead f names_it = link_near s c u i l ks k puts lead f names_it
 put_near s c (Remove u b) built ks k puts lead f names_it = absurd (cc)
 put_near s c (Shrink u i) built ks k puts lead f names_it = absurd (cc)
 put_near s c (Unmap p v) built ks k puts lead f names_it = absurd (cc)

@@ -12,7 +12,7 @@ use Rattle.spk_nums.specs.declared.calls.Call.{Call}
 use Rattle.spk_nums.specs.declared.calls.Call.TheVariants.{Look as look_call, Copy, Remove, Shrink, Unmap, Retype, Make as make_call, Tick, Kill}
 use Rattle.spk_nums.specs.declared.calls.Make.{Make}
 use Rattle.spk_nums.specs.declared.calls.Make.TheVariants as make
-use Rattle.supported_calls.specs.Built.{IsBuilt, IsObjectMade}
+use Rattle.supported_calls.specs.Built.{IsBuilt}
 use Rattle.entry_words.specs.EntryWord.{EntryFits, entry_of_word}
 use Rattle.entry_words.specs.declared.entry.Entry.TheVariants as entry
 use Rattle.kernel_rules.specs.State.{State}
@@ -46,7 +46,7 @@ use Rattle.call_acts.specs.Objects.{object_made}
 use Rattle.call_acts.specs.Acts.{scans, stamp_in, stamp_shown, stamp_of_act, filling, making, making_if, makes_at, act_begun}
 use Rattle.core_invariant.specs.Knows.{IsSpot, KnowsAct, OutsideBy, is_start, goes_on}
 use Rattle.core_invariant.proofs.Sounds.{limits_of}
-use Rattle.place_invariant.proofs.ObjectMakes.{TwoFound, object_make}
+use Rattle.place_invariant.proofs.ObjectMakes.{made_of, TwoFound, object_make}
 use Rattle.work_invariant.proofs.AtName.{range_below}
 
 -- What such a call begins with where it has found its place: an act, which starts after a scan, if there is one; what it knows of it where
@@ -150,30 +150,6 @@ module _ (own : Own) (plan : Plan) (c : ℕ) (own_core : own.core ≡ c) (at : F
           };
           outside = λ out. record { object = subst (λ (o : Option NewObject). IsSome o) (sym is) refl; outside = has };
         }
-
--- The object that a call makes whose names have all led to something.
-made_of : (what : Make) → IsObjectMade what → (r f u b : ℕ) (ks : List Capability)
-    → names_after (plan_for (make_call what r f u b)).names ks ≡ []
-    → (R : Type 0) → ((object : NewObject) → object_made what ks ≡ Some object → R) → R
-made_of make.Table built r f u b ks none R by = by objects.Table refl
-made_of make.Leaf built r f u b ks none R by = by objects.Leaf refl
-made_of make.Pages built r f u b ks none R by = by objects.Pages refl
-made_of make.Pleaf built r f u b ks none R by = by objects.Pleaf refl
-made_of (make.Tcap sched quality) built r f u b ks none R by = by (objects.Tcap sched quality) refl
-made_of (make.Thread comp) built r f u b [] none R by = absurd (not_none none)
-  where
-    not_none : of_kind kind.Range r ∷ of_kind kind.Table u ∷ of_kind kind.Comp comp ∷ [] ≡ [] → ⊥
-    not_none h = cc
-made_of (make.Thread comp) built r f u b (k ∷ []) none R by = absurd (not_none none)
-  where
-    not_none : of_kind kind.Table u ∷ of_kind kind.Comp comp ∷ [] ≡ [] → ⊥
-    not_none h = cc
-made_of (make.Thread comp) built r f u b (k ∷ j ∷ []) none R by = absurd (not_none none)
-  where
-    not_none : of_kind kind.Comp comp ∷ [] ≡ [] → ⊥
-    not_none h = cc
-made_of (make.Thread comp) built r f u b (k ∷ j ∷ i ∷ ks) none R by = by (objects.Thread i.frame) refl
-made_of (make.Comp table pages live) built r f u b ks none R by = absurd built
 
 pub begins_free : (own : Own) (call : Call) → IsBuilt call → (spot : Spot) → (plan_for call).target ≡ Free spot
     → (s : State) (plan : Plan) (ks : List Capability) (c : ℕ) → own.core ≡ c
