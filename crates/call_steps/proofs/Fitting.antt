@@ -303,6 +303,9 @@ module _ (own : Own) (a : ActiveCall) (facts : Facts own a) (room : own.made < o
   with_more : (x y more : ℕ) → x < y → x + more < y + more
   with_more x y more less = omega arith
 
+  flushes_fewer : (x cores : ℕ) → 1 ≤ x → cores - 0 < x + cores
+  flushes_fewer x cores some = omega arith
+
   scan_goes : (q : Quiet) (found : ℕ) → QuietFits own.layout q → ScanFits own.layout q → quiet_end own.layout.cores q found ≡ ends.Going
       → QuietFits own.layout (quiet_after own.layout.cores q found) × ScanFits own.layout (quiet_after own.layout.cores q found)
       × (left_of_scan own.layout.cores (quiet_after own.layout.cores q found) < left_of_scan own.layout.cores q)
@@ -387,7 +390,7 @@ module _ (own : Own) (a : ActiveCall) (facts : Facts own a) (room : own.made < o
       by None false below true is =
           let here = fits.0 in
           let some = core_left core at fits.0 quiet.0 in
-          (omega (arith, here), fits.1, with_more 0 (left_is at) own.layout.cores some)
+          (omega (arith, here), fits.1, flushes_fewer (left_is at) own.layout.cores some)
       by None false below false is = absurd (cc)
 
   scan_end_fits : (left : ℕ) (act : ActType) (q : Quiet) (end : StageEnd (Unit {0})) → a.counts ≡ [] → ActFits own.layout act

@@ -187,7 +187,7 @@ module _ (setup : Setting) (setting : IsSetting setup) (cores : ℕ → Core) (t
   pub vacant_here : (index < 64) → (state_after setup t).frame node ≡ Kernel Leaf → last_left setup t (EntryAt node index) ≡ word
       → IsVacant (state_after setup t) c node index
   vacant_here small in_leaf same =
-      vacant_by setup setting t stands.legal stands.graces c node index in_leaf (ap (λ l. l.cores) (limits_of setup t)) setup.frames
+      vacant_by setup t c node index (ap (λ l. l.cores) (limits_of setup t)) setup.frames
       (entry_of_word (last_left setup t (EntryAt node index))) unmarked.says may
     where
       may : MayFill setup t c (PlaceOf node index) setup.cores (entry_of_word (last_left setup t (EntryAt node index)))
