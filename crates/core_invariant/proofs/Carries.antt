@@ -349,7 +349,7 @@ module _ (setup : Setting) (setting : IsSetting setup) (t : Trace) (e : Step) (l
     starts = has.starts;
     past = carries.past at has.past;
     passed = λ d below other. carries.passed (scanned_for act) at d has.past (has.passed d below other);
-    page = has.page;
+    pages = has.pages;
   }
 
   quiet_on : (a : ActiveCall) (q : Quiet) (act : ActOf) → ReadsSame setup t e c act

@@ -433,7 +433,7 @@ pub record KnowsScan (setup : Setting) (t : Trace) (c : ℕ) (a : ActiveCall) (a
   pub starts : is_start act ≡ true
   pub past : at < clock setup t
   pub passed : (d : ℕ) → d < upto → d ≢ c → HasPassed setup t (scanned_for act) at d
-  pub page : page ≡ fills_page a.call a.found
+  pub pages : page ≡ fills_page a.call a.found
 
 abbrev pub KnowsQuiet : Setting → Trace → ℕ → ActiveCall → Quiet → ActOf → Type 0
 KnowsQuiet setup t c a (AtCore at core upto page) act = KnowsScan setup t c a at core upto 0 page act
