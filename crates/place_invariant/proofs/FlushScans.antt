@@ -52,7 +52,8 @@ use Rattle.call_steps.specs.Fits.{StageFits, CountsAt, HasRoom}
 use Rattle.call_steps.specs.Steps.{landed, took_scan}
 use Rattle.call_steps.specs.View.{Core}
 use Rattle.core_invariant.specs.Holding.{holds_counts}
-use Rattle.core_invariant.specs.Knows.{HasFlushed, MayFill, KnowsAct, KnowsUndecided, scanned_for, phase_at, IsSpot, goes_on as goes_on_act}
+use Rattle.core_invariant.specs.Words.{PlaceIs}
+use Rattle.core_invariant.specs.Knows.{HasPassed, HasFlushed, MayFill, KnowsAct, KnowsUndecided, scanned_for, phase_at, IsSpot, goes_on as goes_on_act}
 use Rattle.core_invariant.specs.Stands.{holds_at, holds_in, Stands}
 use Rattle.core_invariant.proofs.Calm.{stored_by}
 use Rattle.core_invariant.proofs.Carries.{ReadsSame, slot_relies, names_on, act_on}
@@ -245,12 +246,11 @@ module _ (setup : Setting) (setting : IsSetting setup) (cores : ℕ → Core) (t
           by_read (inr p) = p
 
       same_word_is : last_left setup t (EntryAt node index) ≡ word
-      same_word_is = stands_alone setup setting cores t stands c here a active opens has.names node index word spot.own load
-          (reply.Unflushed at) alone
+      same_word_is = stands_alone setup t c node index word spot.own load (reply.Unflushed at) alone
 
-      removed : IsRemovedSince setup t c node index (s.place node index) (stamp setup t thing) x
-      removed = removed_is setup t c node index setup.frames (s.place node index) (stamp setup t thing) x
-          (subst (λ o. Rattle.core_invariant.specs.Words.PlaceIs setup.frames (s.place node index) (stamp setup t thing) o)
+      removed : IsRemovedSince (s.place node index) (stamp setup t thing) x
+      removed = removed_is setup.frames (s.place node index) (stamp setup t thing) x
+          (subst (λ o. PlaceIs setup.frames (s.place node index) (stamp setup t thing) o)
           (ap entry_of_word same_word_is ∙ scan.shows) (unmarked same_word_is).says)
 
       undecided : (phase t at ≡ Out) ⊎ ((call : Call) × (phase t at ≡ Open call))
@@ -299,7 +299,7 @@ module _ (setup : Setting) (setting : IsSetting setup) (cores : ℕ → Core) (t
         past = scan.scanned.past;
         rises = scan.scanned.rises;
         was_removed = scan.scanned.was_removed;
-        passed = λ d under other. subst (λ y. Rattle.core_invariant.specs.Knows.HasPassed setup t y x d) thing_is
+        passed = λ d under other. subst (λ y. HasPassed setup t y x d) thing_is
             (has.knows.passed d (let m = most in omega arith) other);
         flushed = λ d under. elim (before d under) [
           | inl earlier ↦ scan.scanned.flushed d earlier

@@ -127,6 +127,26 @@ pub record IsVacant (s : State) (c node index : ℕ) : Type 0 where
   pub vacant : not_vacant s c (PlaceOf node index) (s.place node index) ≡ None
   pub names : place_names (s.place node index) ≡ []
 
+stamp_same : (x y : ℕ) → Some (entry.Quiescing x) ≡ Some (entry.Quiescing y) → x ≡ y
+stamp_same x y h = cc
+
+-- What the word of a place shows that is quiescing.
+pub record IsRemovedSince (p : Place) (r x : ℕ) : Type 0 where
+  pub cap : Capability
+  pub place : p ≡ Quiescing cap
+  pub since : r ≡ x
+
+pub removed_is : (n : ℕ) (p : Place) (r x : ℕ) → PlaceIs n p r (Some (entry.Quiescing x)) → IsRemovedSince p r x
+removed_is n Free r x is = absurd (not_free is)
+  where
+    not_free : Some (entry.Quiescing x) ≡ Some entry.Free → ⊥
+    not_free h = cc
+removed_is n (Holds k) r x is = absurd (not_held is.0)
+  where
+    not_held : Some (entry.Quiescing x) ≡ Some (entry.Held k) → ⊥
+    not_held h = cc
+removed_is n (Quiescing k) r x is = record { cap = k; place = refl; since = sym (stamp_same x r is.says) }
+
 module _ (setup : Setting) (t : Trace) (c node index : ℕ) (cores : (state_after setup t).limits.cores ≡ setup.cores) where
   abbrev s : State
   s = state_after setup t
@@ -136,9 +156,6 @@ module _ (setup : Setting) (t : Trace) (c node index : ℕ) (cores : (state_afte
 
   some_entry : (v u : Entry) → Some v ≡ Some u → v ≡ u
   some_entry v u h = cc
-
-  stamp_same : (x y : ℕ) → Some (entry.Quiescing x) ≡ Some (entry.Quiescing y) → x ≡ y
-  stamp_same x y h = cc
 
   free_is : (n : ℕ) (p : Place) (r : ℕ) → PlaceIs n p r (Some entry.Free) → p ≡ Free
   free_is n Free r is = refl
@@ -150,22 +167,6 @@ module _ (setup : Setting) (t : Trace) (c node index : ℕ) (cores : (state_afte
     where
       not_free : (r : ℕ) → Some entry.Free ≡ Some (entry.Quiescing r) → ⊥
       not_free r h = cc
-
-  pub record IsRemovedSince (p : Place) (r x : ℕ) : Type 0 where
-    pub cap : Capability
-    pub place : p ≡ Quiescing cap
-    pub since : r ≡ x
-
-  pub removed_is : (n : ℕ) (p : Place) (r x : ℕ) → PlaceIs n p r (Some (entry.Quiescing x)) → IsRemovedSince p r x
-  removed_is n Free r x is = absurd (not_free is)
-    where
-      not_free : Some (entry.Quiescing x) ≡ Some entry.Free → ⊥
-      not_free h = cc
-  removed_is n (Holds k) r x is = absurd (not_held is.0)
-    where
-      not_held : Some (entry.Quiescing x) ≡ Some (entry.Held k) → ⊥
-      not_held h = cc
-  removed_is n (Quiescing k) r x is = record { cap = k; place = refl; since = sym (stamp_same x r is.says) }
 
   scanned_vacant : (x : ℕ) → IsRemovedSince (s.place node index) (stamp setup t thing) x → IsScanned setup t c thing x setup.cores
       → IsVacant s c node index
