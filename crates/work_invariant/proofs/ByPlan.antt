@@ -593,7 +593,7 @@ module _ (setup : Setting) (setting : IsSetting setup) (cores : ℕ → Core) (t
             knows = by_first first;
           })
         where
-          abbrev Begun : Quiet → Type 0
+          Begun : Quiet → Type 0
           Begun p = KnowsQuiet setup (load ∷ t) c (next_at a a.found (Undecided (Scan q begun.act))) p begun.act
 
           by_first : ScanBegins x (cores c).own.core setup.cores (fills_page a.call a.found) q → Begun q
