@@ -91,7 +91,9 @@ use Rattle.look_invariant.proofs.Lookups.{Shows, ShowsHeld, Arrives, under_step,
 use Rattle.look_invariant.proofs.Findings.{own_is, past_slot, past_unreached, reaches_none, reaches_held, reaches_other, use_held, use_free, use_removed_at, named_of, named_no_slot, named_empty, named_wrong, found_named, arriving, reached_now, found_now}
 use Rattle.look_invariant.proofs.Next.{MayUse, spot_relies, Rest, ANameLeft, NoneLeft, rest_of, next_name, next_end}
 use Rattle.work_invariant.proofs.ByCall.{none_after, vacant_no_slot, vacant_occupied, held_no_slot, held_empty, past_entry, past_entry_unreached, no_own, make_target, BeginsRemoval, begins_removal, free_somewhere, held_somewhere}
-use Rattle.work_invariant.proofs.AtTarget.{Begins, begins_free, range_within, was_while_open}
+use Rattle.work_invariant.proofs.AtTarget.{Begins, begins_free, range_within}
+use Rattle.work_invariant.proofs.FoundFits.{found_fits}
+use Rattle.work_invariant.proofs.ScanStarts.{ScanStarts, scan_starts}
 
 module _ (setup : Setting) (setting : IsSetting setup) (cores : ℕ → Core) (t : Trace) (stands : Stands setup cores t) (c : ℕ)
     (here : c < setup.cores)
@@ -504,42 +506,10 @@ module _ (setup : Setting) (setting : IsSetting setup) (cores : ℕ → Core) (t
         (ap (λ (p : Plan). p.target) (sym plan_is) ∙ to) s a.plan a.found c (stands.each c here).number
         (subst (λ (p : Plan). names_after p.names a.found ≡ []) plan_is none)
         (subst (λ (p : Plan). Leads (LeadsIn s c) p.names [] a.found) plan_is leads)
-        (λ nth k is. fits_of a.plan.names [] a.found nth k has.names is)
+        (λ nth k is. found_fits setup t c table a.plan.names [] a.found nth k has.names is)
         (λ r f range is in_range. subst (λ (n : ℕ). f < n) (sym (ap (λ x. x.frames) (stands.each c here).shape))
         (range_within setup setting t stands.legal c a.call is_open r f range is in_range))
         (found_at at.node at.index (last_left setup t (EntryAt at.node at.index)) v)
-      where
-        -- each of these is a capability that was found
-        first_of : (names : List Name) (caps : List Named) (ks : List Capability) (k : Capability)
-            → Leads (λ n wanted k. HasFound setup t c (own_in table n) wanted k) names caps ks → head ks ≡ Some k
-            → EntryFits (entry.Held k)
-        first_of names caps [] k led is = absurd (none_some k is)
-        first_of [] caps (j ∷ ks) k led is = absurd led
-        first_of (name ∷ names) caps (j ∷ ks) k led is =
-            subst (λ (x : Capability). EntryFits (entry.Held x)) (some_inj j k is) led.0.fits
-
-        -- and so are those behind it
-        later : (names : List Name) (caps : List Named) (ks : List Capability)
-            → Leads (λ n wanted k. HasFound setup t c (own_in table n) wanted k) names caps ks
-            → (more : List Name) × (earlier : List Named)
-            × Leads (λ n wanted k. HasFound setup t c (own_in table n) wanted k) more earlier (tail ks)
-        later names caps [] led = (names, caps, tt)
-        later [] caps (j ∷ ks) led = absurd led
-        later (name ∷ names) caps (j ∷ ks) led = (names, caps ++ found j ∷ [], led.1)
-
-        fits_of : (names : List Name) (caps : List Named) (ks : List Capability) (nth : Nth) (k : Capability)
-            → Leads (λ n wanted k. HasFound setup t c (own_in table n) wanted k) names caps ks → at_place ks nth ≡ Some k
-            → EntryFits (entry.Held k)
-        fits_of names caps ks First k led is = first_of names caps ks k led is
-        fits_of names caps ks Second k led is =
-            let one = later names caps ks led in first_of one.0 one.1 (tail ks) k one.2 is
-        fits_of names caps ks Third k led is =
-            let one = later names caps ks led in
-            let two = later one.0 one.1 (tail ks) one.2 in first_of two.0 two.1 (tail (tail ks)) k two.2 is
-        fits_of names caps ks Fourth k led is =
-            let one = later names caps ks led in
-            let two = later one.0 one.1 (tail ks) one.2 in
-            let three = later two.0 two.1 (tail (tail ks)) two.2 in first_of three.0 three.1 (tail (tail (tail ks))) k three.2 is
 
     -- the place is reached, and its word shows that it may be filled, once the cores below `upto` were scanned
     module _ (at : Slot) (arrives : Arrives setup t c target at) (v : Entry)
@@ -628,43 +598,8 @@ module _ (setup : Setting) (setting : IsSetting setup) (cores : ℕ → Core) (t
     module _ (at : Slot) (arrives : Arrives setup t c target at) (x : ℕ)
         (reads : entry_of_word (last_left setup t (EntryAt at.node at.index)) ≡ Some (entry.Quiescing x))
         (looks : OnlyLooks setup t c a.call (LoadOf (EntryAt at.node at.index))) where
-      abbrev removed : Thing
-      removed = PlaceOf at.node at.index
-
-      abbrev loads : Step
-      loads = arriving setup t c target at (last_left setup t (EntryAt at.node at.index)) arrives
-
-      since : ShowsSince (s.place at.node at.index) (stamp setup t removed) x
-      since = since_is setup.frames (s.place at.node at.index) (stamp setup t removed) x _ arrives.plain.says reads
-
-      passed_none : (u : Trace) → stamp setup u removed ≡ stamp setup t removed → clock setup u ≡ clock setup t
-          → WasAt (IsRemoved removed) setup u c → (upto : ℕ) → ((d : ℕ) → d < upto → d ≢ c → ⊥)
-          → ((d : ℕ) → d < upto → HasFlushed setup u removed x d) → IsScanned setup u c removed x upto
-      passed_none u stamp_is clock_is was upto none flushed = record {
-        some = since.drawn;
-        past = (let p = (stands.graces removed).past in let q = since.same in omega (arith, p, q, clock_is));
-        rises = (let q = since.same in omega (arith, q, stamp_is));
-        was_removed = was;
-        passed = λ d below other. absurd (none d below other);
-        flushed = flushed;
-      }
-
-      scanned_then : (upto : ℕ) → ((d : ℕ) → d < upto → d ≢ c → ⊥) → ((d : ℕ) → d < upto → HasFlushed setup (loads ∷ t) removed x d)
-          → IsScanned setup (loads ∷ t) c removed x upto
-      scanned_then = passed_none (loads ∷ t) refl refl (was_now (IsRemoved removed) setup t loads c since.removed)
-
-      -- where flush words are not scanned, the place waits for no flush
-      unpaged : fills_page a.call a.found ≡ false → (d : ℕ) → HasFlushed setup t removed x d
-      unpaged is = unpaged_flushed setup setting t stands.legal stands.graces at.node at.index x
-          arrives.leaf.node
-          (paging_by setup setting t stands.legal c target at arrives.reached a.call is_open
-          (is_active setup setting cores t stands c here a active).built a.found
-          (subst (λ (p : Plan). Leads (LeadsIn s c) p.names [] a.found) plan_is leads)
-          (ap (λ p. next_of p a.found) (sym plan_is) ∙ next_free) ∙ is) since.drawn
-
-      scanned_now : (upto : ℕ) → ((d : ℕ) → d < upto → d ≢ c → ⊥) → ((d : ℕ) → d < upto → HasFlushed setup t removed x d)
-          → IsScanned setup t c removed x upto
-      scanned_now = passed_none t refl refl (was_while_open (IsRemoved removed) setup t c a.call is_open since.removed)
+      waits : ScanStarts setup t c a at x
+      waits = scan_starts setup setting cores t stands c here a active is_open leads target next_free at arrives x reads
 
       fills_removed : GoodTook setup cores t c (LoadOf (EntryAt at.node at.index)) (landed a (scans (cores c).own.core
           (quiet_scan x (cores c).own.core (cores c).own.layout.cores (fills_page a.call a.found)) (begins_with at (entry.Quiescing x)).act))
@@ -678,15 +613,17 @@ module _ (setup : Setting) (setting : IsSetting setup) (cores : ℕ → Core) (t
 
           by : (o : Option Quiet) → quiet_scan x (cores c).own.core setup.cores (fills_page a.call a.found) ≡ o → Goal o
           by None is =
-              let alone = scan_none x (cores c).own.core setup.cores (fills_page a.call a.found) since.drawn is in
+              let alone = scan_none x (cores c).own.core setup.cores (fills_page a.call a.found) waits.drawn is in
               let none : (d : ℕ) → d < setup.cores → d ≢ c → ⊥ = λ d below other.
               alone.1 d below (λ same. other (same ∙ (stands.each c here).number)) in
-              starts_now at arrives (entry.Quiescing x) reads looks (scanned_then setup.cores none (λ d below. unpaged alone.0 d))
-              (scanned_now setup.cores none (λ d below. unpaged alone.0 d))
+              starts_now at arrives (entry.Quiescing x) reads looks
+              (waits.loaded (last_left setup t (EntryAt at.node at.index)) setup.cores none (λ d below. waits.unpaged alone.0 d))
+              (waits.now setup.cores none (λ d below. waits.unpaged alone.0 d))
           by (Some q) is = scans_first at arrives (entry.Quiescing x) reads looks x refl q
-              (scan_begins x (cores c).own.core setup.cores (fills_page a.call a.found) since.drawn q is)
-              (let p = (stands.graces removed).past in let q = since.same in omega arith)
-              (scanned_then 0 (λ d below other. absurd (omega arith)) (λ d below. absurd (omega arith)))
+              (scan_begins x (cores c).own.core setup.cores (fills_page a.call a.found) waits.drawn q is)
+              waits.past
+              (waits.loaded (last_left setup t (EntryAt at.node at.index)) 0 (λ d below other. absurd (omega arith))
+              (λ d below. absurd (omega arith)))
 
     free_at : (at : Slot) (v : Entry) → Arrives setup t c target at
         → entry_of_word (last_left setup t (EntryAt at.node at.index)) ≡ Some v → Shows setup.frames (place_at s at) v

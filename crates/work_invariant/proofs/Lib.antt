@@ -1,5 +1,7 @@
 pub mod ByCall
 pub mod AtName
 pub mod AtTarget
+pub mod FoundFits
+pub mod ScanStarts
 pub mod ByPlan
 pub mod Work
