@@ -2,7 +2,7 @@
 use Rattle.std.specs.Prelude.{ℕ, ℤ, ◌<◌, ◌==◌, pos, negsuc, Bool, true, false, ◌&&◌, nat_lt, nat_le, Option, Some, None, List, map, slice_get, if◌then◌else◌, [], ◌∷◌}
 use Rattle.spk_nums.specs.Capability.{Capability}
 use Rattle.spk_nums.specs.declared.calls.Call.{Call}
-use Rattle.spk_nums.specs.declared.calls.Call.TheVariants.{Look, Copy, Remove, Shrink, Retype, Make as make_call, Unmap, Tick, Gate, Kill}
+use Rattle.spk_nums.specs.declared.calls.Call.TheVariants.{Look, Copy, Remove, Shrink, Retype, Make as make_call, Unmap, Tick, Gate, Kill, Grow}
 use Rattle.spk_nums.specs.declared.replies.Value.TheVariants.{Cap, Nothing as nothing}
 use Rattle.spk_nums.specs.declared.steps.StageEnd.{StageEnd}
 use Rattle.spk_nums.specs.declared.steps.StageEnd.TheVariants as ends
@@ -21,7 +21,7 @@ use Rattle.word_map.specs.Places.{Shape}
 use Rattle.word_map.specs.Moves.{Move, LoadOf}
 use Rattle.stage_look.specs.declared.look.Found.{Found}
 use Rattle.stage_pins.specs.declared.pin.Pin.TheVariants.{AtLoad}
-use Rattle.call_plans.specs.declared.plans.Nth.TheVariants.{First}
+use Rattle.call_plans.specs.declared.plans.Nth.TheVariants.{First, Second}
 use Rattle.call_plans.specs.Plans.{at_place}
 use Rattle.call_acts.specs.declared.refusals.Refusal.TheVariants.{Raced, OutOfRange, Busy, FrameKind as wrong_kind, Dead as is_dead}
 use Rattle.call_acts.specs.declared.work.Act.{Act}
@@ -65,7 +65,8 @@ use Rattle.spk_nums.specs.declared.kinds.Obj.TheVariants.{Blank}
 use Rattle.frame_words.specs.Frame.{word_of_frame, frame_of_word}
 use Rattle.frame_words.specs.declared.frame_word.FrameWord.{FrameWord}
 use Rattle.word_map.specs.Word.{EntryAt}
-use Rattle.kernel_rules.specs.Access.{found as named}
+use Rattle.kernel_rules.specs.Access.{found as named, only}
+use Rattle.kernel_rules.specs.Start.{plain_cap}
 use Rattle.kernel_rules.specs.CapabilityCalls.{has_frame}
 
 -- what an act names is of the machine
@@ -279,17 +280,17 @@ stamp_in (entry.Held k) = 0
 stamp_in (entry.Closing by) = 0
 stamp_in (entry.Quiescing stamp) = stamp
 
--- a place is filled with a capability; one that is quiescing is scanned for first
+-- a place is filled with a capability; one that is quiescing is scanned for first, and where it is one of a page table, so are the flushes
 abbrev pub filling : Capability → Found → Act
 filling k f = fill_act (record { node = f.node; entry = f.entry; word = f.word; cap = k })
 
-abbrev pub fills_at : Own → Capability → Found → WorkStep
-fills_at own k f = scans own.core (quiet_scan (stamp_in f.value) own.core own.layout.cores false) (filling k f)
+abbrev pub fills_at : Own → Capability → Bool → Found → WorkStep
+fills_at own k page f = scans own.core (quiet_scan (stamp_in f.value) own.core own.layout.cores page) (filling k f)
 
-abbrev pub fills_with : Own → Option Capability → Option Found → WorkStep
-fills_with own None f = refuse Raced
-fills_with own (Some k) None = refuse Raced
-fills_with own (Some k) (Some f) = fills_at own k f
+abbrev pub fills_with : Own → Option Capability → Bool → Option Found → WorkStep
+fills_with own None page f = refuse Raced
+fills_with own (Some k) page None = refuse Raced
+fills_with own (Some k) page (Some f) = fills_at own k page f
 
 -- what a place holds is removed
 abbrev pub removing : ℕ → Capability → Found → Act
@@ -305,6 +306,11 @@ abbrev pub removes_at : ℕ → Option Found → WorkStep
 removes_at core None = refuse Raced
 removes_at core (Some f) = removes_held core f f.value
 
+-- a link to the leaf to which a name has led
+abbrev pub link_to : Option Capability → Option Capability
+link_to None = None
+link_to (Some leaf) = Some (plain_cap kind.Link leaf.frame)
+
 -- the gate to a component whose word has been read in this epoch; an epoch of 0 is none
 abbrev pub gate_if : Bool → ℕ → ℕ → Option Capability
 gate_if some f epoch = if some then Some (record { kind = kind.Gate; frame = f; arg = epoch }) else None
@@ -316,6 +322,7 @@ gate_to _ _ = None
 -- what a call that fills its target puts there, where its names have led to these and it has read this
 abbrev pub put_by : Call → List Capability → Option ℕ → Option Capability
 put_by (Copy a t b) found read = at_place found First
+put_by (Grow t i l) found read = link_to (at_place found Second)
 put_by (Gate c t b) found read = gate_to (at_place found First) read
 put_by _ found read = None
 
@@ -327,6 +334,16 @@ frame_named (Some k) = Some k.frame
 abbrev pub reads_of : Call → List Capability → Option ℕ
 reads_of (Gate c t b) found = frame_named (at_place found First)
 reads_of _ found = None
+
+-- whether a name has led to the root of a page table
+abbrev pub is_pages : Option Capability → Bool
+is_pages None = false
+is_pages (Some k) = only kind.Pages k.kind
+
+-- whether a call fills a place of a page table: one that is quiescing is then free only where all cores have flushed
+abbrev pub fills_page : Call → List Capability → Bool
+fills_page (Grow t i l) found = is_pages (at_place found First)
+fills_page _ found = false
 
 -- whether a call removes what its target holds
 abbrev pub removes_by : Call → Bool
@@ -391,7 +408,8 @@ kills_at own (Some k) = kills_in own.core k.kind k.frame
 -- what a call of a core does whose names have led to these, which has read this, and whose target, if it has one, was found
 abbrev pub act_begun : Own → Call → List Capability → Option ℕ → Option Found → WorkStep
 act_begun own (Look a) found read target = looked (at_place found First)
-act_begun own (Copy a t b) found read target = fills_with own (put_by (Copy a t b) found read) target
+act_begun own (Copy a t b) found read target = fills_with own (put_by (Copy a t b) found read) false target
+act_begun own (Grow t i l) found read target = fills_with own (put_by (Grow t i l) found read) (fills_page (Grow t i l) found) target
 act_begun own (Remove t b) found read target = removes_at own.core target
 act_begun own (Shrink t i) found read target = removes_at own.core target
 act_begun own (Unmap p v) found read target = removes_at own.core target
@@ -399,6 +417,6 @@ act_begun own (Retype r f k) found read target = types_at own (at_place found Fi
 act_begun own (make_call what range frame table slot) found read target =
     makes_at own (object_made what found) (at_place found First) frame target
 act_begun own (Tick n) found read target = charges own n
-act_begun own (Gate c t b) found read target = fills_with own (put_by (Gate c t b) found read) target
+act_begun own (Gate c t b) found read target = fills_with own (put_by (Gate c t b) found read) false target
 act_begun own (Kill k) found read target = kills_at own (at_place found First)
 act_begun own _ found read target = refuse Raced

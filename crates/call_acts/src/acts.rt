@@ -17,7 +17,7 @@ ghost use Rattle.word_map.specs.Places.{Shape, size_of};
 ghost use Rattle.word_map.specs.Moves.{op_of};
 ghost use Rattle.spk_nums.specs.WordSteps.{place_in};
 ghost use Rattle.call_acts.specs.WorkSteps.{refuse};
-ghost use Rattle.call_acts.specs.Acts.{gate_if, gate_to, frame_named, reads_of, ActFits, act_move, took_act, act_ready, looked, cap_dues, dues, acquires, next_work, filling, fills_at, fills_with, put_by, act_begun, drawn_by, took_close, is_draw, scans, stamp_in, removing, removes_held, removes_at, types_if, types_at, starts, undo, made_dues, makes_at, makes_in, killing_dues, kills_in, kills_at};
+ghost use Rattle.call_acts.specs.Acts.{gate_if, gate_to, frame_named, reads_of, ActFits, act_move, took_act, act_ready, looked, cap_dues, dues, acquires, next_work, filling, fills_at, fills_with, act_begun, drawn_by, took_close, is_draw, scans, stamp_in, removing, removes_held, removes_at, types_if, types_at, starts, undo, made_dues, makes_at, makes_in, killing_dues, kills_in, kills_at, link_to, is_pages};
 ghost use Rattle.kernel_rules.specs.Access.{found as named_by_cap};
 ghost use Rattle.kernel_rules.specs.CapabilityCalls.{has_frame};
 
@@ -197,8 +197,8 @@ fn cap_due(cap: &Cap, change: i32, n: u8) -> Option<Due>
     }
 }
 
-/// What a call of a core does whose names have led to these, which has read this, and whose target, if it has one, was found: a look answers at once, a
-/// copy and a gate begin to fill their targets, a remove, a shrink and an unmap to remove what their target holds, a retype to type its frame,
+/// What a call of a core does whose names have led to these, which has read this, and whose target, if it has one, was found: a look answers
+/// at once, a copy, a grow and a gate begin to fill their target, a remove, a shrink and an unmap to remove what their target holds, a retype to type its frame,
 /// a make to make its object, a tick to charge its ticks. The core is one of the layout's at most 8.
 #[inline]
 pub fn begin_act(
@@ -214,7 +214,13 @@ pub fn begin_act(
 {
     match call {
         Call::Look { a: _ } => looked(&found.get(Nth::First)),
-        Call::Copy { a: _, t: _, b: _ } => fills_with(own, &found.get(Nth::First), target),
+        Call::Copy { a: _, t: _, b: _ } => fills_with(own, &found.get(Nth::First), false, target),
+        Call::Grow { t: _, i: _, l: _ } => fills_with(
+            own,
+            &link_to(&found.get(Nth::Second)),
+            is_pages(&found.get(Nth::First)),
+            target,
+        ),
         Call::Remove { t: _, b: _ } | Call::Shrink { t: _, i: _ } | Call::Unmap { p: _, v: _ } =>
             removes_at(own.core, target),
         Call::Make {
@@ -232,7 +238,7 @@ pub fn begin_act(
         ),
         Call::Retype { r: _, f, k } => types_at(own, &found.get(Nth::First), *f, *k),
         Call::Tick { n } => charges(own, *n),
-        Call::Gate { .. } => fills_with(own, &gate_to(&found.get(Nth::First), read), target),
+        Call::Gate { .. } => fills_with(own, &gate_to(&found.get(Nth::First), read), false, target),
         Call::Kill { c: _ } => kills_at(own, &found.get(Nth::First)),
         _ => refuse(Refusal::Raced),
     }
@@ -289,25 +295,48 @@ fn looked(cap: &Option<Cap>) -> WorkStep
     }
 }
 
-// The target is filled with this capability.
+// A link to the leaf to which a name has led.
 #[inline]
-fn fills_with(own: &Own, cap: &Option<Cap>, target: &Option<Found>) -> WorkStep
+fn link_to(leaf: &Option<Cap>) -> Option<Cap>
+    ensures { result ≡ link_to leaf.now }
+{
+    match leaf {
+        Some(leaf) => Some(Cap::new(Kind::Link, leaf.frame(), 0)),
+        None => None,
+    }
+}
+
+// Whether a name has led to the root of a page table.
+#[inline]
+fn is_pages(root: &Option<Cap>) -> bool
+    ensures { result ≡ is_pages root.now }
+{
+    match root {
+        Some(root) => matches!(root.kind(), Kind::Pages),
+        None => false,
+    }
+}
+
+// The target, which is or is not a place of a page table, is filled with this capability.
+#[inline]
+fn fills_with(own: &Own, cap: &Option<Cap>, page: bool, target: &Option<Found>) -> WorkStep
     requires core { own.now.core < own.now.layout.cores }
     requires cores { own.now.layout.cores ≤ 8 }
-    ensures { result ≡ fills_with own.now cap.now target.now }
+    ensures { result ≡ fills_with own.now cap.now page target.now }
 {
     match (cap, target) {
-        (Some(cap), Some(target)) => fills_at(own, *cap, target),
+        (Some(cap), Some(target)) => fills_at(own, *cap, page, target),
         _ => refuse(Refusal::Raced),
     }
 }
 
-// This place is filled with this capability, after a scan where it is quiescing.
+// This place is filled with this capability, after a scan where it is quiescing: of the other cores, and where it is one of a page
+// table of all flushes.
 #[inline]
-fn fills_at(own: &Own, cap: Cap, target: &Found) -> WorkStep
+fn fills_at(own: &Own, cap: Cap, page: bool, target: &Found) -> WorkStep
     requires core { own.now.core < own.now.layout.cores }
     requires cores { own.now.layout.cores ≤ 8 }
-    ensures { result ≡ fills_at own.now cap target.now }
+    ensures { result ≡ fills_at own.now cap page target.now }
 {
     let act = Act::Fill {
         fill: Fill {
@@ -317,7 +346,12 @@ fn fills_at(own: &Own, cap: Cap, target: &Found) -> WorkStep
             cap,
         },
     };
-    let quiet = Quiet::entry(stamp_in(&target.value), own.core, own.layout.cores());
+    let stamp = stamp_in(&target.value);
+    let quiet = if page {
+        Quiet::page(stamp, own.core, own.layout.cores())
+    } else {
+        Quiet::entry(stamp, own.core, own.layout.cores())
+    };
     scans(own.core, quiet, &act)
 }
 

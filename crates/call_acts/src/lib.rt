@@ -11,6 +11,10 @@
 //! entry is compared with the word that this call has loaded there; the compare decides. A target that is quiescing is scanned for
 //! before: each other core is out of a call, or has entered its call after the removal.
 //!
+//! **Grow.** A link to the leaf is put at a root entry as a copy puts its capability, and the leaf's count is acquired. An entry of a page
+//! table that is quiescing waits for flushes too: after the other cores all flush words are scanned, the own one among them, since a core may
+//! go on by a translation until it flushes.
+//!
 //! **Remove, shrink, unmap.** The count of what is removed is acquired, the entry is closed, and a stamp is drawn, which decides.
 //! Then the entry that quiesces since the stamp is still to be stored.
 //!
@@ -57,9 +61,7 @@ mod ticks;
 mod typings;
 mod work;
 
-pub use acts::{
-    act_op, act_ready, act_took, begin_act, next_work, reads_of, refuse, starts, undo,
-};
+pub use acts::{act_op, act_ready, act_took, begin_act, next_work, reads_of, refuse, starts, undo};
 pub use fills::Fill;
 pub use kills::{Killing, KillingAt, dead_op};
 pub use laws::refusals_are_replies;

@@ -65,7 +65,8 @@ pub enum Work {
     Lookup { look: Look },
     /// Its names are found, and the word of a component is loaded, which names its epoch, before this look-up of its target.
     Read { comp: FrameNo, look: Look },
-    /// Its look-ups are made, and the other cores are scanned for the calls that still use what was removed from its target.
+    /// Its look-ups are made, and the other cores are scanned for the calls that still use what was removed from its target; for a place of
+    /// a page table then all flush words.
     Scan { quiet: Quiet, act: Act },
     /// Its look-ups are made, and it acquires a count that its act changes by so many references.
     Acquire { pin: Pin, change: i32, act: Act },

@@ -16,7 +16,7 @@ use Rattle.spk_nums.specs.declared.kinds.FrameKind.TheVariants.{Untyped, User, K
 use Rattle.spk_nums.specs.declared.calls.Make.{Make}
 use Rattle.spk_nums.specs.declared.calls.Make.TheVariants as make
 use Rattle.spk_nums.specs.declared.calls.Call.{Call}
-use Rattle.spk_nums.specs.declared.calls.Call.TheVariants.{Look as look_call, Copy, Remove, Shrink, Unmap, Retype, Make as make_call, Tick, Gate, Kill}
+use Rattle.spk_nums.specs.declared.calls.Call.TheVariants.{Look as look_call, Copy, Remove, Shrink, Unmap, Retype, Make as make_call, Tick, Gate, Kill, Grow}
 use Rattle.spk_nums.specs.declared.replies.Reply.{Reply}
 use Rattle.entry_words.specs.declared.entry.Entry.{Entry}
 use Rattle.entry_words.specs.declared.entry.Entry.TheVariants as entry
@@ -193,10 +193,10 @@ scans_no : (core : ℕ) (o : Option Quiet) (act : ActType) → NoAnswer (scans c
 scans_no core None act = starts_no core act
 scans_no core (Some q) act = tt
 
-fill_no : (own : Own) (k : Option Capability) (target : Option Found) → NoAnswer (fills_with own k target)
-fill_no own None target = tt
-fill_no own (Some k) None = tt
-fill_no own (Some k) (Some f) = scans_no own.core (quiet_scan (stamp_in f.value) own.core own.layout.cores false) (filling k f)
+fill_no : (own : Own) (k : Option Capability) (page : Bool) (target : Option Found) → NoAnswer (fills_with own k page target)
+fill_no own None page target = tt
+fill_no own (Some k) page None = tt
+fill_no own (Some k) page (Some f) = scans_no own.core (quiet_scan (stamp_in f.value) own.core own.layout.cores page) (filling k f)
 
 held_no : (core : ℕ) (f : Found) (value : Entry) → NoAnswer (removes_held core f value)
 held_no core f entry.Free = tt
@@ -234,14 +234,15 @@ kills_no own (Some k) = kill_no own.core k.kind k.frame
 act_no : (own : Own) (call : Call) (found : List Capability) (read : Option ℕ) (target : Option Found) → decides_at_name (plan_for call).decides ≡ false
     → NoAnswer (act_begun own call found read target)
 act_no own (look_call a) found read target not = absurd (cc)
-act_no own (Copy a t b) found read target not = fill_no own _ target
+act_no own (Copy a t b) found read target not = fill_no own _ false target
+act_no own (Grow t i l) found read target not = fill_no own _ _ target
 act_no own (Remove t b) found read target not = remove_no own.core target
 act_no own (Shrink t i) found read target not = remove_no own.core target
 act_no own (Unmap p v) found read target not = remove_no own.core target
 act_no own (Retype r f k) found read target not = types_no own (at_place found First) f k
 act_no own (make_call what range frame table slot) found read target not =
     makes_no own (object_made what found) (at_place found First) frame target
-act_no own (Gate c t b) found read target not = fill_no own _ target
+act_no own (Gate c t b) found read target not = fill_no own _ false target
 act_no own (Kill k) found read target not = kills_no own (at_place found First)
 act_no own call found read target not = tt
 
@@ -608,6 +609,7 @@ begun_over : (own : Own) (call : Call) (k : Capability) → decides_at_name (pla
     → IsOver (act_begun own call (k ∷ []) None None)
 begun_over own (look_call a) k is = tt
 begun_over own (Copy a t b) k is = absurd (cc)
+begun_over own (Grow t i l) k is = absurd (cc)
 begun_over own (Remove t b) k is = absurd (cc)
 begun_over own (Shrink t i) k is = absurd (cc)
 begun_over own (Unmap p v) k is = absurd (cc)

@@ -83,7 +83,7 @@ use Rattle.call_acts.specs.Makings.{MakingFits, making_left, undo_at}
 use Rattle.frame_words.specs.Comp.{comp_of_word}
 use Rattle.frame_words.specs.declared.comp_word.CompWord.{CompWord}
 use Rattle.call_steps.specs.Tails.{tail_left, took_tail, tail_counts}
-use Rattle.call_steps.specs.Fits.{TailFits, ScanFits, WorkFits, StageFits, IsWanted, FoundFits, HasRoom, CountsWait, CountsAt, looks_later, after_reading, acts_later, names_left, steps_later, left_of_look, left_of_scan, left_of_pin, work_left, left_at, left_of, IsActive, IsOwn}
+use Rattle.call_steps.specs.Fits.{TailFits, ScanFits, WorkFits, StageFits, IsWanted, FoundFits, HasRoom, CountsWait, CountsAt, looks_later, after_reading, acts_later, names_left, steps_later, left_of_look, left_of_scan, left_of_pin, work_left, left_at, left_of, IsActive, IsOwn, left_of_cores}
 use Rattle.call_steps.proofs.StepsFit.{StepFits, starts_fit, few_dues, object_count, work_next, counts_next, first_named, act_fits}
 use Rattle.call_acts.specs.declared.work.Act.{Act as ActType}
 use Rattle.call_acts.specs.declared.work.Act.TheVariants.{Fill as fill_act, Remove as remove_act, Retype as type_act, Make as make_act, Outside, Tick as tick_act, Kill as kill_act}
@@ -294,13 +294,37 @@ module _ (own : Own) (a : ActiveCall) (facts : Facts own a) (room : own.made < o
   undo_fits (tick_act charge) fits = (tt, omega arith)
   undo_fits (kill_act m) fits = (tt, omega arith)
 
-  -- a scan goes on to the next core, or to the act
+  -- a scan goes on to the next core, to the flush words, or to the act
+  core_left : (core at : ℕ) → core < own.layout.cores → at < own.layout.cores → 1 ≤ left_of_cores own.layout.cores core at
+  core_left core at here below = by (nat_lt at core) refl
+    where
+      by : (b : Bool) → nat_lt at core ≡ b → 1 ≤ (if b then own.layout.cores - at - 1 else own.layout.cores - at)
+      by true is = let l = ltb-true at core is in let h = here in omega arith
+      by false is = let h = below in omega arith
+
+  with_more : (x y more : ℕ) → x < y → x + more < y + more
+  with_more x y more less = omega arith
+
+  flushes_fewer : (x cores : ℕ) → 1 ≤ x → cores - 0 < x + cores
+  flushes_fewer x cores some = omega arith
+
   scan_goes : (q : Quiet) (found : ℕ) → QuietFits own.layout q → ScanFits own.layout q → quiet_end own.layout.cores q found ≡ ends.Going
       → QuietFits own.layout (quiet_after own.layout.cores q found) × ScanFits own.layout (quiet_after own.layout.cores q found)
       × (left_of_scan own.layout.cores (quiet_after own.layout.cores q found) < left_of_scan own.layout.cores q)
-  scan_goes (AtFlush stamp at) found quiet fits is = absurd fits
+  scan_goes (AtFlush stamp at) found quiet fits is =
+      by (quiet_refuses (AtFlush stamp at) found) (nat_lt (at + 1) own.layout.cores) refl is
+    where
+      by : (refused : Option Reply) (there : Bool) → nat_lt (at + 1) own.layout.cores ≡ there
+          → scan_end refused (if there then Some (AtFlush stamp (at + 1)) else None) ≡ ends.Going
+          → QuietFits own.layout (scan_after (AtFlush stamp at) refused (if there then Some (AtFlush stamp (at + 1)) else None))
+          × ScanFits own.layout (scan_after (AtFlush stamp at) refused (if there then Some (AtFlush stamp (at + 1)) else None))
+          × (left_of_scan own.layout.cores
+          (scan_after (AtFlush stamp at) refused (if there then Some (AtFlush stamp (at + 1)) else None)) < own.layout.cores - at)
+      by (Some r) there below is = absurd (cc)
+      by None true below is = let l = ltb-true (at + 1) own.layout.cores below in (l, fits, omega (arith, l))
+      by None false below is = absurd (cc)
   scan_goes (AtCore stamp core at page) found quiet fits is =
-      by (quiet_refuses (AtCore stamp core at page) found) (nat_lt (next_other core at) own.layout.cores) refl page fits.1 is
+      by (quiet_refuses (AtCore stamp core at page) found) (nat_lt (next_other core at) own.layout.cores) refl page is
     where
       left_is : (n : ℕ) → ℕ
       left_is n = if nat_lt n core then own.layout.cores - n - 1 else own.layout.cores - n
@@ -351,21 +375,25 @@ module _ (own : Own) (a : ActiveCall) (facts : Facts own a) (room : own.made < o
       apart false d = let n : next_other core at ≡ at + 1 =
           ap (λ x. if x then at + 2 else at + 1) d in let e = eqb-false (at + 1) core d in λ h. e (omega arith)
 
-      by : (refused : Option Reply) (there : Bool) → nat_lt (next_other core at) own.layout.cores ≡ there → (page : Bool) → page ≡ false
+      by : (refused : Option Reply) (there : Bool) → nat_lt (next_other core at) own.layout.cores ≡ there → (page : Bool)
           → scan_end refused (core_scan there stamp core (next_other core at) page) ≡ ends.Going
           → QuietFits own.layout (scan_after (AtCore stamp core at page) refused (core_scan there stamp core (next_other core at) page))
           × ScanFits own.layout (scan_after (AtCore stamp core at page) refused (core_scan there stamp core (next_other core at) page))
           × (left_of_scan own.layout.cores (scan_after (AtCore stamp core at page) refused
-          (core_scan there stamp core (next_other core at) page)) < left_is at)
-      by (Some r) there below page none is = absurd (cc)
-      by None true below page none is =
+          (core_scan there stamp core (next_other core at) page)) < left_is at + (if page then own.layout.cores else 0))
+      by (Some r) there below page is = absurd (cc)
+      by None true below page is =
           let in_machine = ltb-true (next_other core at) own.layout.cores below in (
             (in_machine, apart (at + 1 == core) refl),
-            (fits.0, none, fits.2),
-            fewer (nat_lt at core) (nat_lt (next_other core at) core) (at + 1 == core) refl refl refl in_machine,
+            (fits.0, fits.1),
+            with_more (left_is (next_other core at)) (left_is at) (if page then own.layout.cores else 0)
+                (fewer (nat_lt at core) (nat_lt (next_other core at) core) (at + 1 == core) refl refl refl in_machine),
           )
-      by None false below true none is = absurd (cc)
-      by None false below false none is = absurd (cc)
+      by None false below true is =
+          let here = fits.0 in
+          let some = core_left core at fits.0 quiet.0 in
+          (omega (arith, here), fits.1, flushes_fewer (left_is at) own.layout.cores some)
+      by None false below false is = absurd (cc)
 
   scan_end_fits : (left : ℕ) (act : ActType) (q : Quiet) (end : StageEnd (Unit {0})) → a.counts ≡ [] → ActFits own.layout act
       → (end ≡ ends.Going → QuietFits own.layout q × ScanFits own.layout q ×
@@ -390,12 +418,8 @@ module _ (own : Own) (a : ActiveCall) (facts : Facts own a) (room : own.made < o
       let empty : length a.counts ≡ 0 = ap length none in act_refused left (refusal_of r) (omega arith)
 
   scan_left : (q : Quiet) → QuietFits own.layout q → ScanFits own.layout q → 1 ≤ left_of_scan own.layout.cores q
-  scan_left (AtFlush stamp at) quiet fits = absurd fits
-  scan_left (AtCore stamp core at page) quiet fits = by (nat_lt at core) refl
-    where
-      by : (b : Bool) → nat_lt at core ≡ b → 1 ≤ (if b then own.layout.cores - at - 1 else own.layout.cores - at)
-      by true is = let l = ltb-true at core is in let h = fits.0 in omega arith
-      by false is = let h = quiet.0 in omega arith
+  scan_left (AtFlush stamp at) quiet fits = let h : at < own.layout.cores = quiet in omega arith
+  scan_left (AtCore stamp core at page) quiet fits = let some = core_left core at fits.0 quiet.0 in omega (arith, some)
 
   scan_fits : (q : Quiet) (act : ActType) (found : ℕ) → QuietFits own.layout q → ScanFits own.layout q → ActFits own.layout act
       → a.counts ≡ []

@@ -3,8 +3,7 @@ use Rattle.std.proofs.lemmas.Option.{slice_get_within}
 use Rattle.std.proofs.Common.{◌≡◌, ℕ, zero, suc, ℤ, pos, negsuc, ◌≢◌, nat_lt, if◌then◌else◌, ◌+◌, ◌*◌, ◌-◌, slice_get, ◌<◌, ◌≤◌, Bool, true, false, nat_le, IsTrue, ◌==◌, List, [], ◌∷◌, length, Option, Some, None, IfSome, IsSomeAnd, refl, sym, ap, subst, arith, ◌&&◌}
 use Rattle.std.proofs.lemmas.Bool.{leb-true, ltb-true, ltb-false, eqb-true, eqb-false}
 use Rattle.stage_quiet.specs.declared.quiet.Quiet.{Quiet}
-use Rattle.stage_quiet.specs.declared.quiet.Quiet.TheVariants.{AtCore}
-use Rattle.stage_quiet.specs.Scan.{QuietFits, first_other, core_scan, quiet_scan}
+use Rattle.stage_quiet.specs.Scan.{QuietFits, first_other, flush_scan, core_scan, quiet_scan}
 use Rattle.stage_pins.specs.declared.held.Acquired.{Acquired}
 use Rattle.spk_nums.specs.Capability.{Capability}
 use Rattle.spk_nums.specs.CallLimits.{InLimits, MakeInLimits}
@@ -12,15 +11,15 @@ use Rattle.spk_nums.specs.declared.kinds.Kind.{Kind}
 use Rattle.spk_nums.specs.declared.kinds.Kind.TheVariants.{Range, Table, Pages, Comp as KindComp}
 use Rattle.spk_nums.specs.declared.kinds.Kind.TheVariants as kind
 use Rattle.spk_nums.specs.declared.calls.Call.{Call}
-use Rattle.spk_nums.specs.declared.calls.Call.TheVariants.{Look as look_call, Copy, Remove, Shrink, Unmap, Retype, Make as make_call, Tick, Gate, Kill}
+use Rattle.spk_nums.specs.declared.calls.Call.TheVariants.{Look as look_call, Copy, Remove, Shrink, Unmap, Retype, Make as make_call, Tick, Gate, Kill, Grow}
 use Rattle.entry_words.specs.declared.entry.Entry.{Entry}
 use Rattle.entry_words.specs.declared.entry.Entry.TheVariants as entry
 use Rattle.word_map.specs.Places.{Shape}
-use Rattle.kernel_rules.specs.Access.{Named, found, only, root}
+use Rattle.kernel_rules.specs.Access.{Named, found, only, root, Target as place, Under as place_under, InRoot as place_in}
 use Rattle.stage_look.specs.Shown.{end_of_frames, CapNames, EntryNames}
 use Rattle.stage_look.specs.Lookup.{FoundFits as PlaceFits}
 use Rattle.stage_look.specs.declared.look.Found.{Found}
-use Rattle.call_plans.specs.declared.plans.Nth.TheVariants.{First, Third}
+use Rattle.call_plans.specs.declared.plans.Nth.TheVariants.{First, Second, Third}
 use Rattle.call_plans.specs.declared.plans.Name.{Name}
 use Rattle.call_plans.specs.declared.plans.Spot.{Spot}
 use Rattle.call_plans.specs.declared.plans.Spot.TheVariants.{Under, InRoot}
@@ -29,7 +28,6 @@ use Rattle.call_plans.specs.declared.plans.Target.TheVariants.{Nowhere, Free, He
 use Rattle.call_plans.specs.declared.plans.Plan.{Plan}
 use Rattle.call_plans.specs.Plans.{at_place}
 use Rattle.call_plans.specs.PlanOf.{plan_for}
-use Rattle.kernel_rules.specs.Access.{Target as place, Under as place_under, InRoot as place_in}
 use Rattle.call_plans.specs.GoesBy.{earlier, place_of}
 use Rattle.call_plans.specs.After.{with_found, names_after, Leads, next_in}
 use Rattle.call_plans.specs.Bounds.{look_steps, retype_steps, make_steps, act_steps}
@@ -38,7 +36,7 @@ use Rattle.call_plans.proofs.Roots.{earlier_is, Led, nth_led}
 use Rattle.call_plans.proofs.RootedTargets.{rooted}
 use Rattle.spk_nums.specs.declared.kinds.FrameKind.{FrameKind}
 use Rattle.spk_nums.specs.declared.kinds.FrameKind.TheVariants.{Untyped, User, Kernel}
-use Rattle.kernel_rules.specs.CapabilityCalls.{has_frame}
+use Rattle.kernel_rules.specs.CapabilityCalls.{leaf_of, has_frame}
 use Rattle.spk_nums.specs.declared.calls.Make.{Make}
 use Rattle.spk_nums.specs.declared.calls.Make.TheVariants as make
 use Rattle.call_acts.specs.declared.objects.NewObject.{NewObject}
@@ -55,10 +53,10 @@ use Rattle.call_acts.specs.declared.work.Work.TheVariants.{Lookup}
 use Rattle.call_acts.specs.declared.work.WorkStep.{WorkStep}
 use Rattle.call_acts.specs.declared.work.WorkStep.TheVariants.{Goes, Acquires, Refuses, Answers, Changes}
 use Rattle.call_acts.specs.declared.work.Due.{Due}
-use Rattle.call_acts.specs.Acts.{ActFits, act_left, looked, cap_dues, dues, acquires, scans, stamp_in, filling, fills_with, removing, removes_held, removes_at, types_if, types_at, gate_if, gate_to, frame_named, reads_of, made_dues, starts, making, making_if, makes_in, makes_at, act_begun, next_work, killing_dues, kills_in, kills_at}
+use Rattle.call_acts.specs.Acts.{ActFits, act_left, looked, cap_dues, dues, acquires, scans, stamp_in, filling, fills_with, removing, removes_held, removes_at, types_if, types_at, gate_if, gate_to, frame_named, reads_of, made_dues, starts, making, making_if, makes_in, makes_at, act_begun, next_work, killing_dues, kills_in, kills_at, link_to, is_pages}
 use Rattle.call_steps.specs.Tails.{tail_left}
 use Rattle.call_acts.specs.Lookups.{looks_under, looks_entry, looks_at, read_first, next_step}
-use Rattle.call_steps.specs.Fits.{ScanFits, WorkFits, TailFits, IsWanted, FoundFits, CountsWait, looks_later, after_reading, acts_later, left_of_scan, work_left, IsOwn}
+use Rattle.call_steps.specs.Fits.{ScanFits, WorkFits, TailFits, IsWanted, FoundFits, CountsWait, looks_later, after_reading, acts_later, left_of_scan, work_left, IsOwn, left_of_cores}
 
 -- where a step of the work leads to fits, where so many counts are acquired, and leaves at most so many steps before these are
 -- committed; it acquires none
@@ -221,20 +219,39 @@ entry_fits s true frame i later most is below fewer = let small : i ≤ 63 = leb
 entry_fits s false frame i later most is below fewer = (omega arith, tt)
 
 -- the act of a call, where its target was found or it has none
--- an act that begins with a scan, or without
-abbrev pub ScanMay : Shape → Option Quiet → Type 0
-ScanMay s None = Unit {0}
-ScanMay s (Some q) = QuietFits s q × ScanFits s q × (left_of_scan s.cores q + 1 ≤ s.cores)
+-- the words of a scan, and one more: the core words, and for a place of a page table the flush words
+abbrev pub words_scanned : Bool → ℕ → ℕ
+words_scanned page cores = if page then cores + cores else cores
 
-pub scan_may : (s : Shape) (stamp core : ℕ) → core < s.cores → ScanMay s (quiet_scan stamp core s.cores false)
-scan_may s stamp core here = by_stamp (stamp == 0) refl
+some_words : (page : Bool) (cores : ℕ) → 1 ≤ cores → 1 ≤ words_scanned page cores
+some_words true cores some = omega arith
+some_words false cores some = some
+
+-- an act that begins with a scan, or without
+abbrev pub ScanMay : Shape → Bool → Option Quiet → Type 0
+ScanMay s page None = Unit {0}
+ScanMay s page (Some q) = QuietFits s q × ScanFits s q × (left_of_scan s.cores q + 1 ≤ words_scanned page s.cores)
+
+with_flushes : (page : Bool) (left cores : ℕ) → left + 1 ≤ cores → left + (if page then cores else 0) + 1 ≤ words_scanned page cores
+with_flushes true left cores few = omega arith
+with_flushes false left cores few = omega arith
+
+pub scan_may : (s : Shape) (stamp core : ℕ) (page : Bool) → core < s.cores → ScanMay s page (quiet_scan stamp core s.cores page)
+scan_may s stamp core page here = by_stamp (stamp == 0) refl
   where
+    flushes_alone : (page : Bool) → 1 ≤ stamp → ScanMay s page (flush_scan page stamp)
+    flushes_alone true some = ((let h = here in omega arith), some, (let h = here in omega arith))
+    flushes_alone false some = tt
+
     by_first : (none there : Bool) → (core == 0) ≡ none → nat_lt (first_other core) s.cores ≡ there → 1 ≤ stamp
-        → ScanMay s (core_scan there stamp core (first_other core) false)
-    by_first none false is there some = tt
+        → ScanMay s page (core_scan there stamp core (first_other core) page)
+    by_first none false is there some = flushes_alone page some
     by_first none true is there some =
-        let first : first_other core < s.cores = ltb-true (first_other core) s.cores there in
-        ((first, apart none is), (here, refl, some), few (nat_lt (first_other core) core) refl first)
+        let first : first_other core < s.cores = ltb-true (first_other core) s.cores there in (
+          (first, apart none is),
+          (here, some),
+          with_flushes page (left_of_cores s.cores core (first_other core)) s.cores (few (nat_lt (first_other core) core) refl first),
+        )
       where
         apart : (none : Bool) → (core == 0) ≡ none → first_other core ≢ core
         apart true is = let a : core ≡ 0 =
@@ -243,7 +260,7 @@ scan_may s stamp core here = by_stamp (stamp == 0) refl
             eqb-false core 0 is in subst (λ (n : ℕ). n ≢ core) (sym (ap (λ b. if b then 1 else 0) is)) (λ h. a (sym h))
 
         few : (b : Bool) → nat_lt (first_other core) core ≡ b → first_other core < s.cores
-            → left_of_scan s.cores (AtCore stamp core (first_other core) false) + 1 ≤ s.cores
+            → left_of_cores s.cores core (first_other core) + 1 ≤ s.cores
         few true less first =
             subst (λ b. (if b then s.cores - first_other core - 1 else s.cores - first_other core) + 1 ≤ s.cores) (sym less) (omega arith)
         few false less first =
@@ -259,7 +276,7 @@ scan_may s stamp core here = by_stamp (stamp == 0) refl
                 absurd (a (omega arith))
 
     by_stamp : (none : Bool) → (stamp == 0) ≡ none
-        → ScanMay s (if none then None else core_scan (nat_lt (first_other core) s.cores) stamp core (first_other core) false)
+        → ScanMay s page (if none then None else core_scan (nat_lt (first_other core) s.cores) stamp core (first_other core) page)
     by_stamp true is = tt
     by_stamp false is = by_first (core == 0) (nat_lt (first_other core) s.cores) refl refl (let a = eqb-false stamp 0 is in omega arith)
 
@@ -279,22 +296,30 @@ starts_fit s later most core (make_act m) here fits some = first_fits s later mo
 starts_fit s later most core (tick_act charge) here fits some = first_fits s later most core (tick_act charge) here fits some
 starts_fit s later most core (kill_act m) here fits some = first_fits s later most core (kill_act m) here fits some
 
-pub scans_fit : (s : Shape) (later most core : ℕ) (act : ActType) (o : Option Quiet) → core < s.cores → ActFits s act → ScanMay s o
-    → s.cores - 1 + 3 * length (dues act) + act_left act ≤ most → StepFits s [] later most (scans core o act)
-scans_fit s later most core act None here fits may some = starts_fit s later most core act here fits (omega arith)
-scans_fit s later most core act (Some q) here fits may some = ((may.0, may.1, fits), (let few = may.2 in omega arith), refl)
+pub scans_fit : (s : Shape) (later most core : ℕ) (act : ActType) (page : Bool) (o : Option Quiet) → core < s.cores → ActFits s act
+    → ScanMay s page o
+    → words_scanned page s.cores - 1 + 3 * length (dues act) + act_left act ≤ most → StepFits s [] later most (scans core o act)
+scans_fit s later most core act page None here fits may some = starts_fit s later most core act here fits (omega arith)
+scans_fit s later most core act page (Some q) here fits may some = ((may.0, may.1, fits), (let few = may.2 in omega arith), refl)
 
-pub filled : (own : Own) (later most : ℕ) (k : Option Capability) (target : Option Found) → IsOwn own
+pub filled : (own : Own) (later most : ℕ) (k : Option Capability) (page : Bool) (target : Option Found) → IsOwn own
     → IfSome k (CapNames own.layout.frames)
-    → IfSome target (PlaceFits own.layout) → own.layout.cores + 3 ≤ most → StepFits own.layout [] later most (fills_with own k target)
-filled own later most None target h names fits some = (omega arith, tt)
-filled own later most (Some k) None h names fits some = (omega arith, tt)
-filled own later most (Some k) (Some f) h names fits some =
+    → IfSome target (PlaceFits own.layout) → words_scanned page own.layout.cores + 3 ≤ most
+    → StepFits own.layout [] later most (fills_with own k page target)
+filled own later most None page target h names fits some = (omega arith, tt)
+filled own later most (Some k) page None h names fits some = (omega arith, tt)
+filled own later most (Some k) page (Some f) h names fits some =
     let act : ActType = filling k f in
     let one = cap_one k.kind k.frame k.arg (pos 1) in
-    let many = h.shape.some_core in
-    scans_fit own.layout later most own.core act (quiet_scan (stamp_in f.value) own.core own.layout.cores false) h.core
-    (record { node = fits.node; entry = fits.entry; cap = names }) (scan_may own.layout (stamp_in f.value) own.core h.core) (omega arith)
+    let many = some_words page own.layout.cores h.shape.some_core in
+    scans_fit own.layout later most own.core act page (quiet_scan (stamp_in f.value) own.core own.layout.cores page) h.core
+    (record { node = fits.node; entry = fits.entry; cap = names }) (scan_may own.layout (stamp_in f.value) own.core page h.core)
+    (omega arith)
+
+-- a root entry is filled with a link; where it is one of a page table the flush words are scanned too
+grow_words : (page : Bool) (cores : ℕ) → words_scanned page cores + 3 ≤ 3 + 2 * cores
+grow_words true cores = omega arith
+grow_words false cores = omega arith
 
 -- the act that removes what a place holds
 pub removed_held : (s : Shape) (later most core : ℕ) (f : Found) (value : Entry) → core < s.cores → EntryNames s.frames value
@@ -367,7 +392,7 @@ makes own later most object range f target h objects fits some = by (frame_in ow
         let many = h.shape.some_core in
         let below : f < own.layout.frames = ltb-true f own.layout.frames (both (has_frame (found range) f) (nat_lt f own.layout.frames) is)
         in
-        scans_fit own.layout later most own.core (making own object f target)
+        scans_fit own.layout later most own.core (making own object f target) false
         (quiet_scan (stamp_in target.value) own.core own.layout.cores false) h.core
         (record {
           frame = below;
@@ -381,12 +406,12 @@ makes own later most object range f target h objects fits some = by (frame_in ow
           };
           at = tt;
         })
-        (scan_may own.layout (stamp_in target.value) own.core h.core) (omega (arith, many, some))
+        (scan_may own.layout (stamp_in target.value) own.core false h.core) (omega (arith, many, some))
     by false is =
         let many = h.shape.some_core in
-        scans_fit own.layout later most own.core (Outside target.node target.entry target.word)
+        scans_fit own.layout later most own.core (Outside target.node target.entry target.word) false
         (quiet_scan (stamp_in target.value) own.core own.layout.cores false) h.core (fits.node, fits.entry)
-        (scan_may own.layout (stamp_in target.value) own.core h.core) (omega (arith, many, some))
+        (scan_may own.layout (stamp_in target.value) own.core false h.core) (omega (arith, many, some))
 
 made_at : (own : Own) (later most : ℕ) (object : Option NewObject) (range : Option Capability) (f : ℕ) (target : Option Found)
     → IsOwn own → IfSome target (PlaceFits own.layout)
@@ -398,8 +423,9 @@ made_at own later most None range f target h fits some = (omega arith, tt)
 made_at own later most (Some object) None f target h fits some = (omega arith, tt)
 made_at own later most (Some object) (Some range) f None h fits some = (omega arith, tt)
 
--- the name of a thread's component has led to a frame of the machine
+-- the name of a thread's component has led to a frame of the machine, and so has that of a leaf
 abbrev pub ObjectNamed : ℕ → Call → List Capability → Type 0
+ObjectNamed frames (Grow t i l) found = IfSome (at_place found Second) (λ k. k.frame < frames)
 ObjectNamed frames (make_call (make.Thread comp) r f t b) found = IfSome (at_place found Third) (λ k. k.frame < frames)
 ObjectNamed frames (Gate c t b) found = IfSome (at_place found First) (λ k. k.frame < frames)
 ObjectNamed frames call found = Unit {0}
@@ -409,8 +435,20 @@ comp_below : (frames : ℕ) (kind : Kind) (frame arg : ℕ) → only KindComp ki
 comp_below frames Range frame arg wanted names = absurd (cc)
 comp_below frames kind frame arg wanted names = omega (arith, names)
 
+no_range : (root : Kind) → only (leaf_of root) Range ≡ true → ⊥
+no_range Table wanted = cc
+no_range root wanted = cc
+
+leaf_below : (frames : ℕ) (root kind : Kind) (frame arg : ℕ) → only (leaf_of root) kind ≡ true → end_of_frames kind frame arg ≤ frames
+    → frame < frames
+leaf_below frames root Range frame arg wanted names = absurd (no_range root wanted)
+leaf_below frames root kind frame arg wanted names = omega (arith, names)
+
 pub object_named : (frames : ℕ) (call : Call) (found : List Capability) → FoundFits frames (plan_for call) found
     → ObjectNamed frames call found
+object_named frames (Grow t i l) [] leads = tt
+object_named frames (Grow t i l) (k ∷ []) leads = tt
+object_named frames (Grow t i l) (k ∷ j ∷ ks) leads = leaf_below frames k.kind j.kind j.frame j.arg leads.1.0.0 leads.1.0.1
 object_named frames (make_call (make.Thread comp) r f t b) [] leads = tt
 object_named frames (make_call (make.Thread comp) r f t b) (k ∷ []) leads = tt
 object_named frames (make_call (make.Thread comp) r f t b) (k ∷ j ∷ []) leads = tt
@@ -472,13 +510,20 @@ gate_names frames (Some k) (Some epoch) below = by (nat_le 1 epoch)
     by true = omega (arith, below)
     by false = tt
 
+link_names : (frames : ℕ) (leaf : Option Capability) → IfSome leaf (λ k. k.frame < frames) → IfSome (link_to leaf) (CapNames frames)
+link_names frames None below = tt
+link_names frames (Some leaf) below = omega (arith, below)
+
 pub act_fits : (own : Own) (later : ℕ) (call : Call) (found : List Capability) (read : Option ℕ) (target : Option Found) → IsOwn own
     → IfSome (at_place found First) (CapNames own.layout.frames) → ObjectNamed own.layout.frames call found → InLimits call
     → IfSome target (PlaceFits own.layout)
     → StepFits own.layout [] later (after_reading call own.layout.cores) (act_begun own call found read target)
 act_fits own later (look_call a) found read target h names objects limits fits = look_done own.layout later 0 _
 act_fits own later (Copy a t b) found read target h names objects limits fits =
-    filled own later (3 + own.layout.cores) _ target h names fits (omega arith)
+    filled own later (3 + own.layout.cores) _ false target h names fits (omega arith)
+act_fits own later (Grow t i l) found read target h names objects limits fits =
+    filled own later (3 + 2 * own.layout.cores) (link_to (at_place found Second)) (is_pages (at_place found First)) target h
+    (link_names own.layout.frames (at_place found Second) objects) fits (grow_words (is_pages (at_place found First)) own.layout.cores)
 act_fits own later (Remove t b) found read target h names objects limits fits =
     removed own.layout later 6 own.core target h.core fits (omega arith)
 act_fits own later (Shrink t i) found read target h names objects limits fits =
@@ -492,7 +537,7 @@ act_fits own later (make_call what range frame table slot) found read target h n
     (made_fits own.layout what range frame table slot found own.layout.cores limits objects)
 act_fits own later (Tick n) found read target h names objects limits fits = (h.tcap, omega arith, refl)
 act_fits own later (Gate c t b) found read target h names objects limits fits =
-    filled own later (3 + own.layout.cores) _ target h (gate_names own.layout.frames (at_place found First) read objects) fits (omega arith)
+    filled own later (3 + own.layout.cores) _ false target h (gate_names own.layout.frames (at_place found First) read objects) fits (omega arith)
 act_fits own later (Kill k) found read target h names objects limits fits = killed own later 8 (at_place found First) h names (omega arith)
 act_fits own later call found read target h names objects limits fits = (omega arith, tt)
 

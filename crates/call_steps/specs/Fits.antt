@@ -1,5 +1,5 @@
 -- What holds of a core at every moment: its numbers are in range, and its call keeps within its bound of steps.
-use Rattle.std.specs.Prelude.{ℕ, ◌+◌, ◌*◌, ◌-◌, ◌<◌, ◌≤◌, ◌≡◌, Bool, false, nat_lt, if◌then◌else◌, IsTrue, List, [], ◌∷◌, length, Option, Some, None}
+use Rattle.std.specs.Prelude.{ℕ, ◌+◌, ◌*◌, ◌-◌, ◌<◌, ◌≤◌, ◌≡◌, Bool, nat_lt, if◌then◌else◌, IsTrue, List, [], ◌∷◌, length, Option, Some, None}
 use Rattle.spk_nums.specs.Bounds.{bound_of}
 use Rattle.spk_nums.specs.CallLimits.{InLimits}
 use Rattle.spk_nums.specs.Capability.{Capability}
@@ -40,10 +40,10 @@ use Rattle.call_acts.specs.Acts.{ActFits, act_left, dues}
 use Rattle.call_steps.specs.Tails.{tail_left}
 use Rattle.call_steps.specs.View.{Core}
 
--- a scan is for a place of a table of capabilities: of the other cores' words alone, from the first on
+-- a scan is of the other cores' words, from the first on, and for a place of a page table then of all flush words
 abbrev pub ScanFits : Shape → Quiet → Type 0
-ScanFits s (AtCore stamp core at page) = (core < s.cores) × (page ≡ false) × (1 ≤ stamp)
-ScanFits s (AtFlush stamp at) = ⊥
+ScanFits s (AtCore stamp core at page) = (core < s.cores) × (1 ≤ stamp)
+ScanFits s (AtFlush stamp at) = 1 ≤ stamp
 
 -- a stage names frames of the machine alone
 abbrev pub WorkFits : Shape → Work → Type 0
@@ -119,10 +119,13 @@ abbrev pub left_of_pin : Pin → ℕ
 left_of_pin (AtLoad frame core) = 2
 left_of_pin (AtCompare frame core count stamp) = 1
 
--- the loads of a scan that are still to come: of the other cores' words, from this on
+-- the loads of a scan that are still to come: of the other cores' words, from this on, and of flush words
+abbrev pub left_of_cores : ℕ → ℕ → ℕ → ℕ
+left_of_cores cores core at = if nat_lt at core then cores - at - 1 else cores - at
+
 abbrev pub left_of_scan : ℕ → Quiet → ℕ
-left_of_scan cores (AtCore stamp core at page) = if nat_lt at core then cores - at - 1 else cores - at
-left_of_scan cores (AtFlush stamp at) = 0
+left_of_scan cores (AtCore stamp core at page) = left_of_cores cores core at + (if page then cores else 0)
+left_of_scan cores (AtFlush stamp at) = cores - at
 
 -- the most steps of the work that are still to come, where so many come after its look-up and so many counts are acquired: each
 -- count that is still to be acquired takes two steps, and one for its commit

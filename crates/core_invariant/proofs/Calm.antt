@@ -1,8 +1,8 @@
 -- Steps that change no frame and no liveness number, and of the cores only what the own core counts and whether it is inside; and
 -- steps at which no grace period begins or ends and nothing is flushed. A step that decides nothing is such, and so is a refusal and the
 -- decision that fills a place; one that draws a stamp, or changes what a frame is, is not.
-use Rattle.std.proofs.Common.{◌≡◌, ◌≢◌, inl, inr, ℕ, zero, suc, ◌+◌, ◌*◌, ◌<◌, ◌≤◌, Bool, true, false, cond, ◌∷◌, Option, Some, None, arith, refl, sym, ◌∙◌, ap, subst}
-use Rattle.std.proofs.lemmas.Bool.{cases_eq, false≢true}
+use Rattle.std.proofs.Common.{◌≡◌, ◌≢◌, inl, inr, ℕ, zero, suc, ◌+◌, ◌*◌, ◌<◌, ◌≤◌, ◌==◌, if◌then◌else◌, Bool, true, false, cond, ◌∷◌, Option, Some, None, arith, refl, sym, ◌∙◌, ap, subst}
+use Rattle.std.proofs.lemmas.Bool.{cases_eq, eq-eqb, false≢true}
 use Rattle.spk_nums.specs.Setting.{Setting}
 use Rattle.word_map.specs.Word.{Word, EntryAt, FrameAt, CountAt, CoreAt, FlushAt, LiveAt, ClockAt, same_word}
 use Rattle.word_map.specs.Moves.{word_of}
@@ -152,19 +152,27 @@ counted_grows setup s s' c calm below more =
     let a = sum_one (λ d. (s.core d).counted) (λ d. (s'.core d).counted) setup.cores c below
     (λ d other. ap (λ k. k.counted) (calm.others d other)) in omega arith
 
+-- The flush that core d has stored after a step of core c, which is or is not on d's flush word.
+abbrev pub stored_by : Trace → ℕ → ℕ → Bool → ℕ
+stored_by t c d hit = if hit then (if d == c then flush_of t d else flush_stored t d) else flush_stored t d
+
+-- A step on another word stores no flush.
+pub none_stored : (t : Trace) (c d : ℕ) (hit : Bool) → hit ≡ false → stored_by t c d hit ≡ flush_stored t d
+none_stored t c d hit not = ap (stored_by t c d) not
+
 -- A step at which no grace period begins or ends, nothing is flushed, no flush is stored, and the clock stays.
 pub record IsPlain (setup : Setting) (t : Trace) (e : Step) : Type 0 where
   pub begins : (x : Thing) → begins_at setup t e x ≡ false
   pub ends : (x : Thing) → ends_at t e x ≡ false
   pub flushes : flushes_at t e ≡ false
-  pub apart : (d : ℕ) → same_word (FlushAt d) (word_of e.move) ≡ false
+  pub apart : (d : ℕ) → stored_by t e.core d (same_word (FlushAt d) (word_of e.move)) ≡ flush_stored t d
   pub same : clock setup (e ∷ t) ≡ clock setup t
 
 -- A step at which no grace period begins, nothing is flushed, no flush is stored, and the clock stays; some may end.
 pub record BeginsNone (setup : Setting) (t : Trace) (e : Step) : Type 0 where
   pub begins : (x : Thing) → begins_at setup t e x ≡ false
   pub flushes : flushes_at t e ≡ false
-  pub apart : (d : ℕ) → same_word (FlushAt d) (word_of e.move) ≡ false
+  pub apart : (d : ℕ) → stored_by t e.core d (same_word (FlushAt d) (word_of e.move)) ≡ flush_stored t d
   pub same : clock setup (e ∷ t) ≡ clock setup t
 
 pub plain_begins : (setup : Setting) (t : Trace) (e : Step) → IsPlain setup t e → BeginsNone setup t e
@@ -185,9 +193,13 @@ plain_stamp setup t e plain x = stamp-kept setup e t x (plain.begins x) (plain.e
 
 pub none_flush : (setup : Setting) (t : Trace) (e : Step) → BeginsNone setup t e → (d : ℕ) → flush_stored (e ∷ t) d ≡ flush_stored t d
 none_flush setup t e none d = elim (cases_eq d e.core) [
-  | inl own ↦ flush_stored-own d e t own ∙ ap (λ b. cond b (flush_of t d) (flush_stored t d)) (none.apart d)
+  | inl own ↦ flush_stored-own d e t own ∙ by (same_word (FlushAt d) (word_of e.move)) own (none.apart d)
   | inr other ↦ flush_stored-other d e t other
 ]
+  where
+    by : (hit : Bool) → d ≡ e.core → stored_by t e.core d hit ≡ flush_stored t d → cond hit (flush_of t d) (flush_stored t d) ≡ flush_stored t d
+    by true own is = sym (ap (λ b. if b then flush_of t d else flush_stored t d) (eq-eqb d e.core own)) ∙ is
+    by false own is = refl
 
 pub plain_flush : (setup : Setting) (t : Trace) (e : Step) → IsPlain setup t e → (d : ℕ) → flush_stored (e ∷ t) d ≡ flush_stored t d
 plain_flush setup t e plain d = none_flush setup t e (plain_begins setup t e plain) d

@@ -58,7 +58,7 @@ use Rattle.call_acts.specs.declared.work.Work.{Work}
 use Rattle.call_acts.specs.declared.work.Work.TheVariants.{Lookup, Read, Scan, Acquire, Act}
 use Rattle.call_acts.specs.Acts.{reads_of}
 use Rattle.call_steps.specs.declared.stages.ActiveCall.{ActiveCall}
-use Rattle.core_invariant.specs.Knows.{IsCount, IsReached, HasFound, LookIs, LooksUp, own_in, NamesAre, LooksFor, IsScanned, MayFill, IsFill, IsRemoval, KnowsClose, KnowsAct, KnowsQuiet, KnowsStore, HasLoaded, KnowsWork, KnowsUndecided, KnowsTyping, HasMetAt, ChargesBy, HasHeadAt, KnowsTick, IsSpot, HasStored, KnowsMakingAt, HasLife, HasComp, KnowsKillingAt, KnowsDead, ReadIs, ReadBefore}
+use Rattle.core_invariant.specs.Knows.{IsCount, IsReached, HasFound, LookIs, LooksUp, own_in, NamesAre, LooksFor, IsScanned, MayFill, IsFill, IsRemoval, KnowsClose, KnowsAct, KnowsQuiet, KnowsStore, HasLoaded, KnowsWork, KnowsUndecided, KnowsTyping, HasMetAt, ChargesBy, HasHeadAt, KnowsTick, IsSpot, HasStored, KnowsMakingAt, HasLife, HasComp, KnowsKillingAt, KnowsDead, ReadIs, ReadBefore, scanned_for, KnowsScan}
 use Rattle.stage_tcap.specs.declared.charge.Charge.{Charge}
 use Rattle.stage_tcap.specs.declared.charge.Charge.TheVariants.{AtLoad as charge_load, AtCompare as charge_compare}
 use Rattle.call_acts.specs.Ticks.{ticks_due}
@@ -190,6 +190,7 @@ module _ (setup : Setting) (setting : IsSetting setup) (t : Trace) (e : Step) (l
     rises = (let a = has.rises in omega arith);
     was_removed = carries.was_removed x has.was_removed;
     passed = λ d below other. carries.passed x at d has.past (has.passed d below other);
+    flushed = λ d below. carries.flushed x at d has.past (has.flushed d below);
   }
 
   may_fill_on : (x : Thing) (upto : ℕ) (o : Option Entry) → stamp setup t x ≤ stamp setup (e ∷ t) x → MayFill setup t c x upto o
@@ -361,12 +362,23 @@ module _ (setup : Setting) (setting : IsSetting setup) (t : Trace) (e : Step) (l
     at = killing_on m.comp m.at same.numbers has.comp has.at;
   }
 
+  scan_on : (a : ActiveCall) (at by upto flushes : ℕ) (page : Bool) (act : ActOf) → ReadsSame setup t e c act
+      → KnowsScan setup t c a at by upto flushes page act → KnowsScan setup (e ∷ t) c a at by upto flushes page act
+  scan_on a at by upto flushes page act same has = record {
+    knows = act_on a.call a.plan a.found flushes act same has.knows;
+    core = has.core;
+    stamp = has.stamp;
+    starts = has.starts;
+    past = carries.past at has.past;
+    passed = λ d below other. carries.passed (scanned_for act) at d has.past (has.passed d below other);
+    pages = has.pages;
+  }
+
   quiet_on : (a : ActiveCall) (q : Quiet) (act : ActOf) → ReadsSame setup t e c act
       → KnowsQuiet setup t c a q act
       → KnowsQuiet setup (e ∷ t) c a q act
-  quiet_on a (AtCore at core upto page) act same has =
-      record { knows = act_on a.call a.plan a.found upto act same has.knows; core = has.core; stamp = has.stamp; starts = has.starts }
-  quiet_on a (AtFlush at upto) act same has = has
+  quiet_on a (AtCore at core upto page) act same has = scan_on a at core upto 0 page act same has
+  quiet_on a (AtFlush at upto) act same has = scan_on a at c setup.cores upto true act same has
 
   loaded_on : (pin : Pin) → ((w : Word) → own_read (e ∷ t) c w ≡ own_read t c w) → HasLoaded t c pin → HasLoaded (e ∷ t) c pin
   loaded_on (AtLoad frame core) same has = tt

@@ -22,7 +22,7 @@ use Rattle.core_invariant.specs.Knows.{phase_at, Knows, IsCount, CoreIs}
 use Rattle.core_invariant.specs.Stands.{holds, held_by, Stands}
 use Rattle.core_invariant.proofs.WordFrames.{marks_own, hold_marks, hold_words, settled_stays}
 use Rattle.core_invariant.proofs.Sums.{sums_stay}
-use Rattle.core_invariant.proofs.Calm.{calm_same, calm_words, IsPlain, plain_time, plain_exit, plain_flushed}
+use Rattle.core_invariant.proofs.Calm.{calm_same, calm_words, none_stored, IsPlain, plain_time, plain_exit, plain_flushed}
 use Rattle.core_invariant.proofs.Good.{IsGood, SparesBlanks}
 use Rattle.core_invariant.proofs.Loads.{Lands, IsOfCall, core_at, core_is, call_is, in_call, inner, inner_within, inner_disciplined, inner_near}
 
@@ -58,7 +58,7 @@ module _ (setup : Setting) (setting : IsSetting setup) (cores : ℕ → Core) (t
         begins = λ x. refl;
         ends = λ x. refl;
         flushes = refl;
-        apart = flushes;
+        apart = λ b. none_stored t c b _ (flushes b);
         same = last_left-there setup ClockAt e t not_clock;
       } in
       let follows : MayFollow setup t e = record {

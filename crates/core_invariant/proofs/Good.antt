@@ -129,7 +129,8 @@ filled_work setup t c table f a (Lookup look) h knows is = absurd (false≢true 
 filled_work setup t c table f a (Read comp look) h knows is = absurd (false≢true is)
 filled_work setup t c table f a (Scan (AtCore at core upto page) act) h knows is =
     absurd (false≢true (sym (scans_nothing act f knows.starts) ∙ is))
-filled_work setup t c table f a (Scan (AtFlush at upto) act) h knows is = absurd knows
+filled_work setup t c table f a (Scan (AtFlush at upto) act) h knows is =
+    absurd (false≢true (sym (scans_nothing act f knows.starts) ∙ is))
 filled_work setup t c table f a (Acquire pin change act) h knows is = filled_act setup t c f a.call a.plan a.found act h knows.knows is
 filled_work setup t c table f a (act_work act) h knows is = filled_act setup t c f a.call a.plan a.found act h knows.knows is
 

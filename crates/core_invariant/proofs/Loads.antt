@@ -25,7 +25,7 @@ use Rattle.kernel_history.specs.Bounds.{call_in, IsWithin}
 use Rattle.kernel_history.specs.Justified.{IsJustified}
 use Rattle.kernel_history.specs.Legal.{MayFollow}
 use Rattle.kernel_history.proofs.Carries.{Carries, carries_own}
-use Rattle.kernel_history.specs.Stamps.{begins_in, ends_in, flushes_in}
+use Rattle.kernel_history.specs.Stamps.{begins_in, ends_in, flushes_in, flush_stored}
 use Rattle.kernel_history.proofs.Small.{last_small}
 use Rattle.kernel_history.proofs.Steps.{phase-own, steps_in_call-own}
 use Rattle.call_steps.specs.declared.stages.Stage.{Stage}
@@ -42,7 +42,7 @@ use Rattle.core_invariant.proofs.Sums.{sums_stay}
 use Rattle.core_invariant.proofs.Carries.{counts_on}
 use Rattle.core_invariant.specs.Holding.{holds_counts}
 use Rattle.core_invariant.proofs.Good.{IsGood, spares_kept}
-use Rattle.core_invariant.proofs.Calm.{IsCalm, calm_same, calm_counted, calm_own, calm_words, counted_rises, IsPlain, plain_time, plain_exit, BeginsNone, plain_begins, none_flushed}
+use Rattle.core_invariant.proofs.Calm.{IsCalm, calm_same, calm_counted, calm_own, calm_words, counted_rises, stored_by, IsPlain, plain_time, plain_exit, BeginsNone, plain_begins, none_flushed}
 
 -- A step of core c.
 abbrev pub step_to : ℕ → Option Call → Move → ℕ → Option Reply → Option Reply → Step
@@ -79,11 +79,11 @@ pub record IsOfCall (setup : Setting) (t : Trace) (c : ℕ) (call : Call) (move 
   pub moves : MayMove (state_after setup t) c call move
   pub near : IsNearIn c call (word_of move) (state_after setup t) ⊎ WasAt (IsNearIn c call (word_of move)) setup t c
 
--- And it leaves its word as found, which is no flush word.
+-- And it leaves its word as found, and what flushes are stored: its word is no flush word, or the core's last flush is stored there.
 pub record OnlyLooks (setup : Setting) (t : Trace) (c : ℕ) (call : Call) (move : Move) : Type 0 where
   pub of_call : IsOfCall setup t c call move
   pub kept : left_of move (last_left setup t (word_of move)) ≡ last_left setup t (word_of move)
-  pub apart : (d : ℕ) → same_word (FlushAt d) (word_of move) ≡ false
+  pub apart : (d : ℕ) → stored_by t c d (same_word (FlushAt d) (word_of move)) ≡ flush_stored t d
 
 -- A step is still to come of every call.
 pub some_left : (cores : ℕ) (a : ActiveCall) (stage : Stage) → 1 ≤ left_at cores a stage

@@ -5,7 +5,7 @@ use Rattle.std.proofs.lemmas.Bool.{false≢true, lt-leb}
 use Rattle.supported_calls.specs.Built.{IsBuilt}
 use Rattle.spk_nums.specs.Setting.{Setting, IsSetting}
 use Rattle.spk_nums.specs.declared.calls.Call.{Call}
-use Rattle.spk_nums.specs.declared.calls.Call.TheVariants.{Look, Copy, Remove, Shrink, Unmap, Retype, Make, Tick, Gate, Kill}
+use Rattle.spk_nums.specs.declared.calls.Call.TheVariants.{Look, Copy, Remove, Shrink, Unmap, Retype, Make, Tick, Gate, Kill, Grow}
 use Rattle.spk_nums.specs.declared.replies.Reply.{Reply}
 use Rattle.spk_nums.specs.declared.replies.Reply.TheVariants as reply
 use Rattle.word_map.specs.Moves.{Move, word_of}
@@ -67,6 +67,7 @@ pub built_owes : (s : State) (c : ℕ) (call : Call) → IsBuilt call → ((n : 
 built_owes s c (Look a) built other = refl
 built_owes s c (Copy a u b) built other = refl
 built_owes s c (Remove u b) built other = refl
+built_owes s c (Grow u i l) built other = refl
 built_owes s c (Shrink u i) built other = refl
 built_owes s c (Unmap p v) built other = refl
 built_owes s c (Retype r f k) built other = refl
@@ -131,8 +132,9 @@ module _ (setup : Setting) (t : Trace) (c table n : ℕ) where
       none_some : None ≡ Some f → ⊥
       none_some h = cc
   work_ticks a (Scan (AtCore at core upto page) act) of plan has is =
+      act_ticks a.plan a.found 0 act (subst (λ x. KnowsAct setup t c x a.plan a.found 0 act) of has.knows.knows) is
+  work_ticks a (Scan (AtFlush at upto) act) of plan has is =
       act_ticks a.plan a.found upto act (subst (λ x. KnowsAct setup t c x a.plan a.found upto act) of has.knows.knows) is
-  work_ticks a (Scan (AtFlush at upto) act) of plan has is = has.knows
   work_ticks a (Acquire pin change act) of plan has is =
       act_ticks a.plan a.found setup.cores act (subst (λ x. KnowsAct setup t c x a.plan a.found setup.cores act) of has.knows.knows) is
   work_ticks a (Act act) of plan has is =

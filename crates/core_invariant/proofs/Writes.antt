@@ -44,7 +44,7 @@ use Rattle.stage_pins.specs.declared.held.Acquired.{Acquired}
 use Rattle.call_steps.specs.Fits.{CountsAt}
 use Rattle.std.proofs.lemmas.List.Elements.{All-nil}
 use Rattle.core_invariant.proofs.Good.{IsGood, SparesBlanks, spares_other}
-use Rattle.core_invariant.proofs.Calm.{IsCalm, calm_returned, calm_own, calm_words, counted_rises, IsPlain, plain_time, plain_exit, plain_flushed, BeginsNone, plain_begins, none_time, calm_same}
+use Rattle.core_invariant.proofs.Calm.{IsCalm, calm_returned, calm_own, calm_words, counted_rises, none_stored, IsPlain, plain_time, plain_exit, plain_flushed, BeginsNone, plain_begins, none_time, calm_same}
 use Rattle.core_invariant.proofs.Loads.{Lands, IsOfCall, step_to, next_at, core_at, some_left, core_is, call_is, in_call, inner, inner_within, inner_disciplined, inner_near, inner_works, inner_own, is_active}
 
 -- The clock fits a stamp: each stamp was drawn by a call that was counted.
@@ -256,7 +256,7 @@ module _ (setup : Setting) (setting : IsSetting setup) (cores : ℕ → Core) (t
           begins = λ x. refl;
           ends = λ x. refl;
           flushes = refl;
-          apart = flushes;
+          apart = λ b. none_stored t c b _ (flushes b);
           same = last_left-there setup ClockAt e t not_clock;
         } in
         let follows : MayFollow setup t e = record {

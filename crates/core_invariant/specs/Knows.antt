@@ -79,7 +79,7 @@ use Rattle.stage_quiet.specs.declared.close.Close.{Close}
 use Rattle.stage_quiet.specs.declared.close.Close.TheVariants.{AtCompare as close_compare, AtDraw, AtStore}
 use Rattle.stage_quiet.specs.declared.quiet.Quiet.{Quiet}
 use Rattle.stage_quiet.specs.declared.quiet.Quiet.TheVariants.{AtCore, AtFlush}
-use Rattle.call_acts.specs.Acts.{dues, put_by, reads_of, removes_by, stamp_of_act}
+use Rattle.call_acts.specs.Acts.{dues, put_by, reads_of, removes_by, stamp_of_act, fills_page}
 use Rattle.call_steps.specs.View.{Core}
 use Rattle.call_steps.specs.Fits.{IsCore}
 use Rattle.core_invariant.specs.Holding.{count_of, holds_counts, AreApart}
@@ -163,14 +163,19 @@ LooksFor setup t c table NextNothing look = ⊥
 abbrev pub HasPassed : Setting → Trace → Thing → ℕ → ℕ → Type 0
 HasPassed setup t x at d = stamp setup t x ≡ at → ((state_after setup t).grace x).waits d ≡ false
 
--- A thing was removed at a moment of core c's call, at a stamp that is past and no later than its last; and the cores below `upto`,
--- but for c, have passed the grace period that began at that stamp.
+-- Core d has flushed since this stamp: while the stamp is the thing's, no grace period of it waits for a flush of d.
+abbrev pub HasFlushed : Setting → Trace → Thing → ℕ → ℕ → Type 0
+HasFlushed setup t x at d = stamp setup t x ≡ at → ((state_after setup t).grace x).unflushed d ≡ false
+
+-- A thing was removed at a moment of core c's call, at a stamp that is past and no later than its last; and the cores below `upto`
+-- have passed the grace period that began at that stamp, but for c, and have flushed since.
 pub record IsScanned (setup : Setting) (t : Trace) (c : ℕ) (x : Thing) (at upto : ℕ) : Type 0 where
   pub some : 1 ≤ at
   pub past : at < clock setup t
   pub rises : at ≤ stamp setup t x
   pub was_removed : WasAt (IsRemoved x) setup t c
   pub passed : (d : ℕ) → d < upto → d ≢ c → HasPassed setup t x at d
+  pub flushed : (d : ℕ) → d < upto → HasFlushed setup t x at d
 
 -- A word that a call may fill says that its place is free, or quiescing and scanned so far.
 abbrev pub MayFill : Setting → Trace → ℕ → Thing → ℕ → Option Entry → Type 0
@@ -391,7 +396,7 @@ pub record KnowsKilling (setup : Setting) (t : Trace) (c : ℕ) (call : Call) (k
   pub comp : HasComp (state_after setup t) c m.comp
   pub at : KnowsKillingAt setup t c m.comp m.at
 
--- What a call with this plan knows of its act, where its names have led to these and the cores below `upto` were scanned.
+-- What a call with this plan knows of its act, where its names have led to these and the cores below `upto` were scanned, with their flushes.
 abbrev pub KnowsAct : Setting → Trace → ℕ → Call → Plan → List Capability → ℕ → ActOf → Type 0
 KnowsAct setup t c call plan found upto (fill_act fill) = IsFill setup t c call plan found upto fill
 KnowsAct setup t c call plan found upto (remove_act close cap) = KnowsClose setup t c call plan found close cap
@@ -427,16 +432,28 @@ abbrev pub goes_on : ActOf → Bool
 goes_on (Outside node entry word) = false
 goes_on act = true
 
--- What it knows at a scan for the place that it fills: the cores before this one were scanned.
-pub record KnowsScan (setup : Setting) (t : Trace) (c : ℕ) (a : ActiveCall) (at by upto : ℕ) (act : ActOf) : Type 0 where
-  pub knows : KnowsAct setup t c a.call a.plan a.found upto act
+-- The thing for which an act is scanned.
+abbrev pub scanned_for : ActOf → Thing
+scanned_for (fill_act fill) = PlaceOf fill.node fill.entry
+scanned_for (make_act m) = PlaceOf m.fill.node m.fill.entry
+scanned_for (Outside node entry word) = PlaceOf node entry
+scanned_for act = PlaceOf 0 0
+
+-- What it knows at a scan for the place that it fills: the core words before this one were scanned, and so many flush words; these are
+-- scanned where the place is one of a page table.
+pub record KnowsScan (setup : Setting) (t : Trace) (c : ℕ) (a : ActiveCall) (at by upto flushes : ℕ) (page : Bool) (act : ActOf) :
+    Type 0 where
+  pub knows : KnowsAct setup t c a.call a.plan a.found flushes act
   pub core : by ≡ c
   pub stamp : stamp_of_act act ≡ at
   pub starts : is_start act ≡ true
+  pub past : at < clock setup t
+  pub passed : (d : ℕ) → d < upto → d ≢ c → HasPassed setup t (scanned_for act) at d
+  pub pages : page ≡ fills_page a.call a.found
 
 abbrev pub KnowsQuiet : Setting → Trace → ℕ → ActiveCall → Quiet → ActOf → Type 0
-KnowsQuiet setup t c a (AtCore at core upto page) act = KnowsScan setup t c a at core upto act
-KnowsQuiet setup t c a (AtFlush at upto) act = ⊥
+KnowsQuiet setup t c a (AtCore at core upto page) act = KnowsScan setup t c a at core upto 0 page act
+KnowsQuiet setup t c a (AtFlush at upto) act = KnowsScan setup t c a at c setup.cores upto true act
 
 -- What an acquired count was due for.
 abbrev pub due_of : Acquired → Due

@@ -15,7 +15,7 @@ use Rattle.std.proofs.lemmas.List.Elements.{All-nil, All-cons, All-head, All-tai
 use Rattle.spk_nums.specs.Setting.{Setting, IsSetting}
 use Rattle.spk_nums.specs.Capability.{Capability}
 use Rattle.spk_nums.specs.declared.calls.Call.{Call}
-use Rattle.spk_nums.specs.declared.calls.Call.TheVariants.{Look, Copy, Remove, Shrink, Unmap, Retype, Make as make_call, Tick, Gate, Kill}
+use Rattle.spk_nums.specs.declared.calls.Call.TheVariants.{Look, Copy, Remove, Shrink, Unmap, Retype, Make as make_call, Tick, Gate, Kill, Grow}
 use Rattle.spk_nums.specs.declared.replies.Reply.{Reply}
 use Rattle.spk_nums.specs.declared.replies.Reply.TheVariants as reply
 use Rattle.supported_calls.specs.Built.{IsBuilt}
@@ -69,6 +69,7 @@ use Rattle.plan_ways.proofs.Near.{one_left, one_right, near_about, near_found}
 use Rattle.call_plans.specs.GoesBy.{GoesBy, own_pages}
 use Rattle.call_plans.proofs.CallsGoBy.{calls_go}
 use Rattle.count_invariant.proofs.MakingCounts.{no_due, made_counts, made_changes, made_argument, due_near, made_left, due_named}
+use Rattle.count_invariant.proofs.LinkCounts.{link_near}
 use Rattle.count_invariant.proofs.KillingCounts.{kill_counts, kill_near, killing_due}
 use Rattle.look_invariant.proofs.Findings.{found_named}
 use Rattle.call_acts.specs.declared.refusals.Refusal.TheVariants as refusal
@@ -275,6 +276,7 @@ put_counts : (call : Call) → IsBuilt call → (ks : List Capability) (read : O
     → IsTrue (counts_references call)
 put_counts (Look a) built ks read k puts = absurd (cc)
 put_counts (Copy a u b) built ks read k puts = refl
+put_counts (Grow u i l) built ks k puts = refl
 put_counts (Remove u b) built ks read k puts = absurd (cc)
 put_counts (Shrink u i) built ks read k puts = absurd (cc)
 put_counts (Unmap p v) built ks read k puts = absurd (cc)
@@ -325,6 +327,7 @@ put_near : (s : State) (c : ℕ) (call : Call) → IsBuilt call → (ks : List C
     → (f : ℕ) → is_one_of f (named_by k.kind k.frame) ≡ true → is_one_of f (frames_near s c call) ≡ true
 put_near s c (Look a) built ks read k puts lead f names_it = absurd (cc)
 put_near s c (Copy a u b) built ks read k puts lead f names_it = near_found s c (Copy a u b) ks lead First k puts f names_it
+put_near s c (Grow u i l) built ks k puts lead f names_it = link_near s c u i l ks k puts lead f names_it
 put_near s c (Remove u b) built ks read k puts lead f names_it = absurd (cc)
 put_near s c (Shrink u i) built ks read k puts lead f names_it = absurd (cc)
 put_near s c (Unmap p v) built ks read k puts lead f names_it = absurd (cc)

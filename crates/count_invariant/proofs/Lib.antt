@@ -3,3 +3,4 @@ pub mod CountChanges
 pub mod CapChanges
 pub mod MakingCounts
 pub mod KillingCounts
+pub mod LinkCounts

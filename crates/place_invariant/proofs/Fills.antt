@@ -7,7 +7,7 @@ use Rattle.spk_nums.specs.Capability.{Capability}
 use Rattle.spk_nums.specs.Setting.{Setting, IsSetting}
 use Rattle.spk_nums.specs.declared.kinds.Kind.TheVariants as kind
 use Rattle.spk_nums.specs.declared.calls.Call.{Call}
-use Rattle.spk_nums.specs.declared.calls.Call.TheVariants.{Look, Copy, Remove, Shrink, Unmap, Retype, Make as make_call, Tick, Gate, Kill}
+use Rattle.spk_nums.specs.declared.calls.Call.TheVariants.{Look, Copy, Remove, Shrink, Unmap, Retype, Make as make_call, Tick, Gate, Kill, Grow}
 use Rattle.spk_nums.specs.declared.kinds.Kind.{Kind}
 use Rattle.supported_calls.specs.Built.{IsBuilt}
 use Rattle.spk_nums.specs.declared.replies.Value.TheVariants.{Nothing}
@@ -20,6 +20,7 @@ use Rattle.word_map.specs.Word.{Word, EntryAt, CountAt}
 use Rattle.word_map.specs.Moves.{Move, CompareOf, left_of}
 use Rattle.spk_nums.specs.WordSteps.{left_if}
 use Rattle.kernel_rules.specs.State.{Place, comp_of, comp_in, Free as Vacant, Holds, Quiescing as Removed, Frame, Kernel, Table, Leaf, Pages, Pleaf, Thing, PlaceOf, FrameOf, State, with_place}
+use Rattle.kernel_rules.specs.Start.{plain_cap}
 use Rattle.kernel_rules.specs.Access.{Slot, found, Target, Under, InRoot, only, place_at, usable_in, linked, slot_in, root_slot, reached, own}
 use Rattle.kernel_rules.specs.Rules.{Found, IsFoundAnd, Vacant as to_be_free, Does, and_then, or_refuse, unless, not_vacant, named, outcome, fills}
 use Rattle.kernel_rules.specs.CallRelation.{MayReply, rule_of, ends_by, flushes_by, changed, change_of, counted, begins_in}
@@ -61,7 +62,7 @@ use Rattle.core_invariant.proofs.CountSums.{fill_refs}
 use Rattle.core_invariant.proofs.Sounds.{limits_of}
 use Rattle.count_invariant.proofs.CapChanges.{counts_commit, counts_sum}
 use Rattle.count_invariant.proofs.Acquiring.{plan_leads}
-use Rattle.place_invariant.proofs.Vacancy.{in_leaf, IsVacant, vacant_by}
+use Rattle.place_invariant.proofs.Vacancy.{IsVacant, vacant_by}
 use Rattle.core_invariant.specs.Holding.{holds_counts}
 use Rattle.core_invariant.specs.CountWords.{IsWithin}
 use Rattle.core_invariant.proofs.Writes.{same_marks, writes_entry}
@@ -83,8 +84,6 @@ use Rattle.look_invariant.proofs.Next.{Rest, ANameLeft, NoneLeft, rest_of, next_
 record Puts (s : State) (c : ℕ) (call : Call) (ks : List Capability) (target : Target) (k : Capability) : Type 0 where
   rule : rule_after (rule_of s c call) ks ≡ to_be_free target (λ at. Does [] (fills s at k))
   places : changes_places call ≡ true
-  leaf : (setup : Setting) → IsSetting setup → (t : Trace) → IsLegal setup t → phase t c ≡ Open call → s ≡ state_after setup t
-      → (at : Slot) → reached s c target ≡ Some at → s.frame at.node ≡ Kernel Leaf
   ends : (x : Thing) → ends_by call x ≡ false
   flushes : flushes_by call ≡ false
 
@@ -251,12 +250,8 @@ module _ (setup : Setting) (setting : IsSetting setup) (cores : ℕ → Core) (t
         by_read (inl m) = absurd (subst (MayFill setup t c (PlaceOf node index) setup.cores) m.says may)
         by_read (inr p) = p
 
-    leaf : s.frame node ≡ Kernel Leaf
-    leaf = puts.leaf setup setting t stands.legal is_open refl slot has.knows.knows.way.reached
-
     empty : IsVacant s c node index
-    empty = vacant_by setup setting t stands.legal stands.graces c node index leaf (ap (λ l. l.cores) (limits_of setup t)) setup.frames
-        (entry_of_word was) unmarked.says may
+    empty = vacant_by setup t c node index (ap (λ l. l.cores) (limits_of setup t)) setup.frames (entry_of_word was) unmarked.says may
 
     change : change_of s c a.call ≡ Found (fills s slot k)
     change = outcome_left s c (own_pages s c) a.plan (rule_of s c a.call) a.found goes_by leads ∙ ap (outcome s c) puts.rule
@@ -461,10 +456,6 @@ puts_by s c target q (Copy a u b) built (k ∷ j ∷ []) lead none next read has
     (record {
       rule = refl;
       places = refl;
-      leaf = λ setup setting t legal in_call same at is. subst (λ x. x.frame at.node ≡ Kernel Leaf) (sym same)
-          (in_leaf setup setting t legal c (Copy a u b) in_call u b j at
-          (subst (λ x. named x c u (only kind.Table) ≡ Found j) same lead.1.0)
-          (subst (λ x. reached x c (Under (found j) b) ≡ Some at) same is));
       ends = λ x. refl;
       flushes = refl;
     }))
@@ -477,6 +468,13 @@ puts_by s c target q (Copy a u b) built (k ∷ []) lead none next read has_read 
     not_none : of_kind kind.Table u ∷ [] ≡ [] → ⊥
     not_none h = cc
 puts_by s c target q (Copy a u b) built (k ∷ j ∷ i ∷ ks) lead none next read has_read puts = absurd lead.1.1
+puts_by s c target q (Grow u i l) built (k ∷ j ∷ []) lead none next puts =
+    subst (λ (q : Capability). Puts s c (Grow u i l) (k ∷ j ∷ []) target q) (cap_same (plain_cap kind.Link j.frame) q puts)
+    (subst (λ p. Puts s c (Grow u i l) (k ∷ j ∷ []) p (plain_cap kind.Link j.frame)) (target_in (InRoot (found k) i) target next)
+    (record { rule = refl; places = refl; ends = λ x. refl; flushes = refl }))
+puts_by s c target q (Grow u i l) built [] lead none next puts = absurd (cc)
+puts_by s c target q (Grow u i l) built (k ∷ []) lead none next puts = absurd (cc)
+puts_by s c target q (Grow u i l) built (k ∷ j ∷ h ∷ ks) lead none next puts = absurd lead.1.1
 puts_by s c target q (Look a) built ks lead none next read has_read puts = absurd (cc)
 puts_by s c target q (Remove u b) built ks lead none next read has_read puts = absurd (cc)
 puts_by s c target q (Shrink u i) built ks lead none next read has_read puts = absurd (cc)

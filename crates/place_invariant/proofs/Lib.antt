@@ -6,4 +6,7 @@ pub mod Vacancy
 pub mod Removals
 pub mod Closings
 pub mod Scans
+pub mod Paging
+pub mod CoreScans
+pub mod FlushScans
 pub mod ScanSteps

@@ -19,7 +19,7 @@ use Rattle.kernel_rules.specs.Relies.{is_node}
 use Rattle.kernel_rules.specs.CapabilityCalls.{has_frame, not_blank, makes}
 use Rattle.kernel_rules.specs.CallRelation.{rule_of, change_of}
 use Rattle.kernel_history.specs.Alone.{IsAlone}
-use Rattle.kernel_history.specs.Trace.{Step, Trace, Open, phase, state_after, last_left}
+use Rattle.kernel_history.specs.Trace.{Trace, Open, phase, state_after, last_left, own_read}
 use Rattle.kernel_history.proofs.Laws.{not_changed}
 use Rattle.call_plans.specs.declared.plans.Plan.{Plan}
 use Rattle.call_plans.specs.PlanOf.{plan_for}
@@ -175,19 +175,27 @@ module _ (setup : Setting) (setting : IsSetting setup) (cores : ℕ → Core) (t
     first = first;
   }
 
+-- Where a call is alone, a word stands as its last step there has read it.
+pub stands_alone : (setup : Setting) (t : Trace) (c node index word : ℕ) → own_read t c (EntryAt node index) ≡ Some word → (move : Move)
+    (r : Reply) → IsAlone t (step_to c None move (last_left setup t (word_of move)) (Some r) None)
+    → last_left setup t (EntryAt node index) ≡ word
+stands_alone setup t c node index word own move r alone = elim (cases_eq (last_left setup t (EntryAt node index)) word) [
+  | inl same ↦ same
+  | inr changed ↦ absurd (not_changed setup t
+      (step_to c None (LoadOf (EntryAt node index)) (last_left setup t (EntryAt node index)) None None) refl
+      (record { others_out = alone.others_out; undisturbed = alone.undisturbed }) word own changed)
+]
+
 -- It is vacant where its word stands still that the call has read there, as it does if the call is alone.
 module _ (setup : Setting) (setting : IsSetting setup) (cores : ℕ → Core) (t : Trace) (stands : Stands setup cores t) (c : ℕ)
     (here : c < setup.cores)
     (a : ActiveCall) (active : (cores c).active ≡ Some a) (opens : phase_at a.call a.stage ≡ Open a.call)
     (names : NamesAre setup t c (cores c).own.table a.plan a.found) (node index word : ℕ)
     (spot : IsSpot setup t c a.plan a.found setup.cores node index word) where
-  abbrev at_entry : Step
-  at_entry = step_to c None (LoadOf (EntryAt node index)) (last_left setup t (EntryAt node index)) None None
-
   pub vacant_here : (index < 64) → (state_after setup t).frame node ≡ Kernel Leaf → last_left setup t (EntryAt node index) ≡ word
       → IsVacant (state_after setup t) c node index
   vacant_here small in_leaf same =
-      vacant_by setup setting t stands.legal stands.graces c node index in_leaf (ap (λ l. l.cores) (limits_of setup t)) setup.frames
+      vacant_by setup t c node index (ap (λ l. l.cores) (limits_of setup t)) setup.frames
       (entry_of_word (last_left setup t (EntryAt node index))) unmarked.says may
     where
       may : MayFill setup t c (PlaceOf node index) setup.cores (entry_of_word (last_left setup t (EntryAt node index)))
@@ -200,16 +208,7 @@ module _ (setup : Setting) (setting : IsSetting setup) (cores : ℕ → Core) (t
           by_read (inl m) = absurd (subst (MayFill setup t c (PlaceOf node index) setup.cores) m.says may)
           by_read (inr p) = p
 
-  -- where the call is alone, the word of the target stands as it was read
-  pub stands_alone : (move : Move) (r : Reply) → IsAlone t (step_to c None move (last_left setup t (word_of move)) (Some r) None)
-      → last_left setup t (EntryAt node index) ≡ word
-  stands_alone move r alone = elim (cases_eq (last_left setup t (EntryAt node index)) word) [
-    | inl same ↦ same
-    | inr changed ↦ absurd (not_changed setup t at_entry refl
-        (record { others_out = alone.others_out; undisturbed = alone.undisturbed }) word spot.own changed)
-  ]
-
   pub refused_outside : (index < 64) → OutsideBy a.call a.found → (move : Move) → IsRefusedOutside setup t c a.call move
   refused_outside small out move =
       refused_vacant setup setting cores t stands c here a active opens names node index spot.target spot.next spot.way.reached out move
-      (λ in_leaf alone. vacant_here small in_leaf (stands_alone move reply.OutOfRange alone))
+      (λ in_leaf alone. vacant_here small in_leaf (stands_alone setup t c node index word spot.own move reply.OutOfRange alone))

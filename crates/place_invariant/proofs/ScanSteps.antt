@@ -1,365 +1,137 @@
--- A step of a scan for a place that is quiescing is good: it is refused by a core that may still use what was removed, or goes on to the
--- next core, and from the last to the counts of the act.
-use Rattle.place_invariant.proofs.Outside.{refused_outside}
-use Rattle.place_invariant.proofs.Starts.{IsRefusedOutside as RefusedOutside, starts_good}
-use Rattle.std.proofs.Common.{◌≡◌, ◌≢◌, ◌⊎◌, ℕ, ◌<◌, ◌≤◌, ◌&&◌, ◌++◌, nat_lt, nat_le, if◌then◌else◌, Bool, true, false, [], ◌∷◌, Option, Some, None, IsTrue, inl, inr, arith, refl, sym, ◌∙◌, ap, subst}
-use Rattle.std.specs.Prelude.{IsSomeAnd, ◌==◌, ◌||◌}
-use Rattle.std.specs.List.{list_any}
-use Rattle.std.proofs.lemmas.Bool.{eq-eqb, ltb-false, leb-true, leb-false, false≢true}
+-- A step of a scan for a place that is quiescing is good, whatever it scans and whatever is then done.
+use Rattle.std.proofs.Common.{◌≡◌, ℕ, ◌<◌, ◌≤◌, false, Some, arith, refl, sym, ◌∙◌, ap, subst}
+use Rattle.std.proofs.lemmas.Bool.{false≢true}
 use Rattle.spk_nums.specs.Setting.{Setting, IsSetting}
-use Rattle.spk_nums.specs.declared.replies.Reply.TheVariants as reply
 use Rattle.entry_words.specs.EntryWord.{entry_of_word}
-use Rattle.entry_words.specs.declared.entry.Entry.{Entry}
-use Rattle.entry_words.specs.declared.entry.Entry.TheVariants as entry
-use Rattle.frame_words.specs.Core.{core_of_word}
-use Rattle.frame_words.specs.declared.core_word.CoreWord.{CoreWord}
-use Rattle.word_map.specs.Word.{EntryAt, CoreAt, FrameAt, LiveAt}
-use Rattle.word_map.specs.Moves.{LoadOf, word_of, told_of}
-use Rattle.kernel_rules.specs.State.{Thing, PlaceOf, State}
-use Rattle.kernel_rules.specs.Access.{Slot, Target, reached}
-use Rattle.kernel_rules.specs.CallRelation.{rule_of}
-use Rattle.kernel_rules.specs.GracePeriods.{same_thing, MayWait}
-use Rattle.kernel_rules.specs.Rules.{RuleMay, Rule}
-use Rattle.kernel_rules.specs.Rules as rules
-use Rattle.kernel_history.specs.Justified.{IsRemoved, IsWaiting}
-use Rattle.kernel_history.specs.Stamps.{exit_of}
-use Rattle.kernel_history.specs.Trace.{Step, Trace, Open, phase, state_after, last_left}
-use Rattle.kernel_history.specs.Ways.{waited_in, thing_at, asked_of}
-use Rattle.kernel_history.proofs.Carries.{Carries, was_before}
-use Rattle.kernel_history.proofs.Laws.{not_inside}
-use Rattle.kernel_history.proofs.Steps.{own_read-there, last_left-there}
-use Rattle.kernel_history.proofs.Waiting.{out_passed, later_passed, may_wait}
+use Rattle.word_map.specs.Word.{CoreAt, FlushAt}
+use Rattle.word_map.specs.Moves.{Move, LoadOf, word_of, told_of}
+use Rattle.kernel_rules.specs.State.{PlaceOf}
+use Rattle.kernel_history.specs.Trace.{Trace, last_left}
 use Rattle.stage_quiet.specs.declared.quiet.Quiet.{Quiet}
 use Rattle.stage_quiet.specs.declared.quiet.Quiet.TheVariants.{AtCore, AtFlush}
-use Rattle.stage_quiet.specs.Scan.{next_other, core_scan, flush_scan, quiet_move, core_refuses, scan_end, scan_after, quiet_next, quiet_end, quiet_after}
-use Rattle.call_plans.specs.GoesBy.{GoesBy, OwnPages, own_pages}
-use Rattle.call_plans.specs.After.{Leads, LeadsIn, NextFree, rule_after, NextMay}
-use Rattle.call_plans.proofs.AfterNames.{Begins, left_begins, next_may}
-use Rattle.plan_ways.proofs.Ways.{asked_left}
-use Rattle.call_acts.specs.declared.refusals.Refusal.TheVariants as refusal
+use Rattle.stage_quiet.specs.Scan.{quiet_move, quiet_end, quiet_after}
 use Rattle.call_acts.specs.declared.work.Act.{Act as ActOf}
 use Rattle.call_acts.specs.declared.work.Act.TheVariants.{Fill as fill_act, Remove as remove_act, Retype as type_act, Make as make_act, Outside, Tick as tick_act, Kill as kill_act}
 use Rattle.call_acts.specs.declared.work.Work.TheVariants.{Scan}
+use Rattle.call_acts.specs.Acts.{ActFits, stamp_of_act, stamp_shown}
+use Rattle.word_map.specs.Places.{Shape}
 use Rattle.call_steps.specs.declared.stages.Stage.TheVariants.{Undecided}
 use Rattle.call_steps.specs.declared.stages.ActiveCall.{ActiveCall}
-use Rattle.call_acts.specs.declared.work.WorkStep.TheVariants.{Goes}
-use Rattle.call_acts.specs.WorkSteps.{refuse}
-use Rattle.call_acts.specs.Acts.{stamp_shown, starts}
-use Rattle.call_steps.specs.Fits.{StageFits, CountsAt, HasRoom}
+use Rattle.call_steps.specs.Fits.{StageFits}
 use Rattle.call_steps.specs.Steps.{landed, took_scan}
 use Rattle.call_steps.specs.View.{Core}
-use Rattle.core_invariant.specs.Holding.{holds_counts}
-use Rattle.core_invariant.specs.Knows.{HasPassed, IsScanned, MayFill, KnowsAct, KnowsUndecided, phase_at, IsSpot, goes_on as goes_on_act}
-use Rattle.core_invariant.specs.Stands.{holds_at, holds_in, Stands}
-use Rattle.core_invariant.proofs.Carries.{names_on, act_on}
-use Rattle.core_invariant.proofs.Loads.{OnlyLooks, step_to, inner, core_is, call_is, is_active, loads_on, decides_on}
-use Rattle.core_invariant.proofs.Refusals.{GoodTook, not_spent}
-use Rattle.core_invariant.proofs.Sounds.{limits_of}
-use Rattle.count_invariant.proofs.Acquiring.{plan_leads, goes_by}
-use Rattle.place_invariant.proofs.Scans.{before_next}
+use Rattle.core_invariant.specs.Knows.{KnowsAct, KnowsUndecided, NamesAre, IsSpot, phase_at, scanned_for, goes_on}
+use Rattle.core_invariant.specs.Stands.{Stands}
+use Rattle.core_invariant.proofs.Loads.{is_active}
+use Rattle.core_invariant.proofs.Refusals.{GoodTook}
+use Rattle.place_invariant.proofs.CoreScans.{core_good}
+use Rattle.place_invariant.proofs.FlushScans.{flush_good}
+use Rattle.place_invariant.proofs.Outside.{refused_outside}
+use Rattle.place_invariant.proofs.Starts.{IsRefusedOutside as RefusedOutside}
 
--- A word that may be filled, and since whose stamp is scanned, says that it is quiescing since then.
-record IsScanFor (setup : Setting) (t : Trace) (c : ℕ) (thing : Thing) (x upto : ℕ) (o : Option Entry) : Type 0 where
-  shows : o ≡ Some (entry.Quiescing x)
-  scanned : IsScanned setup t c thing x upto
-
-scan_for : (setup : Setting) (t : Trace) (c : ℕ) (thing : Thing) (x upto : ℕ) (o : Option Entry) → stamp_shown o ≡ x → 1 ≤ x
-    → MayFill setup t c thing upto o
-    → IsScanFor setup t c thing x upto o
-scan_for setup t c thing x upto None is some may = absurd may
-scan_for setup t c thing x upto (Some entry.Free) is some may = absurd (omega arith)
-scan_for setup t c thing x upto (Some (entry.Held k)) is some may = absurd may
-scan_for setup t c thing x upto (Some (entry.Closing by)) is some may = absurd may
-scan_for setup t c thing x upto (Some (entry.Quiescing y)) is some may =
-    record { shows = ap (λ (n : ℕ). Some (entry.Quiescing n)) is; scanned = subst (λ (n : ℕ). IsScanned setup t c thing n upto) is may }
-
--- A rule whose target is to be free asks for the grace period of the target's place.
-asks_for : (s : State) (c : ℕ) (pages : OwnPages) (target : Target) (rule : Rule) (at : Slot) → Begins pages (NextFree target) rule
-    → reached s c target ≡ Some at
-    → IsTrue (list_any (same_thing (PlaceOf at.node at.index)) (asked_of waited_in s c rule))
-asks_for s c pages target (rules.Vacant u rest) at is way =
-    subst (λ o. IsTrue (list_any (same_thing (PlaceOf at.node at.index)) (thing_at o ++ asked_of waited_in s c (rest (rules.slot_of o)))))
-    (sym (ap (reached s c) is ∙ way)) (same (list_any (same_thing (PlaceOf at.node at.index)) (asked_of waited_in s c (rest at))))
-  where
-    same : (later : Bool) → IsTrue ((at.node == at.node && at.index == at.index) || later)
-    same later = ap (λ b. (b && at.index == at.index) || later) (eq-eqb at.node at.node refl) ∙ ap (λ b. b || later)
-        (eq-eqb at.index at.index refl)
-asks_for s c pages target _ at is way = absurd is
+-- What an act that is scanned for knows: the place, with the word that was read there, and that it knows the rest of its act still where
+-- more was scanned; one that is out of range is refused so.
+record ScansPlace (setup : Setting) (t : Trace) (c : ℕ) (a : ActiveCall) (flushes : ℕ) (act : ActOf) (move : Move) : Type 0 where
+  node : ℕ
+  index : ℕ
+  word : ℕ
+  small : index < 64
+  thing : scanned_for act ≡ PlaceOf node index
+  spot : IsSpot setup t c a.plan a.found flushes node index word
+  stamp : stamp_shown (entry_of_word word) ≡ stamp_of_act act
+  again : (upto : ℕ) → IsSpot setup t c a.plan a.found upto node index word → KnowsAct setup t c a.call a.plan a.found upto act
+  outside : goes_on act ≡ false → IsSpot setup t c a.plan a.found setup.cores node index word → RefusedOutside setup t c a.call move
 
 module _ (setup : Setting) (setting : IsSetting setup) (cores : ℕ → Core) (t : Trace) (stands : Stands setup cores t) (c : ℕ)
     (here : c < setup.cores)
-    (a : ActiveCall) (active : (cores c).active ≡ Some a) (x by at : ℕ) (page : Bool) (act : ActOf) (node index word : ℕ)
-    (stage_is : a.stage ≡ Undecided (Scan (AtCore x by at page) act))
-    (has : KnowsUndecided setup t c (cores c).own.table a (Scan (AtCore x by at page) act))
-    (spot : IsSpot setup t c a.plan a.found at node index word) (since : stamp_shown (entry_of_word word) ≡ x)
-    (again : (upto : ℕ) → IsSpot setup t c a.plan a.found upto node index word → KnowsAct setup t c a.call a.plan a.found upto act)
-    (outside : goes_on_act act ≡ false → IsSpot setup t c a.plan a.found setup.cores node index word
-    → RefusedOutside setup t c a.call (LoadOf (CoreAt at))) where
-  abbrev s : State
-  s = state_after setup t
-
-  abbrev slot : Slot
-  slot = record { node = node; index = index }
-
-  abbrev thing : Thing
-  thing = PlaceOf node index
-
-  abbrev was : ℕ
-  was = last_left setup t (CoreAt at)
-
-  fits : StageFits (cores c).own.layout (Undecided (Scan (AtCore x by at page) act))
-  fits = subst (StageFits (cores c).own.layout) stage_is (is_active setup setting cores t stands c here a active).stage
-
-  below : at < setup.cores
-  below = subst (λ (n : ℕ). at < n) (ap (λ s. s.cores) (stands.each c here).shape) fits.0.0
-
-  other : at ≢ c
-  other same = fits.0.1 (same ∙ sym has.knows.core)
-
-  drawn : 1 ≤ x
-  drawn = fits.1.2
-
-  no_counts : a.counts ≡ []
-  no_counts = subst (CountsAt a.counts) stage_is (is_active setup setting cores t stands c here a active).counts
-
-  held_is : holds_in (Some a) ≡ holds_counts None a.counts
-  held_is = ap (λ s. holds_at s a.counts) stage_is
-
-  opens : phase_at a.call a.stage ≡ Open a.call
-  opens = ap (phase_at a.call) stage_is
-
-  is_open : phase t c ≡ Open a.call
-  is_open = (call_is setup setting cores t stands c here a active).phase ∙ opens
-
-  room : (cores c).own.made < (cores c).own.limit
-  room = subst (HasRoom (cores c).own.made (cores c).own.limit) stage_is (is_active setup setting cores t stands c here a active).room
-
-  scan : IsScanFor setup t c thing x at (entry_of_word word)
-  scan = scan_for setup t c thing x at (entry_of_word word) since drawn spot.vacant
-
-  looks : OnlyLooks setup t c a.call (LoadOf (CoreAt at))
-  looks = record { of_call = record { moves = refl; near = inl tt }; kept = refl; apart = λ d. refl }
-
-  -- The core may still use what was removed.
-  module _ (inside : (s.core at).inside ≡ true) (early : exit_of t at ≤ x) where
-    abbrev e : Step
-    e = inner setup setting cores t stands c here a active (LoadOf (CoreAt at)) (Some (reply.Quiescing at)) None
-
-    waits : MayWait s c thing at
-    waits = record {
-      is_core = subst (λ (n : ℕ). at < n) (sym (ap (λ l. l.cores) (limits_of setup t))) below;
-      other = other;
-      is_inside = inside;
-      not_passed = may_wait setup t thing (stands.graces thing) at x (let d = drawn in omega arith) scan.scanned.rises early;
-    }
-
-    leads : Leads (LeadsIn s c) a.plan.names [] a.found
-    leads = plan_leads setup setting cores t stands c here a active has.names
-
-    by_plan : GoesBy (own_pages s c) a.plan (rule_of s c a.call)
-    by_plan = goes_by setup setting cores t stands c here a active has.names
-
-    may : RuleMay s c (rule_of s c a.call) (reply.Quiescing at)
-    may = next_may s c (own_pages s c) a.plan (rule_of s c a.call) a.found by_plan leads (reply.Quiescing at)
-        (subst (λ n. NextMay s c (own_pages s c) n (reply.Quiescing at)) (sym spot.next)
-        (subst (λ o. IsSomeAnd o (λ at2. MayWait s c (PlaceOf at2.node at2.index) at)) (sym spot.way.reached) waits))
-
-    justified : IsWaiting setup t e s (rule_of s c a.call) at
-    justified = record {
-      thing = thing;
-      asked = subst (λ things. IsTrue (list_any (same_thing thing) things))
-          (sym (asked_left s c (own_pages s c) a.plan (rule_of s c a.call) a.found by_plan leads waited_in))
-          (asks_for s c (own_pages s c) spot.target (rule_after (rule_of s c a.call) a.found) slot
-          (subst (λ n. Begins (own_pages s c) n (rule_after (rule_of s c a.call) a.found)) spot.next
-          (left_begins s c (own_pages s c) a.plan (rule_of s c a.call) a.found by_plan leads)) spot.way.reached);
-      may_wait = waits;
-      was_removed = was_before (IsRemoved thing) setup t e refl scan.scanned.was_removed;
-    }
-
-    still_inside : GoodTook setup cores t c (LoadOf (CoreAt at)) (landed a (refuse (refusal.Quiescing at)))
-    still_inside lands = decides_on setup setting cores t stands c here a active (LoadOf (CoreAt at)) (reply.Quiescing at) a.found looks
-        lands (sym held_is) opens refl refl
-        (λ x. refl) (λ x. refl) refl (not_spent setup (cores c) t c (core_is setup setting cores t stands c here a active) room, may)
-        justified
-        (λ is_alone. absurd (not_inside setup t e refl is_alone at other inside))
-
-  -- The core has passed.
-  module _ (passed : HasPassed setup t thing x at) where
-    spot_then : (upto : ℕ) → ((d : ℕ) → d < upto → d ≢ c → (d < at) ⊎ (d ≡ at)) → IsSpot setup t c a.plan a.found upto node index word
-    spot_then upto before = record {
+    (a : ActiveCall) (active : (cores c).active ≡ Some a) (q : Quiet) (x flushes : ℕ) (some : 1 ≤ x) (move : Move) where
+  scans_place : (act : ActOf) → a.stage ≡ Undecided (Scan q act) → ActFits (cores c).own.layout act → stamp_of_act act ≡ x
+      → NamesAre setup t c (cores c).own.table a.plan a.found → KnowsAct setup t c a.call a.plan a.found flushes act
+      → ScansPlace setup t c a flushes act move
+  scans_place (remove_act close cap) is fits stamp names knows = absurd (omega arith)
+  scans_place (type_act typing) is fits stamp names knows = absurd (omega arith)
+  scans_place (tick_act charge) is fits stamp names knows = absurd (omega arith)
+  scans_place (kill_act m) is fits stamp names knows = absurd (omega arith)
+  scans_place (fill_act fill) is fits stamp names knows = record {
+    node = fill.node;
+    index = fill.entry;
+    word = fill.word;
+    small = fits.entry;
+    thing = refl;
+    spot = record { target = knows.target; next = knows.next; way = knows.way; own = knows.own; vacant = knows.vacant };
+    stamp = refl;
+    again = λ upto spot. record {
       target = spot.target;
       next = spot.next;
       way = spot.way;
       own = spot.own;
-      vacant = subst (MayFill setup t c thing upto) (sym scan.shows) (record {
-        some = scan.scanned.some;
-        past = scan.scanned.past;
-        rises = scan.scanned.rises;
-        was_removed = scan.scanned.was_removed;
-        passed = λ d under apart. elim (before d under apart) [
-          | inl earlier ↦ scan.scanned.passed d earlier apart
-          | inr same ↦ subst (HasPassed setup t thing x) (sym same) passed
-        ];
-      });
-    }
+      vacant = spot.vacant;
+      fits = knows.fits;
+      read = knows.read;
+      has_read = knows.has_read;
+      puts = knows.puts;
+    };
+    outside = λ out. absurd (false≢true (sym out));
+  }
+  scans_place (make_act m) is fits stamp names knows = record {
+    node = m.fill.node;
+    index = m.fill.entry;
+    word = m.fill.word;
+    small = fits.fill.entry;
+    thing = refl;
+    spot = knows.spot;
+    stamp = refl;
+    again = λ upto spot. record { spot = spot; makes = knows.makes; core = knows.core; cap = knows.cap; at = knows.at };
+    outside = λ out. absurd (false≢true (sym out));
+  }
+  scans_place (Outside node entry word) is fits stamp names knows = record {
+    node = node;
+    index = entry;
+    word = word;
+    small = fits.1;
+    thing = refl;
+    spot = knows.spot;
+    stamp = refl;
+    again = λ upto spot. record { spot = spot; outside = knows.outside };
+    outside = λ out spot. refused_outside setup setting cores t stands c here a active (ap (phase_at a.call) is) names node entry word spot
+        fits.1 knows.outside move;
+  }
 
-    more : (upto : ℕ) → ((d : ℕ) → d < upto → d ≢ c → (d < at) ⊎ (d ≡ at)) → KnowsAct setup t c a.call a.plan a.found upto act
-    more upto before = again upto (spot_then upto before)
-
-    entry_apart : (f i : ℕ) → EntryAt f i ≢ CoreAt at
-    entry_apart f i h = cc
-
-    frame_apart : (f : ℕ) → FrameAt f ≢ CoreAt at
-    frame_apart f h = cc
-
-    number_apart : (l : ℕ) → LiveAt l ≢ CoreAt at
-    number_apart l h = cc
-
-    carried : (upto : ℕ) → ((d : ℕ) → d < upto → d ≢ c → (d < at) ⊎ (d ≡ at))
-        → Carries setup t (step_to c None (LoadOf (CoreAt at)) was None None) c
-        → KnowsAct setup (step_to c None (LoadOf (CoreAt at)) was None None ∷ t) c a.call a.plan a.found upto act
-    carried upto before carries =
-        let e : Step = step_to c None (LoadOf (CoreAt at)) was None None in
-        act_on setup setting t e stands.legal c a.call is_open carries a.call a.plan a.found upto act
-        (record {
-          entries = λ f i. own_read-there c e t refl (EntryAt f i) (entry_apart f i);
-          frames = λ f. own_read-there c e t refl (FrameAt f) (frame_apart f);
-          numbers = λ l. own_read-there c e t refl (LiveAt l) (number_apart l);
-          stored = λ f i marked. last_left-there setup (EntryAt f i) e t (entry_apart f i);
-        }) (more upto before)
-
-    -- the next core is scanned
-    goes_on : GoodTook setup cores t c (LoadOf (CoreAt at)) (landed a (Goes (Scan (AtCore x by (next_other by at) page) act)))
-    goes_on lands =
-        let e : Step = step_to c None (LoadOf (CoreAt at)) was None None in
-        loads_on setup setting cores t stands c here a active (LoadOf (CoreAt at)) a.found
-        (Undecided (Scan (AtCore x by (next_other by at) page) act)) looks lands (sym held_is) opens
-        (λ carries. record {
-          names = names_on setup setting t e stands.legal c a.call is_open carries (cores c).own.table a.plan a.found has.names;
-          knows = record {
-            knows = carried (next_other by at)
-                (λ d under apart. before_next c at d (subst (λ (n : ℕ). d < next_other n at) has.knows.core under) apart) carries;
-            core = has.knows.core;
-            stamp = has.knows.stamp;
-            starts = has.knows.starts;
-          };
-        })
-
-    -- there is none: the act starts
-    ends : setup.cores ≤ next_other by at
-        → GoodTook setup cores t c (LoadOf (CoreAt at)) (landed a (starts (cores c).own.core act))
-    ends last = starts_good setup setting cores t stands c here a active opens held_is no_counts room has.names (LoadOf (CoreAt at)) looks
-        act
-        has.knows.starts
-        (carried setup.cores (λ d under apart. before_next c at d (below_next d under) apart))
-        (λ out. outside out (spot_then setup.cores (λ d under apart. before_next c at d (below_next d under) apart)))
-      where
-        below_next : (d : ℕ) → d < setup.cores → d < next_other c at
-        below_next d under = subst (λ (n : ℕ). d < next_other n at) has.knows.core (omega arith)
-
-    is_capabilities : page ≡ false
-    is_capabilities = fits.1.1
-
-    abbrev After : Option Quiet → Type 0
-    After next = GoodTook setup cores t c (LoadOf (CoreAt at)) (landed a
-        (took_scan (cores c).own.core act (scan_after (AtCore x by at page) None next) (scan_end None next)))
-
-    has_passed : After (quiet_next setup.cores (AtCore x by at page))
-    has_passed = by_next (nat_lt (next_other by at) setup.cores) refl
-      where
-        by_next : (there : Bool) → nat_lt (next_other by at) setup.cores ≡ there → After (core_scan there x by (next_other by at) page)
-        by_next true is = goes_on
-        by_next false is = subst (λ p. After (flush_scan p x)) (sym is_capabilities) (ends (ltb-false (next_other by at) setup.cores is))
-
-  abbrev Judged : Option CoreWord → Type 0
-  Judged o = GoodTook setup cores t c (LoadOf (CoreAt at)) (landed a (took_scan (cores c).own.core act
-      (scan_after (AtCore x by at page) (core_refuses x at o) (quiet_next setup.cores (AtCore x by at page)))
-      (scan_end (core_refuses x at o) (quiet_next setup.cores (AtCore x by at page)))))
-
-  word_is : core_of_word was ≡ Some (record { inside = (s.core at).inside; stamp = exit_of t at })
-  word_is = stands.words (CoreAt at)
-
-  pub core_good : GoodTook setup cores t c (LoadOf (CoreAt at))
-      (landed a (took_scan (cores c).own.core act (quiet_after setup.cores (AtCore x by at page) was)
-      (quiet_end setup.cores (AtCore x by at page) was)))
-  core_good = subst Judged (sym word_is) (by_inside (s.core at).inside refl (nat_le (exit_of t at) x) refl)
-    where
-      by_inside : (inside : Bool) → (s.core at).inside ≡ inside → (early : Bool) → nat_le (exit_of t at) x ≡ early
-          → GoodTook setup cores t c (LoadOf (CoreAt at)) (landed a (took_scan (cores c).own.core act
-          (scan_after (AtCore x by at page) (if inside && early then Some (reply.Quiescing at) else None)
-          (quiet_next setup.cores (AtCore x by at page)))
-          (scan_end (if inside && early then Some (reply.Quiescing at) else None) (quiet_next setup.cores (AtCore x by at page)))))
-      by_inside false is early le = has_passed (out_passed setup t thing (stands.graces thing) at x is)
-      by_inside true is true le = still_inside is (leb-true (exit_of t at) x le)
-      by_inside true is false le = has_passed (later_passed setup t thing (stands.graces thing) at x (leb-false (exit_of t at) x le))
-
--- The step of a scan, whatever it scans and whatever is then done.
 pub scan_good : (setup : Setting) → IsSetting setup → (cores : ℕ → Core) (t : Trace) → Stands setup cores t → (c : ℕ) → c < setup.cores
     → (a : ActiveCall) → (cores c).active ≡ Some a
     → (q : Quiet) (act : ActOf) → a.stage ≡ Undecided (Scan q act) → KnowsUndecided setup t c (cores c).own.table a (Scan q act)
     → GoodTook setup cores t c (quiet_move q) (landed a (took_scan (cores c).own.core act
     (quiet_after (cores c).own.layout.cores q (told_of (quiet_move q) (last_left setup t (word_of (quiet_move q)))))
     (quiet_end (cores c).own.layout.cores q (told_of (quiet_move q) (last_left setup t (word_of (quiet_move q)))))))
-scan_good setup setting cores t stands c here a active (AtFlush x at) act is knows = absurd knows.knows
+scan_good setup setting cores t stands c here a active (AtFlush x at) act is knows = subst Goal
+    (sym (ap (λ s. s.cores) (stands.each c here).shape))
+    (flush_good setup setting cores t stands c here a active x at act place.node place.index place.word place.small is knows place.thing
+    place.spot (place.stamp ∙ knows.knows.stamp) place.again place.outside)
+  where
+    Goal : ℕ → Type 0
+    Goal n = GoodTook setup cores t c (LoadOf (FlushAt at)) (landed a (took_scan (cores c).own.core act
+        (quiet_after n (AtFlush x at) (last_left setup t (FlushAt at)))
+        (quiet_end n (AtFlush x at) (last_left setup t (FlushAt at)))))
+
+    fits : StageFits (cores c).own.layout (Undecided (Scan (AtFlush x at) act))
+    fits = subst (StageFits (cores c).own.layout) is (is_active setup setting cores t stands c here a active).stage
+
+    place : ScansPlace setup t c a at act (LoadOf (FlushAt at))
+    place = scans_place setup setting cores t stands c here a active (AtFlush x at) x at fits.1 (LoadOf (FlushAt at)) act is fits.2
+        knows.knows.stamp knows.names knows.knows.knows
 scan_good setup setting cores t stands c here a active (AtCore x by at page) act is knows = subst Goal
-    (sym (ap (λ s. s.cores) (stands.each c here).shape)) (by_act act is knows)
+    (sym (ap (λ s. s.cores) (stands.each c here).shape))
+    (core_good setup setting cores t stands c here a active x by at page act place.node place.index place.word is knows place.thing
+    place.spot (place.stamp ∙ knows.knows.stamp) place.again place.outside)
   where
     Goal : ℕ → Type 0
     Goal n = GoodTook setup cores t c (LoadOf (CoreAt at)) (landed a (took_scan (cores c).own.core act
         (quiet_after n (AtCore x by at page) (last_left setup t (CoreAt at)))
         (quiet_end n (AtCore x by at page) (last_left setup t (CoreAt at)))))
 
-    none_scanned : (act : ActOf) → a.stage ≡ Undecided (Scan (AtCore x by at page) act) → 0 ≡ x → ⊥
-    none_scanned act is none = let some = (subst (StageFits (cores c).own.layout) is
-        (is_active setup setting cores t stands c here a active).stage).1.2 in omega arith
+    fits : StageFits (cores c).own.layout (Undecided (Scan (AtCore x by at page) act))
+    fits = subst (StageFits (cores c).own.layout) is (is_active setup setting cores t stands c here a active).stage
 
-    outside_fits : (node entry word : ℕ) → a.stage ≡ Undecided (Scan (AtCore x by at page) (Outside node entry word)) → entry < 64
-    outside_fits node entry word is = (subst (StageFits (cores c).own.layout) is
-        (is_active setup setting cores t stands c here a active).stage).2.1
-
-    by_act : (act : ActOf) → a.stage ≡ Undecided (Scan (AtCore x by at page) act)
-        → KnowsUndecided setup t c (cores c).own.table a (Scan (AtCore x by at page) act)
-        → GoodTook setup cores t c (LoadOf (CoreAt at)) (landed a (took_scan (cores c).own.core act
-        (quiet_after setup.cores (AtCore x by at page) (last_left setup t (CoreAt at)))
-        (quiet_end setup.cores (AtCore x by at page) (last_left setup t (CoreAt at)))))
-    by_act (remove_act close cap) is knows = absurd (none_scanned (remove_act close cap) is knows.knows.stamp)
-    by_act (type_act typing) is knows = absurd (none_scanned (type_act typing) is knows.knows.stamp)
-    by_act (tick_act charge) is knows = absurd (none_scanned (tick_act charge) is knows.knows.stamp)
-    by_act (kill_act m) is knows = absurd (none_scanned (kill_act m) is knows.knows.stamp)
-    by_act (fill_act fill) is knows =
-        core_good setup setting cores t stands c here a active x by at page (fill_act fill) fill.node fill.entry fill.word is knows
-        (record {
-          target = knows.knows.knows.target;
-          next = knows.knows.knows.next;
-          way = knows.knows.knows.way;
-          own = knows.knows.knows.own;
-          vacant = knows.knows.knows.vacant;
-        }) knows.knows.stamp
-        (λ upto spot. record {
-          target = spot.target;
-          next = spot.next;
-          way = spot.way;
-          own = spot.own;
-          vacant = spot.vacant;
-          fits = knows.knows.knows.fits;
-          read = knows.knows.knows.read;
-          has_read = knows.knows.knows.has_read;
-          puts = knows.knows.knows.puts;
-        }) (λ out. absurd (false≢true (sym out)))
-    by_act (make_act m) is knows =
-        core_good setup setting cores t stands c here a active x by at page (make_act m) m.fill.node m.fill.entry m.fill.word is knows
-        knows.knows.knows.spot knows.knows.stamp
-        (λ upto spot. record {
-          spot = spot;
-          makes = knows.knows.knows.makes;
-          core = knows.knows.knows.core;
-          cap = knows.knows.knows.cap;
-          at = knows.knows.knows.at;
-        }) (λ out. absurd (false≢true (sym out)))
-    by_act (Outside node entry word) is knows =
-        core_good setup setting cores t stands c here a active x by at page (Outside node entry word) node entry word is knows
-        knows.knows.knows.spot knows.knows.stamp
-        (λ upto spot. record { spot = spot; outside = knows.knows.knows.outside })
-        (λ out spot. refused_outside setup setting cores t stands c here a active
-        (ap (phase_at a.call) is) knows.names node entry word spot (outside_fits node entry word is) knows.knows.knows.outside
-        (LoadOf (CoreAt at)))
+    place : ScansPlace setup t c a 0 act (LoadOf (CoreAt at))
+    place = scans_place setup setting cores t stands c here a active (AtCore x by at page) x 0 fits.1.1 (LoadOf (CoreAt at)) act is fits.2
+        knows.knows.stamp knows.names knows.knows.knows

@@ -1,15 +1,29 @@
 -- The scan for a place that is quiescing: a step of it is refused by a core that may still use what was removed, or goes on to the next
 -- core, or to the counts of the act.
-use Rattle.stage_quiet.specs.declared.quiet.Quiet.TheVariants.{AtCore}
+use Rattle.stage_quiet.specs.declared.quiet.Quiet.TheVariants.{AtCore, AtFlush}
 use Rattle.stage_quiet.specs.declared.quiet.Quiet.{Quiet}
-use Rattle.std.proofs.Common.{◌≡◌, ◌≢◌, ◌⊎◌, ℕ, ◌+◌, ◌<◌, ◌≤◌, ◌==◌, nat_lt, if◌then◌else◌, Bool, true, false, Option, Some, None, inl, inr, arith, refl, sym, ◌∙◌, ap}
+use Rattle.std.proofs.Common.{◌≡◌, ◌≢◌, ◌⊎◌, ℕ, ◌+◌, ◌<◌, ◌≤◌, ◌==◌, nat_lt, if◌then◌else◌, Bool, true, false, Option, Some, None, inl, inr, arith, refl, sym, ◌∙◌, ap, ◌&&◌, ◌++◌, subst, IsTrue, List}
 use Rattle.std.proofs.lemmas.Bool.{false≢true, cases_eq, eq-eqb, eqb-true, eqb-false, ltb-true, ltb-false, leb-true, leb-false}
 use Rattle.entry_words.specs.declared.entry.Entry.{Entry}
 use Rattle.entry_words.specs.declared.entry.Entry.TheVariants as entry
-use Rattle.kernel_rules.specs.State.{Place, Free, Holds, Quiescing}
+use Rattle.kernel_rules.specs.State.{Place, Free, Holds, Quiescing, Thing, PlaceOf, State}
 use Rattle.kernel_history.specs.Justified.{IsRemovedPlace}
 use Rattle.stage_quiet.specs.Scan.{first_other, next_other, core_scan, quiet_scan}
+use Rattle.std.specs.Prelude.{◌||◌}
+use Rattle.std.specs.List.{list_any}
+use Rattle.spk_nums.specs.Setting.{Setting}
+use Rattle.kernel_rules.specs.Access.{Slot, Target, reached}
+use Rattle.kernel_rules.specs.GracePeriods.{same_thing}
+use Rattle.kernel_rules.specs.Rules.{Rule, Cause}
+use Rattle.kernel_rules.specs.Rules as rules
+use Rattle.kernel_history.specs.Trace.{Trace}
+use Rattle.kernel_history.specs.Ways.{thing_at, asked_of}
+use Rattle.call_plans.specs.GoesBy.{OwnPages}
+use Rattle.call_plans.specs.After.{NextFree}
+use Rattle.call_plans.proofs.AfterNames.{Begins}
+use Rattle.call_acts.specs.Acts.{stamp_shown}
 use Rattle.core_invariant.specs.Words.{PlaceIs}
+use Rattle.core_invariant.specs.Knows.{IsScanned, MayFill}
 
 -- The cores before the first of a scan, and before the next: all but the one that scans are passed.
 pub before_first : (c d : ℕ) → d < first_other c → d ≢ c → ⊥
@@ -33,44 +47,50 @@ before_next c at d below other = elim (cases_eq d at) [
         ]
     by false is low apart = omega arith
 
--- What is known where a scan begins: no core before the first other one is to be scanned; and where none is needed, there is no other.
-pub record ScanBegins (x core cores : ℕ) (q : Quiet) : Type 0 where
-  pub upto : ℕ
-  pub is : q ≡ AtCore x core upto false
-  pub before : (d : ℕ) → d < upto → d ≢ core → ⊥
+-- Where a scan begins: before the first other core, below which none is to be scanned; or before the first flush word, where there is no
+-- other core.
+pub data ScanBegins (x core cores : ℕ) (page : Bool) (q : Quiet) : Type 0 where
+  AtCores : (upto : ℕ) → q ≡ AtCore x core upto page → ((d : ℕ) → d < upto → d ≢ core → ⊥) → ScanBegins x core cores page q
+  AtFlushes : page ≡ true → q ≡ AtFlush x 0 → ((d : ℕ) → d < cores → d ≢ core → ⊥) → ScanBegins x core cores page q
 
-pub scan_begins : (x core cores : ℕ) → 1 ≤ x → (q : Quiet) → quiet_scan x core cores false ≡ Some q → ScanBegins x core cores q
-scan_begins x core cores some q is = by (nat_lt (first_other core) cores) refl
-    (ap (λ b. if b then None else core_scan (nat_lt (first_other core) cores) x core (first_other core) false) (sym not_zero) ∙ is)
+some_quiet : (p r : Quiet) → Some p ≡ Some r → p ≡ r
+some_quiet p r h = cc
+
+none_quiet : (p : Quiet) → None ≡ Some p → ⊥
+none_quiet p h = cc
+
+none_other : (core cores : ℕ) → nat_lt (first_other core) cores ≡ false → (d : ℕ) → d < cores → d ≢ core → ⊥
+none_other core cores past d below other =
+    before_first core d (let more = ltb-false (first_other core) cores past in omega arith) other
+
+pub scan_begins : (x core cores : ℕ) (page : Bool) → 1 ≤ x → (q : Quiet) → quiet_scan x core cores page ≡ Some q
+    → ScanBegins x core cores page q
+scan_begins x core cores page some q is = by (nat_lt (first_other core) cores) refl page
+    (ap (λ b. if b then None else core_scan (nat_lt (first_other core) cores) x core (first_other core) page) (sym not_zero) ∙ is)
   where
     not_zero : (x == 0) ≡ false
     not_zero = Rattle.std.proofs.lemmas.Bool.ne_eqb x 0 (omega arith)
 
-    some_quiet : (p r : Quiet) → Some p ≡ Some r → p ≡ r
-    some_quiet p r h = cc
+    by : (there : Bool) → nat_lt (first_other core) cores ≡ there → (page : Bool) → core_scan there x core (first_other core) page ≡ Some q
+        → ScanBegins x core cores page q
+    by true below page is = AtCores (first_other core) (sym (some_quiet _ q is)) (before_first core)
+    by false past true is = AtFlushes refl (sym (some_quiet _ q is)) (none_other core cores past)
+    by false past false is = absurd (none_quiet q is)
 
-    none_quiet : (p : Quiet) → None ≡ Some p → ⊥
-    none_quiet p h = cc
-
-    by : (there : Bool) → nat_lt (first_other core) cores ≡ there → core_scan there x core (first_other core) false ≡ Some q
-        → ScanBegins x core cores q
-    by true below is = record {
-      upto = first_other core;
-      is = sym (some_quiet _ q is);
-      before = before_first core;
-    }
-    by false past is = absurd (none_quiet q is)
-
-pub scan_none : (x core cores : ℕ) → 1 ≤ x → quiet_scan x core cores false ≡ None → (d : ℕ) → d < cores → d ≢ core → ⊥
-scan_none x core cores some is d below other = by (nat_lt (first_other core) cores) refl
-    (ap (λ b. if b then None else core_scan (nat_lt (first_other core) cores) x core (first_other core) false) (sym not_zero) ∙ is)
+-- Where none is made, there is no other core, and no flush is awaited.
+pub scan_none : (x core cores : ℕ) (page : Bool) → 1 ≤ x → quiet_scan x core cores page ≡ None
+    → (page ≡ false) × ((d : ℕ) → d < cores → d ≢ core → ⊥)
+scan_none x core cores page some is = by (nat_lt (first_other core) cores) refl page
+    (ap (λ b. if b then None else core_scan (nat_lt (first_other core) cores) x core (first_other core) page) (sym not_zero) ∙ is)
   where
     not_zero : (x == 0) ≡ false
     not_zero = Rattle.std.proofs.lemmas.Bool.ne_eqb x 0 (omega arith)
 
-    by : (there : Bool) → nat_lt (first_other core) cores ≡ there → core_scan there x core (first_other core) false ≡ None → ⊥
-    by true low is = cc
-    by false past is = before_first core d (let more = ltb-false (first_other core) cores past in omega arith) other
+    by : (there : Bool) → nat_lt (first_other core) cores ≡ there → (page : Bool) → core_scan there x core (first_other core) page ≡ None
+        → (page ≡ false) × ((d : ℕ) → d < cores → d ≢ core → ⊥)
+    by true low page is = absurd (cc)
+    by false past true is = absurd (cc)
+    by false past false is = (refl, none_other core cores past)
 
 -- The stamp since which the word of a place shows that it is quiescing.
 pub record ShowsSince (p : Place) (since x : ℕ) : Type 0 where
@@ -92,3 +112,31 @@ since_is n (Quiescing k) r x o is shows =
   where
     stamp_same : Some (entry.Quiescing r) ≡ Some (entry.Quiescing x) → r ≡ x
     stamp_same h = cc
+
+-- A word that may be filled, and since whose stamp is scanned, says that it is quiescing since then.
+pub record IsScanFor (setup : Setting) (t : Trace) (c : ℕ) (thing : Thing) (x upto : ℕ) (o : Option Entry) : Type 0 where
+  pub shows : o ≡ Some (entry.Quiescing x)
+  pub scanned : IsScanned setup t c thing x upto
+
+pub scan_for : (setup : Setting) (t : Trace) (c : ℕ) (thing : Thing) (x upto : ℕ) (o : Option Entry) → stamp_shown o ≡ x → 1 ≤ x
+    → MayFill setup t c thing upto o
+    → IsScanFor setup t c thing x upto o
+scan_for setup t c thing x upto None is some may = absurd may
+scan_for setup t c thing x upto (Some entry.Free) is some may = absurd (omega arith)
+scan_for setup t c thing x upto (Some (entry.Held k)) is some may = absurd may
+scan_for setup t c thing x upto (Some (entry.Closing by)) is some may = absurd may
+scan_for setup t c thing x upto (Some (entry.Quiescing y)) is some may =
+    record { shows = ap (λ (n : ℕ). Some (entry.Quiescing n)) is; scanned = subst (λ (n : ℕ). IsScanned setup t c thing n upto) is may }
+
+-- A rule whose target is to be free asks for the grace period of the target's place.
+pub asks_for : (of_cause : Cause → List Thing) (s : State) (c : ℕ) (pages : OwnPages) (target : Target) (rule : Rule) (at : Slot)
+    → Begins pages (NextFree target) rule → reached s c target ≡ Some at
+    → IsTrue (list_any (same_thing (PlaceOf at.node at.index)) (asked_of of_cause s c rule))
+asks_for of_cause s c pages target (rules.Vacant u rest) at is way =
+    subst (λ o. IsTrue (list_any (same_thing (PlaceOf at.node at.index)) (thing_at o ++ asked_of of_cause s c (rest (rules.slot_of o)))))
+    (sym (ap (reached s c) is ∙ way)) (same (list_any (same_thing (PlaceOf at.node at.index)) (asked_of of_cause s c (rest at))))
+  where
+    same : (later : Bool) → IsTrue ((at.node == at.node && at.index == at.index) || later)
+    same later = ap (λ b. (b && at.index == at.index) || later) (eq-eqb at.node at.node refl) ∙ ap (λ b. b || later)
+        (eq-eqb at.index at.index refl)
+asks_for of_cause s c pages target _ at is way = absurd is

@@ -15,7 +15,6 @@ use Rattle.kernel_rules.specs.Fitting.{fits}
 use Rattle.kernel_rules.specs.GracePeriods.{is_paging, lowest, other_waiting, quiescing_by, unflushed_by}
 use Rattle.kernel_rules.specs.References.{place_names}
 use Rattle.kernel_rules.specs.Rules.{Found, named, first_of, waits_of, flushes_of, not_vacant}
-use Rattle.kernel_rules.specs.Relies.{is_node as is_fixed_node}
 use Rattle.kernel_rules.proofs.Facts.{named_fit}
 use Rattle.kernel_rules.proofs.SoundCalls.{IsOpen}
 use Rattle.kernel_rules.proofs.SoundRuns.{opened}
@@ -25,14 +24,14 @@ use Rattle.kernel_laws.proofs.NodesLaw.{runs_fit, leaf_fits}
 use Rattle.kernel_history.specs.Events.{events_of}
 use Rattle.kernel_history.specs.Graces.{GraceIs}
 use Rattle.kernel_history.specs.Legal.{IsLegal}
-use Rattle.kernel_history.specs.ObjectWords.{is_node}
+use Rattle.kernel_rules.specs.Relies.{is_node}
 use Rattle.kernel_history.specs.Stamps.{stamp}
 use Rattle.kernel_history.specs.Trace.{Trace, Open, phase, state_after}
 use Rattle.kernel_history.proofs.Awaits.{awaits_are}
 use Rattle.kernel_history.proofs.Events.{state_is, run_of}
 use Rattle.kernel_history.proofs.Stays.{sound_of, opened_is}
 use Rattle.core_invariant.specs.Words.{PlaceIs}
-use Rattle.core_invariant.specs.Knows.{IsScanned, MayFill}
+use Rattle.core_invariant.specs.Knows.{HasFlushed, IsScanned, MayFill}
 
 -- The slot that core c reaches under a table of capabilities is in a leaf of capabilities.
 table_leaf : (x : Frame) → IsTrue (fits kind.Table x) → (y : Frame) → IsTrue (leads_to x y) → y ≡ Kernel Leaf
@@ -40,7 +39,7 @@ table_leaf (Kernel Table) fit (Kernel Leaf) leads = refl
 table_leaf (Kernel Table) fit _ leads = absurd (false≢true leads)
 table_leaf _ fit y leads = absurd (false≢true fit)
 
-table_node : (x : Frame) → IsTrue (fits kind.Table x) → IsTrue (is_fixed_node x)
+table_node : (x : Frame) → IsTrue (fits kind.Table x) → IsTrue (is_node x)
 table_node (Kernel Table) fit = refl
 table_node _ fit = absurd (false≢true fit)
 
@@ -103,24 +102,52 @@ none_waits s c x passed = by (other_waiting s c x) refl
         let p = both ((s.grace x).waits e) (not (e == c)) at.0 in
         absurd (false≢true (sym (passed e (let q = at.1 in omega (arith, q)) (differs e c (e == c) refl p.1)) ∙ p.0))
 
-none_unflushed : (s : State) (x : Thing) → ((d : ℕ) → (s.grace x).unflushed d ≡ false) → flushes_of s x ≡ None
+none_unflushed : (s : State) (x : Thing) → ((d : ℕ) → d < s.limits.cores → (s.grace x).unflushed d ≡ false) → flushes_of s x ≡ None
 none_unflushed s x flushed = by (lowest s (s.grace x).unflushed) refl
   where
     by : (o : Option ℕ) → lowest s (s.grace x).unflushed ≡ o → unflushed_by o ≡ None
     by None is = refl
-    by (Some e) is = absurd (false≢true (sym (flushed e) ∙ (find_in (s.grace x).unflushed 0 s.limits.cores e is).0))
+    by (Some e) is =
+        let at = find_in (s.grace x).unflushed 0 s.limits.cores e is in
+        absurd (false≢true (sym (flushed e (let q = at.1 in omega (arith, q))) ∙ at.0))
 
-leaf_node : (x : Frame) → x ≡ Kernel Leaf → IsTrue (is_node x)
-leaf_node x is = ap is_node is
+-- A place of a node that is none of a page table waits for no flush.
+pub unpaged_flushed : (setup : Setting) → IsSetting setup → (t : Trace) → IsLegal setup t → ((x : Thing) → GraceIs setup t x)
+    → (node index x : ℕ) → IsTrue (is_node ((state_after setup t).frame node)) → is_paging ((state_after setup t).frame node) ≡ false
+    → 1 ≤ x → (d : ℕ) → HasFlushed setup t (PlaceOf node index) x d
+unpaged_flushed setup setting t legal graces node index x in_node unpaged some d same =
+    elim (cases_bool (((state_after setup t).grace (PlaceOf node index)).unflushed d)) [
+      | inl is ↦ absurd (false≢true (sym unpaged ∙ sym ((awaits_are setup setting t legal node).place index in_node (omega arith))
+          ∙ ((graces (PlaceOf node index)).flushes d).awaited is))
+      | inr none ↦ none
+    ]
 
 -- A place that holds nothing and may be filled.
 pub record IsVacant (s : State) (c node index : ℕ) : Type 0 where
   pub vacant : not_vacant s c (PlaceOf node index) (s.place node index) ≡ None
   pub names : place_names (s.place node index) ≡ []
 
-module _ (setup : Setting) (setting : IsSetting setup) (t : Trace) (legal : IsLegal setup t) (graces : (x : Thing) → GraceIs setup t x)
-    (c node index : ℕ)
-    (leaf : (state_after setup t).frame node ≡ Kernel Leaf) (cores : (state_after setup t).limits.cores ≡ setup.cores) where
+stamp_same : (x y : ℕ) → Some (entry.Quiescing x) ≡ Some (entry.Quiescing y) → x ≡ y
+stamp_same x y h = cc
+
+-- What the word of a place shows that is quiescing.
+pub record IsRemovedSince (p : Place) (r x : ℕ) : Type 0 where
+  pub cap : Capability
+  pub place : p ≡ Quiescing cap
+  pub since : r ≡ x
+
+pub removed_is : (n : ℕ) (p : Place) (r x : ℕ) → PlaceIs n p r (Some (entry.Quiescing x)) → IsRemovedSince p r x
+removed_is n Free r x is = absurd (not_free is)
+  where
+    not_free : Some (entry.Quiescing x) ≡ Some entry.Free → ⊥
+    not_free h = cc
+removed_is n (Holds k) r x is = absurd (not_held is.0)
+  where
+    not_held : Some (entry.Quiescing x) ≡ Some (entry.Held k) → ⊥
+    not_held h = cc
+removed_is n (Quiescing k) r x is = record { cap = k; place = refl; since = sym (stamp_same x r is.says) }
+
+module _ (setup : Setting) (t : Trace) (c node index : ℕ) (cores : (state_after setup t).limits.cores ≡ setup.cores) where
   abbrev s : State
   s = state_after setup t
 
@@ -129,9 +156,6 @@ module _ (setup : Setting) (setting : IsSetting setup) (t : Trace) (legal : IsLe
 
   some_entry : (v u : Entry) → Some v ≡ Some u → v ≡ u
   some_entry v u h = cc
-
-  stamp_same : (x y : ℕ) → Some (entry.Quiescing x) ≡ Some (entry.Quiescing y) → x ≡ y
-  stamp_same x y h = cc
 
   free_is : (n : ℕ) (p : Place) (r : ℕ) → PlaceIs n p r (Some entry.Free) → p ≡ Free
   free_is n Free r is = refl
@@ -144,38 +168,13 @@ module _ (setup : Setting) (setting : IsSetting setup) (t : Trace) (legal : IsLe
       not_free : (r : ℕ) → Some entry.Free ≡ Some (entry.Quiescing r) → ⊥
       not_free r h = cc
 
-  record IsRemovedSince (p : Place) (r x : ℕ) : Type 0 where
-    cap : Capability
-    place : p ≡ Quiescing cap
-    since : r ≡ x
-
-  removed_is : (n : ℕ) (p : Place) (r x : ℕ) → PlaceIs n p r (Some (entry.Quiescing x)) → IsRemovedSince p r x
-  removed_is n Free r x is = absurd (not_free is)
-    where
-      not_free : Some (entry.Quiescing x) ≡ Some entry.Free → ⊥
-      not_free h = cc
-  removed_is n (Holds k) r x is = absurd (not_held is.0)
-    where
-      not_held : Some (entry.Quiescing x) ≡ Some (entry.Held k) → ⊥
-      not_held h = cc
-  removed_is n (Quiescing k) r x is = record { cap = k; place = refl; since = sym (stamp_same x r is.says) }
-
-  -- its grace period waits for no flush
-  flushed : 1 ≤ stamp setup t thing → (d : ℕ) → (s.grace thing).unflushed d ≡ false
-  flushed some d = elim (cases_bool ((s.grace thing).unflushed d)) [
-    | inl is ↦ absurd (false≢true (sym (ap is_paging leaf) ∙ sym
-        ((awaits_are setup setting t legal node).place index (leaf_node (s.frame node) leaf) some)
-        ∙ ((graces thing).flushes d).awaited is))
-    | inr none ↦ none
-  ]
-
   scanned_vacant : (x : ℕ) → IsRemovedSince (s.place node index) (stamp setup t thing) x → IsScanned setup t c thing x setup.cores
       → IsVacant s c node index
   scanned_vacant x removed scanned = record {
     vacant = ap (not_vacant s c thing) removed.place
         ∙ ap (λ o. first_of o (flushes_of s thing)) (none_waits s c thing
         (λ d below other. scanned.passed d (subst (λ (n : ℕ). d < n) cores below) other removed.since))
-        ∙ none_unflushed s thing (flushed (let a = removed.since in let b = scanned.some in omega arith));
+        ∙ none_unflushed s thing (λ d below. scanned.flushed d (subst (λ (n : ℕ). d < n) cores below) removed.since);
     names = ap place_names removed.place;
   }
 

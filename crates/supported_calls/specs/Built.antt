@@ -2,7 +2,7 @@
 use Rattle.spk_nums.specs.declared.kinds.FrameKind.{FrameKind}
 use Rattle.spk_nums.specs.declared.kinds.FrameKind.TheVariants.{Untyped, User, Kernel}
 use Rattle.spk_nums.specs.declared.calls.Call.{Call}
-use Rattle.spk_nums.specs.declared.calls.Call.TheVariants.{Look, Copy, Remove, Shrink, Retype, Make as make_call, Unmap, Tick, Gate, Kill}
+use Rattle.spk_nums.specs.declared.calls.Call.TheVariants.{Look, Copy, Remove, Shrink, Retype, Make as make_call, Unmap, Tick, Gate, Kill, Grow}
 use Rattle.spk_nums.specs.declared.calls.Make.{Make}
 use Rattle.spk_nums.specs.declared.calls.Make.TheVariants.{Table, Leaf, Pages, Pleaf, Thread, Tcap, Comp}
 
@@ -22,12 +22,13 @@ IsObjectMade (Thread comp) = Unit {0}
 IsObjectMade (Tcap sched quality) = Unit {0}
 IsObjectMade (Comp table pages live) = ⊥
 
--- the calls that the machine carries out today: `look`, `copy`, `remove`, `shrink`, `unmap`, `retype` to user and to kernel, `make` of
+-- the calls that the machine carries out today: `look`, `copy`, `remove`, `grow`, `shrink`, `unmap`, `retype` to user and to kernel, `make` of
 -- any object but a component, `tick`, `gate`, and `kill`
 abbrev pub IsBuilt : Call → Type 0
 IsBuilt (Look a) = Unit {0}
 IsBuilt (Copy a t b) = Unit {0}
 IsBuilt (Remove t b) = Unit {0}
+IsBuilt (Grow t i l) = Unit {0}
 IsBuilt (Shrink t i) = Unit {0}
 IsBuilt (Retype r f k) = IsTyping k
 IsBuilt (Unmap p v) = Unit {0}

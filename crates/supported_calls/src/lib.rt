@@ -16,6 +16,7 @@ pub fn is_built(call: &Call) -> bool
         Call::Look { .. }
             | Call::Copy { .. }
             | Call::Remove { .. }
+            | Call::Grow { .. }
             | Call::Shrink { .. }
             | Call::Retype {
                 r: _,

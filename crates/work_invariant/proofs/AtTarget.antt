@@ -1,7 +1,7 @@
 -- The act with which a call begins at a target that is to be free: it fills the place, it makes an object in a frame of its range, or this
 -- frame is out of range.
 use Rattle.std.specs.Prelude.{IsSome}
-use Rattle.std.proofs.Common.{◌≡◌, inl, ℕ, ◌<◌, ◌&&◌, nat_lt, Bool, true, false, List, [], ◌∷◌, Option, Some, refl, sym, ◌∙◌, ap, subst, IsTrue}
+use Rattle.std.proofs.Common.{◌≡◌, inl, ℕ, ◌<◌, ◌&&◌, nat_lt, Bool, true, false, List, [], ◌∷◌, Option, Some, refl, sym, ◌∙◌, ap, subst, IsTrue, arith}
 use Rattle.std.proofs.lemmas.Bool.{lt-ltb, le-leb, false≢true}
 use Rattle.spk_nums.specs.Capability.{Capability}
 use Rattle.spk_nums.specs.Setting.{Setting, IsSetting}
@@ -9,13 +9,14 @@ use Rattle.spk_nums.specs.declared.kinds.FrameKind.TheVariants as frame_kind
 use Rattle.spk_nums.specs.declared.kinds.Kind.{Kind}
 use Rattle.spk_nums.specs.declared.kinds.Kind.TheVariants as kind
 use Rattle.spk_nums.specs.declared.calls.Call.{Call}
-use Rattle.spk_nums.specs.declared.calls.Call.TheVariants.{Look as look_call, Copy, Remove, Shrink, Unmap, Retype, Make as make_call, Tick, Gate, Kill}
+use Rattle.spk_nums.specs.declared.calls.Call.TheVariants.{Look as look_call, Copy, Remove, Shrink, Unmap, Retype, Make as make_call, Tick, Gate, Kill, Grow}
 use Rattle.spk_nums.specs.declared.calls.Make.{Make}
 use Rattle.spk_nums.specs.declared.calls.Make.TheVariants as make
-use Rattle.supported_calls.specs.Built.{IsBuilt, IsObjectMade}
+use Rattle.supported_calls.specs.Built.{IsBuilt}
 use Rattle.entry_words.specs.EntryWord.{EntryFits, entry_of_word}
 use Rattle.entry_words.specs.declared.entry.Entry.TheVariants as entry
 use Rattle.kernel_rules.specs.State.{State}
+use Rattle.kernel_rules.specs.Start.{plain_cap}
 use Rattle.kernel_rules.specs.Access.{found, only}
 use Rattle.kernel_rules.specs.Fitting.{EndsWithin, IsGood}
 use Rattle.kernel_rules.specs.Rules.{Found as Found_it, named}
@@ -29,13 +30,14 @@ use Rattle.kernel_history.specs.Trace.{Trace, Out, Open, phase, state_after, Was
 use Rattle.kernel_history.proofs.Stays.{sound_of, opened_is}
 use Rattle.stage_look.specs.declared.look.Found.{Found}
 use Rattle.stage_quiet.specs.Scan.{quiet_scan}
-use Rattle.call_plans.specs.declared.plans.Nth.TheVariants.{First}
+use Rattle.call_plans.specs.declared.plans.Nth.{Nth}
+use Rattle.call_plans.specs.declared.plans.Nth.TheVariants.{First, Second}
 use Rattle.call_plans.specs.declared.plans.Plan.{Plan}
 use Rattle.call_plans.specs.declared.plans.Spot.{Spot}
 use Rattle.call_plans.specs.declared.plans.Spot.TheVariants as spot_of
 use Rattle.call_plans.specs.declared.plans.Target.TheVariants.{Nowhere, Free, Held}
 use Rattle.call_plans.specs.Plans.{at_place}
-use Rattle.call_plans.specs.PlanOf.{any_cap, of_kind, plan_for}
+use Rattle.call_plans.specs.PlanOf.{any_cap, a_root, a_leaf, of_kind, plan_for}
 use Rattle.call_plans.specs.After.{Leads, LeadsIn, names_after}
 use Rattle.call_acts.specs.declared.own.Own.{Own}
 use Rattle.call_acts.specs.declared.objects.NewObject.{NewObject}
@@ -43,17 +45,18 @@ use Rattle.call_acts.specs.declared.objects.NewObject.TheVariants as objects
 use Rattle.call_acts.specs.declared.work.Act.{Act as ActOf}
 use Rattle.call_acts.specs.declared.work.Act.TheVariants.{Outside}
 use Rattle.call_acts.specs.Objects.{object_made}
-use Rattle.call_acts.specs.Acts.{gate_if, gate_to, put_by, reads_of, fills_with, scans, stamp_in, stamp_shown, stamp_of_act, filling, making, making_if, makes_at, act_begun}
+use Rattle.call_acts.specs.Acts.{gate_if, gate_to, put_by, reads_of, fills_with, scans, stamp_in, stamp_shown, stamp_of_act, filling, making, making_if, makes_at, act_begun, fills_page}
 use Rattle.core_invariant.specs.Knows.{IsRead, ReadIs, IsSpot, KnowsAct, OutsideBy, is_start, goes_on}
 use Rattle.core_invariant.proofs.Sounds.{limits_of}
-use Rattle.place_invariant.proofs.ObjectMakes.{TwoFound, object_make}
+use Rattle.place_invariant.proofs.ObjectMakes.{made_of, TwoFound, object_make}
 use Rattle.work_invariant.proofs.AtName.{range_below}
 
 -- What such a call begins with where it has found its place: an act, which starts after a scan, if there is one; what it knows of it where
 -- it may fill the place; and one that is out of range is so by the call.
 pub record Begins (own : Own) (call : Call) (plan : Plan) (ks : List Capability) (read : Option ℕ) (c : ℕ) (f : Found) : Type 0 where
   pub act : ActOf
-  pub begins : act_begun own call ks read (Some f) ≡ scans own.core (quiet_scan (stamp_in f.value) own.core own.layout.cores false) act
+  pub begins : act_begun own call ks read (Some f)
+      ≡ scans own.core (quiet_scan (stamp_in f.value) own.core own.layout.cores (fills_page call ks)) act
   pub stamp : stamp_of_act act ≡ stamp_shown (entry_of_word f.word)
   pub starts : is_start act ≡ true
   pub knows : (setup : Setting) (t : Trace) (upto : ℕ) → IsSpot setup t c plan ks upto f.node f.entry f.word
@@ -88,7 +91,8 @@ was_while_open P setup (e ∷ t) c call is now = inl now
 module _ (own : Own) (plan : Plan) (read : Option ℕ) (c : ℕ) (own_core : own.core ≡ c) (at : Found) where
   -- it fills the place
   begins_fill : (call : Call) (ks : List Capability) (k : Capability)
-      → act_begun own call ks read (Some at) ≡ scans own.core (quiet_scan (stamp_in at.value) own.core own.layout.cores false) (filling k at)
+      → act_begun own call ks read (Some at)
+      ≡ scans own.core (quiet_scan (stamp_in at.value) own.core own.layout.cores (fills_page call ks)) (filling k at)
       → EntryFits (entry.Held k) → put_by call ks read ≡ Some k → Begins own call plan ks read c at
   begins_fill call ks k begins fits puts = record {
     act = filling k at;
@@ -167,34 +171,14 @@ gate_of s c comp read has fits = record {
   fits = (fits.0, has.fits.1, has.fits.2);
 }
 
--- The object that a call makes whose names have all led to something.
-made_of : (what : Make) → IsObjectMade what → (r f u b : ℕ) (ks : List Capability)
-    → names_after (plan_for (make_call what r f u b)).names ks ≡ []
-    → (R : Type 0) → ((object : NewObject) → object_made what ks ≡ Some object → R) → R
-made_of make.Table built r f u b ks none R by = by objects.Table refl
-made_of make.Leaf built r f u b ks none R by = by objects.Leaf refl
-made_of make.Pages built r f u b ks none R by = by objects.Pages refl
-made_of make.Pleaf built r f u b ks none R by = by objects.Pleaf refl
-made_of (make.Tcap sched quality) built r f u b ks none R by = by (objects.Tcap sched quality) refl
-made_of (make.Thread comp) built r f u b [] none R by = absurd (not_none none)
-  where
-    not_none : of_kind kind.Range r ∷ of_kind kind.Table u ∷ of_kind kind.Comp comp ∷ [] ≡ [] → ⊥
-    not_none h = cc
-made_of (make.Thread comp) built r f u b (k ∷ []) none R by = absurd (not_none none)
-  where
-    not_none : of_kind kind.Table u ∷ of_kind kind.Comp comp ∷ [] ≡ [] → ⊥
-    not_none h = cc
-made_of (make.Thread comp) built r f u b (k ∷ j ∷ []) none R by = absurd (not_none none)
-  where
-    not_none : of_kind kind.Comp comp ∷ [] ≡ [] → ⊥
-    not_none h = cc
-made_of (make.Thread comp) built r f u b (k ∷ j ∷ i ∷ ks) none R by = by (objects.Thread i.frame) refl
-made_of (make.Comp table pages live) built r f u b ks none R by = absurd built
+-- A link to a frame that a capability names is a capability.
+link_fits : (leaf : Capability) → EntryFits (entry.Held leaf) → EntryFits (entry.Held (plain_cap kind.Link leaf.frame))
+link_fits leaf fits = (fits.0, omega arith, omega arith)
 
 pub begins_free : (own : Own) (call : Call) → IsBuilt call → (spot : Spot) → (plan_for call).target ≡ Free spot
     → (s : State) (plan : Plan) (ks : List Capability) (read : Option ℕ) (c : ℕ) → own.core ≡ c
     → names_after (plan_for call).names ks ≡ [] → Leads (LeadsIn s c) (plan_for call).names [] ks
-    → ((k : Capability) → at_place ks First ≡ Some k → EntryFits (entry.Held k))
+    → ((at : Nth) (k : Capability) → at_place ks at ≡ Some k → EntryFits (entry.Held k))
     → ((r f : ℕ) (range : Capability) → named s c r (only kind.Range) ≡ Found_it range → has_frame (found range) f ≡ true
     → f < own.layout.frames)
     → ReadIs s c (reads_of call ks) read
@@ -208,7 +192,18 @@ begins_free own (Copy a u b) built spot to s plan [] read c core none leads fits
     not_none : any_cap a ∷ of_kind kind.Table u ∷ [] ≡ [] → ⊥
     not_none h = cc
 begins_free own (Copy a u b) built spot to s plan (k ∷ ks) read c core none leads fits within reads at =
-    begins_fill own plan read c core at (Copy a u b) (k ∷ ks) k refl (fits k refl) refl
+    begins_fill own plan read c core at (Copy a u b) (k ∷ ks) k refl (fits First k refl) refl
+begins_free own (Grow u i l) built spot to s plan [] read c core none leads fits within reads at = absurd (not_none none)
+  where
+    not_none : a_root u ∷ a_leaf l ∷ [] ≡ [] → ⊥
+    not_none h = cc
+begins_free own (Grow u i l) built spot to s plan (k ∷ []) read c core none leads fits within reads at = absurd (not_none none)
+  where
+    not_none : a_leaf l ∷ [] ≡ [] → ⊥
+    not_none h = cc
+begins_free own (Grow u i l) built spot to s plan (k ∷ j ∷ ks) read c core none leads fits within reads at =
+    begins_fill own plan read c core at (Grow u i l) (k ∷ j ∷ ks) (plain_cap kind.Link j.frame) refl
+    (link_fits j (fits Second j refl)) refl
 begins_free own (Remove u b) built spot to s plan ks read c core none leads fits within reads at = absurd (not_free to)
   where
     not_free : Held (spot_of.Under First b) ≡ Free spot → ⊥
@@ -246,7 +241,7 @@ begins_free own (Gate n u b) built spot to s plan [] read c core none leads fits
     not_none h = cc
 begins_free own (Gate n u b) built spot to s plan (k ∷ ks) read c core none leads fits within reads at =
     let gate : GateOf k read = gate_of s c k read reads (fits k refl) in
-    begins_fill own plan read c core at (Gate n u b) (k ∷ ks) gate.cap (ap (λ o. fills_with own o (Some at)) gate.is) gate.fits gate.is
+    begins_fill own plan read c core at (Gate n u b) (k ∷ ks) gate.cap (ap (λ o. fills_with own o false (Some at)) gate.is) gate.fits gate.is
 begins_free own (Kill n) built spot to s plan ks read c core none leads fits within reads at = absurd (not_target to)
   where
     not_target : Nowhere ≡ Free spot → ⊥

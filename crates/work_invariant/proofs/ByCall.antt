@@ -3,7 +3,7 @@ use Rattle.std.proofs.Common.{◌≡◌, ℕ, nat_le, nat_lt, ◌&&◌, Bool, tr
 use Rattle.std.proofs.lemmas.Bool.{leb-false, lt-ltb}
 use Rattle.spk_nums.specs.Capability.{Capability}
 use Rattle.spk_nums.specs.declared.calls.Call.{Call}
-use Rattle.spk_nums.specs.declared.calls.Call.TheVariants.{Look as look_call, Copy, Remove, Shrink, Unmap, Retype, Make as make_call, Tick, Gate, Kill}
+use Rattle.spk_nums.specs.declared.calls.Call.TheVariants.{Look as look_call, Copy, Remove, Shrink, Unmap, Retype, Make as make_call, Tick, Gate, Kill, Grow}
 use Rattle.spk_nums.specs.declared.calls.Make.{Make}
 use Rattle.spk_nums.specs.declared.calls.Make.TheVariants as make
 use Rattle.spk_nums.specs.declared.kinds.FrameKind.TheVariants as frame_kind
@@ -17,7 +17,7 @@ use Rattle.kernel_rules.specs.CallRelation.{change_of, changed, counted, begins_
 use Rattle.kernel_rules.specs.CapabilityCalls.{look_rule}
 use Rattle.kernel_rules.proofs.Facts.{some_inj}
 use Rattle.stage_look.specs.declared.look.Found.{Found}
-use Rattle.call_plans.specs.declared.plans.Nth.TheVariants.{Second}
+use Rattle.call_plans.specs.declared.plans.Nth.TheVariants.{First, Second}
 use Rattle.call_plans.specs.declared.plans.Name.{Name}
 use Rattle.call_plans.specs.declared.plans.Spot.{Spot}
 use Rattle.call_plans.specs.declared.plans.Spot.TheVariants as spot_of
@@ -78,6 +78,7 @@ make_target (make.Comp table pages live) r u b = refl
 pub no_own : (call : Call) → IsBuilt call → (v : ℕ) → (plan_for call).target ≡ own_page v → ⊥
 no_own (look_call a) built v is = cc
 no_own (Copy a u b) built v is = cc
+no_own (Grow u i l) built v is = cc
 no_own (Remove u b) built v is = cc
 no_own (Shrink u i) built v is = cc
 no_own (Unmap p n) built v is = cc
@@ -129,6 +130,10 @@ begins_removal own (look_call a) built spot to ks = absurd (not_held to)
 begins_removal own (Copy a u b) built spot to ks = absurd (not_held to)
   where
     not_held : Free (spot_of.Under Second b) ≡ Held spot → ⊥
+    not_held h = cc
+begins_removal own (Grow u i l) built spot to ks = absurd (not_held to)
+  where
+    not_held : Free (spot_of.InRoot First i) ≡ Held spot → ⊥
     not_held h = cc
 begins_removal own (Remove u b) built spot to ks = record { removes = refl; act = λ f. refl }
 begins_removal own (Shrink u i) built spot to ks = record { removes = refl; act = λ f. refl }

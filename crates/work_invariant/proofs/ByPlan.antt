@@ -5,7 +5,7 @@ use Rattle.spk_nums.specs.Capability.{Capability}
 use Rattle.spk_nums.specs.Setting.{Setting, IsSetting}
 use Rattle.spk_nums.specs.declared.kinds.Kind.{Kind}
 use Rattle.spk_nums.specs.declared.calls.Call.{Call}
-use Rattle.spk_nums.specs.declared.calls.Call.TheVariants.{Look as look_call, Copy, Remove, Shrink, Unmap, Retype, Make as make_call, Tick, Gate, Kill}
+use Rattle.spk_nums.specs.declared.calls.Call.TheVariants.{Look as look_call, Copy, Remove, Shrink, Unmap, Retype, Make as make_call, Tick, Gate, Kill, Grow}
 use Rattle.supported_calls.specs.Built.{IsBuilt}
 use Rattle.spk_nums.specs.declared.replies.Reply.{Reply}
 use Rattle.spk_nums.specs.declared.replies.Reply.TheVariants as reply
@@ -30,14 +30,15 @@ use Rattle.stage_look.specs.Shown.{shown_in}
 use Rattle.stage_look.specs.Lookup.{look_move, found_at}
 use Rattle.stage_look.specs.declared.look.Look.{Look}
 use Rattle.stage_look.specs.declared.look.Look.TheVariants.{AtRoot, AtEntry}
-use Rattle.call_plans.specs.declared.plans.Nth.TheVariants.{First, Second}
+use Rattle.call_plans.specs.declared.plans.Nth.{Nth}
+use Rattle.call_plans.specs.declared.plans.Nth.TheVariants.{First, Second, Third, Fourth}
 use Rattle.call_plans.specs.declared.plans.Name.{Name}
 use Rattle.call_plans.specs.declared.plans.Spot.{Spot}
 use Rattle.call_plans.specs.declared.plans.Spot.TheVariants as spot_of
 use Rattle.call_plans.specs.declared.plans.Target.{Target}
 use Rattle.call_plans.specs.declared.plans.Target.TheVariants.{Nowhere, Free, Held, Own as own_page}
 use Rattle.call_plans.specs.declared.plans.Plan.{Plan}
-use Rattle.call_plans.specs.Plans.{at_place}
+use Rattle.call_plans.specs.Plans.{head, tail, at_place}
 use Rattle.call_plans.specs.PlanOf.{any_cap, plan_for, of_kind}
 use Rattle.call_plans.specs.GoesBy.{GoesBy, own_pages, earlier, wants, place_of}
 use Rattle.call_plans.specs.Rooted.{IsRooted}
@@ -65,15 +66,16 @@ use Rattle.call_acts.specs.declared.work.WorkStep.{WorkStep}
 use Rattle.stage_pins.specs.declared.held.Acquired.{Acquired}
 use Rattle.call_acts.specs.declared.work.Act.{Act as ActOf}
 use Rattle.call_acts.specs.WorkSteps.{refuse}
-use Rattle.call_acts.specs.Acts.{reads_of, dues, next_work, scans, starts, stamp_shown, removing, act_begun}
+use Rattle.call_acts.specs.Acts.{reads_of, dues, next_work, scans, starts, stamp_shown, removing, act_begun, fills_page}
 use Rattle.call_steps.specs.Fits.{CountsAt, HasRoom}
 use Rattle.core_invariant.specs.Holding.{holds_counts}
-use Rattle.core_invariant.specs.Knows.{due_of, ReadIs, ReadBefore, IsScanned, MayFill, KnowsAct, KnowsQuiet, LooksUp, own_in, HasFound, NamesAre, LooksFor, KnowsUndecided, phase_at}
+use Rattle.core_invariant.specs.Knows.{due_of, ReadIs, ReadBefore, IsScanned, MayFill, KnowsAct, KnowsQuiet, LooksUp, own_in, HasFound, NamesAre, LooksFor, KnowsUndecided, phase_at, HasFlushed}
 use Rattle.count_invariant.proofs.Acquiring.{knows_next, next_holds, one_apart}
-use Rattle.place_invariant.proofs.Scans.{ScanBegins, scan_begins, scan_none, ShowsSince, since_is}
+use Rattle.place_invariant.proofs.Scans.{ScanBegins, AtCores, AtFlushes, scan_begins, scan_none, ShowsSince, since_is}
 use Rattle.place_invariant.proofs.Starts.{starts_good}
 use Rattle.place_invariant.proofs.Outside.{refused_vacant}
-use Rattle.place_invariant.proofs.Vacancy.{vacant_by}
+use Rattle.place_invariant.proofs.Paging.{paging_by}
+use Rattle.place_invariant.proofs.Vacancy.{unpaged_flushed, vacant_by}
 use Rattle.stage_quiet.specs.declared.quiet.Quiet.{Quiet}
 use Rattle.stage_quiet.specs.Scan.{quiet_scan}
 use Rattle.kernel_history.specs.Stamps.{clock, stamp}
@@ -91,7 +93,9 @@ use Rattle.look_invariant.proofs.Findings.{own_is, past_slot, past_unreached, re
 use Rattle.look_invariant.proofs.Next.{MayUse, spot_relies, Rest, ANameLeft, NoneLeft, rest_of, next_name, next_end}
 use Rattle.work_invariant.proofs.ByCall.{none_after, vacant_no_slot, vacant_occupied, held_no_slot, held_empty, past_entry, past_entry_unreached, no_own, make_target, BeginsRemoval, begins_removal, free_somewhere, held_somewhere}
 use Rattle.work_invariant.proofs.Reading.{reads_comp}
-use Rattle.work_invariant.proofs.AtTarget.{Begins, begins_free, range_within, was_while_open}
+use Rattle.work_invariant.proofs.AtTarget.{Begins, begins_free, range_within}
+use Rattle.work_invariant.proofs.FoundFits.{found_fits}
+use Rattle.work_invariant.proofs.ScanStarts.{ScanStarts, scan_starts}
 
 module _ (setup : Setting) (setting : IsSetting setup) (cores : ℕ → Core) (t : Trace) (stands : Stands setup cores t) (c : ℕ)
     (here : c < setup.cores)
@@ -426,6 +430,7 @@ module _ (setup : Setting) (setting : IsSetting setup) (cores : ℕ → Core) (t
         (looked_good setup setting cores t stands c here a active opens held_is no_counts room at looks n
         (subst (λ (m : ℕ). Arrives setup t c (own_in table m) at) (ap (λ (x : Name). x.number) only_one.1) arrives) k named_it is)
     acts_at_name (Copy b u v) is built nowhere = absurd (free_somewhere (spot_of.Under Second v) nowhere)
+    acts_at_name (Grow u i l) is built nowhere = absurd (free_somewhere (spot_of.InRoot First i) nowhere)
     acts_at_name (Remove u v) is built nowhere = absurd (held_somewhere (spot_of.Under First v) nowhere)
     acts_at_name (Shrink u i) is built nowhere = absurd (held_somewhere (spot_of.InRoot First i) nowhere)
     acts_at_name (Unmap p v) is built nowhere = absurd (held_somewhere (spot_of.Under First v) nowhere)
@@ -548,17 +553,10 @@ module _ (setup : Setting) (setting : IsSetting setup) (cores : ℕ → Core) (t
         (ap (λ (p : Plan). p.target) (sym plan_is) ∙ to) s a.plan a.found a.read c (stands.each c here).number
         (subst (λ (p : Plan). names_after p.names a.found ≡ []) plan_is none)
         (subst (λ (p : Plan). Leads (LeadsIn s c) p.names [] a.found) plan_is leads)
-        (λ k is. fits_of a.plan.names a.found k has.names is)
+        (λ nth k is. found_fits setup t c table a.plan.names [] a.found nth k has.names is)
         (λ r f range is in_range. subst (λ (n : ℕ). f < n) (sym (ap (λ x. x.frames) (stands.each c here).shape))
         (range_within setup setting t stands.legal c a.call is_open r f range is in_range)) has_read
         (found_at at.node at.index (last_left setup t (EntryAt at.node at.index)) v)
-      where
-        fits_of : (names : List Name) (ks : List Capability) (k : Capability)
-            → Leads (λ n wanted k. HasFound setup t c (own_in table n) wanted k) names [] ks → at_place ks First ≡ Some k
-            → EntryFits (entry.Held k)
-        fits_of names [] k led is = absurd (none_some k is)
-        fits_of [] (j ∷ ks) k led is = absurd led
-        fits_of (name ∷ names) (j ∷ ks) k led is = subst (λ (x : Capability). EntryFits (entry.Held x)) (some_inj j k is) led.0.fits
 
     -- the place is reached, and its word shows that it may be filled, once the cores below `upto` were scanned
     module _ (at : Slot) (arrives : Arrives setup t c target at) (v : Entry)
@@ -595,27 +593,44 @@ module _ (setup : Setting) (setting : IsSetting setup) (cores : ℕ → Core) (t
           (LoadOf (EntryAt at.node at.index)) looks begun.act begun.starts (λ carries. knows_begun setup.cores may_then)
           (λ out. refused_vacant setup setting cores t stands c here a active opens has.names at.node at.index target next_free
           arrives.reached (begun.outside out) (LoadOf (EntryAt at.node at.index))
-          (λ leaf alone. vacant_by setup setting t stands.legal stands.graces c at.node at.index leaf
+          (λ leaf alone. vacant_by setup t c at.node at.index
           (ap (λ l. l.cores) (limits_of setup t)) setup.frames (entry_of_word word) arrives.plain.says
           (subst (MayFill setup t c thing setup.cores) (sym reads) may)))
 
       -- it starts with a scan
-      scans_first : (x : ℕ) → stamp_shown (Some v) ≡ x → (q : Quiet) → ScanBegins x (cores c).own.core setup.cores q
-          → ((upto : ℕ) → ((d : ℕ) → d < upto → d ≢ c → ⊥) → MayFill setup (load ∷ t) c thing upto (Some v))
+      scans_first : (x : ℕ) → stamp_shown (Some v) ≡ x → (q : Quiet)
+          → ScanBegins x (cores c).own.core setup.cores (fills_page a.call a.found) q
+          → x < clock setup (load ∷ t) → MayFill setup (load ∷ t) c thing 0 (Some v)
           → GoodTook setup cores t c (LoadOf (EntryAt at.node at.index)) (landed a (Goes (Scan q begun.act)))
-      scans_first x shown q first may lands =
+      scans_first x shown q first past may lands =
           loads_on setup setting cores t stands c here a active (LoadOf (EntryAt at.node at.index)) a.found
           (Undecided (Scan q begun.act)) looks lands (sym held_is) opens
           (λ carries. record {
             names = names_on setup setting t load stands.legal c a.call is_open carries table a.plan a.found has.names;
-            knows = subst (λ q. KnowsQuiet setup (load ∷ t) c (next_at a a.found (Undecided (Scan q begun.act))) q begun.act) (sym first.is)
-                (record {
-                  knows = knows_begun first.upto (may first.upto
-                      (λ d below other. first.before d below (λ same. other (same ∙ (stands.each c here).number))));
-                  core = (stands.each c here).number;
-                  stamp = begun.stamp ∙ ap stamp_shown reads ∙ shown;
-                  starts = begun.starts;
-                });
+            knows = by_first first;
+          })
+        where
+          Begun : Quiet → Type 0
+          Begun p = KnowsQuiet setup (load ∷ t) c (next_at a a.found (Undecided (Scan q begun.act))) p begun.act
+
+          by_first : ScanBegins x (cores c).own.core setup.cores (fills_page a.call a.found) q → Begun q
+          by_first (AtCores upto is before) = subst Begun (sym is) (record {
+            knows = knows_begun 0 may;
+            core = (stands.each c here).number;
+            stamp = begun.stamp ∙ ap stamp_shown reads ∙ shown;
+            starts = begun.starts;
+            past = past;
+            passed = λ d below other. absurd (before d below (λ same. other (same ∙ (stands.each c here).number)));
+            pages = refl;
+          })
+          by_first (AtFlushes page is none) = subst Begun (sym is) (record {
+            knows = knows_begun 0 may;
+            core = refl;
+            stamp = begun.stamp ∙ ap stamp_shown reads ∙ shown;
+            starts = begun.starts;
+            past = past;
+            passed = λ d below other. absurd (none d below (λ same. other (same ∙ (stands.each c here).number)));
+            pages = sym page;
           })
 
     -- it is free
@@ -623,54 +638,39 @@ module _ (setup : Setting) (setting : IsSetting setup) (cores : ℕ → Core) (t
         (reads : entry_of_word (last_left setup t (EntryAt at.node at.index)) ≡ Some entry.Free)
         → OnlyLooks setup t c a.call (LoadOf (EntryAt at.node at.index))
         → GoodTook setup cores t c (LoadOf (EntryAt at.node at.index)) (landed a (scans (cores c).own.core
-        (quiet_scan 0 (cores c).own.core (cores c).own.layout.cores false) (begins_with at entry.Free).act))
+        (quiet_scan 0 (cores c).own.core (cores c).own.layout.cores (fills_page a.call a.found)) (begins_with at entry.Free).act))
     fills_free at arrives reads looks = starts_now at arrives entry.Free reads looks tt tt
 
     -- it is quiescing: the other cores are scanned first, if there are any
     module _ (at : Slot) (arrives : Arrives setup t c target at) (x : ℕ)
         (reads : entry_of_word (last_left setup t (EntryAt at.node at.index)) ≡ Some (entry.Quiescing x))
         (looks : OnlyLooks setup t c a.call (LoadOf (EntryAt at.node at.index))) where
-      abbrev removed : Thing
-      removed = PlaceOf at.node at.index
-
-      abbrev loads : Step
-      loads = arriving setup t c target at (last_left setup t (EntryAt at.node at.index)) arrives
-
-      since : ShowsSince (s.place at.node at.index) (stamp setup t removed) x
-      since = since_is setup.frames (s.place at.node at.index) (stamp setup t removed) x _ arrives.plain.says reads
-
-      passed_none : (u : Trace) → stamp setup u removed ≡ stamp setup t removed → clock setup u ≡ clock setup t
-          → WasAt (IsRemoved removed) setup u c → (upto : ℕ) → ((d : ℕ) → d < upto → d ≢ c → ⊥) → IsScanned setup u c removed x upto
-      passed_none u stamp_is clock_is was upto none = record {
-        some = since.drawn;
-        past = (let p = (stands.graces removed).past in let q = since.same in omega (arith, p, q, clock_is));
-        rises = (let q = since.same in omega (arith, q, stamp_is));
-        was_removed = was;
-        passed = λ d below other. absurd (none d below other);
-      }
-
-      scanned_then : (upto : ℕ) → ((d : ℕ) → d < upto → d ≢ c → ⊥) → IsScanned setup (loads ∷ t) c removed x upto
-      scanned_then = passed_none (loads ∷ t) refl refl (was_now (IsRemoved removed) setup t loads c since.removed)
-
-      scanned_now : (upto : ℕ) → ((d : ℕ) → d < upto → d ≢ c → ⊥) → IsScanned setup t c removed x upto
-      scanned_now = passed_none t refl refl (was_while_open (IsRemoved removed) setup t c a.call is_open since.removed)
+      waits : ScanStarts setup t c a at x
+      waits = scan_starts setup setting cores t stands c here a active is_open leads target next_free at arrives x reads
 
       fills_removed : GoodTook setup cores t c (LoadOf (EntryAt at.node at.index)) (landed a (scans (cores c).own.core
-          (quiet_scan x (cores c).own.core (cores c).own.layout.cores false) (begins_with at (entry.Quiescing x)).act))
-      fills_removed = subst (λ (n : ℕ). Goal (quiet_scan x (cores c).own.core n false)) (sym (ap (λ s. s.cores) (stands.each c here).shape))
-          (by (quiet_scan x (cores c).own.core setup.cores false) refl)
+          (quiet_scan x (cores c).own.core (cores c).own.layout.cores (fills_page a.call a.found)) (begins_with at (entry.Quiescing x)).act))
+      fills_removed = subst (λ (n : ℕ). Goal (quiet_scan x (cores c).own.core n (fills_page a.call a.found)))
+          (sym (ap (λ s. s.cores) (stands.each c here).shape))
+          (by (quiet_scan x (cores c).own.core setup.cores (fills_page a.call a.found)) refl)
         where
           Goal : Option Quiet → Type 0
           Goal o = GoodTook setup cores t c (LoadOf (EntryAt at.node at.index))
               (landed a (scans (cores c).own.core o (begins_with at (entry.Quiescing x)).act))
 
-          by : (o : Option Quiet) → quiet_scan x (cores c).own.core setup.cores false ≡ o → Goal o
+          by : (o : Option Quiet) → quiet_scan x (cores c).own.core setup.cores (fills_page a.call a.found) ≡ o → Goal o
           by None is =
+              let alone = scan_none x (cores c).own.core setup.cores (fills_page a.call a.found) waits.drawn is in
               let none : (d : ℕ) → d < setup.cores → d ≢ c → ⊥ = λ d below other.
-              scan_none x (cores c).own.core setup.cores since.drawn is d below (λ same. other (same ∙ (stands.each c here).number)) in
-              starts_now at arrives (entry.Quiescing x) reads looks (scanned_then setup.cores none) (scanned_now setup.cores none)
+              alone.1 d below (λ same. other (same ∙ (stands.each c here).number)) in
+              starts_now at arrives (entry.Quiescing x) reads looks
+              (waits.loaded (last_left setup t (EntryAt at.node at.index)) setup.cores none (λ d below. waits.unpaged alone.0 d))
+              (waits.now setup.cores none (λ d below. waits.unpaged alone.0 d))
           by (Some q) is = scans_first at arrives (entry.Quiescing x) reads looks x refl q
-              (scan_begins x (cores c).own.core setup.cores since.drawn q is) scanned_then
+              (scan_begins x (cores c).own.core setup.cores (fills_page a.call a.found) waits.drawn q is)
+              waits.past
+              (waits.loaded (last_left setup t (EntryAt at.node at.index)) 0 (λ d below other. absurd (omega arith))
+              (λ d below. absurd (omega arith)))
 
     free_at : (at : Slot) (v : Entry) → Arrives setup t c target at
         → entry_of_word (last_left setup t (EntryAt at.node at.index)) ≡ Some v → Shows setup.frames (place_at s at) v

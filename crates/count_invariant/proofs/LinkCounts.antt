@@ -1,0 +1,41 @@
+-- The count of a leaf that a grow links is near the call: its second name has led to the leaf.
+use Rattle.std.proofs.Common.{◌≡◌, ℕ, true, List, [], ◌∷◌, Some, refl, ◌∙◌, ap}
+use Rattle.spk_nums.specs.Capability.{Capability}
+use Rattle.spk_nums.specs.declared.kinds.Kind.{Kind}
+use Rattle.spk_nums.specs.declared.kinds.Kind.TheVariants as kind
+use Rattle.spk_nums.specs.declared.calls.Call.TheVariants.{Grow}
+use Rattle.kernel_rules.specs.State.{State}
+use Rattle.kernel_rules.specs.Start.{plain_cap}
+use Rattle.kernel_rules.specs.Access.{found, only}
+use Rattle.kernel_rules.specs.CapabilityCalls.{leaf_of, leaf_for}
+use Rattle.kernel_rules.specs.References.{named_by}
+use Rattle.kernel_history.specs.Footprint.{is_one_of, frames_near}
+use Rattle.call_plans.specs.declared.plans.Nth.TheVariants.{Second}
+use Rattle.call_plans.specs.Plans.{at_place}
+use Rattle.call_plans.specs.PlanOf.{plan_for}
+use Rattle.call_plans.specs.After.{Leads, LeadsIn}
+use Rattle.plan_ways.proofs.Near.{near_found}
+use Rattle.call_acts.specs.Acts.{link_to}
+use Rattle.count_invariant.proofs.MakingCounts.{named_kind}
+
+-- A leaf names its frame.
+no_range : (root : Kind) → only (leaf_of root) kind.Range ≡ true → ⊥
+no_range kind.Table wanted = cc
+no_range root wanted = cc
+
+leaf_names : (root k : Kind) (frame : ℕ) → only (leaf_of root) k ≡ true → named_by k frame ≡ frame ∷ []
+leaf_names root kind.Range frame wanted = absurd (no_range root wanted)
+leaf_names root k frame wanted = refl
+
+same_cap : (x y : Capability) → Some x ≡ Some y → x ≡ y
+same_cap x y h = cc
+
+pub link_near : (s : State) (c u i l : ℕ) (ks : List Capability) (k : Capability) → link_to (at_place ks Second) ≡ Some k
+    → Leads (LeadsIn s c) (plan_for (Grow u i l)).names [] ks
+    → (f : ℕ) → is_one_of f (named_by k.kind k.frame) ≡ true → is_one_of f (frames_near s c (Grow u i l)) ≡ true
+link_near s c u i l [] k puts lead f names_it = absurd (cc)
+link_near s c u i l (x ∷ []) k puts lead f names_it = absurd (cc)
+link_near s c u i l (x ∷ y ∷ ks) k puts lead f names_it =
+    near_found s c (Grow u i l) (x ∷ y ∷ ks) lead Second y refl f
+    (ap (is_one_of f) (leaf_names x.kind y.kind y.frame (named_kind s c l (leaf_for (found x)) y lead.1.0))
+    ∙ ap (λ (q : Capability). is_one_of f (named_by q.kind q.frame)) (same_cap (plain_cap kind.Link y.frame) k puts) ∙ names_it)

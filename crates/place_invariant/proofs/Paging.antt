@@ -1,0 +1,120 @@
+-- Which places that a call fills are those of page tables.
+use Rattle.std.proofs.Common.{◌≡◌, ℕ, ◌&&◌, nat_le, if◌then◌else◌, Bool, true, false, List, [], ◌∷◌, Option, Some, None, refl, sym, ◌∙◌, ap, subst, IsTrue}
+use Rattle.std.proofs.lemmas.Bool.{false≢true}
+use Rattle.spk_nums.specs.Capability.{Capability}
+use Rattle.spk_nums.specs.Setting.{Setting, IsSetting}
+use Rattle.spk_nums.specs.declared.kinds.FrameKind.TheVariants as frame_kind
+use Rattle.spk_nums.specs.declared.kinds.Kind.{Kind}
+use Rattle.spk_nums.specs.declared.kinds.Kind.TheVariants as kind
+use Rattle.spk_nums.specs.declared.calls.Call.{Call}
+use Rattle.spk_nums.specs.declared.calls.Call.TheVariants.{Look, Copy, Remove, Grow, Shrink, Unmap, Retype, Make as make_call, Tick, Kill}
+use Rattle.supported_calls.specs.Built.{IsBuilt}
+use Rattle.kernel_rules.specs.State.{Table, Pages, Frame, Kernel, State}
+use Rattle.kernel_rules.specs.Access.{Slot, Named, found, root, only, Target, Under, InRoot, reached}
+use Rattle.kernel_rules.specs.Fitting.{fits, IsGood}
+use Rattle.kernel_rules.specs.GracePeriods.{is_paging}
+use Rattle.kernel_rules.proofs.Facts.{some_inj, none_some, named_good}
+use Rattle.kernel_rules.proofs.SoundRuns.{opened}
+use Rattle.kernel_history.specs.Events.{events_of}
+use Rattle.kernel_history.specs.Legal.{IsLegal}
+use Rattle.kernel_history.specs.Trace.{Trace, Open, phase, state_after}
+use Rattle.kernel_history.proofs.Stays.{sound_of, opened_is}
+use Rattle.call_plans.specs.declared.plans.Spot.{Spot}
+use Rattle.call_plans.specs.declared.plans.Target.{Target as TargetOf}
+use Rattle.call_plans.specs.declared.plans.Target.TheVariants.{Nowhere, Free, Held, Own}
+use Rattle.call_plans.specs.declared.plans.Plan.{Plan}
+use Rattle.call_plans.specs.PlanOf.{plan_for}
+use Rattle.call_plans.specs.After.{Next, Leads, LeadsIn, NextNothing, NextHeld, NextOwn, NextFree, next_of}
+use Rattle.call_acts.specs.declared.objects.NewObject.{NewObject}
+use Rattle.call_acts.specs.Acts.{fills_page}
+use Rattle.look_invariant.proofs.Next.{next_end}
+use Rattle.place_invariant.proofs.ObjectMakes.{made_of, IsObjectMake, object_make}
+use Rattle.place_invariant.proofs.Outside.{none_left_of}
+use Rattle.place_invariant.proofs.Vacancy.{in_leaf}
+
+-- The plan of a call whose target is to be free.
+abbrev IsFreeTarget : TargetOf → Type 0
+IsFreeTarget Nowhere = ⊥
+IsFreeTarget (Free spot) = Unit {0}
+IsFreeTarget (Held spot) = ⊥
+IsFreeTarget (Own v) = ⊥
+
+free_target : (plan : Plan) (ks : List Capability) (target : Target) → next_of plan ks ≡ NextFree target → IsFreeTarget plan.target
+free_target plan ks target next = by plan.target refl
+  where
+    by : (to : TargetOf) → plan.target ≡ to → IsFreeTarget to
+    by Nowhere is = not_free (sym (next_end plan ks Nowhere (none_left_of plan ks target next) is) ∙ next)
+      where
+        not_free : NextNothing ≡ NextFree target → ⊥
+        not_free h = cc
+    by (Free spot) is = tt
+    by (Held spot) is = not_free _ (sym (next_end plan ks (Held spot) (none_left_of plan ks target next) is) ∙ next)
+      where
+        not_free : (x : Target) → NextHeld x ≡ NextFree target → ⊥
+        not_free x h = cc
+    by (Own v) is = not_free (sym (next_end plan ks (Own v) (none_left_of plan ks target next) is) ∙ next)
+      where
+        not_free : NextOwn v ≡ NextFree target → ⊥
+        not_free h = cc
+
+-- A root is one of a page table where its capability is of pages.
+root_paging : (k : Kind) (x : Frame) → IsTrue (root k) → IsTrue (fits k x) → is_paging x ≡ only kind.Pages k
+root_paging kind.Table (Kernel Table) r h = refl
+root_paging kind.Table _ r h = absurd (false≢true h)
+root_paging kind.Pages (Kernel Pages) r h = refl
+root_paging kind.Pages _ r h = absurd (false≢true h)
+root_paging _ x r h = absurd (false≢true r)
+
+in_root_node : (table : Named) (i : ℕ) (at : Slot) (b : Bool) → (if b then Some (record { node = table.frame; index = i }) else None) ≡ Some at
+    → table.frame ≡ at.node
+in_root_node table i at true h = ap (λ (x : Slot). x.node) (some_inj (record { node = table.frame; index = i }) at h)
+in_root_node table i at false h = absurd (none_some at h)
+
+target_in : (p q : Target) → NextFree p ≡ NextFree q → p ≡ q
+target_in p q is = cc
+
+module _ (setup : Setting) (setting : IsSetting setup) (t : Trace) (legal : IsLegal setup t) (c : ℕ) (target : Target) (at : Slot)
+    (reaches : reached (state_after setup t) c target ≡ Some at) where
+  abbrev s : State
+  s = state_after setup t
+
+  abbrev PagingIs : Call → List Capability → Type 0
+  PagingIs call ks = is_paging (s.frame at.node) ≡ fills_page call ks
+
+  none_free : (call : Call) (ks : List Capability) → next_of (plan_for call) ks ≡ NextFree target → IsFreeTarget (plan_for call).target
+  none_free call ks next = free_target (plan_for call) ks target next
+
+  -- a line a call: the place that it fills is one of a page table exactly where `fills_page` says so
+  pub paging_by : (call : Call) → phase t c ≡ Open call → IsBuilt call → (ks : List Capability)
+      → Leads (LeadsIn s c) (plan_for call).names [] ks → next_of (plan_for call) ks ≡ NextFree target → PagingIs call ks
+  paging_by (Copy a u b) is built (k ∷ j ∷ []) lead next =
+      ap is_paging (in_leaf setup setting t legal c (Copy a u b) is u b j at lead.1.0
+      (ap (reached s c) (target_in (Under (found j) b) target next) ∙ reaches))
+  paging_by (Copy a u b) is built [] lead next = absurd (cc)
+  paging_by (Copy a u b) is built (k ∷ []) lead next = absurd (cc)
+  paging_by (Copy a u b) is built (k ∷ j ∷ i ∷ ks) lead next = absurd lead.1.1
+  paging_by (Grow u i l) is built (k ∷ j ∷ []) lead next =
+      let good : IsGood s k × IsTrue (root k.kind) = named_good s (opened (events_of t)) c u root k (sound_of setup setting t legal)
+      (opened_is t c (Grow u i l) is) lead.0 in
+      ap (λ (f : ℕ). is_paging (s.frame f)) (sym (in_root_node (found k) i at (nat_le i 63)
+      (ap (reached s c) (target_in (InRoot (found k) i) target next) ∙ reaches)))
+      ∙ root_paging k.kind (s.frame k.frame) good.1 good.0.fit
+  paging_by (Grow u i l) is built [] lead next = absurd (cc)
+  paging_by (Grow u i l) is built (k ∷ []) lead next = absurd (cc)
+  paging_by (Grow u i l) is built (k ∷ j ∷ h ∷ ks) lead next = absurd lead.1.1
+  paging_by (make_call what r f u b) is built ks lead next =
+      let none = none_left_of (plan_for (make_call what r f u b)) ks target next in
+      made_of what built r f u b ks none (PagingIs (make_call what r f u b) ks) (λ object of.
+      let make : IsObjectMake s c r f u b what object ks = object_make s c r f u b what object ks of lead none in
+      ap is_paging (in_leaf setup setting t legal c (make_call what r f u b) is u b make.two.table at make.two.second
+      (ap (reached s c) (target_in (Under (found make.two.table) b) target (sym make.next ∙ next)) ∙ reaches)))
+  paging_by (Look a) is built ks lead next = absurd (none_free (Look a) ks next)
+  paging_by (Remove u b) is built ks lead next = absurd (none_free (Remove u b) ks next)
+  paging_by (Shrink u i) is built ks lead next = absurd (none_free (Shrink u i) ks next)
+  paging_by (Unmap p v) is built ks lead next = absurd (none_free (Unmap p v) ks next)
+  paging_by (Retype r f frame_kind.Untyped) is built ks lead next = absurd built
+  paging_by (Retype r f frame_kind.User) is built ks lead next = absurd (none_free (Retype r f frame_kind.User) ks next)
+  paging_by (Retype r f frame_kind.Kernel) is built ks lead next = absurd (none_free (Retype r f frame_kind.Kernel) ks next)
+  paging_by (Tick n) is built ks lead next = absurd (none_free (Tick n) ks next)
+  paging_by (Kill n) is built ks lead next = absurd (none_free (Kill n) ks next)
+  paging_by call is built ks lead next = absurd built

@@ -1,0 +1,81 @@
+-- What a call knows that has found its target quiescing: since which stamp, and what is known of it before a core or a flush is scanned, or
+-- where there is none to be scanned.
+use Rattle.std.proofs.Common.{◌≡◌, ◌≢◌, ℕ, ◌<◌, ◌≤◌, false, List, [], ◌∷◌, Some, None, arith, refl, sym, ◌∙◌, ap, subst}
+use Rattle.spk_nums.specs.Setting.{Setting, IsSetting}
+use Rattle.entry_words.specs.EntryWord.{entry_of_word}
+use Rattle.entry_words.specs.declared.entry.Entry.TheVariants as entry
+use Rattle.word_map.specs.Word.{EntryAt}
+use Rattle.word_map.specs.Moves.{LoadOf}
+use Rattle.kernel_rules.specs.State.{Thing, PlaceOf}
+use Rattle.kernel_rules.specs.Access.{Slot, Target as place}
+use Rattle.kernel_history.specs.Justified.{IsRemoved}
+use Rattle.kernel_history.specs.Stamps.{clock, stamp}
+use Rattle.kernel_history.specs.Trace.{Step, Trace, Open, phase, state_after, last_left, WasAt}
+use Rattle.kernel_history.proofs.Carries.{was_now}
+use Rattle.call_plans.specs.declared.plans.Plan.{Plan}
+use Rattle.call_plans.specs.PlanOf.{plan_for}
+use Rattle.call_plans.specs.After.{Leads, LeadsIn, NextFree, next_of}
+use Rattle.call_acts.specs.Acts.{fills_page}
+use Rattle.call_steps.specs.declared.stages.ActiveCall.{ActiveCall}
+use Rattle.call_steps.specs.View.{Core}
+use Rattle.core_invariant.specs.Knows.{HasFlushed, IsScanned}
+use Rattle.core_invariant.specs.Stands.{Stands}
+use Rattle.core_invariant.proofs.Loads.{step_to, is_active}
+use Rattle.look_invariant.proofs.Lookups.{Arrives}
+use Rattle.place_invariant.proofs.Paging.{paging_by}
+use Rattle.place_invariant.proofs.Scans.{ShowsSince, since_is}
+use Rattle.place_invariant.proofs.Vacancy.{unpaged_flushed}
+use Rattle.work_invariant.proofs.AtTarget.{was_while_open}
+
+pub record ScanStarts (setup : Setting) (t : Trace) (c : ℕ) (a : ActiveCall) (at : Slot) (x : ℕ) : Type 0 where
+  pub drawn : 1 ≤ x
+  pub past : x < clock setup t
+  -- where flush words are not scanned, the place waits for no flush
+  pub unpaged : fills_page a.call a.found ≡ false → (d : ℕ) → HasFlushed setup t (PlaceOf at.node at.index) x d
+  -- now, and after the load that has found this word
+  pub now : (upto : ℕ) → ((d : ℕ) → d < upto → d ≢ c → ⊥) → ((d : ℕ) → d < upto → HasFlushed setup t (PlaceOf at.node at.index) x d)
+      → IsScanned setup t c (PlaceOf at.node at.index) x upto
+  pub loaded : (word upto : ℕ) → ((d : ℕ) → d < upto → d ≢ c → ⊥)
+      → ((d : ℕ) → d < upto → HasFlushed setup t (PlaceOf at.node at.index) x d)
+      → IsScanned setup (step_to c None (LoadOf (EntryAt at.node at.index)) word None None ∷ t) c (PlaceOf at.node at.index) x upto
+
+module _ (setup : Setting) (setting : IsSetting setup) (cores : ℕ → Core) (t : Trace) (stands : Stands setup cores t) (c : ℕ)
+    (here : c < setup.cores)
+    (a : ActiveCall) (active : (cores c).active ≡ Some a) (is_open : phase t c ≡ Open a.call)
+    (leads : Leads (LeadsIn (state_after setup t) c) a.plan.names [] a.found) (target : place)
+    (next_free : next_of a.plan a.found ≡ NextFree target) (at : Slot) (arrives : Arrives setup t c target at) (x : ℕ)
+    (reads : entry_of_word (last_left setup t (EntryAt at.node at.index)) ≡ Some (entry.Quiescing x)) where
+  abbrev removed : Thing
+  removed = PlaceOf at.node at.index
+
+  plan_is : a.plan ≡ plan_for a.call
+  plan_is = (is_active setup setting cores t stands c here a active).plan
+
+  since : ShowsSince ((state_after setup t).place at.node at.index) (stamp setup t removed) x
+  since = since_is setup.frames ((state_after setup t).place at.node at.index) (stamp setup t removed) x _ arrives.plain.says reads
+
+  scanned : (u : Trace) → stamp setup u removed ≡ stamp setup t removed → clock setup u ≡ clock setup t
+      → WasAt (IsRemoved removed) setup u c → (upto : ℕ) → ((d : ℕ) → d < upto → d ≢ c → ⊥)
+      → ((d : ℕ) → d < upto → HasFlushed setup u removed x d) → IsScanned setup u c removed x upto
+  scanned u stamp_is clock_is was upto none flushed = record {
+    some = since.drawn;
+    past = (let p = (stands.graces removed).past in let q = since.same in omega (arith, p, q, clock_is));
+    rises = (let q = since.same in omega (arith, q, stamp_is));
+    was_removed = was;
+    passed = λ d below other. absurd (none d below other);
+    flushed = flushed;
+  }
+
+  pub scan_starts : ScanStarts setup t c a at x
+  scan_starts = record {
+    drawn = since.drawn;
+    past = (let p = (stands.graces removed).past in let q = since.same in omega arith);
+    unpaged = λ is. unpaged_flushed setup setting t stands.legal stands.graces at.node at.index x arrives.leaf.node
+        (paging_by setup setting t stands.legal c target at arrives.reached a.call is_open
+        (is_active setup setting cores t stands c here a active).built a.found
+        (subst (λ (p : Plan). Leads (LeadsIn (state_after setup t) c) p.names [] a.found) plan_is leads)
+        (ap (λ p. next_of p a.found) (sym plan_is) ∙ next_free) ∙ is) since.drawn;
+    now = scanned t refl refl (was_while_open (IsRemoved removed) setup t c a.call is_open since.removed);
+    loaded = λ word. let e : Step = step_to c None (LoadOf (EntryAt at.node at.index)) word None None in
+        scanned (e ∷ t) refl refl (was_now (IsRemoved removed) setup t e c since.removed);
+  }
