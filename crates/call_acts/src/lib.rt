@@ -27,6 +27,9 @@
 //! ticks asked for and those owed less, or with no budget where it has fewer; the compare decides. What is not charged stays owed,
 //! also where the call is refused.
 //!
+//! **Flush.** The clock is loaded, which decides: the core drops its cached translations. The core's flush word is still to be stored,
+//! with the clock that was loaded.
+//!
 //! **Kill.** The component's word is loaded, which names its liveness number and its epoch, and the number's word, which says that the
 //! component lives. Then the count of the component's frame is acquired, the number's word is marked by a compare with the word found, and
 //! a stamp is drawn, which decides. The number's word is still to be stored: dead since the stamp.
@@ -43,6 +46,7 @@
 
 mod acts;
 mod fills;
+mod flushes;
 mod kills;
 mod laws;
 mod lookups;
@@ -56,6 +60,7 @@ mod work;
 
 pub use acts::{act_op, act_ready, act_took, begin_act, next_work, refuse, starts, undo};
 pub use fills::Fill;
+pub use flushes::flushed_op;
 pub use kills::{Killing, KillingAt, dead_op};
 pub use laws::refusals_are_replies;
 pub use lookups::{Met, frame_of, met_free, met_held, met_name};
