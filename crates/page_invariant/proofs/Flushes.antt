@@ -16,7 +16,7 @@ use Rattle.call_steps.specs.Steps.{GoesOn, went_with, landed}
 use Rattle.call_steps.specs.View.{Core}
 use Rattle.core_invariant.proofs.Calm.{plain_exit}
 use Rattle.core_invariant.proofs.Carries.{counts_on}
-use Rattle.core_invariant.proofs.CountSums.{counted_refs}
+use Rattle.core_invariant.proofs.CountSums.{counted_refs, calm_refs}
 use Rattle.core_invariant.proofs.Good.{IsGood, spares_kept, spares_other}
 use Rattle.core_invariant.proofs.Loads.{IsOfCall, next_at, core_at, core_is, call_is, in_call, inner, inner_within, inner_disciplined, inner_near, is_active}
 use Rattle.core_invariant.proofs.OwnChanges.{IsSameCore, decides_owning}
@@ -41,7 +41,7 @@ use Rattle.kernel_history.specs.Marking.{marked_by}
 use Rattle.kernel_history.specs.Stamps.{begins_in, ends_in, flushes_in, begins_at, ends_at, flushes_at, stamp, clock, flush_of, flush_stored}
 use Rattle.kernel_history.specs.Trace.{Step, Trace, Open, phase, state_after, state_decided_in, last_left, own_left}
 use Rattle.kernel_history.specs.Ways.{ways}
-use Rattle.kernel_rules.proofs.Refs.{core_same_refs}
+use Rattle.kernel_rules.proofs.SparesRuns.{core_same_refs}
 use Rattle.kernel_rules.proofs.Sums.{sum_one}
 use Rattle.kernel_rules.proofs.Within.{put_same, put_other}
 use Rattle.kernel_rules.specs.Access.{Slot}
@@ -50,7 +50,7 @@ use Rattle.kernel_rules.specs.CallRelation.{rule_of, change_of, counted, state_b
 use Rattle.kernel_rules.specs.GracePeriods.{flushed}
 use Rattle.kernel_rules.specs.References.{refs, sum_below}
 use Rattle.kernel_rules.specs.Rules.{Found}
-use Rattle.kernel_rules.specs.State.{Core as CoreFields, Thing, PlaceOf, FrameOf, NumberOf, State, put, thread_in, comp_in, first_of_stack, thread_of, comp_of}
+use Rattle.kernel_rules.specs.State.{Core as CoreFields, Thing, PlaceOf, FrameOf, NumberOf, State, put, with_core, thread_in, comp_in, first_of_stack, thread_of, comp_of}
 use Rattle.spk_nums.specs.declared.calls.Call.TheVariants.{Flush}
 use Rattle.spk_nums.specs.declared.replies.Reply.{Reply}
 use Rattle.spk_nums.specs.declared.replies.Reply.TheVariants as reply
@@ -67,6 +67,10 @@ use Rattle.word_map.specs.Word.{Word, EntryAt, FrameAt, CountAt, CoreAt, FlushAt
 
 none_some : (d : ℕ) → None ≡ Some d → ⊥
 none_some d h = cc
+
+-- A core that has counted one call more.
+abbrev one_more : CoreFields → CoreFields
+one_more k = record k { counted = k.counted + 1 }
 
 -- The load of the clock.
 module _ (setup : Setting) (setting : IsSetting setup) (cores : ℕ → Core) (t : Trace) (stands : Stands setup cores t) (c : ℕ)
@@ -133,7 +137,7 @@ module _ (setup : Setting) (setting : IsSetting setup) (cores : ℕ → Core) (t
 
   core_now : s'.core c ≡ record emptied { counted = (s.core c).counted + 1 }
   core_now = ap (λ x. x.core c) now ∙ put_same (flushed s c).core c _ c refl
-      ∙ ap (λ k. record k { counted = k.counted + 1 }) (put_same s.core c emptied c refl)
+      ∙ ap one_more (put_same s.core c emptied c refl)
 
   core_other : (d : ℕ) → d ≢ c → s'.core d ≡ s.core d
   core_other d other = ap (λ x. x.core d) now ∙ put_other (flushed s c).core c _ d other ∙ put_other s.core c emptied d other
@@ -231,7 +235,11 @@ module _ (setup : Setting) (setting : IsSetting setup) (cores : ℕ → Core) (t
   same_words ClockAt = tt
 
   kept_refs : (g : ℕ) → refs s' g ≡ refs s g
-  kept_refs g = ap (λ x. refs x g) now ∙ counted_refs (flushed s c) c g ∙ core_same_refs s c emptied refl refl g
+  kept_refs g = ap (λ x. refs x g) now ∙ counted_refs (flushed s c) c g
+      ∙ calm_refs (with_core s c emptied) (flushed s c) c
+      (record { frame = λ f. refl; number = λ l. refl; limits = refl; others = λ d other. refl; own = refl; more = omega arith })
+      (λ f i. refl) g
+      ∙ core_same_refs s c emptied refl refl g
 
   permitted : MayReply s c a.call r
   permitted = subst (λ x. MayReply s c x r) (sym call_is_flush) (not_spent setup (cores c) t c (stands.each c here) unspent_room, refl)
