@@ -30,7 +30,6 @@ use Rattle.call_plans.specs.After.{Next, NextName, NextFree, NextHeld, NextOwn, 
 use Rattle.call_acts.specs.declared.refusals.Refusal.TheVariants as refusal
 use Rattle.call_acts.specs.declared.own.Own.{Own}
 use Rattle.call_acts.specs.declared.own.OwnChange.{OwnChange}
-use Rattle.call_acts.specs.declared.work.Tail.TheVariants.{Nothing}
 use Rattle.call_acts.specs.declared.lookups.Met.{Met}
 use Rattle.call_acts.specs.declared.lookups.Met.TheVariants.{Finds, Refused}
 use Rattle.call_acts.specs.declared.work.Act.{Act as ActType}

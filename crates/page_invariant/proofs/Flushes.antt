@@ -17,24 +17,24 @@ use Rattle.call_steps.specs.View.{Core}
 use Rattle.core_invariant.proofs.Calm.{plain_exit}
 use Rattle.core_invariant.proofs.Carries.{counts_on}
 use Rattle.core_invariant.proofs.CountSums.{counted_refs, calm_refs}
-use Rattle.core_invariant.proofs.Good.{IsGood, spares_kept, spares_other}
+use Rattle.core_invariant.proofs.Good.{spares_kept, spares_other}
 use Rattle.core_invariant.proofs.Loads.{IsOfCall, next_at, core_at, core_is, call_is, in_call, inner, inner_within, inner_disciplined, inner_near, is_active}
-use Rattle.core_invariant.proofs.OwnChanges.{IsSameCore, decides_owning}
+use Rattle.core_invariant.proofs.OwnChanges.{decides_owning}
 use Rattle.core_invariant.proofs.Refusals.{GoodTook, not_spent}
 use Rattle.core_invariant.proofs.Sounds.{limits_of}
 use Rattle.core_invariant.proofs.Sums.{sums_since}
-use Rattle.core_invariant.proofs.WordFrames.{SameFor, marks_own, settled_on, load_keeps, load_marks, load_words, word_stays, reads_alike, carry_marks, carry_words, others_settled, own_settled}
+use Rattle.core_invariant.proofs.WordFrames.{SameFor, marks_own, word_stays, reads_alike, carry_marks, carry_words, others_settled, own_settled}
 use Rattle.core_invariant.proofs.Writes.{clock_small}
 use Rattle.core_invariant.specs.Holding.{Holding, holds_counts, settled_by, settled}
 use Rattle.core_invariant.specs.Knows.{due_of, KnowsUndecided, KnowsFlush, WorksIn, CoreIs, phase_at}
 use Rattle.core_invariant.specs.Stands.{is_done, holds_at, holds_in, holds, held_by, times_of, counted_in, Stands}
 use Rattle.core_invariant.specs.Words.{WordIs, count_room}
 use Rattle.frame_words.proofs.FlushLemmas.{spelling}
-use Rattle.frame_words.specs.Flush.{word_of_flush, flush_of_word}
+use Rattle.frame_words.specs.Flush.{word_of_flush}
 use Rattle.kernel_history.proofs.Inside.{decided-inside}
 use Rattle.kernel_history.proofs.Names.{same_word-other}
 use Rattle.kernel_history.proofs.Small.{last_small}
-use Rattle.kernel_history.proofs.Steps.{phase-own, steps_in_call-own, stamp-kept, flush_of-own, flush_stored-own, flush_stored-other, last_left-there}
+use Rattle.kernel_history.proofs.Steps.{phase-own, steps_in_call-own, stamp-kept, flush_of-own, flush_stored-own, flush_stored-other}
 use Rattle.kernel_history.specs.Discipline.{stores_flush}
 use Rattle.kernel_history.specs.Justified.{IsJustified, HasReached}
 use Rattle.kernel_history.specs.Marking.{marked_by}
@@ -46,10 +46,9 @@ use Rattle.kernel_rules.proofs.Sums.{sum_one}
 use Rattle.kernel_rules.proofs.Within.{put_same, put_other}
 use Rattle.kernel_rules.specs.Access.{Slot}
 use Rattle.kernel_rules.specs.Alone.{alone}
-use Rattle.kernel_rules.specs.CallRelation.{rule_of, change_of, counted, state_by, begins, ends, flushes, MayReply}
+use Rattle.kernel_rules.specs.CallRelation.{rule_of, counted, state_by, begins, ends, flushes, MayReply}
 use Rattle.kernel_rules.specs.GracePeriods.{flushed}
 use Rattle.kernel_rules.specs.References.{refs, sum_below}
-use Rattle.kernel_rules.specs.Rules.{Found}
 use Rattle.kernel_rules.specs.State.{Core as CoreFields, Thing, PlaceOf, FrameOf, NumberOf, State, put, with_core, thread_in, comp_in, first_of_stack, thread_of, comp_of}
 use Rattle.spk_nums.specs.declared.calls.Call.TheVariants.{Flush}
 use Rattle.spk_nums.specs.declared.replies.Reply.{Reply}
@@ -58,11 +57,11 @@ use Rattle.spk_nums.specs.declared.replies.Value.TheVariants as value
 use Rattle.spk_nums.specs.Setting.{Setting, IsSetting}
 use Rattle.stage_pins.specs.declared.held.Acquired.{Acquired}
 use Rattle.stage_quiet.specs.Clocks.{stamp_of_clock}
-use Rattle.std.proofs.Common.{◌≡◌, ◌≢◌, inl, inr, ℕ, ◌+◌, ◌*◌, ◌-◌, ◌^◌, ◌<◌, ◌≤◌, ◌&&◌, min, Bool, true, false, if◌then◌else◌, cond, List, [], ◌∷◌, map, length, Option, Some, None, IsSome, arith, refl, sym, ◌∙◌, ap, subst}
+use Rattle.std.proofs.Common.{◌≡◌, ◌≢◌, inl, inr, ℕ, ◌+◌, ◌*◌, ◌<◌, ◌≤◌, ◌&&◌, true, false, if◌then◌else◌, cond, List, [], ◌∷◌, map, length, Option, Some, None, IsSome, arith, refl, sym, ◌∙◌, ap, subst}
 use Rattle.std.proofs.lemmas.Bool.{cases_eq, false≢true, eq-eqb}
 use Rattle.std.proofs.lemmas.List.Elements.{All-nil}
 use Rattle.word_map.proofs.WordLemmas.{same_same}
-use Rattle.word_map.specs.Moves.{Move, LoadOf, StoreOf, word_of, left_of}
+use Rattle.word_map.specs.Moves.{Move, LoadOf, StoreOf}
 use Rattle.word_map.specs.Word.{Word, EntryAt, FrameAt, CountAt, CoreAt, FlushAt, LiveAt, ClockAt, same_word}
 
 none_some : (d : ℕ) → None ≡ Some d → ⊥
