@@ -2,7 +2,7 @@
 use Rattle.std.specs.Prelude.{ℕ, ℤ, ◌<◌, ◌==◌, pos, negsuc, Bool, true, false, ◌&&◌, nat_lt, nat_le, Option, Some, None, List, map, slice_get, if◌then◌else◌, [], ◌∷◌}
 use Rattle.spk_nums.specs.Capability.{Capability}
 use Rattle.spk_nums.specs.declared.calls.Call.{Call}
-use Rattle.spk_nums.specs.declared.calls.Call.TheVariants.{Look, Copy, Remove, Shrink, Retype, Make as make_call, Unmap, Tick, Gate, Kill, Grow}
+use Rattle.spk_nums.specs.declared.calls.Call.TheVariants.{Look, Copy, Remove, Shrink, Retype, Make as make_call, Unmap, Tick, Gate, Kill, Grow, Flush}
 use Rattle.spk_nums.specs.declared.replies.Value.TheVariants.{Cap, Nothing as nothing}
 use Rattle.spk_nums.specs.declared.steps.StageEnd.{StageEnd}
 use Rattle.spk_nums.specs.declared.steps.StageEnd.TheVariants as ends
@@ -25,7 +25,7 @@ use Rattle.call_plans.specs.declared.plans.Nth.TheVariants.{First, Second}
 use Rattle.call_plans.specs.Plans.{at_place}
 use Rattle.call_acts.specs.declared.refusals.Refusal.TheVariants.{Raced, OutOfRange, Busy, FrameKind as wrong_kind, Dead as is_dead}
 use Rattle.call_acts.specs.declared.work.Act.{Act}
-use Rattle.call_acts.specs.declared.work.Act.TheVariants.{Fill as fill_act, Remove as remove_act, Retype as type_act, Make as make_act, Outside, Tick as tick_act, Kill as kill_act}
+use Rattle.call_acts.specs.declared.work.Act.TheVariants.{Fill as fill_act, Remove as remove_act, Retype as type_act, Make as make_act, Outside, Tick as tick_act, Flush as flush_act, Kill as kill_act}
 use Rattle.call_acts.specs.declared.work.Due.{Due}
 use Rattle.call_acts.specs.declared.work.Work.{Work}
 use Rattle.call_acts.specs.declared.work.Work.TheVariants.{Scan, Acquire, Act as act_work}
@@ -46,6 +46,9 @@ use Rattle.call_acts.specs.declared.makings.Making.{Making}
 use Rattle.call_acts.specs.Makings.{made, MakingFits, making_move, stored, undo_at, is_filling, making_left}
 use Rattle.stage_tcap.specs.Charging.{ChargeFits, charge_move}
 use Rattle.call_acts.specs.Ticks.{charges, took_tick, is_charging, charge_left}
+use Rattle.stage_quiet.specs.Flushing.{flush_move}
+use Rattle.stage_quiet.specs.declared.flush_mark.FlushMark.TheVariants.{AtLoad as flush_load}
+use Rattle.call_acts.specs.Flushes.{flushes, took_flush}
 use Rattle.call_acts.specs.declared.kills.Killing.{Killing}
 use Rattle.call_acts.specs.declared.kills.KillingAt.{KillingAt}
 use Rattle.call_acts.specs.declared.kills.KillingAt.TheVariants.{LoadComp, LoadLive, Close as kill_close, Draw as kill_draw}
@@ -77,6 +80,7 @@ ActFits s (type_act typing) = TypingFits s typing
 ActFits s (make_act m) = MakingFits s m
 ActFits s (Outside node entry word) = (node < s.frames) × (entry < 64)
 ActFits s (tick_act charge) = ChargeFits s charge
+ActFits s (flush_act core) = core < s.cores
 ActFits s (kill_act m) = KillingFits s m
 
 -- the stamp with which a removal that has drawn it goes on to its store
@@ -101,6 +105,7 @@ act_move (type_act typing) = typing_move typing
 act_move (make_act m) = making_move m
 act_move (Outside node entry word) = LoadOf (EntryAt node entry)
 act_move (tick_act charge) = charge_move charge
+act_move (flush_act core) = flush_move (flush_load core)
 act_move (kill_act m) = killing_move m
 
 -- whether the next step of a removal draws its stamp
@@ -117,6 +122,7 @@ act_ready (type_act typing) = is_typing typing.at
 act_ready (make_act m) = is_filling m.at
 act_ready (Outside node entry word) = false
 act_ready (tick_act charge) = is_charging charge
+act_ready (flush_act core) = true
 act_ready (kill_act m) = is_killing m.at
 
 -- the steps of a removal that are still to come
@@ -133,6 +139,7 @@ act_left (type_act typing) = typing_left typing.at
 act_left (make_act m) = making_left m.object m.at
 act_left (Outside node entry word) = 1
 act_left (tick_act charge) = charge_left charge
+act_left (flush_act core) = 2
 act_left (kill_act m) = killing_left m.at
 
 -- a look answers what its name has led to
@@ -166,6 +173,7 @@ dues (type_act typing) = []
 dues (make_act m) = made_dues m.object m.frame m.at
 dues (Outside node entry word) = []
 dues (tick_act charge) = []
+dues (flush_act core) = []
 dues (kill_act m) = killing_dues m.comp m.at
 
 -- a core acquires this count for an act next, or has acquired all and goes on to the act
@@ -251,6 +259,7 @@ took_act (type_act typing) found = took_typing typing found
 took_act (make_act m) found = took_making m found
 took_act (Outside node entry word) found = refuse OutOfRange
 took_act (tick_act charge) found = took_tick charge found
+took_act (flush_act core) found = took_flush core found
 took_act (kill_act m) found = took_killing m found
 
 -- what a refused call has still to store where it acquires a count for an act
@@ -261,6 +270,7 @@ undo (type_act typing) = Nothing
 undo (make_act m) = undo_at m.frame m.at
 undo (Outside node entry word) = Nothing
 undo (tick_act charge) = Nothing
+undo (flush_act core) = Nothing
 undo (kill_act m) = Nothing
 
 -- an act starts with its first count, where it is not out of range
@@ -364,6 +374,7 @@ stamp_of_act (type_act typing) = 0
 stamp_of_act (make_act m) = stamp_shown (entry_of_word m.fill.word)
 stamp_of_act (Outside node entry word) = stamp_shown (entry_of_word word)
 stamp_of_act (tick_act charge) = 0
+stamp_of_act (flush_act core) = 0
 stamp_of_act (kill_act m) = 0
 
 -- a frame is typed where it is in the range, which has none past the machine's
@@ -416,6 +427,7 @@ act_begun own (Unmap p v) found read target = removes_at own.core target
 act_begun own (Retype r f k) found read target = types_at own (at_place found First) f k
 act_begun own (make_call what range frame table slot) found read target =
     makes_at own (object_made what found) (at_place found First) frame target
+act_begun own Flush found target = flushes own.core
 act_begun own (Tick n) found read target = charges own n
 act_begun own (Gate c t b) found read target = fills_with own (put_by (Gate c t b) found read) false target
 act_begun own (Kill k) found read target = kills_at own (at_place found First)

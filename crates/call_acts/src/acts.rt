@@ -22,6 +22,7 @@ ghost use Rattle.kernel_rules.specs.Access.{found as named_by_cap};
 ghost use Rattle.kernel_rules.specs.CapabilityCalls.{has_frame};
 
 use crate::fills::Fill;
+use crate::flushes::{flush_op, flush_took, flushes};
 use crate::kills::{Killing, KillingAt};
 use crate::makings::{Making, MakingAt};
 use crate::objects::{NewObject, object_cap, object_made};
@@ -60,6 +61,7 @@ pub fn act_op(act: &Act, layout: &Layout) -> WordOp
             at: layout.entry_at(*node, *entry),
         },
         Act::Tick { charge } => tick_op(charge, layout),
+        Act::Flush { core } => flush_op(*core, layout),
         Act::Kill { killing } => killing.next(layout),
     }
 }
@@ -81,6 +83,7 @@ pub fn act_took(act: &Act, layout: &Layout, found: u64) -> WorkStep
         Act::Make { making } => making.take(found),
         Act::Outside { .. } => refuse(Refusal::OutOfRange),
         Act::Tick { charge } => tick_took(charge, layout, found),
+        Act::Flush { core } => flush_took(*core, layout, found),
         Act::Kill { killing } => killing.take(found),
     }
 }
@@ -133,6 +136,7 @@ pub fn act_ready(act: &Act) -> bool
         Act::Make { making } => making.is_ready(),
         Act::Outside { .. } => false,
         Act::Tick { charge } => is_charging(charge),
+        Act::Flush { core: _ } => true,
         Act::Kill { killing } => killing.is_ready(),
     }
 }
@@ -175,6 +179,7 @@ fn due(act: &Act, n: u8) -> Option<Due>
         Act::Make { making } => made_due(making, n),
         Act::Outside { .. } => None,
         Act::Tick { charge: _ } => None,
+        Act::Flush { core: _ } => None,
         Act::Kill { killing } => killing_due(killing, n),
     }
 }
@@ -199,7 +204,7 @@ fn cap_due(cap: &Cap, change: i32, n: u8) -> Option<Due>
 
 /// What a call of a core does whose names have led to these, which has read this, and whose target, if it has one, was found: a look answers
 /// at once, a copy, a grow and a gate begin to fill their target, a remove, a shrink and an unmap to remove what their target holds, a retype to type its frame,
-/// a make to make its object, a tick to charge its ticks. The core is one of the layout's at most 8.
+/// a make to make its object, a flush to drop its translations, a tick to charge its ticks. The core is one of the layout's at most 8.
 #[inline]
 pub fn begin_act(
     own: &Own,
@@ -237,6 +242,7 @@ pub fn begin_act(
             target,
         ),
         Call::Retype { r: _, f, k } => types_at(own, &found.get(Nth::First), *f, *k),
+        Call::Flush => flushes(own.core),
         Call::Tick { n } => charges(own, *n),
         Call::Gate { .. } => fills_with(own, &gate_to(&found.get(Nth::First), read), false, target),
         Call::Kill { c: _ } => kills_at(own, &found.get(Nth::First)),

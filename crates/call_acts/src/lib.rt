@@ -34,6 +34,9 @@
 //! **Gate.** The component's word is loaded before the target is looked up, and names the epoch that the gate carries. Then the target
 //! is filled, as by a copy; the count is that of the component's frame.
 //!
+//! **Flush.** The clock is loaded, which decides: the core drops its cached translations. The core's flush word is still to be stored,
+//! with the clock that was loaded.
+//!
 //! **Kill.** The component's word is loaded, which names its liveness number and its epoch, and the number's word, which says that the
 //! component lives. Then the count of the component's frame is acquired, the number's word is marked by a compare with the word found, and
 //! a stamp is drawn, which decides. The number's word is still to be stored: dead since the stamp.
@@ -50,6 +53,7 @@
 
 mod acts;
 mod fills;
+mod flushes;
 mod kills;
 mod laws;
 mod lookups;
@@ -63,6 +67,7 @@ mod work;
 
 pub use acts::{act_op, act_ready, act_took, begin_act, next_work, reads_of, refuse, starts, undo};
 pub use fills::Fill;
+pub use flushes::flushed_op;
 pub use kills::{Killing, KillingAt, dead_op};
 pub use laws::refusals_are_replies;
 pub use lookups::{Met, frame_of, met_free, met_held, met_name};

@@ -45,6 +45,8 @@ pub struct Own {
 pub enum OwnChange {
     /// So many ticks were charged, which are spent, and so many are owed.
     Ticks { charged: u32, owed: u64 },
+    /// Its cached translations were dropped.
+    Empties,
 }
 
 impl Own {
@@ -58,6 +60,7 @@ impl Own {
                 self.spent = self.spent.saturating_add(u64::from(*charged));
                 self.owed = *owed;
             }
+            OwnChange::Empties => self.cached = Translations::empty(),
         }
     }
 }

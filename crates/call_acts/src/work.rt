@@ -7,7 +7,7 @@ use crate::own::OwnChange;
 use crate::refusals::Refusal;
 use crate::typings::Typing;
 use frame_words::CompWord;
-use spk_nums::{Cap, EntryNo, FrameNo, Reply, Stamp, Value};
+use spk_nums::{Cap, CoreNo, EntryNo, FrameNo, Reply, Stamp, Value};
 use stage_look::Look;
 use stage_pins::{Acquired, Pin};
 use stage_quiet::{Close, Quiet};
@@ -42,6 +42,10 @@ pub enum Act {
     /// It charges ticks to the core's temporal capability.
     Tick {
         charge: Charge,
+    },
+    /// It drops the translations that this core, its own, has cached.
+    Flush {
+        core: CoreNo,
     },
     /// It kills a component.
     Kill {
@@ -87,6 +91,8 @@ pub enum Tail {
     Unmark { frame: FrameNo, word: u64 },
     /// The word of a liveness number that is dead since the stamp that was drawn.
     StoreDead { life: CompWord, stamp: Stamp },
+    /// The word of a core's last flush, which this stamp has.
+    StoreFlush { core: CoreNo, stamp: Stamp },
 }
 
 /// What a step of the work of a call led to.
@@ -112,9 +118,10 @@ pub enum WorkStep {
         drawn: Option<Stamp>,
         tail: Tail,
     },
-    /// The call is decided with this reply and nothing to store, and changes this of what its core has of its own.
+    /// The call is decided with this reply, has this still to store, and changes this of what its core has of its own.
     Changes {
         reply: Reply,
         change: OwnChange,
+        tail: Tail,
     },
 }

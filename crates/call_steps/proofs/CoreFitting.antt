@@ -1,7 +1,5 @@
 -- The core and its call after a step stay in their ranges.
-use Rattle.std.proofs.lemmas.List.Elements.{All-nil, All-cons, All-tail, All-append}
-use Rattle.std.proofs.Common.{◌≡◌, ℕ, suc, ℤ, ◌≢◌, nat_lt, if◌then◌else◌, ◌+◌, ◌*◌, ◌-◌, ◌++◌, slice_get, ◌%◌, ◌<◌, ◌≤◌, Bool, true, false, ◌==◌, List, [], ◌∷◌, length, length-append, lt-ltb, Option, Some, None, IfSome, refl, sym, ◌∙◌, ap, subst, arith, negsuc}
-use Rattle.std.proofs.lemmas.Bool.{leb-false, ltb-true, ltb-false, eqb-true, eqb-false}
+use Rattle.std.proofs.Common.{◌≡◌, ℕ, ◌+◌, ◌<◌, ◌≤◌, Option, Some, refl, sym, ◌∙◌, ap, subst, arith}
 use Rattle.spk_nums.specs.Bounds.{bound_of}
 use Rattle.spk_nums.specs.CallLimits.{InLimits}
 use Rattle.supported_calls.specs.Built.{IsBuilt}
@@ -11,11 +9,9 @@ use Rattle.kernel_rules.specs.Access.{found}
 use Rattle.call_plans.specs.PlanOf.{plan_for}
 use Rattle.call_acts.specs.declared.own.Own.{Own}
 use Rattle.call_acts.specs.declared.own.OwnChange.{OwnChange}
-use Rattle.call_acts.specs.declared.own.OwnChange.TheVariants.{Ticks}
+use Rattle.call_acts.specs.declared.own.OwnChange.TheVariants.{Ticks, Empties}
 use Rattle.call_acts.specs.OwnChanges.{own_changed}
-use Rattle.std.specs.Prelude.{◌^◌, min}
 use Rattle.call_steps.specs.Fits.{left_of, IsActive, CallFits, IsOwn, IsCore, left_for}
-use Rattle.call_steps.specs.declared.stages.Stage.TheVariants.{Decided}
 use Rattle.call_steps.specs.declared.stages.ActiveCall.{ActiveCall}
 use Rattle.call_steps.specs.declared.stages.Told.TheVariants as told_as
 use Rattle.call_steps.specs.Steps.{GoesOn, Decides, took, told, call_after, Changes}
@@ -48,6 +44,17 @@ active_on own made old a active next = record {
 -- What a decision changes beside leaves the core in its ranges.
 changed_on : (own : Own) (change : OwnChange) → IsOwn own → IsOwn (own_changed own change)
 changed_on own (Ticks charged owed) h = record {
+  shape = h.shape;
+  core = h.core;
+  thread = h.thread;
+  comp = h.comp;
+  table = h.table;
+  pages = h.pages;
+  tcap = h.tcap;
+  most_calls = h.most_calls;
+  made = h.made;
+}
+changed_on own Empties h = record {
   shape = h.shape;
   core = h.core;
   thread = h.thread;
@@ -136,9 +143,36 @@ changes_on own active a new r (Ticks charged owed) counted found h is decided ne
           }),
       subst (λ o. left_of own.layout.cores new < left_for own.layout.cores o) (sym is) leads.fewer,
     )
+changes_on own active a new r Empties counted found h is decided next count =
+    let change : OwnChange = Empties in
+    let fits : IsActive own a = subst (CallFits own) is h.active in
+    let leads : TookFits own (left_of own.layout.cores a) a (Changes r change new) =
+    subst (TookFits own (left_of own.layout.cores a) a) (told_changes a r change (took own a found) decided ∙ ap (Changes r change)
+    (sym next)) (took_fits own a found h.own fits) in
+    let on : IsActive (record own { made = own.made + calls_counted r }) new = active_on own (own.made + calls_counted r) a new fits leads
+    in (
+      subst (λ n. IsCore (record { own = record (own_changed own change) { made = own.made + n }; active = Some new })) (sym count)
+          (record {
+            own = own_on (own_changed own change) (own.made + calls_counted r) (changed_on own change h.own) leads.counted;
+            active = record {
+              limits = on.limits;
+              built = on.built;
+              plan = on.plan;
+              found = on.found;
+              first = on.first;
+              stage = on.stage;
+              acquired = on.acquired;
+              counts = on.counts;
+              room = on.room;
+              steps = on.steps;
+            };
+          }),
+      subst (λ o. left_of own.layout.cores new < left_for own.layout.cores o) (sym is) leads.fewer,
+    )
 
 layout_changed : (own : Own) (change : OwnChange) → (own_changed own change).layout ≡ own.layout
 layout_changed own (Ticks charged owed) = refl
+layout_changed own Empties = refl
 
 pub changes_to : (own own' : Own) (active : Option ActiveCall) (a new : ActiveCall) (r : Reply) (change : OwnChange) (counted found : ℕ)
     → IsCore (record { own = own; active = active }) → active ≡ Some a

@@ -16,7 +16,7 @@ use Rattle.spk_nums.specs.declared.kinds.FrameKind.TheVariants.{Untyped, User, K
 use Rattle.spk_nums.specs.declared.calls.Make.{Make}
 use Rattle.spk_nums.specs.declared.calls.Make.TheVariants as make
 use Rattle.spk_nums.specs.declared.calls.Call.{Call}
-use Rattle.spk_nums.specs.declared.calls.Call.TheVariants.{Look as look_call, Copy, Remove, Shrink, Unmap, Retype, Make as make_call, Tick, Gate, Kill, Grow}
+use Rattle.spk_nums.specs.declared.calls.Call.TheVariants.{Look as look_call, Copy, Remove, Shrink, Unmap, Retype, Make as make_call, Tick, Gate, Kill, Grow, Flush}
 use Rattle.spk_nums.specs.declared.replies.Reply.{Reply}
 use Rattle.entry_words.specs.declared.entry.Entry.{Entry}
 use Rattle.entry_words.specs.declared.entry.Entry.TheVariants as entry
@@ -55,13 +55,13 @@ use Rattle.call_acts.specs.declared.makings.MakingAt.{MakingAt}
 use Rattle.call_acts.specs.declared.makings.MakingAt.TheVariants.{Load as make_load, Mark, Store, Fill as fill_at}
 use Rattle.call_acts.specs.Makings.{is_filling}
 use Rattle.call_acts.specs.declared.work.Act.{Act as ActType}
-use Rattle.call_acts.specs.declared.work.Act.TheVariants.{Fill as fill_act, Remove as remove_act, Retype as type_act, Make as make_act, Outside, Tick as tick_act, Kill as kill_act}
+use Rattle.call_acts.specs.declared.work.Act.TheVariants.{Fill as fill_act, Remove as remove_act, Retype as type_act, Make as make_act, Outside, Tick as tick_act, Flush as flush_act, Kill as kill_act}
 use Rattle.call_acts.specs.declared.work.Work.{Work}
 use Rattle.call_acts.specs.declared.work.Work.TheVariants.{Lookup, Read, Scan, Acquire, Act}
 use Rattle.call_steps.specs.declared.stages.Stage.{Stage}
 use Rattle.call_steps.specs.declared.stages.Stage.TheVariants.{Enter, Undecided, Decided, Leave}
 use Rattle.call_acts.specs.declared.work.Tail.{Tail}
-use Rattle.call_acts.specs.declared.work.Tail.TheVariants.{Nothing, Quiesce, Unmark, StoreDead}
+use Rattle.call_acts.specs.declared.work.Tail.TheVariants.{Nothing, Quiesce, Unmark, StoreDead, StoreFlush}
 use Rattle.call_steps.specs.declared.stages.ActiveCall.{ActiveCall}
 use Rattle.call_acts.specs.declared.work.WorkStep.{WorkStep}
 use Rattle.call_acts.specs.declared.work.WorkStep.TheVariants.{Goes, Acquires, Refuses as refuses_to, Answers, Changes as work_changes}
@@ -99,7 +99,7 @@ landed_turns a (Goes work) = refl
 landed_turns a (Acquires count work) = refl
 landed_turns a (refuses_to r tail) = (refl, refl)
 landed_turns a (Answers v drawn tail) = (refl, refl)
-landed_turns a (work_changes r change) = (refl, refl)
+landed_turns a (work_changes r change tail) = (refl, refl)
 
 named_turns : (own : Own) (a : ActiveCall) (met : Met) → Turns None (named_one own a met)
 named_turns own a (Finds k) = landed_turns (found_more a (pushed a.found k)) _
@@ -140,6 +140,7 @@ tail_turns : (a : ActiveCall) (r : Reply) (drawn : Option ℕ) (tail : Tail) (co
 tail_turns a r drawn (Quiesce close) counts found = refl
 tail_turns a r drawn (Unmark f word) counts found = refl
 tail_turns a r drawn (StoreDead life stamp) counts found = refl
+tail_turns a r drawn (StoreFlush core stamp) counts found = refl
 tail_turns a r drawn Nothing [] found = refl
 tail_turns a r drawn Nothing (x ∷ xs) found = refl
 
@@ -158,14 +159,14 @@ NoAnswer (Goes work) = Unit {0}
 NoAnswer (Acquires count work) = Unit {0}
 NoAnswer (refuses_to r tail) = Unit {0}
 NoAnswer (Answers v drawn tail) = ⊥
-NoAnswer (work_changes r change) = IsRefusal r
+NoAnswer (work_changes r change tail) = IsRefusal r
 
 landed_refuses : (a : ActiveCall) (step : WorkStep) → NoAnswer step → Refuses (landed a step)
 landed_refuses a (Goes work) none = tt
 landed_refuses a (Acquires count work) none = tt
 landed_refuses a (refuses_to r tail) none = refusal_refuses r
 landed_refuses a (Answers v drawn tail) none = absurd none
-landed_refuses a (work_changes r change) none = none
+landed_refuses a (work_changes r change tail) none = none
 
 under_no : (within : Bool) (top n : ℕ) → NoAnswer (looks_under within top n)
 under_no true top n = tt
@@ -187,6 +188,7 @@ starts_no core (remove_act close cap) = tt
 starts_no core (type_act typing) = tt
 starts_no core (make_act m) = tt
 starts_no core (tick_act charge) = tt
+starts_no core (flush_act by) = tt
 starts_no core (kill_act m) = tt
 
 scans_no : (core : ℕ) (o : Option Quiet) (act : ActType) → NoAnswer (scans core o act)
@@ -475,6 +477,7 @@ act_unready (type_act typing) found not = typing_no typing typing.at found not
 act_unready (make_act m) found not = making_no m m.at found not
 act_unready (Outside node entry word) found not = tt
 act_unready (tick_act charge) found not = charge_no charge found not
+act_unready (flush_act core) found not = absurd (cc)
 act_unready (kill_act m) found not = killing_no m m.at found not
 
 -- a step of a scan answers nothing
@@ -545,14 +548,14 @@ IsOver (Goes work) = ⊥
 IsOver (Acquires count work) = ⊥
 IsOver (refuses_to r tail) = Unit {0}
 IsOver (Answers v drawn tail) = Unit {0}
-IsOver (work_changes r change) = Unit {0}
+IsOver (work_changes r change tail) = Unit {0}
 
 landed_decides : (a : ActiveCall) (step : WorkStep) → IsOver step → IsDecision (landed a step)
 landed_decides a (Goes work) over = absurd over
 landed_decides a (Acquires count work) over = absurd over
 landed_decides a (refuses_to r tail) over = tt
 landed_decides a (Answers v drawn tail) over = tt
-landed_decides a (work_changes r change) over = tt
+landed_decides a (work_changes r change tail) over = tt
 
 fill_decides : (a : ActiveCall) (equal : Bool) → IsDecision (landed a (filled_if equal))
 fill_decides a true = tt
@@ -603,6 +606,7 @@ act_decides a (type_act typing) found ready = typing_decides a typing typing.at 
 act_decides a (make_act m) found ready = making_decides a m m.at found ready
 act_decides a (Outside node entry word) found ready = absurd (cc)
 act_decides a (tick_act charge) found ready = charge_decides a charge found ready
+act_decides a (flush_act core) found ready = tt
 act_decides a (kill_act m) found ready = killing_decides a m m.at found ready
 
 begun_over : (own : Own) (call : Call) (k : Capability) → decides_at_name (plan_for call).decides ≡ true
@@ -623,6 +627,7 @@ begun_over own (make_call make.Pleaf r f t b) k is = absurd (cc)
 begun_over own (make_call (make.Thread comp) r f t b) k is = absurd (cc)
 begun_over own (make_call (make.Tcap sched quality) r f t b) k is = absurd (cc)
 begun_over own (make_call (make.Comp table pages live) r f t b) k is = absurd (cc)
+begun_over own Flush k is = absurd (cc)
 begun_over own (Tick n) k is = absurd (cc)
 begun_over own (Gate c t b) k is = absurd (cc)
 begun_over own (Kill c) k is = absurd (cc)

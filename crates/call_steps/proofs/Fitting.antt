@@ -6,7 +6,7 @@ use Rattle.stage_pins.proofs.PinLemmas.{after_fits}
 use Rattle.std.proofs.Common.{◌≡◌, ℕ, suc, ℤ, ◌≢◌, nat_lt, if◌then◌else◌, ◌+◌, ◌*◌, ◌-◌, ◌++◌, slice_get, ◌%◌, ◌<◌, ◌≤◌, Bool, true, false, ◌==◌, List, [], ◌∷◌, length, length-append, lt-ltb, Option, Some, None, IfSome, refl, sym, ◌∙◌, ap, subst, arith, negsuc}
 use Rattle.std.proofs.lemmas.Bool.{leb-false, ltb-true, ltb-false, eqb-true, eqb-false}
 use Rattle.spk_nums.specs.declared.replies.Value.TheVariants.{Nothing as nothing, Amount}
-use Rattle.stage_quiet.specs.Clocks.{drawn_stamp}
+use Rattle.stage_quiet.specs.Clocks.{drawn_stamp, stamp_of_clock}
 use Rattle.stage_quiet.specs.declared.close.Close.{Close}
 use Rattle.stage_quiet.specs.declared.close.Close.TheVariants.{AtCompare as close_compare, AtDraw, AtStore}
 use Rattle.stage_quiet.specs.declared.quiet.Quiet.{Quiet}
@@ -55,7 +55,7 @@ use Rattle.call_acts.specs.declared.refusals.Refusal.{Refusal}
 use Rattle.call_acts.specs.declared.refusals.Refusal.TheVariants as refusal
 use Rattle.call_acts.specs.declared.own.Own.{Own}
 use Rattle.call_acts.specs.declared.own.OwnChange.{OwnChange}
-use Rattle.call_acts.specs.declared.own.OwnChange.TheVariants.{Ticks}
+use Rattle.call_acts.specs.declared.own.OwnChange.TheVariants.{Ticks, Empties}
 use Rattle.call_acts.specs.Ticks.{took_charge, took_tick, charge_left}
 use Rattle.stage_tcap.specs.declared.charge.Charge.{Charge}
 use Rattle.stage_tcap.specs.declared.charge.Charge.TheVariants.{AtLoad as charge_load, AtCompare as charge_compare}
@@ -86,9 +86,9 @@ use Rattle.call_steps.specs.Tails.{tail_left, took_tail, tail_counts}
 use Rattle.call_steps.specs.Fits.{TailFits, ScanFits, WorkFits, StageFits, IsWanted, FoundFits, HasRoom, CountsWait, CountsAt, looks_later, after_reading, acts_later, names_left, steps_later, left_of_look, left_of_scan, left_of_pin, work_left, left_at, left_of, IsActive, IsOwn, left_of_cores}
 use Rattle.call_steps.proofs.StepsFit.{StepFits, starts_fit, few_dues, object_count, work_next, counts_next, first_named, act_fits}
 use Rattle.call_acts.specs.declared.work.Act.{Act as ActType}
-use Rattle.call_acts.specs.declared.work.Act.TheVariants.{Fill as fill_act, Remove as remove_act, Retype as type_act, Make as make_act, Outside, Tick as tick_act, Kill as kill_act}
+use Rattle.call_acts.specs.declared.work.Act.TheVariants.{Fill as fill_act, Remove as remove_act, Retype as type_act, Make as make_act, Outside, Tick as tick_act, Flush as flush_act, Kill as kill_act}
 use Rattle.call_acts.specs.declared.work.Tail.{Tail}
-use Rattle.call_acts.specs.declared.work.Tail.TheVariants.{Nothing, Quiesce, Unmark, StoreDead}
+use Rattle.call_acts.specs.declared.work.Tail.TheVariants.{Nothing, Quiesce, Unmark, StoreDead, StoreFlush}
 use Rattle.call_steps.specs.declared.stages.Stage.{Stage}
 use Rattle.call_steps.specs.declared.stages.Stage.TheVariants.{Enter, Undecided, Decided, Leave}
 use Rattle.call_steps.specs.declared.stages.ActiveCall.{ActiveCall}
@@ -237,9 +237,10 @@ module _ (own : Own) (a : ActiveCall) (facts : Facts own a) (room : own.made < o
 
   -- the call is decided with nothing to store
   act_changed : (left : ℕ) (r : Reply) (change : OwnChange) → 2 + length a.counts < left
-      → TookFits own left a (landed a (work_changes r change))
+      → TookFits own left a (landed a (work_changes r change Nothing))
   act_changed left r change some =
-      landed_fits own a a refl refl refl facts.found facts.acquired room 0 left (work_changes r change) tt (omega arith)
+      landed_fits own a a refl refl refl facts.found facts.acquired room 0 left (work_changes r change Nothing) (omega arith, tt)
+      (omega arith)
 
   -- where the load of a head with this mark leads
   marked_fits : (tcap ticks budget version : ℕ) (mark : Option ℕ) → tcap < own.layout.frames → version < 2 ^ 28 → length a.counts ≡ 0
@@ -277,6 +278,9 @@ module _ (own : Own) (a : ActiveCall) (facts : Facts own a) (room : own.made < o
   done_fits (make_act m) found fits waits = make_fits m m.at found fits waits
   done_fits (Outside node entry word) found fits waits = act_refused _ refusal.OutOfRange (omega arith)
   done_fits (tick_act charge) found fits waits = tick_fits charge found fits waits
+  done_fits (flush_act core) found fits waits =
+      landed_fits own a a refl refl refl facts.found facts.acquired room 1 _
+      (work_changes (reply.Ok nothing) Empties (StoreFlush core (stamp_of_clock found))) (omega arith, fits) (omega arith)
   done_fits (kill_act m) found fits waits = kill_fits own a facts room m m.at found fits waits
 
   undo_fits : (act : ActType) → ActFits own.layout act → TailFits own.layout (undo act) × (tail_left (undo act) ≤ act_left act)
@@ -292,6 +296,7 @@ module _ (own : Own) (a : ActiveCall) (facts : Facts own a) (room : own.made < o
       by (fill_at word) = (fits.frame, omega arith)
   undo_fits (Outside node entry word) fits = (tt, omega arith)
   undo_fits (tick_act charge) fits = (tt, omega arith)
+  undo_fits (flush_act core) fits = (tt, omega arith)
   undo_fits (kill_act m) fits = (tt, omega arith)
 
   -- a scan goes on to the next core, to the flush words, or to the act
@@ -758,6 +763,19 @@ tail_fits own a r drawn (Unmark f word) counts found facts is = record {
   fewer = let same : length a.counts ≡ length counts = ap length is in omega arith;
 }
 tail_fits own a r drawn (StoreDead life stamp) counts found facts is = record {
+  call = refl;
+  plan = refl;
+  found = facts.found;
+  first = tt;
+  stage = tt;
+  acquired = subst (AllFit own.layout) is facts.acquired;
+  counts = tt;
+  room = tt;
+  counted = facts.own_fits.made;
+  steps = refl;
+  fewer = let same : length a.counts ≡ length counts = ap length is in omega arith;
+}
+tail_fits own a r drawn (StoreFlush core stamp) counts found facts is = record {
   call = refl;
   plan = refl;
   found = facts.found;

@@ -112,13 +112,14 @@ module _ (own : Own) (old a : ActiveCall) (call : a.call ≡ old.call) (plan : a
     steps = ap (λ n. n + 1) steps;
     fewer = let few = fits.0 in omega arith;
   }
-  landed_fits most left (work_changes r change) fits some =
+  landed_fits most left (work_changes r change tail) fits some =
+      let few = fits.0 in
       let one : calls_counted r ≤ 1 = counted_most r in record {
         call = call;
         plan = plan;
         found = found;
         first = tt;
-        stage = tt;
+        stage = fits.1;
         acquired = acquired;
         counts = tt;
         room = tt;

@@ -11,7 +11,7 @@ use Rattle.spk_nums.specs.declared.kinds.Kind.{Kind}
 use Rattle.spk_nums.specs.declared.kinds.Kind.TheVariants.{Range, Table, Pages, Comp as KindComp}
 use Rattle.spk_nums.specs.declared.kinds.Kind.TheVariants as kind
 use Rattle.spk_nums.specs.declared.calls.Call.{Call}
-use Rattle.spk_nums.specs.declared.calls.Call.TheVariants.{Look as look_call, Copy, Remove, Shrink, Unmap, Retype, Make as make_call, Tick, Gate, Kill, Grow}
+use Rattle.spk_nums.specs.declared.calls.Call.TheVariants.{Look as look_call, Copy, Remove, Shrink, Unmap, Retype, Make as make_call, Tick, Gate, Kill, Grow, Flush}
 use Rattle.entry_words.specs.declared.entry.Entry.{Entry}
 use Rattle.entry_words.specs.declared.entry.Entry.TheVariants as entry
 use Rattle.word_map.specs.Places.{Shape}
@@ -48,7 +48,7 @@ use Rattle.call_acts.specs.declared.kills.KillingAt.{KillingAt}
 use Rattle.call_acts.specs.declared.kills.KillingAt.TheVariants.{LoadComp, LoadLive, Close as kill_close, Draw as kill_draw}
 use Rattle.call_acts.specs.declared.own.Own.{Own}
 use Rattle.call_acts.specs.declared.work.Act.{Act as ActType}
-use Rattle.call_acts.specs.declared.work.Act.TheVariants.{Fill as fill_act, Remove as remove_act, Retype as type_act, Make as make_act, Outside, Tick as tick_act, Kill as kill_act}
+use Rattle.call_acts.specs.declared.work.Act.TheVariants.{Fill as fill_act, Remove as remove_act, Retype as type_act, Make as make_act, Outside, Tick as tick_act, Kill as kill_act, Flush as flush_act}
 use Rattle.call_acts.specs.declared.work.Work.TheVariants.{Lookup}
 use Rattle.call_acts.specs.declared.work.WorkStep.{WorkStep}
 use Rattle.call_acts.specs.declared.work.WorkStep.TheVariants.{Goes, Acquires, Refuses, Answers, Changes}
@@ -66,7 +66,7 @@ StepFits s counts later most (Goes work) =
 StepFits s counts later most (Acquires count work) = ⊥
 StepFits s counts later most (Refuses r tail) = (tail_left tail ≤ most) × TailFits s tail
 StepFits s counts later most (Answers v drawn tail) = (tail_left tail ≤ most) × TailFits s tail
-StepFits s counts later most (Changes r change) = Unit {0}
+StepFits s counts later most (Changes r change tail) = (tail_left tail ≤ most) × TailFits s tail
 
 -- a capability has one count due at most
 pub cap_one : (kind : Kind) (frame arg : ℕ) (change : ℤ) → length (cap_dues (record { kind = kind; frame = frame; arg = arg }) change) ≤ 1
@@ -118,6 +118,7 @@ few_dues (type_act typing) = omega arith
 few_dues (make_act m) = made_few m.object m.frame m.at
 few_dues (Outside node entry word) = omega arith
 few_dues (tick_act charge) = omega arith
+few_dues (flush_act core) = omega arith
 few_dues (kill_act m) = let one = killing_one m.comp m.at in omega (arith, one)
 
 -- the counts that an act changes are of frames of the machine
@@ -172,6 +173,8 @@ dues_fit s (Outside node entry word) zero fits = tt
 dues_fit s (Outside node entry word) (suc n) fits = tt
 dues_fit s (tick_act charge) zero fits = tt
 dues_fit s (tick_act charge) (suc n) fits = tt
+dues_fit s (flush_act core) zero fits = tt
+dues_fit s (flush_act core) (suc n) fits = tt
 dues_fit s (kill_act m) n fits = killing_fit s m.comp m.at n fits.comp
 
 -- what a core does for an act of whose counts it has acquired so many
@@ -294,6 +297,7 @@ starts_fit s later most core (remove_act close cap) here fits some = first_fits 
 starts_fit s later most core (type_act typing) here fits some = first_fits s later most core (type_act typing) here fits some
 starts_fit s later most core (make_act m) here fits some = first_fits s later most core (make_act m) here fits some
 starts_fit s later most core (tick_act charge) here fits some = first_fits s later most core (tick_act charge) here fits some
+starts_fit s later most core (flush_act by) here fits some = first_fits s later most core (flush_act by) here fits some
 starts_fit s later most core (kill_act m) here fits some = first_fits s later most core (kill_act m) here fits some
 
 pub scans_fit : (s : Shape) (later most core : ℕ) (act : ActType) (page : Bool) (o : Option Quiet) → core < s.cores → ActFits s act
@@ -535,6 +539,7 @@ act_fits own later (Retype r f k) found read target h names objects limits fits 
 act_fits own later (make_call what range frame table slot) found read target h names objects limits fits =
     made_at own later (make_steps what own.layout.cores) (object_made what found) (at_place found First) frame target h fits
     (made_fits own.layout what range frame table slot found own.layout.cores limits objects)
+act_fits own later Flush found target h names objects limits fits = (h.core, omega arith, refl)
 act_fits own later (Tick n) found read target h names objects limits fits = (h.tcap, omega arith, refl)
 act_fits own later (Gate c t b) found read target h names objects limits fits =
     filled own later (3 + own.layout.cores) _ false target h (gate_names own.layout.frames (at_place found First) read objects) fits (omega arith)

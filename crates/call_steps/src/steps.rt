@@ -628,21 +628,25 @@ impl ActiveCall {
             WorkStep::Answers { value, drawn, tail } => {
                 self.decide(&Reply::Ok(*value), *drawn, tail)
             }
-            WorkStep::Changes { reply, change } => self.decide_changing(reply, change),
+            WorkStep::Changes {
+                reply,
+                change,
+                tail,
+            } => self.decide_changing(reply, change, tail),
         }
     }
 
-    // The call is decided with this reply, which changes this of what its core has of its own.
+    // The call is decided with this reply and has this to store, and changes this of what its core has of its own.
     #[inline(never)]
-    fn decide_changing(&mut self, reply: &Reply, change: &OwnChange) -> Told
+    fn decide_changing(&mut self, reply: &Reply, change: &OwnChange, tail: &Tail) -> Told
         requires { self.old.steps < 1000 }
-        ensures told { result ≡ told (Changes reply.now change.now (went self.old (Decided reply.now None Nothing))) }
-        ensures after { self.new ≡ went self.old (Decided reply.now None Nothing) }
+        ensures told { result ≡ told (Changes reply.now change.now (went self.old (Decided reply.now None tail.now))) }
+        ensures after { self.new ≡ went self.old (Decided reply.now None tail.now) }
     {
         self.go_on(Stage::Decided {
             reply: *reply,
             drawn: None,
-            tail: Tail::Nothing,
+            tail: *tail,
         });
         Told::Changed {
             reply: *reply,
@@ -676,5 +680,4 @@ impl ActiveCall {
     }
 }
 
-ghost use Rattle.call_acts.specs.declared.work.Tail.TheVariants.{Nothing};
 ghost use Rattle.call_steps.specs.declared.stages.Stage.TheVariants.{Decided};

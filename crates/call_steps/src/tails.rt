@@ -9,7 +9,7 @@ ghost use Rattle.stage_pins.specs.Held.{AllFit};
 ghost use Rattle.call_steps.specs.Fits.{TailFits};
 
 use crate::stages::Stage;
-use call_acts::{Tail, dead_op};
+use call_acts::{Tail, dead_op, flushed_op};
 use spk_nums::{Reply, Stamp, WordOp};
 use stage_pins::AcquiredCounts;
 use word_map::Layout;
@@ -36,6 +36,7 @@ pub fn tail_op(
             word: *word,
         },
         Tail::StoreDead { life, stamp } => dead_op(life, *stamp, layout),
+        Tail::StoreFlush { core, stamp } => flushed_op(*core, *stamp, layout),
         Tail::Nothing => match counts.first() {
             None => WordOp::Load {
                 at: layout.clock_at(),
@@ -73,7 +74,8 @@ pub fn took_tail(
     match tail {
         Tail::Quiesce { close: _ }
         | Tail::Unmark { frame: _, word: _ }
-        | Tail::StoreDead { life: _, stamp: _ } => Stage::Decided {
+        | Tail::StoreDead { life: _, stamp: _ }
+        | Tail::StoreFlush { core: _, stamp: _ } => Stage::Decided {
             reply,
             drawn,
             tail: Tail::Nothing,

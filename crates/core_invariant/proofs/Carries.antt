@@ -53,7 +53,7 @@ use Rattle.stage_quiet.specs.declared.quiet.Quiet.TheVariants.{AtCore, AtFlush}
 use Rattle.stage_pins.specs.declared.pin.Pin.{Pin}
 use Rattle.stage_pins.specs.declared.pin.Pin.TheVariants.{AtLoad, AtCompare as pin_compare}
 use Rattle.call_acts.specs.declared.work.Act.{Act as ActOf}
-use Rattle.call_acts.specs.declared.work.Act.TheVariants.{Fill as fill_act, Remove as remove_act, Retype as type_act, Make as make_act, Outside, Tick as tick_act, Kill as kill_act}
+use Rattle.call_acts.specs.declared.work.Act.TheVariants.{Fill as fill_act, Remove as remove_act, Retype as type_act, Make as make_act, Outside, Tick as tick_act, Flush as flush_act, Kill as kill_act}
 use Rattle.call_acts.specs.declared.work.Work.{Work}
 use Rattle.call_acts.specs.declared.work.Work.TheVariants.{Lookup, Read, Scan, Acquire, Act}
 use Rattle.call_acts.specs.Acts.{reads_of}
@@ -94,6 +94,7 @@ stores_in (type_act typing) f = false
 stores_in (make_act m) f = is_marked m.at && f == m.frame
 stores_in (Outside node entry word) f = false
 stores_in (tick_act charge) f = false
+stores_in (flush_act by) f = false
 stores_in (kill_act m) f = false
 
 abbrev pub stores_of : Work → ℕ → Bool
@@ -355,6 +356,7 @@ module _ (setup : Setting) (setting : IsSetting setup) (t : Trace) (e : Step) (l
   act_on of plan caps upto (Outside node entry word) same has =
       record { spot = spot_on plan caps upto node entry word (same.entries node entry) has.spot; outside = has.outside }
   act_on of plan caps upto (tick_act charge) same has = tick_on of charge same.entries has
+  act_on of plan caps upto (flush_act by) same has = has
   act_on of plan caps upto (kill_act m) same has = record {
     kills = has.kills;
     core = has.core;

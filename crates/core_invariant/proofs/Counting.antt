@@ -18,11 +18,12 @@ use Rattle.stage_pins.specs.declared.held.Acquired.{Acquired}
 use Rattle.call_steps.specs.declared.stages.ActiveCall.{ActiveCall}
 use Rattle.call_steps.specs.View.{Core}
 use Rattle.core_invariant.specs.Holding.{count_of, committed, holds_counts, AreApart, settled_by, settled}
-use Rattle.core_invariant.specs.Knows.{phase_at, Knows, IsCount, CoreIs}
-use Rattle.core_invariant.specs.Stands.{holds, held_by, Stands}
+use Rattle.core_invariant.specs.Knows.{phase_at, Knows, IsCount, CoreIs, flushing_in}
+use Rattle.core_invariant.specs.Stands.{holds_in, holds, held_by, Stands}
 use Rattle.core_invariant.proofs.WordFrames.{marks_own, hold_marks, hold_words, settled_stays}
 use Rattle.core_invariant.proofs.Sums.{sums_stay}
 use Rattle.core_invariant.proofs.Calm.{calm_same, calm_words, none_stored, IsPlain, plain_time, plain_exit, plain_flushed}
+use Rattle.core_invariant.proofs.Flushing.{still_flushed}
 use Rattle.core_invariant.proofs.Good.{IsGood, SparesBlanks}
 use Rattle.core_invariant.proofs.Loads.{Lands, IsOfCall, core_at, core_is, call_is, in_call, inner, inner_within, inner_disciplined, inner_near}
 
@@ -100,7 +101,10 @@ module _ (setup : Setting) (setting : IsSetting setup) (cores : ℕ → Core) (t
           limit = is.limit;
           works = is.works;
           exit = is.exit ∙ sym (plain_exit t e refl c);
-          flushed = plain_flushed setup t e plain c is.flushed;
+          flushed = λ done. plain_flushed setup t e plain c (is.flushed (ap flushing_in active ∙ still_flushed setup t c
+              (cores c).own.table a next.stage next.counts (call_is setup setting cores t stands c here a active).knows
+              ((elsewhere (FlushAt c) (λ h. false≢true (sym (flushes c) ∙ same_word-same (FlushAt c) (word_of move) h))).1
+              ∙ ap (λ o. (holds_in o).stands (FlushAt c)) active) done));
           active = record {
             phase = phase-own c e t refl ∙ (call_is setup setting cores t stands c here a active).phase ∙ same_phase;
             steps = steps_in_call-own c e t refl ∙ ap (λ (n : ℕ). n + 1) (call_is setup setting cores t stands c here a active).steps ∙

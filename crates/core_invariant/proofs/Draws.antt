@@ -17,11 +17,12 @@ use Rattle.call_steps.specs.declared.stages.Stage.{Stage}
 use Rattle.call_steps.specs.declared.stages.ActiveCall.{ActiveCall}
 use Rattle.call_steps.specs.View.{Core}
 use Rattle.core_invariant.specs.Words.{WordIs}
-use Rattle.core_invariant.specs.Knows.{phase_at, Knows, WorksIn, CoreIs}
+use Rattle.core_invariant.specs.Knows.{phase_at, Knows, WorksIn, CoreIs, flushing_in}
 use Rattle.core_invariant.specs.Stands.{holds, held_by, times_of, counted_in, SumIs, Stands}
 use Rattle.core_invariant.proofs.WordFrames.{ReadsAlike, StaysSaid, marks_own, carry_marks, carry_words}
 use Rattle.core_invariant.proofs.Calm.{plain_exit}
 use Rattle.core_invariant.proofs.Carries.{counts_on}
+use Rattle.core_invariant.proofs.Flushing.{open_flushed}
 use Rattle.core_invariant.proofs.Good.{IsGood, spares_other}
 use Rattle.core_invariant.proofs.Writes.{clock_small}
 use Rattle.core_invariant.proofs.Loads.{Lands, core_at, next_at, core_is, call_is, in_call, inner, inner_within, inner_disciplined, inner_near}
@@ -104,7 +105,7 @@ module _ (setup : Setting) (setting : IsSetting setup) (cores : ℕ → Core) (t
           limit = is.limit;
           works = works;
           exit = is.exit ∙ sym (plain_exit t e refl c);
-          flushed = flush_stored-own c e t refl ∙ is.flushed ∙ sym
+          flushed = λ done. flush_stored-own c e t refl ∙ is.flushed (ap flushing_in active ∙ open_flushed a.call a.stage opens) ∙ sym
               (flush_of-own c e t refl ∙ ap (λ b. if b then clock setup t else flush_of t c) no_flush);
           active = record {
             phase = phase-own c e t refl ∙ ap (after_decide (Some r))

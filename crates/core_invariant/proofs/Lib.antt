@@ -7,6 +7,7 @@ pub mod Calm
 pub mod CountSums
 pub mod Sums
 pub mod Good
+pub mod Flushing
 pub mod Loads
 pub mod Writes
 pub mod Counting
@@ -14,3 +15,4 @@ pub mod Draws
 pub mod Places
 pub mod Refusals
 pub mod OwnChanges
+pub mod FlushWords

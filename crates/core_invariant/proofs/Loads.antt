@@ -34,13 +34,14 @@ use Rattle.call_steps.specs.declared.stages.Stage.TheVariants.{Enter, Undecided,
 use Rattle.call_steps.specs.declared.stages.ActiveCall.{ActiveCall}
 use Rattle.call_steps.specs.View.{Core}
 use Rattle.call_steps.specs.Fits.{IsCore, IsActive, CallFits, left_at}
-use Rattle.core_invariant.specs.Knows.{phase_at, Knows, IsIn, CallIs, WorksIn, CoreIs, KnowsTail}
+use Rattle.core_invariant.specs.Knows.{phase_at, Knows, IsIn, CallIs, WorksIn, CoreIs, KnowsTail, is_flushing, flushing_in}
 use Rattle.core_invariant.specs.Stands.{done_by, holds_at, holds_in, holds, held_by, Stands}
 use Rattle.core_invariant.proofs.Markers.{phase_in, phase_call}
 use Rattle.core_invariant.proofs.WordFrames.{marks_own, settled_on, load_keeps, load_marks, load_words}
 use Rattle.core_invariant.proofs.Sums.{sums_stay}
 use Rattle.core_invariant.proofs.Carries.{counts_on}
 use Rattle.core_invariant.specs.Holding.{holds_counts}
+use Rattle.core_invariant.proofs.Flushing.{still_flushed, open_flushed}
 use Rattle.core_invariant.proofs.Good.{IsGood, spares_kept}
 use Rattle.core_invariant.proofs.Calm.{IsCalm, calm_same, calm_counted, calm_own, calm_words, counted_rises, stored_by, IsPlain, plain_time, plain_exit, BeginsNone, plain_begins, none_flushed}
 
@@ -150,19 +151,20 @@ module _ (setup : Setting) (setting : IsSetting setup) (cores : ℕ → Core) (t
         (ap (λ (m : ℕ). record (cores c).own { made = m }) counts) core_is.works
 
     pub inner_with : returns ≡ None → BeginsNone setup t inner → (made : ℕ) (found : List Capability) (read : Option ℕ) (stage : Stage)
+        → (is_flushing stage ≡ false → is_flushing a.stage ≡ false)
         → IsCore (core_at (cores c) made (next_with a found read stage))
         → WorksIn (record (cores c).own { made = made }) (state_after setup (inner ∷ t)) c
         → after_decide decides (phase_at a.call a.stage) ≡ phase_at a.call stage
         → Knows setup (inner ∷ t) c (cores c).own.table (next_with a found read stage)
         → CoreIs setup (core_at (cores c) made (next_with a found read stage)) (inner ∷ t) c
-    inner_with none plain made found read stage fits works at knows = record {
+    inner_with none plain made found read stage was fits works at knows = record {
       fits = fits;
       number = core_is.number;
       shape = core_is.shape;
       limit = core_is.limit;
       works = works;
       exit = core_is.exit ∙ sym (plain_exit t inner none c);
-      flushed = none_flushed setup t inner plain c core_is.flushed;
+      flushed = λ done. none_flushed setup t inner plain c (core_is.flushed (ap flushing_in active ∙ was done));
       active = record {
         phase = phase-own c inner t refl ∙ ap (λ o. after_return o (after_decide decides (phase t c))) none ∙ ap (after_decide decides)
             call_is.phase ∙ at;
@@ -242,7 +244,9 @@ module _ (setup : Setting) (setting : IsSetting setup) (cores : ℕ → Core) (t
         draws = (let d = stands.draws in let b = plain.same in omega arith);
         time = plain_time setup t e plain;
         leaves = tt;
-        own = inner_with move None None refl (plain_begins setup t e plain) (cores c).own.made found read stage lands.fits core_is.works at
+        own = inner_with move None None refl (plain_begins setup t e plain) (cores c).own.made found read stage
+            (still_flushed setup t c (cores c).own.table a stage a.counts call_is.knows (ap (λ h. h.stands (FlushAt c)) same))
+            lands.fits core_is.works at
             (knows (carries_own setup setting t stands.legal e follows (plain_time setup t e plain) stands.graces refl refl refl));
       }
 
@@ -314,7 +318,7 @@ module _ (setup : Setting) (setting : IsSetting setup) (cores : ℕ → Core) (t
         time = plain_time setup t e plain;
         leaves = tt;
         own = inner_own move (Some r) None refl (plain_begins setup t e plain) ((cores c).own.made + calls_counted r) found
-            (Decided r None tail) lands.fits
+            (Decided r None tail) (λ done. open_flushed a.call a.stage opens) lands.fits
             (inner_works move (Some r) None ((cores c).own.made + calls_counted r) calm (counts now))
             (ap (after_decide (Some r)) opens) knows;
       }

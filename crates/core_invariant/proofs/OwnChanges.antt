@@ -1,6 +1,6 @@
 -- A decision that changes what its core has of its own, beside the calls that it has counted: of whatever reply, and of whatever it makes
 -- of its word. What it leaves of marks, words and sums is its own to show.
-use Rattle.std.proofs.Common.{◌≡◌, ℕ, ◌+◌, ◌^◌, ◌<◌, ◌≤◌, ◌∷◌, Some, None, arith, refl, sym, ◌∙◌, ap, subst}
+use Rattle.std.proofs.Common.{◌≡◌, ℕ, ◌+◌, ◌^◌, ◌<◌, ◌≤◌, false, ◌∷◌, Some, None, arith, refl, sym, ◌∙◌, ap, subst}
 use Rattle.spk_nums.specs.Setting.{Setting, IsSetting}
 use Rattle.spk_nums.specs.declared.replies.Reply.{Reply}
 use Rattle.word_map.specs.Word.{Word}
@@ -10,7 +10,9 @@ use Rattle.kernel_rules.specs.Alone.{alone}
 use Rattle.kernel_history.specs.Trace.{Step, Trace, Open, Decided, phase, after_decide, state_after, last_left}
 use Rattle.kernel_history.specs.Alone.{IsAlone, IsFirst}
 use Rattle.kernel_history.specs.Discipline.{MarksOwn, KeepsMarked}
+use Rattle.kernel_history.specs.Graces.{KeepsTime}
 use Rattle.kernel_history.specs.Legal.{MayDecide}
+use Rattle.kernel_history.specs.Stamps.{clock, flush_of, flush_stored}
 use Rattle.kernel_history.proofs.Steps.{phase-own, steps_in_call-own}
 use Rattle.call_acts.specs.declared.own.Own.{Own}
 use Rattle.call_steps.specs.declared.stages.Stage.{Stage}
@@ -18,10 +20,11 @@ use Rattle.call_steps.specs.declared.stages.ActiveCall.{ActiveCall}
 use Rattle.call_steps.specs.View.{Core}
 use Rattle.core_invariant.specs.Holding.{MarkIs, settled}
 use Rattle.core_invariant.specs.Words.{WordIs}
-use Rattle.core_invariant.specs.Knows.{phase_at, Knows, WorksIn, CoreIs}
+use Rattle.core_invariant.specs.Knows.{phase_at, Knows, WorksIn, CoreIs, is_flushing, flushing_in}
 use Rattle.core_invariant.specs.Stands.{held_by, times_of, counted_in, SumIs, Stands}
 use Rattle.core_invariant.proofs.Calm.{BeginsNone, none_time, none_flushed, plain_exit}
 use Rattle.core_invariant.proofs.Carries.{counts_on}
+use Rattle.core_invariant.proofs.Flushing.{open_flushed}
 use Rattle.core_invariant.proofs.Good.{IsGood, SparesBlanks}
 use Rattle.core_invariant.proofs.Loads.{Lands, IsOfCall, next_at, core_is, call_is, in_call, inner, inner_within, inner_disciplined, inner_near}
 
@@ -42,10 +45,13 @@ module _ (setup : Setting) (setting : IsSetting setup) (cores : ℕ → Core) (t
   abbrev pub changed_core : Core
   changed_core = record { own = own; active = Some (next_at a a.found stage) }
 
-  pub decides_changing : left_of move (last_left setup t (word_of move)) < 2 ^ 64 → IsOfCall setup t c a.call move
+  -- it keeps the clock, and its last flush is stored, or still to be
+  pub decides_owning : left_of move (last_left setup t (word_of move)) < 2 ^ 64 → IsOfCall setup t c a.call move
       → Lands setup changed_core (word_of move)
       → phase_at a.call a.stage ≡ Open a.call → phase_at a.call stage ≡ Decided a.call r
-      → MarksOwn setup t changing → KeepsMarked setup t changing → BeginsNone setup t changing → SparesBlanks setup t changing
+      → MarksOwn setup t changing → KeepsMarked setup t changing → KeepsTime setup t changing
+      → clock setup (changing ∷ t) ≤ clock setup t
+      → (is_flushing stage ≡ false → flush_stored (changing ∷ t) c ≡ flush_of (changing ∷ t) c) → SparesBlanks setup t changing
       → counted_in setup (state_after setup t) ≤ counted_in setup (state_after setup (changing ∷ t))
       → WorksIn own (state_after setup (changing ∷ t)) c
       → ((w : Word) (d : ℕ) → MarkIs setup (held_by (put cores c changed_core)) (changing ∷ t) w d)
@@ -56,7 +62,7 @@ module _ (setup : Setting) (setting : IsSetting setup) (cores : ℕ → Core) (t
       → (IsAlone t changing → r ≡ alone (state_after setup t) c a.call)
       → Knows setup (changing ∷ t) c own.table (next_at a a.found stage)
       → IsGood setup cores t changing changed_core
-  decides_changing small of_call lands opens closes puts keeps none blanks rises works marks words sums may first knows =
+  decides_owning small of_call lands opens closes puts keeps time same_clock flushed blanks rises works marks words sums may first knows =
       let now : CoreIs setup (cores c) t c = core_is setup setting cores t stands c here a active in
       let in_flight = call_is setup setting cores t stands c here a active in
       record {
@@ -79,8 +85,8 @@ module _ (setup : Setting) (setting : IsSetting setup) (cores : ℕ → Core) (t
         marks = marks;
         words = words;
         sums = sums;
-        draws = (let d = stands.draws in let b = none.same in let g = rises in omega arith);
-        time = none_time setup t changing none;
+        draws = (let d = stands.draws in let b = same_clock in let g = rises in omega arith);
+        time = time;
         leaves = tt;
         own = record {
           fits = lands.fits;
@@ -89,7 +95,7 @@ module _ (setup : Setting) (setting : IsSetting setup) (cores : ℕ → Core) (t
           limit = same.limit ∙ now.limit;
           works = works;
           exit = same.exit ∙ now.exit ∙ sym (plain_exit t changing refl c);
-          flushed = none_flushed setup t changing none c now.flushed;
+          flushed = flushed;
           active = record {
             phase = phase-own c changing t refl ∙ ap (after_decide (Some r)) (in_flight.phase ∙ opens) ∙ sym closes;
             steps = steps_in_call-own c changing t refl ∙ ap (λ (n : ℕ). n + 1) in_flight.steps;
@@ -99,3 +105,23 @@ module _ (setup : Setting) (setting : IsSetting setup) (cores : ℕ → Core) (t
           };
         };
       }
+
+  -- no grace period begins, and nothing is flushed
+  pub decides_changing : left_of move (last_left setup t (word_of move)) < 2 ^ 64 → IsOfCall setup t c a.call move
+      → Lands setup changed_core (word_of move)
+      → phase_at a.call a.stage ≡ Open a.call → phase_at a.call stage ≡ Decided a.call r
+      → MarksOwn setup t changing → KeepsMarked setup t changing → BeginsNone setup t changing → SparesBlanks setup t changing
+      → counted_in setup (state_after setup t) ≤ counted_in setup (state_after setup (changing ∷ t))
+      → WorksIn own (state_after setup (changing ∷ t)) c
+      → ((w : Word) (d : ℕ) → MarkIs setup (held_by (put cores c changed_core)) (changing ∷ t) w d)
+      → ((w : Word) → WordIs (state_after setup (changing ∷ t)) (times_of setup (changing ∷ t)) w
+      (settled setup (held_by (put cores c changed_core)) (changing ∷ t) w))
+      → ((f : ℕ) → SumIs setup (held_by (put cores c changed_core)) (changing ∷ t) f)
+      → MayDecide setup t changing (Some r) (phase t c)
+      → (IsAlone t changing → r ≡ alone (state_after setup t) c a.call)
+      → Knows setup (changing ∷ t) c own.table (next_at a a.found stage)
+      → IsGood setup cores t changing changed_core
+  decides_changing small of_call lands opens closes puts keeps none =
+      decides_owning small of_call lands opens closes puts keeps (none_time setup t changing none) (let b = none.same in omega arith)
+      (λ done. none_flushed setup t changing none c ((core_is setup setting cores t stands c here a active).flushed
+      (ap flushing_in active ∙ open_flushed a.call a.stage opens)))

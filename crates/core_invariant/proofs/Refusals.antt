@@ -5,7 +5,7 @@ use Rattle.std.proofs.lemmas.Bool.{false≢true, lt-leb}
 use Rattle.supported_calls.specs.Built.{IsBuilt}
 use Rattle.spk_nums.specs.Setting.{Setting, IsSetting}
 use Rattle.spk_nums.specs.declared.calls.Call.{Call}
-use Rattle.spk_nums.specs.declared.calls.Call.TheVariants.{Look, Copy, Remove, Shrink, Unmap, Retype, Make, Tick, Gate, Kill, Grow}
+use Rattle.spk_nums.specs.declared.calls.Call.TheVariants.{Look, Copy, Remove, Shrink, Unmap, Retype, Make, Tick, Gate, Kill, Grow, Flush}
 use Rattle.spk_nums.specs.declared.replies.Reply.{Reply}
 use Rattle.spk_nums.specs.declared.replies.Reply.TheVariants as reply
 use Rattle.word_map.specs.Moves.{Move, word_of}
@@ -29,7 +29,7 @@ use Rattle.stage_look.specs.declared.look.Look.{Look as LookOf}
 use Rattle.stage_quiet.specs.declared.close.Close.TheVariants.{AtCompare, AtDraw, AtStore}
 use Rattle.stage_quiet.specs.declared.quiet.Quiet.TheVariants.{AtCore, AtFlush}
 use Rattle.call_acts.specs.declared.work.Act.{Act as ActOf}
-use Rattle.call_acts.specs.declared.work.Act.TheVariants.{Fill as fill_act, Remove as remove_act, Retype as type_act, Make as make_act, Outside, Tick as tick_act, Kill as kill_act}
+use Rattle.call_acts.specs.declared.work.Act.TheVariants.{Fill as fill_act, Remove as remove_act, Retype as type_act, Make as make_act, Outside, Tick as tick_act, Flush as flush_act, Kill as kill_act}
 use Rattle.call_acts.specs.declared.work.Work.{Work}
 use Rattle.call_acts.specs.declared.work.Work.TheVariants.{Lookup, Read, Scan, Acquire, Act}
 use Rattle.call_steps.specs.View.{Core}
@@ -72,6 +72,7 @@ built_owes s c (Shrink u i) built other = refl
 built_owes s c (Unmap p v) built other = refl
 built_owes s c (Retype r f k) built other = refl
 built_owes s c (Make what r f u b) built other = refl
+built_owes s c Flush built other = refl
 built_owes s c (Tick n) built other = absurd (other n refl)
 built_owes s c (Gate k u b) built other = refl
 built_owes s c (Kill k) built other = refl
@@ -85,6 +86,7 @@ ticks_in (type_act typing) = false
 ticks_in (make_act m) = false
 ticks_in (Outside node entry word) = false
 ticks_in (tick_act charge) = true
+ticks_in (flush_act by) = false
 ticks_in (kill_act m) = false
 
 abbrev pub ticks_work : Work → Bool
@@ -115,6 +117,10 @@ module _ (setup : Setting) (t : Trace) (c table n : ℕ) where
   act_ticks plan ks upto (make_act m) has is = has.makes
   act_ticks plan ks upto (Outside node entry word) has is = has.outside
   act_ticks plan ks upto (tick_act charge) has is = false≢true (sym is)
+  act_ticks plan ks upto (flush_act by) has is = no_flush has.call_is
+    where
+      no_flush : Tick n ≡ Flush → ⊥
+      no_flush h = cc
   act_ticks plan ks upto (kill_act m) has is = has.kills
 
   look_ticks : (ks : List Capability) (look : LookOf) → NamesAre setup t c table (plan_for (Tick n)) ks

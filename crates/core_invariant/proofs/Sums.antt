@@ -6,6 +6,7 @@ use Rattle.word_map.specs.Word.{CountAt}
 use Rattle.kernel_rules.specs.State.{FrameOf}
 use Rattle.kernel_rules.specs.References.{refs}
 use Rattle.kernel_history.specs.Counts.{counters, count_sum}
+use Rattle.kernel_history.specs.Stamps.{stamp}
 use Rattle.kernel_history.specs.Trace.{Step, Trace, state_after}
 use Rattle.core_invariant.specs.Holding.{Holding, settled}
 use Rattle.core_invariant.specs.CountWords.{stamp_in, newest_of}
@@ -14,14 +15,16 @@ use Rattle.core_invariant.proofs.Calm.{IsCalm, IsPlain, plain_stamp}
 use Rattle.core_invariant.proofs.CountSums.{sum_same, newest_same, calm_refs}
 
 module _ (setup : Setting) (t : Trace) (e : Step) (held held' : ℕ → Holding)
-    (same : (f d : ℕ) → settled setup held' (e ∷ t) (CountAt f d) ≡ settled setup held t (CountAt f d)) (plain : IsPlain setup t e) where
+    (same : (f d : ℕ) → settled setup held' (e ∷ t) (CountAt f d) ≡ settled setup held t (CountAt f d)) where
   shown_same : (f d : ℕ) → count_shown setup held' (e ∷ t) f d ≡ count_shown setup held t f d
   shown_same f d = ap count_of_word (same f d)
 
-  pub sums_keep : (state_after setup (e ∷ t)).limits ≡ (state_after setup t).limits
+  -- where the grace periods of frames stay too
+  pub sums_since : ((f : ℕ) → stamp setup (e ∷ t) (FrameOf f) ≡ stamp setup t (FrameOf f))
+      → (state_after setup (e ∷ t)).limits ≡ (state_after setup t).limits
       → ((f : ℕ) → refs (state_after setup (e ∷ t)) f ≡ refs (state_after setup t) f)
       → ((f : ℕ) → SumIs setup held t f) → (f : ℕ) → SumIs setup held' (e ∷ t) f
-  sums_keep limits kept sums f = record {
+  sums_since since limits kept sums f = record {
     sum = ap (λ l. count_sum (count_shown setup held' (e ∷ t) f) (counters l.cores)) limits
         ∙ sum_same (count_shown setup held t f) (count_shown setup held' (e ∷ t) f) (counters (state_after setup t).limits.cores)
         (shown_same f)
@@ -29,8 +32,13 @@ module _ (setup : Setting) (t : Trace) (e : Step) (held held' : ℕ → Holding)
     newest = ap (λ l. newest_of (count_shown setup held' (e ∷ t) f) (counters l.cores)) limits
         ∙ newest_same (count_shown setup held t f) (count_shown setup held' (e ∷ t) f) (counters (state_after setup t).limits.cores)
         (λ d. ap stamp_in (shown_same f d))
-        ∙ (sums f).newest ∙ sym (plain_stamp setup t e plain (FrameOf f));
+        ∙ (sums f).newest ∙ sym (since f);
   }
+
+  pub sums_keep : IsPlain setup t e → (state_after setup (e ∷ t)).limits ≡ (state_after setup t).limits
+      → ((f : ℕ) → refs (state_after setup (e ∷ t)) f ≡ refs (state_after setup t) f)
+      → ((f : ℕ) → SumIs setup held t f) → (f : ℕ) → SumIs setup held' (e ∷ t) f
+  sums_keep plain = sums_since (λ f. plain_stamp setup t e plain (FrameOf f))
 
 pub sums_stay : (setup : Setting) (t : Trace) (e : Step) (held held' : ℕ → Holding)
     → ((f d : ℕ) → settled setup held' (e ∷ t) (CountAt f d) ≡ settled setup held t (CountAt f d))

@@ -35,7 +35,7 @@ use Rattle.call_steps.specs.Cores.{fresh}
 use Rattle.kernel_history.specs.Marking.{marked_by}
 use Rattle.core_invariant.specs.Words.{count_room, WordIs}
 use Rattle.core_invariant.proofs.Sounds.{limits_of}
-use Rattle.core_invariant.specs.Knows.{phase_at, KnowsAt, Knows, IsCount, CallIs, WorksIn, CoreIs}
+use Rattle.core_invariant.specs.Knows.{phase_at, KnowsAt, Knows, IsCount, CallIs, WorksIn, CoreIs, is_flushing, flushing_in}
 use Rattle.core_invariant.specs.Stands.{is_done, holds_at, holds_in, holds, held_by, times_of, counted_in, SumIs, Stands}
 use Rattle.core_invariant.proofs.WordFrames.{marks_own, settled_on, write_marks, write_words, ReadsAlike, reads_alike, StaysSaid, word_stays, carry_marks, carry_words}
 use Rattle.core_invariant.proofs.Sums.{sums_stay}
@@ -43,6 +43,7 @@ use Rattle.core_invariant.specs.Holding.{nothing, count_of, holds_counts, settle
 use Rattle.stage_pins.specs.declared.held.Acquired.{Acquired}
 use Rattle.call_steps.specs.Fits.{CountsAt}
 use Rattle.std.proofs.lemmas.List.Elements.{All-nil}
+use Rattle.core_invariant.proofs.Flushing.{still_flushed, open_flushed}
 use Rattle.core_invariant.proofs.Good.{IsGood, SparesBlanks, spares_other}
 use Rattle.core_invariant.proofs.Calm.{IsCalm, calm_returned, calm_own, calm_words, counted_rises, none_stored, IsPlain, plain_time, plain_exit, plain_flushed, BeginsNone, plain_begins, none_time, calm_same}
 use Rattle.core_invariant.proofs.Loads.{Lands, IsOfCall, step_to, next_at, core_at, some_left, core_is, call_is, in_call, inner, inner_within, inner_disciplined, inner_near, inner_works, inner_own, is_active}
@@ -159,7 +160,8 @@ module _ (setup : Setting) (setting : IsSetting setup) (cores : ℕ → Core) (t
           draws = (let d = stands.draws in let b = plain.same in let g = rises in omega arith);
           time = none_time setup t e plain;
           leaves = tt;
-          own = inner_own setup setting cores t stands c here a active move (Some r) None refl plain made found stage lands.fits works
+          own = inner_own setup setting cores t stands c here a active move (Some r) None refl plain made found stage
+              (λ done. open_flushed a.call a.stage opens) lands.fits works
               (ap (after_decide (Some r)) opens ∙ sym closes) knows;
         }
 
@@ -296,7 +298,9 @@ module _ (setup : Setting) (setting : IsSetting setup) (cores : ℕ → Core) (t
           time = plain_time setup t e plain;
           leaves = tt;
           own = inner_own setup setting cores t stands c here a active move None None refl (plain_begins setup t e plain)
-              (cores c).own.made found stage lands.fits (core_is setup setting cores t stands c here a active).works at
+              (cores c).own.made found stage (still_flushed setup t c (cores c).own.table a stage a.counts
+              (call_is setup setting cores t stands c here a active).knows (ap (λ h. h.stands (FlushAt c)) same))
+              lands.fits (core_is setup setting cores t stands c here a active).works at
               (knows (carries_own setup setting t stands.legal e follows (plain_time setup t e plain) stands.graces refl refl refl));
         }
 
@@ -359,7 +363,8 @@ module _ (setup : Setting) (setting : IsSetting setup) (cores : ℕ → Core) (t
           draws = (let d = stands.draws in let g = counted_rises setup (state_after setup t) (state_after setup (e ∷ t)) c calm in omega
               arith);
           time = plain_time setup t e plain;
-          leaves = record { at = x; knows = leave; stored = now.flushed; no_entry = refl; no_decision = refl };
+          leaves = record { at = x; knows = leave; stored = now.flushed (ap flushing_in active ∙ ap is_flushing at); no_entry = refl;
+              no_decision = refl };
           own = record {
             fits = lands.fits;
             number = now.number;
@@ -368,7 +373,7 @@ module _ (setup : Setting) (setting : IsSetting setup) (cores : ℕ → Core) (t
             works = calm_own (state_after setup t) (state_after setup (e ∷ t)) c (cores c).own after.own calm
                 (ap (λ (m : ℕ). record after.own { made = m }) (counts now)) now.works;
             exit = sym out;
-            flushed = plain_flushed setup t e plain c now.flushed;
+            flushed = λ done. plain_flushed setup t e plain c (now.flushed (ap flushing_in active ∙ ap is_flushing at));
             active = phase-own c e t refl;
           };
         }
@@ -463,7 +468,7 @@ module _ (setup : Setting) (setting : IsSetting setup) (cores : ℕ → Core) (t
           works = calm_own (state_after setup t) (state_after setup (e ∷ t)) c (cores c).own after.own calm
               (ap (λ (m : ℕ). record (cores c).own { made = m }) counts) now.works;
           exit = sym last;
-          flushed = plain_flushed setup t e plain c now.flushed;
+          flushed = λ done. plain_flushed setup t e plain c (now.flushed (ap flushing_in between));
           active = record {
             phase = phase-own c e t refl ∙ at;
             steps = steps_in_call-own c e t refl;

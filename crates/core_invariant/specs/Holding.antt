@@ -17,7 +17,8 @@ use Rattle.stage_pins.specs.Held.{commit_of}
 use Rattle.kernel_history.specs.Marking.{marked_by}
 use Rattle.kernel_history.specs.Trace.{Trace, last_left}
 
--- What a core holds: the words that carry its mark, and the unmarked word that each of these stands for.
+-- What a core holds: the words that carry its mark, and the unmarked word that each of these stands for. A word that carries no mark,
+-- and is still to be stored, stands for what will be.
 pub record Holding : Type 0 where
   pub marks : Word → Bool
   pub stands : Word → ℕ
@@ -29,6 +30,10 @@ nothing = record { marks = λ w. false; stands = λ w. 0 }
 -- One word more is held, and stands for this.
 abbrev pub keeps : Word → ℕ → Holding → Holding
 keeps w x h = record { marks = λ u. if same_word u w then true else h.marks u; stands = λ u. if same_word u w then x else h.stands u }
+
+-- One word more is still to be stored, without a mark.
+abbrev pub will_store : Word → ℕ → Holding → Holding
+will_store w x h = record { marks = h.marks; stands = λ u. if same_word u w then x else h.stands u }
 
 -- The word of a count that a call has acquired.
 abbrev pub count_of : Acquired → Word

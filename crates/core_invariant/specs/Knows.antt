@@ -18,7 +18,7 @@ use Rattle.spk_nums.specs.Setting.{Setting}
 use Rattle.spk_nums.specs.declared.kinds.Kind.{Kind}
 use Rattle.spk_nums.specs.declared.kinds.Kind.TheVariants.{Comp as comp_kind}
 use Rattle.spk_nums.specs.declared.calls.Call.{Call}
-use Rattle.spk_nums.specs.declared.calls.Call.TheVariants.{Retype, Make as make_call, Tick, Kill}
+use Rattle.spk_nums.specs.declared.calls.Call.TheVariants.{Retype, Make as make_call, Flush, Tick, Kill}
 use Rattle.spk_nums.specs.declared.kinds.FrameKind.{FrameKind}
 use Rattle.spk_nums.specs.declared.kinds.FrameKind.TheVariants.{Untyped, Kernel as FrameKernel}
 use Rattle.frame_words.specs.Frame.{frame_of_word}
@@ -42,7 +42,7 @@ use Rattle.kernel_history.specs.BootWords.{shape_of}
 use Rattle.kernel_history.specs.Trace.{Trace, Phase, Out, Open, phase, state_after, own_left, own_read, steps_in_call, WasAt, last_left}
 use Rattle.kernel_history.specs.Trace as history
 use Rattle.kernel_history.specs.Ways.{root_passed}
-use Rattle.kernel_history.specs.Discipline.{counts_references, changes_places, changes_frames, changes_numbers}
+use Rattle.kernel_history.specs.Discipline.{counts_references, changes_places, changes_frames, changes_numbers, stores_flush}
 use Rattle.kernel_history.specs.Footprint.{IsNearIn, is_one_of, frame_argument}
 use Rattle.kernel_history.specs.Justified.{HasReached, IsRemoved}
 use Rattle.kernel_history.specs.Stamps.{clock, stamp, exit_of, flush_of, flush_stored}
@@ -66,12 +66,12 @@ use Rattle.call_acts.specs.declared.typings.TypingAt.TheVariants.{Load, Compare 
 use Rattle.call_acts.specs.Typings.{is_typing}
 use Rattle.kernel_rules.specs.CapabilityCalls.{has_frame}
 use Rattle.call_acts.specs.declared.work.Act.{Act as ActOf}
-use Rattle.call_acts.specs.declared.work.Act.TheVariants.{Fill as fill_act, Remove as remove_act, Retype as type_act, Make as make_act, Outside, Tick as tick_act, Kill as kill_act}
+use Rattle.call_acts.specs.declared.work.Act.TheVariants.{Fill as fill_act, Remove as remove_act, Retype as type_act, Make as make_act, Outside, Tick as tick_act, Flush as flush_act, Kill as kill_act}
 use Rattle.call_acts.specs.declared.work.Work.{Work}
 use Rattle.call_acts.specs.declared.work.Due.{Due}
 use Rattle.call_acts.specs.declared.work.Work.TheVariants.{Lookup, Read, Scan, Acquire, Act}
 use Rattle.call_acts.specs.declared.work.Tail.{Tail}
-use Rattle.call_acts.specs.declared.work.Tail.TheVariants.{Nothing, Quiesce, Unmark, StoreDead}
+use Rattle.call_acts.specs.declared.work.Tail.TheVariants.{Nothing, Quiesce, Unmark, StoreDead, StoreFlush}
 use Rattle.call_steps.specs.declared.stages.Stage.{Stage}
 use Rattle.call_steps.specs.declared.stages.Stage.TheVariants.{Enter, Undecided, Decided, Leave}
 use Rattle.call_steps.specs.declared.stages.ActiveCall.{ActiveCall}
@@ -396,6 +396,11 @@ pub record KnowsKilling (setup : Setting) (t : Trace) (c : ℕ) (call : Call) (k
   pub comp : HasComp (state_after setup t) c m.comp
   pub at : KnowsKillingAt setup t c m.comp m.at
 
+-- A flush is of the translations of the core itself.
+pub record KnowsFlushing (c : ℕ) (call : Call) (by : ℕ) : Type 0 where
+  pub call_is : call ≡ Flush
+  pub core : by ≡ c
+
 -- What a call with this plan knows of its act, where its names have led to these and the cores below `upto` were scanned, with their flushes.
 abbrev pub KnowsAct : Setting → Trace → ℕ → Call → Plan → List Capability → ℕ → ActOf → Type 0
 KnowsAct setup t c call plan found upto (fill_act fill) = IsFill setup t c call plan found upto fill
@@ -404,6 +409,7 @@ KnowsAct setup t c call plan found upto (type_act typing) = KnowsTyping t c call
 KnowsAct setup t c call plan found upto (make_act making) = KnowsMaking setup t c call plan found upto making
 KnowsAct setup t c call plan found upto (Outside node entry word) = KnowsOutside setup t c call plan found upto node entry word
 KnowsAct setup t c call plan found upto (tick_act charge) = KnowsTick setup t c call charge
+KnowsAct setup t c call plan found upto (flush_act by) = KnowsFlushing c call by
 KnowsAct setup t c call plan found upto (kill_act m) = KnowsKilling setup t c call found m
 
 -- An act is before its first step.
@@ -419,6 +425,7 @@ is_start (type_act typing) = not (is_typing typing.at)
 is_start (make_act making) = not (is_marked making.at)
 is_start (Outside node entry word) = true
 is_start (tick_act charge) = not (is_charging charge)
+is_start (flush_act by) = true
 is_start (kill_act m) = not (is_killing m.at)
 
 -- Its counts may be acquired here: no entry and no liveness number is closed yet.
@@ -555,12 +562,21 @@ pub record KnowsDead (setup : Setting) (t : Trace) (c : ℕ) (call : Call) (life
   pub numbers : changes_numbers call ≡ true
   pub near : WasAt (IsNearIn c call (LiveAt life.number)) setup t c
 
+-- The flush whose stamp is still to be stored is the core's own, and its last.
+pub record KnowsFlush (t : Trace) (c : ℕ) (call : Call) (by at : ℕ) : Type 0 where
+  pub stores : stores_flush call ≡ true
+  pub core : by ≡ c
+  pub some : 1 ≤ at
+  pub small : at < 2 ^ 28
+  pub last : flush_of t c ≡ at
+
 -- What a call knows that has still this to store.
 abbrev pub KnowsTail : Setting → Trace → ℕ → Call → Tail → Type 0
 KnowsTail setup t c call Nothing = Unit {0}
 KnowsTail setup t c call (Quiesce close) = KnowsStore setup t c call close
 KnowsTail setup t c call (Unmark f word) = KnowsUnmark call f word
 KnowsTail setup t c call (StoreDead life stamp) = KnowsDead setup t c call life
+KnowsTail setup t c call (StoreFlush by at) = KnowsFlush t c call by at
 
 -- What a call knows at its stage. One that has made no step is in no trace.
 abbrev pub KnowsAt : Setting → Trace → ℕ → ℕ → ActiveCall → Stage → Type 0
@@ -614,6 +630,24 @@ pub record WorksIn (own : Own) (s : State) (c : ℕ) : Type 0 where
   pub spent : own.spent ≡ (s.core c).spent
   pub made : own.made ≡ (s.core c).counted
 
+-- Whether a call has decided a flush whose stamp is still to be stored.
+abbrev pub flushes_tail : Tail → Bool
+flushes_tail Nothing = false
+flushes_tail (Quiesce close) = false
+flushes_tail (Unmark f word) = false
+flushes_tail (StoreDead life stamp) = false
+flushes_tail (StoreFlush by at) = true
+
+abbrev pub is_flushing : Stage → Bool
+is_flushing Enter = false
+is_flushing (Undecided work) = false
+is_flushing (Decided r drawn tail) = flushes_tail tail
+is_flushing (Leave r x) = false
+
+abbrev pub flushing_in : Option ActiveCall → Bool
+flushing_in None = false
+flushing_in (Some a) = is_flushing a.stage
+
 -- A core of the machine after the trace.
 pub record CoreIs (setup : Setting) (core : Core) (t : Trace) (c : ℕ) : Type 0 where
   pub fits : IsCore core
@@ -622,6 +656,6 @@ pub record CoreIs (setup : Setting) (core : Core) (t : Trace) (c : ℕ) : Type 0
   pub limit : core.own.limit ≡ setup.calls
   pub works : WorksIn core.own (state_after setup t) c
   pub exit : core.own.exit ≡ exit_of t c
-  -- its last flush is stored; once there are flushes, but for one between the load of the clock and the store
-  pub flushed : flush_stored t c ≡ flush_of t c
+  -- its last flush is stored, but for one between the load of the clock and the store
+  pub flushed : flushing_in core.active ≡ false → flush_stored t c ≡ flush_of t c
   pub active : CallIs setup t c core.own.table core.active

@@ -9,7 +9,7 @@ use Rattle.std.specs.Prelude.{◌≡◌, ◌+◌, ◌<◌, ◌≤◌, ℕ, List,
 use Rattle.spk_nums.specs.Setting.{Setting}
 use Rattle.frame_words.specs.Count.{count_of_word}
 use Rattle.frame_words.specs.declared.count_word.CountWord.{CountWord}
-use Rattle.word_map.specs.Word.{Word, CountAt, FrameAt, LiveAt}
+use Rattle.word_map.specs.Word.{Word, CountAt, FrameAt, FlushAt, LiveAt}
 use Rattle.kernel_rules.specs.State.{Thing, FrameOf, State}
 use Rattle.kernel_rules.specs.References.{sum_below}
 use Rattle.kernel_history.specs.Trace.{Trace, Out, phase, calls_of, state_after}
@@ -28,13 +28,13 @@ use Rattle.spk_nums.specs.declared.replies.Reply.{Reply}
 use Rattle.spk_nums.specs.declared.replies.Reply.TheVariants.{Ok}
 use Rattle.stage_pins.specs.declared.held.Acquired.{Acquired}
 use Rattle.call_acts.specs.declared.work.Act.{Act}
-use Rattle.call_acts.specs.declared.work.Act.TheVariants.{Fill, Remove, Retype, Make, Outside, Tick, Kill}
+use Rattle.call_acts.specs.declared.work.Act.TheVariants.{Fill, Remove, Retype, Make, Outside, Tick, Flush, Kill}
 use Rattle.call_acts.specs.declared.work.Work.{Work}
 use Rattle.call_acts.specs.declared.work.Work.TheVariants.{Lookup, Read, Scan, Acquire, Act as act_work}
 use Rattle.call_acts.specs.declared.work.Tail.{Tail}
-use Rattle.call_acts.specs.declared.work.Tail.TheVariants.{Nothing, Quiesce, Unmark, StoreDead}
+use Rattle.call_acts.specs.declared.work.Tail.TheVariants.{Nothing, Quiesce, Unmark, StoreDead, StoreFlush}
 use Rattle.call_steps.specs.View.{Core}
-use Rattle.core_invariant.specs.Holding.{Holding, nothing, holds_counts, holds_closed, holds_drawn, settled, MarkIs, keeps}
+use Rattle.core_invariant.specs.Holding.{Holding, nothing, holds_counts, holds_closed, holds_drawn, settled, MarkIs, keeps, will_store}
 use Rattle.core_invariant.specs.Words.{Times, WordIs, CountsAre}
 use Rattle.core_invariant.specs.Knows.{CoreIs}
 
@@ -71,6 +71,7 @@ holds_act (Retype typing) h = h
 holds_act (Make making) h = holds_making making.frame making.at h
 holds_act (Outside node entry word) h = h
 holds_act (Tick charge) h = h
+holds_act (Flush by) h = h
 holds_act (Kill m) h = holds_killing m.at h
 
 abbrev pub holds_tail : Tail → Holding → Holding
@@ -78,6 +79,7 @@ holds_tail Nothing h = h
 holds_tail (Quiesce close) h = holds_drawn close h
 holds_tail (Unmark f word) h = keeps (FrameAt f) word h
 holds_tail (StoreDead life stamp) h = keeps (LiveAt life.number) (word_of_live (Dead life.epoch stamp)) h
+holds_tail (StoreFlush by stamp) h = will_store (FlushAt by) stamp h
 
 abbrev pub holds_work : Work → Holding → Holding
 holds_work (Lookup look) h = h

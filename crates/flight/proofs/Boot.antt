@@ -324,7 +324,7 @@ boots setup setting = record {
       made = refl;
     };
     exit = refl;
-    flushed = refl;
+    flushed = λ done. refl;
     active = refl;
   };
   away = λ c past. record { out = refl; none = refl; idle = refl };

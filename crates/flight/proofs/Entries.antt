@@ -5,7 +5,7 @@ use Rattle.spk_nums.specs.Setting.{Setting, IsSetting}
 use Rattle.spk_nums.specs.declared.kinds.Kind.{Kind}
 use Rattle.spk_nums.specs.declared.calls.Call.{Call}
 use Rattle.spk_nums.specs.declared.kinds.FrameKind.TheVariants.{Untyped, User, Kernel}
-use Rattle.spk_nums.specs.declared.calls.Call.TheVariants.{Look as look_call, Copy, Remove, Shrink, Unmap, Retype, Make as make_call, Tick, Gate, Kill, Grow}
+use Rattle.spk_nums.specs.declared.calls.Call.TheVariants.{Look as look_call, Copy, Remove, Shrink, Unmap, Retype, Make as make_call, Tick, Gate, Kill, Grow, Flush}
 use Rattle.spk_nums.specs.declared.calls.Make.TheVariants as make
 use Rattle.spk_nums.specs.declared.replies.Reply.TheVariants as reply
 use Rattle.supported_calls.specs.Built.{IsBuilt}
@@ -34,9 +34,10 @@ use Rattle.call_plans.proofs.AfterNames.{next_may}
 use Rattle.call_acts.specs.declared.refusals.Refusal.TheVariants as refusal
 use Rattle.call_acts.specs.declared.work.Work.TheVariants.{Lookup, Act}
 use Rattle.call_acts.specs.declared.work.Act.{Act as ActOf}
-use Rattle.call_acts.specs.declared.work.Act.TheVariants.{Tick as tick_act}
+use Rattle.call_acts.specs.declared.work.Act.TheVariants.{Tick as tick_act, Flush as flush_act}
 use Rattle.stage_tcap.specs.declared.charge.Charge.TheVariants.{AtLoad}
 use Rattle.call_acts.specs.Acts.{reads_of}
+use Rattle.call_acts.specs.Flushes.{flushes}
 use Rattle.call_acts.specs.Ticks.{ticks_due, charges}
 use Rattle.call_acts.specs.declared.work.WorkStep.TheVariants.{Goes}
 use Rattle.call_acts.specs.declared.work.Tail.TheVariants.{Nothing}
@@ -223,6 +224,23 @@ module _ (setup : Setting) (setting : IsSetting setup) (cores : ℕ → Core) (t
         };
       })
 
+  -- a flush loads the clock
+  enters_flush : call ≡ Flush → is_spent (cores c).own ≡ false → GoodEntry (landed (fresh call) (flushes (cores c).own.core))
+  enters_flush is unspent lands =
+      let made = (stands.each c here).works.made in
+      enters_on setup setting cores t stands c here (cores c).own.made call None (Undecided (Act (flush_act (cores c).own.core)))
+      may.between may.limits lands refl refl
+      (calm_entered s c)
+      (record { begins = λ x. refl; ends = λ x. refl; flushes = refl; apart = λ d. refl; same = refl })
+      (let same = same_count in omega arith)
+      (λ g i. refl)
+      tt
+      tt
+      (record {
+        names = tt;
+        knows = record { knows = record { call_is = is; core = (stands.each c here).number }; all = refl; goes = refl };
+      })
+
 -- a call enters
 module _ (setup : Setting) (setting : IsSetting setup) (cores : ℕ → Core) (t : Trace) (stands : Stands setup cores t) (c : ℕ)
     (here : c < setup.cores) where
@@ -251,6 +269,7 @@ module _ (setup : Setting) (setting : IsSetting setup) (cores : ℕ → Core) (t
       enters_name setup setting cores t stands c here (make_call (make.Thread comp) r f u b) may r _ refl unspent
   enters_first (make_call (make.Tcap sched quality) r f u b) may built unspent =
       enters_name setup setting cores t stands c here (make_call (make.Tcap sched quality) r f u b) may r _ refl unspent
+  enters_first Flush may built unspent = enters_flush setup setting cores t stands c here Flush may refl unspent
   enters_first (Tick n) may built unspent = enters_tick setup setting cores t stands c here (Tick n) may n refl unspent
   enters_first (Gate n u b) may built unspent = enters_name setup setting cores t stands c here (Gate n u b) may n _ refl unspent
   enters_first (Kill n) may built unspent = enters_name setup setting cores t stands c here (Kill n) may n _ refl unspent

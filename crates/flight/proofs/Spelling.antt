@@ -14,7 +14,7 @@ use Rattle.call_acts.specs.declared.kills.KillingAt.TheVariants.{LoadComp, LoadL
 use Rattle.call_acts.specs.Kills.{KillingAtFits, killing_at}
 use Rattle.call_acts.specs.declared.own.Own.{Own}
 use Rattle.call_acts.specs.declared.work.Act.{Act}
-use Rattle.call_acts.specs.declared.work.Act.TheVariants.{Fill, Remove, Retype, Make, Outside, Tick, Kill}
+use Rattle.call_acts.specs.declared.work.Act.TheVariants.{Fill, Remove, Retype, Make, Outside, Tick, Flush, Kill}
 use Rattle.spk_nums.specs.declared.kinds.FrameKind.{FrameKind}
 use Rattle.call_acts.specs.declared.typings.TypingAt.{TypingAt}
 use Rattle.call_acts.specs.declared.typings.TypingAt.TheVariants.{Load, Compare as type_compare}
@@ -28,7 +28,7 @@ use Rattle.call_acts.specs.Makings.{MakingAtFits, making_at}
 use Rattle.call_steps.proofs.StepsFit.{last_small}
 use Rattle.call_acts.specs.declared.work.Work.TheVariants.{Lookup, Read, Scan, Acquire, Act as act_work}
 use Rattle.call_acts.specs.declared.work.Tail.{Tail}
-use Rattle.call_acts.specs.declared.work.Tail.TheVariants.{Nothing, Quiesce, Unmark, StoreDead}
+use Rattle.call_acts.specs.declared.work.Tail.TheVariants.{Nothing, Quiesce, Unmark, StoreDead, StoreFlush}
 use Rattle.call_acts.specs.Acts.{ActFits, act_move}
 use Rattle.call_steps.specs.Tails.{tail_move, is_ok}
 use Rattle.std.proofs.lemmas.List.Elements.{All-head}
@@ -99,6 +99,7 @@ act_named (Retype typing) = typing_named typing.frame typing.kind typing.at
 act_named (Make m) = making_named m.frame m.object m.core m.fill m.at
 act_named (Outside node entry word) = refl
 act_named (Tick charge) = charge_named charge
+act_named (Flush core) = refl
 act_named (Kill m) = killing_named m.comp m.core m.at
 
 -- a count's word is that of its core's counter
@@ -111,6 +112,7 @@ tail_named : (r : Reply) (drawn : Option ℕ) (tail : Tail) (counts : List Acqui
 tail_named r drawn (Quiesce close) counts = close_named close
 tail_named r drawn (Unmark f word) counts = refl
 tail_named r drawn (StoreDead life stamp) counts = refl
+tail_named r drawn (StoreFlush core stamp) counts = refl
 tail_named r drawn Nothing [] = refl
 tail_named r drawn Nothing (x ∷ xs) = refl
 
@@ -151,6 +153,7 @@ act_in shape (Retype typing) fits = typing_in shape typing.frame typing.kind typ
 act_in shape (Make m) fits = making_in shape m.frame m.object m.core m.fill m.at fits.frame fits.fill fits.at
 act_in shape (Outside node entry word) fits = fits
 act_in shape (Tick charge) fits = charge_is_in shape charge fits
+act_in shape (Flush core) fits = tt
 act_in shape (Kill m) fits = killing_in shape m.comp m.core m.at fits.comp fits.at
 
 tail_in : (shape : Shape) (r : Reply) (drawn : Option ℕ) (tail : Tail) (counts : List Acquired) → TailFits shape tail
@@ -159,6 +162,7 @@ tail_in : (shape : Shape) (r : Reply) (drawn : Option ℕ) (tail : Tail) (counts
 tail_in shape r drawn (Quiesce close) counts fits fit = close_is_in shape close fits
 tail_in shape r drawn (Unmark f word) counts fits fit = fits
 tail_in shape r drawn (StoreDead life stamp) counts fits fit = fits.0.0
+tail_in shape r drawn (StoreFlush core stamp) counts fits fit = fits
 tail_in shape r drawn Nothing [] fits fit = tt
 tail_in shape r drawn Nothing (x ∷ xs) fits fit =
     settle_is_in shape (commit_of (is_ok r) drawn x) (commit_fits shape (is_ok r) drawn x (All-head (AcquiredFits shape) x xs fit))

@@ -7,7 +7,7 @@ use Rattle.spk_nums.specs.Capability.{Capability}
 use Rattle.spk_nums.specs.Setting.{Setting, IsSetting}
 use Rattle.spk_nums.specs.declared.kinds.Kind.TheVariants as kind
 use Rattle.spk_nums.specs.declared.calls.Call.{Call}
-use Rattle.spk_nums.specs.declared.calls.Call.TheVariants.{Look, Copy, Remove, Shrink, Unmap, Retype, Make as make_call, Tick, Gate, Kill, Grow}
+use Rattle.spk_nums.specs.declared.calls.Call.TheVariants.{Look, Copy, Remove, Shrink, Unmap, Retype, Make as make_call, Tick, Gate, Kill, Grow, Flush}
 use Rattle.spk_nums.specs.declared.kinds.Kind.{Kind}
 use Rattle.supported_calls.specs.Built.{IsBuilt}
 use Rattle.spk_nums.specs.declared.replies.Value.TheVariants.{Nothing}
@@ -505,6 +505,7 @@ puts_by s c target q (Gate n u b) built (k ∷ []) lead none next read has_read 
     not_none : of_kind kind.Table u ∷ [] ≡ [] → ⊥
     not_none h = cc
 puts_by s c target q (Gate n u b) built (k ∷ j ∷ i ∷ ks) lead none next read has_read puts = absurd lead.1.1
+puts_by s c target q Flush built ks lead none next puts = absurd (cc)
 puts_by s c target q (Kill n) built ks lead none next read has_read puts = absurd (cc)
 puts_by s c target q call built ks lead none next read has_read puts = absurd built
 

@@ -1,6 +1,6 @@
 -- A step of a scan on a flush word is good: it is refused by a core that may not have flushed since the removal, or goes on to the next
 -- flush word, and from the last to the counts of the act.
-use Rattle.std.proofs.Common.{◌≡◌, ◌≢◌, ◌⊎◌, ℕ, zero, suc, ◌+◌, ◌<◌, ◌≤◌, ◌==◌, find, cond, nat_lt, nat_le, if◌then◌else◌, Bool, true, false, [], ◌∷◌, Option, Some, None, IsTrue, inl, inr, arith, refl, sym, ◌∙◌, ap, subst}
+use Rattle.std.proofs.Common.{◌≡◌, ◌≢◌, ◌⊎◌, ℕ, zero, suc, ◌+◌, ◌<◌, ◌≤◌, ◌==◌, find, cond, nat_lt, nat_le, if◌then◌else◌, Bool, true, false, [], ◌∷◌, Option, Some, None, IfSome, IsTrue, inl, inr, arith, refl, sym, ◌∙◌, ap, subst}
 use Rattle.std.specs.Prelude.{IsSomeAnd}
 use Rattle.std.specs.List.{list_any, range_with_len}
 use Rattle.std.proofs.lemmas.Bool.{cases_eq, eqb-true, eq-eqb, ltb-true, ltb-false, leb-true, leb-false, false≢true}
@@ -53,9 +53,10 @@ use Rattle.call_steps.specs.Steps.{landed, took_scan}
 use Rattle.call_steps.specs.View.{Core}
 use Rattle.core_invariant.specs.Holding.{holds_counts}
 use Rattle.core_invariant.specs.Words.{PlaceIs}
-use Rattle.core_invariant.specs.Knows.{HasPassed, HasFlushed, MayFill, KnowsAct, KnowsUndecided, scanned_for, phase_at, IsSpot, goes_on as goes_on_act}
+use Rattle.core_invariant.specs.Knows.{HasPassed, HasFlushed, MayFill, KnowsAct, KnowsUndecided, scanned_for, phase_at, IsSpot, CallIs, goes_on as goes_on_act}
 use Rattle.core_invariant.specs.Stands.{holds_at, holds_in, Stands}
 use Rattle.core_invariant.proofs.Calm.{stored_by}
+use Rattle.core_invariant.proofs.Flushing.{none_flushing}
 use Rattle.core_invariant.proofs.Carries.{ReadsSame, slot_relies, names_on, act_on}
 use Rattle.core_invariant.proofs.Loads.{OnlyLooks, step_to, next_at, inner, core_is, call_is, is_active, loads_on, decides_on}
 use Rattle.core_invariant.proofs.Places.{IsMarked, IsPlain as IsUnmarked, place_reads}
@@ -86,7 +87,12 @@ module _ (setup : Setting) (cores : ℕ → Core) (t : Trace) (stands : Stands s
   -- a core that is between calls, or whose call is not decided, has stored its last flush
   pub flush_is_stored : (d : ℕ) → d < setup.cores → (phase t d ≡ Out) ⊎ ((call : Call) × (phase t d ≡ Open call))
       → flush_stored t d ≡ flush_of t d
-  flush_is_stored d below undecided = (stands.each d below).flushed
+  flush_is_stored d below undecided = (stands.each d below).flushed (none_flushing (cores d).active (phase t d)
+      (by (cores d).active (stands.each d below).active) undecided)
+    where
+      by : (active : Option ActiveCall) → CallIs setup t d (cores d).own.table active → IfSome active (λ a. phase t d ≡ phase_at a.call a.stage)
+      by None is = tt
+      by (Some a) is = is.phase
 
   -- and is unflushed then, where its flush word is no later than the stamp of a grace period that waits for flushes
   pub still_unflushed : (x : Thing) (d : ℕ) → d < setup.cores → (phase t d ≡ Out) ⊎ ((call : Call) × (phase t d ≡ Open call))

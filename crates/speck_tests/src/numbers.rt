@@ -84,5 +84,5 @@ fn calls_know_their_limits(rt: HostRuntime) {
             b: CapId::new(65_535)
         })
     );
-    assert!(rt; !is_built(&Call::Flush));
+    assert!(rt; !is_built(&Call::Ret));
 }

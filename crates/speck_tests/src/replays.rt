@@ -348,7 +348,7 @@ fn spaces_and_comments_are_passed_over(rt: HostRuntime) -> Result<(), Fail> {
 #[test]
 fn the_first_line_that_is_not_built_is_told(rt: HostRuntime) -> Result<(), Fail> {
     let rows = [
-        ("core 0\nflush\n", 7),
+        ("core 0\nswitch 4 12\n", 7),
         (
             "core 0\nlook 64\ncopy 0 2 64\nlook 65535\ngrow 1 0 20\n",
             10,
@@ -408,13 +408,13 @@ fn a_fault_of_a_call_is_told_at_its_line(rt: HostRuntime) -> Result<(), Fail> {
         ("look 1 2", 7, Cause::S4, "S4 extra word"),
         ("core 2", 7, Cause::S6, "S6 no such core"),
         (
-            "flush\ngrant 1 0 1",
+            "ret\ngrant 1 0 1",
             8,
             Cause::S7,
             "S7 section out of place",
         ),
-        ("flush\norder\n0 0? 2", 9, Cause::S2, "S2 unknown word"),
-        ("flush\norder\n0 1! 2.", 9, Cause::S6, "S6 no such core"),
+        ("ret\norder\n0 0? 2", 9, Cause::S2, "S2 unknown word"),
+        ("ret\norder\n0 1! 2.", 9, Cause::S6, "S6 no such core"),
         ("look \u{7f}", 7, Cause::S8, "S8 not ASCII"),
     ];
     for (lines, line, cause, text) in rows {

@@ -36,6 +36,7 @@ pub fn is_built(call: &Call) -> bool
                 slot: _
             }
             | Call::Unmap { .. }
+            | Call::Flush
             | Call::Tick { .. }
             | Call::Gate { .. }
             | Call::Kill { .. }

@@ -9,7 +9,7 @@ use Rattle.spk_nums.specs.declared.kinds.FrameKind.TheVariants as frame_kind
 use Rattle.spk_nums.specs.declared.kinds.Kind.{Kind}
 use Rattle.spk_nums.specs.declared.kinds.Kind.TheVariants as kind
 use Rattle.spk_nums.specs.declared.calls.Call.{Call}
-use Rattle.spk_nums.specs.declared.calls.Call.TheVariants.{Look as look_call, Copy, Remove, Shrink, Unmap, Retype, Make as make_call, Tick, Gate, Kill, Grow}
+use Rattle.spk_nums.specs.declared.calls.Call.TheVariants.{Look as look_call, Copy, Remove, Shrink, Unmap, Retype, Make as make_call, Tick, Gate, Kill, Grow, Flush}
 use Rattle.spk_nums.specs.declared.calls.Make.{Make}
 use Rattle.spk_nums.specs.declared.calls.Make.TheVariants as make
 use Rattle.supported_calls.specs.Built.{IsBuilt}
@@ -231,6 +231,10 @@ begins_free own (make_call what r f u b) built spot to s plan ks read c core non
     subst (λ ks. Begins own (make_call what r f u b) plan ks read c at) (sym two.found_is)
     (begins_make own plan read c core at what r f u b object two.range (two.table ∷ two.rest)
     (subst (λ ks. object_made what ks ≡ Some object) two.found_is is) (within r f two.range two.first)))
+begins_free own Flush built spot to s plan ks c core none leads fits within at = absurd (not_target to)
+  where
+    not_target : Nowhere ≡ Free spot → ⊥
+    not_target h = cc
 begins_free own (Tick n) built spot to s plan ks read c core none leads fits within reads at = absurd (not_target to)
   where
     not_target : Nowhere ≡ Free spot → ⊥

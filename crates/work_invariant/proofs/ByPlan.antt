@@ -5,7 +5,7 @@ use Rattle.spk_nums.specs.Capability.{Capability}
 use Rattle.spk_nums.specs.Setting.{Setting, IsSetting}
 use Rattle.spk_nums.specs.declared.kinds.Kind.{Kind}
 use Rattle.spk_nums.specs.declared.calls.Call.{Call}
-use Rattle.spk_nums.specs.declared.calls.Call.TheVariants.{Look as look_call, Copy, Remove, Shrink, Unmap, Retype, Make as make_call, Tick, Gate, Kill, Grow}
+use Rattle.spk_nums.specs.declared.calls.Call.TheVariants.{Look as look_call, Copy, Remove, Shrink, Unmap, Retype, Make as make_call, Tick, Gate, Kill, Grow, Flush}
 use Rattle.supported_calls.specs.Built.{IsBuilt}
 use Rattle.spk_nums.specs.declared.replies.Reply.{Reply}
 use Rattle.spk_nums.specs.declared.replies.Reply.TheVariants as reply
@@ -415,6 +415,9 @@ module _ (setup : Setting) (setting : IsSetting setup) (cores : ℕ → Core) (t
         (λ carries. subst (λ (ks : List Capability). NamesAre setup (e ∷ t) c table a.plan ks) more_is (names_then carries)) r f j is
         (only_is range_kind k.kind only_one.2) shows.names)
 
+    is_named : a.plan.names ≡ [] → ⊥
+    is_named none = let h : name ∷ rest ≡ [] = sym left ∙ ap (λ (ns : List Name). names_after ns a.found) none ∙ none_after a.found in cc
+
     -- a look answers what its name has led to
     acts_at_name : (call : Call) → a.call ≡ call → IsBuilt call → (plan_for call).target ≡ Nowhere
         → GoodTook setup cores t c (LoadOf (EntryAt at.node at.index))
@@ -452,11 +455,8 @@ module _ (setup : Setting) (setting : IsSetting setup) (cores : ℕ → Core) (t
         (subst (λ (ks : List Capability). Leads (LeadsIn s c) (of_kind comp_kind n ∷ []) [] ks) more_is
         (subst (λ (p : Plan). Leads (LeadsIn s c) p.names [] more) plan_kill leads_then)).0
         (λ carries. subst (λ (ks : List Capability). NamesAre setup (e ∷ t) c table a.plan ks) more_is (names_then carries)))
-    acts_at_name (Tick n) is built nowhere = absurd (no_name (sym left
-        ∙ ap (λ (p : Plan). names_after p.names a.found) (plan_is ∙ ap plan_for is) ∙ none_after a.found))
-      where
-        no_name : name ∷ rest ≡ [] → ⊥
-        no_name h = cc
+    acts_at_name Flush is built nowhere = absurd (is_named (ap (λ (p : Plan). p.names) (plan_is ∙ ap plan_for is)))
+    acts_at_name (Tick n) is built nowhere = absurd (is_named (ap (λ (p : Plan). p.names) (plan_is ∙ ap plan_for is)))
     acts_at_name call is built nowhere = absurd built
 
     -- the name is found

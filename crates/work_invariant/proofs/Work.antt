@@ -8,7 +8,7 @@ use Rattle.stage_look.specs.Shown.{shown_in}
 use Rattle.stage_look.specs.Lookup.{look_move}
 use Rattle.stage_look.specs.declared.look.Look.{Look}
 use Rattle.stage_look.specs.declared.look.Look.TheVariants.{AtRoot, AtLeaf, AtEntry}
-use Rattle.call_acts.specs.declared.work.Act.TheVariants.{Fill as fill_act, Remove as remove_act, Retype as type_act, Make as make_act, Outside, Tick as tick_act, Kill as kill_act}
+use Rattle.call_acts.specs.declared.work.Act.TheVariants.{Fill as fill_act, Remove as remove_act, Retype as type_act, Make as make_act, Outside, Tick as tick_act, Flush as flush_act, Kill as kill_act}
 use Rattle.call_acts.specs.declared.work.Work.{Work}
 use Rattle.call_acts.specs.declared.work.Work.TheVariants.{Lookup, Read, Scan, Acquire, Act}
 use Rattle.call_steps.specs.declared.stages.Stage.TheVariants.{Undecided}
@@ -29,6 +29,7 @@ use Rattle.frame_invariant.proofs.Typings.{typing_good}
 use Rattle.frame_invariant.proofs.MadeObjects.{making_good}
 use Rattle.time_invariant.proofs.Ticks.{tick_good}
 use Rattle.live_invariant.proofs.Killed.{killing_good}
+use Rattle.page_invariant.proofs.Flushes.{flush_good}
 
 look_good : (setup : Setting) → IsSetting setup → (cores : ℕ → Core) (t : Trace) → Stands setup cores t → (c : ℕ) → c < setup.cores
     → (a : ActiveCall) → (cores c).active ≡ Some a
@@ -70,6 +71,8 @@ work_good setup setting cores t stands c here a active (Act (Outside node entry 
     absurd (false≢true knows.knows.goes)
 work_good setup setting cores t stands c here a active (Act (tick_act charge)) is knows =
     tick_good setup setting cores t stands c here a active charge is knows
+work_good setup setting cores t stands c here a active (Act (flush_act core)) is knows =
+    flush_good setup setting cores t stands c here a active core is knows
 work_good setup setting cores t stands c here a active (Act (kill_act m)) is knows =
     killing_good setup setting cores t stands c here a active m.comp m.core m.at is knows
 work_good setup setting cores t stands c here a active (Scan q act) is knows =

@@ -1,0 +1,146 @@
+-- Flushes that are decided and still to be stored. What a core holds stands for nothing at a flush word, but there: so where a step
+-- leaves what it stands for at its core's flush word, the core has its last flush stored if it had before.
+use Rattle.call_acts.specs.declared.kills.KillingAt.{KillingAt}
+use Rattle.call_acts.specs.declared.kills.KillingAt.TheVariants.{LoadComp, LoadLive, Close as kill_close, Draw as kill_draw}
+use Rattle.call_acts.specs.declared.makings.MakingAt.{MakingAt}
+use Rattle.call_acts.specs.declared.makings.MakingAt.TheVariants.{Load, Mark, Store, Fill as making_fill}
+use Rattle.call_acts.specs.declared.work.Act.{Act as ActOf}
+use Rattle.call_acts.specs.declared.work.Act.TheVariants.{Fill, Remove, Retype, Make, Outside, Tick, Flush, Kill}
+use Rattle.call_acts.specs.declared.work.Tail.{Tail}
+use Rattle.call_acts.specs.declared.work.Tail.TheVariants.{Nothing, Quiesce, Unmark, StoreDead, StoreFlush}
+use Rattle.call_acts.specs.declared.work.Work.{Work}
+use Rattle.call_acts.specs.declared.work.Work.TheVariants.{Lookup, Read, Scan, Acquire, Act as act_work}
+use Rattle.call_steps.specs.declared.stages.ActiveCall.{ActiveCall}
+use Rattle.call_steps.specs.declared.stages.Stage.{Stage}
+use Rattle.call_steps.specs.declared.stages.Stage.TheVariants.{Enter, Undecided, Decided, Leave}
+use Rattle.core_invariant.specs.Holding.{Holding, holds_counts, holds_closed, holds_drawn}
+use Rattle.core_invariant.specs.Knows.{flushes_tail, is_flushing, flushing_in, phase_at, KnowsAt}
+use Rattle.core_invariant.specs.Stands.{is_done, holds_making, holds_killing, holds_act, holds_tail, holds_work, holds_stage, holds_at}
+use Rattle.kernel_history.specs.Trace.{Trace, Phase, Out, Open, Decided as Decided_phase}
+use Rattle.spk_nums.specs.declared.replies.Reply.{Reply}
+use Rattle.spk_nums.specs.Capability.{Capability}
+use Rattle.spk_nums.specs.declared.calls.Call.{Call}
+use Rattle.spk_nums.specs.Setting.{Setting}
+use Rattle.stage_pins.specs.declared.held.Acquired.{Acquired}
+use Rattle.stage_quiet.specs.declared.close.Close.{Close}
+use Rattle.stage_quiet.specs.declared.close.Close.TheVariants.{AtCompare, AtDraw, AtStore}
+use Rattle.std.proofs.Common.{◌≡◌, ℕ, ◌≤◌, Bool, true, false, if◌then◌else◌, List, [], ◌∷◌, Option, Some, None, IfSome, ◌⊎◌, inl, inr, arith, refl, sym, ◌∙◌, ap, subst}
+use Rattle.std.proofs.lemmas.Bool.{false≢true}
+use Rattle.word_map.proofs.WordLemmas.{same_same}
+use Rattle.word_map.specs.Word.{FlushAt}
+
+counts_flush : (fate : Option (Option ℕ)) (xs : List Acquired) (c : ℕ) → (holds_counts fate xs).stands (FlushAt c) ≡ 0
+counts_flush fate [] c = refl
+counts_flush fate (x ∷ xs) c = counts_flush fate xs c
+
+closed_flush : (close : Close) (cap : Capability) (h : Holding) (c : ℕ) → (holds_closed close cap h).stands (FlushAt c) ≡ h.stands (FlushAt c)
+closed_flush (AtCompare node entry word core) cap h c = refl
+closed_flush (AtDraw node entry) cap h c = refl
+closed_flush (AtStore node entry stamp) cap h c = refl
+
+drawn_flush : (close : Close) (h : Holding) (c : ℕ) → (holds_drawn close h).stands (FlushAt c) ≡ h.stands (FlushAt c)
+drawn_flush (AtCompare node entry word core) h c = refl
+drawn_flush (AtDraw node entry) h c = refl
+drawn_flush (AtStore node entry stamp) h c = refl
+
+making_flush : (f : ℕ) (at : MakingAt) (h : Holding) (c : ℕ) → (holds_making f at h).stands (FlushAt c) ≡ h.stands (FlushAt c)
+making_flush f Load h c = refl
+making_flush f (Mark word) h c = refl
+making_flush f (Store word entry) h c = refl
+making_flush f (making_fill word) h c = refl
+
+killing_flush : (at : KillingAt) (h : Holding) (c : ℕ) → (holds_killing at h).stands (FlushAt c) ≡ h.stands (FlushAt c)
+killing_flush LoadComp h c = refl
+killing_flush (LoadLive life) h c = refl
+killing_flush (kill_close life word) h c = refl
+killing_flush (kill_draw life word) h c = refl
+
+act_flush : (act : ActOf) (h : Holding) (c : ℕ) → (holds_act act h).stands (FlushAt c) ≡ h.stands (FlushAt c)
+act_flush (Fill fill) h c = refl
+act_flush (Remove close cap) h c = closed_flush close cap h c
+act_flush (Retype typing) h c = refl
+act_flush (Make making) h c = making_flush making.frame making.at h c
+act_flush (Outside node entry word) h c = refl
+act_flush (Tick charge) h c = refl
+act_flush (Flush by) h c = refl
+act_flush (Kill m) h c = killing_flush m.at h c
+
+work_flush : (work : Work) (h : Holding) (c : ℕ) → (holds_work work h).stands (FlushAt c) ≡ h.stands (FlushAt c)
+work_flush (Lookup look) h c = refl
+work_flush (Read comp look) h c = refl
+work_flush (Scan q act) h c = refl
+work_flush (Acquire pin change act) h c = act_flush act h c
+work_flush (act_work act) h c = act_flush act h c
+
+tail_flush : (tail : Tail) (h : Holding) (c : ℕ) → flushes_tail tail ≡ false → (holds_tail tail h).stands (FlushAt c) ≡ h.stands (FlushAt c)
+tail_flush Nothing h c none = refl
+tail_flush (Quiesce close) h c none = drawn_flush close h c
+tail_flush (Unmark f word) h c none = refl
+tail_flush (StoreDead life stamp) h c none = refl
+tail_flush (StoreFlush by stamp) h c none = absurd (false≢true (sym none))
+
+stage_flush : (stage : Stage) (h : Holding) (c : ℕ) → is_flushing stage ≡ false
+    → (holds_stage stage h).stands (FlushAt c) ≡ h.stands (FlushAt c)
+stage_flush Enter h c none = refl
+stage_flush (Undecided work) h c none = work_flush work h c
+stage_flush (Decided r drawn tail) h c none = tail_flush tail h c none
+stage_flush (Leave r x) h c none = refl
+
+-- A flush that is still to be stored has a stamp.
+some_flush : (setup : Setting) (t : Trace) (c table : ℕ) (a : ActiveCall) (stage : Stage) (h : Holding) → KnowsAt setup t c table a stage
+    → is_flushing stage ≡ true → 1 ≤ (holds_stage stage h).stands (FlushAt c)
+some_flush setup t c table a Enter h knows is = absurd (false≢true is)
+some_flush setup t c table a (Undecided work) h knows is = absurd (false≢true is)
+some_flush setup t c table a (Leave r x) h knows is = absurd (false≢true is)
+some_flush setup t c table a (Decided r drawn Nothing) h knows is = absurd (false≢true is)
+some_flush setup t c table a (Decided r drawn (Quiesce close)) h knows is = absurd (false≢true is)
+some_flush setup t c table a (Decided r drawn (Unmark f word)) h knows is = absurd (false≢true is)
+some_flush setup t c table a (Decided r drawn (StoreDead life stamp)) h knows is = absurd (false≢true is)
+some_flush setup t c table a (Decided r drawn (StoreFlush by stamp)) h knows is =
+    subst (λ (d : ℕ). 1 ≤ (holds_tail (StoreFlush by stamp) h).stands (FlushAt d)) knows.core
+    (subst (λ (n : ℕ). 1 ≤ n) (sym (ap (λ b. if b then stamp else h.stands (FlushAt by)) (same_same (FlushAt by)))) knows.some)
+
+-- Where what a core holds stands for the same at its flush word, and it has no flush to store, it had none.
+pub still_flushed : (setup : Setting) (t : Trace) (c table : ℕ) (a : ActiveCall) (stage' : Stage) (counts' : List Acquired)
+    → KnowsAt setup t c table a a.stage
+    → (holds_at stage' counts').stands (FlushAt c) ≡ (holds_at a.stage a.counts).stands (FlushAt c)
+    → is_flushing stage' ≡ false → is_flushing a.stage ≡ false
+still_flushed setup t c table a stage' counts' knows same none = by (is_flushing a.stage) refl
+  where
+    by : (b : Bool) → is_flushing a.stage ≡ b → b ≡ false
+    by false is = refl
+    by true is =
+        let some = some_flush setup t c table a a.stage (holds_counts (is_done a.stage) a.counts) knows is in
+        let zero : (holds_at stage' counts').stands (FlushAt c) ≡ 0 =
+        stage_flush stage' (holds_counts (is_done stage') counts') c none ∙ counts_flush (is_done stage') counts' c in
+        absurd (none_some (subst (λ (n : ℕ). 1 ≤ n) (sym same ∙ zero) some))
+      where
+        none_some : 1 ≤ 0 → ⊥
+        none_some h = omega (arith, h)
+
+-- A core that is in no call, or in one that is not decided, has none.
+pub none_flushing : (active : Option ActiveCall) (p : Phase) → IfSome active (λ a. p ≡ phase_at a.call a.stage)
+    → (p ≡ Out) ⊎ ((call : Call) × (p ≡ Open call)) → flushing_in active ≡ false
+none_flushing None p at undecided = refl
+none_flushing (Some a) p at undecided = by a.stage refl
+  where
+    none : (r : Reply) → p ≡ Decided_phase a.call r → ⊥
+    none r is = elim undecided [ | inl out ↦ out_no (sym out ∙ is) | inr open ↦ open_no open.0 (sym open.1 ∙ is) ]
+      where
+        out_no : Out ≡ Decided_phase a.call r → ⊥
+        out_no h = cc
+        open_no : (call : Call) → Open call ≡ Decided_phase a.call r → ⊥
+        open_no call h = cc
+
+    by : (stage : Stage) → a.stage ≡ stage → is_flushing a.stage ≡ false
+    by Enter is = ap is_flushing is
+    by (Undecided work) is = ap is_flushing is
+    by (Decided r drawn tail) is = absurd (none r (at ∙ ap (phase_at a.call) is))
+    by (Leave r x) is = ap is_flushing is
+
+-- A call that is not decided has none.
+pub open_flushed : (call : Call) (stage : Stage) → phase_at call stage ≡ Open call → is_flushing stage ≡ false
+open_flushed call Enter opens = refl
+open_flushed call (Undecided work) opens = refl
+open_flushed call (Decided r drawn tail) opens = absurd (cc)
+open_flushed call (Leave r x) opens = refl
