@@ -10,3 +10,4 @@ pub mod Acts
 pub mod Lookups
 pub mod Laws
 pub mod Kills
+pub mod Untypings
