@@ -11,8 +11,8 @@
 //! its stack. These counts are acquired after the sweep. Then a stamp is drawn, which decides the call.
 //!
 //! **Releasing.** The counts are committed first. Then each frozen counter is stored: with no count where the call is carried out, and as
-//! it was found where it is refused. The frame's word comes last: untyped, or as it was found. While it is marked no core finds a frame whose
-//! counters are still frozen.
+//! it was found where it is refused. The frame's word comes last: untyped, or as it was found. While it is marked no core finds a frame
+//! whose counters are still frozen.
 
 ghost use Rattle.std.specs.Prelude.{◌≡◌, ◌<◌, false, None};
 ghost use Rattle.spk_nums.specs.WordSteps.{place_in};

@@ -53,11 +53,10 @@ use Rattle.call_acts.specs.declared.work.Act.TheVariants.{Fill as fill_act, Remo
 use Rattle.call_acts.specs.declared.work.WorkStep.{WorkStep}
 use Rattle.call_acts.specs.declared.work.WorkStep.TheVariants.{Goes, Acquires, Refuses, Answers, Changes}
 use Rattle.call_acts.specs.declared.work.Due.{Due}
-use Rattle.call_acts.specs.Acts.{ActFits, act_left, looked, cap_dues, dues, acquires, scans, stamp_in, filling, fills_with, removing, removes_held, removes_at, types_if, types_at, made_dues, starts, making, making_if, makes_in, makes_at, act_begun, next_work, killing_dues, kills_in, kills_at, typing_to}
+use Rattle.call_acts.specs.Acts.{ActFits, act_left, looked, cap_dues, dues, acquires, scans, stamp_in, filling, fills_with, removing, removes_held, removes_at, types_if, types_at, made_dues, starts, making, making_if, makes_in, makes_at, act_begun, next_work, killing_dues, kills_in, kills_at}
 use Rattle.call_acts.specs.declared.untypings.UntypingAt.{UntypingAt}
 use Rattle.call_acts.specs.declared.untypings.UntypingAt.TheVariants as untype
-use Rattle.call_acts.specs.Untypings.{OwnedFits, UntypingAtFits, released_dues, untyping_dues}
-use Rattle.stage_sweep.specs.declared.empty.Owned.{Owned}
+use Rattle.call_acts.specs.Untypings.{UntypingAtFits, released_dues, untyping_dues}
 use Rattle.call_steps.specs.Tails.{tail_left}
 use Rattle.call_acts.specs.Lookups.{looks_under, looks_entry, looks_at, next_step}
 use Rattle.call_steps.specs.Fits.{ScanFits, WorkFits, TailFits, IsWanted, FoundFits, CountsWait, looks_later, left_of_scan, work_left, IsOwn}

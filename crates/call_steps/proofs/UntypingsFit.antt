@@ -26,8 +26,8 @@ use Rattle.stage_quiet.specs.declared.quiet.Quiet.{Quiet}
 use Rattle.stage_quiet.specs.declared.quiet.Quiet.TheVariants.{AtCore, AtFlush}
 use Rattle.stage_sweep.specs.Counters.{counters_of, sum_of_counts, latest_stamp}
 use Rattle.stage_sweep.specs.Emptiness.{loads_of, may_be_cached, empty_refuses, frame_if, place_owned, stack_owned, owns, owned_after}
-use Rattle.stage_sweep.specs.Freeze.{AtFits, SweepFits, frozen_if, frozen_at, kept_with, hold_refuses, load_refuses, compare_refuses, sum_refuses, refusal_of as quiet_refusal, refuses_at, load_next, empty_next, scan_next, compare_next, scan_goes, next_at, owned_at, at_after, sweep_kept, sweep_refuses, sweep_next, sweep_after, swept_of, end_by, sweep_end}
-use Rattle.stage_sweep.specs.Release.{ThawFits, thaw_end, thaw_after, thaw_of}
+use Rattle.stage_sweep.specs.Freeze.{AtFits, frozen_if, frozen_at, kept_with, hold_refuses, load_refuses, compare_refuses, sum_refuses, refusal_of as quiet_refusal, refuses_at, load_next, empty_next, scan_next, compare_next, scan_goes, next_at, owned_at, at_after, sweep_kept, sweep_refuses, sweep_next, sweep_after, swept_of, end_by, sweep_end}
+use Rattle.stage_sweep.specs.Release.{ThawFits}
 use Rattle.stage_sweep.specs.declared.empty.Owned.{Owned}
 use Rattle.stage_sweep.specs.declared.sweep.Sweep.{Sweep}
 use Rattle.stage_sweep.specs.declared.sweep.SweepAt.{SweepAt}
@@ -45,13 +45,13 @@ use Rattle.call_acts.specs.declared.untypings.UntypingAt.TheVariants.{Load, Mark
 use Rattle.call_acts.specs.declared.work.Act.{Act as ActType}
 use Rattle.call_acts.specs.declared.work.Act.TheVariants.{Untype as untype_act}
 use Rattle.call_acts.specs.declared.work.Tail.{Tail}
-use Rattle.call_acts.specs.declared.work.Tail.TheVariants.{Nothing, Release as release_tail}
+use Rattle.call_acts.specs.declared.work.Tail.TheVariants.{Release as release_tail}
 use Rattle.call_acts.specs.declared.work.Work.TheVariants.{Act}
 use Rattle.call_acts.specs.declared.work.WorkStep.TheVariants.{Goes, Refuses}
 use Rattle.call_acts.specs.Refusals.{refusal_of}
 use Rattle.call_acts.specs.WorkSteps.{refuse}
 use Rattle.call_acts.specs.Typings.{typed}
-use Rattle.call_acts.specs.Untypings.{OwnedBy, owned_most, OwnedFits, SweepAtFits, SweepsFrame, SweptFits, UntypingAtFits, UntypingFits, released_dues, owned_dues, untyping_dues, release_of, ReleaseFits, thaw_left_by, after_store, release_after, thaw_left, release_left, untyping_undo, others_left, quiet_left, object_left, sweep_left, untyping_left}
+use Rattle.call_acts.specs.Untypings.{OwnedBy, owned_most, OwnedFits, SweepAtFits, SweepsFrame, SweptFits, UntypingFits, released_dues, owned_dues, untyping_dues, release_of, ReleaseFits, thaw_left_by, after_store, release_after, thaw_left, release_left, untyping_undo, others_left, quiet_left, object_left, sweep_left, untyping_left}
 use Rattle.call_acts.specs.Acts.{dues, next_work, meets_untyped, meets_untyping, sweep_from, sweeps_if, took_sweep, drawn_untyped, took_untyping_at}
 use Rattle.call_steps.specs.declared.stages.ActiveCall.{ActiveCall}
 use Rattle.call_steps.specs.declared.stages.Stage.TheVariants.{Decided}
@@ -61,10 +61,7 @@ use Rattle.call_steps.specs.Fits.{TailFits, steps_later, work_left, left_at}
 use Rattle.call_steps.proofs.StepsFit.{work_next, counts_next}
 use Rattle.call_steps.proofs.LandsFit.{TookFits, Facts, landed_fits}
 
--- a frame's counters, and the words of its object, are few
-counters_few : (s : Shape) → IsShape s → counters_of s ≤ s.cores
-counters_few s shape = counters_within s shape
-
+-- the words of an object, with the counts that it releases, are few
 object_few : (o : Obj) → object_left o ≤ 64
 object_few obj.Blank = omega arith
 object_few obj.Table = omega arith
@@ -246,7 +243,7 @@ quiet_some s core object (AtCore stamp by at page) here fits at_fits =
 quiet_some s core object (AtFlush stamp at) here fits at_fits = omega (arith, fits)
 
 -- a step of a scan that goes on is by the same core, and leaves fewer
-abbrev pub QuietFalls : Shape → ℕ → Obj → Quiet → Quiet → Type 0
+abbrev QuietFalls : Shape → ℕ → Obj → Quiet → Quiet → Type 0
 QuietFalls s core object q next = SweepAtFits core object (sweep.Scan next) × (quiet_left s.cores next < quiet_left s.cores q)
 
 quiet_falls : (s : Shape) (core : ℕ) (object : Obj) (q : Quiet) (found : ℕ) → core < s.cores → QuietFits s q
@@ -282,7 +279,7 @@ quiet_falls s core object (AtFlush stamp at) found here fits is goes =
     step None false goes = absurd (cc)
 
 -- a scan of the other cores and of all flush words has so many loads at most
-abbrev pub ScanFew : Shape → ℕ → Obj → Option Quiet → Type 0
+abbrev ScanFew : Shape → ℕ → Obj → Option Quiet → Type 0
 ScanFew s core object None = Unit {0}
 ScanFew s core object (Some q) = SweepAtFits core object (sweep.Scan q) × (quiet_left s.cores q ≤ 2 * s.cores - 1)
 
@@ -319,7 +316,7 @@ scan_few s core stamp object page here = by_stamp (stamp == 0)
 
 -- a step of a sweep that goes on leaves fewer steps
 module _ (s : Shape) (w : Sweep) (found : ℕ) (shape : IsShape s) (h : SweepsFrame s w) where
-  abbrev pub object : Obj
+  abbrev object : Obj
   object = w.word.object
 
   here : w.core < s.cores
@@ -328,10 +325,10 @@ module _ (s : Shape) (w : Sweep) (found : ℕ) (shape : IsShape s) (h : SweepsFr
   most : counters_of s ≤ s.cores
   most = counters_within s shape
 
-  abbrev pub Falls : ℕ → ℕ → SweepAt → Type 0
+  abbrev Falls : ℕ → ℕ → SweepAt → Type 0
   Falls before kept at = SweepAtFits w.core object at × (sweep_left s.cores object kept at < before)
 
-  abbrev pub FallsIf : ℕ → ℕ → SweepAt → Option Reply → Option SweepAt → Type 0
+  abbrev FallsIf : ℕ → ℕ → SweepAt → Option Reply → Option SweepAt → Type 0
   FallsIf before kept at r next = (swept : Swept) → end_by r next swept ≡ ends.Going → Falls before kept (at_after at r next)
 
   falls_none : (before kept : ℕ) (at : SweepAt) (r : Option Reply) → FallsIf before kept at r None
@@ -343,7 +340,8 @@ module _ (s : Shape) (w : Sweep) (found : ℕ) (shape : IsShape s) (h : SweepsFr
   falls_to before kept at next None falls swept goes = falls
 
   -- the object is looked at, where it has words to look at
-  falls_empty : (before kept : ℕ) (at : SweepAt) (r : Option Reply) → object_left object < before → FallsIf before kept at r (empty_next object)
+  falls_empty : (before kept : ℕ) (at : SweepAt) (r : Option Reply) → object_left object < before
+      → FallsIf before kept at r (empty_next object)
   falls_empty before kept at r few = by (loads_of object == 0) refl
     where
       by : (none : Bool) → (loads_of object == 0) ≡ none → FallsIf before kept at r (if none then None else Some (sweep.Empty 0))
@@ -394,9 +392,13 @@ module _ (s : Shape) (w : Sweep) (found : ℕ) (shape : IsShape s) (h : SweepsFr
       → FallsIf (sweep_left s.cores object (length w.kept) (sweep.Scan q)) (length w.kept) (sweep.Scan q) (quiet_refusal end)
       (scan_goes object end next)
   falls_scanning q next ends.Going some falls =
-      let on = falls refl in falls_to (quiet_left s.cores q + object_left object) (length w.kept) (sweep.Scan q) (sweep.Scan next) None (on.0, (let fewer = on.1 in omega (arith, fewer)))
+      let on = falls refl in
+      let fewer = on.1 in
+      falls_to (quiet_left s.cores q + object_left object) (length w.kept) (sweep.Scan q) (sweep.Scan next) None
+      (on.0, omega (arith, fewer))
   falls_scanning q next (ends.Decided r) some falls = λ swept goes. absurd (cc)
-  falls_scanning q next (ends.Done x) some falls = falls_empty (quiet_left s.cores q + object_left object) (length w.kept) (sweep.Scan q) None (omega (arith, some))
+  falls_scanning q next (ends.Done x) some falls =
+      falls_empty (quiet_left s.cores q + object_left object) (length w.kept) (sweep.Scan q) None (omega (arith, some))
   falls_scanning q next (ends.Refuse r) some falls = λ swept goes. absurd (cc)
 
   falls_at : (at : SweepAt) → AtFits s w.kept at → SweepAtFits w.core object at
@@ -426,12 +428,13 @@ module _ (s : Shape) (w : Sweep) (found : ℕ) (shape : IsShape s) (h : SweepsFr
       by false less = falls_none (sweep_left s.cores object (length w.kept) (sweep.Empty entry)) (length w.kept) (sweep.Empty entry)
           (empty_refuses s.frames object entry found)
 
-  pub kept_after : length (sweep_kept w found) ≤ counters_of s
+  kept_after : length (sweep_kept w found) ≤ counters_of s
   kept_after = kept_fits s w.kept w.at found h.fits.at h.kept
 
-  pub goes_on : sweep_end s w found ≡ ends.Going
+  goes_on : sweep_end s w found ≡ ends.Going
       → SweepsFrame s (sweep_after s w found)
-      × (sweep_left s.cores object (length (sweep_kept w found)) (sweep_after s w found).at < sweep_left s.cores object (length w.kept) w.at)
+      × (sweep_left s.cores object (length (sweep_kept w found)) (sweep_after s w found).at
+      < sweep_left s.cores object (length w.kept) w.at)
   goes_on goes =
       let falls = falls_at w.at h.fits.at h.at (swept_of (sweep_after s w found)) goes in (
         record {
@@ -444,14 +447,14 @@ module _ (s : Shape) (w : Sweep) (found : ℕ) (shape : IsShape s) (h : SweepsFr
         falls.1,
       )
 
-  pub ended : SweptFits s (swept_of (sweep_after s w found))
+  ended : SweptFits s (swept_of (sweep_after s w found))
   ended = record { frame = h.fits.frame; kept = kept_after; owned = owned_fits s object w.at found w.owned h.owned }
 
-  pub due_few : length (owned_dues (sweep_after s w found).owned) ≤ owned_most object
+  due_few : length (owned_dues (sweep_after s w found).owned) ≤ owned_most object
   due_few = owned_few object (sweep_after s w found).owned (owned_by s object w.at found w.owned h.object)
 
   -- and there is one more to come
-  pub some_left : 1 + 3 * owned_most object ≤ sweep_left s.cores object (length w.kept) w.at
+  some_left : 1 + 3 * owned_most object ≤ sweep_left s.cores object (length w.kept) w.at
   some_left = by w.at h.fits.at h.at
     where
       by : (at : SweepAt) → AtFits s w.kept at → SweepAtFits w.core object at
@@ -466,21 +469,31 @@ done_is (Some r) next swept done is = absurd (cc)
 done_is None (Some at) swept done is = absurd (cc)
 done_is None None swept done is = cc
 
+-- the counters of a sweep, from the first on, and those after one that is stored
+abbrev thaw_from : Swept → Bool → Thaw
+thaw_from w clear = record { frame = w.frame; words = w.words; clear = clear; at = 0 }
+
+abbrev thaw_next : Thaw → Bool → Thaw
+thaw_next t more = record { frame = t.frame; words = t.words; clear = t.clear; at = if more then t.at + 1 else t.at }
+
+abbrev thaw_more : Thaw → Bool → Option Thaw
+thaw_more t more = thaw_left_by (thaw_next t more) (if more then ends.Going else ends.Done tt)
+
 -- what is to be stored of a frame that was swept is of the machine, and so many stores
-pub release_fits : (s : Shape) (f word : ℕ) (w : Swept) (clear : Bool) → f < s.frames → SweptFits s w
+release_fits : (s : Shape) (f word : ℕ) (w : Swept) (clear : Bool) → f < s.frames → SweptFits s w
     → ReleaseFits s (release_of f word w clear) × (release_left (release_of f word w clear) ≤ 1 + length w.words)
 release_fits s f word w clear below fits = by (length w.words == 0) refl
   where
     by : (none : Bool) → (length w.words == 0) ≡ none
-        → ReleaseFits s (record { frame = f; word = word; thaw = if none then None else Some (record { frame = w.frame; words = w.words; clear = clear; at = 0 }) })
-        × (1 + thaw_left (if none then None else Some (record { frame = w.frame; words = w.words; clear = clear; at = 0 })) ≤ 1 + length w.words)
+        → ReleaseFits s (record { frame = f; word = word; thaw = if none then None else Some (thaw_from w clear) })
+        × (1 + thaw_left (if none then None else Some (thaw_from w clear)) ≤ 1 + length w.words)
     by true is = (record { frame = below; thaw = tt }, omega arith)
     by false is =
         let some = eqb-false (length w.words) 0 is in
         (record { frame = below; thaw = record { frame = fits.frame; at = omega (arith, some); words = fits.kept } }, omega arith)
 
 -- each store leaves one less
-pub stored_fits : (s : Shape) (x : Release) → ReleaseFits s x
+stored_fits : (s : Shape) (x : Release) → ReleaseFits s x
     → TailFits s (release_after x) × (tail_left (release_after x) < release_left x)
 stored_fits s x fits = by x.thaw fits.thaw
   where
@@ -489,8 +502,8 @@ stored_fits s x fits = by x.thaw fits.thaw
     by (Some t) thaws = on (nat_lt (t.at + 1) (length t.words)) refl
       where
         on : (more : Bool) → nat_lt (t.at + 1) (length t.words) ≡ more
-            → ReleaseFits s (record x { thaw = thaw_left_by (record { frame = t.frame; words = t.words; clear = t.clear; at = if more then t.at + 1 else t.at }) (if more then ends.Going else ends.Done tt) })
-            × (1 + thaw_left (thaw_left_by (record { frame = t.frame; words = t.words; clear = t.clear; at = if more then t.at + 1 else t.at }) (if more then ends.Going else ends.Done tt)) < 1 + (length t.words - t.at))
+            → ReleaseFits s (record x { thaw = thaw_more t more })
+            × (1 + thaw_left (thaw_more t more) < 1 + (length t.words - t.at))
         on true is = let low = ltb-true (t.at + 1) (length t.words) is in (
           record { frame = fits.frame; thaw = record { frame = thaws.frame; at = low; words = thaws.words } },
           omega (arith, low),
@@ -603,7 +616,7 @@ module _ (own : Own) (a : ActiveCall) (facts : Facts own a) (room : own.made < o
           ) (omega (arith, few, some))
       by false = refused _ refusal.Raced (omega arith)
   untype_fits m (sweep_at word w) found fits waits =
-      let shape = facts.own_fits.shape in by (sweep_end own.layout w found) refl
+      by (sweep_end own.layout w found) refl
     where
       shape : IsShape own.layout
       shape = facts.own_fits.shape
