@@ -204,6 +204,10 @@ fn untyped(words: &Words) -> Words {
 
 const OK: Reply = Reply::Ok(Value::Nothing);
 
+fn busy() -> Reply {
+    Reply::Busy(CoreNo::new(1))
+}
+
 // Whether these are steps that a call has made, each at its number from 0 on.
 fn has_steps(steps: &[WordOp; 90], rows: &[(usize, WordOp)]) -> bool {
     rows.iter().all(|row| steps.get(row.0) == Some(&row.1))
@@ -253,10 +257,7 @@ fn looks_at_each_entry_of_a_node(rt: HostRuntime) {
     let full = with(&leaf, ENTRY_63, TABLE_0);
     assert_eq!(rt; answers(&full), refused(&full, Reply::NotEmpty, 73));
     let closing = with(&leaf, ENTRY_0, 6);
-    assert_eq!(rt;
-        answers(&closing),
-        refused(&closing, Reply::Busy(CoreNo::new(1)), 10)
-    );
+    assert_eq!(rt; answers(&closing), refused(&closing, busy(), 10));
 }
 
 #[test]
@@ -296,11 +297,10 @@ fn leaves_what_another_core_holds_or_has_changed(rt: HostRuntime) {
         answers(&untyped_yet),
         refused(&untyped_yet, Reply::FrameKind, 3)
     );
-    let busy = Reply::Busy(CoreNo::new(1));
     let marked = words(BLANK_BY_1, NONE);
-    assert_eq!(rt; answers(&marked), refused(&marked, busy, 3));
+    assert_eq!(rt; answers(&marked), refused(&marked, busy(), 3));
     let held = words(BLANK, NONE_BY_1);
-    assert_eq!(rt; answers(&held), refused(&held, busy, 6));
+    assert_eq!(rt; answers(&held), refused(&held, busy(), 6));
     // The frame's word is changed before it is marked, and the count before it is frozen.
     let blank = words(BLANK, NONE);
     let after = with(&with(&blank, WORD, LEAF), CORE_0, 14);
@@ -370,6 +370,5 @@ fn a_thread() -> Words {
 #[test]
 fn gives_back_its_counts_where_another_core_holds_one(rt: HostRuntime) {
     let before = with(&a_component(), COUNT_OF_2, NONE_BY_1);
-    let busy = Reply::Busy(CoreNo::new(1));
-    assert_eq!(rt; answers(&before), refused(&before, busy, 14));
+    assert_eq!(rt; answers(&before), refused(&before, busy(), 14));
 }
