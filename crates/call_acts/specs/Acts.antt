@@ -25,19 +25,19 @@ use Rattle.call_plans.specs.declared.plans.Nth.TheVariants.{First, Second}
 use Rattle.call_plans.specs.Plans.{at_place}
 use Rattle.call_acts.specs.declared.refusals.Refusal.TheVariants.{Raced, OutOfRange, Busy, FrameKind as wrong_kind, Dead as is_dead}
 use Rattle.call_acts.specs.declared.work.Act.{Act}
-use Rattle.call_acts.specs.declared.work.Act.TheVariants.{Fill as fill_act, Remove as remove_act, Retype as type_act, Make as make_act, Outside, Tick as tick_act, Flush as flush_act, Kill as kill_act}
+use Rattle.call_acts.specs.declared.work.Act.TheVariants.{Fill as fill_act, Remove as remove_act, Retype as type_act, Make as make_act, Outside, Tick as tick_act, Flush as flush_act, Kill as kill_act, Untype as untype_act}
 use Rattle.call_acts.specs.declared.work.Due.{Due}
 use Rattle.call_acts.specs.declared.work.Work.{Work}
 use Rattle.call_acts.specs.declared.work.Work.TheVariants.{Scan, Acquire, Act as act_work}
 use Rattle.call_acts.specs.declared.work.Tail.{Tail}
-use Rattle.call_acts.specs.declared.work.Tail.TheVariants.{Nothing, Quiesce, Unmark, StoreDead}
+use Rattle.call_acts.specs.declared.work.Tail.TheVariants.{Nothing, Quiesce, Unmark, StoreDead, Release as release_tail}
 use Rattle.call_acts.specs.declared.work.WorkStep.{WorkStep}
 use Rattle.call_acts.specs.declared.work.WorkStep.TheVariants.{Goes, Refuses, Answers}
 use Rattle.call_acts.specs.Refusals.{refusal_of}
 use Rattle.call_acts.specs.WorkSteps.{refuse}
 use Rattle.call_acts.specs.Fills.{FillFits, fill_move, took_fill}
 use Rattle.call_acts.specs.declared.typings.TypingAt.TheVariants.{Load}
-use Rattle.call_acts.specs.Typings.{TypingFits, typing_move, took_typing, is_typing, typing_left}
+use Rattle.call_acts.specs.Typings.{TypingFits, typing_move, took_typing, is_typing, typing_left, typed}
 use Rattle.call_acts.specs.declared.objects.NewObject.{NewObject}
 use Rattle.call_acts.specs.Objects.{object_cap, object_made, object_dues}
 use Rattle.call_acts.specs.declared.makings.MakingAt.{MakingAt}
@@ -53,6 +53,14 @@ use Rattle.call_acts.specs.declared.kills.Killing.{Killing}
 use Rattle.call_acts.specs.declared.kills.KillingAt.{KillingAt}
 use Rattle.call_acts.specs.declared.kills.KillingAt.TheVariants.{LoadComp, LoadLive, Close as kill_close, Draw as kill_draw}
 use Rattle.call_acts.specs.Kills.{KillingFits, killing_move, is_killing, killing_left}
+use Rattle.call_acts.specs.declared.untypings.Untyping.{Untyping}
+use Rattle.call_acts.specs.declared.untypings.UntypingAt.{UntypingAt}
+use Rattle.call_acts.specs.declared.untypings.UntypingAt.TheVariants.{Load as untype_load, Mark as untype_mark, Sweep as untype_sweep, Draw as untype_draw}
+use Rattle.call_acts.specs.Untypings.{UntypingFits, untyping_move, is_drawing, untyping_dues, untyping_undo, release_of, untyping_left}
+use Rattle.stage_sweep.specs.Freeze.{swept_of, sweep_end, sweep_after}
+use Rattle.stage_sweep.specs.declared.sweep.Sweep.{Sweep}
+use Rattle.stage_sweep.specs.declared.sweep.SweepAt.TheVariants as sweep
+use Rattle.stage_sweep.specs.declared.sweep.Swept.{Swept}
 use Rattle.frame_words.specs.Comp.{comp_of_word}
 use Rattle.frame_words.specs.Live.{live_of_word}
 use Rattle.frame_words.specs.declared.comp_word.CompWord.{CompWord}
@@ -62,7 +70,7 @@ use Rattle.stage_quiet.specs.Clocks.{drawn_stamp}
 use Rattle.spk_nums.specs.declared.kinds.Kind.{Kind}
 use Rattle.spk_nums.specs.declared.kinds.Kind.TheVariants as kind
 use Rattle.spk_nums.specs.declared.kinds.FrameKind.{FrameKind}
-use Rattle.spk_nums.specs.declared.kinds.FrameKind.TheVariants.{Kernel}
+use Rattle.spk_nums.specs.declared.kinds.FrameKind.TheVariants.{Untyped, User, Kernel}
 use Rattle.spk_nums.specs.declared.kinds.Obj.{Obj}
 use Rattle.spk_nums.specs.declared.kinds.Obj.TheVariants.{Blank}
 use Rattle.frame_words.specs.Frame.{word_of_frame, frame_of_word}
@@ -82,6 +90,7 @@ ActFits s (Outside node entry word) = (node < s.frames) × (entry < 64)
 ActFits s (tick_act charge) = ChargeFits s charge
 ActFits s (flush_act core) = core < s.cores
 ActFits s (kill_act m) = KillingFits s m
+ActFits s (untype_act m) = UntypingFits s m
 
 -- the stamp with which a removal that has drawn it goes on to its store
 abbrev pub drawn_by : Close → Option ℕ
@@ -107,6 +116,7 @@ act_move (Outside node entry word) = LoadOf (EntryAt node entry)
 act_move (tick_act charge) = charge_move charge
 act_move (flush_act core) = flush_move (flush_load core)
 act_move (kill_act m) = killing_move m
+act_move (untype_act m) = untyping_move m
 
 -- whether the next step of a removal draws its stamp
 abbrev pub is_draw : Close → Bool
@@ -124,6 +134,7 @@ act_ready (Outside node entry word) = false
 act_ready (tick_act charge) = is_charging charge
 act_ready (flush_act core) = true
 act_ready (kill_act m) = is_killing m.at
+act_ready (untype_act m) = is_drawing m.at
 
 -- the steps of a removal that are still to come
 abbrev pub close_left : Close → ℕ
@@ -131,16 +142,17 @@ close_left (close_compare node entry word core) = 3
 close_left (AtDraw node entry) = 2
 close_left (AtStore node entry stamp) = 1
 
--- the most steps of an act that are still to come, with those of what it leaves to be stored
-abbrev pub act_left : Act → ℕ
-act_left (fill_act fill) = 1
-act_left (remove_act close cap) = close_left close
-act_left (type_act typing) = typing_left typing.at
-act_left (make_act m) = making_left m.object m.at
-act_left (Outside node entry word) = 1
-act_left (tick_act charge) = charge_left charge
-act_left (flush_act core) = 2
+-- the most steps of an act that are still to come, with those of what it leaves to be stored, on so many cores
+abbrev pub act_left : ℕ → Act → ℕ
+act_left cores (fill_act fill) = 1
+act_left cores (remove_act close cap) = close_left close
+act_left cores (type_act typing) = typing_left typing.at
+act_left cores (make_act m) = making_left m.object m.at
+act_left cores (Outside node entry word) = 1
+act_left cores (tick_act charge) = charge_left charge
+act_left cores (flush_act core) = 2
 act_left (kill_act m) = killing_left m.at
+act_left cores (untype_act m) = untyping_left cores m.at
 
 -- a look answers what its name has led to
 abbrev pub looked : Option Capability → WorkStep
@@ -175,6 +187,7 @@ dues (Outside node entry word) = []
 dues (tick_act charge) = []
 dues (flush_act core) = []
 dues (kill_act m) = killing_dues m.comp m.at
+dues (untype_act m) = untyping_dues m.at
 
 -- a core acquires this count for an act next, or has acquired all and goes on to the act
 abbrev pub acquires : ℕ → Act → Option Due → Work
@@ -251,16 +264,57 @@ took_killing_at m (kill_draw life word) found = drawn_dead life (drawn_stamp fou
 abbrev pub took_killing : Killing → ℕ → WorkStep
 took_killing m found = took_killing_at m m.at found
 
+-- what an untyping takes from its step
+abbrev pub meets_untyped : Untyping → ℕ → FrameWord → FrameKind → Option ℕ → WorkStep
+meets_untyped m word v Untyped None = refuse wrong_kind
+meets_untyped m word v User None = Goes (act_work (untype_act (record m { at = untype_mark word v })))
+meets_untyped m word v Kernel None = Goes (act_work (untype_act (record m { at = untype_mark word v })))
+meets_untyped m word v k (Some d) = refuse (Busy d)
+
+abbrev pub meets_untyping : Untyping → ℕ → Option FrameWord → WorkStep
+meets_untyping m word None = refuse Raced
+meets_untyping m word (Some v) = meets_untyped m word v v.kind v.mark
+
+-- the sweep of a frame that is this begins with its first counter
+abbrev pub sweep_from : ℕ → FrameWord → ℕ → Sweep
+sweep_from f v core =
+    record { frame = f; word = v; core = core; kept = []; owned = record { first = None; second = None }; at = sweep.Load }
+
+abbrev pub sweeps_if : Untyping → ℕ → FrameWord → Bool → WorkStep
+sweeps_if m word v equal =
+    if equal then Goes (act_work (untype_act (record m { at = untype_sweep word (sweep_from m.frame v m.core) }))) else refuse Raced
+
+-- a sweep that is refused leaves the counters that it has frozen, and the frame's word, to be stored as they were found
+abbrev pub took_sweep : Untyping → ℕ → Sweep → StageEnd Swept → WorkStep
+took_sweep m word w ends.Going = Goes (act_work (untype_act (record m { at = untype_sweep word w })))
+took_sweep m word w (ends.Decided r) = Refuses (refusal_of r) (release_tail (release_of m.frame word (swept_of w) false))
+took_sweep m word w (ends.Done swept) = Goes (next_work m.core 0 (untype_act (record m { at = untype_draw word swept })))
+took_sweep m word w (ends.Refuse r) = Refuses (refusal_of r) (release_tail (release_of m.frame word (swept_of w) false))
+
+-- it is carried out: its counters are to be cleared, and the frame to be untyped
+abbrev pub drawn_untyped : ℕ → Swept → ℕ → WorkStep
+drawn_untyped f swept stamp = Answers nothing (Some stamp) (release_tail (release_of f (word_of_frame (typed Untyped)) swept true))
+
+abbrev pub took_untyping_at : Shape → Untyping → UntypingAt → ℕ → WorkStep
+took_untyping_at s m untype_load found = meets_untyping m found (frame_of_word found)
+took_untyping_at s m (untype_mark word v) found = sweeps_if m word v (found == word)
+took_untyping_at s m (untype_sweep word w) found = took_sweep m word (sweep_after s w found) (sweep_end s w found)
+took_untyping_at s m (untype_draw word w) found = drawn_untyped m.frame w (drawn_stamp found)
+
+abbrev pub took_untyping : Shape → Untyping → ℕ → WorkStep
+took_untyping s m found = took_untyping_at s m m.at found
+
 -- what an act takes from the word found
-abbrev pub took_act : Act → ℕ → WorkStep
-took_act (fill_act fill) found = took_fill fill found
-took_act (remove_act close cap) found = took_close cap (close_after close found) (close_end close found)
-took_act (type_act typing) found = took_typing typing found
-took_act (make_act m) found = took_making m found
-took_act (Outside node entry word) found = refuse OutOfRange
-took_act (tick_act charge) found = took_tick charge found
-took_act (flush_act core) found = took_flush core found
+abbrev pub took_act : Shape → Act → ℕ → WorkStep
+took_act s (fill_act fill) found = took_fill fill found
+took_act s (remove_act close cap) found = took_close cap (close_after close found) (close_end close found)
+took_act s (type_act typing) found = took_typing typing found
+took_act s (make_act m) found = took_making m found
+took_act s (Outside node entry word) found = refuse OutOfRange
+took_act s (tick_act charge) found = took_tick charge found
+took_act s (flush_act core) found = took_flush core found
 took_act (kill_act m) found = took_killing m found
+took_act s (untype_act m) found = took_untyping s m found
 
 -- what a refused call has still to store where it acquires a count for an act
 abbrev pub undo : Act → Tail
@@ -272,6 +326,7 @@ undo (Outside node entry word) = Nothing
 undo (tick_act charge) = Nothing
 undo (flush_act core) = Nothing
 undo (kill_act m) = Nothing
+undo (untype_act m) = untyping_undo m.frame m.at
 
 -- an act starts with its first count, where it is not out of range
 abbrev pub starts : ℕ → Act → WorkStep
@@ -376,14 +431,20 @@ stamp_of_act (Outside node entry word) = stamp_shown (entry_of_word word)
 stamp_of_act (tick_act charge) = 0
 stamp_of_act (flush_act core) = 0
 stamp_of_act (kill_act m) = 0
+stamp_of_act (untype_act m) = 0
 
--- a frame is typed where it is in the range, which has none past the machine's
-abbrev pub types_if : Bool → ℕ → FrameKind → WorkStep
-types_if within f k = if within then Goes (act_work (type_act (record { frame = f; kind = k; at = Load }))) else refuse OutOfRange
+-- a frame is typed, or made untyped again, where it is in the range, which has none past the machine's
+abbrev pub typing_to : ℕ → ℕ → FrameKind → Act
+typing_to core f Untyped = untype_act (record { frame = f; core = core; at = untype_load })
+typing_to core f User = type_act (record { frame = f; kind = User; at = Load })
+typing_to core f Kernel = type_act (record { frame = f; kind = Kernel; at = Load })
+
+abbrev pub types_if : Bool → ℕ → ℕ → FrameKind → WorkStep
+types_if within core f k = if within then Goes (act_work (typing_to core f k)) else refuse OutOfRange
 
 abbrev pub types_at : Own → Option Capability → ℕ → FrameKind → WorkStep
 types_at own None f k = refuse Raced
-types_at own (Some range) f k = types_if (has_frame (named range) f && nat_lt f own.layout.frames) f k
+types_at own (Some range) f k = types_if (has_frame (named range) f && nat_lt f own.layout.frames) own.core f k
 
 -- an object is made in a frame of the range, and its capability put at the target
 abbrev pub making : Own → NewObject → ℕ → Found → Act

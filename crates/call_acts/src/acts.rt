@@ -17,7 +17,8 @@ ghost use Rattle.word_map.specs.Places.{Shape, size_of};
 ghost use Rattle.word_map.specs.Moves.{op_of};
 ghost use Rattle.spk_nums.specs.WordSteps.{place_in};
 ghost use Rattle.call_acts.specs.WorkSteps.{refuse};
-ghost use Rattle.call_acts.specs.Acts.{gate_if, gate_to, frame_named, reads_of, ActFits, act_move, took_act, act_ready, looked, cap_dues, dues, acquires, next_work, filling, fills_at, fills_with, act_begun, drawn_by, took_close, is_draw, scans, stamp_in, removing, removes_held, removes_at, types_if, types_at, starts, undo, made_dues, makes_at, makes_in, killing_dues, kills_in, kills_at, link_to, is_pages};
+ghost use Rattle.call_acts.specs.Acts.{gate_if, gate_to, frame_named, reads_of, ActFits, act_move, took_act, act_ready, looked, cap_dues, dues, acquires, next_work, filling, fills_at, fills_with, act_begun, drawn_by, took_close, is_draw, scans, stamp_in, removing, removes_held, removes_at, types_if, types_at, starts, undo, made_dues, makes_at, makes_in, killing_dues, kills_in, kills_at, link_to, is_pages, typing_to};
+ghost use Rattle.call_acts.specs.Untypings.{untyping_dues, owned_dues};
 ghost use Rattle.kernel_rules.specs.Access.{found as named_by_cap};
 ghost use Rattle.kernel_rules.specs.CapabilityCalls.{has_frame};
 
@@ -30,6 +31,7 @@ use crate::own::Own;
 use crate::refusals::Refusal;
 use crate::ticks::{charges, is_charging, tick_op, tick_took};
 use crate::typings::{Typing, TypingAt};
+use crate::untypings::{Untyping, UntypingAt};
 use crate::work::{Act, Due, Tail, Work, WorkStep};
 use call_plans::{Caps, Nth};
 use entry_words::Entry;
@@ -39,6 +41,7 @@ use spk_nums::{
 use stage_look::Found;
 use stage_pins::Pin;
 use stage_quiet::{Close, Quiet};
+use stage_sweep::Owned;
 use word_map::Layout;
 
 /// The next step of an act. What it names is of the layout's machine.
@@ -63,6 +66,7 @@ pub fn act_op(act: &Act, layout: &Layout) -> WordOp
         Act::Tick { charge } => tick_op(charge, layout),
         Act::Flush { core } => flush_op(*core, layout),
         Act::Kill { killing } => killing.next(layout),
+        Act::Untype { untyping } => untyping.next(layout),
     }
 }
 
@@ -70,7 +74,7 @@ pub fn act_op(act: &Act, layout: &Layout) -> WordOp
 #[inline]
 pub fn act_took(act: &Act, layout: &Layout, found: u64) -> WorkStep
     requires { ActFits layout.now act.now }
-    ensures { result ≡ took_act act.now found }
+    ensures { result ≡ took_act layout.now act.now found }
 {
     match act {
         Act::Fill { fill } => fill.take(found),
@@ -85,6 +89,7 @@ pub fn act_took(act: &Act, layout: &Layout, found: u64) -> WorkStep
         Act::Tick { charge } => tick_took(charge, layout, found),
         Act::Flush { core } => flush_took(*core, layout, found),
         Act::Kill { killing } => killing.take(found),
+        Act::Untype { untyping } => untyping.take(layout, found),
     }
 }
 
@@ -138,6 +143,7 @@ pub fn act_ready(act: &Act) -> bool
         Act::Tick { charge } => is_charging(charge),
         Act::Flush { core: _ } => true,
         Act::Kill { killing } => killing.is_ready(),
+        Act::Untype { untyping } => untyping.is_ready(),
     }
 }
 
@@ -181,6 +187,7 @@ fn due(act: &Act, n: u8) -> Option<Due>
         Act::Tick { charge: _ } => None,
         Act::Flush { core: _ } => None,
         Act::Kill { killing } => killing_due(killing, n),
+        Act::Untype { untyping } => untyping_due(untyping, n),
     }
 }
 
@@ -405,6 +412,7 @@ pub fn undo(act: &Act) -> Tail
 {
     match act {
         Act::Make { making } => making.undo(),
+        Act::Untype { untyping } => untyping.undo(),
         _ => Tail::Nothing,
     }
 }
@@ -517,22 +525,39 @@ fn types_at(own: &Own, range: &Option<Cap>, frame: FrameArg, kind: FrameKind) ->
 // A frame is typed where it is in the range, which has none past the machine's.
 #[inline]
 fn types_in(own: &Own, range: &Cap, frame: FrameArg, kind: FrameKind) -> WorkStep
-    ensures { result ≡ types_if (has_frame (named_by_cap range.now) frame && nat_lt frame own.now.layout.frames) frame kind }
+    ensures { result ≡ types_if (has_frame (named_by_cap range.now) frame && nat_lt frame own.now.layout.frames) own.now.core frame kind }
 {
     if has_frame(range, frame) && frame.number() < own.layout.frames() {
         WorkStep::Goes {
             work: Work::Act {
-                act: Act::Retype {
-                    typing: Typing {
-                        frame: FrameNo::new(frame.number()),
-                        kind,
-                        at: TypingAt::Load,
-                    },
-                },
+                act: typing_to(own.core, FrameNo::new(frame.number()), kind),
             },
         }
     } else {
         refuse(Refusal::OutOfRange)
+    }
+}
+
+// The act that makes a frame one of this kind.
+#[inline]
+fn typing_to(core: CoreNo, frame: FrameNo, kind: FrameKind) -> Act
+    ensures { result ≡ typing_to core frame kind }
+{
+    match kind {
+        FrameKind::Untyped => Act::Untype {
+            untyping: Untyping {
+                frame,
+                core,
+                at: UntypingAt::Load,
+            },
+        },
+        _ => Act::Retype {
+            typing: Typing {
+                frame,
+                kind,
+                at: TypingAt::Load,
+            },
+        },
     }
 }
 
@@ -568,6 +593,36 @@ fn one_due(frame: FrameNo, change: i32, n: u8) -> Option<Due>
         Some(Due { frame, change })
     } else {
         None
+    }
+}
+
+// The count of this number that an untyping changes.
+#[inline]
+fn untyping_due(untyping: &Untyping, n: u8) -> Option<Due>
+    ensures { result ≡ slice_get (untyping_dues untyping.now.at) n }
+{
+    match &untyping.at {
+        UntypingAt::Draw { word: _, swept } => owned_due(&swept.owned, n),
+        _ => None,
+    }
+}
+
+// The count of this number that changes where the references are released that an object has itself.
+#[inline]
+fn owned_due(owned: &Owned, n: u8) -> Option<Due>
+    ensures { result ≡ slice_get (owned_dues owned.now) n }
+{
+    match (owned.first, owned.second) {
+        (None, None) => None,
+        (None, Some(second)) => one_due(second, -1, n),
+        (Some(first), None) => one_due(first, -1, n),
+        (Some(first), Some(second)) => {
+            if n == 0 {
+                one_due(first, -1, 0)
+            } else {
+                one_due(second, -1, n - 1)
+            }
+        }
     }
 }
 

@@ -21,6 +21,12 @@
 //! **Retype to user or kernel.** The frame's word is loaded, and compared with the word found, which says that the frame is untyped and
 //! that no core has marked it; the compare decides.
 //!
+//! **Retype to untyped.** The frame's word is loaded, and marked by a compare with the word found, which says that the frame is no untyped
+//! one and that no core has marked it. Then its counters are frozen and summed, the cores are scanned that may still use it, and its object
+//! is looked at. The counts are acquired of what the object itself refers to, and a stamp is drawn, which decides. After these counts
+//! are committed the frozen counters are stored, and then the frame's word: cleared and untyped, or, where the call is refused after the
+//! mark, all as they were found. No call is carried out with it today.
+//!
 //! **Make an object.** The frame's word is loaded, and compared with the word found, which says that the frame is a blank kernel frame
 //! and that no core has marked it; the compare marks it. Then the counts are acquired that the object changes: that of the frame, and
 //! of a thread that of its component. Its words are stored, and the target's entry is compared with the word that this call has loaded
@@ -63,6 +69,7 @@ mod own;
 mod refusals;
 mod ticks;
 mod typings;
+mod untypings;
 mod work;
 
 pub use acts::{act_op, act_ready, act_took, begin_act, next_work, reads_of, refuse, starts, undo};
@@ -76,4 +83,5 @@ pub use objects::NewObject;
 pub use own::{Own, OwnChange};
 pub use refusals::Refusal;
 pub use typings::{Typing, TypingAt};
+pub use untypings::{Release, Untyping, UntypingAt};
 pub use work::{Act, Due, Tail, Work, WorkStep};

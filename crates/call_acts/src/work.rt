@@ -6,6 +6,7 @@ use crate::makings::Making;
 use crate::own::OwnChange;
 use crate::refusals::Refusal;
 use crate::typings::Typing;
+use crate::untypings::{Release, Untyping};
 use frame_words::CompWord;
 use spk_nums::{Cap, CoreNo, EntryNo, FrameNo, Reply, Stamp, Value};
 use stage_look::Look;
@@ -51,6 +52,10 @@ pub enum Act {
     Kill {
         killing: Killing,
     },
+    /// It makes a user frame or a kernel frame untyped again.
+    Untype {
+        untyping: Untyping,
+    },
 }
 
 /// A count that an act changes: that of the references to a frame, by so many.
@@ -93,6 +98,9 @@ pub enum Tail {
     StoreDead { life: CompWord, stamp: Stamp },
     /// The word of a core's last flush, which this stamp has.
     StoreFlush { core: CoreNo, stamp: Stamp },
+    /// The counters that the call has frozen, and then the word of their frame, which it has marked. These are stored after its counts
+    /// are committed.
+    Release { release: Release },
 }
 
 /// What a step of the work of a call led to.

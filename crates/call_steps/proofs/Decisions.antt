@@ -55,13 +55,13 @@ use Rattle.call_acts.specs.declared.makings.MakingAt.{MakingAt}
 use Rattle.call_acts.specs.declared.makings.MakingAt.TheVariants.{Load as make_load, Mark, Store, Fill as fill_at}
 use Rattle.call_acts.specs.Makings.{is_filling}
 use Rattle.call_acts.specs.declared.work.Act.{Act as ActType}
-use Rattle.call_acts.specs.declared.work.Act.TheVariants.{Fill as fill_act, Remove as remove_act, Retype as type_act, Make as make_act, Outside, Tick as tick_act, Flush as flush_act, Kill as kill_act}
+use Rattle.call_acts.specs.declared.work.Act.TheVariants.{Fill as fill_act, Remove as remove_act, Retype as type_act, Make as make_act, Outside, Tick as tick_act, Flush as flush_act, Kill as kill_act, Untype as untype_act}
 use Rattle.call_acts.specs.declared.work.Work.{Work}
 use Rattle.call_acts.specs.declared.work.Work.TheVariants.{Lookup, Read, Scan, Acquire, Act}
 use Rattle.call_steps.specs.declared.stages.Stage.{Stage}
 use Rattle.call_steps.specs.declared.stages.Stage.TheVariants.{Enter, Undecided, Decided, Leave}
 use Rattle.call_acts.specs.declared.work.Tail.{Tail}
-use Rattle.call_acts.specs.declared.work.Tail.TheVariants.{Nothing, Quiesce, Unmark, StoreDead, StoreFlush}
+use Rattle.call_acts.specs.declared.work.Tail.TheVariants.{Nothing, Quiesce, Unmark, StoreDead, StoreFlush, Release}
 use Rattle.call_steps.specs.declared.stages.ActiveCall.{ActiveCall}
 use Rattle.call_acts.specs.declared.work.WorkStep.{WorkStep}
 use Rattle.call_acts.specs.declared.work.WorkStep.TheVariants.{Goes, Acquires, Refuses as refuses_to, Answers, Changes as work_changes}
@@ -69,7 +69,7 @@ use Rattle.call_acts.specs.Refusals.{refusal_of}
 use Rattle.call_acts.proofs.Refusing.{refusal_refuses}
 use Rattle.call_acts.specs.Fills.{filled_if}
 use Rattle.call_acts.specs.WorkSteps.{refuse}
-use Rattle.call_acts.specs.Acts.{took_close, is_draw, took_act, act_ready, reads_of, fills_with, removes_held, removes_at, act_begun, types_if, types_at, stamp_in, filling, starts, scans, makes_at, meets_object, meets_blank, meets_making, marks_if, published, took_making_at, kills_in, kills_at, meets_comp, meets_live, meets_number, meets_life, closes_if, took_killing_at}
+use Rattle.call_acts.specs.Acts.{took_close, is_draw, took_act, act_ready, reads_of, fills_with, removes_held, removes_at, act_begun, types_if, types_at, stamp_in, filling, starts, scans, makes_at, meets_object, meets_blank, meets_making, marks_if, published, took_making_at, kills_in, kills_at, meets_comp, meets_live, meets_number, meets_life, closes_if, took_killing_at, meets_untyped, meets_untyping, sweeps_if, took_sweep, took_untyping_at}
 use Rattle.call_plans.specs.declared.plans.Nth.TheVariants.{First}
 use Rattle.frame_words.specs.declared.frame_word.FrameWord.{FrameWord}
 use Rattle.spk_nums.specs.declared.kinds.Kind.{Kind}
@@ -81,6 +81,13 @@ use Rattle.call_acts.specs.declared.kills.Killing.{Killing}
 use Rattle.call_acts.specs.declared.kills.KillingAt.{KillingAt}
 use Rattle.call_acts.specs.declared.kills.KillingAt.TheVariants.{LoadComp, LoadLive, Close as kill_close, Draw as kill_draw}
 use Rattle.call_acts.specs.Kills.{is_killing}
+use Rattle.word_map.specs.Places.{Shape}
+use Rattle.stage_sweep.specs.declared.sweep.Sweep.{Sweep}
+use Rattle.stage_sweep.specs.declared.sweep.Swept.{Swept}
+use Rattle.call_acts.specs.declared.untypings.Untyping.{Untyping}
+use Rattle.call_acts.specs.declared.untypings.UntypingAt.{UntypingAt}
+use Rattle.call_acts.specs.declared.untypings.UntypingAt.TheVariants as untype
+use Rattle.call_acts.specs.Untypings.{is_drawing}
 use Rattle.call_acts.specs.declared.typings.Typing.{Typing}
 use Rattle.call_acts.specs.declared.typings.TypingAt.{TypingAt}
 use Rattle.call_acts.specs.declared.typings.TypingAt.TheVariants.{Load, Compare as type_compare}
@@ -133,7 +140,7 @@ work_turns own a (Scan q act) found =
     landed_turns a (took_scan own.core act (quiet_after own.layout.cores q found) (quiet_end own.layout.cores q found))
 work_turns own a (Acquire pin change act) found =
     landed_turns a (took_count own.core (length a.counts) change act (pin_after pin found) (pin_end pin found))
-work_turns own a (Act act) found = landed_turns a (took_act act found)
+work_turns own a (Act act) found = landed_turns a (took_act own.layout act found)
 
 tail_turns : (a : ActiveCall) (r : Reply) (drawn : Option ℕ) (tail : Tail) (counts : List Acquired) (found : ℕ)
     → Turns (Some r) (GoesOn (went_with a (tail_counts tail counts) (took_tail r drawn tail counts found)))
@@ -143,6 +150,8 @@ tail_turns a r drawn (StoreDead life stamp) counts found = refl
 tail_turns a r drawn (StoreFlush core stamp) counts found = refl
 tail_turns a r drawn Nothing [] found = refl
 tail_turns a r drawn Nothing (x ∷ xs) found = refl
+tail_turns a r drawn (Release release) [] found = refl
+tail_turns a r drawn (Release release) (x ∷ xs) found = refl
 
 stage_turns : (own : Own) (a : ActiveCall) (stage : Stage) (found : ℕ) → Turns (reply_at stage) (took_at own a stage found)
 stage_turns own a Enter found = enter_turns _ own a
@@ -190,6 +199,7 @@ starts_no core (make_act m) = tt
 starts_no core (tick_act charge) = tt
 starts_no core (flush_act by) = tt
 starts_no core (kill_act m) = tt
+starts_no core (untype_act m) = tt
 
 scans_no : (core : ℕ) (o : Option Quiet) (act : ActType) → NoAnswer (scans core o act)
 scans_no core None act = starts_no core act
@@ -210,13 +220,13 @@ remove_no : (core : ℕ) (target : Option Found) → NoAnswer (removes_at core t
 remove_no core None = tt
 remove_no core (Some f) = held_no core f f.value
 
-type_no : (within : Bool) (f : ℕ) (k : FrameKind) → NoAnswer (types_if within f k)
-type_no true f k = tt
-type_no false f k = tt
+type_no : (within : Bool) (core f : ℕ) (k : FrameKind) → NoAnswer (types_if within core f k)
+type_no true core f k = tt
+type_no false core f k = tt
 
 types_no : (own : Own) (range : Option Capability) (f : ℕ) (k : FrameKind) → NoAnswer (types_at own range f k)
 types_no own None f k = tt
-types_no own (Some range) f k = type_no _ f k
+types_no own (Some range) f k = type_no _ own.core f k
 
 makes_no : (own : Own) (object : Option NewObject) (range : Option Capability) (f : ℕ) (target : Option Found)
     → NoAnswer (makes_at own object range f target)
@@ -470,15 +480,43 @@ killing_no m (LoadLive life) found not = live_no m life found _
 killing_no m (kill_close life word) found not = closes_no m life word _
 killing_no m (kill_draw life word) found not = absurd (cc)
 
-act_unready : (act : ActType) (found : ℕ) → act_ready act ≡ false → NoAnswer (took_act act found)
-act_unready (fill_act fill) found not = absurd (cc)
-act_unready (remove_act close cap) found not = close_no cap close found not
-act_unready (type_act typing) found not = typing_no typing typing.at found not
-act_unready (make_act m) found not = making_no m m.at found not
-act_unready (Outside node entry word) found not = tt
-act_unready (tick_act charge) found not = charge_no charge found not
-act_unready (flush_act core) found not = absurd (cc)
+untyped_no : (m : Untyping) (word : ℕ) (v : FrameWord) (k : FrameKind) (mark : Option ℕ) → NoAnswer (meets_untyped m word v k mark)
+untyped_no m word v k (Some d) = tt
+untyped_no m word v Untyped None = tt
+untyped_no m word v User None = tt
+untyped_no m word v Kernel None = tt
+
+untyping_met : (m : Untyping) (word : ℕ) (o : Option FrameWord) → NoAnswer (meets_untyping m word o)
+untyping_met m word None = tt
+untyping_met m word (Some v) = untyped_no m word v v.kind v.mark
+
+sweeps_no : (m : Untyping) (word : ℕ) (v : FrameWord) (equal : Bool) → NoAnswer (sweeps_if m word v equal)
+sweeps_no m word v true = tt
+sweeps_no m word v false = tt
+
+sweep_no : (m : Untyping) (word : ℕ) (w : Sweep) (end : StageEnd Swept) → NoAnswer (took_sweep m word w end)
+sweep_no m word w ends.Going = tt
+sweep_no m word w (ends.Decided r) = tt
+sweep_no m word w (ends.Done swept) = tt
+sweep_no m word w (ends.Refuse r) = tt
+
+untyping_no : (s : Shape) (m : Untyping) (at : UntypingAt) (found : ℕ) → is_drawing at ≡ false
+    → NoAnswer (took_untyping_at s m at found)
+untyping_no s m untype.Load found not = untyping_met m found _
+untyping_no s m (untype.Mark word v) found not = sweeps_no m word v _
+untyping_no s m (untype.Sweep word w) found not = sweep_no m word _ _
+untyping_no s m (untype.Draw word w) found not = absurd (cc)
+
+act_unready : (s : Shape) (act : ActType) (found : ℕ) → act_ready act ≡ false → NoAnswer (took_act s act found)
+act_unready s (fill_act fill) found not = absurd (cc)
+act_unready s (remove_act close cap) found not = close_no cap close found not
+act_unready s (type_act typing) found not = typing_no typing typing.at found not
+act_unready s (make_act m) found not = making_no m m.at found not
+act_unready s (Outside node entry word) found not = tt
+act_unready s (tick_act charge) found not = charge_no charge found not
+act_unready s (flush_act core) found not = absurd (cc)
 act_unready (kill_act m) found not = killing_no m m.at found not
+act_unready s (untype_act m) found not = untyping_no s m m.at found not
 
 -- a step of a scan answers nothing
 scan_refuses : (core : ℕ) (act : ActType) (a : ActiveCall) (q : Quiet) (end : StageEnd (Unit {0}))
@@ -508,7 +546,7 @@ work_refuses own a decides (Scan q act) found is active not =
     scan_refuses own.core act a (quiet_after own.layout.cores q found) (quiet_end own.layout.cores q found)
 work_refuses own a decides (Acquire pin change act) found is active not =
     count_refuses own.core (length a.counts) change act a (pin_after pin found) (pin_end pin found)
-work_refuses own a decides (Act act) found is active not = landed_refuses a (took_act act found) (act_unready act found not)
+work_refuses own a decides (Act act) found is active not = landed_refuses a (took_act own.layout act found) (act_unready own.layout act found not)
 work_refuses own a false (Lookup look) found is active not =
     look_refuses own a look found _ (λ last f. plain_found own a (ap (λ (p : Plan). decides_at_name p.decides) (sym active.plan) ∙ sym is)
     _ f)
@@ -597,17 +635,26 @@ killing_decides a m (LoadLive life) found ready = absurd (cc)
 killing_decides a m (kill_close life word) found ready = absurd (cc)
 killing_decides a m (kill_draw life word) found ready = tt
 
-act_decides : (a : ActiveCall) (act : ActType) (found : ℕ) → act_ready act ≡ true → IsDecision (landed a (took_act act found))
-act_decides a (fill_act fill) found ready = fill_decides a _
-act_decides a (remove_act (AtCompare node index word core) cap) found ready = absurd (cc)
-act_decides a (remove_act (AtDraw node index) cap) found ready = tt
-act_decides a (remove_act (AtStore node index stamp) cap) found ready = absurd (cc)
-act_decides a (type_act typing) found ready = typing_decides a typing typing.at found ready
-act_decides a (make_act m) found ready = making_decides a m m.at found ready
-act_decides a (Outside node entry word) found ready = absurd (cc)
-act_decides a (tick_act charge) found ready = charge_decides a charge found ready
-act_decides a (flush_act core) found ready = tt
+untyping_decides : (s : Shape) (a : ActiveCall) (m : Untyping) (at : UntypingAt) (found : ℕ) → is_drawing at ≡ true
+    → IsDecision (landed a (took_untyping_at s m at found))
+untyping_decides s a m untype.Load found ready = absurd (cc)
+untyping_decides s a m (untype.Mark word v) found ready = absurd (cc)
+untyping_decides s a m (untype.Sweep word w) found ready = absurd (cc)
+untyping_decides s a m (untype.Draw word w) found ready = tt
+
+act_decides : (s : Shape) (a : ActiveCall) (act : ActType) (found : ℕ) → act_ready act ≡ true
+    → IsDecision (landed a (took_act s act found))
+act_decides s a (fill_act fill) found ready = fill_decides a _
+act_decides s a (remove_act (AtCompare node index word core) cap) found ready = absurd (cc)
+act_decides s a (remove_act (AtDraw node index) cap) found ready = tt
+act_decides s a (remove_act (AtStore node index stamp) cap) found ready = absurd (cc)
+act_decides s a (type_act typing) found ready = typing_decides a typing typing.at found ready
+act_decides s a (make_act m) found ready = making_decides a m m.at found ready
+act_decides s a (Outside node entry word) found ready = absurd (cc)
+act_decides s a (tick_act charge) found ready = charge_decides a charge found ready
+act_decides s a (flush_act core) found ready = tt
 act_decides a (kill_act m) found ready = killing_decides a m m.at found ready
+act_decides s a (untype_act m) found ready = untyping_decides s a m m.at found ready
 
 begun_over : (own : Own) (call : Call) (k : Capability) → decides_at_name (plan_for call).decides ≡ true
     → IsOver (act_begun own call (k ∷ []) None None)
@@ -685,7 +732,7 @@ work_decides : (own : Own) (a : ActiveCall) (work : Work) (found : ℕ) → IsAc
 work_decides own a (Read comp look) found active ready = absurd (cc)
 work_decides own a (Scan q act) found active ready = absurd (cc)
 work_decides own a (Acquire pin change act) found active ready = absurd (cc)
-work_decides own a (Act act) found active ready = act_decides a act found ready
+work_decides own a (Act act) found active ready = act_decides own.layout a act found ready
 work_decides own a (Lookup look) found active ready =
     let all = three (decides_at_name a.plan.decides) (is_last_name a.plan a.found) (is_last look) ready in
     let is = ap (λ (p : Plan). decides_at_name p.decides) (sym active.plan) ∙ all.0 in

@@ -86,9 +86,9 @@ use Rattle.call_steps.specs.Tails.{tail_left, took_tail, tail_counts}
 use Rattle.call_steps.specs.Fits.{TailFits, ScanFits, WorkFits, StageFits, IsWanted, FoundFits, HasRoom, CountsWait, CountsAt, looks_later, after_reading, acts_later, names_left, steps_later, left_of_look, left_of_scan, left_of_pin, work_left, left_at, left_of, IsActive, IsOwn, left_of_cores}
 use Rattle.call_steps.proofs.StepsFit.{StepFits, starts_fit, few_dues, object_count, work_next, counts_next, first_named, act_fits}
 use Rattle.call_acts.specs.declared.work.Act.{Act as ActType}
-use Rattle.call_acts.specs.declared.work.Act.TheVariants.{Fill as fill_act, Remove as remove_act, Retype as type_act, Make as make_act, Outside, Tick as tick_act, Flush as flush_act, Kill as kill_act}
+use Rattle.call_acts.specs.declared.work.Act.TheVariants.{Fill as fill_act, Remove as remove_act, Retype as type_act, Make as make_act, Outside, Tick as tick_act, Flush as flush_act, Kill as kill_act, Untype as untype_act}
 use Rattle.call_acts.specs.declared.work.Tail.{Tail}
-use Rattle.call_acts.specs.declared.work.Tail.TheVariants.{Nothing, Quiesce, Unmark, StoreDead, StoreFlush}
+use Rattle.call_acts.specs.declared.work.Tail.TheVariants.{Nothing, Quiesce, Unmark, StoreDead, StoreFlush, Release}
 use Rattle.call_steps.specs.declared.stages.Stage.{Stage}
 use Rattle.call_steps.specs.declared.stages.Stage.TheVariants.{Enter, Undecided, Decided, Leave}
 use Rattle.call_steps.specs.declared.stages.ActiveCall.{ActiveCall}
@@ -104,6 +104,7 @@ use Rattle.call_acts.specs.Lookups.{met_name, met_free, met_held}
 use Rattle.call_steps.specs.Steps.{GoesOn, landed, found_more, next_by, took_enter, named_one, read_more, took_read, took_found, took_end, took_look, took_scan, took_count, took_work, went_with, is_spent, took_at, took}
 use Rattle.call_steps.proofs.LandsFit.{TookFits, Facts, names_object, next_fits, landed_fits}
 use Rattle.call_steps.proofs.KillsFit.{kill_fits}
+use Rattle.call_steps.proofs.UntypingsFit.{untype_fits, undone_fits, released_fits}
 
 -- a step of the work of a call that has acquired its counts, or acquires them
 module _ (own : Own) (a : ActiveCall) (facts : Facts own a) (room : own.made < own.limit) where
@@ -271,7 +272,7 @@ module _ (own : Own) (a : ActiveCall) (facts : Facts own a) (room : own.made < o
       charged_fits ticks (min ticks budget) (charge_compare tcap ticks budget version) (word == word_of_head (head budget version))
 
   done_fits : (act : ActType) (found : ℕ) → ActFits own.layout act → length a.counts ≡ length (dues act)
-      → TookFits own (left_at own.layout.cores a (Undecided (Act act))) a (landed a (took_act act found))
+      → TookFits own (left_at own.layout.cores a (Undecided (Act act))) a (landed a (took_act own.layout act found))
   done_fits (fill_act fill) found fits waits = fill_if _ _ (omega arith)
   done_fits (remove_act close cap) found fits waits = close_fits close cap found fits.0 fits.1 waits
   done_fits (type_act typing) found fits waits = type_fits typing typing.at found fits waits
@@ -282,8 +283,9 @@ module _ (own : Own) (a : ActiveCall) (facts : Facts own a) (room : own.made < o
       landed_fits own a a refl refl refl facts.found facts.acquired room 1 _
       (work_changes (reply.Ok nothing) Empties (StoreFlush core (stamp_of_clock found))) (omega arith, fits) (omega arith)
   done_fits (kill_act m) found fits waits = kill_fits own a facts room m m.at found fits waits
+  done_fits (untype_act m) found fits waits = untype_fits own a facts room m m.at found fits waits
 
-  undo_fits : (act : ActType) → ActFits own.layout act → TailFits own.layout (undo act) × (tail_left (undo act) ≤ act_left act)
+  undo_fits : (act : ActType) → ActFits own.layout act → TailFits own.layout (undo act) × (tail_left (undo act) ≤ act_left own.layout.cores act)
   undo_fits (fill_act fill) fits = (tt, omega arith)
   undo_fits (remove_act close cap) fits = (tt, omega arith)
   undo_fits (type_act typing) fits = (tt, omega arith)
@@ -298,6 +300,7 @@ module _ (own : Own) (a : ActiveCall) (facts : Facts own a) (room : own.made < o
   undo_fits (tick_act charge) fits = (tt, omega arith)
   undo_fits (flush_act core) fits = (tt, omega arith)
   undo_fits (kill_act m) fits = (tt, omega arith)
+  undo_fits (untype_act m) fits = undone_fits own.layout m m.at facts.own_fits.shape fits
 
   -- a scan goes on to the next core, to the flush words, or to the act
   core_left : (core at : ℕ) → core < own.layout.cores → at < own.layout.cores → 1 ≤ left_of_cores own.layout.cores core at
@@ -402,22 +405,22 @@ module _ (own : Own) (a : ActiveCall) (facts : Facts own a) (room : own.made < o
 
   scan_end_fits : (left : ℕ) (act : ActType) (q : Quiet) (end : StageEnd (Unit {0})) → a.counts ≡ [] → ActFits own.layout act
       → (end ≡ ends.Going → QuietFits own.layout q × ScanFits own.layout q ×
-      (2 + (left_of_scan own.layout.cores q + 3 * length (dues act) + act_left act) < left))
-      → 2 + (3 * length (dues act) + act_left act) < left → TookFits own left a (landed a (took_scan own.core act q end))
+      (2 + (left_of_scan own.layout.cores q + 3 * length (dues act) + act_left own.layout.cores act) < left))
+      → 2 + (3 * length (dues act) + act_left own.layout.cores act) < left → TookFits own left a (landed a (took_scan own.core act q end))
   scan_end_fits left act q ends.Going none fits goes some =
       let empty : length a.counts ≡ 0 = ap length none in
       let on = goes refl in
       landed_fits own a a refl refl refl facts.found facts.acquired room
-      (left_of_scan own.layout.cores q + 3 * length (dues act) + act_left act) left (Goes (Scan q act))
+      (left_of_scan own.layout.cores q + 3 * length (dues act) + act_left own.layout.cores act) left (Goes (Scan q act))
       ((on.0, on.1, fits), omega arith, none) (let fewer = on.2 in omega arith)
   scan_end_fits left act q (ends.Decided r) none fits goes some =
       let empty : length a.counts ≡ 0 = ap length none in act_refused left (refusal_of r) (omega arith)
   scan_end_fits left act q (ends.Done x) none fits goes some =
       let empty : length a.counts ≡ 0 = ap length none in
-      landed_fits own a a refl refl refl facts.found facts.acquired room (3 * length (dues act) + act_left act) left (starts own.core act)
-      (subst (λ (xs : List Acquired). StepFits own.layout xs (steps_later own.layout.cores a) (3 * length (dues act) + act_left act)
+      landed_fits own a a refl refl refl facts.found facts.acquired room (3 * length (dues act) + act_left own.layout.cores act) left (starts own.core act)
+      (subst (λ (xs : List Acquired). StepFits own.layout xs (steps_later own.layout.cores a) (3 * length (dues act) + act_left own.layout.cores act)
       (starts own.core act)) (sym none)
-      (starts_fit own.layout (steps_later own.layout.cores a) (3 * length (dues act) + act_left act) own.core act facts.own_fits.core fits
+      (starts_fit own.layout (steps_later own.layout.cores a) (3 * length (dues act) + act_left own.layout.cores act) own.core act facts.own_fits.core fits
       (omega arith))) (omega arith)
   scan_end_fits left act q (ends.Refuse r) none fits goes some =
       let empty : length a.counts ≡ 0 = ap length none in act_refused left (refusal_of r) (omega arith)
@@ -444,7 +447,7 @@ module _ (own : Own) (a : ActiveCall) (facts : Facts own a) (room : own.made < o
 
   count_done : (left : ℕ) (p : Pinned) (change : ℤ) (act : ActType) → PinnedFits own.layout p → ActFits own.layout act
       → length a.counts < length (dues act)
-      → 2 + length a.counts + (1 + 3 * (length (dues act) - (length a.counts + 1)) + act_left act) < left
+      → 2 + length a.counts + (1 + 3 * (length (dues act) - (length a.counts + 1)) + act_left own.layout.cores act) < left
       → TookFits own left a (landed a (Acquires (record { pin = p; change = change }) (next_work own.core (length a.counts + 1) act)))
   count_done left p change act pinned fits more some =
       let few : length a.counts < 4 = (let four = few_dues act in omega (arith, four, more)) in
@@ -480,13 +483,13 @@ module _ (own : Own) (a : ActiveCall) (facts : Facts own a) (room : own.made < o
   count_end : (left : ℕ) (change : ℤ) (act : ActType) (pin : Pin) (end : StageEnd Pinned) → PinFits own.layout pin
       → EndFits own.layout end → ActFits own.layout act
       → length a.counts < length (dues act)
-      → (end ≡ ends.Going → 2 + length a.counts + (left_of_pin pin + 1 + 3 * (length (dues act) - (length a.counts + 1)) + act_left act) <
+      → (end ≡ ends.Going → 2 + length a.counts + (left_of_pin pin + 1 + 3 * (length (dues act) - (length a.counts + 1)) + act_left own.layout.cores act) <
       left)
-      → 2 + length a.counts + (1 + 3 * (length (dues act) - (length a.counts + 1)) + act_left act) < left
+      → 2 + length a.counts + (1 + 3 * (length (dues act) - (length a.counts + 1)) + act_left own.layout.cores act) < left
       → TookFits own left a (landed a (took_count own.core (length a.counts) change act pin end))
   count_end left change act pin ends.Going pin_fits end fits more goes some =
       landed_fits own a a refl refl refl facts.found facts.acquired room
-      (left_of_pin pin + 1 + 3 * (length (dues act) - (length a.counts + 1)) + act_left act) left
+      (left_of_pin pin + 1 + 3 * (length (dues act) - (length a.counts + 1)) + act_left own.layout.cores act) left
       (Goes (Acquire pin change act)) ((pin_fits, fits), omega arith, more) (goes refl)
   count_end left change act pin (ends.Decided r) pin_fits end fits more goes some =
       let undone = undo_fits act fits in act_undone left (refusal_of r) (undo act) undone.0 (let few = undone.1 in omega arith)
@@ -733,10 +736,10 @@ enter_fits own a false is facts none =
     (next_fits own a facts) (omega arith)
 
 tail_fits : (own : Own) (a : ActiveCall) (r : Reply) (drawn : Option ℕ) (tail : Tail) (counts : List Acquired) (found : ℕ) → Facts own a
-    → a.counts ≡ counts
+    → a.counts ≡ counts → TailFits own.layout tail
     → TookFits own (left_at own.layout.cores a (Decided r drawn tail)) a
     (GoesOn (went_with a (tail_counts tail counts) (took_tail r drawn tail counts found)))
-tail_fits own a r drawn (Quiesce close) counts found facts is = record {
+tail_fits own a r drawn (Quiesce close) counts found facts is fits = record {
   call = refl;
   plan = refl;
   found = facts.found;
@@ -749,7 +752,7 @@ tail_fits own a r drawn (Quiesce close) counts found facts is = record {
   steps = refl;
   fewer = let same : length a.counts ≡ length counts = ap length is in omega arith;
 }
-tail_fits own a r drawn (Unmark f word) counts found facts is = record {
+tail_fits own a r drawn (Unmark f word) counts found facts is fits = record {
   call = refl;
   plan = refl;
   found = facts.found;
@@ -762,7 +765,7 @@ tail_fits own a r drawn (Unmark f word) counts found facts is = record {
   steps = refl;
   fewer = let same : length a.counts ≡ length counts = ap length is in omega arith;
 }
-tail_fits own a r drawn (StoreDead life stamp) counts found facts is = record {
+tail_fits own a r drawn (StoreDead life stamp) counts found facts is fits = record {
   call = refl;
   plan = refl;
   found = facts.found;
@@ -788,7 +791,7 @@ tail_fits own a r drawn (StoreFlush core stamp) counts found facts is = record {
   steps = refl;
   fewer = let same : length a.counts ≡ length counts = ap length is in omega arith;
 }
-tail_fits own a r drawn Nothing [] found facts is = record {
+tail_fits own a r drawn Nothing [] found facts is fits = record {
   call = refl;
   plan = refl;
   found = facts.found;
@@ -801,7 +804,7 @@ tail_fits own a r drawn Nothing [] found facts is = record {
   steps = refl;
   fewer = omega arith;
 }
-tail_fits own a r drawn Nothing (x ∷ xs) found facts is = record {
+tail_fits own a r drawn Nothing (x ∷ xs) found facts is fits = record {
   call = refl;
   plan = refl;
   found = facts.found;
@@ -814,12 +817,13 @@ tail_fits own a r drawn Nothing (x ∷ xs) found facts is = record {
   steps = refl;
   fewer = let one : length a.counts ≡ suc (length xs) = ap length is in omega arith;
 }
+tail_fits own a r drawn (Release x) counts found facts is fits = released_fits own a r drawn x counts found facts is fits
 
 stage_fits : (own : Own) (a : ActiveCall) (stage : Stage) (found : ℕ) → Facts own a → StageFits own.layout stage → CountsAt a.counts stage
     → HasRoom own.made own.limit stage → TookFits own (left_at own.layout.cores a stage) a (took_at own a stage found)
 stage_fits own a Enter found facts fits counts room = enter_fits own a _ refl facts counts
 stage_fits own a (Undecided work) found facts fits counts room = work_fits own a work found facts room fits counts
-stage_fits own a (Decided r drawn tail) found facts fits counts room = tail_fits own a r drawn tail a.counts found facts refl
+stage_fits own a (Decided r drawn tail) found facts fits counts room = tail_fits own a r drawn tail a.counts found facts refl fits
 stage_fits own a (Leave r stamp) found facts fits counts room = omega arith
 
 pub took_fits : (own : Own) (a : ActiveCall) (found : ℕ) → IsOwn own → IsActive own a

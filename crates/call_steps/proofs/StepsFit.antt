@@ -48,12 +48,15 @@ use Rattle.call_acts.specs.declared.kills.KillingAt.{KillingAt}
 use Rattle.call_acts.specs.declared.kills.KillingAt.TheVariants.{LoadComp, LoadLive, Close as kill_close, Draw as kill_draw}
 use Rattle.call_acts.specs.declared.own.Own.{Own}
 use Rattle.call_acts.specs.declared.work.Act.{Act as ActType}
-use Rattle.call_acts.specs.declared.work.Act.TheVariants.{Fill as fill_act, Remove as remove_act, Retype as type_act, Make as make_act, Outside, Tick as tick_act, Kill as kill_act, Flush as flush_act}
+use Rattle.call_acts.specs.declared.work.Act.TheVariants.{Fill as fill_act, Remove as remove_act, Retype as type_act, Make as make_act, Outside, Tick as tick_act, Kill as kill_act, Flush as flush_act, Untype as untype_act}
 use Rattle.call_acts.specs.declared.work.Work.TheVariants.{Lookup}
 use Rattle.call_acts.specs.declared.work.WorkStep.{WorkStep}
 use Rattle.call_acts.specs.declared.work.WorkStep.TheVariants.{Goes, Acquires, Refuses, Answers, Changes}
 use Rattle.call_acts.specs.declared.work.Due.{Due}
 use Rattle.call_acts.specs.Acts.{ActFits, act_left, looked, cap_dues, dues, acquires, scans, stamp_in, filling, fills_with, removing, removes_held, removes_at, types_if, types_at, gate_if, gate_to, frame_named, reads_of, made_dues, starts, making, making_if, makes_in, makes_at, act_begun, next_work, killing_dues, kills_in, kills_at, link_to, is_pages}
+use Rattle.call_acts.specs.declared.untypings.UntypingAt.{UntypingAt}
+use Rattle.call_acts.specs.declared.untypings.UntypingAt.TheVariants as untype
+use Rattle.call_acts.specs.Untypings.{UntypingAtFits, released_dues, untyping_dues}
 use Rattle.call_steps.specs.Tails.{tail_left}
 use Rattle.call_acts.specs.Lookups.{looks_under, looks_entry, looks_at, read_first, next_step}
 use Rattle.call_steps.specs.Fits.{ScanFits, WorkFits, TailFits, IsWanted, FoundFits, CountsWait, looks_later, after_reading, acts_later, left_of_scan, work_left, IsOwn, left_of_cores}
@@ -110,6 +113,18 @@ last_small NewPleaf = omega arith
 last_small (NewThread comp) = omega arith
 last_small (NewTcap sched quality) = omega arith
 
+released_few : (f g : Option ℕ) → length (released_dues f g) ≤ 2
+released_few None None = omega arith
+released_few None (Some g) = omega arith
+released_few (Some f) None = omega arith
+released_few (Some f) (Some g) = omega arith
+
+untyped_few : (at : UntypingAt) → length (untyping_dues at) ≤ 2
+untyped_few untype.Load = omega arith
+untyped_few (untype.Mark word v) = omega arith
+untyped_few (untype.Sweep word w) = omega arith
+untyped_few (untype.Draw word w) = released_few w.owned.first w.owned.second
+
 -- an act changes four counts at most
 pub few_dues : (act : ActType) → length (dues act) ≤ 4
 few_dues (fill_act fill) = let one = cap_one fill.cap.kind fill.cap.frame fill.cap.arg (pos 1) in omega (arith, one)
@@ -120,6 +135,7 @@ few_dues (Outside node entry word) = omega arith
 few_dues (tick_act charge) = omega arith
 few_dues (flush_act core) = omega arith
 few_dues (kill_act m) = let one = killing_one m.comp m.at in omega (arith, one)
+few_dues (untype_act m) = let two = untyped_few m.at in omega (arith, two)
 
 -- the counts that an act changes are of frames of the machine
 abbrev pub DueFits : Shape → Option Due → Type 0
@@ -163,6 +179,27 @@ killing_fit s f (kill_close life word) (suc n) below = tt
 killing_fit s f (kill_draw life word) zero below = below
 killing_fit s f (kill_draw life word) (suc n) below = tt
 
+released_fit : (s : Shape) (f g : Option ℕ) (n : ℕ) → IfSome f (λ x. x < s.frames) → IfSome g (λ x. x < s.frames)
+    → DueFits s (slice_get (released_dues f g) n)
+released_fit s None None zero first second = tt
+released_fit s None None (suc n) first second = tt
+released_fit s None (Some g) zero first second = second
+released_fit s None (Some g) (suc n) first second = tt
+released_fit s (Some f) None zero first second = first
+released_fit s (Some f) None (suc n) first second = tt
+released_fit s (Some f) (Some g) zero first second = first
+released_fit s (Some f) (Some g) (suc zero) first second = second
+released_fit s (Some f) (Some g) (suc (suc n)) first second = tt
+
+untyped_fit : (s : Shape) (at : UntypingAt) (n : ℕ) → UntypingAtFits s at → DueFits s (slice_get (untyping_dues at) n)
+untyped_fit s untype.Load zero fits = tt
+untyped_fit s untype.Load (suc n) fits = tt
+untyped_fit s (untype.Mark word v) zero fits = tt
+untyped_fit s (untype.Mark word v) (suc n) fits = tt
+untyped_fit s (untype.Sweep word w) zero fits = tt
+untyped_fit s (untype.Sweep word w) (suc n) fits = tt
+untyped_fit s (untype.Draw word w) n fits = released_fit s w.owned.first w.owned.second n fits.owned.first fits.owned.second
+
 pub dues_fit : (s : Shape) (act : ActType) (n : ℕ) → ActFits s act → DueFits s (slice_get (dues act) n)
 dues_fit s (fill_act fill) n fits = cap_fit s fill.cap.kind fill.cap.frame fill.cap.arg (pos 1) n fits.cap
 dues_fit s (remove_act close cap) n fits = cap_fit s cap.kind cap.frame cap.arg (negsuc 0) n fits.1
@@ -176,11 +213,12 @@ dues_fit s (tick_act charge) (suc n) fits = tt
 dues_fit s (flush_act core) zero fits = tt
 dues_fit s (flush_act core) (suc n) fits = tt
 dues_fit s (kill_act m) n fits = killing_fit s m.comp m.at n fits.comp
+dues_fit s (untype_act m) n fits = untyped_fit s m.at n fits.at
 
 -- what a core does for an act of whose counts it has acquired so many
 pub work_next : (s : Shape) (later core n : ℕ) (act : ActType) (o : Option Due) → slice_get (dues act) n ≡ o → core < s.cores
     → ActFits s act
-    → WorkFits s (acquires core act o) × (work_left s.cores later n (acquires core act o) ≤ 3 * (length (dues act) - n) + act_left act)
+    → WorkFits s (acquires core act o) × (work_left s.cores later n (acquires core act o) ≤ 3 * (length (dues act) - n) + act_left s.cores act)
 work_next s later core n act None is here fits = (fits, omega arith)
 work_next s later core n act (Some due) is here fits =
     let some : n < length (dues act) = slice_get_within (dues act) n due is in
@@ -284,13 +322,13 @@ scan_may s stamp core page here = by_stamp (stamp == 0) refl
     by_stamp false is = by_first (core == 0) (nat_lt (first_other core) s.cores) refl refl (let a = eqb-false stamp 0 is in omega arith)
 
 first_fits : (s : Shape) (later most core : ℕ) (act : ActType) → core < s.cores → ActFits s act
-    → 3 * length (dues act) + act_left act ≤ most → StepFits s [] later most (Goes (next_work core 0 act))
+    → 3 * length (dues act) + act_left s.cores act ≤ most → StepFits s [] later most (Goes (next_work core 0 act))
 first_fits s later most core act here fits some =
     let next = work_next s later core 0 act (slice_get (dues act) 0) refl here fits in
     (next.0, (let fewer = next.1 in omega arith), counts_next core 0 [] act (slice_get (dues act) 0) refl refl (omega arith))
 
 pub starts_fit : (s : Shape) (later most core : ℕ) (act : ActType) → core < s.cores → ActFits s act
-    → 3 * length (dues act) + act_left act ≤ most → StepFits s [] later most (starts core act)
+    → 3 * length (dues act) + act_left s.cores act ≤ most → StepFits s [] later most (starts core act)
 starts_fit s later most core (Outside node entry word) here fits some = (omega arith, tt)
 starts_fit s later most core (fill_act fill) here fits some = first_fits s later most core (fill_act fill) here fits some
 starts_fit s later most core (remove_act close cap) here fits some = first_fits s later most core (remove_act close cap) here fits some
@@ -299,10 +337,11 @@ starts_fit s later most core (make_act m) here fits some = first_fits s later mo
 starts_fit s later most core (tick_act charge) here fits some = first_fits s later most core (tick_act charge) here fits some
 starts_fit s later most core (flush_act by) here fits some = first_fits s later most core (flush_act by) here fits some
 starts_fit s later most core (kill_act m) here fits some = first_fits s later most core (kill_act m) here fits some
+starts_fit s later most core (untype_act m) here fits some = first_fits s later most core (untype_act m) here fits some
 
 pub scans_fit : (s : Shape) (later most core : ℕ) (act : ActType) (page : Bool) (o : Option Quiet) → core < s.cores → ActFits s act
     → ScanMay s page o
-    → words_scanned page s.cores - 1 + 3 * length (dues act) + act_left act ≤ most → StepFits s [] later most (scans core o act)
+    → words_scanned page s.cores - 1 + 3 * length (dues act) + act_left s.cores act ≤ most → StepFits s [] later most (scans core o act)
 scans_fit s later most core act page None here fits may some = starts_fit s later most core act here fits (omega arith)
 scans_fit s later most core act page (Some q) here fits may some = ((may.0, may.1, fits), (let few = may.2 in omega arith), refl)
 
@@ -347,18 +386,20 @@ pub look_done : (s : Shape) (later most : ℕ) (k : Option Capability) → StepF
 look_done s later most None = (omega arith, tt)
 look_done s later most (Some k) = (omega arith, tt)
 
--- the act that types a frame of a range
-pub types_fit : (s : Shape) (later most f : ℕ) (k : FrameKind) (within : Bool) → (within ≡ true → f < s.frames) → 2 ≤ most
-    → StepFits s [] later most (types_if within f k)
-types_fit s later most f k true below some = (below refl, omega arith, refl)
-types_fit s later most f k false below some = (omega arith, tt)
+-- the act that types a frame of a range, or makes it untyped again
+pub types_fit : (s : Shape) (later core f : ℕ) (k : FrameKind) (within : Bool) → (within ≡ true → f < s.frames) → core < s.cores
+    → StepFits s [] later (retype_steps k s.cores) (types_if within core f k)
+types_fit s later core f Untyped true below here = (record { frame = below refl; core = here; at = tt }, omega arith, refl)
+types_fit s later core f User true below here = (below refl, omega arith, refl)
+types_fit s later core f Kernel true below here = (below refl, omega arith, refl)
+types_fit s later core f k false below here = (omega arith, tt)
 
-pub types : (own : Own) (later most : ℕ) (range : Option Capability) (f : ℕ) (k : FrameKind) → 2 ≤ most
-    → StepFits own.layout [] later most (types_at own range f k)
-types own later most None f k some = (omega arith, tt)
-types own later most (Some range) f k some =
-    types_fit own.layout later most f k (has_frame (found range) f && nat_lt f own.layout.frames)
-    (λ is. ltb-true f own.layout.frames (both (has_frame (found range) f) (nat_lt f own.layout.frames) is)) some
+pub types : (own : Own) (later : ℕ) (range : Option Capability) (f : ℕ) (k : FrameKind) → own.core < own.layout.cores
+    → StepFits own.layout [] later (retype_steps k own.layout.cores) (types_at own range f k)
+types own later None f k here = (omega arith, tt)
+types own later (Some range) f k here =
+    types_fit own.layout later own.core f k (has_frame (found range) f && nat_lt f own.layout.frames)
+    (λ is. ltb-true f own.layout.frames (both (has_frame (found range) f) (nat_lt f own.layout.frames) is)) here
   where
     both : (x y : Bool) → (x && y) ≡ true → y ≡ true
     both true y is = is
@@ -478,11 +519,6 @@ made_fits s (make.Thread comp) r f t b found cores limits named = by (at_place f
 made_fits s (make.Tcap sched quality) r f t b found cores limits named = (record { pair = limits; names = tt }, omega arith)
 made_fits s (make.Comp table pages live) r f t b found cores limits named = tt
 
-two_steps : (k : FrameKind) (n : ℕ) → 2 ≤ retype_steps k n
-two_steps Untyped n = omega arith
-two_steps User n = omega arith
-two_steps Kernel n = omega arith
-
 -- the act that kills a component
 kills : (s : Shape) (later most core : ℕ) (kind : Kind) (f arg : ℕ) → core < s.cores
     → CapNames s.frames (record { kind = kind; frame = f; arg = arg }) → 8 ≤ most → StepFits s [] later most (kills_in core kind f)
@@ -535,7 +571,7 @@ act_fits own later (Shrink t i) found read target h names objects limits fits =
 act_fits own later (Unmap p v) found read target h names objects limits fits =
     removed own.layout later 6 own.core target h.core fits (omega arith)
 act_fits own later (Retype r f k) found read target h names objects limits fits =
-    types own later (retype_steps k own.layout.cores) _ f k (two_steps k own.layout.cores)
+    types own later (at_place found First) f k h.core
 act_fits own later (make_call what range frame table slot) found read target h names objects limits fits =
     made_at own later (make_steps what own.layout.cores) (object_made what found) (at_place found First) frame target h fits
     (made_fits own.layout what range frame table slot found own.layout.cores limits objects)

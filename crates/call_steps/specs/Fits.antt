@@ -25,7 +25,8 @@ use Rattle.call_acts.specs.declared.work.Work.TheVariants.{Lookup, Read, Scan, A
 use Rattle.call_steps.specs.declared.stages.Stage.{Stage}
 use Rattle.call_steps.specs.declared.stages.Stage.TheVariants.{Enter, Undecided, Decided, Leave}
 use Rattle.call_acts.specs.declared.work.Tail.{Tail}
-use Rattle.call_acts.specs.declared.work.Tail.TheVariants.{Nothing, Quiesce, Unmark, StoreDead, StoreFlush}
+use Rattle.call_acts.specs.declared.work.Tail.TheVariants.{Nothing, Quiesce, Unmark, StoreDead, StoreFlush, Release}
+use Rattle.call_acts.specs.Untypings.{ReleaseFits}
 use Rattle.call_steps.specs.declared.stages.ActiveCall.{ActiveCall}
 use Rattle.stage_quiet.specs.declared.quiet.Quiet.{Quiet}
 use Rattle.stage_quiet.specs.declared.quiet.Quiet.TheVariants.{AtCore, AtFlush}
@@ -59,6 +60,7 @@ TailFits s (Quiesce close) = CloseFits s close
 TailFits s (Unmark f word) = f < s.frames
 TailFits s (StoreDead life stamp) = CompFits life × (1 ≤ stamp)
 TailFits s (StoreFlush core stamp) = core < s.cores
+TailFits s (Release release) = ReleaseFits s release
 
 abbrev pub StageFits : Shape → Stage → Type 0
 StageFits s Enter = Unit {0}
@@ -133,9 +135,9 @@ left_of_scan cores (AtFlush stamp at) = cores - at
 abbrev pub work_left : ℕ → ℕ → ℕ → Work → ℕ
 work_left cores later n (Lookup look) = left_of_look look + later
 work_left cores later n (Read comp look) = 1 + left_of_look look + later
-work_left cores later n (Scan q act) = left_of_scan cores q + 3 * length (dues act) + act_left act
-work_left cores later n (Acquire pin change act) = left_of_pin pin + 1 + 3 * (length (dues act) - (n + 1)) + act_left act
-work_left cores later n (Act act) = act_left act
+work_left cores later n (Scan q act) = left_of_scan cores q + 3 * length (dues act) + act_left cores act
+work_left cores later n (Acquire pin change act) = left_of_pin pin + 1 + 3 * (length (dues act) - (n + 1)) + act_left cores act
+work_left cores later n (Act act) = act_left cores act
 
 -- the most steps of a call that are still to come at a stage, on so many cores; two are those of its exit
 abbrev pub left_at : ℕ → ActiveCall → Stage → ℕ

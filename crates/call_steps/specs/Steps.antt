@@ -170,7 +170,7 @@ took_work own a (Scan q act) found =
     landed a (took_scan own.core act (quiet_after own.layout.cores q found) (quiet_end own.layout.cores q found))
 took_work own a (Acquire pin change act) found =
     landed a (took_count own.core (length a.counts) change act (pin_after pin found) (pin_end pin found))
-took_work own a (Act act) found = landed a (took_act act found)
+took_work own a (Act act) found = landed a (took_act own.layout act found)
 
 -- whether a core has made as many calls as it may
 abbrev pub is_spent : Own → Bool

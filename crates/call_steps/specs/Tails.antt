@@ -12,7 +12,8 @@ use Rattle.stage_pins.specs.Commit.{settle_move}
 use Rattle.stage_pins.specs.Held.{commit_of, rest_of}
 use Rattle.call_acts.specs.Kills.{dead_move}
 use Rattle.call_acts.specs.declared.work.Tail.{Tail}
-use Rattle.call_acts.specs.declared.work.Tail.TheVariants.{Nothing, Quiesce, Unmark, StoreDead, StoreFlush}
+use Rattle.call_acts.specs.declared.work.Tail.TheVariants.{Nothing, Quiesce, Unmark, StoreDead, StoreFlush, Release}
+use Rattle.call_acts.specs.Untypings.{release_move, release_after, release_left}
 use Rattle.call_steps.specs.declared.stages.Stage.{Stage}
 use Rattle.call_steps.specs.declared.stages.Stage.TheVariants.{Decided, Leave}
 
@@ -21,7 +22,8 @@ abbrev pub is_ok : Reply → Bool
 is_ok (Ok v) = true
 is_ok _ = false
 
--- the next step of a decided call: its next store, then the commit of each count that it has acquired, then the load of the clock
+-- the next step of a decided call: its next store, then the commit of each count that it has acquired, then the load of the clock;
+-- counters that it has frozen, and their frame's word, are stored after the commits
 abbrev pub tail_move : Reply → Option ℕ → Tail → List Acquired → Move
 tail_move r drawn (Quiesce close) counts = close_move close
 tail_move r drawn (Unmark f word) counts = StoreOf (FrameAt f) word
@@ -29,6 +31,8 @@ tail_move r drawn (StoreDead life stamp) counts = dead_move life stamp
 tail_move r drawn (StoreFlush core stamp) counts = flush_move (AtStore core stamp)
 tail_move r drawn Nothing [] = LoadOf ClockAt
 tail_move r drawn Nothing (x ∷ xs) = settle_move (commit_of (is_ok r) drawn x)
+tail_move r drawn (Release release) [] = release_move release
+tail_move r drawn (Release release) (x ∷ xs) = settle_move (commit_of (is_ok r) drawn x)
 
 -- the stamp of a clock; a clock past a stamp's range never comes, and stays at the range's end
 abbrev pub stamp_if : Bool → ℕ → ℕ
@@ -45,6 +49,16 @@ took_tail r drawn (StoreDead life stamp) counts found = Decided r drawn Nothing
 took_tail r drawn (StoreFlush core stamp) counts found = Decided r drawn Nothing
 took_tail r drawn Nothing [] found = Leave r (stamp_of found)
 took_tail r drawn Nothing (x ∷ xs) found = Decided r drawn Nothing
+took_tail r drawn (Release release) [] found = Decided r drawn (release_after release)
+took_tail r drawn (Release release) (x ∷ xs) found = Decided r drawn (Release release)
+
+-- whether the counts are committed before what is still to be stored
+abbrev pub commits : Tail → Bool
+commits (Quiesce close) = false
+commits (Unmark f word) = false
+commits (StoreDead life stamp) = false
+commits Nothing = true
+commits (Release release) = true
 
 abbrev pub tail_counts : Tail → List Acquired → List Acquired
 tail_counts (Quiesce close) xs = xs
@@ -52,6 +66,7 @@ tail_counts (Unmark f word) xs = xs
 tail_counts (StoreDead life stamp) xs = xs
 tail_counts (StoreFlush core stamp) xs = xs
 tail_counts Nothing xs = rest_of xs
+tail_counts (Release release) xs = rest_of xs
 
 -- how many stores are left beside the counts
 abbrev pub tail_left : Tail → ℕ
@@ -60,3 +75,4 @@ tail_left (Quiesce close) = 1
 tail_left (Unmark f word) = 1
 tail_left (StoreDead life stamp) = 1
 tail_left (StoreFlush core stamp) = 1
+tail_left (Release release) = release_left release

@@ -13,8 +13,11 @@ ghost use Rattle.call_steps.specs.Fits.{IsCore, steps_left};
 use crate::stages::{Absorbed, ActiveCall, Stage, Told};
 use crate::steps::stage_op;
 use call_acts::Own;
+#[cfg(test)]
+use call_acts::{Act, Untyping, UntypingAt, Work};
 use call_plans::{Caps, plan_of};
-use spk_nums::{Call, CoreEnd, CoreNo, FrameNo, Reply, Setup, Stamp, Translations, WordOp};
+use spk_nums::{Call, CoreEnd, CoreNo, FrameNo, Reply, Setup, Stamp, Translations, WordOp, CapId, FrameArg, Make};
+#[cfg(test)]
 use stage_pins::AcquiredCounts;
 use std::marker::Model;
 use word_map::Layout;
@@ -200,6 +203,48 @@ impl CoreState {
             owed: self.own.owed,
             cached: self.own.cached,
         }
+    }
+}
+
+#[cfg(test)]
+impl CoreState {
+    /// A core that is inside a call which is about to load the word of a frame that it makes untyped. No call is carried out with this
+    /// act today, so it stands in one of a larger bound. The machine has at most 2 cores.
+    pub(crate) fn untyping(core: CoreNo, setup: &Setup, frame: FrameNo) -> CoreState
+        requires core { core < setup.now.cores }
+        requires cores { setup.now.cores ≤ 2 }
+        requires frame { frame < setup.now.frames }
+        requires calls { 1 ≤ setup.now.calls }
+        ensures { IsSome result.active }
+    {
+        let call = Call::Make {
+            what: Make::Table,
+            range: CapId::new(0),
+            frame: FrameArg::new(frame.number()),
+            table: CapId::new(1),
+            slot: CapId::new(20),
+        };
+        let mut state = CoreState::start(core, setup);
+        let plan = plan_of(&call);
+        state.active = Some(ActiveCall {
+            steps: 0,
+            stage: Stage::Undecided {
+                work: Work::Act {
+                    act: Act::Untype {
+                        untyping: Untyping {
+                            frame,
+                            core,
+                            at: UntypingAt::Load,
+                        },
+                    },
+                },
+            },
+            found: Caps::none(),
+            counts: AcquiredCounts::none(),
+            call,
+            plan,
+        });
+        state
     }
 }
 

@@ -14,7 +14,7 @@
 //! freezes it, so the sum of a frame's counts, each as its holder will commit it, is at each moment the number of references.
 //!
 //! **What is still to store.** What a decided call has still to store is known when it is decided, and is carried out by stores
-//! alone: its tail, then its counts, the earliest first.
+//! alone: its tail, then its counts, the earliest first; counters that it has frozen, and their frame's word, come after its counts.
 //!
 //! **Refusals.** A refusal decides at the first step by which it is known and every earlier cause is judged: first that the
 //! core's calls are spent, then as the call's work judges them.
@@ -34,6 +34,8 @@ mod steps;
 mod tails;
 #[cfg(test)]
 mod tests;
+#[cfg(test)]
+mod untype_tests;
 
 pub use core_state::CoreState;
 pub use laws::{decides_once, ready_decides, unready_refuses};

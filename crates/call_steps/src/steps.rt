@@ -8,7 +8,7 @@ ghost use Rattle.call_plans.specs.After.{next_of, with_found};
 ghost use Rattle.stage_pins.specs.Held.{AllFit};
 ghost use Rattle.call_steps.specs.Tails.{tail_counts, took_tail};
 ghost use Rattle.call_steps.specs.Steps.{took_read, read_more, core_word, work_move, stage_move, went, went_with, took_scan, took_count, gives_up, landed, next_by, took_enter, took_found, took_end, took_work, took_at, took, told, call_after, is_last, decides_at_name, work_ready, is_ready, is_spent, named_one, decided, Changes};
-ghost use Rattle.call_steps.specs.Fits.{WorkFits, StageFits, IsLater};
+ghost use Rattle.call_steps.specs.Fits.{WorkFits, StageFits, IsLater, TailFits};
 ghost use Rattle.stage_pins.specs.Acquire.{pin_after, pin_end};
 ghost use Rattle.stage_quiet.specs.Scan.{quiet_after, quiet_end};
 ghost use Rattle.call_plans.specs.GoesBy.{place_of};
@@ -19,7 +19,7 @@ ghost use Rattle.call_acts.specs.declared.work.WorkStep.TheVariants.{Goes};
 ghost use Rattle.call_acts.specs.declared.work.Work.TheVariants.{Lookup, Read, Scan, Acquire};
 
 use crate::stages::{ActiveCall, Stage, Told};
-use crate::tails::{tail_op, took_tail};
+use crate::tails::{commits, tail_op, took_tail};
 use call_acts::{
     Act, Met, Own, OwnChange, Refusal, Tail, Work, WorkStep, act_op, act_ready, act_took,
     begin_act, frame_of, met_free, met_held, met_name, next_work, reads_of, refuse, starts, undo,
@@ -299,7 +299,7 @@ impl ActiveCall {
             },
             Stage::Decided { reply, drawn, tail } => {
                 let (reply, drawn, tail) = (*reply, *drawn, *tail);
-                self.store(reply, drawn, &tail, found);
+                self.store(own, reply, drawn, &tail, found);
                 Told::Going
             }
             Stage::Leave { reply, stamp } => Told::Returned {
@@ -326,12 +326,13 @@ impl ActiveCall {
 
     // A step of a call that is decided: a store, a commit, or the load of the clock.
     #[inline]
-    fn store(&mut self, reply: Reply, drawn: Option<Stamp>, tail: &Tail, found: u64)
-        requires { self.old.steps < 1000 }
+    fn store(&mut self, own: &Own, reply: Reply, drawn: Option<Stamp>, tail: &Tail, found: u64)
+        requires few { self.old.steps < 1000 }
+        requires fits { TailFits own.now.layout tail.now }
         ensures { self.new ≡ went_with self.old (tail_counts tail.now self.old.counts) (took_tail reply drawn tail.now self.old.counts found) }
     {
-        let stage = took_tail(reply, drawn, tail, &self.counts, found);
-        if matches!(tail, Tail::Nothing) {
+        let stage = took_tail(reply, drawn, tail, &self.counts, &own.layout, found);
+        if commits(tail) {
             self.counts.pop();
         }
         self.go_on(stage);

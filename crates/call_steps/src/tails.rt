@@ -4,7 +4,7 @@ ghost use Rattle.std.specs.Prelude.{◌≡◌, ◌<◌};
 ghost use Rattle.word_map.specs.Places.{size_of};
 ghost use Rattle.word_map.specs.Moves.{op_of};
 ghost use Rattle.spk_nums.specs.WordSteps.{place_in};
-ghost use Rattle.call_steps.specs.Tails.{is_ok, tail_move, stamp_of, took_tail};
+ghost use Rattle.call_steps.specs.Tails.{is_ok, tail_move, stamp_of, took_tail, commits};
 ghost use Rattle.stage_pins.specs.Held.{AllFit};
 ghost use Rattle.call_steps.specs.Fits.{TailFits};
 
@@ -15,7 +15,8 @@ use stage_pins::AcquiredCounts;
 use word_map::Layout;
 
 /// The next step of a decided call that has acquired these counts: its next store, then the commit of its earliest count, then the
-/// load of the clock. The counts are of the layout's machine.
+/// load of the clock; counters that the call has frozen, and their frame's word, are stored after the commits. The counts are of the
+/// layout's machine.
 #[inline]
 pub fn tail_op(
     reply: &Reply,
@@ -46,7 +47,22 @@ pub fn tail_op(
                 settle.next(layout)
             }
         },
+        Tail::Release { release } => match counts.first() {
+            None => release.next(layout),
+            Some(count) => {
+                let settle = count.commit(is_ok(reply), drawn);
+                settle.next(layout)
+            }
+        },
     }
+}
+
+/// Whether a decided call with this still to store commits its counts first.
+#[inline]
+pub fn commits(tail: &Tail) -> bool
+    ensures { result ≡ commits tail.now }
+{
+    matches!(tail, Tail::Nothing | Tail::Release { release: _ })
 }
 
 // Whether a reply says that the call was carried out.
@@ -60,15 +76,17 @@ fn is_ok(reply: &Reply) -> bool
     }
 }
 
-/// Where a decided call with these counts stands after that step found this.
+/// Where a decided call with these counts stands after that step found this. What it has to store is of the layout's machine.
 #[inline]
 pub fn took_tail(
     reply: Reply,
     drawn: Option<Stamp>,
     tail: &Tail,
     counts: &AcquiredCounts,
+    layout: &Layout,
     found: u64,
 ) -> Stage
+    requires { TailFits layout.now tail.now }
     ensures { result ≡ took_tail reply drawn tail.now counts.now found }
 {
     match tail {
@@ -89,6 +107,18 @@ pub fn took_tail(
                 reply,
                 drawn,
                 tail: Tail::Nothing,
+            },
+        },
+        Tail::Release { release } => match counts.first() {
+            None => Stage::Decided {
+                reply,
+                drawn,
+                tail: release.take(layout, found),
+            },
+            Some(_) => Stage::Decided {
+                reply,
+                drawn,
+                tail: *tail,
             },
         },
     }

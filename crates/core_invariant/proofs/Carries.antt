@@ -53,7 +53,7 @@ use Rattle.stage_quiet.specs.declared.quiet.Quiet.TheVariants.{AtCore, AtFlush}
 use Rattle.stage_pins.specs.declared.pin.Pin.{Pin}
 use Rattle.stage_pins.specs.declared.pin.Pin.TheVariants.{AtLoad, AtCompare as pin_compare}
 use Rattle.call_acts.specs.declared.work.Act.{Act as ActOf}
-use Rattle.call_acts.specs.declared.work.Act.TheVariants.{Fill as fill_act, Remove as remove_act, Retype as type_act, Make as make_act, Outside, Tick as tick_act, Flush as flush_act, Kill as kill_act}
+use Rattle.call_acts.specs.declared.work.Act.TheVariants.{Fill as fill_act, Remove as remove_act, Retype as type_act, Make as make_act, Outside, Tick as tick_act, Flush as flush_act, Kill as kill_act, Untype as untype_act}
 use Rattle.call_acts.specs.declared.work.Work.{Work}
 use Rattle.call_acts.specs.declared.work.Work.TheVariants.{Lookup, Read, Scan, Acquire, Act}
 use Rattle.call_acts.specs.Acts.{reads_of}
@@ -96,6 +96,7 @@ stores_in (Outside node entry word) f = false
 stores_in (tick_act charge) f = false
 stores_in (flush_act by) f = false
 stores_in (kill_act m) f = false
+stores_in (untype_act m) f = false
 
 abbrev pub stores_of : Work → ℕ → Bool
 stores_of (Lookup look) f = false
@@ -363,6 +364,7 @@ module _ (setup : Setting) (setting : IsSetting setup) (t : Trace) (e : Step) (l
     comp = has_comp_on m.comp has.comp;
     at = killing_on m.comp m.at same.numbers has.comp has.at;
   }
+  act_on of plan caps upto (untype_act m) same has = absurd has
 
   scan_on : (a : ActiveCall) (at by upto flushes : ℕ) (page : Bool) (act : ActOf) → ReadsSame setup t e c act
       → KnowsScan setup t c a at by upto flushes page act → KnowsScan setup (e ∷ t) c a at by upto flushes page act

@@ -66,12 +66,12 @@ use Rattle.call_acts.specs.declared.typings.TypingAt.TheVariants.{Load, Compare 
 use Rattle.call_acts.specs.Typings.{is_typing}
 use Rattle.kernel_rules.specs.CapabilityCalls.{has_frame}
 use Rattle.call_acts.specs.declared.work.Act.{Act as ActOf}
-use Rattle.call_acts.specs.declared.work.Act.TheVariants.{Fill as fill_act, Remove as remove_act, Retype as type_act, Make as make_act, Outside, Tick as tick_act, Flush as flush_act, Kill as kill_act}
+use Rattle.call_acts.specs.declared.work.Act.TheVariants.{Fill as fill_act, Remove as remove_act, Retype as type_act, Make as make_act, Outside, Tick as tick_act, Flush as flush_act, Kill as kill_act, Untype as untype_act}
 use Rattle.call_acts.specs.declared.work.Work.{Work}
 use Rattle.call_acts.specs.declared.work.Due.{Due}
 use Rattle.call_acts.specs.declared.work.Work.TheVariants.{Lookup, Read, Scan, Acquire, Act}
 use Rattle.call_acts.specs.declared.work.Tail.{Tail}
-use Rattle.call_acts.specs.declared.work.Tail.TheVariants.{Nothing, Quiesce, Unmark, StoreDead, StoreFlush}
+use Rattle.call_acts.specs.declared.work.Tail.TheVariants.{Nothing, Quiesce, Unmark, StoreDead, StoreFlush, Release}
 use Rattle.call_steps.specs.declared.stages.Stage.{Stage}
 use Rattle.call_steps.specs.declared.stages.Stage.TheVariants.{Enter, Undecided, Decided, Leave}
 use Rattle.call_steps.specs.declared.stages.ActiveCall.{ActiveCall}
@@ -401,7 +401,8 @@ pub record KnowsFlushing (c : ℕ) (call : Call) (by : ℕ) : Type 0 where
   pub call_is : call ≡ Flush
   pub core : by ≡ c
 
--- What a call with this plan knows of its act, where its names have led to these and the cores below `upto` were scanned, with their flushes.
+-- What a call with this plan knows of its act, where its names have led to these and the cores below `upto` were scanned, with their flushes. No
+-- call is carried out today with the act that makes a frame untyped.
 abbrev pub KnowsAct : Setting → Trace → ℕ → Call → Plan → List Capability → ℕ → ActOf → Type 0
 KnowsAct setup t c call plan found upto (fill_act fill) = IsFill setup t c call plan found upto fill
 KnowsAct setup t c call plan found upto (remove_act close cap) = KnowsClose setup t c call plan found close cap
@@ -411,6 +412,7 @@ KnowsAct setup t c call plan found upto (Outside node entry word) = KnowsOutside
 KnowsAct setup t c call plan found upto (tick_act charge) = KnowsTick setup t c call charge
 KnowsAct setup t c call plan found upto (flush_act by) = KnowsFlushing c call by
 KnowsAct setup t c call plan found upto (kill_act m) = KnowsKilling setup t c call found m
+KnowsAct setup t c call plan found upto (untype_act m) = ⊥
 
 -- An act is before its first step.
 abbrev pub is_first_of : Close → Bool
@@ -427,6 +429,7 @@ is_start (Outside node entry word) = true
 is_start (tick_act charge) = not (is_charging charge)
 is_start (flush_act by) = true
 is_start (kill_act m) = not (is_killing m.at)
+is_start (untype_act m) = false
 
 -- Its counts may be acquired here: no entry and no liveness number is closed yet.
 abbrev pub is_counting : ActOf → Bool
@@ -577,6 +580,7 @@ KnowsTail setup t c call (Quiesce close) = KnowsStore setup t c call close
 KnowsTail setup t c call (Unmark f word) = KnowsUnmark call f word
 KnowsTail setup t c call (StoreDead life stamp) = KnowsDead setup t c call life
 KnowsTail setup t c call (StoreFlush by at) = KnowsFlush t c call by at
+KnowsTail setup t c call (Release release) = ⊥
 
 -- What a call knows at its stage. One that has made no step is in no trace.
 abbrev pub KnowsAt : Setting → Trace → ℕ → ℕ → ActiveCall → Stage → Type 0

@@ -28,11 +28,11 @@ use Rattle.spk_nums.specs.declared.replies.Reply.{Reply}
 use Rattle.spk_nums.specs.declared.replies.Reply.TheVariants.{Ok}
 use Rattle.stage_pins.specs.declared.held.Acquired.{Acquired}
 use Rattle.call_acts.specs.declared.work.Act.{Act}
-use Rattle.call_acts.specs.declared.work.Act.TheVariants.{Fill, Remove, Retype, Make, Outside, Tick, Flush, Kill}
+use Rattle.call_acts.specs.declared.work.Act.TheVariants.{Fill, Remove, Retype, Make, Outside, Tick, Flush, Kill, Untype}
 use Rattle.call_acts.specs.declared.work.Work.{Work}
 use Rattle.call_acts.specs.declared.work.Work.TheVariants.{Lookup, Read, Scan, Acquire, Act as act_work}
 use Rattle.call_acts.specs.declared.work.Tail.{Tail}
-use Rattle.call_acts.specs.declared.work.Tail.TheVariants.{Nothing, Quiesce, Unmark, StoreDead, StoreFlush}
+use Rattle.call_acts.specs.declared.work.Tail.TheVariants.{Nothing, Quiesce, Unmark, StoreDead, StoreFlush, Release}
 use Rattle.call_steps.specs.View.{Core}
 use Rattle.core_invariant.specs.Holding.{Holding, nothing, holds_counts, holds_closed, holds_drawn, settled, MarkIs, keeps, will_store}
 use Rattle.core_invariant.specs.Words.{Times, WordIs, CountsAre}
@@ -63,7 +63,8 @@ holds_killing (LoadLive life) h = h
 holds_killing (kill_close life word) h = h
 holds_killing (kill_draw life word) h = keeps (LiveAt life.number) word h
 
--- The word that a call has marked beside its counts, at an act and at a tail.
+-- The word that a call has marked beside its counts, at an act and at a tail. No call is carried out today with the act that makes a
+-- frame untyped, so none holds what that would.
 abbrev pub holds_act : Act → Holding → Holding
 holds_act (Fill fill) h = h
 holds_act (Remove close cap) h = holds_closed close cap h
@@ -73,6 +74,7 @@ holds_act (Outside node entry word) h = h
 holds_act (Tick charge) h = h
 holds_act (Flush by) h = h
 holds_act (Kill m) h = holds_killing m.at h
+holds_act (Untype m) h = h
 
 abbrev pub holds_tail : Tail → Holding → Holding
 holds_tail Nothing h = h
@@ -80,6 +82,7 @@ holds_tail (Quiesce close) h = holds_drawn close h
 holds_tail (Unmark f word) h = keeps (FrameAt f) word h
 holds_tail (StoreDead life stamp) h = keeps (LiveAt life.number) (word_of_live (Dead life.epoch stamp)) h
 holds_tail (StoreFlush by stamp) h = will_store (FlushAt by) stamp h
+holds_tail (Release release) h = h
 
 abbrev pub holds_work : Work → Holding → Holding
 holds_work (Lookup look) h = h

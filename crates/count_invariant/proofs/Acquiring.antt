@@ -75,7 +75,7 @@ use Rattle.look_invariant.proofs.Findings.{found_named}
 use Rattle.call_acts.specs.declared.refusals.Refusal.TheVariants as refusal
 use Rattle.call_acts.specs.declared.work.Due.{Due}
 use Rattle.call_acts.specs.declared.work.Act.{Act as ActOf}
-use Rattle.call_acts.specs.declared.work.Act.TheVariants.{Fill as fill_act, Remove as remove_act, Retype as type_act, Make as make_act, Outside, Tick as tick_act, Flush as flush_act, Kill as kill_act}
+use Rattle.call_acts.specs.declared.work.Act.TheVariants.{Fill as fill_act, Remove as remove_act, Retype as type_act, Make as make_act, Outside, Tick as tick_act, Flush as flush_act, Kill as kill_act, Untype as untype_act}
 use Rattle.call_acts.specs.declared.work.Tail.TheVariants.{Nothing}
 use Rattle.call_acts.specs.declared.work.Work.TheVariants.{Acquire}
 use Rattle.call_steps.specs.declared.stages.Stage.TheVariants.{Undecided, Decided}
@@ -87,6 +87,9 @@ use Rattle.call_steps.specs.Steps.{GoesOn, landed, went_with, took_count, gives_
 use Rattle.call_steps.specs.Tails.{is_ok}
 use Rattle.call_steps.specs.View.{Core}
 use Rattle.call_steps.proofs.StepsFit.{few_dues}
+use Rattle.call_acts.specs.declared.untypings.UntypingAt.{UntypingAt}
+use Rattle.call_acts.specs.declared.untypings.UntypingAt.TheVariants as untype
+use Rattle.call_acts.specs.Untypings.{untyping_undo}
 use Rattle.core_invariant.specs.Holding.{Holding, count_of, committed, holds_counts, AreApart, settled_by, settled, keeps}
 use Rattle.core_invariant.specs.Words.{SaysCount, count_room}
 use Rattle.core_invariant.specs.Knows.{AreDuesApart, own_in, HasFound, NamesAre, due_of, pin_frame, pin_core, IsRemoval, KnowsClose, KnowsAct, KnowsWork, KnowsUndecided, IsCount, HasRead, phase_at, KnowsTail, goes_on, is_counting}
@@ -194,6 +197,13 @@ undo_holds (kill_act m) h is = by m.at is
     by (LoadLive life) is = refl
     by (kill_close life word) is = refl
     by (kill_draw life word) is = absurd (false≢true is)
+undo_holds (untype_act m) h is = by m.at
+  where
+    by : (at : UntypingAt) → holds_tail (untyping_undo m.frame at) h ≡ h
+    by untype.Load = refl
+    by (untype.Mark word v) = refl
+    by (untype.Sweep word w) = refl
+    by (untype.Draw word w) = refl
 
 acquires_holds : (core : ℕ) (act : ActOf) (o : Option Due) (h : Holding) → holds_work (acquires core act o) h ≡ holds_act act h
 acquires_holds core act None h = refl
@@ -229,6 +239,7 @@ act_count (kill_act m) h f d = by m.at
     by (LoadLive life) = (refl, refl)
     by (kill_close life word) = (refl, refl)
     by (kill_draw life word) = (refl, refl)
+act_count (untype_act m) h f d = (refl, refl)
 
 keeps_over : (v w : Word) (x : ℕ) (h g : Holding) → (h.marks w ≡ g.marks w) × (h.stands w ≡ g.stands w)
     → ((keeps v x h).marks w ≡ (keeps v x g).marks w) × ((keeps v x h).stands w ≡ (keeps v x g).stands w)
@@ -263,6 +274,7 @@ act_over (kill_act m) h g w same = by m.at
     by (LoadLive life) = same
     by (kill_close life word) = same
     by (kill_draw life word) = keeps_over (LiveAt life.number) w word h g same
+act_over (untype_act m) h g w same = same
 
 -- An act that changes a count charges no ticks.
 counts_plain : (act : ActOf) (before : List Due) (due : Due) (rest : List Due) → dues act ≡ before ++ due ∷ rest → ticks_in act ≡ false
@@ -274,6 +286,7 @@ counts_plain (Outside node entry word) before due rest is = refl
 counts_plain (tick_act charge) before due rest is = absurd (no_due before due rest is)
 counts_plain (flush_act core) before due rest is = refl
 counts_plain (kill_act m) before due rest is = refl
+counts_plain (untype_act m) before due rest is = refl
 
 -- A call that fills its target changes references, and the frame that it names there is near it: a line a call.
 put_counts : (call : Call) → IsBuilt call → (ks : List Capability) (read : Option ℕ) (k : Capability) → put_by call ks read ≡ Some k
@@ -776,6 +789,7 @@ acquire_good setup setting cores t stands c here a active pin change (kill_act m
     (killing_due m.comp m.at (map due_of a.counts) (record { frame = pin_frame pin; change = change }) has.knows.rest has.knows.due)
     ∙ kill_near (state_after setup t) c a.call a.found m.comp has.knows.knows.kills
     (call_leads setup setting cores t stands c here a active has.names)) (λ e. tt) refl
+acquire_good setup setting cores t stands c here a active pin change (untype_act m) is has = absurd has.knows.knows
 
 -- A decided call commits its earliest count.
 module _ (setup : Setting) (setting : IsSetting setup) (cores : ℕ → Core) (t : Trace) (stands : Stands setup cores t) (c : ℕ)

@@ -11,7 +11,7 @@ use Rattle.word_map.specs.Moves.{LoadOf, StoreOf, word_of, told_of}
 use Rattle.kernel_history.specs.Trace.{Step, Trace, last_left}
 use Rattle.kernel_history.specs.Stamps.{clock}
 use Rattle.kernel_history.proofs.Steps.{clock_seen-own}
-use Rattle.call_acts.specs.declared.work.Tail.TheVariants.{Nothing, Quiesce, Unmark, StoreDead, StoreFlush}
+use Rattle.call_acts.specs.declared.work.Tail.TheVariants.{Nothing, Quiesce, Unmark, StoreDead, StoreFlush, Release}
 use Rattle.call_steps.specs.declared.stages.Stage.{Stage}
 use Rattle.call_steps.specs.declared.stages.Stage.TheVariants.{Enter, Undecided, Decided, Leave}
 use Rattle.call_steps.specs.declared.stages.ActiveCall.{ActiveCall}
@@ -121,6 +121,7 @@ module _ (setup : Setting) (setting : IsSetting setup) (cores : ℕ → Core) (t
       dead_good setup setting cores t stands c here a active r drawn life x at knows
   stage_good a (Decided r drawn (StoreFlush by x)) active at knows =
       flushed_good setup setting cores t stands c here a active r drawn by x at knows
+  stage_good a (Decided r drawn (Release release)) active at knows = absurd knows
   stage_good a (Leave r x) active at knows = leave_good a r x active at
 
   -- the step of a call

@@ -1,5 +1,5 @@
 -- The next step of a call is on a word of its machine, by the one name of the word's place.
-use Rattle.std.proofs.Common.{◌≡◌, ℕ, ◌<◌, Option, Some, None, arith, refl}
+use Rattle.std.proofs.Common.{◌≡◌, ℕ, ◌<◌, Option, Some, None, IfSome, length, arith, refl, sym, ap}
 use Rattle.std.specs.Prelude.{IsSome, List, [], ◌∷◌}
 use Rattle.word_map.specs.Places.{Shape, IsIn, shared}
 use Rattle.word_map.specs.Moves.{word_of}
@@ -12,9 +12,20 @@ use Rattle.call_steps.specs.Cores.{move_in}
 use Rattle.call_acts.specs.declared.kills.KillingAt.{KillingAt}
 use Rattle.call_acts.specs.declared.kills.KillingAt.TheVariants.{LoadComp, LoadLive, Close as kill_close, Draw as kill_draw}
 use Rattle.call_acts.specs.Kills.{KillingAtFits, killing_at}
+use Rattle.frame_words.specs.declared.count_word.CountWord.{CountWord}
+use Rattle.stage_sweep.specs.Counters.{counters_of}
+use Rattle.stage_sweep.specs.Freeze.{AtFits, move_at}
+use Rattle.stage_sweep.specs.Release.{ThawFits}
+use Rattle.stage_sweep.specs.declared.sweep.SweepAt.{SweepAt}
+use Rattle.stage_sweep.specs.declared.sweep.SweepAt.TheVariants as sweep
+use Rattle.stage_sweep.specs.declared.thaw.Thaw.{Thaw}
+use Rattle.call_acts.specs.declared.untypings.UntypingAt.{UntypingAt}
+use Rattle.call_acts.specs.declared.untypings.UntypingAt.TheVariants as untype
+use Rattle.call_acts.specs.Untypings.{UntypingAtFits, untyping_at, release_at}
+use Rattle.word_map.specs.Word.{CountAt}
 use Rattle.call_acts.specs.declared.own.Own.{Own}
 use Rattle.call_acts.specs.declared.work.Act.{Act}
-use Rattle.call_acts.specs.declared.work.Act.TheVariants.{Fill, Remove, Retype, Make, Outside, Tick, Flush, Kill}
+use Rattle.call_acts.specs.declared.work.Act.TheVariants.{Fill, Remove, Retype, Make, Outside, Tick, Flush, Kill, Untype}
 use Rattle.spk_nums.specs.declared.kinds.FrameKind.{FrameKind}
 use Rattle.call_acts.specs.declared.typings.TypingAt.{TypingAt}
 use Rattle.call_acts.specs.declared.typings.TypingAt.TheVariants.{Load, Compare as type_compare}
@@ -28,7 +39,7 @@ use Rattle.call_acts.specs.Makings.{MakingAtFits, making_at}
 use Rattle.call_steps.proofs.StepsFit.{last_small}
 use Rattle.call_acts.specs.declared.work.Work.TheVariants.{Lookup, Read, Scan, Acquire, Act as act_work}
 use Rattle.call_acts.specs.declared.work.Tail.{Tail}
-use Rattle.call_acts.specs.declared.work.Tail.TheVariants.{Nothing, Quiesce, Unmark, StoreDead, StoreFlush}
+use Rattle.call_acts.specs.declared.work.Tail.TheVariants.{Nothing, Quiesce, Unmark, StoreDead, StoreFlush, Release}
 use Rattle.call_acts.specs.Acts.{ActFits, act_move}
 use Rattle.call_steps.specs.Tails.{tail_move, is_ok}
 use Rattle.std.proofs.lemmas.List.Elements.{All-head}
@@ -92,40 +103,70 @@ killing_named f core (LoadLive life) = refl
 killing_named f core (kill_close life word) = refl
 killing_named f core (kill_draw life word) = refl
 
-act_named : (act : Act) → shared (word_of (act_move act)) ≡ word_of (act_move act)
-act_named (Fill fill) = refl
-act_named (Remove close cap) = close_named close
-act_named (Retype typing) = typing_named typing.frame typing.kind typing.at
-act_named (Make m) = making_named m.frame m.object m.core m.fill m.at
-act_named (Outside node entry word) = refl
-act_named (Tick charge) = charge_named charge
-act_named (Flush core) = refl
-act_named (Kill m) = killing_named m.comp m.core m.at
+-- a frame's counters are those of the cores
+no_other : (s : Shape) (n : ℕ) → n < counters_of s → n ≡ 0
+unfolding counters_of
+no_other s n low = omega (arith, low)
+
+counter_named : (s : Shape) (f n : ℕ) → n < counters_of s → shared (CountAt f n) ≡ CountAt f n
+counter_named s f n low = ap (CountAt f) (sym (no_other s n low))
+
+sweep_named : (s : Shape) (f core : ℕ) (kept : List CountWord) (at : SweepAt) → AtFits s kept at
+    → shared (word_of (move_at f core (length kept) at)) ≡ word_of (move_at f core (length kept) at)
+sweep_named s f core kept sweep.Load fits = counter_named s f (length kept) fits
+sweep_named s f core kept (sweep.Compare count stamp) fits = counter_named s f (length kept) fits.0
+sweep_named s f core kept (sweep.Scan q) fits = quiet_named q
+sweep_named s f core kept (sweep.Empty entry) fits = refl
+
+untyping_named : (s : Shape) (f core : ℕ) (at : UntypingAt) → UntypingAtFits s at
+    → shared (word_of (untyping_at f core at)) ≡ word_of (untyping_at f core at)
+untyping_named s f core untype.Load fits = refl
+untyping_named s f core (untype.Mark word v) fits = refl
+untyping_named s f core (untype.Sweep word w) fits = sweep_named s w.frame w.core w.kept w.at fits.fits.at
+untyping_named s f core (untype.Draw word w) fits = refl
+
+release_named : (s : Shape) (f word : ℕ) (o : Option Thaw) → IfSome o (ThawFits s)
+    → shared (word_of (release_at f word o)) ≡ word_of (release_at f word o)
+release_named s f word None fits = refl
+release_named s f word (Some x) fits = counter_named s x.frame x.at (let low = fits.at in let few = fits.words in omega (arith, low, few))
+
+act_named : (s : Shape) (act : Act) → ActFits s act → shared (word_of (act_move act)) ≡ word_of (act_move act)
+act_named s (Fill fill) fits = refl
+act_named s (Remove close cap) fits = close_named close
+act_named s (Retype typing) fits = typing_named typing.frame typing.kind typing.at
+act_named s (Make m) fits = making_named m.frame m.object m.core m.fill m.at
+act_named s (Outside node entry word) fits = refl
+act_named s (Tick charge) fits = charge_named charge
+act_named s (Flush core) = refl
+act_named (Kill m) fits = killing_named m.comp m.core m.at
+act_named s (Untype m) fits = untyping_named s m.frame m.core m.at fits.at
 
 -- a count's word is that of its core's counter
 pin_named : (pin : Pin) → shared (word_of (pin_move pin)) ≡ word_of (pin_move pin)
 pin_named (AtLoad frame core) = refl
 pin_named (AtCompare frame core count stamp) = refl
 
-tail_named : (r : Reply) (drawn : Option ℕ) (tail : Tail) (counts : List Acquired)
+tail_named : (s : Shape) (r : Reply) (drawn : Option ℕ) (tail : Tail) (counts : List Acquired) → TailFits s tail
     → shared (word_of (tail_move r drawn tail counts)) ≡ word_of (tail_move r drawn tail counts)
-tail_named r drawn (Quiesce close) counts = close_named close
-tail_named r drawn (Unmark f word) counts = refl
-tail_named r drawn (StoreDead life stamp) counts = refl
-tail_named r drawn (StoreFlush core stamp) counts = refl
-tail_named r drawn Nothing [] = refl
-tail_named r drawn Nothing (x ∷ xs) = refl
+tail_named s r drawn (Quiesce close) counts fits = close_named close
+tail_named s r drawn (Unmark f word) counts fits = refl
+tail_named s r drawn (StoreDead life stamp) counts fits = refl
+tail_named s r drawn (StoreFlush core stamp) counts = refl
+tail_named r drawn Nothing [] fits = refl
+tail_named s r drawn Nothing (x ∷ xs) fits = refl
+tail_named s r drawn (Release release) [] fits = release_named s release.frame release.word release.thaw fits.thaw
+tail_named s r drawn (Release release) (x ∷ xs) fits = refl
 
-pub stage_named : (own : Own) (counts : List Acquired) (s : Stage)
+pub stage_named : (own : Own) (counts : List Acquired) (s : Stage) → StageFits own.layout s
     → shared (word_of (stage_move own counts s)) ≡ word_of (stage_move own counts s)
-stage_named own counts Enter = refl
-stage_named own counts (Undecided (Lookup look)) = look_named look
+stage_named own counts Enter fits = refl
+stage_named own counts (Undecided (Lookup look)) fits = look_named look
 stage_named own counts (Undecided (Read comp look)) = refl
-stage_named own counts (Undecided (Scan q act)) = quiet_named q
-stage_named own counts (Undecided (Acquire pin change act)) = pin_named pin
-stage_named own counts (Undecided (act_work act)) = act_named act
-stage_named own counts (Decided r drawn tail) = tail_named r drawn tail counts
-stage_named own counts (Leave r x) = refl
+stage_named own counts (Undecided (Scan q act)) fits = quiet_named q
+stage_named own counts (Undecided (Acquire pin change act)) fits = pin_named pin
+stage_named own counts (Undecided (act_work act)) fits = act_named own.layout act fits
+stage_named own counts (Decided r drawn tail) fits = tail_named own.layout r drawn tail counts fits
+stage_named own counts (Leave r x) fits = refl
 
 typing_in : (shape : Shape) (f : ℕ) (k : FrameKind) (at : TypingAt) → f < shape.frames → IsIn shape (word_of (typing_at f k at))
 typing_in shape f k Load fits = fits
@@ -146,6 +187,31 @@ killing_in shape f core (LoadLive life) below fits = fits.0
 killing_in shape f core (kill_close life word) below fits = fits.0
 killing_in shape f core (kill_draw life word) below fits = tt
 
+counter_in : (shape : Shape) (f n : ℕ) → f < shape.frames → n < counters_of shape → 0 < shape.cores → IsIn shape (CountAt f n)
+counter_in shape f n below low some = (below, let zero = no_other shape n low in omega (arith, zero, some))
+
+sweep_in : (shape : Shape) (f core : ℕ) (kept : List CountWord) (at : SweepAt) → f < shape.frames → core < shape.cores
+    → AtFits shape kept at → IsIn shape (word_of (move_at f core (length kept) at))
+sweep_in shape f core kept sweep.Load below here fits = counter_in shape f (length kept) below fits (omega (arith, here))
+sweep_in shape f core kept (sweep.Compare count stamp) below here fits =
+    counter_in shape f (length kept) below fits.0 (omega (arith, here))
+sweep_in shape f core kept (sweep.Scan q) below here fits = quiet_is_in shape q fits
+sweep_in shape f core kept (sweep.Empty entry) below here fits = (below, fits)
+
+untyping_in : (shape : Shape) (f core : ℕ) (at : UntypingAt) → f < shape.frames → UntypingAtFits shape at
+    → IsIn shape (word_of (untyping_at f core at))
+untyping_in shape f core untype.Load below fits = below
+untyping_in shape f core (untype.Mark word v) below fits = below
+untyping_in shape f core (untype.Sweep word w) below fits =
+    sweep_in shape w.frame w.core w.kept w.at fits.fits.frame fits.fits.core fits.fits.at
+untyping_in shape f core (untype.Draw word w) below fits = tt
+
+release_in : (shape : Shape) (f word : ℕ) (o : Option Thaw) → f < shape.frames → IfSome o (ThawFits shape) → 0 < shape.cores
+    → IsIn shape (word_of (release_at f word o))
+release_in shape f word None below fits some = below
+release_in shape f word (Some x) below fits some =
+    counter_in shape x.frame x.at fits.frame (let low = fits.at in let few = fits.words in omega (arith, low, few)) some
+
 act_in : (shape : Shape) (act : Act) → ActFits shape act → IsIn shape (word_of (act_move act))
 act_in shape (Fill fill) fits = (fits.node, fits.entry)
 act_in shape (Remove close cap) fits = close_is_in shape close fits.0
@@ -155,16 +221,21 @@ act_in shape (Outside node entry word) fits = fits
 act_in shape (Tick charge) fits = charge_is_in shape charge fits
 act_in shape (Flush core) fits = tt
 act_in shape (Kill m) fits = killing_in shape m.comp m.core m.at fits.comp fits.at
+act_in shape (Untype m) fits = untyping_in shape m.frame m.core m.at fits.frame fits.at
 
 tail_in : (shape : Shape) (r : Reply) (drawn : Option ℕ) (tail : Tail) (counts : List Acquired) → TailFits shape tail
-    → AllFit shape counts
+    → AllFit shape counts → 0 < shape.cores
     → IsIn shape (word_of (tail_move r drawn tail counts))
-tail_in shape r drawn (Quiesce close) counts fits fit = close_is_in shape close fits
-tail_in shape r drawn (Unmark f word) counts fits fit = fits
-tail_in shape r drawn (StoreDead life stamp) counts fits fit = fits.0.0
+tail_in shape r drawn (Quiesce close) counts fits fit some = close_is_in shape close fits
+tail_in shape r drawn (Unmark f word) counts fits fit some = fits
+tail_in shape r drawn (StoreDead life stamp) counts fits fit some = fits.0.0
 tail_in shape r drawn (StoreFlush core stamp) counts fits fit = fits
-tail_in shape r drawn Nothing [] fits fit = tt
-tail_in shape r drawn Nothing (x ∷ xs) fits fit =
+tail_in shape r drawn Nothing [] fits fit some = tt
+tail_in shape r drawn Nothing (x ∷ xs) fits fit some =
+    settle_is_in shape (commit_of (is_ok r) drawn x) (commit_fits shape (is_ok r) drawn x (All-head (AcquiredFits shape) x xs fit))
+tail_in shape r drawn (Release release) [] fits fit some =
+    release_in shape release.frame release.word release.thaw fits.frame fits.thaw some
+tail_in shape r drawn (Release release) (x ∷ xs) fits fit some =
     settle_is_in shape (commit_of (is_ok r) drawn x) (commit_fits shape (is_ok r) drawn x (All-head (AcquiredFits shape) x xs fit))
 
 stage_in : (own : Own) (counts : List Acquired) (s : Stage) → own.core < own.layout.cores → AllFit own.layout counts
@@ -176,14 +247,14 @@ stage_in own counts (Undecided (Read comp look)) here acquired fits = (fits.0, o
 stage_in own counts (Undecided (Scan q act)) here acquired fits = quiet_is_in own.layout q fits.0
 stage_in own counts (Undecided (Acquire pin change act)) here acquired fits = pin_is_in own.layout pin fits.0
 stage_in own counts (Undecided (act_work act)) here acquired fits = act_in own.layout act fits
-stage_in own counts (Decided r drawn tail) here acquired fits = tail_in own.layout r drawn tail counts fits acquired
+stage_in own counts (Decided r drawn tail) here acquired fits = tail_in own.layout r drawn tail counts fits acquired (omega (arith, here))
 stage_in own counts (Leave r x) here acquired fits = here
 
 pub stage_word : (own : Own) (counts : List Acquired) (s : Stage) → own.core < own.layout.cores → AllFit own.layout counts
     → StageFits own.layout s
     → IsWord own.layout (word_of (stage_move own counts s))
 stage_word own counts s here acquired fits =
-    record { is_in = stage_in own counts s here acquired fits; is_named = stage_named own counts s }
+    record { is_in = stage_in own counts s here acquired fits; is_named = stage_named own counts s fits }
 
 move_word : (own : Own) (o : Option ActiveCall) → own.core < own.layout.cores → CallFits own o → IsSome o
     → IsWord own.layout (word_of (move_in own o))

@@ -21,7 +21,7 @@ use Rattle.call_acts.specs.Kills.{is_killing}
 use Rattle.call_acts.specs.declared.kills.KillingAt.{KillingAt}
 use Rattle.call_acts.specs.declared.kills.KillingAt.TheVariants.{LoadComp, LoadLive, Close as kill_close, Draw as kill_draw}
 use Rattle.call_acts.specs.declared.work.Act.{Act as ActOf}
-use Rattle.call_acts.specs.declared.work.Act.TheVariants.{Fill as fill_act, Remove as remove_act, Retype as type_act, Make as make_act, Outside, Tick as tick_act, Flush as flush_act, Kill as kill_act}
+use Rattle.call_acts.specs.declared.work.Act.TheVariants.{Fill as fill_act, Remove as remove_act, Retype as type_act, Make as make_act, Outside, Tick as tick_act, Flush as flush_act, Kill as kill_act, Untype as untype_act}
 use Rattle.call_acts.specs.declared.work.WorkStep.TheVariants.{Goes}
 use Rattle.call_acts.specs.WorkSteps.{refuse}
 use Rattle.call_acts.specs.Acts.{dues, made_dues, next_work, starts, killing_dues}
@@ -63,6 +63,7 @@ start_holds (kill_act m) h is = by m.at is
     by (LoadLive life) is = refl
     by (kill_close life word) is = refl
     by (kill_draw life word) is = absurd (false≢true is)
+start_holds (untype_act m) h is = refl
 
 start_counts : (act : ActOf) → is_start act ≡ true → is_counting act ≡ true
 start_counts (fill_act fill) is = refl
@@ -73,6 +74,7 @@ start_counts (Outside node entry word) is = refl
 start_counts (tick_act charge) is = refl
 start_counts (flush_act core) is = refl
 start_counts (kill_act m) is = is
+start_counts (untype_act m) is = refl
 
 -- Before its first step an act changes one count at most.
 start_apart : (act : ActOf) → is_start act ≡ true → AreDuesApart (dues act)
@@ -96,6 +98,7 @@ start_apart (kill_act m) is = by m.at
     by (LoadLive life) = tt
     by (kill_close life word) = one_apart (killing_dues m.comp (kill_close life word)) (omega arith)
     by (kill_draw life word) = one_apart (killing_dues m.comp (kill_draw life word)) (omega arith)
+start_apart (untype_act m) is = absurd (false≢true is)
 
 -- A call whose frame is not in its range is refused so, and nothing before that refuses it.
 pub record IsRefusedOutside (setup : Setting) (t : Trace) (c : ℕ) (call : Call) (move : Move) : Type 0 where
@@ -151,3 +154,4 @@ module _ (setup : Setting) (setting : IsSetting setup) (cores : ℕ → Core) (t
   starts_good (tick_act charge) is known refused = goes_good (tick_act charge) is refl known
   starts_good (flush_act core) is known refused = goes_good (flush_act core) is refl known
   starts_good (kill_act m) is known refused = goes_good (kill_act m) is refl known
+  starts_good (untype_act m) is known refused = absurd (false≢true is)

@@ -26,9 +26,11 @@ use Rattle.call_plans.proofs.AfterNames.{outcome_left, left_may}
 use Rattle.stage_look.specs.Shown.{CapNames, end_of_frames}
 use Rattle.stage_pins.specs.declared.held.Acquired.{Acquired}
 use Rattle.call_acts.specs.declared.typings.TypingAt.TheVariants.{Load}
+use Rattle.call_acts.specs.declared.work.Act.{Act as ActOf}
 use Rattle.call_acts.specs.declared.work.Act.TheVariants.{Retype as type_act}
+use Rattle.call_acts.specs.declared.work.WorkStep.TheVariants.{Goes}
 use Rattle.call_acts.specs.declared.work.Work.TheVariants.{Act}
-use Rattle.call_acts.specs.Acts.{types_if, types_at, act_begun}
+use Rattle.call_acts.specs.Acts.{typing_to, types_if, types_at, act_begun}
 use Rattle.call_steps.specs.declared.stages.Stage.TheVariants.{Undecided}
 use Rattle.call_steps.specs.declared.stages.ActiveCall.{ActiveCall}
 use Rattle.call_steps.specs.Steps.{landed, found_more}
@@ -94,12 +96,14 @@ module _ (setup : Setting) (setting : IsSetting setup) (cores : ℕ → Core) (t
     (names : Carries setup t (step_to c None (LoadOf (EntryAt at.node at.index)) (last_left setup t (EntryAt at.node at.index)) None None) c
     → NamesAre setup (step_to c None (LoadOf (EntryAt at.node at.index)) (last_left setup t (EntryAt at.node at.index)) None None ∷ t) c
     (cores c).own.table a.plan (range ∷ []))
-    (r f : ℕ) (k : FrameKind) (call_is : a.call ≡ Retype r f k) (kind_is : range.kind ≡ Range) (within : CapNames setup.frames range) where
+    (r f : ℕ) (k : FrameKind) (call_is : a.call ≡ Retype r f k) (kind_is : range.kind ≡ Range) (within : CapNames setup.frames range)
+    (to : typing_to (cores c).own.core f k ≡ type_act (record { frame = f; kind = k; at = Load })) where
   abbrev s : State
   s = state_after setup t
 
   abbrev Ends : Bool → Type 0
-  Ends has = GoodTook setup cores t c (LoadOf (EntryAt at.node at.index)) (landed (found_more a (range ∷ [])) (types_if has f k))
+  Ends has = GoodTook setup cores t c (LoadOf (EntryAt at.node at.index))
+      (landed (found_more a (range ∷ [])) (types_if has (cores c).own.core f k))
 
   left : rule_after (rule_of s c a.call) (range ∷ []) ≡ Does (outside (found range) f ∷ not_retyped s f k) (retypes s f k)
   left = ap (λ x. rule_after (rule_of s c x) (range ∷ [])) call_is
@@ -108,8 +112,9 @@ module _ (setup : Setting) (setting : IsSetting setup) (cores : ℕ → Core) (t
   unspent = not_spent setup (cores c) t c (core_is setup setting cores t stands c here a active) room
 
   -- the frame is in the range
-  in_range : has_frame (found range) f ≡ true → Ends true
-  in_range has lands =
+  types_now : has_frame (found range) f ≡ true → GoodTook setup cores t c (LoadOf (EntryAt at.node at.index))
+      (landed (found_more a (range ∷ [])) (Goes (Act (type_act (record { frame = f; kind = k; at = Load })))))
+  types_now has lands =
       loads_on setup setting cores t stands c here a active (LoadOf (EntryAt at.node at.index)) (range ∷ [])
       (Undecided (Act (type_act (record { frame = f; kind = k; at = Load })))) looks lands (sym held_is) opens
       (λ carries. record {
@@ -124,6 +129,10 @@ module _ (setup : Setting) (setting : IsSetting setup) (cores : ℕ → Core) (t
           goes = refl;
         };
       })
+
+  in_range : has_frame (found range) f ≡ true → Ends true
+  in_range has = subst (λ (act : ActOf). GoodTook setup cores t c (LoadOf (EntryAt at.node at.index))
+      (landed (found_more a (range ∷ [])) (Goes (Act act)))) (sym to) (types_now has)
 
   -- it is not
   past : has_frame (found range) f ≡ false → Ends false

@@ -66,7 +66,9 @@ use Rattle.call_acts.specs.declared.work.WorkStep.{WorkStep}
 use Rattle.stage_pins.specs.declared.held.Acquired.{Acquired}
 use Rattle.call_acts.specs.declared.work.Act.{Act as ActOf}
 use Rattle.call_acts.specs.WorkSteps.{refuse}
-use Rattle.call_acts.specs.Acts.{reads_of, dues, next_work, scans, starts, stamp_shown, removing, act_begun, fills_page}
+use Rattle.call_acts.specs.Acts.{reads_of, dues, next_work, scans, starts, stamp_shown, removing, act_begun, fills_page, typing_to}
+use Rattle.call_acts.specs.declared.typings.TypingAt.TheVariants.{Load as type_load}
+use Rattle.call_acts.specs.declared.work.Act.TheVariants.{Retype as type_act}
 use Rattle.call_steps.specs.Fits.{CountsAt, HasRoom}
 use Rattle.core_invariant.specs.Holding.{holds_counts}
 use Rattle.core_invariant.specs.Knows.{due_of, ReadIs, ReadBefore, IsScanned, MayFill, KnowsAct, KnowsQuiet, LooksUp, own_in, HasFound, NamesAre, LooksFor, KnowsUndecided, phase_at, HasFlushed}
@@ -402,9 +404,10 @@ module _ (setup : Setting) (setting : IsSetting setup) (cores : ℕ → Core) (t
 
     -- a retype has found its range
     range_at_name : (r f : ℕ) (j : FrameKind) → a.call ≡ Retype r f j → (plan_for (Retype r f j)).names ≡ of_kind range_kind r ∷ []
+        → typing_to (cores c).own.core f j ≡ type_act (record { frame = f; kind = j; at = type_load })
         → GoodTook setup cores t c (LoadOf (EntryAt at.node at.index))
         (landed (found_more a more) (act_begun (cores c).own (Retype r f j) more None None))
-    range_at_name r f j is one =
+    range_at_name r f j is one to =
         let only_one = one_name a.plan.names (of_kind range_kind r) name rest a.found k.kind
         (ap (λ (p : Plan). p.names) (plan_is ∙ ap plan_for is) ∙ one) left wanted in
         let more_is : more ≡ k ∷ [] = ap (λ ks. ks ++ k ∷ []) only_one.0 in
@@ -413,7 +416,7 @@ module _ (setup : Setting) (setting : IsSetting setup) (cores : ℕ → Core) (t
         (ranges_good setup setting cores t stands c here a active opens held_is no_counts room goes_by at looks k
         (subst (λ (ks : List Capability). Leads (LeadsIn s c) a.plan.names [] ks) more_is leads_then)
         (λ carries. subst (λ (ks : List Capability). NamesAre setup (e ∷ t) c table a.plan ks) more_is (names_then carries)) r f j is
-        (only_is range_kind k.kind only_one.2) shows.names)
+        (only_is range_kind k.kind only_one.2) shows.names to)
 
     is_named : a.plan.names ≡ [] → ⊥
     is_named none = let h : name ∷ rest ≡ [] = sym left ∙ ap (λ (ns : List Name). names_after ns a.found) none ∙ none_after a.found in cc
@@ -438,8 +441,8 @@ module _ (setup : Setting) (setting : IsSetting setup) (cores : ℕ → Core) (t
     acts_at_name (Shrink u i) is built nowhere = absurd (held_somewhere (spot_of.InRoot First i) nowhere)
     acts_at_name (Unmap p v) is built nowhere = absurd (held_somewhere (spot_of.Under First v) nowhere)
     acts_at_name (Retype r f frame_kind.Untyped) is built nowhere = absurd built
-    acts_at_name (Retype r f frame_kind.User) is built nowhere = range_at_name r f frame_kind.User is refl
-    acts_at_name (Retype r f frame_kind.Kernel) is built nowhere = range_at_name r f frame_kind.Kernel is refl
+    acts_at_name (Retype r f frame_kind.User) is built nowhere = range_at_name r f frame_kind.User is refl refl
+    acts_at_name (Retype r f frame_kind.Kernel) is built nowhere = range_at_name r f frame_kind.Kernel is refl refl
     acts_at_name (make_call what r f u b) is built nowhere =
         absurd (free_somewhere (spot_of.Under Second b) (sym (make_target what r u b) ∙ nowhere))
     acts_at_name (Gate n u b) is built nowhere = absurd (free_somewhere (spot_of.Under Second b) nowhere)
