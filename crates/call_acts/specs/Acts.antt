@@ -151,7 +151,7 @@ act_left cores (make_act m) = making_left m.object m.at
 act_left cores (Outside node entry word) = 1
 act_left cores (tick_act charge) = charge_left charge
 act_left cores (flush_act core) = 2
-act_left (kill_act m) = killing_left m.at
+act_left cores (kill_act m) = killing_left m.at
 act_left cores (untype_act m) = untyping_left cores m.at
 
 -- a look answers what its name has led to
@@ -313,7 +313,7 @@ took_act s (make_act m) found = took_making m found
 took_act s (Outside node entry word) found = refuse OutOfRange
 took_act s (tick_act charge) found = took_tick charge found
 took_act s (flush_act core) found = took_flush core found
-took_act (kill_act m) found = took_killing m found
+took_act s (kill_act m) found = took_killing m found
 took_act s (untype_act m) found = took_untyping s m found
 
 -- what a refused call has still to store where it acquires a count for an act
@@ -488,7 +488,7 @@ act_begun own (Unmap p v) found read target = removes_at own.core target
 act_begun own (Retype r f k) found read target = types_at own (at_place found First) f k
 act_begun own (make_call what range frame table slot) found read target =
     makes_at own (object_made what found) (at_place found First) frame target
-act_begun own Flush found target = flushes own.core
+act_begun own Flush found read target = flushes own.core
 act_begun own (Tick n) found read target = charges own n
 act_begun own (Gate c t b) found read target = fills_with own (put_by (Gate c t b) found read) false target
 act_begun own (Kill k) found read target = kills_at own (at_place found First)

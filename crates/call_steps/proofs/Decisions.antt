@@ -515,7 +515,7 @@ act_unready s (make_act m) found not = making_no m m.at found not
 act_unready s (Outside node entry word) found not = tt
 act_unready s (tick_act charge) found not = charge_no charge found not
 act_unready s (flush_act core) found not = absurd (cc)
-act_unready (kill_act m) found not = killing_no m m.at found not
+act_unready s (kill_act m) found not = killing_no m m.at found not
 act_unready s (untype_act m) found not = untyping_no s m m.at found not
 
 -- a step of a scan answers nothing
@@ -653,7 +653,7 @@ act_decides s a (make_act m) found ready = making_decides a m m.at found ready
 act_decides s a (Outside node entry word) found ready = absurd (cc)
 act_decides s a (tick_act charge) found ready = charge_decides a charge found ready
 act_decides s a (flush_act core) found ready = tt
-act_decides a (kill_act m) found ready = killing_decides a m m.at found ready
+act_decides s a (kill_act m) found ready = killing_decides a m m.at found ready
 act_decides s a (untype_act m) found ready = untyping_decides s a m m.at found ready
 
 begun_over : (own : Own) (call : Call) (k : Capability) → decides_at_name (plan_for call).decides ≡ true

@@ -778,7 +778,7 @@ tail_fits own a r drawn (StoreDead life stamp) counts found facts is fits = reco
   steps = refl;
   fewer = let same : length a.counts ≡ length counts = ap length is in omega arith;
 }
-tail_fits own a r drawn (StoreFlush core stamp) counts found facts is = record {
+tail_fits own a r drawn (StoreFlush core stamp) counts found facts is fits = record {
   call = refl;
   plan = refl;
   found = facts.found;

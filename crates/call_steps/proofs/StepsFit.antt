@@ -575,7 +575,7 @@ act_fits own later (Retype r f k) found read target h names objects limits fits 
 act_fits own later (make_call what range frame table slot) found read target h names objects limits fits =
     made_at own later (make_steps what own.layout.cores) (object_made what found) (at_place found First) frame target h fits
     (made_fits own.layout what range frame table slot found own.layout.cores limits objects)
-act_fits own later Flush found target h names objects limits fits = (h.core, omega arith, refl)
+act_fits own later Flush found read target h names objects limits fits = (h.core, omega arith, refl)
 act_fits own later (Tick n) found read target h names objects limits fits = (h.tcap, omega arith, refl)
 act_fits own later (Gate c t b) found read target h names objects limits fits =
     filled own later (3 + own.layout.cores) _ false target h (gate_names own.layout.frames (at_place found First) read objects) fits (omega arith)

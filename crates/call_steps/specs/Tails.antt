@@ -57,6 +57,7 @@ abbrev pub commits : Tail → Bool
 commits (Quiesce close) = false
 commits (Unmark f word) = false
 commits (StoreDead life stamp) = false
+commits (StoreFlush core stamp) = false
 commits Nothing = true
 commits (Release release) = true
 

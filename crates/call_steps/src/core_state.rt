@@ -16,8 +16,9 @@ use call_acts::Own;
 #[cfg(test)]
 use call_acts::{Act, Untyping, UntypingAt, Work};
 use call_plans::{Caps, plan_of};
-use spk_nums::{Call, CoreEnd, CoreNo, FrameNo, Reply, Setup, Stamp, Translations, WordOp, CapId, FrameArg, Make};
+use spk_nums::{Call, CoreEnd, CoreNo, FrameNo, Reply, Setup, Stamp, Translations, WordOp};
 #[cfg(test)]
+use spk_nums::{CapId, FrameArg, Make};
 use stage_pins::AcquiredCounts;
 use std::marker::Model;
 use word_map::Layout;

@@ -5,9 +5,9 @@ use Rattle.call_acts.specs.declared.kills.KillingAt.TheVariants.{LoadComp, LoadL
 use Rattle.call_acts.specs.declared.makings.MakingAt.{MakingAt}
 use Rattle.call_acts.specs.declared.makings.MakingAt.TheVariants.{Load, Mark, Store, Fill as making_fill}
 use Rattle.call_acts.specs.declared.work.Act.{Act as ActOf}
-use Rattle.call_acts.specs.declared.work.Act.TheVariants.{Fill, Remove, Retype, Make, Outside, Tick, Flush, Kill}
+use Rattle.call_acts.specs.declared.work.Act.TheVariants.{Fill, Remove, Retype, Make, Outside, Tick, Flush, Kill, Untype}
 use Rattle.call_acts.specs.declared.work.Tail.{Tail}
-use Rattle.call_acts.specs.declared.work.Tail.TheVariants.{Nothing, Quiesce, Unmark, StoreDead, StoreFlush}
+use Rattle.call_acts.specs.declared.work.Tail.TheVariants.{Nothing, Quiesce, Unmark, StoreDead, StoreFlush, Release}
 use Rattle.call_acts.specs.declared.work.Work.{Work}
 use Rattle.call_acts.specs.declared.work.Work.TheVariants.{Lookup, Read, Scan, Acquire, Act as act_work}
 use Rattle.call_steps.specs.declared.stages.ActiveCall.{ActiveCall}
@@ -64,6 +64,7 @@ act_flush (Outside node entry word) h c = refl
 act_flush (Tick charge) h c = refl
 act_flush (Flush by) h c = refl
 act_flush (Kill m) h c = killing_flush m.at h c
+act_flush (Untype m) h c = refl
 
 work_flush : (work : Work) (h : Holding) (c : ℕ) → (holds_work work h).stands (FlushAt c) ≡ h.stands (FlushAt c)
 work_flush (Lookup look) h c = refl
@@ -77,6 +78,7 @@ tail_flush Nothing h c none = refl
 tail_flush (Quiesce close) h c none = drawn_flush close h c
 tail_flush (Unmark f word) h c none = refl
 tail_flush (StoreDead life stamp) h c none = refl
+tail_flush (Release release) h c none = refl
 tail_flush (StoreFlush by stamp) h c none = absurd (false≢true (sym none))
 
 stage_flush : (stage : Stage) (h : Holding) (c : ℕ) → is_flushing stage ≡ false
@@ -96,6 +98,7 @@ some_flush setup t c table a (Decided r drawn Nothing) h knows is = absurd (fals
 some_flush setup t c table a (Decided r drawn (Quiesce close)) h knows is = absurd (false≢true is)
 some_flush setup t c table a (Decided r drawn (Unmark f word)) h knows is = absurd (false≢true is)
 some_flush setup t c table a (Decided r drawn (StoreDead life stamp)) h knows is = absurd (false≢true is)
+some_flush setup t c table a (Decided r drawn (Release release)) h knows is = absurd (false≢true is)
 some_flush setup t c table a (Decided r drawn (StoreFlush by stamp)) h knows is =
     subst (λ (d : ℕ). 1 ≤ (holds_tail (StoreFlush by stamp) h).stands (FlushAt d)) knows.core
     (subst (λ (n : ℕ). 1 ≤ n) (sym (ap (λ b. if b then stamp else h.stands (FlushAt by)) (same_same (FlushAt by)))) knows.some)

@@ -640,6 +640,7 @@ flushes_tail Nothing = false
 flushes_tail (Quiesce close) = false
 flushes_tail (Unmark f word) = false
 flushes_tail (StoreDead life stamp) = false
+flushes_tail (Release release) = false
 flushes_tail (StoreFlush by at) = true
 
 abbrev pub is_flushing : Stage → Bool

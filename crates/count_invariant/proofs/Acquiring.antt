@@ -293,13 +293,13 @@ put_counts : (call : Call) → IsBuilt call → (ks : List Capability) (read : O
     → IsTrue (counts_references call)
 put_counts (Look a) built ks read k puts = absurd (cc)
 put_counts (Copy a u b) built ks read k puts = refl
-put_counts (Grow u i l) built ks k puts = refl
+put_counts (Grow u i l) built ks read k puts = refl
 put_counts (Remove u b) built ks read k puts = absurd (cc)
 put_counts (Shrink u i) built ks read k puts = absurd (cc)
 put_counts (Unmap p v) built ks read k puts = absurd (cc)
 put_counts (Retype r f j) built ks read k puts = absurd (cc)
 put_counts (make_call what r f u b) built ks read k puts = absurd (cc)
-put_counts Flush built ks k puts = absurd (cc)
+put_counts Flush built ks read k puts = absurd (cc)
 put_counts (Tick n) built ks read k puts = absurd (cc)
 put_counts (Gate n u b) built ks read k puts = refl
 put_counts (Kill n) built ks read k puts = absurd (cc)
@@ -345,13 +345,13 @@ put_near : (s : State) (c : ℕ) (call : Call) → IsBuilt call → (ks : List C
     → (f : ℕ) → is_one_of f (named_by k.kind k.frame) ≡ true → is_one_of f (frames_near s c call) ≡ true
 put_near s c (Look a) built ks read k puts lead f names_it = absurd (cc)
 put_near s c (Copy a u b) built ks read k puts lead f names_it = near_found s c (Copy a u b) ks lead First k puts f names_it
-put_near s c (Grow u i l) built ks k puts lead f names_it = link_near s c u i l ks k puts lead f names_it
+put_near s c (Grow u i l) built ks read k puts lead f names_it = link_near s c u i l ks k puts lead f names_it
 put_near s c (Remove u b) built ks read k puts lead f names_it = absurd (cc)
 put_near s c (Shrink u i) built ks read k puts lead f names_it = absurd (cc)
 put_near s c (Unmap p v) built ks read k puts lead f names_it = absurd (cc)
 put_near s c (Retype r g j) built ks read k puts lead f names_it = absurd (cc)
 put_near s c (make_call what r g u b) built ks read k puts lead f names_it = absurd (cc)
-put_near s c Flush built ks k puts lead f names_it = absurd (cc)
+put_near s c Flush built ks read k puts lead f names_it = absurd (cc)
 put_near s c (Tick n) built ks read k puts lead f names_it = absurd (cc)
 put_near s c (Gate n u b) built ks read k puts lead f names_it = gate_near s c n u b ks (at_place ks First) read k refl puts lead f names_it
 put_near s c (Kill n) built ks read k puts lead f names_it = absurd (cc)

@@ -137,8 +137,8 @@ act_named s (Retype typing) fits = typing_named typing.frame typing.kind typing.
 act_named s (Make m) fits = making_named m.frame m.object m.core m.fill m.at
 act_named s (Outside node entry word) fits = refl
 act_named s (Tick charge) fits = charge_named charge
-act_named s (Flush core) = refl
-act_named (Kill m) fits = killing_named m.comp m.core m.at
+act_named s (Flush core) fits = refl
+act_named s (Kill m) fits = killing_named m.comp m.core m.at
 act_named s (Untype m) fits = untyping_named s m.frame m.core m.at fits.at
 
 -- a count's word is that of its core's counter
@@ -151,8 +151,8 @@ tail_named : (s : Shape) (r : Reply) (drawn : Option ℕ) (tail : Tail) (counts 
 tail_named s r drawn (Quiesce close) counts fits = close_named close
 tail_named s r drawn (Unmark f word) counts fits = refl
 tail_named s r drawn (StoreDead life stamp) counts fits = refl
-tail_named s r drawn (StoreFlush core stamp) counts = refl
-tail_named r drawn Nothing [] fits = refl
+tail_named s r drawn (StoreFlush core stamp) counts fits = refl
+tail_named s r drawn Nothing [] fits = refl
 tail_named s r drawn Nothing (x ∷ xs) fits = refl
 tail_named s r drawn (Release release) [] fits = release_named s release.frame release.word release.thaw fits.thaw
 tail_named s r drawn (Release release) (x ∷ xs) fits = refl
@@ -161,7 +161,7 @@ pub stage_named : (own : Own) (counts : List Acquired) (s : Stage) → StageFits
     → shared (word_of (stage_move own counts s)) ≡ word_of (stage_move own counts s)
 stage_named own counts Enter fits = refl
 stage_named own counts (Undecided (Lookup look)) fits = look_named look
-stage_named own counts (Undecided (Read comp look)) = refl
+stage_named own counts (Undecided (Read comp look)) fits = refl
 stage_named own counts (Undecided (Scan q act)) fits = quiet_named q
 stage_named own counts (Undecided (Acquire pin change act)) fits = pin_named pin
 stage_named own counts (Undecided (act_work act)) fits = act_named own.layout act fits
@@ -229,7 +229,7 @@ tail_in : (shape : Shape) (r : Reply) (drawn : Option ℕ) (tail : Tail) (counts
 tail_in shape r drawn (Quiesce close) counts fits fit some = close_is_in shape close fits
 tail_in shape r drawn (Unmark f word) counts fits fit some = fits
 tail_in shape r drawn (StoreDead life stamp) counts fits fit some = fits.0.0
-tail_in shape r drawn (StoreFlush core stamp) counts fits fit = fits
+tail_in shape r drawn (StoreFlush core stamp) counts fits fit some = fits
 tail_in shape r drawn Nothing [] fits fit some = tt
 tail_in shape r drawn Nothing (x ∷ xs) fits fit some =
     settle_is_in shape (commit_of (is_ok r) drawn x) (commit_fits shape (is_ok r) drawn x (All-head (AcquiredFits shape) x xs fit))

@@ -468,13 +468,13 @@ puts_by s c target q (Copy a u b) built (k ∷ []) lead none next read has_read 
     not_none : of_kind kind.Table u ∷ [] ≡ [] → ⊥
     not_none h = cc
 puts_by s c target q (Copy a u b) built (k ∷ j ∷ i ∷ ks) lead none next read has_read puts = absurd lead.1.1
-puts_by s c target q (Grow u i l) built (k ∷ j ∷ []) lead none next puts =
+puts_by s c target q (Grow u i l) built (k ∷ j ∷ []) lead none next read has_read puts =
     subst (λ (q : Capability). Puts s c (Grow u i l) (k ∷ j ∷ []) target q) (cap_same (plain_cap kind.Link j.frame) q puts)
     (subst (λ p. Puts s c (Grow u i l) (k ∷ j ∷ []) p (plain_cap kind.Link j.frame)) (target_in (InRoot (found k) i) target next)
     (record { rule = refl; places = refl; ends = λ x. refl; flushes = refl }))
-puts_by s c target q (Grow u i l) built [] lead none next puts = absurd (cc)
-puts_by s c target q (Grow u i l) built (k ∷ []) lead none next puts = absurd (cc)
-puts_by s c target q (Grow u i l) built (k ∷ j ∷ h ∷ ks) lead none next puts = absurd lead.1.1
+puts_by s c target q (Grow u i l) built [] lead none next read has_read puts = absurd (cc)
+puts_by s c target q (Grow u i l) built (k ∷ []) lead none next read has_read puts = absurd (cc)
+puts_by s c target q (Grow u i l) built (k ∷ j ∷ h ∷ ks) lead none next read has_read puts = absurd lead.1.1
 puts_by s c target q (Look a) built ks lead none next read has_read puts = absurd (cc)
 puts_by s c target q (Remove u b) built ks lead none next read has_read puts = absurd (cc)
 puts_by s c target q (Shrink u i) built ks lead none next read has_read puts = absurd (cc)
@@ -489,10 +489,6 @@ puts_by s c target q (Gate n u b) built (k ∷ j ∷ []) lead none next read has
     (record {
       rule = refl;
       places = refl;
-      leaf = λ setup setting t legal in_call same at is. subst (λ x. x.frame at.node ≡ Kernel Leaf) (sym same)
-          (in_leaf setup setting t legal c (Gate n u b) in_call u b j at
-          (subst (λ x. named x c u (only kind.Table) ≡ Found j) same lead.1.0)
-          (subst (λ x. reached x c (Under (found j) b) ≡ Some at) same is));
       ends = λ x. refl;
       flushes = refl;
     }))
@@ -505,7 +501,7 @@ puts_by s c target q (Gate n u b) built (k ∷ []) lead none next read has_read 
     not_none : of_kind kind.Table u ∷ [] ≡ [] → ⊥
     not_none h = cc
 puts_by s c target q (Gate n u b) built (k ∷ j ∷ i ∷ ks) lead none next read has_read puts = absurd lead.1.1
-puts_by s c target q Flush built ks lead none next puts = absurd (cc)
+puts_by s c target q Flush built ks lead none next read has_read puts = absurd (cc)
 puts_by s c target q (Kill n) built ks lead none next read has_read puts = absurd (cc)
 puts_by s c target q call built ks lead none next read has_read puts = absurd built
 

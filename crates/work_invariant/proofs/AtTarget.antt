@@ -231,7 +231,7 @@ begins_free own (make_call what r f u b) built spot to s plan ks read c core non
     subst (λ ks. Begins own (make_call what r f u b) plan ks read c at) (sym two.found_is)
     (begins_make own plan read c core at what r f u b object two.range (two.table ∷ two.rest)
     (subst (λ ks. object_made what ks ≡ Some object) two.found_is is) (within r f two.range two.first)))
-begins_free own Flush built spot to s plan ks c core none leads fits within at = absurd (not_target to)
+begins_free own Flush built spot to s plan ks read c core none leads fits within reads at = absurd (not_target to)
   where
     not_target : Nowhere ≡ Free spot → ⊥
     not_target h = cc
