@@ -57,9 +57,7 @@ mod ticks;
 mod typings;
 mod work;
 
-pub use acts::{
-    act_op, act_ready, act_took, begin_act, next_work, reads_of, refuse, starts, undo,
-};
+pub use acts::{act_op, act_ready, act_took, begin_act, next_work, reads_of, refuse, starts, undo};
 pub use fills::Fill;
 pub use kills::{Killing, KillingAt, dead_op};
 pub use laws::refusals_are_replies;

@@ -68,13 +68,7 @@ pub fn met_name(found: &Caps, wanted: Wanted, entry: &Entry) -> Met
 
 /// What a call of a core does that has read this and whose target is to be free, where its place was found.
 #[inline]
-pub fn met_free(
-    own: &Own,
-    call: &Call,
-    found: &Caps,
-    read: Option<u16>,
-    target: &Found,
-) -> WorkStep
+pub fn met_free(own: &Own, call: &Call, found: &Caps, read: Option<u16>, target: &Found) -> WorkStep
     requires core { own.now.core < own.now.layout.cores }
     requires cores { own.now.layout.cores ≤ 8 }
     ensures { result ≡ met_free own.now call.now found.now read target.now target.now.value }

@@ -24,7 +24,7 @@ pub begun_fits : (own : Own) (call : Call) (found : List Capability) (counts : L
         steps = 0;
         stage = Enter;
         found = found;
-      read = None;
+        read = None;
         counts = counts;
         call = call;
         plan =

@@ -88,7 +88,8 @@ was_while_open P setup (e ∷ t) c call is now = inl now
 module _ (own : Own) (plan : Plan) (read : Option ℕ) (c : ℕ) (own_core : own.core ≡ c) (at : Found) where
   -- it fills the place
   begins_fill : (call : Call) (ks : List Capability) (k : Capability)
-      → act_begun own call ks read (Some at) ≡ scans own.core (quiet_scan (stamp_in at.value) own.core own.layout.cores false) (filling k at)
+      → act_begun own call ks read (Some at)
+      ≡ scans own.core (quiet_scan (stamp_in at.value) own.core own.layout.cores false) (filling k at)
       → EntryFits (entry.Held k) → put_by call ks read ≡ Some k → Begins own call plan ks read c at
   begins_fill call ks k begins fits puts = record {
     act = filling k at;

@@ -59,7 +59,8 @@ module _ (setup : Setting) (setting : IsSetting setup) (cores : ℕ → Core) (t
     (a : ActiveCall) (active : (cores c).active ≡ Some a) (opens : phase_at a.call a.stage ≡ Open a.call)
     (held_is : holds_in (Some a) ≡ holds_counts None a.counts) (no_counts : a.counts ≡ []) (room : (cores c).own.made < (cores c).own.limit)
     (at : Slot) (looks : OnlyLooks setup t c a.call (LoadOf (EntryAt at.node at.index))) (more : List Capability)
-    (leads : Leads (LeadsIn (state_after setup t) c) a.plan.names [] more) (uses : Leads (MayUse (state_after setup t) c) a.plan.names [] more)
+    (leads : Leads (LeadsIn (state_after setup t) c) a.plan.names [] more)
+    (uses : Leads (MayUse (state_after setup t) c) a.plan.names [] more)
     (names : Carries setup t (step_to c None (LoadOf (EntryAt at.node at.index)) (last_left setup t (EntryAt at.node at.index)) None None) c
     → NamesAre setup (step_to c None (LoadOf (EntryAt at.node at.index)) (last_left setup t (EntryAt at.node at.index)) None None ∷ t) c
     (cores c).own.table a.plan more) where

@@ -120,7 +120,10 @@ module _ (setup : Setting) (setting : IsSetting setup) (cores : ℕ → Core) (t
 
   loading : OnlyLooks setup t c a.call (LoadOf (EntryAt f 2))
   loading = record {
-    of_call = record { moves = refl; near = inl (reads_near setup setting t stands.legal c a.call is_open a.found leads f has.knows.reads) };
+    of_call = record {
+      moves = refl;
+      near = inl (reads_near setup setting t stands.legal c a.call is_open a.found leads f has.knows.reads);
+    };
     kept = refl;
     apart = λ d. refl;
   }
