@@ -243,7 +243,8 @@ kills_no : (own : Own) (comp : Option Capability) → NoAnswer (kills_at own com
 kills_no own None = tt
 kills_no own (Some k) = kill_no own.core k.kind k.frame
 
-act_no : (own : Own) (call : Call) (found : List Capability) (read : Option ℕ) (target : Option Found) → decides_at_name (plan_for call).decides ≡ false
+act_no : (own : Own) (call : Call) (found : List Capability) (read : Option ℕ) (target : Option Found)
+    → decides_at_name (plan_for call).decides ≡ false
     → NoAnswer (act_begun own call found read target)
 act_no own (look_call a) found read target not = absurd (cc)
 act_no own (Copy a t b) found read target not = fill_no own _ false target

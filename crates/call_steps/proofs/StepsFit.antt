@@ -637,7 +637,8 @@ reads_below frames (Gate c t b) ks f is below = by (at_place ks First) is below
 reads_below frames call ks f is below = absurd (cc)
 
 -- where more steps may be left, the same step fits
-more_steps : (s : Shape) (later most more : ℕ) (step : WorkStep) → most ≤ more → StepFits s [] later most step → StepFits s [] later more step
+more_steps : (s : Shape) (later most more : ℕ) (step : WorkStep) → most ≤ more → StepFits s [] later most step
+    → StepFits s [] later more step
 more_steps s later most more (Goes work) few fits = (fits.0, (let left = fits.1 in omega (arith, left, few)), fits.2)
 more_steps s later most more (Acquires count work) few fits = fits
 more_steps s later most more (Refuses r tail) few fits = ((let left = fits.0 in omega (arith, left, few)), fits.1)

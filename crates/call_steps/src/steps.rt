@@ -7,7 +7,7 @@ ghost use Rattle.spk_nums.specs.WordSteps.{place_in};
 ghost use Rattle.call_plans.specs.After.{next_of, with_found};
 ghost use Rattle.stage_pins.specs.Held.{AllFit};
 ghost use Rattle.call_steps.specs.Tails.{tail_counts, took_tail};
-ghost use Rattle.call_steps.specs.Steps.{took_read, read_more, core_word, work_move, stage_move, went, went_with, took_scan, took_count, gives_up, landed, next_by, took_enter, took_found, took_end, took_work, took_at, took, told, call_after, is_last, decides_at_name, work_ready, is_ready, is_spent, named_one, decided, Changes};
+ghost use Rattle.call_steps.specs.Steps.{took_read, core_word, work_move, stage_move, went, went_with, took_scan, took_count, gives_up, landed, next_by, took_enter, took_found, took_end, took_work, took_at, took, told, call_after, is_last, decides_at_name, work_ready, is_ready, is_spent, named_one, decided, Changes};
 ghost use Rattle.call_steps.specs.Fits.{WorkFits, StageFits, IsLater, TailFits};
 ghost use Rattle.stage_pins.specs.Acquire.{pin_after, pin_end};
 ghost use Rattle.stage_quiet.specs.Scan.{quiet_after, quiet_end};

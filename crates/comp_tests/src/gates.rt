@@ -13,6 +13,7 @@ use test_machine::{AMPLE, FROM_ENTRIES, MACHINE, TO_ENTRIES, replays, runs};
 
 // The steps of a gate and of a kill that are carried out.
 const STEPS: usize = 14;
+
 const KILL_STEPS: usize = 13;
 
 // The entry line of a gate that is made.
@@ -63,8 +64,10 @@ fn a_gate_carries_its_component_and_the_epoch(rt: HostRuntime) -> Result<(), Fai
     let replies = "0.1 gate 3 1 20 = ok\n0.2 look 20 = ok gate 3 1\n";
     assert!(rt; ends(&rt, alloc, lines, replies, &tables(alloc, ADDED, 5, true)?)?);
     // By another capability of the component, in a place from which a capability was removed, and of a component that is dead.
-    let lines = "core 0\ncopy 3 1 21\ngate 21 1 20\nremove 1 21\ngate 3 1 21\nkill 3\ngate 3 1 22\n";
-    let replies = "0.1 copy 3 1 21 = ok\n0.2 gate 21 1 20 = ok\n0.3 remove 1 21 = ok\n0.4 gate 3 1 21 = ok\n0.5 kill 3 = ok\n0.6 gate 3 1 22 = ok\n";
+    let lines =
+        "core 0\ncopy 3 1 21\ngate 21 1 20\nremove 1 21\ngate 3 1 21\nkill 3\ngate 3 1 22\n";
+    let replies =
+        "0.1 copy 3 1 21 = ok\n0.2 gate 21 1 20 = ok\n0.3 remove 1 21 = ok\n0.4 gate 3 1 21 = ok\n0.5 kill 3 = ok\n0.6 gate 3 1 22 = ok\n";
     let added = "  20 gate 3 1\n  21 gate 3 1\n  22 gate 3 1\n";
     assert!(rt; ends(&rt, alloc, lines, replies, &tables(alloc, added, 6, false)?)?);
     // A gate is copied and removed as each capability.
@@ -117,8 +120,7 @@ fn a_gate_decides_at_its_compare(rt: HostRuntime) -> Result<(), Fail> {
     // Core 1's look decides at its third step.
     for zero in 0..STEPS + 1 {
         let order = order_of(alloc, zero, 3)?;
-        let lines =
-            format!(in alloc; "core 0\ngate 3 1 20\ncore 1\nlook 20\norder\n{order}\n")?;
+        let lines = format!(in alloc; "core 0\ngate 3 1 20\ncore 1\nlook 20\norder\n{order}\n")?;
         let replies = if zero < 11 {
             "1.1 look 20 = empty\n0.1 gate 3 1 20 = ok\n"
         } else {
@@ -130,8 +132,9 @@ fn a_gate_decides_at_its_compare(rt: HostRuntime) -> Result<(), Fail> {
     for (slot, decides) in [("4096", 5), ("64", 7)] {
         for zero in 0..STEPS + 1 {
             let order = order_of(alloc, zero, 3)?;
-            let lines =
-                format!(in alloc; "core 0\ngate 3 1 {slot}\ncore 1\nlook 20\norder\n{order}\n")?;
+            let lines = format!(in alloc;
+                "core 0\ngate 3 1 {slot}\ncore 1\nlook 20\norder\n{order}\n"
+            )?;
             let gate = format!(in alloc; "0.1 gate 3 1 {slot} = no-slot\n")?;
             let replies = if zero < decides {
                 format!(in alloc; "1.1 look 20 = empty\n{gate}")?
@@ -151,8 +154,10 @@ fn a_gate_decides_at_its_compare(rt: HostRuntime) -> Result<(), Fail> {
 fn a_gate_waits_for_those_who_may_use_its_place(rt: HostRuntime) -> Result<(), Fail> {
     let alloc = rt.alloc();
     // Core 1 is in a call that it has entered before the removal.
-    let lines = "core 0\ncopy 0 1 20\nremove 1 20\ngate 3 1 20\ngate 3 1 20\ncore 1\nlook 0\norder\n0. 1 0. 0. 1. 0.\n";
-    let replies = "0.1 copy 0 1 20 = ok\n0.2 remove 1 20 = ok\n0.3 gate 3 1 20 = quiescing 1\n1.1 look 0 = ok range 8 24\n0.4 gate 3 1 20 = ok\n";
+    let lines =
+        "core 0\ncopy 0 1 20\nremove 1 20\ngate 3 1 20\ngate 3 1 20\ncore 1\nlook 0\norder\n0. 1 0. 0. 1. 0.\n";
+    let replies =
+        "0.1 copy 0 1 20 = ok\n0.2 remove 1 20 = ok\n0.3 gate 3 1 20 = quiescing 1\n1.1 look 0 = ok range 8 24\n0.4 gate 3 1 20 = ok\n";
     assert!(rt; ends(&rt, alloc, lines, replies, &tables(alloc, ADDED, 5, true)?)?);
     Ok(())
 }
@@ -180,10 +185,17 @@ fn a_gate_and_a_copy_meet_at_one_place(rt: HostRuntime) -> Result<(), Fail> {
             ),
         };
         let order = order_of(alloc, zero, STEPS)?;
-        let lines =
-            format!(in alloc; "core 0\ngate 3 1 20\ncore 1\ncopy 0 1 20\norder\n{order}\n")?;
+        let lines = format!(in alloc;
+            "core 0\ngate 3 1 20\ncore 1\ncopy 0 1 20\norder\n{order}\n"
+        )?;
         assert!(rt;
-            ends(&rt, alloc, &lines, replies, &tables(alloc, added, refs, true)?)?,
+            ends(
+                &rt,
+                alloc,
+                &lines,
+                replies,
+                &tables(alloc, added, refs, true)?
+            )?,
             "{order}"
         );
     }
@@ -217,7 +229,13 @@ fn a_component_found_before_its_removal_has_its_gate(rt: HostRuntime) -> Result<
             "core 0\ncopy 3 1 21\nremove 1 21\ncore 1\ngate 21 1 20\norder\n{order}\n"
         )?;
         assert!(rt;
-            ends(&rt, alloc, &lines, replies, &tables(alloc, added, refs, true)?)?,
+            ends(
+                &rt,
+                alloc,
+                &lines,
+                replies,
+                &tables(alloc, added, refs, true)?
+            )?,
             "{order}"
         );
     }
@@ -372,8 +390,7 @@ fn a_gate_and_a_kill_of_its_component_meet_at_its_count(rt: HostRuntime) -> Resu
     for zero in 0..STEPS + 1 {
         for one in 0..KILL_STEPS + 1 {
             let order = order_of(alloc, zero, one)?;
-            let lines =
-                format!(in alloc; "core 0\ngate 3 1 20\ncore 1\nkill 3\norder\n{order}\n")?;
+            let lines = format!(in alloc; "core 0\ngate 3 1 20\ncore 1\nkill 3\norder\n{order}\n")?;
             let end = end_of(alloc, zero, one)?;
             let (added, refs) = match (end.gate, end.kill) {
                 (true, true) => (ADDED, 4),

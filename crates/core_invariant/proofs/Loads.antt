@@ -201,7 +201,8 @@ module _ (setup : Setting) (setting : IsSetting setup) (cores : ℕ → Core) (t
   pub reads_on : (move : Move) (found : List Capability) (read : Option ℕ) (stage : Stage) → OnlyLooks setup t c a.call move
       → Lands setup (core_at (cores c) (cores c).own.made (next_with a found read stage)) (word_of move)
       → holds_at stage a.counts ≡ holds_in (Some a) → phase_at a.call a.stage ≡ phase_at a.call stage
-      → (Carries setup t (inner move None None) c → Knows setup (inner move None None ∷ t) c (cores c).own.table (next_with a found read stage))
+      → (Carries setup t (inner move None None) c
+      → Knows setup (inner move None None ∷ t) c (cores c).own.table (next_with a found read stage))
       → IsGood setup cores t (inner move None None) (core_at (cores c) (cores c).own.made (next_with a found read stage))
   reads_on move found read stage looks lands same at knows =
       let e : Step = inner move None None in

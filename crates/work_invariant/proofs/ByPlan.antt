@@ -1,6 +1,6 @@
 -- A step of any look-up of a call is good: the look-up goes by the call's plan.
-use Rattle.std.proofs.Common.{◌≡◌, ℕ, suc, negsuc, ◌≢◌, ◌<◌, ◌≤◌, ◌+◌, map, length, arith, nat_le, Bool, true, false, if◌then◌else◌, IsTrue, List, [], ◌∷◌, ◌++◌, Option, Some, None, refl, sym, ◌∙◌, ap, subst}
-use Rattle.std.proofs.lemmas.Bool.{leb-true, eq-eqb}
+use Rattle.std.proofs.Common.{◌≡◌, ℕ, suc, negsuc, ◌≢◌, ◌<◌, ◌≤◌, ◌+◌, map, length, arith, Bool, true, false, if◌then◌else◌, IsTrue, List, [], ◌∷◌, ◌++◌, Option, Some, None, refl, sym, ◌∙◌, ap, subst}
+use Rattle.std.proofs.lemmas.Bool.{eq-eqb}
 use Rattle.spk_nums.specs.Capability.{Capability}
 use Rattle.spk_nums.specs.Setting.{Setting, IsSetting}
 use Rattle.spk_nums.specs.declared.kinds.Kind.{Kind}
@@ -15,21 +15,18 @@ use Rattle.entry_words.specs.EntryWord.{EntryFits, entry_of_word}
 use Rattle.word_map.specs.Word.{EntryAt}
 use Rattle.word_map.specs.Moves.{LoadOf, word_of}
 use Rattle.kernel_rules.specs.State.{State, Thing, PlaceOf, comp_of}
-use Rattle.kernel_rules.specs.Access.{Slot, Named, found, any, root_at, place_at, held_in, reached, has_no_slot, own, Target as place, Under, InRoot}
+use Rattle.kernel_rules.specs.Access.{Slot, any, root_at, place_at, held_in, reached, has_no_slot, own, Target as place}
 use Rattle.kernel_rules.specs.Rules.{RuleMay, Refused, Found as Found_it, named, vacant, held}
-use Rattle.kernel_rules.specs.CallRelation.{rule_of, change_of, are_calls_spent}
+use Rattle.kernel_rules.specs.CallRelation.{rule_of, change_of}
 use Rattle.kernel_rules.proofs.Facts.{none_some, some_inj}
 use Rattle.kernel_history.specs.Trace.{Step, Trace, Open, phase, state_after, last_left, WasAt}
 use Rattle.kernel_history.specs.Ways.{wide_way_to, wide_ways}
 use Rattle.kernel_history.specs.Justified.{is_slot_in, IsRemoved}
-use Rattle.kernel_history.proofs.AloneCalls.{refused_first}
 use Rattle.kernel_history.proofs.Carries.{Carries, was_now}
-use Rattle.kernel_history.proofs.Stays.{relies_table}
 use Rattle.kernel_history.proofs.Steps.{own_read-here}
 use Rattle.stage_look.specs.Shown.{shown_in}
 use Rattle.stage_look.specs.Lookup.{look_move, found_at}
 use Rattle.stage_look.specs.declared.look.Look.{Look}
-use Rattle.stage_look.specs.declared.look.Look.TheVariants.{AtRoot, AtEntry}
 use Rattle.call_plans.specs.declared.plans.Nth.{Nth}
 use Rattle.call_plans.specs.declared.plans.Nth.TheVariants.{First, Second, Third, Fourth}
 use Rattle.call_plans.specs.declared.plans.Name.{Name}
@@ -41,10 +38,8 @@ use Rattle.call_plans.specs.declared.plans.Plan.{Plan}
 use Rattle.call_plans.specs.Plans.{head, tail, at_place}
 use Rattle.call_plans.specs.PlanOf.{any_cap, plan_for, of_kind}
 use Rattle.call_plans.specs.GoesBy.{GoesBy, own_pages, earlier, wants, place_of}
-use Rattle.call_plans.specs.Rooted.{IsRooted}
-use Rattle.call_plans.specs.After.{with_found, names_after, Leads, LeadsIn, Next, NextName, NextFree, NextHeld, NextOwn, NextNothing, next_target, next_in, next_of, NextMay}
+use Rattle.call_plans.specs.After.{with_found, names_after, Leads, LeadsIn, Next, NextName, NextFree, NextHeld, NextOwn, NextNothing, next_in, next_of, NextMay}
 use Rattle.call_plans.proofs.CallsGoBy.{calls_go}
-use Rattle.call_plans.proofs.RootedTargets.{rooted}
 use Rattle.call_plans.proofs.FewNames.{few_names}
 use Rattle.call_plans.proofs.Roots.{count_led, pushed_one}
 use Rattle.call_plans.proofs.AfterNames.{leads_by, one_more, NextBy, next_may}
@@ -52,7 +47,7 @@ use Rattle.plan_ways.specs.Laws.{NextPlace, NextRefused}
 use Rattle.plan_ways.proofs.Ways.{next_on_way, next_first}
 use Rattle.call_acts.specs.declared.refusals.Refusal.TheVariants as refusal
 use Rattle.call_acts.specs.declared.lookups.Met.TheVariants.{Finds, Refused as met_refused}
-use Rattle.call_acts.specs.declared.work.Work.TheVariants.{Lookup, Read, Scan}
+use Rattle.call_acts.specs.declared.work.Work.TheVariants.{Lookup, Scan}
 use Rattle.call_steps.specs.declared.stages.Stage.TheVariants.{Undecided}
 use Rattle.call_steps.specs.declared.stages.ActiveCall.{ActiveCall}
 use Rattle.spk_nums.specs.declared.kinds.FrameKind.{FrameKind}
@@ -62,10 +57,8 @@ use Rattle.kernel_rules.proofs.Sound.{only_is}
 use Rattle.work_invariant.proofs.AtName.{one_name, ranges_good, looked_good}
 use Rattle.live_invariant.proofs.KillStarts.{kills_good}
 use Rattle.call_acts.specs.declared.work.WorkStep.TheVariants.{Goes}
-use Rattle.call_acts.specs.declared.work.WorkStep.{WorkStep}
 use Rattle.stage_pins.specs.declared.held.Acquired.{Acquired}
 use Rattle.call_acts.specs.declared.work.Act.{Act as ActOf}
-use Rattle.call_acts.specs.WorkSteps.{refuse}
 use Rattle.call_acts.specs.Acts.{reads_of, dues, next_work, scans, starts, stamp_shown, removing, act_begun, fills_page, typing_to}
 use Rattle.call_acts.specs.declared.typings.TypingAt.TheVariants.{Load as type_load}
 use Rattle.call_acts.specs.declared.work.Act.TheVariants.{Retype as type_act}
@@ -81,23 +74,23 @@ use Rattle.place_invariant.proofs.Vacancy.{unpaged_flushed, vacant_by}
 use Rattle.stage_quiet.specs.declared.quiet.Quiet.{Quiet}
 use Rattle.stage_quiet.specs.Scan.{quiet_scan}
 use Rattle.kernel_history.specs.Stamps.{clock, stamp}
-use Rattle.call_acts.specs.Lookups.{read_first, looks_under, looks_entry, looks_at, next_step, met_name, met_free, met_held}
+use Rattle.call_acts.specs.Lookups.{met_name, met_free, met_held}
 use Rattle.call_steps.specs.Steps.{landed, found_more, next_by as what_next, named_one, took_look, took_found}
 use Rattle.call_steps.proofs.StepsFit.{cap_one}
 use Rattle.call_steps.specs.View.{Core}
 use Rattle.core_invariant.specs.Stands.{holds_at, holds_in, Stands}
 use Rattle.core_invariant.proofs.Carries.{names_on, read_before_on}
-use Rattle.core_invariant.proofs.Loads.{OnlyLooks, next_at, core_is, call_is, is_active, loads_on, decides_on}
+use Rattle.core_invariant.proofs.Loads.{OnlyLooks, next_at, call_is, is_active, loads_on}
 use Rattle.core_invariant.proofs.Sounds.{limits_of}
-use Rattle.core_invariant.proofs.Refusals.{GoodTook, not_spent, refuses_empty, refuses_wrong, refuses_occupied}
+use Rattle.core_invariant.proofs.Refusals.{GoodTook, refuses_empty, refuses_wrong, refuses_occupied}
 use Rattle.look_invariant.proofs.Lookups.{Shows, ShowsHeld, Arrives, under_step, in_root_step}
-use Rattle.look_invariant.proofs.Findings.{own_is, past_slot, past_unreached, reaches_none, reaches_held, reaches_other, use_held, use_free, use_removed_at, named_of, named_no_slot, named_empty, named_wrong, found_named, arriving, reached_now, found_now}
-use Rattle.look_invariant.proofs.Next.{MayUse, spot_relies, Rest, ANameLeft, NoneLeft, rest_of, next_name, next_end}
-use Rattle.work_invariant.proofs.ByCall.{none_after, vacant_no_slot, vacant_occupied, held_no_slot, held_empty, past_entry, past_entry_unreached, no_own, make_target, BeginsRemoval, begins_removal, free_somewhere, held_somewhere}
-use Rattle.work_invariant.proofs.Reading.{reads_comp}
+use Rattle.look_invariant.proofs.Findings.{own_is, reaches_none, reaches_held, reaches_other, use_held, use_free, use_removed_at, named_of, named_no_slot, named_empty, named_wrong, found_named, arriving, reached_now, found_now}
+use Rattle.look_invariant.proofs.Next.{MayUse, Rest, ANameLeft, NoneLeft, rest_of, next_name, next_end}
+use Rattle.work_invariant.proofs.ByCall.{none_after, vacant_no_slot, vacant_occupied, held_no_slot, held_empty, make_target, BeginsRemoval, begins_removal, free_somewhere, held_somewhere}
 use Rattle.work_invariant.proofs.AtTarget.{Begins, begins_free, range_within}
 use Rattle.work_invariant.proofs.FoundFits.{found_fits}
 use Rattle.work_invariant.proofs.ScanStarts.{ScanStarts, scan_starts}
+use Rattle.work_invariant.proofs.NextLooks.{next_good}
 
 module _ (setup : Setting) (setting : IsSetting setup) (cores : ℕ → Core) (t : Trace) (stands : Stands setup cores t) (c : ℕ)
     (here : c < setup.cores)
@@ -188,18 +181,6 @@ module _ (setup : Setting) (setting : IsSetting setup) (cores : ℕ → Core) (t
   own_target : (n : ℕ) → own_in table n ≡ own s c n
   own_target n = own_is s c table n table_is
 
-  -- a load that refuses with `no-slot` a call whose names have led to these
-  no_slot_with : (ks : List Capability) (at : Slot) → OnlyLooks setup t c a.call (LoadOf (EntryAt at.node at.index))
-      → RuleMay s c (rule_of s c a.call) reply.NoSlot
-      → change_of s c a.call ≡ Refused reply.NoSlot
-      → GoodTook setup cores t c (LoadOf (EntryAt at.node at.index)) (landed (found_more a ks) (refuse refusal.NoSlot))
-  no_slot_with ks at looks may is lands =
-      let unspent : are_calls_spent s c ≡ false = not_spent setup (cores c) t c (core_is setup setting cores t stands c here a active)
-      room in
-      decides_on setup setting cores t stands c here a active (LoadOf (EntryAt at.node at.index)) reply.NoSlot ks looks lands (still None)
-      opens refl refl (λ x. refl) (λ x. refl) refl
-      (unspent, may) tt (λ is_alone. refused_first s c a.call reply.NoSlot unspent is)
-
   -- One name more has led to k, at a slot of which the word was loaded: what comes next is good.
   module _ (name : Name) (rest : List Name) (left : names_after a.plan.names a.found ≡ name ∷ rest) (at : Slot) (k : Capability)
       (arrives : Arrives setup t c (own_in table name.number) at)
@@ -237,170 +218,6 @@ module _ (setup : Setting) (setting : IsSetting setup) (cores : ℕ → Core) (t
     leads_then = one_more (LeadsIn s c) a.plan.names a.plan.target [] a.found k leads
         (subst (λ (names : List Name). NextBy (LeadsIn s c) (next_in (with_found [] a.found) names a.plan.target) k) (sym left)
         here_named)
-
-    -- What comes next of the call, after the load of the word of this component, if it reads one, is good.
-    abbrev Begun : Option ℕ → WorkStep → Type 0
-    Begun o step = GoodTook setup cores t c (LoadOf (EntryAt at.node at.index)) (landed (found_more a more) (read_first o step))
-
-    -- the next look-up begins
-    looks_next : (next : Next) → next_of a.plan more ≡ next → ReadBefore s c (reads_of a.call more) a.read next
-        → (look : Look) → LooksFor setup (e ∷ t) c table next look → Begun None (Goes (Lookup look))
-    looks_next next is reads look looks_for lands =
-        loads_on setup setting cores t stands c here a active (LoadOf (EntryAt at.node at.index)) more (Undecided (Lookup look)) looks
-        lands (still None) opens
-        (λ carries. record {
-          names = names_then carries;
-          knows = record {
-            looks = subst (λ x. LooksFor setup (e ∷ t) c table x look) (sym is) looks_for;
-            has_read = subst (ReadBefore s c (reads_of a.call more) a.read) (sym is) reads;
-          };
-        })
-
-    -- the component's word is loaded before the next look-up
-    reads_next : (f : ℕ) → reads_of a.call more ≡ Some f → (target : place) → next_of a.plan more ≡ NextFree target
-        → (look : Look) → LooksUp setup (e ∷ t) c target look → Begun (Some f) (Goes (Lookup look))
-    reads_next f reads target is look up lands =
-        loads_on setup setting cores t stands c here a active (LoadOf (EntryAt at.node at.index)) more (Undecided (Read f look)) looks
-        lands (still None) opens
-        (λ carries. record {
-          names = names_then carries;
-          knows = record {
-            target = target;
-            next = is;
-            looks = up;
-            reads = reads;
-            comp = reads_comp setup setting t stands.legal c a.call is_open more
-                (subst (λ (p : Plan). Leads (LeadsIn s c) p.names [] more) plan_is leads_then) f reads;
-          };
-        })
-
-    no_slot_first : (o : Option ℕ) → RuleMay s c (rule_of s c a.call) reply.NoSlot → change_of s c a.call ≡ Refused reply.NoSlot
-        → Begun o (refuse refusal.NoSlot)
-    no_slot_first None = no_slot_with more at looks
-    no_slot_first (Some f) = no_slot_with more at looks
-
-    -- what the next is, said of the slot
-    under_good : (o : Option ℕ) (next : Next) → next_of a.plan more ≡ next → (root : Named) (n : ℕ) → root.found ≡ true
-        → Rattle.kernel_rules.specs.Relies.Relies s c root.frame
-        → (((look : Look) → LooksUp setup (e ∷ t) c (Under root n) look → Begun o (Goes (Lookup look))))
-        → (nat_le n 4095 ≡ false → NextMay s c (own_pages s c) next reply.NoSlot)
-        → (nat_le n 4095 ≡ false → NextRefused s c (own_pages s c) next reply.NoSlot)
-        → Begun o (looks_under (nat_le n 4095) root.frame n)
-    under_good o next is root n found relies for may_not refused = by (nat_le n 4095) refl
-      where
-        by : (within : Bool) → nat_le n 4095 ≡ within → Begun o (looks_under within root.frame n)
-        by true within = for (AtRoot root.frame n) (record {
-          relies = relies;
-          at = record { found = found; frame = refl; same = refl; within = leb-true n 4095 within };
-        })
-        by false past = no_slot_first o (may more leads_then reply.NoSlot
-            (subst (λ x. NextMay s c (own_pages s c) x reply.NoSlot) (sym is) (may_not past)))
-            (first more leads_then reply.NoSlot (subst (λ x. NextRefused s c (own_pages s c) x reply.NoSlot) (sym is) (refused past)))
-
-    entry_good : (o : Option ℕ) (next : Next) → next_of a.plan more ≡ next → (root : Named) (i : ℕ) → root.found ≡ true
-        → Rattle.kernel_rules.specs.Relies.Relies s c root.frame
-        → (((look : Look) → LooksUp setup (e ∷ t) c (InRoot root i) look → Begun o (Goes (Lookup look))))
-        → (nat_le i 63 ≡ false → NextMay s c (own_pages s c) next reply.NoSlot)
-        → (nat_le i 63 ≡ false → NextRefused s c (own_pages s c) next reply.NoSlot)
-        → Begun o (looks_entry (nat_le i 63) root.frame i)
-    entry_good o next is root i found relies for may_not refused = by (nat_le i 63) refl
-      where
-        by : (within : Bool) → nat_le i 63 ≡ within → Begun o (looks_entry within root.frame i)
-        by true within = for (AtEntry root.frame i) (record {
-          relies = relies;
-          at = record { found = found; frame = refl; same = refl; within = leb-true i 63 within };
-        })
-        by false past = no_slot_first o (may more leads_then reply.NoSlot
-            (subst (λ x. NextMay s c (own_pages s c) x reply.NoSlot) (sym is) (may_not past)))
-            (first more leads_then reply.NoSlot (subst (λ x. NextRefused s c (own_pages s c) x reply.NoSlot) (sym is) (refused past)))
-
-    -- the target is looked up next
-    is_rooted : (target : Target) → a.plan.target ≡ target → IsRooted a.plan.names target
-    is_rooted target to = subst (IsRooted a.plan.names) to (subst (λ p. IsRooted p.names p.target) (sym plan_is) (rooted a.call))
-
-    -- one that is to be free, after the load of what the call reads
-    free_first : (o : Option ℕ) → reads_of a.call more ≡ o → (target : place) → next_of a.plan more ≡ NextFree target
-        → (look : Look) → LooksUp setup (e ∷ t) c target look → Begun o (Goes (Lookup look))
-    free_first None reads target is = looks_next (NextFree target) is (subst (λ o. ReadIs s c o a.read) (sym reads) tt)
-    free_first (Some f) reads target is = reads_next f reads target is
-
-    free_good : (spot : Spot) → a.plan.target ≡ Free spot → names_after a.plan.names more ≡ []
-        → next_of a.plan more ≡ NextFree (place_of (with_found [] more) spot)
-        → Begun (reads_of a.call more) (looks_at (place_of (with_found [] more) spot))
-    free_good (spot_of.Under i n) to none is =
-        let root = spot_relies setup setting t stands.legal c a.call is_open a.plan more (spot_of.Under i n)
-        (is_rooted (Free (spot_of.Under i n)) to) uses_then none in
-        under_good (reads_of a.call more) (NextFree (Under (earlier (with_found [] more) i) n)) is (earlier (with_found [] more) i) n
-        root.1 root.0
-        (free_first (reads_of a.call more) refl (Under (earlier (with_found [] more) i) n) is)
-        (λ past. past_slot s (earlier (with_found [] more) i) n past)
-        (λ past. vacant_no_slot s c (Under (earlier (with_found [] more) i) n)
-        (past_unreached s c (earlier (with_found [] more) i) n past))
-    free_good (spot_of.InRoot i x) to none is =
-        let root = spot_relies setup setting t stands.legal c a.call is_open a.plan more (spot_of.InRoot i x)
-        (is_rooted (Free (spot_of.InRoot i x)) to) uses_then none in
-        entry_good (reads_of a.call more) (NextFree (InRoot (earlier (with_found [] more) i) x)) is (earlier (with_found [] more) i) x
-        root.1 root.0
-        (free_first (reads_of a.call more) refl (InRoot (earlier (with_found [] more) i) x) is)
-        (λ past. past_entry x past) (λ past. vacant_no_slot s c (InRoot (earlier (with_found [] more) i) x)
-        (past_entry_unreached s c (earlier (with_found [] more) i) x past))
-
-    held_good : (spot : Spot) → a.plan.target ≡ Held spot → names_after a.plan.names more ≡ []
-        → next_of a.plan more ≡ NextHeld (place_of (with_found [] more) spot)
-        → GoodTook setup cores t c (LoadOf (EntryAt at.node at.index))
-        (landed (found_more a more) (looks_at (place_of (with_found [] more) spot)))
-    held_good (spot_of.Under i n) to none is =
-        let root = spot_relies setup setting t stands.legal c a.call is_open a.plan more (spot_of.Under i n)
-        (is_rooted (Held (spot_of.Under i n)) to) uses_then none in
-        under_good None (NextHeld (Under (earlier (with_found [] more) i) n)) is (earlier (with_found [] more) i) n root.1 root.0
-        (looks_next (NextHeld (Under (earlier (with_found [] more) i) n)) is tt)
-        (λ past. past_slot s (earlier (with_found [] more) i) n past)
-        (λ past. held_no_slot s c (Under (earlier (with_found [] more) i) n)
-        (past_unreached s c (earlier (with_found [] more) i) n past))
-    held_good (spot_of.InRoot i x) to none is =
-        let root = spot_relies setup setting t stands.legal c a.call is_open a.plan more (spot_of.InRoot i x)
-        (is_rooted (Held (spot_of.InRoot i x)) to) uses_then none in
-        entry_good None (NextHeld (InRoot (earlier (with_found [] more) i) x)) is (earlier (with_found [] more) i) x root.1 root.0
-        (looks_next (NextHeld (InRoot (earlier (with_found [] more) i) x)) is tt)
-        (λ past. past_entry x past) (λ past. held_no_slot s c (InRoot (earlier (with_found [] more) i) x)
-        (past_entry_unreached s c (earlier (with_found [] more) i) x past))
-
-    target_good : (target : Target) → a.plan.target ≡ target → names_after a.plan.names more ≡ []
-        → (target ≡ Nowhere → GoodTook setup cores t c (LoadOf (EntryAt at.node at.index))
-        (landed (found_more a more) (act_begun (cores c).own a.call more None None)))
-        → GoodTook setup cores t c (LoadOf (EntryAt at.node at.index))
-        (landed (found_more a more) (next_step (cores c).own a.call more (next_target (with_found [] more) target)))
-    target_good Nowhere to none acts = acts refl
-    target_good (Free spot) to none acts = free_good spot to none (next_end a.plan more (Free spot) none to)
-    target_good (Held spot) to none acts = held_good spot to none (next_end a.plan more (Held spot) none to)
-    target_good (own_page v) to none acts =
-        absurd (no_own a.call (is_active setup setting cores t stands c here a active).built v
-        (ap (λ (p : Plan). p.target) (sym plan_is) ∙ to))
-
-    next_good : (a.plan.target ≡ Nowhere → names_after a.plan.names more ≡ []
-        → GoodTook setup cores t c (LoadOf (EntryAt at.node at.index))
-        (landed (found_more a more) (act_begun (cores c).own a.call more None None)))
-        → GoodTook setup cores t c (LoadOf (EntryAt at.node at.index))
-        (landed (found_more a more) (what_next (cores c).own (found_more a more)))
-    next_good acts = by (rest_of a.plan more)
-      where
-        Goal : Next → Type 0
-        Goal next = GoodTook setup cores t c (LoadOf (EntryAt at.node at.index))
-            (landed (found_more a more) (next_step (cores c).own a.call more next))
-
-        by : Rest a.plan more → Goal (next_of a.plan more)
-        by (ANameLeft name2 rest2 is) =
-            let next = next_name a.plan more name2 rest2 is in
-            subst Goal (sym next) (under_good None (NextName name2.number (wants (with_found [] more) name2.wanted)) next (root_at table)
-            name2.number refl
-            (subst (Rattle.kernel_rules.specs.Relies.Relies s c) (sym table_is)
-            (relies_table setup setting t stands.legal c a.call is_open))
-            (looks_next (NextName name2.number (wants (with_found [] more) name2.wanted)) next tt)
-            (λ past. subst (λ x. IsTrue (has_no_slot s x)) (own_target name2.number) (past_slot s (root_at table) name2.number past))
-            (λ past. named_no_slot s c name2.number (wants (with_found [] more) name2.wanted)
-            (ap (reached s c) (sym (own_target name2.number)) ∙ past_unreached s c (root_at table) name2.number past)))
-        by (NoneLeft none) = subst Goal (sym (next_end a.plan more a.plan.target none refl))
-            (target_good a.plan.target refl none (λ nowhere. acts nowhere none))
 
     -- a retype has found its range
     range_at_name : (r f : ℕ) (j : FrameKind) → a.call ≡ Retype r f j → (plan_for (Retype r f j)).names ≡ of_kind range_kind r ∷ []
@@ -466,7 +283,8 @@ module _ (setup : Setting) (setting : IsSetting setup) (cores : ℕ → Core) (t
     found_good : GoodTook setup cores t c (LoadOf (EntryAt at.node at.index)) (named_one (cores c).own a (Finds k))
     found_good = subst (λ ks. GoodTook setup cores t c (LoadOf (EntryAt at.node at.index))
         (landed (found_more a ks) (what_next (cores c).own (found_more a ks)))) (sym (pushed_one a.found k few))
-        (next_good (λ nowhere none. acts_at_name a.call refl (is_active setup setting cores t stands c here a active).built
+        (next_good setup setting cores t stands c here a active opens held_is no_counts room at looks more leads_then uses_then names_then
+        (λ nowhere none. acts_at_name a.call refl (is_active setup setting cores t stands c here a active).built
         (ap (λ (p : Plan). p.target) (sym plan_is) ∙ nowhere)))
       where
         few : length a.found < 4

@@ -4,5 +4,6 @@ pub mod AtTarget
 pub mod Reading
 pub mod FoundFits
 pub mod ScanStarts
+pub mod NextLooks
 pub mod ByPlan
 pub mod Work

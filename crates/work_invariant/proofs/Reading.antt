@@ -1,5 +1,5 @@
 -- A call reads the word of the component to which its first name has led, before it looks its target up.
-use Rattle.std.proofs.Common.{◌≡◌, inl, ℕ, ◌<◌, ◌||◌, true, false, List, [], ◌∷◌, Option, Some, None, IsTrue, refl, sym, ◌∙◌, ap, subst}
+use Rattle.std.proofs.Common.{◌≡◌, inl, ℕ, ◌<◌, ◌||◌, true, false, List, [], ◌∷◌, Some, None, refl, sym, ◌∙◌, ap, subst}
 use Rattle.std.proofs.lemmas.Bool.{eq-eqb}
 use Rattle.spk_nums.specs.Capability.{Capability}
 use Rattle.spk_nums.specs.Setting.{Setting, IsSetting}
@@ -12,7 +12,7 @@ use Rattle.frame_words.specs.declared.comp_word.CompWord.{CompWord}
 use Rattle.frame_words.proofs.CompLemmas.{comp_spells}
 use Rattle.word_map.specs.Word.{EntryAt}
 use Rattle.word_map.specs.Moves.{LoadOf}
-use Rattle.kernel_rules.specs.State.{State, Frame, Kernel, Comp, PlaceOf, comp_in}
+use Rattle.kernel_rules.specs.State.{State, Kernel, Comp, PlaceOf, comp_in}
 use Rattle.kernel_rules.specs.Access.{only}
 use Rattle.kernel_rules.specs.References.{named_by}
 use Rattle.kernel_rules.proofs.Facts.{named_good}
@@ -42,7 +42,7 @@ use Rattle.core_invariant.specs.Holding.{settled_by}
 use Rattle.core_invariant.specs.Words.{IsFrameWord}
 use Rattle.core_invariant.specs.Knows.{HasComp, LooksFor, ReadIs, ReadBefore, KnowsUndecided, phase_at}
 use Rattle.core_invariant.specs.Stands.{holds_at, held_by, Stands}
-use Rattle.core_invariant.proofs.Carries.{names_on, looks_on, has_comp_on, life_on}
+use Rattle.core_invariant.proofs.Carries.{names_on, looks_on}
 use Rattle.core_invariant.proofs.Loads.{OnlyLooks, step_to, call_is, is_active, reads_on}
 use Rattle.core_invariant.proofs.Refusals.{GoodTook}
 use Rattle.live_invariant.proofs.KillStarts.{comp_named}
@@ -120,7 +120,10 @@ module _ (setup : Setting) (setting : IsSetting setup) (cores : ℕ → Core) (t
 
   loading : OnlyLooks setup t c a.call (LoadOf (EntryAt f 2))
   loading = record {
-    of_call = record { moves = refl; near = inl (reads_near setup setting t stands.legal c a.call is_open a.found leads f has.knows.reads) };
+    of_call = record {
+      moves = refl;
+      near = inl (reads_near setup setting t stands.legal c a.call is_open a.found leads f has.knows.reads);
+    };
     kept = refl;
     apart = λ d. refl;
   }

@@ -1,0 +1,271 @@
+-- What comes next of a call whose names have led to one capability more: the next name, the target, or, before a target that is to be
+-- free, the word of the component that the call reads.
+use Rattle.std.proofs.Common.{◌≡◌, ℕ, ◌<◌, nat_le, Bool, true, false, IsTrue, List, [], ◌∷◌, Option, Some, None, refl, sym, ◌∙◌, ap, subst}
+use Rattle.std.proofs.lemmas.Bool.{leb-true}
+use Rattle.spk_nums.specs.Capability.{Capability}
+use Rattle.spk_nums.specs.Setting.{Setting, IsSetting}
+use Rattle.spk_nums.specs.declared.replies.Reply.{Reply}
+use Rattle.spk_nums.specs.declared.replies.Reply.TheVariants as reply
+use Rattle.word_map.specs.Word.{EntryAt}
+use Rattle.word_map.specs.Moves.{LoadOf}
+use Rattle.kernel_rules.specs.State.{State, comp_of}
+use Rattle.kernel_rules.specs.Access.{Slot, Named, found, root_at, reached, has_no_slot, own, Target as place, Under, InRoot}
+use Rattle.kernel_rules.specs.Rules.{RuleMay, Refused}
+use Rattle.kernel_rules.specs.CallRelation.{rule_of, change_of, are_calls_spent}
+use Rattle.kernel_history.specs.Trace.{Step, Trace, Open, phase, state_after, last_left}
+use Rattle.kernel_history.proofs.AloneCalls.{refused_first}
+use Rattle.kernel_history.proofs.Carries.{Carries}
+use Rattle.kernel_history.proofs.Stays.{relies_table}
+use Rattle.stage_look.specs.declared.look.Look.{Look}
+use Rattle.stage_look.specs.declared.look.Look.TheVariants.{AtRoot, AtEntry}
+use Rattle.call_plans.specs.declared.plans.Spot.{Spot}
+use Rattle.call_plans.specs.declared.plans.Spot.TheVariants as spot_of
+use Rattle.call_plans.specs.declared.plans.Target.{Target}
+use Rattle.call_plans.specs.declared.plans.Target.TheVariants.{Nowhere, Free, Held, Own as own_page}
+use Rattle.call_plans.specs.declared.plans.Plan.{Plan}
+use Rattle.call_plans.specs.PlanOf.{plan_for}
+use Rattle.call_plans.specs.GoesBy.{GoesBy, own_pages, earlier, wants, place_of}
+use Rattle.call_plans.specs.Rooted.{IsRooted}
+use Rattle.call_plans.specs.After.{with_found, names_after, Leads, LeadsIn, Next, NextName, NextFree, NextHeld, next_target, next_of, NextMay}
+use Rattle.call_plans.proofs.CallsGoBy.{calls_go}
+use Rattle.call_plans.proofs.RootedTargets.{rooted}
+use Rattle.call_plans.proofs.AfterNames.{next_may}
+use Rattle.plan_ways.specs.Laws.{NextRefused}
+use Rattle.plan_ways.proofs.Ways.{next_first}
+use Rattle.call_acts.specs.declared.refusals.Refusal.TheVariants as refusal
+use Rattle.call_acts.specs.declared.work.Work.TheVariants.{Lookup, Read}
+use Rattle.call_steps.specs.declared.stages.Stage.TheVariants.{Undecided}
+use Rattle.call_steps.specs.declared.stages.ActiveCall.{ActiveCall}
+use Rattle.call_acts.specs.declared.work.WorkStep.TheVariants.{Goes}
+use Rattle.call_acts.specs.declared.work.WorkStep.{WorkStep}
+use Rattle.call_acts.specs.WorkSteps.{refuse}
+use Rattle.call_acts.specs.Acts.{reads_of, act_begun}
+use Rattle.core_invariant.specs.Holding.{holds_counts}
+use Rattle.core_invariant.specs.Knows.{ReadIs, ReadBefore, LooksUp, own_in, NamesAre, LooksFor, phase_at}
+use Rattle.call_acts.specs.Lookups.{read_first, looks_under, looks_entry, looks_at, next_step}
+use Rattle.call_steps.specs.Steps.{landed, found_more, next_by as what_next}
+use Rattle.call_steps.specs.View.{Core}
+use Rattle.core_invariant.specs.Stands.{holds_in, Stands}
+use Rattle.core_invariant.proofs.Loads.{OnlyLooks, core_is, call_is, is_active, loads_on, decides_on, step_to}
+use Rattle.core_invariant.proofs.Refusals.{GoodTook, not_spent}
+use Rattle.look_invariant.proofs.Findings.{own_is, past_slot, past_unreached, named_no_slot}
+use Rattle.look_invariant.proofs.Next.{MayUse, spot_relies, Rest, ANameLeft, NoneLeft, rest_of, next_name, next_end}
+use Rattle.work_invariant.proofs.ByCall.{vacant_no_slot, held_no_slot, past_entry, past_entry_unreached, no_own}
+use Rattle.work_invariant.proofs.Reading.{reads_comp}
+
+module _ (setup : Setting) (setting : IsSetting setup) (cores : ℕ → Core) (t : Trace) (stands : Stands setup cores t) (c : ℕ)
+    (here : c < setup.cores)
+    (a : ActiveCall) (active : (cores c).active ≡ Some a) (opens : phase_at a.call a.stage ≡ Open a.call)
+    (held_is : holds_in (Some a) ≡ holds_counts None a.counts) (no_counts : a.counts ≡ []) (room : (cores c).own.made < (cores c).own.limit)
+    (at : Slot) (looks : OnlyLooks setup t c a.call (LoadOf (EntryAt at.node at.index))) (more : List Capability)
+    (leads : Leads (LeadsIn (state_after setup t) c) a.plan.names [] more)
+    (uses : Leads (MayUse (state_after setup t) c) a.plan.names [] more)
+    (names : Carries setup t (step_to c None (LoadOf (EntryAt at.node at.index)) (last_left setup t (EntryAt at.node at.index)) None None) c
+    → NamesAre setup (step_to c None (LoadOf (EntryAt at.node at.index)) (last_left setup t (EntryAt at.node at.index)) None None ∷ t) c
+    (cores c).own.table a.plan more) where
+  abbrev s : State
+  s = state_after setup t
+
+  abbrev table : ℕ
+  table = (cores c).own.table
+
+  abbrev e : Step
+  e = step_to c None (LoadOf (EntryAt at.node at.index)) (last_left setup t (EntryAt at.node at.index)) None None
+
+  table_is : table ≡ (comp_of s c).table
+  table_is = (stands.each c here).works.table
+
+  plan_is : a.plan ≡ plan_for a.call
+  plan_is = (is_active setup setting cores t stands c here a active).plan
+
+  is_open : phase t c ≡ Open a.call
+  is_open = (call_is setup setting cores t stands c here a active).phase ∙ opens
+
+  still : (fate : Option (Option ℕ)) → holds_counts fate a.counts ≡ holds_in (Some a)
+  still fate = ap (holds_counts fate) no_counts ∙ sym (ap (holds_counts None) no_counts) ∙ sym held_is
+
+  goes_by : GoesBy (own_pages s c) a.plan (rule_of s c a.call)
+  goes_by = subst (λ p. GoesBy (own_pages s c) p (rule_of s c a.call)) (sym plan_is) (calls_go s c a.call)
+
+  may : (r : Reply) → NextMay s c (own_pages s c) (next_of a.plan more) r → RuleMay s c (rule_of s c a.call) r
+  may r h = next_may s c (own_pages s c) a.plan (rule_of s c a.call) more goes_by leads r h
+
+  first : (r : Reply) → NextRefused s c (own_pages s c) (next_of a.plan more) r → change_of s c a.call ≡ Refused r
+  first r h = next_first s c (own_pages s c) a.plan (rule_of s c a.call) more goes_by leads r h
+
+  own_target : (n : ℕ) → own_in table n ≡ own s c n
+  own_target n = own_is s c table n table_is
+
+  -- the load refuses the call with `no-slot`
+  no_slot : RuleMay s c (rule_of s c a.call) reply.NoSlot → change_of s c a.call ≡ Refused reply.NoSlot
+      → GoodTook setup cores t c (LoadOf (EntryAt at.node at.index)) (landed (found_more a more) (refuse refusal.NoSlot))
+  no_slot may is lands =
+      let unspent : are_calls_spent s c ≡ false = not_spent setup (cores c) t c (core_is setup setting cores t stands c here a active)
+      room in
+      decides_on setup setting cores t stands c here a active (LoadOf (EntryAt at.node at.index)) reply.NoSlot more looks lands (still None)
+      opens refl refl (λ x. refl) (λ x. refl) refl
+      (unspent, may) tt (λ is_alone. refused_first s c a.call reply.NoSlot unspent is)
+
+  -- What comes next of the call, after the load of the word of this component, if it reads one, is good.
+  abbrev Begun : Option ℕ → WorkStep → Type 0
+  Begun o step = GoodTook setup cores t c (LoadOf (EntryAt at.node at.index)) (landed (found_more a more) (read_first o step))
+
+  -- the next look-up begins
+  looks_next : (next : Next) → next_of a.plan more ≡ next → ReadBefore s c (reads_of a.call more) a.read next
+      → (look : Look) → LooksFor setup (e ∷ t) c table next look → Begun None (Goes (Lookup look))
+  looks_next next is reads look looks_for lands =
+      loads_on setup setting cores t stands c here a active (LoadOf (EntryAt at.node at.index)) more (Undecided (Lookup look)) looks
+      lands (still None) opens
+      (λ carries. record {
+        names = names carries;
+        knows = record {
+          looks = subst (λ x. LooksFor setup (e ∷ t) c table x look) (sym is) looks_for;
+          has_read = subst (ReadBefore s c (reads_of a.call more) a.read) (sym is) reads;
+        };
+      })
+
+  -- the component's word is loaded before the next look-up
+  reads_next : (f : ℕ) → reads_of a.call more ≡ Some f → (target : place) → next_of a.plan more ≡ NextFree target
+      → (look : Look) → LooksUp setup (e ∷ t) c target look → Begun (Some f) (Goes (Lookup look))
+  reads_next f reads target is look up lands =
+      loads_on setup setting cores t stands c here a active (LoadOf (EntryAt at.node at.index)) more (Undecided (Read f look)) looks
+      lands (still None) opens
+      (λ carries. record {
+        names = names carries;
+        knows = record {
+          target = target;
+          next = is;
+          looks = up;
+          reads = reads;
+          comp = reads_comp setup setting t stands.legal c a.call is_open more
+              (subst (λ (p : Plan). Leads (LeadsIn s c) p.names [] more) plan_is leads) f reads;
+        };
+      })
+
+  no_slot_first : (o : Option ℕ) → RuleMay s c (rule_of s c a.call) reply.NoSlot → change_of s c a.call ≡ Refused reply.NoSlot
+      → Begun o (refuse refusal.NoSlot)
+  no_slot_first None = no_slot
+  no_slot_first (Some f) = no_slot
+
+  -- what the next is, said of the slot
+  under_good : (o : Option ℕ) (next : Next) → next_of a.plan more ≡ next → (root : Named) (n : ℕ) → root.found ≡ true
+      → Rattle.kernel_rules.specs.Relies.Relies s c root.frame
+      → (((look : Look) → LooksUp setup (e ∷ t) c (Under root n) look → Begun o (Goes (Lookup look))))
+      → (nat_le n 4095 ≡ false → NextMay s c (own_pages s c) next reply.NoSlot)
+      → (nat_le n 4095 ≡ false → NextRefused s c (own_pages s c) next reply.NoSlot)
+      → Begun o (looks_under (nat_le n 4095) root.frame n)
+  under_good o next is root n found relies for may_not refused = by (nat_le n 4095) refl
+    where
+      by : (within : Bool) → nat_le n 4095 ≡ within → Begun o (looks_under within root.frame n)
+      by true within = for (AtRoot root.frame n) (record {
+        relies = relies;
+        at = record { found = found; frame = refl; same = refl; within = leb-true n 4095 within };
+      })
+      by false past = no_slot_first o (may reply.NoSlot
+          (subst (λ x. NextMay s c (own_pages s c) x reply.NoSlot) (sym is) (may_not past)))
+          (first reply.NoSlot (subst (λ x. NextRefused s c (own_pages s c) x reply.NoSlot) (sym is) (refused past)))
+
+  entry_good : (o : Option ℕ) (next : Next) → next_of a.plan more ≡ next → (root : Named) (i : ℕ) → root.found ≡ true
+      → Rattle.kernel_rules.specs.Relies.Relies s c root.frame
+      → (((look : Look) → LooksUp setup (e ∷ t) c (InRoot root i) look → Begun o (Goes (Lookup look))))
+      → (nat_le i 63 ≡ false → NextMay s c (own_pages s c) next reply.NoSlot)
+      → (nat_le i 63 ≡ false → NextRefused s c (own_pages s c) next reply.NoSlot)
+      → Begun o (looks_entry (nat_le i 63) root.frame i)
+  entry_good o next is root i found relies for may_not refused = by (nat_le i 63) refl
+    where
+      by : (within : Bool) → nat_le i 63 ≡ within → Begun o (looks_entry within root.frame i)
+      by true within = for (AtEntry root.frame i) (record {
+        relies = relies;
+        at = record { found = found; frame = refl; same = refl; within = leb-true i 63 within };
+      })
+      by false past = no_slot_first o (may reply.NoSlot
+          (subst (λ x. NextMay s c (own_pages s c) x reply.NoSlot) (sym is) (may_not past)))
+          (first reply.NoSlot (subst (λ x. NextRefused s c (own_pages s c) x reply.NoSlot) (sym is) (refused past)))
+
+  -- the target is looked up next
+  is_rooted : (target : Target) → a.plan.target ≡ target → IsRooted a.plan.names target
+  is_rooted target to = subst (IsRooted a.plan.names) to (subst (λ p. IsRooted p.names p.target) (sym plan_is) (rooted a.call))
+
+  -- one that is to be free, after the load of what the call reads
+  free_first : (o : Option ℕ) → reads_of a.call more ≡ o → (target : place) → next_of a.plan more ≡ NextFree target
+      → (look : Look) → LooksUp setup (e ∷ t) c target look → Begun o (Goes (Lookup look))
+  free_first None reads target is = looks_next (NextFree target) is (subst (λ o. ReadIs s c o a.read) (sym reads) tt)
+  free_first (Some f) reads target is = reads_next f reads target is
+
+  free_good : (spot : Spot) → a.plan.target ≡ Free spot → names_after a.plan.names more ≡ []
+      → next_of a.plan more ≡ NextFree (place_of (with_found [] more) spot)
+      → Begun (reads_of a.call more) (looks_at (place_of (with_found [] more) spot))
+  free_good (spot_of.Under i n) to none is =
+      let root = spot_relies setup setting t stands.legal c a.call is_open a.plan more (spot_of.Under i n)
+      (is_rooted (Free (spot_of.Under i n)) to) uses none in
+      under_good (reads_of a.call more) (NextFree (Under (earlier (with_found [] more) i) n)) is (earlier (with_found [] more) i) n
+      root.1 root.0
+      (free_first (reads_of a.call more) refl (Under (earlier (with_found [] more) i) n) is)
+      (λ past. past_slot s (earlier (with_found [] more) i) n past)
+      (λ past. vacant_no_slot s c (Under (earlier (with_found [] more) i) n)
+      (past_unreached s c (earlier (with_found [] more) i) n past))
+  free_good (spot_of.InRoot i x) to none is =
+      let root = spot_relies setup setting t stands.legal c a.call is_open a.plan more (spot_of.InRoot i x)
+      (is_rooted (Free (spot_of.InRoot i x)) to) uses none in
+      entry_good (reads_of a.call more) (NextFree (InRoot (earlier (with_found [] more) i) x)) is (earlier (with_found [] more) i) x
+      root.1 root.0
+      (free_first (reads_of a.call more) refl (InRoot (earlier (with_found [] more) i) x) is)
+      (λ past. past_entry x past) (λ past. vacant_no_slot s c (InRoot (earlier (with_found [] more) i) x)
+      (past_entry_unreached s c (earlier (with_found [] more) i) x past))
+
+  held_good : (spot : Spot) → a.plan.target ≡ Held spot → names_after a.plan.names more ≡ []
+      → next_of a.plan more ≡ NextHeld (place_of (with_found [] more) spot)
+      → GoodTook setup cores t c (LoadOf (EntryAt at.node at.index))
+      (landed (found_more a more) (looks_at (place_of (with_found [] more) spot)))
+  held_good (spot_of.Under i n) to none is =
+      let root = spot_relies setup setting t stands.legal c a.call is_open a.plan more (spot_of.Under i n)
+      (is_rooted (Held (spot_of.Under i n)) to) uses none in
+      under_good None (NextHeld (Under (earlier (with_found [] more) i) n)) is (earlier (with_found [] more) i) n root.1 root.0
+      (looks_next (NextHeld (Under (earlier (with_found [] more) i) n)) is tt)
+      (λ past. past_slot s (earlier (with_found [] more) i) n past)
+      (λ past. held_no_slot s c (Under (earlier (with_found [] more) i) n)
+      (past_unreached s c (earlier (with_found [] more) i) n past))
+  held_good (spot_of.InRoot i x) to none is =
+      let root = spot_relies setup setting t stands.legal c a.call is_open a.plan more (spot_of.InRoot i x)
+      (is_rooted (Held (spot_of.InRoot i x)) to) uses none in
+      entry_good None (NextHeld (InRoot (earlier (with_found [] more) i) x)) is (earlier (with_found [] more) i) x root.1 root.0
+      (looks_next (NextHeld (InRoot (earlier (with_found [] more) i) x)) is tt)
+      (λ past. past_entry x past) (λ past. held_no_slot s c (InRoot (earlier (with_found [] more) i) x)
+      (past_entry_unreached s c (earlier (with_found [] more) i) x past))
+
+  target_good : (target : Target) → a.plan.target ≡ target → names_after a.plan.names more ≡ []
+      → (target ≡ Nowhere → GoodTook setup cores t c (LoadOf (EntryAt at.node at.index))
+      (landed (found_more a more) (act_begun (cores c).own a.call more None None)))
+      → GoodTook setup cores t c (LoadOf (EntryAt at.node at.index))
+      (landed (found_more a more) (next_step (cores c).own a.call more (next_target (with_found [] more) target)))
+  target_good Nowhere to none acts = acts refl
+  target_good (Free spot) to none acts = free_good spot to none (next_end a.plan more (Free spot) none to)
+  target_good (Held spot) to none acts = held_good spot to none (next_end a.plan more (Held spot) none to)
+  target_good (own_page v) to none acts =
+      absurd (no_own a.call (is_active setup setting cores t stands c here a active).built v
+      (ap (λ (p : Plan). p.target) (sym plan_is) ∙ to))
+
+  pub next_good : (a.plan.target ≡ Nowhere → names_after a.plan.names more ≡ []
+      → GoodTook setup cores t c (LoadOf (EntryAt at.node at.index))
+      (landed (found_more a more) (act_begun (cores c).own a.call more None None)))
+      → GoodTook setup cores t c (LoadOf (EntryAt at.node at.index))
+      (landed (found_more a more) (what_next (cores c).own (found_more a more)))
+  next_good acts = by (rest_of a.plan more)
+    where
+      Goal : Next → Type 0
+      Goal next = GoodTook setup cores t c (LoadOf (EntryAt at.node at.index))
+          (landed (found_more a more) (next_step (cores c).own a.call more next))
+
+      by : Rest a.plan more → Goal (next_of a.plan more)
+      by (ANameLeft name2 rest2 is) =
+          let next = next_name a.plan more name2 rest2 is in
+          subst Goal (sym next) (under_good None (NextName name2.number (wants (with_found [] more) name2.wanted)) next (root_at table)
+          name2.number refl
+          (subst (Rattle.kernel_rules.specs.Relies.Relies s c) (sym table_is)
+          (relies_table setup setting t stands.legal c a.call is_open))
+          (looks_next (NextName name2.number (wants (with_found [] more) name2.wanted)) next tt)
+          (λ past. subst (λ x. IsTrue (has_no_slot s x)) (own_target name2.number) (past_slot s (root_at table) name2.number past))
+          (λ past. named_no_slot s c name2.number (wants (with_found [] more) name2.wanted)
+          (ap (reached s c) (sym (own_target name2.number)) ∙ past_unreached s c (root_at table) name2.number past)))
+      by (NoneLeft none) = subst Goal (sym (next_end a.plan more a.plan.target none refl))
+          (target_good a.plan.target refl none (λ nowhere. acts nowhere none))
