@@ -363,8 +363,13 @@ module _ (setup : Setting) (setting : IsSetting setup) (cores : ℕ → Core) (t
           draws = (let d = stands.draws in let g = counted_rises setup (state_after setup t) (state_after setup (e ∷ t)) c calm in omega
               arith);
           time = plain_time setup t e plain;
-          leaves = record { at = x; knows = leave; stored = now.flushed (ap flushing_in active ∙ ap is_flushing at); no_entry = refl;
-              no_decision = refl };
+          leaves = record {
+            at = x;
+            knows = leave;
+            stored = now.flushed (ap flushing_in active ∙ ap is_flushing at);
+            no_entry = refl;
+            no_decision = refl;
+          };
           own = record {
             fits = lands.fits;
             number = now.number;

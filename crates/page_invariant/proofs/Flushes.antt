@@ -323,7 +323,7 @@ module _ (setup : Setting) (setting : IsSetting setup) (cores : ℕ → Core) (t
   holds_was w = (
     ap (λ h. h.marks w) (ap holds_in active ∙ ap (λ stage. holds_at stage a.counts) stage_is),
     ap (λ h. h.stands w) (ap holds_in active ∙ ap (λ stage. holds_at stage a.counts) stage_is)
-    ∙ ap (λ (d : ℕ). if same_word w (FlushAt d) then x else rest.stands w) has.core,
+        ∙ ap (λ (d : ℕ). if same_word w (FlushAt d) then x else rest.stands w) has.core,
   )
 
   still_marks : (w : Word) → (holds stored_core).marks w ≡ (holds (cores c)).marks w

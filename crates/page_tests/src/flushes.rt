@@ -7,6 +7,7 @@ use std::test::Fail;
 use test_machine::{FROM_ENTRIES, MACHINE, TO_ENTRIES, is_counted, is_done, is_typed, runs};
 
 const ZERO: &str = "0.1 flush = ok\n";
+
 const ONE: &str = "1.1 flush = ok\n";
 
 #[test]
@@ -46,7 +47,9 @@ fn a_flush_has_five_steps_and_decides_at_the_second(rt: HostRuntime) -> Result<(
         ("0 1 1 1 0 0 0 1 0 1 0.", [look, ZERO, again]),
     ];
     for (order, replies) in rows {
-        let lines = format!(in rt.alloc(); "core 0\nflush\nflush\ncore 1\nlook 0\norder\n{order}\n")?;
+        let lines = format!(in rt.alloc();
+            "core 0\nflush\nflush\ncore 1\nlook 0\norder\n{order}\n"
+        )?;
         let [first, second, third] = replies;
         let replies = format!(in rt.alloc(); "{first}{second}{third}")?;
         assert!(rt; is_done(&rt, rt.alloc(), &lines, &replies, "")?, "{order}");
@@ -68,7 +71,9 @@ fn within(alloc: Global, first: u8, steps: u32, second: u8) -> Result<String, Fa
 
 // Where a call of core 1 has decided after so many of its steps.
 const COPY_DECIDES: u32 = 10;
+
 const REMOVAL_DECIDES: u32 = 9;
+
 const CALL_STEPS: u32 = 13;
 
 #[test]
@@ -87,7 +92,10 @@ fn a_flush_is_carried_out_at_each_step_of_a_copy_and_of_a_removal(
             format!(in alloc; "{copy}{ZERO}")?
         };
         let left = "  20 comp 3\n";
-        assert!(rt; is_counted(&rt, alloc, &lines, &replies, left, 5)?, "{order}");
+        assert!(rt;
+            is_counted(&rt, alloc, &lines, &replies, left, 5)?,
+            "{order}"
+        );
         let lines = format!(in alloc;
             "core 0\nflush\ncore 1\ncopy 3 1 20\nremove 1 20\norder\n1. {order}\n"
         )?;
@@ -156,7 +164,9 @@ fn two_cores_flush_in_every_order_of_their_steps(rt: HostRuntime) -> Result<(), 
 }
 
 #[test]
-fn two_threads_flush_while_capabilities_are_copied_and_removed(rt: HostRuntime) -> Result<(), Fail> {
+fn two_threads_flush_while_capabilities_are_copied_and_removed(
+    rt: HostRuntime,
+) -> Result<(), Fail> {
     let alloc = rt.alloc();
     let script = format!(in alloc;
         "{MACHINE}core 0\nflush\ncopy 0 1 20\nflush\nremove 1 20\nflush\ncore 1\nflush\nlook 12\nflush\n"

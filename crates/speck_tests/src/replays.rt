@@ -407,12 +407,7 @@ fn a_fault_of_a_call_is_told_at_its_line(rt: HostRuntime) -> Result<(), Fail> {
         ("look 65536", 7, Cause::S5, "S5 number out of range"),
         ("look 1 2", 7, Cause::S4, "S4 extra word"),
         ("core 2", 7, Cause::S6, "S6 no such core"),
-        (
-            "ret\ngrant 1 0 1",
-            8,
-            Cause::S7,
-            "S7 section out of place",
-        ),
+        ("ret\ngrant 1 0 1", 8, Cause::S7, "S7 section out of place"),
         ("ret\norder\n0 0? 2", 9, Cause::S2, "S2 unknown word"),
         ("ret\norder\n0 1! 2.", 9, Cause::S6, "S6 no such core"),
         ("look \u{7f}", 7, Cause::S8, "S8 not ASCII"),
