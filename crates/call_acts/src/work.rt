@@ -83,8 +83,8 @@ pub enum Work {
     Act { act: Act },
 }
 
-/// What a decided call has still to store before it commits its counts: known as soon as it is decided, and carried out by stores
-/// alone.
+/// What a decided call has still to store beside its counts, and before it commits them where nothing else is said: known as soon as
+/// it is decided, and carried out by stores alone.
 #[derive(Clone, Copy, PartialEq, Eq, Debug)]
 pub enum Tail {
     /// Nothing.

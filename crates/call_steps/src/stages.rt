@@ -14,8 +14,8 @@ pub enum Stage {
     Undecided {
         work: Work,
     },
-    /// Decided, with the stamp that it has drawn, if it has, and what it has still to store. Then it commits the counts that it has
-    /// acquired, and then the clock is loaded, which begins the exit.
+    /// Decided, with the stamp that it has drawn, if it has, and what it has still to store, before it commits the counts that it has
+    /// acquired or, of frozen counters and their frame's word, after. Then the clock is loaded, which begins the exit.
     Decided {
         reply: Reply,
         drawn: Option<Stamp>,
