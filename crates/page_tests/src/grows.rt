@@ -18,6 +18,7 @@ const LEAVES_MADE: &str =
 
 // What the tables of the start have besides: the entries of the table's root, of its leaf and of the pages' root, and what is in frames 8
 // and on.
+#[derive(Clone, Copy)]
 struct Added<'a> {
     root: &'a str,
     leaf: &'a str,
