@@ -8,15 +8,16 @@ use Rattle.stage_pins.specs.declared.pin.Pin.{Pin}
 use Rattle.stage_pins.specs.declared.pin.Pinned.{Pinned}
 use Rattle.stage_pins.specs.declared.held.Acquired.{Acquired}
 use Rattle.stage_pins.specs.Acquire.{pin_after, pin_end}
-use Rattle.std.proofs.Common.{◌≡◌, ℕ, ℤ, ◌+◌, ◌==◌, ◌&&◌, Bool, true, false, List, [], ◌∷◌, length, Option, Some, None, refl, sym, ◌∙◌, ap, subst, arith, eqb-true}
+use Rattle.std.proofs.Common.{◌≡◌, ℕ, ℤ, ◌+◌, ◌==◌, ◌&&◌, nat_lt, Bool, true, false, List, [], ◌∷◌, length, Option, Some, None, refl, sym, ◌∙◌, ap, subst, arith, eqb-true}
 use Rattle.call_plans.specs.Plans.{pushed, at_place}
 use Rattle.spk_nums.specs.Capability.{Capability}
+use Rattle.spk_nums.specs.declared.kinds.PageFlags.{PageFlags}
 use Rattle.spk_nums.specs.declared.kinds.FrameKind.{FrameKind}
 use Rattle.spk_nums.specs.declared.kinds.FrameKind.TheVariants.{Untyped, User, Kernel}
 use Rattle.spk_nums.specs.declared.calls.Make.{Make}
 use Rattle.spk_nums.specs.declared.calls.Make.TheVariants as make
 use Rattle.spk_nums.specs.declared.calls.Call.{Call}
-use Rattle.spk_nums.specs.declared.calls.Call.TheVariants.{Look as look_call, Copy, Remove, Grow, Shrink, Unmap, Retype, Make as make_call, Tick, Kill}
+use Rattle.spk_nums.specs.declared.calls.Call.TheVariants.{Look as look_call, Copy, Remove, Grow, Shrink, Map, Unmap, Retype, Make as make_call, Tick, Kill}
 use Rattle.spk_nums.specs.declared.replies.Reply.{Reply}
 use Rattle.entry_words.specs.declared.entry.Entry.{Entry}
 use Rattle.entry_words.specs.declared.entry.Entry.TheVariants as entry
@@ -55,7 +56,7 @@ use Rattle.call_acts.specs.declared.makings.MakingAt.{MakingAt}
 use Rattle.call_acts.specs.declared.makings.MakingAt.TheVariants.{Load as make_load, Mark, Store, Fill as fill_at}
 use Rattle.call_acts.specs.Makings.{is_filling}
 use Rattle.call_acts.specs.declared.work.Act.{Act as ActType}
-use Rattle.call_acts.specs.declared.work.Act.TheVariants.{Fill as fill_act, Remove as remove_act, Retype as type_act, Make as make_act, Outside, Tick as tick_act, Kill as kill_act}
+use Rattle.call_acts.specs.declared.work.Act.TheVariants.{Fill as fill_act, Remove as remove_act, Retype as type_act, Make as make_act, Map as map_act, Outside, Tick as tick_act, Kill as kill_act}
 use Rattle.call_acts.specs.declared.work.Work.{Work}
 use Rattle.call_acts.specs.declared.work.Work.TheVariants.{Lookup, Scan, Acquire, Act}
 use Rattle.call_steps.specs.declared.stages.Stage.{Stage}
@@ -69,8 +70,9 @@ use Rattle.call_acts.specs.Refusals.{refusal_of}
 use Rattle.call_acts.proofs.Refusing.{refusal_refuses}
 use Rattle.call_acts.specs.Fills.{filled_if}
 use Rattle.call_acts.specs.WorkSteps.{refuse}
-use Rattle.call_acts.specs.Acts.{took_close, is_draw, took_act, act_ready, fills_with, removes_held, removes_at, act_begun, types_if, types_at, stamp_in, filling, starts, scans, makes_at, meets_object, meets_blank, meets_making, marks_if, published, took_making_at, kills_in, kills_at, meets_comp, meets_live, meets_number, meets_life, closes_if, took_killing_at}
-use Rattle.call_plans.specs.declared.plans.Nth.TheVariants.{First}
+use Rattle.call_acts.specs.declared.fills.Fill.{Fill}
+use Rattle.call_acts.specs.Acts.{took_close, is_draw, took_act, act_ready, fills_with, maps_frame, maps_word, maps_if, maps_at, removes_held, removes_at, act_begun, types_if, types_at, stamp_in, filling, starts, scans, makes_at, meets_object, meets_blank, meets_making, marks_if, published, took_making_at, kills_in, kills_at, meets_comp, meets_live, meets_number, meets_life, closes_if, took_killing_at}
+use Rattle.call_plans.specs.declared.plans.Nth.TheVariants.{First, Second}
 use Rattle.frame_words.specs.declared.frame_word.FrameWord.{FrameWord}
 use Rattle.spk_nums.specs.declared.kinds.Kind.{Kind}
 use Rattle.spk_nums.specs.declared.kinds.Kind.TheVariants as kind
@@ -181,6 +183,7 @@ starts_no core (fill_act fill) = tt
 starts_no core (remove_act close cap) = tt
 starts_no core (type_act typing) = tt
 starts_no core (make_act m) = tt
+starts_no core (map_act fill) = tt
 starts_no core (tick_act charge) = tt
 starts_no core (kill_act m) = tt
 
@@ -218,6 +221,15 @@ makes_no own None range f target = tt
 makes_no own (Some object) None f target = tt
 makes_no own (Some object) (Some range) f None = tt
 
+maps_no : (own : Own) (range : Option Capability) (f : ℕ) (w : PageFlags) (target : Option Found) → NoAnswer (maps_at own range f w target)
+maps_no own None f w target = tt
+maps_no own (Some range) f w None = tt
+maps_no own (Some range) f w (Some at) = by (nat_lt w.0 4)
+  where
+    by : (flags : Bool) → NoAnswer (maps_if flags own range f w at)
+    by true = scans_no own.core _ _
+    by false = tt
+
 kill_no : (core : ℕ) (kind : Kind) (f : ℕ) → NoAnswer (kills_in core kind f)
 kill_no core kind.Comp f = tt
 kill_no core kind f = tt
@@ -231,6 +243,7 @@ act_no : (own : Own) (call : Call) (found : List Capability) (target : Option Fo
 act_no own (look_call a) found target not = absurd (cc)
 act_no own (Copy a t b) found target not = fill_no own _ false target
 act_no own (Grow t i l) found target not = fill_no own _ _ target
+act_no own (Map p v r f w) found target not = maps_no own (at_place found Second) f w target
 act_no own (Remove t b) found target not = remove_no own.core target
 act_no own (Shrink t i) found target not = remove_no own.core target
 act_no own (Unmap p v) found target not = remove_no own.core target
@@ -453,11 +466,21 @@ killing_no m (LoadLive life) found not = live_no m life found _
 killing_no m (kill_close life word) found not = closes_no m life word _
 killing_no m (kill_draw life word) found not = absurd (cc)
 
+map_kind_no : (fill : Fill) (k : FrameKind) (mark : Option ℕ) → NoAnswer (maps_frame fill k mark)
+map_kind_no fill k (Some d) = tt
+map_kind_no fill User None = tt
+map_kind_no fill k None = tt
+
+map_no : (fill : Fill) (o : Option FrameWord) → NoAnswer (maps_word fill o)
+map_no fill None = tt
+map_no fill (Some v) = map_kind_no fill v.kind v.mark
+
 act_unready : (act : ActType) (found : ℕ) → act_ready act ≡ false → NoAnswer (took_act act found)
 act_unready (fill_act fill) found not = absurd (cc)
 act_unready (remove_act close cap) found not = close_no cap close found not
 act_unready (type_act typing) found not = typing_no typing typing.at found not
 act_unready (make_act m) found not = making_no m m.at found not
+act_unready (map_act fill) found not = map_no fill _
 act_unready (Outside node entry word) found not = tt
 act_unready (tick_act charge) found not = charge_no charge found not
 act_unready (kill_act m) found not = killing_no m m.at found not
@@ -581,6 +604,7 @@ act_decides a (remove_act (AtDraw node index) cap) found ready = tt
 act_decides a (remove_act (AtStore node index stamp) cap) found ready = absurd (cc)
 act_decides a (type_act typing) found ready = typing_decides a typing typing.at found ready
 act_decides a (make_act m) found ready = making_decides a m m.at found ready
+act_decides a (map_act fill) found ready = absurd (cc)
 act_decides a (Outside node entry word) found ready = absurd (cc)
 act_decides a (tick_act charge) found ready = charge_decides a charge found ready
 act_decides a (kill_act m) found ready = killing_decides a m m.at found ready
@@ -590,6 +614,7 @@ begun_over : (own : Own) (call : Call) (k : Capability) → decides_at_name (pla
 begun_over own (look_call a) k is = tt
 begun_over own (Copy a t b) k is = absurd (cc)
 begun_over own (Grow t i l) k is = absurd (cc)
+begun_over own (Map p v r f w) k is = absurd (cc)
 begun_over own (Remove t b) k is = absurd (cc)
 begun_over own (Shrink t i) k is = absurd (cc)
 begun_over own (Unmap p v) k is = absurd (cc)

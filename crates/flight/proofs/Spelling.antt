@@ -14,7 +14,7 @@ use Rattle.call_acts.specs.declared.kills.KillingAt.TheVariants.{LoadComp, LoadL
 use Rattle.call_acts.specs.Kills.{KillingAtFits, killing_at}
 use Rattle.call_acts.specs.declared.own.Own.{Own}
 use Rattle.call_acts.specs.declared.work.Act.{Act}
-use Rattle.call_acts.specs.declared.work.Act.TheVariants.{Fill, Remove, Retype, Make, Outside, Tick, Kill}
+use Rattle.call_acts.specs.declared.work.Act.TheVariants.{Fill, Remove, Retype, Make, Map as map_act, Outside, Tick, Kill}
 use Rattle.spk_nums.specs.declared.kinds.FrameKind.{FrameKind}
 use Rattle.call_acts.specs.declared.typings.TypingAt.{TypingAt}
 use Rattle.call_acts.specs.declared.typings.TypingAt.TheVariants.{Load, Compare as type_compare}
@@ -97,6 +97,7 @@ act_named (Fill fill) = refl
 act_named (Remove close cap) = close_named close
 act_named (Retype typing) = typing_named typing.frame typing.kind typing.at
 act_named (Make m) = making_named m.frame m.object m.core m.fill m.at
+act_named (map_act fill) = refl
 act_named (Outside node entry word) = refl
 act_named (Tick charge) = charge_named charge
 act_named (Kill m) = killing_named m.comp m.core m.at
@@ -148,6 +149,7 @@ act_in shape (Fill fill) fits = (fits.node, fits.entry)
 act_in shape (Remove close cap) fits = close_is_in shape close fits.0
 act_in shape (Retype typing) fits = typing_in shape typing.frame typing.kind typing.at fits
 act_in shape (Make m) fits = making_in shape m.frame m.object m.core m.fill m.at fits.frame fits.fill fits.at
+act_in shape (map_act fill) fits = fits.1
 act_in shape (Outside node entry word) fits = fits
 act_in shape (Tick charge) fits = charge_is_in shape charge fits
 act_in shape (Kill m) fits = killing_in shape m.comp m.core m.at fits.comp fits.at
