@@ -52,7 +52,8 @@ use Rattle.stage_pins.specs.declared.pin.Pin.{Pin}
 use Rattle.stage_pins.specs.declared.pin.Pin.TheVariants.{AtLoad, AtCompare}
 use Rattle.stage_pins.specs.declared.held.Acquired.{Acquired}
 use Rattle.stage_pins.proofs.PinLemmas.{changed_none}
-use Rattle.call_plans.specs.declared.plans.Nth.TheVariants.{First}
+use Rattle.call_plans.specs.declared.plans.Nth.TheVariants.{First, Second}
+use Rattle.call_plans.specs.Plans.{at_place}
 use Rattle.call_plans.specs.PlanOf.{plan_for}
 use Rattle.call_plans.specs.After.{Leads, LeadsIn}
 use Rattle.call_plans.specs.declared.plans.Plan.{Plan}
@@ -200,6 +201,7 @@ next_holds core n act h = acquires_holds core act (slice_get (dues act) n) h
 act_count : (act : ActOf) (h : Holding) (f d : ℕ) → ((holds_act act h).marks (CountAt f d) ≡ h.marks (CountAt f d))
     × ((holds_act act h).stands (CountAt f d) ≡ h.stands (CountAt f d))
 act_count (fill_act fill) h f d = (refl, refl)
+act_count (map_act fill) h f d = (refl, refl)
 act_count (remove_act (close_compare node index word by) cap) h f d = (refl, refl)
 act_count (remove_act (AtDraw node index) cap) h f d = (refl, refl)
 act_count (remove_act (AtStore node index x) cap) h f d = (refl, refl)
@@ -233,6 +235,7 @@ keeps_over v w x h g same = (
 act_over : (act : ActOf) (h g : Holding) (w : Word) → (h.marks w ≡ g.marks w) × (h.stands w ≡ g.stands w)
     → ((holds_act act h).marks w ≡ (holds_act act g).marks w) × ((holds_act act h).stands w ≡ (holds_act act g).stands w)
 act_over (fill_act fill) h g w same = same
+act_over (map_act fill) h g w same = same
 act_over (remove_act (close_compare node index word by) cap) h g w same = same
 act_over (remove_act (AtDraw node index) cap) h g w same = keeps_over (EntryAt node index) w (word_of_entry (Held cap)) h g same
 act_over (remove_act (AtStore node index x) cap) h g w same = same

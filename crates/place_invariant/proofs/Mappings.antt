@@ -1,6 +1,7 @@
 -- The load of the word of a frame that is to be mapped: one that a core has marked is `busy`, one that is no user frame `frame-kind`, and a
 -- user frame is mapped next. The call has acquired the count of the frame, and no other core makes it anything else in the meantime.
 use Rattle.std.proofs.Common.{◌≡◌, ℕ, ◌<◌, ◌&&◌, not, Bool, true, false, IsTrue, List, [], ◌∷◌, Option, Some, None, inl, inr, refl, sym, ◌∙◌, ap, subst, if◌then◌else◌}
+use Rattle.std.specs.Prelude.{◌||◌}
 use Rattle.std.proofs.lemmas.Bool.{lt-ltb, eq-eqb, false≢true}
 use Rattle.spk_nums.specs.Capability.{Capability}
 use Rattle.spk_nums.specs.Setting.{Setting, IsSetting}
@@ -173,7 +174,7 @@ module _ (setup : Setting) (setting : IsSetting setup) (cores : ℕ → Core) (t
 
   near : is_one_of f (frames_near s c a.call) ≡ true
   near = argument_near s c a.call f (subst (λ x. is_one_of f (frame_argument x) ≡ true) (sym is.call_is)
-      (ap (λ (n : ℕ). is_one_of f (n ∷ [])) frame_is ∙ ap (λ b. if b then true else false) (eq-eqb f f refl)))
+      (ap (λ (n : ℕ). is_one_of f (n ∷ [])) frame_is ∙ ap (λ b. b || false) (eq-eqb f f refl)))
 
   looks : OnlyLooks setup t c a.call load
   looks = record {

@@ -70,8 +70,9 @@ some_of : {A : Type 0} (o : Option A) → IsSome o → (R : Type 0) → ((x : A)
 some_of None some R f = absurd (false≢true some)
 some_of (Some x) some R f = f x refl
 
-outside_make : (call : Call) (ks : List Capability) → OutsideBy call ks → IsOutsideMake call ks
-outside_make (make_call what r f u b) (range ∷ ks) is = some_of (object_made what (range ∷ ks)) is.object
+outside_make : (what : Make) (r f u b : ℕ) (ks : List Capability) → OutsideBy (make_call what r f u b) ks
+    → IsOutsideMake (make_call what r f u b) ks
+outside_make what r f u b (range ∷ ks) is = some_of (object_made what (range ∷ ks)) is.object
     (IsOutsideMake (make_call what r f u b) (range ∷ ks))
     (λ object object_is. record {
       what = what;
@@ -87,8 +88,7 @@ outside_make (make_call what r f u b) (range ∷ ks) is = some_of (object_made w
       object_is = object_is;
       outside = is.outside;
     })
-outside_make (make_call what r f u b) [] is = absurd is
-outside_make call ks is = absurd is
+outside_make what r f u b [] is = absurd is
 
 -- No name is left where a target that is to be free is looked up next.
 pub none_left_of : (plan : Plan) (ks : List Capability) (target : Target) → next_of plan ks ≡ NextFree target
@@ -142,7 +142,7 @@ made_refusable s c call ks target is leads next =
 refusable : (s : State) (c : ℕ) (call : Call) (ks : List Capability) (target : Target) → OutsideBy call ks
     → Leads (LeadsIn s c) (plan_for call).names [] ks → next_of (plan_for call) ks ≡ NextFree target → IsRefusable s c call ks target
 refusable s c (make_call what r f u b) ks target out leads next =
-    made_refusable s c (make_call what r f u b) ks target (outside_make (make_call what r f u b) ks out) leads next
+    made_refusable s c (make_call what r f u b) ks target (outside_make what r f u b ks out) leads next
 refusable s c (Map p v r f w) (k ∷ j ∷ []) target out leads next =
     subst (IsRefusable s c (Map p v r f w) (k ∷ j ∷ [])) (target_in (Under (found k) v) target next) (record {
       range = j;
