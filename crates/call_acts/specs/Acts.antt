@@ -2,7 +2,7 @@
 use Rattle.std.specs.Prelude.{ℕ, ℤ, ◌<◌, ◌==◌, pos, negsuc, Bool, true, false, ◌&&◌, nat_lt, nat_le, Option, Some, None, List, map, slice_get, if◌then◌else◌, [], ◌∷◌}
 use Rattle.spk_nums.specs.Capability.{Capability}
 use Rattle.spk_nums.specs.declared.calls.Call.{Call}
-use Rattle.spk_nums.specs.declared.calls.Call.TheVariants.{Look, Copy, Remove, Shrink, Retype, Make as make_call, Unmap, Tick, Gate, Kill, Grow, Flush}
+use Rattle.spk_nums.specs.declared.calls.Call.TheVariants.{Look, Copy, Remove, Shrink, Retype, Make as make_call, Unmap, Tick, Gate, Kill, Grow, Flush, Map}
 use Rattle.spk_nums.specs.declared.replies.Value.TheVariants.{Cap, Nothing as nothing}
 use Rattle.spk_nums.specs.declared.steps.StageEnd.{StageEnd}
 use Rattle.spk_nums.specs.declared.steps.StageEnd.TheVariants as ends
@@ -25,7 +25,7 @@ use Rattle.call_plans.specs.declared.plans.Nth.TheVariants.{First, Second}
 use Rattle.call_plans.specs.Plans.{at_place}
 use Rattle.call_acts.specs.declared.refusals.Refusal.TheVariants.{Raced, OutOfRange, Busy, FrameKind as wrong_kind, Dead as is_dead}
 use Rattle.call_acts.specs.declared.work.Act.{Act}
-use Rattle.call_acts.specs.declared.work.Act.TheVariants.{Fill as fill_act, Remove as remove_act, Retype as type_act, Make as make_act, Outside, Tick as tick_act, Flush as flush_act, Kill as kill_act, Untype as untype_act}
+use Rattle.call_acts.specs.declared.work.Act.TheVariants.{Fill as fill_act, Remove as remove_act, Retype as type_act, Make as make_act, Outside, Tick as tick_act, Flush as flush_act, Kill as kill_act, Untype as untype_act, Map as map_act}
 use Rattle.call_acts.specs.declared.work.Due.{Due}
 use Rattle.call_acts.specs.declared.work.Work.{Work}
 use Rattle.call_acts.specs.declared.work.Work.TheVariants.{Scan, Acquire, Act as act_work}
@@ -35,6 +35,7 @@ use Rattle.call_acts.specs.declared.work.WorkStep.{WorkStep}
 use Rattle.call_acts.specs.declared.work.WorkStep.TheVariants.{Goes, Refuses, Answers}
 use Rattle.call_acts.specs.Refusals.{refusal_of}
 use Rattle.call_acts.specs.WorkSteps.{refuse}
+use Rattle.call_acts.specs.declared.fills.Fill.{Fill}
 use Rattle.call_acts.specs.Fills.{FillFits, fill_move, took_fill}
 use Rattle.call_acts.specs.declared.typings.TypingAt.TheVariants.{Load}
 use Rattle.call_acts.specs.Typings.{TypingFits, typing_move, took_typing, is_typing, typing_left, typed}
@@ -71,11 +72,12 @@ use Rattle.spk_nums.specs.declared.kinds.Kind.{Kind}
 use Rattle.spk_nums.specs.declared.kinds.Kind.TheVariants as kind
 use Rattle.spk_nums.specs.declared.kinds.FrameKind.{FrameKind}
 use Rattle.spk_nums.specs.declared.kinds.FrameKind.TheVariants.{Untyped, User, Kernel}
+use Rattle.spk_nums.specs.declared.kinds.PageFlags.{PageFlags}
 use Rattle.spk_nums.specs.declared.kinds.Obj.{Obj}
 use Rattle.spk_nums.specs.declared.kinds.Obj.TheVariants.{Blank}
 use Rattle.frame_words.specs.Frame.{word_of_frame, frame_of_word}
 use Rattle.frame_words.specs.declared.frame_word.FrameWord.{FrameWord}
-use Rattle.word_map.specs.Word.{EntryAt}
+use Rattle.word_map.specs.Word.{EntryAt, FrameAt}
 use Rattle.kernel_rules.specs.Access.{found as named, only}
 use Rattle.kernel_rules.specs.Start.{plain_cap}
 use Rattle.kernel_rules.specs.CapabilityCalls.{has_frame}
@@ -86,6 +88,7 @@ ActFits s (fill_act fill) = FillFits s fill
 ActFits s (remove_act close cap) = CloseFits s close × CapNames s.frames cap
 ActFits s (type_act typing) = TypingFits s typing
 ActFits s (make_act m) = MakingFits s m
+ActFits s (map_act fill) = FillFits s fill × (fill.cap.frame < s.frames)
 ActFits s (Outside node entry word) = (node < s.frames) × (entry < 64)
 ActFits s (tick_act charge) = ChargeFits s charge
 ActFits s (flush_act core) = core < s.cores
@@ -112,6 +115,7 @@ act_move (fill_act fill) = fill_move fill
 act_move (remove_act close cap) = close_move close
 act_move (type_act typing) = typing_move typing
 act_move (make_act m) = making_move m
+act_move (map_act fill) = LoadOf (FrameAt fill.cap.frame)
 act_move (Outside node entry word) = LoadOf (EntryAt node entry)
 act_move (tick_act charge) = charge_move charge
 act_move (flush_act core) = flush_move (flush_load core)
@@ -130,6 +134,7 @@ act_ready (fill_act fill) = true
 act_ready (remove_act close cap) = is_draw close
 act_ready (type_act typing) = is_typing typing.at
 act_ready (make_act m) = is_filling m.at
+act_ready (map_act fill) = false
 act_ready (Outside node entry word) = false
 act_ready (tick_act charge) = is_charging charge
 act_ready (flush_act core) = true
@@ -148,6 +153,7 @@ act_left cores (fill_act fill) = 1
 act_left cores (remove_act close cap) = close_left close
 act_left cores (type_act typing) = typing_left typing.at
 act_left cores (make_act m) = making_left m.object m.at
+act_left cores (map_act fill) = 2
 act_left cores (Outside node entry word) = 1
 act_left cores (tick_act charge) = charge_left charge
 act_left cores (flush_act core) = 2
@@ -183,6 +189,7 @@ dues (fill_act fill) = cap_dues fill.cap (pos 1)
 dues (remove_act close cap) = cap_dues cap (negsuc 0)
 dues (type_act typing) = []
 dues (make_act m) = made_dues m.object m.frame m.at
+dues (map_act fill) = cap_dues fill.cap (pos 1)
 dues (Outside node entry word) = []
 dues (tick_act charge) = []
 dues (flush_act core) = []
@@ -304,12 +311,24 @@ took_untyping_at s m (untype_draw word w) found = drawn_untyped m.frame w (drawn
 abbrev pub took_untyping : Shape → Untyping → ℕ → WorkStep
 took_untyping s m found = took_untyping_at s m m.at found
 
+-- what the load of a frame's word leads to that is to be mapped: a frame that a core has marked is busy, and one that is no user frame is
+-- of another kind
+abbrev pub maps_kind : Fill → FrameKind → WorkStep
+maps_kind fill User = Goes (act_work (fill_act fill))
+maps_kind fill _ = refuse wrong_kind
+abbrev pub maps_frame : Fill → FrameKind → Option ℕ → WorkStep
+maps_frame fill k None = maps_kind fill k
+maps_frame fill k (Some d) = refuse (Busy d)
+abbrev pub maps_word : Fill → Option FrameWord → WorkStep
+maps_word fill None = refuse Raced
+maps_word fill (Some v) = maps_frame fill v.kind v.mark
 -- what an act takes from the word found
 abbrev pub took_act : Shape → Act → ℕ → WorkStep
 took_act s (fill_act fill) found = took_fill fill found
 took_act s (remove_act close cap) found = took_close cap (close_after close found) (close_end close found)
 took_act s (type_act typing) found = took_typing typing found
 took_act s (make_act m) found = took_making m found
+took_act s (map_act fill) found = maps_word fill (frame_of_word found)
 took_act s (Outside node entry word) found = refuse OutOfRange
 took_act s (tick_act charge) found = took_tick charge found
 took_act s (flush_act core) found = took_flush core found
@@ -322,6 +341,7 @@ undo (fill_act fill) = Nothing
 undo (remove_act close cap) = Nothing
 undo (type_act typing) = Nothing
 undo (make_act m) = undo_at m.frame m.at
+undo (map_act fill) = Nothing
 undo (Outside node entry word) = Nothing
 undo (tick_act charge) = Nothing
 undo (flush_act core) = Nothing
@@ -376,6 +396,14 @@ abbrev pub link_to : Option Capability → Option Capability
 link_to None = None
 link_to (Some leaf) = Some (plain_cap kind.Link leaf.frame)
 
+-- a mapping of a frame of this range, with these flags
+abbrev pub page_cap : ℕ → PageFlags → Capability
+page_cap f w = record { kind = kind.Page; frame = f; arg = w.0 }
+
+abbrev pub page_of : Option Capability → ℕ → PageFlags → Option Capability
+page_of None f w = None
+page_of (Some range) f w = if has_frame (named range) f then Some (page_cap f w) else None
+
 -- the gate to a component whose word has been read in this epoch; an epoch of 0 is none
 abbrev pub gate_if : Bool → ℕ → ℕ → Option Capability
 gate_if some f epoch = if some then Some (record { kind = kind.Gate; frame = f; arg = epoch }) else None
@@ -388,6 +416,7 @@ gate_to _ _ = None
 abbrev pub put_by : Call → List Capability → Option ℕ → Option Capability
 put_by (Copy a t b) found read = at_place found First
 put_by (Grow t i l) found read = link_to (at_place found Second)
+put_by (Map p v r f w) found read = page_of (at_place found Second) f w
 put_by (Gate c t b) found read = gate_to (at_place found First) read
 put_by _ found read = None
 
@@ -408,6 +437,7 @@ is_pages (Some k) = only kind.Pages k.kind
 -- whether a call fills a place of a page table: one that is quiescing is then free only where all cores have flushed
 abbrev pub fills_page : Call → List Capability → Bool
 fills_page (Grow t i l) found = is_pages (at_place found First)
+fills_page (Map p v r f w) found = true
 fills_page _ found = false
 
 -- whether a call removes what its target holds
@@ -427,6 +457,7 @@ stamp_of_act (fill_act fill) = stamp_shown (entry_of_word fill.word)
 stamp_of_act (remove_act close cap) = 0
 stamp_of_act (type_act typing) = 0
 stamp_of_act (make_act m) = stamp_shown (entry_of_word m.fill.word)
+stamp_of_act (map_act fill) = stamp_shown (entry_of_word fill.word)
 stamp_of_act (Outside node entry word) = stamp_shown (entry_of_word word)
 stamp_of_act (tick_act charge) = 0
 stamp_of_act (flush_act core) = 0
@@ -468,6 +499,25 @@ abbrev pub makes_at : Own → Option NewObject → Option Capability → ℕ →
 makes_at own (Some object) (Some range) frame (Some f) = makes_in own object range frame f
 makes_at own _ _ frame _ = refuse Raced
 
+-- a frame of the range is mapped in the place that was found; flags past their range never come
+abbrev pub mapping : ℕ → PageFlags → Found → Act
+mapping frame w f = map_act (record { node = f.node; entry = f.entry; word = f.word; cap = page_cap frame w })
+
+abbrev pub mapping_if : Bool → ℕ → PageFlags → Found → Act
+mapping_if within frame w f = if within then mapping frame w f else Outside f.node f.entry f.word
+
+abbrev pub maps_in : Own → Capability → ℕ → PageFlags → Found → WorkStep
+maps_in own range frame w f =
+    scans own.core (quiet_scan (stamp_in f.value) own.core own.layout.cores true)
+    (mapping_if (has_frame (named range) frame && nat_lt frame own.layout.frames) frame w f)
+
+abbrev pub maps_if : Bool → Own → Capability → ℕ → PageFlags → Found → WorkStep
+maps_if flags own range frame w f = if flags then maps_in own range frame w f else refuse Raced
+
+abbrev pub maps_at : Own → Option Capability → ℕ → PageFlags → Option Found → WorkStep
+maps_at own (Some range) frame w (Some f) = maps_if (nat_lt w.0 4) own range frame w f
+maps_at own _ frame w _ = refuse Raced
+
 -- the component to which a name has led is killed; a capability of another kind names none
 abbrev pub kills_in : ℕ → Kind → ℕ → WorkStep
 kills_in core kind.Comp f = Goes (act_work (kill_act (record { comp = f; core = core; at = LoadComp })))
@@ -482,6 +532,7 @@ abbrev pub act_begun : Own → Call → List Capability → Option ℕ → Optio
 act_begun own (Look a) found read target = looked (at_place found First)
 act_begun own (Copy a t b) found read target = fills_with own (put_by (Copy a t b) found read) false target
 act_begun own (Grow t i l) found read target = fills_with own (put_by (Grow t i l) found read) (fills_page (Grow t i l) found) target
+act_begun own (Map p v r f w) found read target = maps_at own (at_place found Second) f w target
 act_begun own (Remove t b) found read target = removes_at own.core target
 act_begun own (Shrink t i) found read target = removes_at own.core target
 act_begun own (Unmap p v) found read target = removes_at own.core target

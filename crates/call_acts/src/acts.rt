@@ -17,7 +17,7 @@ ghost use Rattle.word_map.specs.Places.{Shape, size_of};
 ghost use Rattle.word_map.specs.Moves.{op_of};
 ghost use Rattle.spk_nums.specs.WordSteps.{place_in};
 ghost use Rattle.call_acts.specs.WorkSteps.{refuse};
-ghost use Rattle.call_acts.specs.Acts.{gate_if, gate_to, frame_named, reads_of, ActFits, act_move, took_act, act_ready, looked, cap_dues, dues, acquires, next_work, filling, fills_at, fills_with, act_begun, drawn_by, took_close, is_draw, scans, stamp_in, removing, removes_held, removes_at, types_if, types_at, starts, undo, made_dues, makes_at, makes_in, killing_dues, kills_in, kills_at, link_to, is_pages, typing_to};
+ghost use Rattle.call_acts.specs.Acts.{gate_if, gate_to, frame_named, reads_of, ActFits, act_move, took_act, act_ready, looked, cap_dues, dues, acquires, next_work, filling, fills_at, fills_with, act_begun, drawn_by, took_close, is_draw, scans, stamp_in, removing, removes_held, removes_at, types_if, types_at, starts, undo, made_dues, makes_at, makes_in, killing_dues, kills_in, kills_at, link_to, is_pages, typing_to, maps_word, maps_frame, maps_in, maps_at};
 ghost use Rattle.call_acts.specs.Untypings.{untyping_dues, owned_dues};
 ghost use Rattle.kernel_rules.specs.Access.{found as named_by_cap};
 ghost use Rattle.kernel_rules.specs.CapabilityCalls.{has_frame};
@@ -35,8 +35,10 @@ use crate::untypings::{Untyping, UntypingAt};
 use crate::work::{Act, Due, Tail, Work, WorkStep};
 use call_plans::{Caps, Nth};
 use entry_words::Entry;
+use frame_words::FrameWord;
 use spk_nums::{
-    Call, Cap, CoreNo, FrameArg, FrameKind, FrameNo, Kind, StageEnd, Stamp, Value, WordOp,
+    Call, Cap, CoreNo, FrameArg, FrameKind, FrameNo, Kind, PageFlags, StageEnd, Stamp, Value,
+    WordOp,
 };
 use stage_look::Found;
 use stage_pins::Pin;
@@ -56,6 +58,12 @@ pub fn act_op(act: &Act, layout: &Layout) -> WordOp
         Act::Remove { close, cap: _ } => close.next(layout),
         Act::Retype { typing } => typing.next(layout),
         Act::Make { making } => making.next(layout),
+        Act::Map { fill } => {
+            let frame = fill.cap.frame();
+            WordOp::Load {
+                at: layout.frame_at(frame),
+            }
+        }
         Act::Outside {
             node,
             entry,
@@ -85,6 +93,7 @@ pub fn act_took(act: &Act, layout: &Layout, found: u64) -> WorkStep
         }
         Act::Retype { typing } => typing.take(found),
         Act::Make { making } => making.take(found),
+        Act::Map { fill } => maps_word(fill, FrameWord::unpack(found)),
         Act::Outside { .. } => refuse(Refusal::OutOfRange),
         Act::Tick { charge } => tick_took(charge, layout, found),
         Act::Flush { core } => flush_took(*core, layout, found),
@@ -139,6 +148,7 @@ pub fn act_ready(act: &Act) -> bool
         Act::Remove { close, cap: _ } => matches!(close, Close::AtDraw { .. }),
         Act::Retype { typing } => typing.is_ready(),
         Act::Make { making } => making.is_ready(),
+        Act::Map { fill: _ } => false,
         Act::Outside { .. } => false,
         Act::Tick { charge } => is_charging(charge),
         Act::Flush { core: _ } => true,
@@ -183,6 +193,7 @@ fn due(act: &Act, n: u8) -> Option<Due>
         Act::Remove { close: _, cap } => cap_due(cap, -1, n),
         Act::Retype { typing: _ } => None,
         Act::Make { making } => made_due(making, n),
+        Act::Map { fill } => cap_due(&fill.cap, 1, n),
         Act::Outside { .. } => None,
         Act::Tick { charge: _ } => None,
         Act::Flush { core: _ } => None,
@@ -210,7 +221,7 @@ fn cap_due(cap: &Cap, change: i32, n: u8) -> Option<Due>
 }
 
 /// What a call of a core does whose names have led to these, which has read this, and whose target, if it has one, was found: a look answers
-/// at once, a copy, a grow and a gate begin to fill their target, a remove, a shrink and an unmap to remove what their target holds, a retype to type its frame,
+/// at once, a copy, a grow, a map and a gate begin to fill their target, a remove, a shrink and an unmap to remove what their target holds, a retype to type its frame,
 /// a make to make its object, a flush to drop its translations, a tick to charge its ticks. The core is one of the layout's at most 8.
 #[inline]
 pub fn begin_act(
@@ -233,6 +244,13 @@ pub fn begin_act(
             is_pages(&found.get(Nth::First)),
             target,
         ),
+        Call::Map {
+            p: _,
+            v: _,
+            r: _,
+            f,
+            w,
+        } => maps_at(own, &found.get(Nth::Second), *f, *w, target),
         Call::Remove { t: _, b: _ } | Call::Shrink { t: _, i: _ } | Call::Unmap { p: _, v: _ } =>
             removes_at(own.core, target),
         Call::Make {
@@ -480,6 +498,86 @@ fn makes_in(own: &Own, object: &NewObject, range: &Cap, frame: FrameArg, target:
         }
     };
     let quiet = Quiet::entry(stamp_in(&target.value), own.core, own.layout.cores());
+    scans(own.core, quiet, &act)
+}
+
+// What the load of the word of a frame that is to be mapped leads to, where the word shows this.
+#[inline]
+fn maps_word(fill: &Fill, shown: Option<FrameWord>) -> WorkStep
+    ensures { result ≡ maps_word fill.now shown }
+{
+    match shown {
+        None => refuse(Refusal::Raced),
+        Some(shown) => maps_frame(fill, &shown),
+    }
+}
+
+#[inline]
+fn maps_frame(fill: &Fill, shown: &FrameWord) -> WorkStep
+    ensures { result ≡ maps_frame fill.now shown.now.kind shown.now.mark }
+{
+    match (shown.mark, shown.kind) {
+        (Some(by), _) => refuse(Refusal::Busy(by)),
+        (None, FrameKind::User) => WorkStep::Goes {
+            work: Work::Act {
+                act: Act::Fill { fill: *fill },
+            },
+        },
+        (None, _) => refuse(Refusal::FrameKind),
+    }
+}
+
+// A frame of this range is mapped in the target, with these flags. Flags past their range never come.
+#[inline]
+fn maps_at(
+    own: &Own,
+    range: &Option<Cap>,
+    frame: FrameArg,
+    flags: PageFlags,
+    target: &Option<Found>,
+) -> WorkStep
+    requires core { own.now.core < own.now.layout.cores }
+    requires cores { own.now.layout.cores ≤ 8 }
+    ensures { result ≡ maps_at own.now range.now frame flags target.now }
+{
+    match (range, target) {
+        (Some(range), Some(target)) => {
+            if flags.number() < 4 {
+                maps_in(own, range, frame, flags, target)
+            } else {
+                refuse(Refusal::Raced)
+            }
+        }
+        _ => refuse(Refusal::Raced),
+    }
+}
+
+// A frame is mapped, where the range has it, after a scan where the target is quiescing.
+#[inline]
+fn maps_in(own: &Own, range: &Cap, frame: FrameArg, flags: PageFlags, target: &Found) -> WorkStep
+    requires core { own.now.core < own.now.layout.cores }
+    requires cores { own.now.layout.cores ≤ 8 }
+    requires flags { flags.0 < 4 }
+    ensures { result ≡ maps_in own.now range.now frame flags target.now }
+{
+    let act = if has_frame(range, frame) && frame.number() < own.layout.frames() {
+        let frame = FrameNo::new(frame.number());
+        Act::Map {
+            fill: Fill {
+                node: target.node,
+                entry: target.entry,
+                word: target.word,
+                cap: Cap::new(Kind::Page, frame, u32::from(flags.number())),
+            },
+        }
+    } else {
+        Act::Outside {
+            node: target.node,
+            entry: target.entry,
+            word: target.word,
+        }
+    };
+    let quiet = Quiet::page(stamp_in(&target.value), own.core, own.layout.cores());
     scans(own.core, quiet, &act)
 }
 

@@ -34,6 +34,10 @@ pub enum Act {
     Make {
         making: Making,
     },
+    /// It maps a user frame in the place of its target: the frame's word is loaded, and then the place is filled.
+    Map {
+        fill: Fill,
+    },
     /// Its frame is not in its range: it is refused once its target, of which this word was found, is scanned for.
     Outside {
         node: FrameNo,

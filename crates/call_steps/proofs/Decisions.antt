@@ -8,15 +8,16 @@ use Rattle.stage_pins.specs.declared.pin.Pin.{Pin}
 use Rattle.stage_pins.specs.declared.pin.Pinned.{Pinned}
 use Rattle.stage_pins.specs.declared.held.Acquired.{Acquired}
 use Rattle.stage_pins.specs.Acquire.{pin_after, pin_end}
-use Rattle.std.proofs.Common.{◌≡◌, ℕ, ℤ, ◌+◌, ◌==◌, ◌&&◌, Bool, true, false, List, [], ◌∷◌, length, Option, Some, None, refl, sym, ◌∙◌, ap, subst, arith, eqb-true}
+use Rattle.std.proofs.Common.{◌≡◌, ℕ, ℤ, ◌+◌, ◌==◌, ◌&&◌, nat_lt, Bool, true, false, List, [], ◌∷◌, length, Option, Some, None, refl, sym, ◌∙◌, ap, subst, arith, eqb-true}
 use Rattle.call_plans.specs.Plans.{pushed, at_place}
 use Rattle.spk_nums.specs.Capability.{Capability}
+use Rattle.spk_nums.specs.declared.kinds.PageFlags.{PageFlags}
 use Rattle.spk_nums.specs.declared.kinds.FrameKind.{FrameKind}
 use Rattle.spk_nums.specs.declared.kinds.FrameKind.TheVariants.{Untyped, User, Kernel}
 use Rattle.spk_nums.specs.declared.calls.Make.{Make}
 use Rattle.spk_nums.specs.declared.calls.Make.TheVariants as make
 use Rattle.spk_nums.specs.declared.calls.Call.{Call}
-use Rattle.spk_nums.specs.declared.calls.Call.TheVariants.{Look as look_call, Copy, Remove, Shrink, Unmap, Retype, Make as make_call, Tick, Gate, Kill, Grow, Flush}
+use Rattle.spk_nums.specs.declared.calls.Call.TheVariants.{Look as look_call, Copy, Remove, Shrink, Unmap, Retype, Make as make_call, Tick, Gate, Kill, Grow, Flush, Map}
 use Rattle.spk_nums.specs.declared.replies.Reply.{Reply}
 use Rattle.entry_words.specs.declared.entry.Entry.{Entry}
 use Rattle.entry_words.specs.declared.entry.Entry.TheVariants as entry
@@ -55,7 +56,7 @@ use Rattle.call_acts.specs.declared.makings.MakingAt.{MakingAt}
 use Rattle.call_acts.specs.declared.makings.MakingAt.TheVariants.{Load as make_load, Mark, Store, Fill as fill_at}
 use Rattle.call_acts.specs.Makings.{is_filling}
 use Rattle.call_acts.specs.declared.work.Act.{Act as ActType}
-use Rattle.call_acts.specs.declared.work.Act.TheVariants.{Fill as fill_act, Remove as remove_act, Retype as type_act, Make as make_act, Outside, Tick as tick_act, Flush as flush_act, Kill as kill_act, Untype as untype_act}
+use Rattle.call_acts.specs.declared.work.Act.TheVariants.{Fill as fill_act, Remove as remove_act, Retype as type_act, Make as make_act, Outside, Tick as tick_act, Flush as flush_act, Kill as kill_act, Untype as untype_act, Map as map_act}
 use Rattle.call_acts.specs.declared.work.Work.{Work}
 use Rattle.call_acts.specs.declared.work.Work.TheVariants.{Lookup, Read, Scan, Acquire, Act}
 use Rattle.call_steps.specs.declared.stages.Stage.{Stage}
@@ -69,8 +70,9 @@ use Rattle.call_acts.specs.Refusals.{refusal_of}
 use Rattle.call_acts.proofs.Refusing.{refusal_refuses}
 use Rattle.call_acts.specs.Fills.{filled_if}
 use Rattle.call_acts.specs.WorkSteps.{refuse}
-use Rattle.call_acts.specs.Acts.{took_close, is_draw, took_act, act_ready, reads_of, fills_with, removes_held, removes_at, act_begun, types_if, types_at, stamp_in, filling, starts, scans, makes_at, meets_object, meets_blank, meets_making, marks_if, published, took_making_at, kills_in, kills_at, meets_comp, meets_live, meets_number, meets_life, closes_if, took_killing_at, meets_untyped, meets_untyping, sweeps_if, took_sweep, took_untyping_at}
-use Rattle.call_plans.specs.declared.plans.Nth.TheVariants.{First}
+use Rattle.call_acts.specs.Acts.{took_close, is_draw, took_act, act_ready, reads_of, fills_with, removes_held, removes_at, act_begun, types_if, types_at, stamp_in, filling, starts, scans, makes_at, meets_object, meets_blank, meets_making, marks_if, published, took_making_at, kills_in, kills_at, meets_comp, meets_live, meets_number, meets_life, closes_if, took_killing_at, meets_untyped, meets_untyping, sweeps_if, took_sweep, took_untyping_at, maps_frame, maps_word, maps_if, maps_at}
+use Rattle.call_plans.specs.declared.plans.Nth.TheVariants.{First, Second}
+use Rattle.call_acts.specs.declared.fills.Fill.{Fill}
 use Rattle.frame_words.specs.declared.frame_word.FrameWord.{FrameWord}
 use Rattle.spk_nums.specs.declared.kinds.Kind.{Kind}
 use Rattle.spk_nums.specs.declared.kinds.Kind.TheVariants as kind
@@ -196,6 +198,7 @@ starts_no core (fill_act fill) = tt
 starts_no core (remove_act close cap) = tt
 starts_no core (type_act typing) = tt
 starts_no core (make_act m) = tt
+starts_no core (map_act fill) = tt
 starts_no core (tick_act charge) = tt
 starts_no core (flush_act by) = tt
 starts_no core (kill_act m) = tt
@@ -235,6 +238,15 @@ makes_no own None range f target = tt
 makes_no own (Some object) None f target = tt
 makes_no own (Some object) (Some range) f None = tt
 
+maps_no : (own : Own) (range : Option Capability) (f : ℕ) (w : PageFlags) (target : Option Found) → NoAnswer (maps_at own range f w target)
+maps_no own None f w target = tt
+maps_no own (Some range) f w None = tt
+maps_no own (Some range) f w (Some at) = by (nat_lt w.0 4)
+  where
+    by : (flags : Bool) → NoAnswer (maps_if flags own range f w at)
+    by true = scans_no own.core _ _
+    by false = tt
+
 kill_no : (core : ℕ) (kind : Kind) (f : ℕ) → NoAnswer (kills_in core kind f)
 kill_no core kind.Comp f = tt
 kill_no core kind f = tt
@@ -249,6 +261,7 @@ act_no : (own : Own) (call : Call) (found : List Capability) (read : Option ℕ)
 act_no own (look_call a) found read target not = absurd (cc)
 act_no own (Copy a t b) found read target not = fill_no own _ false target
 act_no own (Grow t i l) found read target not = fill_no own _ _ target
+act_no own (Map p v r f w) found read target not = maps_no own (at_place found Second) f w target
 act_no own (Remove t b) found read target not = remove_no own.core target
 act_no own (Shrink t i) found read target not = remove_no own.core target
 act_no own (Unmap p v) found read target not = remove_no own.core target
@@ -292,7 +305,7 @@ read_no (Some f) (Goes work) none = none
 read_no (Some f) (Acquires count work) none = none
 read_no (Some f) (refuses_to r tail) none = none
 read_no (Some f) (Answers v drawn tail) none = none
-read_no (Some f) (work_changes r change) none = none
+read_no (Some f) (work_changes r change tail) none = none
 
 -- what comes next of a call answers nothing, where no call with its plan is decided where its last name is found
 next_no : (own : Own) (call : Call) (found : List Capability) (next : Next) → decides_at_name (plan_for call).decides ≡ false
@@ -508,11 +521,21 @@ untyping_no s m (untype.Mark word v) found not = sweeps_no m word v _
 untyping_no s m (untype.Sweep word w) found not = sweep_no m word _ _
 untyping_no s m (untype.Draw word w) found not = absurd (cc)
 
+map_kind_no : (fill : Fill) (k : FrameKind) (mark : Option ℕ) → NoAnswer (maps_frame fill k mark)
+map_kind_no fill k (Some d) = tt
+map_kind_no fill User None = tt
+map_kind_no fill k None = tt
+
+map_no : (fill : Fill) (o : Option FrameWord) → NoAnswer (maps_word fill o)
+map_no fill None = tt
+map_no fill (Some v) = map_kind_no fill v.kind v.mark
+
 act_unready : (s : Shape) (act : ActType) (found : ℕ) → act_ready act ≡ false → NoAnswer (took_act s act found)
 act_unready s (fill_act fill) found not = absurd (cc)
 act_unready s (remove_act close cap) found not = close_no cap close found not
 act_unready s (type_act typing) found not = typing_no typing typing.at found not
 act_unready s (make_act m) found not = making_no m m.at found not
+act_unready s (map_act fill) found not = map_no fill _
 act_unready s (Outside node entry word) found not = tt
 act_unready s (tick_act charge) found not = charge_no charge found not
 act_unready s (flush_act core) found not = absurd (cc)
@@ -651,6 +674,7 @@ act_decides s a (remove_act (AtDraw node index) cap) found ready = tt
 act_decides s a (remove_act (AtStore node index stamp) cap) found ready = absurd (cc)
 act_decides s a (type_act typing) found ready = typing_decides a typing typing.at found ready
 act_decides s a (make_act m) found ready = making_decides a m m.at found ready
+act_decides s a (map_act fill) found ready = absurd (cc)
 act_decides s a (Outside node entry word) found ready = absurd (cc)
 act_decides s a (tick_act charge) found ready = charge_decides a charge found ready
 act_decides s a (flush_act core) found ready = tt
@@ -662,6 +686,7 @@ begun_over : (own : Own) (call : Call) (k : Capability) → decides_at_name (pla
 begun_over own (look_call a) k is = tt
 begun_over own (Copy a t b) k is = absurd (cc)
 begun_over own (Grow t i l) k is = absurd (cc)
+begun_over own (Map p v r f w) k is = absurd (cc)
 begun_over own (Remove t b) k is = absurd (cc)
 begun_over own (Shrink t i) k is = absurd (cc)
 begun_over own (Unmap p v) k is = absurd (cc)

@@ -86,7 +86,7 @@ use Rattle.call_steps.specs.Tails.{tail_left, took_tail, tail_counts}
 use Rattle.call_steps.specs.Fits.{TailFits, ScanFits, WorkFits, StageFits, IsWanted, FoundFits, HasRoom, CountsWait, CountsAt, looks_later, after_reading, acts_later, names_left, steps_later, left_of_look, left_of_scan, left_of_pin, work_left, left_at, left_of, IsActive, IsOwn, left_of_cores}
 use Rattle.call_steps.proofs.StepsFit.{StepFits, starts_fit, few_dues, object_count, work_next, counts_next, first_named, act_fits}
 use Rattle.call_acts.specs.declared.work.Act.{Act as ActType}
-use Rattle.call_acts.specs.declared.work.Act.TheVariants.{Fill as fill_act, Remove as remove_act, Retype as type_act, Make as make_act, Outside, Tick as tick_act, Flush as flush_act, Kill as kill_act, Untype as untype_act}
+use Rattle.call_acts.specs.declared.work.Act.TheVariants.{Fill as fill_act, Remove as remove_act, Retype as type_act, Make as make_act, Outside, Tick as tick_act, Flush as flush_act, Kill as kill_act, Untype as untype_act, Map as map_act}
 use Rattle.call_acts.specs.declared.work.Tail.{Tail}
 use Rattle.call_acts.specs.declared.work.Tail.TheVariants.{Nothing, Quiesce, Unmark, StoreDead, StoreFlush, Release}
 use Rattle.call_steps.specs.declared.stages.Stage.{Stage}
@@ -99,7 +99,7 @@ use Rattle.call_acts.specs.declared.work.WorkStep.TheVariants.{Goes, Acquires, R
 use Rattle.call_acts.specs.Refusals.{refusal_of}
 use Rattle.call_acts.specs.Fills.{filled_if}
 use Rattle.call_acts.specs.WorkSteps.{refuse}
-use Rattle.call_acts.specs.Acts.{ActFits, close_left, act_left, took_close, took_act, dues, next_work, act_begun, cap_dues, starts, undo, made_dues, meets_object, meets_blank, meets_making, marks_if, published, took_making_at}
+use Rattle.call_acts.specs.Acts.{ActFits, close_left, act_left, took_close, maps_frame, maps_word, took_act, dues, next_work, act_begun, cap_dues, starts, undo, made_dues, meets_object, meets_blank, meets_making, marks_if, published, took_making_at}
 use Rattle.call_acts.specs.Lookups.{met_name, met_free, met_held}
 use Rattle.call_steps.specs.Steps.{GoesOn, landed, found_more, next_by, took_enter, named_one, read_more, took_read, took_found, took_end, took_look, took_scan, took_count, took_work, went_with, is_spent, took_at, took}
 use Rattle.call_steps.proofs.LandsFit.{TookFits, Facts, names_object, next_fits, landed_fits}
@@ -277,6 +277,22 @@ module _ (own : Own) (a : ActiveCall) (facts : Facts own a) (room : own.made < o
   done_fits (remove_act close cap) found fits waits = close_fits close cap found fits.0 fits.1 waits
   done_fits (type_act typing) found fits waits = type_fits typing typing.at found fits waits
   done_fits (make_act m) found fits waits = make_fits m m.at found fits waits
+  done_fits (map_act fill) found fits waits = met (frame_of_word found)
+    where
+      some : 2 + length a.counts < 2 + length a.counts + 2
+      some = omega arith
+
+      by : (k : FrameKind) (mark : Option ℕ) → TookFits own (2 + length a.counts + 2) a (landed a (maps_frame fill k mark))
+      by k (Some d) = act_refused _ (refusal.Busy d) some
+      by frame_kind.User None =
+          landed_fits own a a refl refl refl facts.found facts.acquired room 1 _ (Goes (Act (fill_act fill))) (fits.0, omega arith, waits)
+          (omega arith)
+      by frame_kind.Untyped None = act_refused _ refusal.FrameKind some
+      by frame_kind.Kernel None = act_refused _ refusal.FrameKind some
+
+      met : (o : Option FrameWord) → TookFits own (2 + length a.counts + 2) a (landed a (maps_word fill o))
+      met None = act_refused _ refusal.Raced some
+      met (Some v) = by v.kind v.mark
   done_fits (Outside node entry word) found fits waits = act_refused _ refusal.OutOfRange (omega arith)
   done_fits (tick_act charge) found fits waits = tick_fits charge found fits waits
   done_fits (flush_act core) found fits waits =
@@ -296,6 +312,7 @@ module _ (own : Own) (a : ActiveCall) (facts : Facts own a) (room : own.made < o
       by (Mark word) = (tt, omega arith)
       by (Store word entry) = (fits.frame, omega arith)
       by (fill_at word) = (fits.frame, omega arith)
+  undo_fits (map_act fill) fits = (tt, omega arith)
   undo_fits (Outside node entry word) fits = (tt, omega arith)
   undo_fits (tick_act charge) fits = (tt, omega arith)
   undo_fits (flush_act core) fits = (tt, omega arith)

@@ -11,7 +11,7 @@ use Rattle.spk_nums.specs.declared.kinds.Kind.{Kind}
 use Rattle.spk_nums.specs.declared.kinds.Kind.TheVariants.{Range, Table, Pages, Comp as KindComp}
 use Rattle.spk_nums.specs.declared.kinds.Kind.TheVariants as kind
 use Rattle.spk_nums.specs.declared.calls.Call.{Call}
-use Rattle.spk_nums.specs.declared.calls.Call.TheVariants.{Look as look_call, Copy, Remove, Shrink, Unmap, Retype, Make as make_call, Tick, Gate, Kill, Grow, Flush}
+use Rattle.spk_nums.specs.declared.calls.Call.TheVariants.{Look as look_call, Copy, Remove, Shrink, Unmap, Retype, Make as make_call, Tick, Gate, Kill, Grow, Flush, Map}
 use Rattle.entry_words.specs.declared.entry.Entry.{Entry}
 use Rattle.entry_words.specs.declared.entry.Entry.TheVariants as entry
 use Rattle.word_map.specs.Places.{Shape}
@@ -34,6 +34,7 @@ use Rattle.call_plans.specs.Bounds.{look_steps, retype_steps, make_steps, act_st
 use Rattle.call_plans.specs.Rooted.{root_of, WantsRoot, IsRooted}
 use Rattle.call_plans.proofs.Roots.{earlier_is, Led, nth_led}
 use Rattle.call_plans.proofs.RootedTargets.{rooted}
+use Rattle.spk_nums.specs.declared.kinds.PageFlags.{PageFlags}
 use Rattle.spk_nums.specs.declared.kinds.FrameKind.{FrameKind}
 use Rattle.spk_nums.specs.declared.kinds.FrameKind.TheVariants.{Untyped, User, Kernel}
 use Rattle.kernel_rules.specs.CapabilityCalls.{leaf_of, has_frame}
@@ -48,12 +49,12 @@ use Rattle.call_acts.specs.declared.kills.KillingAt.{KillingAt}
 use Rattle.call_acts.specs.declared.kills.KillingAt.TheVariants.{LoadComp, LoadLive, Close as kill_close, Draw as kill_draw}
 use Rattle.call_acts.specs.declared.own.Own.{Own}
 use Rattle.call_acts.specs.declared.work.Act.{Act as ActType}
-use Rattle.call_acts.specs.declared.work.Act.TheVariants.{Fill as fill_act, Remove as remove_act, Retype as type_act, Make as make_act, Outside, Tick as tick_act, Kill as kill_act, Flush as flush_act, Untype as untype_act}
+use Rattle.call_acts.specs.declared.work.Act.TheVariants.{Fill as fill_act, Remove as remove_act, Retype as type_act, Make as make_act, Outside, Tick as tick_act, Kill as kill_act, Flush as flush_act, Untype as untype_act, Map as map_act}
 use Rattle.call_acts.specs.declared.work.Work.TheVariants.{Lookup}
 use Rattle.call_acts.specs.declared.work.WorkStep.{WorkStep}
 use Rattle.call_acts.specs.declared.work.WorkStep.TheVariants.{Goes, Acquires, Refuses, Answers, Changes}
 use Rattle.call_acts.specs.declared.work.Due.{Due}
-use Rattle.call_acts.specs.Acts.{ActFits, act_left, looked, cap_dues, dues, acquires, scans, stamp_in, filling, fills_with, removing, removes_held, removes_at, types_if, types_at, gate_if, gate_to, frame_named, reads_of, made_dues, starts, making, making_if, makes_in, makes_at, act_begun, next_work, killing_dues, kills_in, kills_at, link_to, is_pages}
+use Rattle.call_acts.specs.Acts.{ActFits, act_left, looked, cap_dues, dues, acquires, scans, stamp_in, filling, fills_with, removing, removes_held, removes_at, types_if, types_at, gate_if, gate_to, frame_named, reads_of, made_dues, starts, making, making_if, makes_in, makes_at, act_begun, next_work, killing_dues, kills_in, kills_at, link_to, is_pages, page_cap, mapping, mapping_if, maps_if, maps_at}
 use Rattle.call_acts.specs.declared.untypings.UntypingAt.{UntypingAt}
 use Rattle.call_acts.specs.declared.untypings.UntypingAt.TheVariants as untype
 use Rattle.call_acts.specs.Untypings.{UntypingAtFits, released_dues, untyping_dues}
@@ -131,6 +132,7 @@ few_dues (fill_act fill) = let one = cap_one fill.cap.kind fill.cap.frame fill.c
 few_dues (remove_act close cap) = let one = cap_one cap.kind cap.frame cap.arg (negsuc 0) in omega (arith, one)
 few_dues (type_act typing) = omega arith
 few_dues (make_act m) = made_few m.object m.frame m.at
+few_dues (map_act fill) = let one = cap_one fill.cap.kind fill.cap.frame fill.cap.arg (pos 1) in omega (arith, one)
 few_dues (Outside node entry word) = omega arith
 few_dues (tick_act charge) = omega arith
 few_dues (flush_act core) = omega arith
@@ -206,6 +208,7 @@ dues_fit s (remove_act close cap) n fits = cap_fit s cap.kind cap.frame cap.arg 
 dues_fit s (type_act typing) zero fits = tt
 dues_fit s (type_act typing) (suc n) fits = tt
 dues_fit s (make_act m) n fits = made_fit s m.object m.frame m.at n fits.frame fits.object.names
+dues_fit s (map_act fill) n fits = cap_fit s fill.cap.kind fill.cap.frame fill.cap.arg (pos 1) n fits.0.cap
 dues_fit s (Outside node entry word) zero fits = tt
 dues_fit s (Outside node entry word) (suc n) fits = tt
 dues_fit s (tick_act charge) zero fits = tt
@@ -334,6 +337,7 @@ starts_fit s later most core (fill_act fill) here fits some = first_fits s later
 starts_fit s later most core (remove_act close cap) here fits some = first_fits s later most core (remove_act close cap) here fits some
 starts_fit s later most core (type_act typing) here fits some = first_fits s later most core (type_act typing) here fits some
 starts_fit s later most core (make_act m) here fits some = first_fits s later most core (make_act m) here fits some
+starts_fit s later most core (map_act fill) here fits some = first_fits s later most core (map_act fill) here fits some
 starts_fit s later most core (tick_act charge) here fits some = first_fits s later most core (tick_act charge) here fits some
 starts_fit s later most core (flush_act by) here fits some = first_fits s later most core (flush_act by) here fits some
 starts_fit s later most core (kill_act m) here fits some = first_fits s later most core (kill_act m) here fits some
@@ -468,6 +472,43 @@ made_at own later most None range f target h fits some = (omega arith, tt)
 made_at own later most (Some object) None f target h fits some = (omega arith, tt)
 made_at own later most (Some object) (Some range) f None h fits some = (omega arith, tt)
 
+-- the act that maps a frame of a range
+page_below : (frames f : ℕ) (w : PageFlags) → f < frames → CapNames frames (page_cap f w)
+page_below frames f w below = omega (arith, below)
+
+maps : (own : Own) (later : ℕ) (range : Option Capability) (f : ℕ) (w : PageFlags) (target : Option Found) → IsOwn own
+    → IfSome target (PlaceFits own.layout)
+    → StepFits own.layout [] later (4 + 2 * own.layout.cores) (maps_at own range f w target)
+maps own later None f w target h fits = (omega arith, tt)
+maps own later (Some range) f w None h fits = (omega arith, tt)
+maps own later (Some range) f w (Some at) h fits = by_flags (nat_lt w.0 4)
+  where
+    both : (x y : Bool) → (x && y) ≡ true → y ≡ true
+    both true y is = is
+    both false y is = cc
+
+    by : (within : Bool) → (has_frame (found range) f && nat_lt f own.layout.frames) ≡ within
+        → StepFits own.layout [] later (4 + 2 * own.layout.cores)
+        (scans own.core (quiet_scan (stamp_in at.value) own.core own.layout.cores true) (mapping_if within f w at))
+    by true is =
+        let many = h.shape.some_core in
+        let below : f < own.layout.frames = ltb-true f own.layout.frames (both (has_frame (found range) f) (nat_lt f own.layout.frames) is)
+        in
+        let one = cap_one kind.Page f w.0 (pos 1) in
+        scans_fit own.layout later (4 + 2 * own.layout.cores) own.core (mapping f w at) true
+        (quiet_scan (stamp_in at.value) own.core own.layout.cores true) h.core
+        (record { node = fits.node; entry = fits.entry; cap = page_below own.layout.frames f w below }, below)
+        (scan_may own.layout (stamp_in at.value) own.core true h.core) (omega (arith, many, one))
+    by false is =
+        let many = h.shape.some_core in
+        scans_fit own.layout later (4 + 2 * own.layout.cores) own.core (Outside at.node at.entry at.word) true
+        (quiet_scan (stamp_in at.value) own.core own.layout.cores true) h.core (fits.node, fits.entry)
+        (scan_may own.layout (stamp_in at.value) own.core true h.core) (omega (arith, many))
+
+    by_flags : (flags : Bool) → StepFits own.layout [] later (4 + 2 * own.layout.cores) (maps_if flags own range f w at)
+    by_flags true = by (has_frame (found range) f && nat_lt f own.layout.frames) refl
+    by_flags false = (omega arith, tt)
+
 -- the name of a thread's component has led to a frame of the machine, and so has that of a leaf
 abbrev pub ObjectNamed : ℕ → Call → List Capability → Type 0
 ObjectNamed frames (Grow t i l) found = IfSome (at_place found Second) (λ k. k.frame < frames)
@@ -564,6 +605,8 @@ act_fits own later (Copy a t b) found read target h names objects limits fits =
 act_fits own later (Grow t i l) found read target h names objects limits fits =
     filled own later (3 + 2 * own.layout.cores) (link_to (at_place found Second)) (is_pages (at_place found First)) target h
     (link_names own.layout.frames (at_place found Second) objects) fits (grow_words (is_pages (at_place found First)) own.layout.cores)
+act_fits own later (Map p v r f w) found read target h names objects limits fits =
+    maps own later (at_place found Second) f w target h fits
 act_fits own later (Remove t b) found read target h names objects limits fits =
     removed own.layout later 6 own.core target h.core fits (omega arith)
 act_fits own later (Shrink t i) found read target h names objects limits fits =
@@ -643,7 +686,7 @@ more_steps s later most more (Goes work) few fits = (fits.0, (let left = fits.1 
 more_steps s later most more (Acquires count work) few fits = fits
 more_steps s later most more (Refuses r tail) few fits = ((let left = fits.0 in omega (arith, left, few)), fits.1)
 more_steps s later most more (Answers v drawn tail) few fits = ((let left = fits.0 in omega (arith, left, few)), fits.1)
-more_steps s later most more (Changes r change) few fits = fits
+more_steps s later most more (Changes r change tail) few fits = (omega (arith, fits.0), fits.1)
 
 -- a step that begins a look-up, or refuses
 abbrev IsLook : WorkStep → Type 0
@@ -652,7 +695,7 @@ IsLook (Goes work) = ⊥
 IsLook (Acquires count work) = ⊥
 IsLook (Refuses r tail) = Unit {0}
 IsLook (Answers v drawn tail) = ⊥
-IsLook (Changes r change) = ⊥
+IsLook (Changes r change tail) = ⊥
 
 under_looks : (within : Bool) (top n : ℕ) → IsLook (looks_under within top n)
 under_looks true top n = tt

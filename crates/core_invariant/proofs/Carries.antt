@@ -44,7 +44,7 @@ use Rattle.call_acts.specs.declared.fills.Fill.{Fill}
 use Rattle.entry_words.specs.declared.entry.Entry.{Entry}
 use Rattle.entry_words.specs.declared.entry.Entry.TheVariants as entry
 use Rattle.entry_words.specs.EntryWord.{entry_of_word}
-use Rattle.kernel_rules.specs.State.{Thing, PlaceOf, Frame, Kernel, Comp, comp_in}
+use Rattle.kernel_rules.specs.State.{User, Thing, PlaceOf, Frame, Kernel, Comp, comp_in}
 use Rattle.kernel_history.specs.Stamps.{stamp}
 use Rattle.stage_quiet.specs.declared.close.Close.{Close}
 use Rattle.stage_quiet.specs.declared.close.Close.TheVariants.{AtCompare, AtDraw, AtStore}
@@ -53,16 +53,16 @@ use Rattle.stage_quiet.specs.declared.quiet.Quiet.TheVariants.{AtCore, AtFlush}
 use Rattle.stage_pins.specs.declared.pin.Pin.{Pin}
 use Rattle.stage_pins.specs.declared.pin.Pin.TheVariants.{AtLoad, AtCompare as pin_compare}
 use Rattle.call_acts.specs.declared.work.Act.{Act as ActOf}
-use Rattle.call_acts.specs.declared.work.Act.TheVariants.{Fill as fill_act, Remove as remove_act, Retype as type_act, Make as make_act, Outside, Tick as tick_act, Flush as flush_act, Kill as kill_act, Untype as untype_act}
+use Rattle.call_acts.specs.declared.work.Act.TheVariants.{Fill as fill_act, Remove as remove_act, Retype as type_act, Make as make_act, Outside, Tick as tick_act, Flush as flush_act, Kill as kill_act, Untype as untype_act, Map as map_act}
 use Rattle.call_acts.specs.declared.work.Work.{Work}
 use Rattle.call_acts.specs.declared.work.Work.TheVariants.{Lookup, Read, Scan, Acquire, Act}
 use Rattle.call_acts.specs.Acts.{reads_of}
 use Rattle.call_steps.specs.declared.stages.ActiveCall.{ActiveCall}
-use Rattle.core_invariant.specs.Knows.{IsCount, IsReached, HasFound, LookIs, LooksUp, own_in, NamesAre, LooksFor, IsScanned, MayFill, IsFill, IsRemoval, KnowsClose, KnowsAct, KnowsQuiet, KnowsStore, HasLoaded, KnowsWork, KnowsUndecided, KnowsTyping, HasMetAt, ChargesBy, HasHeadAt, KnowsTick, IsSpot, HasStored, KnowsMakingAt, HasLife, HasComp, KnowsKillingAt, KnowsDead, ReadIs, ReadBefore, scanned_for, KnowsScan}
+use Rattle.core_invariant.specs.Knows.{IsCount, IsReached, HasFound, LookIs, LooksUp, own_in, NamesAre, LooksFor, IsScanned, MayFill, IsFill, IsRemoval, KnowsClose, KnowsAct, KnowsQuiet, KnowsStore, HasLoaded, KnowsWork, KnowsUndecided, KnowsTyping, HasMetAt, ChargesBy, HasHeadAt, KnowsTick, IsSpot, HasStored, KnowsMakingAt, HasLife, HasComp, KnowsKillingAt, KnowsDead, ReadIs, ReadBefore, scanned_for, KnowsScan, HasUser}
 use Rattle.stage_tcap.specs.declared.charge.Charge.{Charge}
 use Rattle.stage_tcap.specs.declared.charge.Charge.TheVariants.{AtLoad as charge_load, AtCompare as charge_compare}
 use Rattle.call_acts.specs.Ticks.{ticks_due}
-use Rattle.spk_nums.specs.declared.calls.Call.TheVariants.{Tick}
+use Rattle.spk_nums.specs.declared.calls.Call.TheVariants.{Map, Tick}
 use Rattle.call_acts.specs.declared.typings.Typing.{Typing}
 use Rattle.call_acts.specs.declared.typings.TypingAt.{TypingAt}
 use Rattle.call_acts.specs.declared.typings.TypingAt.TheVariants.{Load, Compare as type_compare}
@@ -92,6 +92,7 @@ stores_in (fill_act fill) f = false
 stores_in (remove_act close cap) f = false
 stores_in (type_act typing) f = false
 stores_in (make_act m) f = is_marked m.at && f == m.frame
+stores_in (map_act fill) f = false
 stores_in (Outside node entry word) f = false
 stores_in (tick_act charge) f = false
 stores_in (flush_act by) f = false
@@ -105,12 +106,18 @@ stores_of (Scan q act) f = stores_in act f
 stores_of (Acquire pin change act) f = stores_in act f
 stores_of (Act act) f = stores_in act f
 
--- A step leaves what the core's last steps on entries, on frames' words and on liveness words have read, and the words of the frame that the act has stored.
+-- A step leaves each user frame.
+abbrev pub KeepsUsers : Setting → Trace → Step → Type 0
+KeepsUsers setup t e = (f : ℕ) → (state_after setup t).frame f ≡ User → (state_after setup (e ∷ t)).frame f ≡ User
+
+-- A step leaves what the core's last steps on entries, on frames' words and on liveness words have read, and the words of the frame that
+-- the act has stored; and user frames.
 pub record ReadsSame (setup : Setting) (t : Trace) (e : Step) (c : ℕ) (act : ActOf) : Type 0 where
   pub entries : (f i : ℕ) → own_read (e ∷ t) c (EntryAt f i) ≡ own_read t c (EntryAt f i)
   pub frames : (f : ℕ) → own_read (e ∷ t) c (FrameAt f) ≡ own_read t c (FrameAt f)
   pub numbers : (l : ℕ) → own_read (e ∷ t) c (LiveAt l) ≡ own_read t c (LiveAt l)
   pub stored : (f i : ℕ) → stores_in act f ≡ true → last_left setup (e ∷ t) (EntryAt f i) ≡ last_left setup t (EntryAt f i)
+  pub users : KeepsUsers setup t e
 
 module _ (setup : Setting) (setting : IsSetting setup) (t : Trace) (e : Step) (legal : IsLegal setup t) (c : ℕ) (call : Call)
     (is_open : phase t c ≡ Open call) (carries : Carries setup t e c) where
@@ -242,9 +249,9 @@ module _ (setup : Setting) (setting : IsSetting setup) (t : Trace) (e : Step) (l
   read_before_on o read NextNothing has = has
 
   fill_on : (of : Call) (plan : Plan) (caps : List Capability) (upto : ℕ) (fill : Fill)
-      → ((f i : ℕ) → own_read (e ∷ t) c (EntryAt f i) ≡ own_read t c (EntryAt f i))
+      → ((f i : ℕ) → own_read (e ∷ t) c (EntryAt f i) ≡ own_read t c (EntryAt f i)) → KeepsUsers setup t e
       → IsFill setup t c of plan caps upto fill → IsFill setup (e ∷ t) c of plan caps upto fill
-  fill_on of plan caps upto fill same has = record {
+  fill_on of plan caps upto fill same users has = record {
     target = has.target;
     next = has.next;
     way = reached_on has.target (record { node = fill.node; index = fill.entry }) has.way;
@@ -256,7 +263,11 @@ module _ (setup : Setting) (setting : IsSetting setup) (t : Trace) (e : Step) (l
     read = has.read;
     has_read = read_on (reads_of of caps) has.read has.has_read;
     puts = has.puts;
-  }
+    user = user_on of has.user;
+  } where
+    user_on : (of : Call) → HasUser (state_after setup t) of → HasUser (state_after setup (e ∷ t)) of
+    user_on (Map p v r f w) is = users f is
+    user_on call is = tt
 
   pub removal_on : (of : Call) (plan : Plan) (caps : List Capability) (node index : ℕ) (cap : Capability)
       → IsRemoval setup t c of plan caps node index cap
@@ -343,7 +354,7 @@ module _ (setup : Setting) (setting : IsSetting setup) (t : Trace) (e : Step) (l
 
   pub act_on : (of : Call) (plan : Plan) (caps : List Capability) (upto : ℕ) (act : ActOf) → ReadsSame setup t e c act
       → KnowsAct setup t c of plan caps upto act → KnowsAct setup (e ∷ t) c of plan caps upto act
-  act_on of plan caps upto (fill_act fill) same has = fill_on of plan caps upto fill same.entries has
+  act_on of plan caps upto (fill_act fill) same has = fill_on of plan caps upto fill same.entries same.users has
   act_on of plan caps upto (remove_act close cap) same has = close_on of plan caps close cap same.entries has
   act_on of plan caps upto (type_act typing) same has = typing_on of caps typing same.frames has
   act_on of plan caps upto (make_act m) same has = record {
@@ -353,6 +364,13 @@ module _ (setup : Setting) (setting : IsSetting setup) (t : Trace) (e : Step) (l
     cap = has.cap;
     at = making_on m.frame m.object m.at same.frames
         (λ marked i. same.stored m.frame i (ap (λ b. b && m.frame == m.frame) marked ∙ eq-eqb m.frame m.frame refl)) has.at;
+  }
+  act_on of plan caps upto (map_act fill) same has = record {
+    spot = spot_on plan caps upto fill.node fill.entry fill.word (same.entries fill.node fill.entry) has.spot;
+    fits = has.fits;
+    puts = has.puts;
+    frame = has.frame;
+    maps = has.maps;
   }
   act_on of plan caps upto (Outside node entry word) same has =
       record { spot = spot_on plan caps upto node entry word (same.entries node entry) has.spot; outside = has.outside }
@@ -392,31 +410,32 @@ module _ (setup : Setting) (setting : IsSetting setup) (t : Trace) (e : Step) (l
   -- after a step of another core, which leaves the words of the frame that the act has stored
   reads_same : (act : ActOf) → ((w : Word) → own_read (e ∷ t) c w ≡ own_read t c w)
       → ((f i : ℕ) → stores_in act f ≡ true → last_left setup (e ∷ t) (EntryAt f i) ≡ last_left setup t (EntryAt f i))
-      → ReadsSame setup t e c act
-  reads_same act same stored = record {
+      → KeepsUsers setup t e → ReadsSame setup t e c act
+  reads_same act same stored users = record {
     entries = λ f i. same (EntryAt f i);
     frames = λ f. same (FrameAt f);
     numbers = λ l. same (LiveAt l);
     stored = stored;
+    users = users;
   }
 
   work_on : (table : ℕ) (a : ActiveCall) (work : Work) → ((w : Word) → own_read (e ∷ t) c w ≡ own_read t c w)
       → ((f i : ℕ) → stores_of work f ≡ true → last_left setup (e ∷ t) (EntryAt f i) ≡ last_left setup t (EntryAt f i))
-      → KnowsWork setup t c table a work → KnowsWork setup (e ∷ t) c table a work
-  work_on table a (Lookup look) same stored has = record {
+      → KeepsUsers setup t e → KnowsWork setup t c table a work → KnowsWork setup (e ∷ t) c table a work
+  work_on table a (Lookup look) same stored users has = record {
     looks = looks_for_on table (next_of a.plan a.found) look has.looks;
     has_read = read_before_on (reads_of a.call a.found) a.read (next_of a.plan a.found) has.has_read;
   }
-  work_on table a (Read f look) same stored has = record {
+  work_on table a (Read f look) same stored users has = record {
     target = has.target;
     next = has.next;
     looks = looks_on has.target look has.looks;
     reads = has.reads;
     comp = has_comp_on f has.comp;
   }
-  work_on table a (Scan q act) same stored has = quiet_on a q act (reads_same act same stored) has
-  work_on table a (Acquire pin change act) same stored has = record {
-    knows = act_on a.call a.plan a.found setup.cores act (reads_same act same stored) has.knows;
+  work_on table a (Scan q act) same stored users has = quiet_on a q act (reads_same act same stored users) has
+  work_on table a (Acquire pin change act) same stored users has = record {
+    knows = act_on a.call a.plan a.found setup.cores act (reads_same act same stored users) has.knows;
     rest = has.rest;
     due = has.due;
     apart = has.apart;
@@ -425,8 +444,8 @@ module _ (setup : Setting) (setting : IsSetting setup) (t : Trace) (e : Step) (l
     loaded = loaded_on pin same has.loaded;
     starts = has.starts;
   }
-  work_on table a (Act act) same stored has = record {
-    knows = act_on a.call a.plan a.found setup.cores act (reads_same act same stored) has.knows;
+  work_on table a (Act act) same stored users has = record {
+    knows = act_on a.call a.plan a.found setup.cores act (reads_same act same stored users) has.knows;
     all = has.all;
     goes = has.goes;
   }
@@ -434,10 +453,10 @@ module _ (setup : Setting) (setting : IsSetting setup) (t : Trace) (e : Step) (l
   -- what a call knows that is not decided, after a step of another core
   pub undecided_on : (table : ℕ) (a : ActiveCall) (work : Work) → ((w : Word) → own_read (e ∷ t) c w ≡ own_read t c w)
       → ((f i : ℕ) → stores_of work f ≡ true → last_left setup (e ∷ t) (EntryAt f i) ≡ last_left setup t (EntryAt f i))
-      → KnowsUndecided setup t c table a work
+      → KeepsUsers setup t e → KnowsUndecided setup t c table a work
       → KnowsUndecided setup (e ∷ t) c table a work
-  undecided_on table a work same stored has =
-      record { names = names_on table a.plan a.found has.names; knows = work_on table a work same stored has.knows }
+  undecided_on table a work same stored users has =
+      record { names = names_on table a.plan a.found has.names; knows = work_on table a work same stored users has.knows }
 
 -- The counts that a call has acquired are near it at a moment of it still, after a further step.
 pub counts_on : (setup : Setting) (t : Trace) (e : Step) (c : ℕ) (call : Call) → (c ≡ e.core → e.enters ≡ None) → (xs : List Acquired)

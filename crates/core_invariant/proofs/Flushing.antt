@@ -5,7 +5,7 @@ use Rattle.call_acts.specs.declared.kills.KillingAt.TheVariants.{LoadComp, LoadL
 use Rattle.call_acts.specs.declared.makings.MakingAt.{MakingAt}
 use Rattle.call_acts.specs.declared.makings.MakingAt.TheVariants.{Load, Mark, Store, Fill as making_fill}
 use Rattle.call_acts.specs.declared.work.Act.{Act as ActOf}
-use Rattle.call_acts.specs.declared.work.Act.TheVariants.{Fill, Remove, Retype, Make, Outside, Tick, Flush, Kill, Untype}
+use Rattle.call_acts.specs.declared.work.Act.TheVariants.{Fill, Remove, Retype, Make, Map, Outside, Tick, Flush, Kill, Untype}
 use Rattle.call_acts.specs.declared.work.Tail.{Tail}
 use Rattle.call_acts.specs.declared.work.Tail.TheVariants.{Nothing, Quiesce, Unmark, StoreDead, StoreFlush, Release}
 use Rattle.call_acts.specs.declared.work.Work.{Work}
@@ -60,6 +60,7 @@ act_flush (Fill fill) h c = refl
 act_flush (Remove close cap) h c = closed_flush close cap h c
 act_flush (Retype typing) h c = refl
 act_flush (Make making) h c = making_flush making.frame making.at h c
+act_flush (Map fill) h c = refl
 act_flush (Outside node entry word) h c = refl
 act_flush (Tick charge) h c = refl
 act_flush (Flush by) h c = refl

@@ -8,7 +8,7 @@ use Rattle.call_acts.specs.declared.makings.MakingAt.TheVariants.{Load as making
 use Rattle.call_acts.specs.declared.makings.MakingAt.{MakingAt}
 use Rattle.call_acts.specs.declared.work.Work.TheVariants.{Lookup, Read, Scan, Acquire, Act as act_work}
 use Rattle.call_acts.specs.declared.work.Work.{Work}
-use Rattle.call_acts.specs.declared.work.Act.TheVariants.{Fill as fill_act, Remove as remove_act, Retype as type_act, Make as make_act, Outside, Tick as tick_act, Flush as flush_act, Kill as kill_act, Untype as untype_act}
+use Rattle.call_acts.specs.declared.work.Act.TheVariants.{Fill as fill_act, Remove as remove_act, Retype as type_act, Make as make_act, Outside, Tick as tick_act, Flush as flush_act, Kill as kill_act, Untype as untype_act, Map as map_act}
 use Rattle.call_acts.specs.declared.work.Act.{Act as ActOf}
 use Rattle.stage_quiet.specs.declared.quiet.Quiet.TheVariants.{AtCore, AtFlush}
 use Rattle.call_plans.specs.declared.plans.Plan.{Plan}
@@ -49,12 +49,13 @@ use Rattle.call_steps.specs.declared.stages.ActiveCall.{ActiveCall}
 use Rattle.call_acts.specs.declared.own.Own.{Own}
 use Rattle.call_acts.specs.declared.work.Tail.TheVariants.{Nothing, Quiesce, Unmark, StoreDead, StoreFlush, Release}
 use Rattle.call_steps.specs.View.{Core}
+use Rattle.core_invariant.proofs.Users.{users_stay}
 use Rattle.core_invariant.specs.Holding.{settled, MarkIs, Holding, keeps, holds_counts, settled_by}
 use Rattle.core_invariant.specs.Words.{WordIs}
 use Rattle.core_invariant.specs.Knows.{phase_at, CallIs, KnowsAt, WorksIn, CoreIs, blank_word, is_start, KnowsMakingAt, KnowsAct, KnowsWork}
 use Rattle.core_invariant.specs.Stands.{held_by, times_of, counted_in, SumIs, Stands, is_done, holds_making, holds_act, holds_work, holds_at, holds_in, holds}
 use Rattle.core_invariant.proofs.Markers.{marker_inside}
-use Rattle.core_invariant.proofs.Carries.{undecided_on, counts_on, store_on, stores_in, stores_of, dead_on}
+use Rattle.core_invariant.proofs.Carries.{KeepsUsers, undecided_on, counts_on, store_on, stores_in, stores_of, dead_on}
 
 -- A step changes a word of a blank frame only where its core has marked the frame.
 abbrev pub SparesBlanks : Setting → Trace → Step → Type 0
@@ -105,6 +106,7 @@ filled_act setup t c f call plan ks (make_act m) h knows is = filled_making setu
 filled_act setup t c f call plan ks (fill_act fill) h knows is = absurd (false≢true is)
 filled_act setup t c f call plan ks (remove_act close cap) h knows is = absurd (false≢true is)
 filled_act setup t c f call plan ks (type_act typing) h knows is = absurd (false≢true is)
+filled_act setup t c f call plan ks (map_act fill) h knows is = absurd (false≢true is)
 filled_act setup t c f call plan ks (Outside node entry word) h knows is = absurd (false≢true is)
 filled_act setup t c f call plan ks (tick_act charge) h knows is = absurd (false≢true is)
 filled_act setup t c f call plan ks (flush_act by) h knows is = absurd (false≢true is)
@@ -121,6 +123,7 @@ scans_nothing (make_act m) f starts = by (is_marked m.at) starts
 scans_nothing (fill_act fill) f starts = refl
 scans_nothing (remove_act close cap) f starts = refl
 scans_nothing (type_act typing) f starts = refl
+scans_nothing (map_act fill) f starts = refl
 scans_nothing (Outside node entry word) f starts = refl
 scans_nothing (tick_act charge) f starts = refl
 scans_nothing (flush_act by) f starts = refl
@@ -225,45 +228,45 @@ module _ (setup : Setting) (setting : IsSetting setup) (cores : ℕ → Core) (t
           (sym (subst (λ (x : ℕ). frame_of_word x ≡ Some (frame_value ((state_after setup t).frame f))) (held (FrameAt f) filled.marks).1
           (stands.words (FrameAt f))) ∙ filled.says)
 
-  knows_other : MayFollow setup t e → KeepsTime setup t e → SparesBlanks setup t e → (c table : ℕ) (a : ActiveCall) → c ≢ e.core
+  knows_other : MayFollow setup t e → KeepsTime setup t e → SparesBlanks setup t e → KeepsUsers setup t e → (c table : ℕ) (a : ActiveCall) → c ≢ e.core
       → (stage : Stage)
       → ((w : Word) → (holds_at stage a.counts).marks w ≡ true
       → (marked_by setup t w ≡ Some c) × (settled setup (held_by cores) t w ≡ (holds_at stage a.counts).stands w))
       → phase t c ≡ phase_at a.call stage → KnowsAt setup t c table a stage → KnowsAt setup (e ∷ t) c table a stage
-  knows_other follows time blanks c table a other Enter held at has = has
-  knows_other follows time blanks c table a other (Undecided work) held at has =
+  knows_other follows time blanks users c table a other Enter held at has = has
+  knows_other follows time blanks users c table a other (Undecided work) held at has =
       undecided_on setup setting t e stands.legal c a.call at (open_carries follows time c a.call other at) table a work
       (λ w. own_read-other c e t other w)
       (λ f i is. filled_stays follows blanks c (holds_at (Undecided work) a.counts) other held f
-      (filled_work setup t c table f a work (holds_counts (is_done (Undecided work)) a.counts) has.knows is) i) has
-  knows_other follows time blanks c table a other (Decided r drawn Nothing) held at has = has
-  knows_other follows time blanks c table a other (Decided r drawn (Unmark f word)) held at has = has
-  knows_other follows time blanks c table a other (Decided r drawn (StoreDead life stamp)) held at has =
+      (filled_work setup t c table f a work (holds_counts (is_done (Undecided work)) a.counts) has.knows is) i) users has
+  knows_other follows time blanks users c table a other (Decided r drawn Nothing) held at has = has
+  knows_other follows time blanks users c table a other (Decided r drawn (Unmark f word)) held at has = has
+  knows_other follows time blanks users c table a other (Decided r drawn (StoreDead life stamp)) held at has =
       dead_on setup t e c a.call (λ own. absurd (other own)) life has
-  knows_other follows time blanks c table a other (Decided r drawn (StoreFlush by x)) held at has = record {
+  knows_other follows time blanks users c table a other (Decided r drawn (StoreFlush by x)) held at has = record {
     stores = has.stores;
     core = has.core;
     some = has.some;
     small = has.small;
     last = flush_of-other c e t other ∙ has.last;
   }
-  knows_other follows time blanks c table a other (Decided r drawn (Release release)) held at has = absurd has
-  knows_other follows time blanks c table a other (Decided r drawn (Quiesce close)) held at has =
+  knows_other follows time blanks users c table a other (Decided r drawn (Release release)) held at has = absurd has
+  knows_other follows time blanks users c table a other (Decided r drawn (Quiesce close)) held at has =
       store_on setup t e c a.call (λ own. absurd (other own)) (λ f.
       (stays_in_other setup setting t stands.legal e follows c other (ap is_in at)).relies f) close has
-  knows_other follows time blanks c table a other (Leave r x) held at has =
+  knows_other follows time blanks users c table a other (Leave r x) held at has =
       leave_on setup t e follows time stands.graces c x other (inside_is setup t c ∙ ap is_in at) has
 
-  call_other : MayFollow setup t e → KeepsTime setup t e → SparesBlanks setup t e → (c table : ℕ) → c ≢ e.core → (o : Option ActiveCall)
+  call_other : MayFollow setup t e → KeepsTime setup t e → SparesBlanks setup t e → KeepsUsers setup t e → (c table : ℕ) → c ≢ e.core → (o : Option ActiveCall)
       → ((w : Word) → (holds_in o).marks w ≡ true
       → (marked_by setup t w ≡ Some c) × (settled setup (held_by cores) t w ≡ (holds_in o).stands w))
       → CallIs setup t c table o
       → CallIs setup (e ∷ t) c table o
-  call_other follows time blanks c table other None held is = phase-other c e t other ∙ is
-  call_other follows time blanks c table other (Some a) held is = record {
+  call_other follows time blanks users c table other None held is = phase-other c e t other ∙ is
+  call_other follows time blanks users c table other (Some a) held is = record {
     phase = phase-other c e t other ∙ is.phase;
     steps = steps_in_call-other c e t other ∙ is.steps;
-    knows = knows_other follows time blanks c table a other a.stage held is.phase is.knows;
+    knows = knows_other follows time blanks users c table a other a.stage held is.phase is.knows;
     counts = counts_on setup t e c a.call (λ own. absurd (other own)) a.counts is.counts;
     apart = is.apart;
   }
@@ -275,9 +278,9 @@ module _ (setup : Setting) (setting : IsSetting setup) (cores : ℕ → Core) (t
       let mark = (stands.marks w c).kept is in
       (mark, ap (λ o. settled_by o (held_by cores) w (last_left setup t w)) mark)
 
-  core_other : MayFollow setup t e → KeepsTime setup t e → SparesBlanks setup t e → (c : ℕ) → c < setup.cores → c ≢ e.core
+  core_other : MayFollow setup t e → KeepsTime setup t e → SparesBlanks setup t e → KeepsUsers setup t e → (c : ℕ) → c < setup.cores → c ≢ e.core
       → CoreIs setup (cores c) t c → CoreIs setup (cores c) (e ∷ t) c
-  core_other follows time blanks c here other is =
+  core_other follows time blanks users c here other is =
       let core : Core = cores c in record {
         fits = is.fits;
         number = is.number;
@@ -286,7 +289,7 @@ module _ (setup : Setting) (setting : IsSetting setup) (cores : ℕ → Core) (t
         works = works_on setup t e core.own c (own_stays_other setup setting t stands.legal e follows c here other) is.works;
         exit = is.exit ∙ sym (exit_of-other c e t other);
         flushed = λ done. flush_stored-other c e t other ∙ is.flushed done ∙ sym (flush_of-other c e t other);
-        active = call_other follows time blanks c core.own.table other core.active (held_words c) is.active;
+        active = call_other follows time blanks users c core.own.table other core.active (held_words c) is.active;
       }
 
   -- no word carries the mark of a core that is between calls
@@ -314,7 +317,8 @@ module _ (setup : Setting) (setting : IsSetting setup) (cores : ℕ → Core) (t
       | inl own ↦ subst (λ k. CoreIs setup k (e ∷ t) c) (sym (put_same cores e.core after c own))
           (subst (λ (d : ℕ). CoreIs setup after (e ∷ t) d) (sym own) good.own)
       | inr other ↦ subst (λ k. CoreIs setup k (e ∷ t) c) (sym (put_other cores e.core after c other))
-          (core_other good.follows good.time good.blanks c here other (stands.each c here))
+          (core_other good.follows good.time good.blanks
+          (users_stay setup setting t stands.legal e good.follows good.leaves after good.own) c here other (stands.each c here))
     ];
     away = λ c past.
         let core : e.core < setup.cores = good.follows.is_core in

@@ -6,6 +6,7 @@ pub mod Markers
 pub mod Calm
 pub mod CountSums
 pub mod Sums
+pub mod Users
 pub mod Good
 pub mod Flushing
 pub mod Loads

@@ -5,7 +5,7 @@ use Rattle.std.proofs.lemmas.Bool.{false≢true, lt-leb}
 use Rattle.supported_calls.specs.Built.{IsBuilt}
 use Rattle.spk_nums.specs.Setting.{Setting, IsSetting}
 use Rattle.spk_nums.specs.declared.calls.Call.{Call}
-use Rattle.spk_nums.specs.declared.calls.Call.TheVariants.{Look, Copy, Remove, Shrink, Unmap, Retype, Make, Tick, Gate, Kill, Grow, Flush}
+use Rattle.spk_nums.specs.declared.calls.Call.TheVariants.{Look, Copy, Remove, Shrink, Unmap, Retype, Make, Tick, Gate, Kill, Grow, Flush, Map}
 use Rattle.spk_nums.specs.declared.replies.Reply.{Reply}
 use Rattle.spk_nums.specs.declared.replies.Reply.TheVariants as reply
 use Rattle.word_map.specs.Moves.{Move, word_of}
@@ -29,7 +29,7 @@ use Rattle.stage_look.specs.declared.look.Look.{Look as LookOf}
 use Rattle.stage_quiet.specs.declared.close.Close.TheVariants.{AtCompare, AtDraw, AtStore}
 use Rattle.stage_quiet.specs.declared.quiet.Quiet.TheVariants.{AtCore, AtFlush}
 use Rattle.call_acts.specs.declared.work.Act.{Act as ActOf}
-use Rattle.call_acts.specs.declared.work.Act.TheVariants.{Fill as fill_act, Remove as remove_act, Retype as type_act, Make as make_act, Outside, Tick as tick_act, Flush as flush_act, Kill as kill_act, Untype as untype_act}
+use Rattle.call_acts.specs.declared.work.Act.TheVariants.{Fill as fill_act, Remove as remove_act, Retype as type_act, Make as make_act, Outside, Tick as tick_act, Flush as flush_act, Kill as kill_act, Untype as untype_act, Map as map_act}
 use Rattle.call_acts.specs.declared.work.Work.{Work}
 use Rattle.call_acts.specs.declared.work.Work.TheVariants.{Lookup, Read, Scan, Acquire, Act}
 use Rattle.call_steps.specs.View.{Core}
@@ -69,6 +69,7 @@ built_owes s c (Copy a u b) built other = refl
 built_owes s c (Remove u b) built other = refl
 built_owes s c (Grow u i l) built other = refl
 built_owes s c (Shrink u i) built other = refl
+built_owes s c (Map p v r f w) built other = refl
 built_owes s c (Unmap p v) built other = refl
 built_owes s c (Retype r f k) built other = refl
 built_owes s c (Make what r f u b) built other = refl
@@ -84,6 +85,7 @@ ticks_in (fill_act fill) = false
 ticks_in (remove_act close cap) = false
 ticks_in (type_act typing) = false
 ticks_in (make_act m) = false
+ticks_in (map_act fill) = false
 ticks_in (Outside node entry word) = false
 ticks_in (tick_act charge) = true
 ticks_in (flush_act by) = false
@@ -116,6 +118,7 @@ module _ (setup : Setting) (t : Trace) (c table n : ℕ) where
   act_ticks plan ks upto (remove_act (AtStore node index x) cap) has is = has
   act_ticks plan ks upto (type_act typing) has is = has.types
   act_ticks plan ks upto (make_act m) has is = has.makes
+  act_ticks plan ks upto (map_act fill) has is = false≢true has.maps
   act_ticks plan ks upto (Outside node entry word) has is = has.outside
   act_ticks plan ks upto (tick_act charge) has is = false≢true (sym is)
   act_ticks plan ks upto (flush_act by) has is = no_flush has.call_is

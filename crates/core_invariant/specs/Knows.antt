@@ -18,7 +18,7 @@ use Rattle.spk_nums.specs.Setting.{Setting}
 use Rattle.spk_nums.specs.declared.kinds.Kind.{Kind}
 use Rattle.spk_nums.specs.declared.kinds.Kind.TheVariants.{Comp as comp_kind}
 use Rattle.spk_nums.specs.declared.calls.Call.{Call}
-use Rattle.spk_nums.specs.declared.calls.Call.TheVariants.{Retype, Make as make_call, Flush, Tick, Kill}
+use Rattle.spk_nums.specs.declared.calls.Call.TheVariants.{Retype, Make as make_call, Flush, Tick, Kill, Map}
 use Rattle.spk_nums.specs.declared.kinds.FrameKind.{FrameKind}
 use Rattle.spk_nums.specs.declared.kinds.FrameKind.TheVariants.{Untyped, Kernel as FrameKernel}
 use Rattle.frame_words.specs.Frame.{frame_of_word}
@@ -33,7 +33,7 @@ use Rattle.frame_words.specs.declared.comp_word.CompWord.{CompWord}
 use Rattle.frame_words.specs.declared.live_word.LiveWord.TheVariants as live_word
 use Rattle.word_map.specs.Word.{EntryAt, CountAt, FrameAt, LiveAt}
 use Rattle.word_map.specs.Places.{counter_of}
-use Rattle.kernel_rules.specs.State.{Thing, PlaceOf, State, first_of_stack, thread_of, comp_of, comp_in}
+use Rattle.kernel_rules.specs.State.{User, Thing, PlaceOf, State, first_of_stack, thread_of, comp_of, comp_in}
 use Rattle.kernel_rules.specs.Access.{Slot, Named, root_at, Target, Under, InRoot, usable, linked, root_slot, reached, found}
 use Rattle.kernel_rules.specs.Fitting.{fits}
 use Rattle.kernel_rules.specs.Relies.{IsGuarded, Relies}
@@ -66,7 +66,7 @@ use Rattle.call_acts.specs.declared.typings.TypingAt.TheVariants.{Load, Compare 
 use Rattle.call_acts.specs.Typings.{is_typing}
 use Rattle.kernel_rules.specs.CapabilityCalls.{has_frame}
 use Rattle.call_acts.specs.declared.work.Act.{Act as ActOf}
-use Rattle.call_acts.specs.declared.work.Act.TheVariants.{Fill as fill_act, Remove as remove_act, Retype as type_act, Make as make_act, Outside, Tick as tick_act, Flush as flush_act, Kill as kill_act, Untype as untype_act}
+use Rattle.call_acts.specs.declared.work.Act.TheVariants.{Fill as fill_act, Remove as remove_act, Retype as type_act, Make as make_act, Outside, Tick as tick_act, Flush as flush_act, Kill as kill_act, Untype as untype_act, Map as map_act}
 use Rattle.call_acts.specs.declared.work.Work.{Work}
 use Rattle.call_acts.specs.declared.work.Due.{Due}
 use Rattle.call_acts.specs.declared.work.Work.TheVariants.{Lookup, Read, Scan, Acquire, Act}
@@ -216,6 +216,10 @@ abbrev pub ReadIs : State → ℕ → Option ℕ → Option ℕ → Type 0
 ReadIs s c None read = Unit {0}
 ReadIs s c (Some f) read = IsRead s c f read
 
+-- A frame that the call maps is a user frame; of other calls nothing is asked.
+abbrev pub HasUser : State → Call → Type 0
+HasUser s (Map p v r f w) = s.frame f ≡ User
+HasUser s call = Unit {0}
 -- The slot of the target is reached, and the call's last step on its entry has read this word there, which it may fill; and what is to
 -- be put there is what the call puts.
 pub record IsFill (setup : Setting) (t : Trace) (c : ℕ) (call : Call) (plan : Plan) (found : List Capability) (upto : ℕ) (fill : Fill) :
@@ -229,6 +233,24 @@ pub record IsFill (setup : Setting) (t : Trace) (c : ℕ) (call : Call) (plan : 
   pub read : Option ℕ
   pub has_read : ReadIs (state_after setup t) c (reads_of call found) read
   pub puts : put_by call found read ≡ Some fill.cap
+  pub user : HasUser (state_after setup t) call
+
+abbrev pub is_mapping : Call → Bool
+is_mapping (Map p v r f w) = true
+is_mapping call = false
+
+abbrev pub mapped_frame : Call → ℕ
+mapped_frame (Map p v r f w) = f
+mapped_frame call = 0
+
+-- A call that maps a frame has reached its target as one that fills it, and puts there a mapping of the frame.
+pub record IsMapping (setup : Setting) (t : Trace) (c : ℕ) (call : Call) (plan : Plan) (found : List Capability) (upto : ℕ) (fill : Fill) :
+    Type 0 where
+  pub spot : IsSpot setup t c plan found upto fill.node fill.entry fill.word
+  pub fits : EntryFits (entry.Held fill.cap)
+  pub puts : put_by call found ≡ Some fill.cap
+  pub frame : fill.cap.frame ≡ mapped_frame call
+  pub maps : is_mapping call ≡ true
 
 -- A call that removes what its target holds has reached the target, and may use there what it removes.
 pub record IsRemoval (setup : Setting) (t : Trace) (c : ℕ) (call : Call) (plan : Plan) (found : List Capability) (node index : ℕ)
@@ -299,6 +321,7 @@ pub record IsOutside (made : Option NewObject) (has : Bool) : Type 0 where
 
 abbrev pub OutsideBy : Call → List Capability → Type 0
 OutsideBy (make_call what r f u b) (range ∷ ks) = IsOutside (object_made what (range ∷ ks)) (has_frame (found range) f)
+OutsideBy (Map p v r f w) (pages ∷ range ∷ ks) = has_frame (found range) f ≡ false
 OutsideBy call ks = ⊥
 
 -- The frame's word as it was found: that of a blank kernel frame which no core has marked.
@@ -408,6 +431,7 @@ KnowsAct setup t c call plan found upto (fill_act fill) = IsFill setup t c call 
 KnowsAct setup t c call plan found upto (remove_act close cap) = KnowsClose setup t c call plan found close cap
 KnowsAct setup t c call plan found upto (type_act typing) = KnowsTyping t c call found typing
 KnowsAct setup t c call plan found upto (make_act making) = KnowsMaking setup t c call plan found upto making
+KnowsAct setup t c call plan found upto (map_act fill) = IsMapping setup t c call plan found upto fill
 KnowsAct setup t c call plan found upto (Outside node entry word) = KnowsOutside setup t c call plan found upto node entry word
 KnowsAct setup t c call plan found upto (tick_act charge) = KnowsTick setup t c call charge
 KnowsAct setup t c call plan found upto (flush_act by) = KnowsFlushing c call by
@@ -425,6 +449,7 @@ is_start (fill_act fill) = true
 is_start (remove_act close cap) = is_first_of close
 is_start (type_act typing) = not (is_typing typing.at)
 is_start (make_act making) = not (is_marked making.at)
+is_start (map_act fill) = true
 is_start (Outside node entry word) = true
 is_start (tick_act charge) = not (is_charging charge)
 is_start (flush_act by) = true
@@ -446,6 +471,7 @@ goes_on act = true
 abbrev pub scanned_for : ActOf → Thing
 scanned_for (fill_act fill) = PlaceOf fill.node fill.entry
 scanned_for (make_act m) = PlaceOf m.fill.node m.fill.entry
+scanned_for (map_act fill) = PlaceOf fill.node fill.entry
 scanned_for (Outside node entry word) = PlaceOf node entry
 scanned_for act = PlaceOf 0 0
 

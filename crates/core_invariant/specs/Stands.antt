@@ -28,7 +28,7 @@ use Rattle.spk_nums.specs.declared.replies.Reply.{Reply}
 use Rattle.spk_nums.specs.declared.replies.Reply.TheVariants.{Ok}
 use Rattle.stage_pins.specs.declared.held.Acquired.{Acquired}
 use Rattle.call_acts.specs.declared.work.Act.{Act}
-use Rattle.call_acts.specs.declared.work.Act.TheVariants.{Fill, Remove, Retype, Make, Outside, Tick, Flush, Kill, Untype}
+use Rattle.call_acts.specs.declared.work.Act.TheVariants.{Fill, Remove, Retype, Make, Outside, Tick, Flush, Kill, Untype, Map as map_act}
 use Rattle.call_acts.specs.declared.work.Work.{Work}
 use Rattle.call_acts.specs.declared.work.Work.TheVariants.{Lookup, Read, Scan, Acquire, Act as act_work}
 use Rattle.call_acts.specs.declared.work.Tail.{Tail}
@@ -70,6 +70,7 @@ holds_act (Fill fill) h = h
 holds_act (Remove close cap) h = holds_closed close cap h
 holds_act (Retype typing) h = h
 holds_act (Make making) h = holds_making making.frame making.at h
+holds_act (map_act fill) h = h
 holds_act (Outside node entry word) h = h
 holds_act (Tick charge) h = h
 holds_act (Flush by) h = h

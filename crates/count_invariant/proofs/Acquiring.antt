@@ -15,7 +15,7 @@ use Rattle.std.proofs.lemmas.List.Elements.{All-nil, All-cons, All-head, All-tai
 use Rattle.spk_nums.specs.Setting.{Setting, IsSetting}
 use Rattle.spk_nums.specs.Capability.{Capability}
 use Rattle.spk_nums.specs.declared.calls.Call.{Call}
-use Rattle.spk_nums.specs.declared.calls.Call.TheVariants.{Look, Copy, Remove, Shrink, Unmap, Retype, Make as make_call, Tick, Gate, Kill, Grow, Flush}
+use Rattle.spk_nums.specs.declared.calls.Call.TheVariants.{Look, Copy, Remove, Shrink, Unmap, Retype, Make as make_call, Tick, Gate, Kill, Grow, Flush, Map}
 use Rattle.spk_nums.specs.declared.replies.Reply.{Reply}
 use Rattle.spk_nums.specs.declared.replies.Reply.TheVariants as reply
 use Rattle.supported_calls.specs.Built.{IsBuilt}
@@ -58,7 +58,7 @@ use Rattle.stage_pins.specs.declared.pin.Pin.{Pin}
 use Rattle.stage_pins.specs.declared.pin.Pin.TheVariants.{AtLoad, AtCompare}
 use Rattle.stage_pins.specs.declared.held.Acquired.{Acquired}
 use Rattle.stage_pins.proofs.PinLemmas.{changed_none}
-use Rattle.call_plans.specs.declared.plans.Nth.TheVariants.{First}
+use Rattle.call_plans.specs.declared.plans.Nth.TheVariants.{First, Second}
 use Rattle.call_plans.specs.PlanOf.{plan_for}
 use Rattle.call_plans.specs.After.{Leads, LeadsIn}
 use Rattle.call_plans.specs.declared.plans.Plan.{Plan}
@@ -69,13 +69,13 @@ use Rattle.plan_ways.proofs.Near.{one_left, one_right, near_about, near_found}
 use Rattle.call_plans.specs.GoesBy.{GoesBy, own_pages}
 use Rattle.call_plans.proofs.CallsGoBy.{calls_go}
 use Rattle.count_invariant.proofs.MakingCounts.{no_due, made_counts, made_changes, made_argument, due_near, made_left, due_named}
-use Rattle.count_invariant.proofs.LinkCounts.{link_near}
+use Rattle.count_invariant.proofs.LinkCounts.{link_near, page_near}
 use Rattle.count_invariant.proofs.KillingCounts.{kill_counts, kill_near, killing_due}
 use Rattle.look_invariant.proofs.Findings.{found_named}
 use Rattle.call_acts.specs.declared.refusals.Refusal.TheVariants as refusal
 use Rattle.call_acts.specs.declared.work.Due.{Due}
 use Rattle.call_acts.specs.declared.work.Act.{Act as ActOf}
-use Rattle.call_acts.specs.declared.work.Act.TheVariants.{Fill as fill_act, Remove as remove_act, Retype as type_act, Make as make_act, Outside, Tick as tick_act, Flush as flush_act, Kill as kill_act, Untype as untype_act}
+use Rattle.call_acts.specs.declared.work.Act.TheVariants.{Fill as fill_act, Remove as remove_act, Retype as type_act, Make as make_act, Outside, Tick as tick_act, Flush as flush_act, Kill as kill_act, Untype as untype_act, Map as map_act}
 use Rattle.call_acts.specs.declared.work.Tail.TheVariants.{Nothing}
 use Rattle.call_acts.specs.declared.work.Work.TheVariants.{Acquire}
 use Rattle.call_steps.specs.declared.stages.Stage.TheVariants.{Undecided, Decided}
@@ -94,7 +94,7 @@ use Rattle.core_invariant.specs.Holding.{Holding, count_of, committed, holds_cou
 use Rattle.core_invariant.specs.Words.{SaysCount, count_room}
 use Rattle.core_invariant.specs.Knows.{AreDuesApart, own_in, HasFound, NamesAre, due_of, pin_frame, pin_core, IsRemoval, KnowsClose, KnowsAct, KnowsWork, KnowsUndecided, IsCount, HasRead, phase_at, KnowsTail, goes_on, is_counting}
 use Rattle.core_invariant.specs.Stands.{done_by, holds_act, holds_work, holds_at, holds_in, holds, held_by, Stands, holds_tail, holds_making, holds_killing}
-use Rattle.core_invariant.proofs.Carries.{names_on, act_on, counts_on, ReadsSame}
+use Rattle.core_invariant.proofs.Carries.{names_on, act_on, counts_on, KeepsUsers, ReadsSame}
 use Rattle.core_invariant.proofs.Writes.{same_marks}
 use Rattle.core_invariant.proofs.Good.{IsGood, spares_other}
 use Rattle.core_invariant.proofs.Counting as counters
@@ -187,6 +187,7 @@ undo_holds (make_act m) h is = by m.at
     by (Mark word) = refl
     by (Store word entry) = refl
     by (making_fill word) = refl
+undo_holds (map_act fill) h is = refl
 undo_holds (Outside node entry word) h is = refl
 undo_holds (tick_act charge) h is = refl
 undo_holds (flush_act core) h is = refl
@@ -216,6 +217,7 @@ next_holds core n act h = acquires_holds core act (slice_get (dues act) n) h
 act_count : (act : ActOf) (h : Holding) (f d : ℕ) → ((holds_act act h).marks (CountAt f d) ≡ h.marks (CountAt f d))
     × ((holds_act act h).stands (CountAt f d) ≡ h.stands (CountAt f d))
 act_count (fill_act fill) h f d = (refl, refl)
+act_count (map_act fill) h f d = (refl, refl)
 act_count (remove_act (close_compare node index word by) cap) h f d = (refl, refl)
 act_count (remove_act (AtDraw node index) cap) h f d = (refl, refl)
 act_count (remove_act (AtStore node index x) cap) h f d = (refl, refl)
@@ -251,6 +253,7 @@ keeps_over v w x h g same = (
 act_over : (act : ActOf) (h g : Holding) (w : Word) → (h.marks w ≡ g.marks w) × (h.stands w ≡ g.stands w)
     → ((holds_act act h).marks w ≡ (holds_act act g).marks w) × ((holds_act act h).stands w ≡ (holds_act act g).stands w)
 act_over (fill_act fill) h g w same = same
+act_over (map_act fill) h g w same = same
 act_over (remove_act (close_compare node index word by) cap) h g w same = same
 act_over (remove_act (AtDraw node index) cap) h g w same = keeps_over (EntryAt node index) w (word_of_entry (Held cap)) h g same
 act_over (remove_act (AtStore node index x) cap) h g w same = same
@@ -282,6 +285,7 @@ counts_plain (fill_act fill) before due rest is = refl
 counts_plain (remove_act close cap) before due rest is = refl
 counts_plain (type_act typing) before due rest is = refl
 counts_plain (make_act m) before due rest is = refl
+counts_plain (map_act fill) before due rest is = refl
 counts_plain (Outside node entry word) before due rest is = refl
 counts_plain (tick_act charge) before due rest is = absurd (no_due before due rest is)
 counts_plain (flush_act core) before due rest is = refl
@@ -296,6 +300,7 @@ put_counts (Copy a u b) built ks read k puts = refl
 put_counts (Grow u i l) built ks read k puts = refl
 put_counts (Remove u b) built ks read k puts = absurd (cc)
 put_counts (Shrink u i) built ks read k puts = absurd (cc)
+put_counts (Map p v r f w) built ks read k puts = refl
 put_counts (Unmap p v) built ks read k puts = absurd (cc)
 put_counts (Retype r f j) built ks read k puts = absurd (cc)
 put_counts (make_call what r f u b) built ks read k puts = absurd (cc)
@@ -348,6 +353,7 @@ put_near s c (Copy a u b) built ks read k puts lead f names_it = near_found s c 
 put_near s c (Grow u i l) built ks read k puts lead f names_it = link_near s c u i l ks k puts lead f names_it
 put_near s c (Remove u b) built ks read k puts lead f names_it = absurd (cc)
 put_near s c (Shrink u i) built ks read k puts lead f names_it = absurd (cc)
+put_near s c (Map p v r g w) built ks read k puts lead f names_it = page_near s c p v r g w (at_place ks Second) k puts f names_it
 put_near s c (Unmap p v) built ks read k puts lead f names_it = absurd (cc)
 put_near s c (Retype r g j) built ks read k puts lead f names_it = absurd (cc)
 put_near s c (make_call what r g u b) built ks read k puts lead f names_it = absurd (cc)
@@ -440,12 +446,13 @@ module _ (setup : Setting) (setting : IsSetting setup) (cores : ℕ → Core) (t
   kept e own none is w apart =
       own_read-there c e t own w (λ h. apart (h ∙ is)) ∙ ap (λ o. cond (is_some o) None (own_read t c w)) none
 
-  reads_kept : (e : Step) → c ≡ e.core → e.enters ≡ None → word_of e.move ≡ at → ReadsSame setup t e c act
-  reads_kept e own none is = record {
+  reads_kept : (e : Step) → c ≡ e.core → e.enters ≡ None → word_of e.move ≡ at → KeepsUsers setup t e → ReadsSame setup t e c act
+  reads_kept e own none is users = record {
     entries = λ f i. kept e own none is (EntryAt f i) (entry_apart f i);
     frames = λ f. kept e own none is (FrameAt f) (frame_apart f);
     numbers = λ l. kept e own none is (LiveAt l) (number_apart l);
     stored = λ f i marked. last_left-there setup (EntryAt f i) e t (λ h. entry_apart f i (h ∙ is));
+    users = users;
   }
     where
       entry_apart : (f i : ℕ) → EntryAt f i ≢ at
@@ -482,7 +489,7 @@ module _ (setup : Setting) (setting : IsSetting setup) (cores : ℕ → Core) (t
         names = names_on setup setting t e stands.legal c a.call is_open carries (cores c).own.table a.plan a.found has.names;
         knows = record {
           knows = act_on setup setting t e stands.legal c a.call is_open carries a.call a.plan a.found setup.cores act
-              (reads_kept e refl refl refl) has.knows.knows;
+              (reads_kept e refl refl refl (λ f same. same)) has.knows.knows;
           rest = has.knows.rest;
           due = has.knows.due ∙ ap (λ (f : ℕ). map due_of a.counts ++ record { frame = f; change = change } ∷ has.knows.rest) frame_is;
           apart = has.knows.apart;
@@ -621,7 +628,7 @@ module _ (setup : Setting) (setting : IsSetting setup) (cores : ℕ → Core) (t
             knows = knows_next setup (e ∷ t) c (cores c).own.table (more grown) (cores c).own.core act has.knows.rest
                 (stands.each c here).number
                 (act_on setup setting t e stands.legal c a.call is_open carries a.call a.plan a.found setup.cores act
-                (reads_kept e refl refl refl) has.knows.knows)
+                (reads_kept e refl refl refl (λ f same. same)) has.knows.knows)
                 (has.knows.due ∙ ap (λ (f : ℕ). map due_of a.counts ++ record { frame = f; change = change } ∷ has.knows.rest) frame_is
                 ∙ sym (ap (λ ds. ds ++ has.knows.rest) (map_more a.counts x) ∙ after_one (map due_of a.counts) (due_of x) has.knows.rest))
                 has.knows.apart
@@ -756,6 +763,14 @@ acquire_good setup setting cores t stands c here a active pin change (fill_act f
     has.knows.knows.puts)
     (λ b. put_near (state_after setup t) c a.call (is_active setup setting cores t stands c here a active).built a.found
     has.knows.knows.read fill.cap
+    has.knows.knows.puts
+    (call_leads setup setting cores t stands c here a active has.names) (pin_frame pin)
+    (due_named (named_by fill.cap.kind fill.cap.frame) (pos 1) (map due_of a.counts) (record { frame = pin_frame pin; change = change })
+    has.knows.rest has.knows.due)) (λ e. tt) refl
+acquire_good setup setting cores t stands c here a active pin change (map_act fill) is has =
+    acquire_near setup setting cores t stands c here a active pin change (map_act fill) is has
+    (put_counts a.call (is_active setup setting cores t stands c here a active).built a.found fill.cap has.knows.knows.puts)
+    (λ b. put_near (state_after setup t) c a.call (is_active setup setting cores t stands c here a active).built a.found fill.cap
     has.knows.knows.puts
     (call_leads setup setting cores t stands c here a active has.names) (pin_frame pin)
     (due_named (named_by fill.cap.kind fill.cap.frame) (pos 1) (map due_of a.counts) (record { frame = pin_frame pin; change = change })

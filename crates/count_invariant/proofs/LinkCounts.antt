@@ -1,13 +1,14 @@
--- The count of a leaf that a grow links is near the call: its second name has led to the leaf.
-use Rattle.std.proofs.Common.{◌≡◌, ℕ, true, List, [], ◌∷◌, Some, refl, ◌∙◌, ap}
+-- The count of a leaf that a grow links is near the call: its second name has led to the leaf. And so is that of a frame that a map maps, its
+-- argument.
+use Rattle.std.proofs.Common.{◌≡◌, ℕ, Bool, true, false, if◌then◌else◌, List, [], ◌∷◌, Option, Some, None, refl, ◌∙◌, ap}
 use Rattle.spk_nums.specs.Capability.{Capability}
 use Rattle.spk_nums.specs.declared.kinds.Kind.{Kind}
 use Rattle.spk_nums.specs.declared.kinds.Kind.TheVariants as kind
-use Rattle.spk_nums.specs.declared.calls.Call.TheVariants.{Grow}
+use Rattle.spk_nums.specs.declared.calls.Call.TheVariants.{Grow, Map}
 use Rattle.kernel_rules.specs.State.{State}
 use Rattle.kernel_rules.specs.Start.{plain_cap}
 use Rattle.kernel_rules.specs.Access.{found, only}
-use Rattle.kernel_rules.specs.CapabilityCalls.{leaf_of, leaf_for}
+use Rattle.kernel_rules.specs.CapabilityCalls.{leaf_of, leaf_for, has_frame}
 use Rattle.kernel_rules.specs.References.{named_by}
 use Rattle.kernel_history.specs.Footprint.{is_one_of, frames_near}
 use Rattle.call_plans.specs.declared.plans.Nth.TheVariants.{Second}
@@ -15,8 +16,9 @@ use Rattle.call_plans.specs.Plans.{at_place}
 use Rattle.call_plans.specs.PlanOf.{plan_for}
 use Rattle.call_plans.specs.After.{Leads, LeadsIn}
 use Rattle.plan_ways.proofs.Near.{near_found}
-use Rattle.call_acts.specs.Acts.{link_to}
-use Rattle.count_invariant.proofs.MakingCounts.{named_kind}
+use Rattle.spk_nums.specs.declared.kinds.PageFlags.{PageFlags}
+use Rattle.call_acts.specs.Acts.{link_to, page_cap, page_of}
+use Rattle.count_invariant.proofs.MakingCounts.{argument_near, named_kind}
 
 -- A leaf names its frame.
 no_range : (root : Kind) → only (leaf_of root) kind.Range ≡ true → ⊥
@@ -39,3 +41,13 @@ link_near s c u i l (x ∷ y ∷ ks) k puts lead f names_it =
     near_found s c (Grow u i l) (x ∷ y ∷ ks) lead Second y refl f
     (ap (is_one_of f) (leaf_names x.kind y.kind y.frame (named_kind s c l (leaf_for (found x)) y lead.1.0))
     ∙ ap (λ (q : Capability). is_one_of f (named_by q.kind q.frame)) (same_cap (plain_cap kind.Link y.frame) k puts) ∙ names_it)
+
+pub page_near : (s : State) (c p v r g : ℕ) (w : PageFlags) (range : Option Capability) (k : Capability) → page_of range g w ≡ Some k
+    → (f : ℕ) → is_one_of f (named_by k.kind k.frame) ≡ true → is_one_of f (frames_near s c (Map p v r g w)) ≡ true
+page_near s c p v r g w None k puts f names_it = absurd (cc)
+page_near s c p v r g w (Some range) k puts f names_it = by (has_frame (found range) g) puts
+  where
+    by : (has : Bool) → (if has then Some (page_cap g w) else None) ≡ Some k → is_one_of f (frames_near s c (Map p v r g w)) ≡ true
+    by true is = argument_near s c (Map p v r g w) f
+        (ap (λ (q : Capability). is_one_of f (named_by q.kind q.frame)) (same_cap (page_cap g w) k is) ∙ names_it)
+    by false is = absurd (cc)

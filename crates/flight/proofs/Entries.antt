@@ -5,7 +5,7 @@ use Rattle.spk_nums.specs.Setting.{Setting, IsSetting}
 use Rattle.spk_nums.specs.declared.kinds.Kind.{Kind}
 use Rattle.spk_nums.specs.declared.calls.Call.{Call}
 use Rattle.spk_nums.specs.declared.kinds.FrameKind.TheVariants.{Untyped, User, Kernel}
-use Rattle.spk_nums.specs.declared.calls.Call.TheVariants.{Look as look_call, Copy, Remove, Shrink, Unmap, Retype, Make as make_call, Tick, Gate, Kill, Grow, Flush}
+use Rattle.spk_nums.specs.declared.calls.Call.TheVariants.{Look as look_call, Copy, Remove, Shrink, Unmap, Retype, Make as make_call, Tick, Gate, Kill, Grow, Flush, Map}
 use Rattle.spk_nums.specs.declared.calls.Make.TheVariants as make
 use Rattle.spk_nums.specs.declared.replies.Reply.TheVariants as reply
 use Rattle.supported_calls.specs.Built.{IsBuilt}
@@ -251,6 +251,7 @@ module _ (setup : Setting) (setting : IsSetting setup) (cores : ℕ → Core) (t
   enters_first (Grow u i l) may built unspent = enters_name setup setting cores t stands c here (Grow u i l) may u _ refl unspent
   enters_first (Remove u b) may built unspent = enters_name setup setting cores t stands c here (Remove u b) may u _ refl unspent
   enters_first (Shrink u i) may built unspent = enters_name setup setting cores t stands c here (Shrink u i) may u _ refl unspent
+  enters_first (Map p v r f w) may built unspent = enters_name setup setting cores t stands c here (Map p v r f w) may p _ refl unspent
   enters_first (Unmap p v) may built unspent = enters_name setup setting cores t stands c here (Unmap p v) may p _ refl unspent
   enters_first (Retype r f Untyped) may built unspent = absurd built
   enters_first (Retype r f User) may built unspent =

@@ -42,7 +42,7 @@ use Rattle.stage_quiet.specs.declared.quiet.Quiet.TheVariants.{AtCore, AtFlush}
 use Rattle.stage_quiet.specs.Removal.{close_move}
 use Rattle.call_plans.specs.After.{Next, NextName, NextFree, NextHeld, NextOwn, NextNothing, next_of}
 use Rattle.call_acts.specs.declared.own.Own.{Own}
-use Rattle.call_acts.specs.declared.work.Act.TheVariants.{Fill, Remove, Retype, Make, Outside, Tick as tick_act, Flush, Kill, Untype}
+use Rattle.call_acts.specs.declared.work.Act.TheVariants.{Fill, Remove, Retype, Make, Outside, Tick as tick_act, Flush, Kill, Untype, Map as map_act}
 use Rattle.call_acts.specs.declared.typings.Typing.{Typing}
 use Rattle.call_acts.specs.declared.typings.TypingAt.{TypingAt}
 use Rattle.call_acts.specs.declared.typings.TypingAt.TheVariants.{Load, Compare as type_compare}
@@ -175,6 +175,7 @@ module _ (setup : Setting) (setting : IsSetting setup) (t : Trace) (cores : ℕ 
   by_work table a (Act (Remove close cap)) has on read = by_close a close cap has.knows on
   by_work table a (Act (Retype typing)) has on read = by_typing typing.frame typing typing.at on
   by_work table a (Act (Make m)) has on read = by_making a m.frame m.object m.core m.fill m.at has.knows.spot on read
+  by_work table a (Act (map_act fill)) has on read = absurd (cc)
   by_work table a (Act (Outside node entry word)) has on read = absurd (false≢true has.goes)
   by_work table a (Act (tick_act charge)) has on read = by_charge a.call charge has.knows.charges on
   by_work table a (Act (Flush core)) has on read = absurd (cc)

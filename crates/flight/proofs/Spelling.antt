@@ -25,7 +25,7 @@ use Rattle.call_acts.specs.Untypings.{UntypingAtFits, untyping_at, release_at}
 use Rattle.word_map.specs.Word.{CountAt}
 use Rattle.call_acts.specs.declared.own.Own.{Own}
 use Rattle.call_acts.specs.declared.work.Act.{Act}
-use Rattle.call_acts.specs.declared.work.Act.TheVariants.{Fill, Remove, Retype, Make, Outside, Tick, Flush, Kill, Untype}
+use Rattle.call_acts.specs.declared.work.Act.TheVariants.{Fill, Remove, Retype, Make, Outside, Tick, Flush, Kill, Untype, Map as map_act}
 use Rattle.spk_nums.specs.declared.kinds.FrameKind.{FrameKind}
 use Rattle.call_acts.specs.declared.typings.TypingAt.{TypingAt}
 use Rattle.call_acts.specs.declared.typings.TypingAt.TheVariants.{Load, Compare as type_compare}
@@ -135,6 +135,7 @@ act_named s (Fill fill) fits = refl
 act_named s (Remove close cap) fits = close_named close
 act_named s (Retype typing) fits = typing_named typing.frame typing.kind typing.at
 act_named s (Make m) fits = making_named m.frame m.object m.core m.fill m.at
+act_named s (map_act fill) fits = refl
 act_named s (Outside node entry word) fits = refl
 act_named s (Tick charge) fits = charge_named charge
 act_named s (Flush core) fits = refl
@@ -217,6 +218,7 @@ act_in shape (Fill fill) fits = (fits.node, fits.entry)
 act_in shape (Remove close cap) fits = close_is_in shape close fits.0
 act_in shape (Retype typing) fits = typing_in shape typing.frame typing.kind typing.at fits
 act_in shape (Make m) fits = making_in shape m.frame m.object m.core m.fill m.at fits.frame fits.fill fits.at
+act_in shape (map_act fill) fits = fits.1
 act_in shape (Outside node entry word) fits = fits
 act_in shape (Tick charge) fits = charge_is_in shape charge fits
 act_in shape (Flush core) fits = tt

@@ -219,7 +219,16 @@ fn a_new_table_with_a_new_leaf_is_filled_and_emptied(rt: HostRuntime) -> Result<
         "  20 table 8\n  21 leaf 9\n",
         "frame 8 table refs 1\n  1 link 9\nframe 9 leaf refs 2\n  5 range 8 24\n",
     )?;
-    assert!(rt; is_made(&rt, alloc, &["plain"], lines, replies, &made)?);
+    assert!(rt;
+        is_made(
+            &rt,
+            alloc,
+            &["replay", "run", "plain"],
+            lines,
+            replies,
+            &made
+        )?
+    );
     Ok(())
 }
 

@@ -2,12 +2,12 @@
 //! and 8), compares the root entry, which decides (9), commits the count (10) and leaves (11 and 12). Where the entry is quiescing it scans
 //! between 6 and 7: the other core's word, and for a page table then the flush words of both cores.
 
+use crate::shared::{Added, ends, items_of, order_of, steps, tables};
 use core_kernel::FreeGate;
 use speck_run::Status;
 use std::alloc::Global;
 use std::test::Fail;
-use std::thread::Threads;
-use test_machine::{AMPLE, FROM_ENTRIES, MACHINE, TO_ENTRIES, answers, place_of, runs};
+use test_machine::{AMPLE, MACHINE, answers, place_of, runs};
 
 // A leaf in frame 8, named by 20, and a leaf of a page table in frame 9, named by 21.
 const LEAVES: &str =
@@ -16,70 +16,9 @@ const LEAVES: &str =
 const LEAVES_MADE: &str =
     "0.1 retype 0 8 kernel = ok\n0.2 make leaf 0 8 1 20 = ok\n0.3 retype 0 9 kernel = ok\n0.4 make pleaf 0 9 1 21 = ok\n";
 
-// What the tables of the start have besides: the entries of the table's root, of its leaf and of the pages' root, and what is in frames 8
-// and on.
-struct Added<'a> {
-    root: &'a str,
-    leaf: &'a str,
-    pages: &'a str,
-    frames: &'a str,
-}
-
-fn tables(alloc: Global, added: &Added) -> Result<String, Fail> {
-    let leaf = added.leaf;
-    let start = format!(in alloc; "{TO_ENTRIES}{leaf}{FROM_ENTRIES}")?;
-    let root = added.root;
-    let root = format!(in alloc; "  0 link 1\n{root}")?;
-    let text = start.replace(alloc, "  0 link 1\n", &root)?;
-    let pages = added.pages;
-    let pages = format!(in alloc; "pages refs 2\n{pages}")?;
-    let text = text.replace(alloc, "pages refs 2\n", &pages)?;
-    let frames = added.frames;
-    let frames = format!(in alloc; "{frames}live 0 epoch")?;
-    let text = text.replace(alloc, "live 0 epoch", &frames)?;
-    Ok(text)
-}
-
-// Whether the script of these lines ends with these reply lines and tables by each of these commands.
-fn ends<R: Threads + Sync>(
-    rt: &R,
-    alloc: Global,
-    commands: &[&str],
-    lines: &str,
-    replies: &str,
-    added: &Added,
-) -> Result<bool, Fail> {
-    let script = format!(in alloc; "{MACHINE}{lines}")?;
-    let tables = tables(alloc, added)?;
-    let text = format!(in alloc; "{replies}{tables}")?;
-    for command in commands.iter() {
-        if !answers(
-            rt,
-            alloc,
-            &[*command],
-            script.as_bytes(),
-            &AMPLE,
-            Status::Done,
-            &text,
-        )? {
-            return Ok(false);
-        }
-    }
-    Ok(true)
-}
-
 const BOTH: &str = "  20 leaf 8\n  21 pleaf 9\n";
 
 const UNLINKED: &str = "frame 8 leaf refs 1\nframe 9 pleaf refs 1\n";
-
-// The items by which core 0 makes so many steps.
-fn steps(alloc: Global, core: u8, number: usize) -> Result<String, Fail> {
-    let mut items = String::new(alloc);
-    for _ in 0..number {
-        write!(items, "{core} ")?;
-    }
-    Ok(items)
-}
 
 #[test]
 fn both_kinds_of_root_take_a_leaf_of_theirs(rt: HostRuntime) -> Result<(), Fail> {
@@ -255,26 +194,6 @@ fn a_shrunk_entry_of_pages_waits_for_flushes_too(rt: HostRuntime) -> Result<(), 
         );
     }
     Ok(())
-}
-
-// The order of two cores that is this number's: bit by bit the core that steps next, where core 1 makes so many of the steps.
-fn order_of(number: u32, length: usize, ones: u32) -> Option<[u8; 12]> {
-    if number.count_ones() != ones {
-        return None;
-    }
-    let mut order = [2; 12];
-    for at in 0..length {
-        order[at] = if number & (1u32 << at) == 0 { 0 } else { 1 };
-    }
-    Some(order)
-}
-
-fn items_of(alloc: Global, order: &[u8]) -> Result<String, Fail> {
-    let mut items = String::new(alloc);
-    for core in order.iter() {
-        write!(items, "{core} ")?;
-    }
-    Ok(items)
 }
 
 // Core 0 grows an entry by one leaf and core 1 by another, and their steps on it come in every order: the load of the entry, the two on

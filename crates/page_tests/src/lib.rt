@@ -1,4 +1,4 @@
-//! Tests of the calls that fill places of roots and of page tables: `grow`.
+//! Tests of the calls that fill places of roots and of page tables: `grow` and `map`.
 #![tactic(auto)]
 
 #[cfg(test)]
@@ -7,3 +7,7 @@ mod grows;
 #![tactic(auto)]
 #[cfg(test)]
 mod flushes;
+#[cfg(test)]
+mod maps;
+#[cfg(test)]
+mod shared;

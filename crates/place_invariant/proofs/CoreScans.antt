@@ -220,6 +220,7 @@ module _ (setup : Setting) (setting : IsSetting setup) (cores : ℕ → Core) (t
           frames = λ f. own_read-there c e t refl (FrameAt f) (frame_apart f);
           numbers = λ l. own_read-there c e t refl (LiveAt l) (number_apart l);
           stored = λ f i marked. last_left-there setup (EntryAt f i) e t (entry_apart f i);
+          users = λ f is. is;
         }
 
     carried : (upto : ℕ) → KnowsAct setup t c a.call a.plan a.found upto act

@@ -1,13 +1,13 @@
 -- The filling compare of a copy is good: it is lost to another core, or the place is free and takes the capability.
 use Rattle.core_invariant.proofs.Good.{spares_node}
-use Rattle.std.proofs.Common.{◌≡◌, ◌≢◌, ◌⊎◌, inl, inr, ℕ, pos, length, ◌≤◌, ◌+◌, ◌^◌, ◌/◌, ◌%◌, ◌<◌, ◌==◌, ◌&&◌, nat_le, if◌then◌else◌, ◌∷◌, [], Bool, true, false, List, Option, Some, None, arith, refl, sym, ◌∙◌, ap, subst, IsTrue, ◌+ℤ◌, max}
+use Rattle.std.proofs.Common.{◌≡◌, ◌≢◌, ◌⊎◌, inl, inr, not, ℕ, pos, length, ◌≤◌, ◌+◌, ◌^◌, ◌/◌, ◌%◌, ◌<◌, ◌==◌, ◌&&◌, nat_le, if◌then◌else◌, ◌∷◌, [], Bool, true, false, List, Option, Some, None, arith, refl, sym, ◌∙◌, ap, subst, IsTrue, ◌+ℤ◌, max}
 use Rattle.std.specs.Prelude.{option_to_list}
 use Rattle.std.proofs.lemmas.Bool.{eqb-true, eqb-false, eq-eqb, false≢true}
 use Rattle.spk_nums.specs.Capability.{Capability}
 use Rattle.spk_nums.specs.Setting.{Setting, IsSetting}
 use Rattle.spk_nums.specs.declared.kinds.Kind.TheVariants as kind
 use Rattle.spk_nums.specs.declared.calls.Call.{Call}
-use Rattle.spk_nums.specs.declared.calls.Call.TheVariants.{Look, Copy, Remove, Shrink, Unmap, Retype, Make as make_call, Tick, Gate, Kill, Grow, Flush}
+use Rattle.spk_nums.specs.declared.calls.Call.TheVariants.{Look, Copy, Remove, Shrink, Unmap, Retype, Make as make_call, Tick, Gate, Kill, Grow, Flush, Map}
 use Rattle.spk_nums.specs.declared.kinds.Kind.{Kind}
 use Rattle.supported_calls.specs.Built.{IsBuilt}
 use Rattle.spk_nums.specs.declared.replies.Value.TheVariants.{Nothing}
@@ -19,10 +19,13 @@ use Rattle.entry_words.proofs.Spelling.{spelling}
 use Rattle.word_map.specs.Word.{Word, EntryAt, CountAt}
 use Rattle.word_map.specs.Moves.{Move, CompareOf, left_of}
 use Rattle.spk_nums.specs.WordSteps.{left_if}
-use Rattle.kernel_rules.specs.State.{Place, comp_of, comp_in, Free as Vacant, Holds, Quiescing as Removed, Frame, Kernel, Table, Leaf, Pages, Pleaf, Thing, PlaceOf, FrameOf, State, with_place}
+use Rattle.kernel_rules.specs.State.{Place, comp_of, comp_in, Free as Vacant, Holds, Quiescing as Removed, Frame, Kernel, Table, Leaf, Pages, Pleaf, Thing, PlaceOf, FrameOf, State, with_place, User}
 use Rattle.kernel_rules.specs.Start.{plain_cap}
 use Rattle.kernel_rules.specs.Access.{Slot, found, Target, Under, InRoot, only, place_at, usable_in, linked, slot_in, root_slot, reached, own}
-use Rattle.kernel_rules.specs.Rules.{Found, IsFoundAnd, Vacant as to_be_free, Does, and_then, or_refuse, unless, not_vacant, named, outcome, fills}
+use Rattle.spk_nums.specs.declared.kinds.PageFlags.{PageFlags}
+use Rattle.kernel_rules.specs.CapabilityCalls.{has_frame, outside, is_frame}
+use Rattle.kernel_rules.specs.MemoryCalls.{is_user, not_user}
+use Rattle.kernel_rules.specs.Rules.{Cause, first_cause, first_of, Found, IsFoundAnd, Vacant as to_be_free, Does, and_then, or_refuse, unless, not_vacant, named, outcome, fills}
 use Rattle.kernel_rules.specs.CallRelation.{MayReply, rule_of, ends_by, flushes_by, changed, change_of, counted, begins_in}
 use Rattle.kernel_rules.specs.Laws.{calls_counted}
 use Rattle.kernel_rules.specs.Relies.{is_node}
@@ -53,7 +56,7 @@ use Rattle.call_acts.specs.declared.work.Tail.TheVariants.{Nothing as no_tail}
 use Rattle.call_steps.specs.declared.stages.Stage.TheVariants.{Undecided, Decided}
 use Rattle.call_steps.specs.declared.stages.ActiveCall.{ActiveCall}
 use Rattle.call_acts.specs.Fills.{FillFits, filled_if, fill_move}
-use Rattle.call_acts.specs.Acts.{cap_dues, gate_if, gate_to, put_by, reads_of}
+use Rattle.call_acts.specs.Acts.{cap_dues, gate_if, gate_to, put_by, reads_of, page_cap}
 use Rattle.call_steps.proofs.StepsFit.{cap_one}
 use Rattle.kernel_rules.specs.References.{named_by, times, refs}
 use Rattle.core_invariant.proofs.WordFrames.{reads_alike}
@@ -70,7 +73,7 @@ use Rattle.call_steps.specs.Steps.{landed}
 use Rattle.call_steps.specs.View.{Core}
 use Rattle.call_steps.specs.Fits.{StageFits, HasRoom}
 use Rattle.core_invariant.specs.Words.{PlaceIs, IsFrameWord, WordIs}
-use Rattle.core_invariant.specs.Knows.{HasFound, IsRead, ReadIs, MayFill, KnowsUndecided, own_in, phase_at}
+use Rattle.core_invariant.specs.Knows.{HasFound, IsRead, ReadIs, MayFill, KnowsUndecided, own_in, phase_at, HasUser}
 use Rattle.core_invariant.specs.Stands.{holds_at, holds_in, holds, times_of, Stands}
 use Rattle.core_invariant.proofs.Carries.{own_kept, slot_relies}
 use Rattle.core_invariant.proofs.Loads.{IsOfCall, next_at, core_at, inner, call_is, is_active}
@@ -80,21 +83,26 @@ use Rattle.look_invariant.proofs.Lookups.{slot_right, slot_one, near_way}
 use Rattle.look_invariant.proofs.Findings.{own_is, found_named, way_gone}
 use Rattle.look_invariant.proofs.Next.{Rest, ANameLeft, NoneLeft, rest_of, next_name}
 
--- What a call puts at its target: what is left of its rule after its names fills the target with k, and it changes places alone.
+-- What a call puts at its target: what is left of its rule after its names fills the target with k, where no own cause stands, and it changes
+-- places alone.
 record Puts (s : State) (c : ℕ) (call : Call) (ks : List Capability) (target : Target) (k : Capability) : Type 0 where
-  rule : rule_after (rule_of s c call) ks ≡ to_be_free target (λ at. Does [] (fills s at k))
+  causes : List Cause
+  calm : first_cause s c causes ≡ None
+  rule : rule_after (rule_of s c call) ks ≡ to_be_free target (λ at. Does causes (fills s at k))
   places : changes_places call ≡ true
   ends : (x : Thing) → ends_by call x ≡ false
   flushes : flushes_by call ≡ false
 
 -- The outcome of what is left of such a rule, where its target is free.
-puts_it : (s : State) (c : ℕ) (target : Target) (k : Capability) (at : Slot) → reached s c target ≡ Some at
+puts_it : (s : State) (c : ℕ) (target : Target) (k : Capability) (causes : List Cause) → first_cause s c causes ≡ None → (at : Slot)
+    → reached s c target ≡ Some at
     → not_vacant s c (PlaceOf at.node at.index) (place_at s at) ≡ None
-    → outcome s c (to_be_free target (λ at. Does [] (fills s at k))) ≡ Found (fills s at k)
-puts_it s c target k at reached_at free =
-    ap (λ x. and_then x λ at. outcome s c (Does [] (fills s at k)))
+    → outcome s c (to_be_free target (λ at. Does causes (fills s at k))) ≡ Found (fills s at k)
+puts_it s c target k causes calm at reached_at free =
+    ap (λ x. and_then x λ at. outcome s c (Does causes (fills s at k)))
     (ap (λ o. and_then (or_refuse o reply.NoSlot) λ at. unless (not_vacant s c (PlaceOf at.node at.index) (place_at s at)) at) reached_at
     ∙ ap (λ o. unless o at) free)
+    ∙ ap (λ o. unless o (fills s at k)) calm
 
 -- A word that says that it is free is that of a free place.
 free_place : (n : ℕ) (p : Place) (r : ℕ) (o : Option Entry) → PlaceIs n p r o → o ≡ Some Free → p ≡ Vacant
@@ -255,7 +263,7 @@ module _ (setup : Setting) (setting : IsSetting setup) (cores : ℕ → Core) (t
 
     change : change_of s c a.call ≡ Found (fills s slot k)
     change = outcome_left s c (own_pages s c) a.plan (rule_of s c a.call) a.found goes_by leads ∙ ap (outcome s c) puts.rule
-        ∙ puts_it s c has.knows.knows.target k slot has.knows.knows.way.reached empty.vacant
+        ∙ puts_it s c has.knows.knows.target k puts.causes puts.calm slot has.knows.knows.way.reached empty.vacant
 
     now : state_after setup (e ∷ t) ≡ counted (with_place s node index (Holds k)) c
     now = ap (λ p. state_decided_in p (reply.Ok Nothing) s c) is_open ∙ ap (λ x. counted (changed s x) c) change
@@ -445,65 +453,98 @@ gate_is s c comp q read has puts =
     by true h = cap_same (record { kind = kind.Gate; frame = comp.frame; arg = has.life.epoch }) q h
     by false h = absurd (cc)
 
+-- A map has no cause against it, where the range has its frame, which is a user frame.
+maps_calm : (s : State) (c f : ℕ) (range : Capability) → has_frame (found range) f ≡ true → s.frame f ≡ User
+    → first_cause s c (outside (found range) f ∷ not_user s f ∷ []) ≡ None
+maps_calm s c f range has user =
+    ap (λ b. first_of (if not b then Some reply.OutOfRange else None) (first_cause s c (not_user s f ∷ []))) has
+    ∙ ap (λ x. first_of (if is_frame s f && not (is_user x) then Some reply.FrameKind else None) None) user ∙ by (is_frame s f)
+  where
+    by : (b : Bool) → first_of (if b && false then Some reply.FrameKind else None) None ≡ None
+    by true = refl
+    by false = refl
+
 -- What a call puts at its target is what its rule puts there: a line a call that fills.
 puts_by : (s : State) (c : ℕ) (target : Target) (q : Capability) (call : Call) → IsBuilt call → (ks : List Capability)
     → Leads (LeadsIn s c) (plan_for call).names [] ks → names_after (plan_for call).names ks ≡ []
     → next_of (plan_for call) ks ≡ NextFree target → (read : Option ℕ) → ReadIs s c (reads_of call ks) read → put_by call ks read ≡ Some q
-    → Puts s c call ks target q
-puts_by s c target q (Copy a u b) built (k ∷ j ∷ []) lead none next read has_read puts =
+    → HasUser s call → Puts s c call ks target q
+puts_by s c target q (Copy a u b) built (k ∷ j ∷ []) lead none next read has_read puts user =
     subst (λ (q : Capability). Puts s c (Copy a u b) (k ∷ j ∷ []) target q) (cap_same k q puts)
     (subst (λ p. Puts s c (Copy a u b) (k ∷ j ∷ []) p k) (target_in (Under (found j) b) target next)
     (record {
+      causes = [];
+      calm = refl;
       rule = refl;
       places = refl;
       ends = λ x. refl;
       flushes = refl;
     }))
-puts_by s c target q (Copy a u b) built [] lead none next read has_read puts = absurd (not_none none)
+puts_by s c target q (Copy a u b) built [] lead none next read has_read puts user = absurd (not_none none)
   where
     not_none : any_cap a ∷ of_kind kind.Table u ∷ [] ≡ [] → ⊥
     not_none h = cc
-puts_by s c target q (Copy a u b) built (k ∷ []) lead none next read has_read puts = absurd (not_none none)
+puts_by s c target q (Copy a u b) built (k ∷ []) lead none next read has_read puts user = absurd (not_none none)
   where
     not_none : of_kind kind.Table u ∷ [] ≡ [] → ⊥
     not_none h = cc
-puts_by s c target q (Copy a u b) built (k ∷ j ∷ i ∷ ks) lead none next read has_read puts = absurd lead.1.1
-puts_by s c target q (Grow u i l) built (k ∷ j ∷ []) lead none next read has_read puts =
+puts_by s c target q (Copy a u b) built (k ∷ j ∷ i ∷ ks) lead none next read has_read puts user = absurd lead.1.1
+puts_by s c target q (Grow u i l) built (k ∷ j ∷ []) lead none next read has_read puts user =
     subst (λ (q : Capability). Puts s c (Grow u i l) (k ∷ j ∷ []) target q) (cap_same (plain_cap kind.Link j.frame) q puts)
     (subst (λ p. Puts s c (Grow u i l) (k ∷ j ∷ []) p (plain_cap kind.Link j.frame)) (target_in (InRoot (found k) i) target next)
-    (record { rule = refl; places = refl; ends = λ x. refl; flushes = refl }))
-puts_by s c target q (Grow u i l) built [] lead none next read has_read puts = absurd (cc)
-puts_by s c target q (Grow u i l) built (k ∷ []) lead none next read has_read puts = absurd (cc)
-puts_by s c target q (Grow u i l) built (k ∷ j ∷ h ∷ ks) lead none next read has_read puts = absurd lead.1.1
-puts_by s c target q (Look a) built ks lead none next read has_read puts = absurd (cc)
-puts_by s c target q (Remove u b) built ks lead none next read has_read puts = absurd (cc)
-puts_by s c target q (Shrink u i) built ks lead none next read has_read puts = absurd (cc)
-puts_by s c target q (Unmap p v) built ks lead none next read has_read puts = absurd (cc)
-puts_by s c target q (Retype r f k) built ks lead none next read has_read puts = absurd (cc)
-puts_by s c target q (make_call what r f u b) built ks lead none next read has_read puts = absurd (cc)
-puts_by s c target q (Tick n) built ks lead none next read has_read puts = absurd (cc)
-puts_by s c target q (Gate n u b) built (k ∷ j ∷ []) lead none next read has_read puts =
+    (record { causes = []; calm = refl; rule = refl; places = refl; ends = λ x. refl; flushes = refl }))
+puts_by s c target q (Grow u i l) built [] lead none next read has_read puts user = absurd (cc)
+puts_by s c target q (Grow u i l) built (k ∷ []) lead none next read has_read puts user = absurd (cc)
+puts_by s c target q (Grow u i l) built (k ∷ j ∷ h ∷ ks) lead none next read has_read puts user = absurd lead.1.1
+puts_by s c target q (Look a) built ks lead none next read has_read puts user = absurd (cc)
+puts_by s c target q (Remove u b) built ks lead none next read has_read puts user = absurd (cc)
+puts_by s c target q (Shrink u i) built ks lead none next read has_read puts user = absurd (cc)
+puts_by s c target q (Map p v r f w) built (k ∷ j ∷ []) lead none next read has_read puts user = by (has_frame (found j) f) refl puts
+  where
+    by : (has : Bool) → has_frame (found j) f ≡ has → (if has then Some (page_cap f w) else None) ≡ Some q
+        → Puts s c (Map p v r f w) (k ∷ j ∷ []) target q
+    by true has is = subst (λ (q : Capability). Puts s c (Map p v r f w) (k ∷ j ∷ []) target q) (cap_same (page_cap f w) q is)
+        (subst (λ p2. Puts s c (Map p v r f w) (k ∷ j ∷ []) p2 (page_cap f w)) (target_in (Under (found k) v) target next)
+        (record {
+          causes = outside (found j) f ∷ not_user s f ∷ [];
+          calm = maps_calm s c f j has user;
+          rule = refl;
+          places = refl;
+          ends = λ x. refl;
+          flushes = refl;
+        }))
+    by false has is = absurd (cc)
+puts_by s c target q (Map p v r f w) built [] lead none next read has_read puts user = absurd (cc)
+puts_by s c target q (Map p v r f w) built (k ∷ []) lead none next read has_read puts user = absurd (cc)
+puts_by s c target q (Map p v r f w) built (k ∷ j ∷ h ∷ ks) lead none next read has_read puts user = absurd lead.1.1
+puts_by s c target q (Unmap p v) built ks lead none next read has_read puts user = absurd (cc)
+puts_by s c target q (Retype r f k) built ks lead none next read has_read puts user = absurd (cc)
+puts_by s c target q (make_call what r f u b) built ks lead none next read has_read puts user = absurd (cc)
+puts_by s c target q (Tick n) built ks lead none next read has_read puts user = absurd (cc)
+puts_by s c target q (Gate n u b) built (k ∷ j ∷ []) lead none next read has_read puts user =
     subst (λ (q : Capability). Puts s c (Gate n u b) (k ∷ j ∷ []) target q) (gate_is s c k q read has_read puts)
     (subst (λ p. Puts s c (Gate n u b) (k ∷ j ∷ []) p
     (record { kind = kind.Gate; frame = k.frame; arg = (comp_in (s.frame k.frame)).epoch })) (target_in (Under (found j) b) target next)
     (record {
+      causes = [];
+      calm = refl;
       rule = refl;
       places = refl;
       ends = λ x. refl;
       flushes = refl;
     }))
-puts_by s c target q (Gate n u b) built [] lead none next read has_read puts = absurd (not_none none)
+puts_by s c target q (Gate n u b) built [] lead none next read has_read puts user = absurd (not_none none)
   where
     not_none : of_kind kind.Comp n ∷ of_kind kind.Table u ∷ [] ≡ [] → ⊥
     not_none h = cc
-puts_by s c target q (Gate n u b) built (k ∷ []) lead none next read has_read puts = absurd (not_none none)
+puts_by s c target q (Gate n u b) built (k ∷ []) lead none next read has_read puts user = absurd (not_none none)
   where
     not_none : of_kind kind.Table u ∷ [] ≡ [] → ⊥
     not_none h = cc
-puts_by s c target q (Gate n u b) built (k ∷ j ∷ i ∷ ks) lead none next read has_read puts = absurd lead.1.1
-puts_by s c target q Flush built ks lead none next read has_read puts = absurd (cc)
-puts_by s c target q (Kill n) built ks lead none next read has_read puts = absurd (cc)
-puts_by s c target q call built ks lead none next read has_read puts = absurd built
+puts_by s c target q (Gate n u b) built (k ∷ j ∷ i ∷ ks) lead none next read has_read puts user = absurd lead.1.1
+puts_by s c target q Flush built ks lead none next read has_read puts user = absurd (cc)
+puts_by s c target q (Kill n) built ks lead none next read has_read puts user = absurd (cc)
+puts_by s c target q call built ks lead none next read has_read puts user = absurd built
 
 module _ (setup : Setting) (setting : IsSetting setup) (cores : ℕ → Core) (t : Trace) (stands : Stands setup cores t) (c : ℕ)
     (here : c < setup.cores)
@@ -532,4 +573,4 @@ module _ (setup : Setting) (setting : IsSetting setup) (cores : ℕ → Core) (t
       (plan_leads setup setting cores t stands c here a active has.names))
       (subst (λ (p : Plan). names_after p.names a.found ≡ []) plan_is none_left)
       (ap (λ p. next_of p a.found) (sym plan_is) ∙ has.knows.knows.next)
-      has.knows.knows.read has.knows.knows.has_read has.knows.knows.puts)
+      has.knows.knows.read has.knows.knows.has_read has.knows.knows.puts has.knows.knows.user)

@@ -335,6 +335,7 @@ module _ (setup : Setting) (setting : IsSetting setup) (cores : ℕ → Core) (t
           frames = λ f. own_read-there c loads t refl (FrameAt f) (frame_apart f);
           numbers = λ l. own_read-there c loads t refl (LiveAt l) (number_apart l);
           stored = λ f i marked. last_left-there setup (EntryAt f i) loads t (entry_apart f i);
+          users = λ f is. is;
         }) knows
 
     -- the next flush word is scanned

@@ -10,3 +10,4 @@ pub mod Paging
 pub mod CoreScans
 pub mod FlushScans
 pub mod ScanSteps
+pub mod Mappings

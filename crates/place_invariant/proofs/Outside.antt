@@ -1,11 +1,11 @@
--- The refusal of a call that makes an object in a frame outside its range.
-use Rattle.std.proofs.Common.{◌≡◌, ◌⊎◌, inl, inr, ℕ, ◌<◌, not, Bool, false, List, [], ◌∷◌, Option, Some, None, refl, sym, ◌∙◌, ap, subst, if◌then◌else◌}
+-- The refusal of a call whose frame is outside its range.
+use Rattle.std.proofs.Common.{◌≡◌, ◌⊎◌, inl, inr, ℕ, ◌<◌, not, Bool, false, IsTrue, List, [], ◌∷◌, Option, Some, None, refl, sym, ◌∙◌, ap, subst, if◌then◌else◌}
 use Rattle.std.specs.Prelude.{IsSome}
 use Rattle.std.proofs.lemmas.Bool.{cases_eq, false≢true}
 use Rattle.spk_nums.specs.Capability.{Capability}
 use Rattle.spk_nums.specs.Setting.{Setting, IsSetting}
 use Rattle.spk_nums.specs.declared.calls.Call.{Call}
-use Rattle.spk_nums.specs.declared.calls.Call.TheVariants.{Make as make_call}
+use Rattle.spk_nums.specs.declared.calls.Call.TheVariants.{Make as make_call, Map}
 use Rattle.spk_nums.specs.declared.calls.Make.{Make}
 use Rattle.spk_nums.specs.declared.replies.Reply.{Reply}
 use Rattle.spk_nums.specs.declared.replies.Reply.TheVariants as reply
@@ -14,9 +14,12 @@ use Rattle.word_map.specs.Word.{EntryAt}
 use Rattle.word_map.specs.Moves.{Move, LoadOf, word_of}
 use Rattle.kernel_rules.specs.State.{State, PlaceOf, Kernel, Leaf}
 use Rattle.kernel_rules.specs.Access.{Slot, Target, Under, found, place_at, reached}
-use Rattle.kernel_rules.specs.Rules.{RuleMay, Refused, Found, and_then, or_refuse, unless, first_of, first_cause, vacant, not_vacant, outcome}
+use Rattle.call_acts.specs.Acts.{page_cap}
+use Rattle.kernel_rules.specs.MemoryCalls.{not_user}
+use Rattle.core_invariant.proofs.Carries.{slot_relies}
+use Rattle.kernel_rules.specs.Rules.{Rule, Cause, Change, Vacant, Does, fills, RuleMay, Refused, Found, and_then, or_refuse, unless, first_of, first_cause, vacant, not_vacant, outcome}
 use Rattle.kernel_rules.specs.Relies.{is_node}
-use Rattle.kernel_rules.specs.CapabilityCalls.{has_frame, not_blank, makes}
+use Rattle.kernel_rules.specs.CapabilityCalls.{has_frame, outside, not_blank, makes}
 use Rattle.kernel_rules.specs.CallRelation.{rule_of, change_of}
 use Rattle.kernel_history.specs.Alone.{IsAlone}
 use Rattle.kernel_history.specs.Trace.{Trace, Open, phase, state_after, last_left, own_read}
@@ -67,8 +70,9 @@ some_of : {A : Type 0} (o : Option A) → IsSome o → (R : Type 0) → ((x : A)
 some_of None some R f = absurd (false≢true some)
 some_of (Some x) some R f = f x refl
 
-outside_make : (call : Call) (ks : List Capability) → OutsideBy call ks → IsOutsideMake call ks
-outside_make (make_call what r f u b) (range ∷ ks) is = some_of (object_made what (range ∷ ks)) is.object
+outside_make : (what : Make) (r f u b : ℕ) (ks : List Capability) → OutsideBy (make_call what r f u b) ks
+    → IsOutsideMake (make_call what r f u b) ks
+outside_make what r f u b (range ∷ ks) is = some_of (object_made what (range ∷ ks)) is.object
     (IsOutsideMake (make_call what r f u b) (range ∷ ks))
     (λ object object_is. record {
       what = what;
@@ -84,8 +88,7 @@ outside_make (make_call what r f u b) (range ∷ ks) is = some_of (object_made w
       object_is = object_is;
       outside = is.outside;
     })
-outside_make (make_call what r f u b) [] is = absurd is
-outside_make call ks is = absurd is
+outside_make what r f u b [] is = absurd is
 
 -- No name is left where a target that is to be free is looked up next.
 pub none_left_of : (plan : Plan) (ks : List Capability) (target : Target) → next_of plan ks ≡ NextFree target
@@ -99,16 +102,70 @@ none_left_of plan ks target next = by (rest_of plan ks)
     by (ANameLeft name rest is) = absurd (not_free _ _ (sym (next_name plan ks name rest is) ∙ next))
     by (NoneLeft none) = none
 
--- A call that makes an object is refused in a frame outside its range, where its target is reached and, if the call is alone, vacant.
+-- What is left of the rule of a call after its names that is refused where its frame is not in its range: its target is to be free, and the
+-- first of its own causes is that.
+record IsRefusable (s : State) (c : ℕ) (call : Call) (ks : List Capability) (target : Target) : Type 0 where
+  range : Capability
+  frame : ℕ
+  causes : List Cause
+  change : Slot → Change
+  rule : rule_after (rule_of s c call) ks ≡ Vacant target (λ at. Does (outside (found range) frame ∷ causes) (change at))
+  is_outside : has_frame (found range) frame ≡ false
+
+target_in : (p q : Target) → NextFree p ≡ NextFree q → p ≡ q
+target_in p q h = cc
+
+made_refusable : (s : State) (c : ℕ) (call : Call) (ks : List Capability) (target : Target) → IsOutsideMake call ks
+    → Leads (LeadsIn s c) (plan_for call).names [] ks → next_of (plan_for call) ks ≡ NextFree target → IsRefusable s c call ks target
+made_refusable s c call ks target is leads next =
+    let call_is = is.call_is in
+    let make : IsObjectMake s c is.name is.frame is.root is.slot is.what is.object ks =
+    object_make s c is.name is.frame is.root is.slot is.what is.object ks is.object_is
+    (subst (λ (x : Call). Leads (LeadsIn s c) (plan_for x).names [] ks) call_is leads)
+    (subst (λ (x : Call). names_after (plan_for x).names ks ≡ []) call_is (none_left_of (plan_for call) ks target next)) in
+    let to : Under (found make.two.table) is.slot ≡ target = target_in _ _ (sym make.next ∙ ap (λ x. next_of (plan_for x) ks) (sym call_is) ∙ next)
+    in
+    record {
+      range = make.two.range;
+      frame = is.frame;
+      causes = not_blank s is.frame ∷ [];
+      change = λ at. makes (readied is.object s is.frame) is.frame (new_object is.object) (object_kind is.object) at;
+      rule = ap (λ x. rule_after (rule_of s c x) ks) call_is ∙ make.rule
+          ∙ ap (λ x. make_rest s make.two.range is.frame is.object x) to;
+      is_outside = ap (λ (k : Capability). has_frame (found k) is.frame) (first_same _ _ _ _ (sym make.two.found_is ∙ is.found_is))
+          ∙ is.outside;
+    }
+  where
+    first_same : (k j : Capability) (ks js : List Capability) → k ∷ ks ≡ j ∷ js → k ≡ j
+    first_same k j ks js h = cc
+
+refusable : (s : State) (c : ℕ) (call : Call) (ks : List Capability) (target : Target) → OutsideBy call ks
+    → Leads (LeadsIn s c) (plan_for call).names [] ks → next_of (plan_for call) ks ≡ NextFree target → IsRefusable s c call ks target
+refusable s c (make_call what r f u b) ks target out leads next =
+    made_refusable s c (make_call what r f u b) ks target (outside_make what r f u b ks out) leads next
+refusable s c (Map p v r f w) (k ∷ j ∷ []) target out leads next =
+    subst (IsRefusable s c (Map p v r f w) (k ∷ j ∷ [])) (target_in (Under (found k) v) target next) (record {
+      range = j;
+      frame = f;
+      causes = not_user s f ∷ [];
+      change = λ at. fills s at (page_cap f w);
+      rule = refl;
+      is_outside = out;
+    })
+refusable s c (Map p v r f w) [] target out leads next = absurd out
+refusable s c (Map p v r f w) (k ∷ []) target out leads next = absurd out
+refusable s c (Map p v r f w) (k ∷ j ∷ i ∷ ks) target out leads next = absurd leads.1.1
+refusable s c call ks target out leads next = absurd out
+
+-- A call is refused whose frame is outside its range, where its target is reached and, if the call is alone, vacant.
 module _ (setup : Setting) (setting : IsSetting setup) (cores : ℕ → Core) (t : Trace) (stands : Stands setup cores t) (c : ℕ)
     (here : c < setup.cores)
-    (a : ActiveCall) (active : (cores c).active ≡ Some a) (opens : phase_at a.call a.stage ≡ Open a.call)
+    (a : ActiveCall) (active : (cores c).active ≡ Some a)
     (names : NamesAre setup t c (cores c).own.table a.plan a.found) (node index : ℕ) (target : Target)
     (next : next_of a.plan a.found ≡ NextFree target)
     (reaches : reached (state_after setup t) c target ≡ Some (record { node = node; index = index }))
     (out : OutsideBy a.call a.found) (move : Move)
-    (vacant_alone : (state_after setup t).frame node ≡ Kernel Leaf
-    → IsAlone t (step_to c None move (last_left setup t (word_of move)) (Some reply.OutOfRange) None)
+    (vacant_alone : IsAlone t (step_to c None move (last_left setup t (word_of move)) (Some reply.OutOfRange) None)
     → IsVacant (state_after setup t) c node index) where
   abbrev s : State
   s = state_after setup t
@@ -116,62 +173,32 @@ module _ (setup : Setting) (setting : IsSetting setup) (cores : ℕ → Core) (t
   abbrev slot : Slot
   slot = record { node = node; index = index }
 
-  is_open : phase t c ≡ Open a.call
-  is_open = (call_is setup setting cores t stands c here a active).phase ∙ opens
-
   leads : Leads (LeadsIn s c) a.plan.names [] a.found
   leads = plan_leads setup setting cores t stands c here a active names
 
   by_plan : GoesBy (own_pages s c) a.plan (rule_of s c a.call)
   by_plan = goes_by setup setting cores t stands c here a active names
 
-  is : IsOutsideMake a.call a.found
-  is = outside_make a.call a.found out
+  plan_is : a.plan ≡ plan_for a.call
+  plan_is = (is_active setup setting cores t stands c here a active).plan
 
-  plan_call : a.plan ≡ plan_for (make_call is.what is.name is.frame is.root is.slot)
-  plan_call = (is_active setup setting cores t stands c here a active).plan ∙ ap plan_for is.call_is
-
-  make : IsObjectMake s c is.name is.frame is.root is.slot is.what is.object a.found
-  make = object_make s c is.name is.frame is.root is.slot is.what is.object a.found is.object_is
-      (subst (λ (p : Plan). Leads (LeadsIn s c) p.names [] a.found) plan_call leads)
-      (subst (λ (p : Plan). names_after p.names a.found ≡ []) plan_call (none_left_of a.plan a.found target next))
-
-  target_is : Under (found make.two.table) is.slot ≡ target
-  target_is = same _ _ (sym make.next ∙ ap (λ p. next_of p a.found) (sym plan_call) ∙ next)
-    where
-      same : (p q : Target) → NextFree p ≡ NextFree q → p ≡ q
-      same p q h = cc
-
-  reached_is : reached s c (Under (found make.two.table) is.slot) ≡ Some slot
-  reached_is = ap (reached s c) target_is ∙ reaches
-
-  leaf : s.frame node ≡ Kernel Leaf
-  leaf = in_leaf setup setting t stands.legal c a.call is_open is.root is.slot make.two.table slot make.two.second reached_is
-
-  outside_is : has_frame (found make.two.range) is.frame ≡ false
-  outside_is = ap (λ (k : Capability). has_frame (found k) is.frame) (first_same _ _ _ _ (sym make.two.found_is ∙ is.found_is)) ∙ is.outside
-    where
-      first_same : (k j : Capability) (ks js : List Capability) → k ∷ ks ≡ j ∷ js → k ≡ j
-      first_same k j ks js h = cc
-
-  left : rule_after (rule_of s c a.call) a.found ≡ make_rest s make.two.range is.frame is.object (Under (found make.two.table) is.slot)
-  left = ap (λ x. rule_after (rule_of s c x) a.found) is.call_is ∙ make.rule
+  is : IsRefusable s c a.call a.found target
+  is = refusable s c a.call a.found target out (subst (λ (p : Plan). Leads (LeadsIn s c) p.names [] a.found) plan_is leads)
+      (ap (λ p. next_of p a.found) (sym plan_is) ∙ next)
 
   first : IsAlone t (step_to c None move (last_left setup t (word_of move)) (Some reply.OutOfRange) None)
       → change_of s c a.call ≡ Refused reply.OutOfRange
   first alone =
-      outcome_left s c (own_pages s c) a.plan (rule_of s c a.call) a.found by_plan leads ∙ ap (outcome s c) left
-      ∙ ap (λ x. and_then x λ at. unless (first_of (if not (has_frame (found make.two.range) is.frame) then Some reply.OutOfRange else None)
-      (first_cause s c (not_blank s is.frame ∷ [])))
-      (makes (readied is.object s is.frame) is.frame (new_object is.object) (object_kind is.object) at))
-      (vacant_slot s c (Under (found make.two.table) is.slot) slot reached_is (vacant_alone leaf alone).vacant)
-      ∙ ap (λ b. unless (first_of (if not b then Some reply.OutOfRange else None) (first_cause s c (not_blank s is.frame ∷ [])))
-      (makes (readied is.object s is.frame) is.frame (new_object is.object) (object_kind is.object) slot)) outside_is
+      outcome_left s c (own_pages s c) a.plan (rule_of s c a.call) a.found by_plan leads ∙ ap (outcome s c) is.rule
+      ∙ ap (λ x. and_then x λ at. unless (first_of (if not (has_frame (found is.range) is.frame) then Some reply.OutOfRange else None)
+      (first_cause s c is.causes)) (is.change at))
+      (vacant_slot s c target slot reaches (vacant_alone alone).vacant)
+      ∙ ap (λ b. unless (first_of (if not b then Some reply.OutOfRange else None) (first_cause s c is.causes)) (is.change slot)) is.is_outside
 
   pub refused_vacant : IsRefusedOutside setup t c a.call move
   refused_vacant = record {
     may = left_may s c (own_pages s c) a.plan (rule_of s c a.call) a.found by_plan leads reply.OutOfRange
-        (subst (λ x. RuleMay s c x reply.OutOfRange) (sym left) (inr (inl (ap (λ b. not b) outside_is, refl))));
+        (subst (λ x. RuleMay s c x reply.OutOfRange) (sym is.rule) (inr (inl (ap (λ b. not b) is.is_outside, refl))));
     first = first;
   }
 
@@ -192,9 +219,9 @@ module _ (setup : Setting) (setting : IsSetting setup) (cores : ℕ → Core) (t
     (a : ActiveCall) (active : (cores c).active ≡ Some a) (opens : phase_at a.call a.stage ≡ Open a.call)
     (names : NamesAre setup t c (cores c).own.table a.plan a.found) (node index word : ℕ)
     (spot : IsSpot setup t c a.plan a.found setup.cores node index word) where
-  pub vacant_here : (index < 64) → (state_after setup t).frame node ≡ Kernel Leaf → last_left setup t (EntryAt node index) ≡ word
+  pub vacant_node : (index < 64) → IsTrue (is_node ((state_after setup t).frame node)) → last_left setup t (EntryAt node index) ≡ word
       → IsVacant (state_after setup t) c node index
-  vacant_here small in_leaf same =
+  vacant_node small in_node same =
       vacant_by setup t c node index (ap (λ l. l.cores) (limits_of setup t)) setup.frames
       (entry_of_word (last_left setup t (EntryAt node index))) unmarked.says may
     where
@@ -202,13 +229,21 @@ module _ (setup : Setting) (setting : IsSetting setup) (cores : ℕ → Core) (t
       may = subst (MayFill setup t c (PlaceOf node index) setup.cores) (sym (ap entry_of_word same)) spot.vacant
 
       unmarked : IsUnmarked setup t node index
-      unmarked = by_read (place_reads setup cores t stands node index (ap is_node in_leaf) small)
+      unmarked = by_read (place_reads setup cores t stands node index in_node small)
         where
           by_read : IsMarked setup t node index ⊎ IsUnmarked setup t node index → IsUnmarked setup t node index
           by_read (inl m) = absurd (subst (MayFill setup t c (PlaceOf node index) setup.cores) m.says may)
           by_read (inr p) = p
 
+  pub vacant_here : (index < 64) → (state_after setup t).frame node ≡ Kernel Leaf → last_left setup t (EntryAt node index) ≡ word
+      → IsVacant (state_after setup t) c node index
+  vacant_here small in_leaf same = vacant_node small (ap is_node in_leaf) same
+
+  in_node : IsTrue (is_node ((state_after setup t).frame node))
+  in_node = (slot_relies setup setting t stands.legal c a.call
+      ((call_is setup setting cores t stands c here a active).phase ∙ opens) spot.target (record { node = node; index = index }) spot.way).node
+
   pub refused_outside : (index < 64) → OutsideBy a.call a.found → (move : Move) → IsRefusedOutside setup t c a.call move
   refused_outside small out move =
-      refused_vacant setup setting cores t stands c here a active opens names node index spot.target spot.next spot.way.reached out move
-      (λ in_leaf alone. vacant_here small in_leaf (stands_alone setup t c node index word spot.own move reply.OutOfRange alone))
+      refused_vacant setup setting cores t stands c here a active names node index spot.target spot.next spot.way.reached out move
+      (λ alone. vacant_node small in_node (stands_alone setup t c node index word spot.own move reply.OutOfRange alone))

@@ -7,7 +7,7 @@ use Rattle.spk_nums.specs.declared.kinds.FrameKind.TheVariants as frame_kind
 use Rattle.spk_nums.specs.declared.kinds.Kind.{Kind}
 use Rattle.spk_nums.specs.declared.kinds.Kind.TheVariants as kind
 use Rattle.spk_nums.specs.declared.calls.Call.{Call}
-use Rattle.spk_nums.specs.declared.calls.Call.TheVariants.{Look, Copy, Remove, Grow, Shrink, Unmap, Retype, Make as make_call, Tick, Kill}
+use Rattle.spk_nums.specs.declared.calls.Call.TheVariants.{Look, Copy, Remove, Grow, Shrink, Map, Unmap, Retype, Make as make_call, Tick, Kill}
 use Rattle.supported_calls.specs.Built.{IsBuilt}
 use Rattle.kernel_rules.specs.State.{Table, Pages, Frame, Kernel, State}
 use Rattle.kernel_rules.specs.Access.{Slot, Named, found, root, only, Target, Under, InRoot, reached}
@@ -30,7 +30,7 @@ use Rattle.call_acts.specs.Acts.{fills_page}
 use Rattle.look_invariant.proofs.Next.{next_end}
 use Rattle.place_invariant.proofs.ObjectMakes.{made_of, IsObjectMake, object_make}
 use Rattle.place_invariant.proofs.Outside.{none_left_of}
-use Rattle.place_invariant.proofs.Vacancy.{in_leaf}
+use Rattle.place_invariant.proofs.Vacancy.{in_leaf, in_pleaf}
 
 -- The plan of a call whose target is to be free.
 abbrev IsFreeTarget : TargetOf → Type 0
@@ -102,6 +102,12 @@ module _ (setup : Setting) (setting : IsSetting setup) (t : Trace) (legal : IsLe
   paging_by (Grow u i l) is built [] lead next = absurd (cc)
   paging_by (Grow u i l) is built (k ∷ []) lead next = absurd (cc)
   paging_by (Grow u i l) is built (k ∷ j ∷ h ∷ ks) lead next = absurd lead.1.1
+  paging_by (Map p v r f w) is built (k ∷ j ∷ []) lead next =
+      ap is_paging (in_pleaf setup setting t legal c (Map p v r f w) is p v k at lead.0
+      (ap (reached s c) (target_in (Under (found k) v) target next) ∙ reaches))
+  paging_by (Map p v r f w) is built [] lead next = absurd (cc)
+  paging_by (Map p v r f w) is built (k ∷ []) lead next = absurd (cc)
+  paging_by (Map p v r f w) is built (k ∷ j ∷ h ∷ ks) lead next = absurd lead.1.1
   paging_by (make_call what r f u b) is built ks lead next =
       let none = none_left_of (plan_for (make_call what r f u b)) ks target next in
       made_of what built r f u b ks none (PagingIs (make_call what r f u b) ks) (λ object of.

@@ -21,7 +21,7 @@ use Rattle.call_acts.specs.Kills.{is_killing}
 use Rattle.call_acts.specs.declared.kills.KillingAt.{KillingAt}
 use Rattle.call_acts.specs.declared.kills.KillingAt.TheVariants.{LoadComp, LoadLive, Close as kill_close, Draw as kill_draw}
 use Rattle.call_acts.specs.declared.work.Act.{Act as ActOf}
-use Rattle.call_acts.specs.declared.work.Act.TheVariants.{Fill as fill_act, Remove as remove_act, Retype as type_act, Make as make_act, Outside, Tick as tick_act, Flush as flush_act, Kill as kill_act, Untype as untype_act}
+use Rattle.call_acts.specs.declared.work.Act.TheVariants.{Fill as fill_act, Remove as remove_act, Retype as type_act, Make as make_act, Outside, Tick as tick_act, Flush as flush_act, Kill as kill_act, Untype as untype_act, Map as map_act}
 use Rattle.call_acts.specs.declared.work.WorkStep.TheVariants.{Goes}
 use Rattle.call_acts.specs.WorkSteps.{refuse}
 use Rattle.call_acts.specs.Acts.{dues, made_dues, next_work, starts, killing_dues}
@@ -53,6 +53,7 @@ start_holds (make_act m) h is = by m.at is
     by (Mark word) is = refl
     by (Store word entry) is = absurd (false≢true is)
     by (making_fill word) is = absurd (false≢true is)
+start_holds (map_act fill) h is = refl
 start_holds (Outside node entry word) h is = refl
 start_holds (tick_act charge) h is = refl
 start_holds (flush_act core) h is = refl
@@ -70,6 +71,7 @@ start_counts (fill_act fill) is = refl
 start_counts (remove_act close cap) is = is
 start_counts (type_act typing) is = refl
 start_counts (make_act m) is = refl
+start_counts (map_act fill) is = refl
 start_counts (Outside node entry word) is = refl
 start_counts (tick_act charge) is = refl
 start_counts (flush_act core) is = refl
@@ -88,6 +90,7 @@ start_apart (make_act m) is = by m.at is
     by (Mark word) is = tt
     by (Store word entry) is = absurd (false≢true is)
     by (making_fill word) is = absurd (false≢true is)
+start_apart (map_act fill) is = one_apart (dues (map_act fill)) (cap_one fill.cap.kind fill.cap.frame fill.cap.arg (pos 1))
 start_apart (Outside node entry word) is = tt
 start_apart (tick_act charge) is = tt
 start_apart (flush_act core) is = tt
@@ -150,6 +153,7 @@ module _ (setup : Setting) (setting : IsSetting setup) (cores : ℕ → Core) (t
   starts_good (remove_act close cap) is known refused = goes_good (remove_act close cap) is refl known
   starts_good (type_act typing) is known refused = goes_good (type_act typing) is refl known
   starts_good (make_act m) is known refused = goes_good (make_act m) is refl known
+  starts_good (map_act fill) is known refused = goes_good (map_act fill) is refl known
   starts_good (Outside node entry word) is known refused = outside_good (refused refl)
   starts_good (tick_act charge) is known refused = goes_good (tick_act charge) is refl known
   starts_good (flush_act core) is known refused = goes_good (flush_act core) is refl known

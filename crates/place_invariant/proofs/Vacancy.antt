@@ -9,7 +9,7 @@ use Rattle.spk_nums.specs.declared.kinds.Kind.TheVariants as kind
 use Rattle.spk_nums.specs.declared.calls.Call.{Call}
 use Rattle.entry_words.specs.declared.entry.Entry.{Entry}
 use Rattle.entry_words.specs.declared.entry.Entry.TheVariants as entry
-use Rattle.kernel_rules.specs.State.{Place, Free, Holds, Quiescing, Table, Leaf, Frame, Kernel, Thing, PlaceOf, State}
+use Rattle.kernel_rules.specs.State.{Place, Free, Holds, Quiescing, Table, Leaf, Pages, Pleaf, Frame, Kernel, Thing, PlaceOf, State}
 use Rattle.kernel_rules.specs.Access.{Slot, found, Under, only, reached}
 use Rattle.kernel_rules.specs.Fitting.{fits}
 use Rattle.kernel_rules.specs.GracePeriods.{is_paging, lowest, other_waiting, quiescing_by, unflushed_by}
@@ -65,6 +65,39 @@ in_leaf setup setting t legal c call is n b table at names reaches =
 
     fit : IsTrue (fits kind.Table (s.frame table.frame))
     fit = named_fit s o c n kind.Table table is_open.sound is_open.is names
+
+-- And under the root of a page table it is in a leaf of one.
+pages_leaf : (x : Frame) → IsTrue (fits kind.Pages x) → (y : Frame) → IsTrue (leads_to x y) → y ≡ Kernel Pleaf
+pages_leaf (Kernel Pages) fit (Kernel Pleaf) leads = refl
+pages_leaf (Kernel Pages) fit _ leads = absurd (false≢true leads)
+pages_leaf _ fit y leads = absurd (false≢true fit)
+
+pages_node : (x : Frame) → IsTrue (fits kind.Pages x) → IsTrue (is_node x)
+pages_node (Kernel Pages) fit = refl
+pages_node _ fit = absurd (false≢true fit)
+
+pub in_pleaf : (setup : Setting) → IsSetting setup → (t : Trace) → IsLegal setup t → (c : ℕ) (call : Call) → phase t c ≡ Open call
+    → (n b : ℕ) (pages : Capability) (at : Slot)
+    → named (state_after setup t) c n (only kind.Pages) ≡ Found pages → reached (state_after setup t) c (Under (found pages) b) ≡ Some at
+    → (state_after setup t).frame at.node ≡ Kernel Pleaf
+in_pleaf setup setting t legal c call is n b pages at names reaches =
+    pages_leaf (s.frame pages.frame) fit (s.frame at.node) (leaf_fits s o c is_open fitted (found pages) b at
+    (pages_node (s.frame pages.frame) fit) reaches)
+  where
+    s : State
+    s = state_after setup t
+
+    o : ℕ → Bool
+    o = opened (events_of t)
+
+    is_open : IsOpen s o c
+    is_open = record { sound = sound_of setup setting t legal; is = opened_is t c call is }
+
+    fitted : IsFitted s o
+    fitted = subst (λ x. IsFitted x o) (sym (state_is setup t)) (runs_fit setup setting (events_of t) (run_of setup t legal))
+
+    fit : IsTrue (fits kind.Pages (s.frame pages.frame))
+    fit = named_fit s o c n kind.Pages pages is_open.sound is_open.is names
 
 -- What is found in a range of numbers passes the test, and is below the range's end.
 find_in : (p : ℕ → Bool) (a n e : ℕ) → find p (range_with_len a n) ≡ Some e → (p e ≡ true) × (e < a + n)

@@ -350,7 +350,7 @@ fn the_first_line_that_is_not_built_is_told(rt: HostRuntime) -> Result<(), Fail>
     let rows = [
         ("core 0\nswitch 4 12\n", 7),
         (
-            "core 0\nlook 64\ncopy 0 2 64\nlook 65535\ngrow 1 0 20\n",
+            "core 0\nlook 64\ncopy 0 2 64\nlook 65535\nswitch 4 12\n",
             10,
         ),
         (

@@ -2,7 +2,7 @@
 use Rattle.spk_nums.specs.declared.kinds.FrameKind.{FrameKind}
 use Rattle.spk_nums.specs.declared.kinds.FrameKind.TheVariants.{Untyped, User, Kernel}
 use Rattle.spk_nums.specs.declared.calls.Call.{Call}
-use Rattle.spk_nums.specs.declared.calls.Call.TheVariants.{Look, Copy, Remove, Shrink, Retype, Make as make_call, Unmap, Tick, Gate, Kill, Grow, Flush}
+use Rattle.spk_nums.specs.declared.calls.Call.TheVariants.{Look, Copy, Remove, Shrink, Retype, Make as make_call, Unmap, Tick, Gate, Kill, Grow, Flush, Map}
 use Rattle.spk_nums.specs.declared.calls.Make.{Make}
 use Rattle.spk_nums.specs.declared.calls.Make.TheVariants.{Table, Leaf, Pages, Pleaf, Thread, Tcap, Comp}
 
@@ -22,7 +22,7 @@ IsObjectMade (Thread comp) = Unit {0}
 IsObjectMade (Tcap sched quality) = Unit {0}
 IsObjectMade (Comp table pages live) = ⊥
 
--- the calls that the machine carries out today: `look`, `copy`, `remove`, `grow`, `shrink`, `unmap`, `retype` to user and to kernel, `make` of
+-- the calls that the machine carries out today: `look`, `copy`, `remove`, `grow`, `shrink`, `map`, `unmap`, `retype` to user and to kernel, `make` of
 -- any object but a component, `flush`, `tick`, `gate`, and `kill`
 abbrev pub IsBuilt : Call → Type 0
 IsBuilt (Look a) = Unit {0}
@@ -31,6 +31,7 @@ IsBuilt (Remove t b) = Unit {0}
 IsBuilt (Grow t i l) = Unit {0}
 IsBuilt (Shrink t i) = Unit {0}
 IsBuilt (Retype r f k) = IsTyping k
+IsBuilt (Map p v r f w) = Unit {0}
 IsBuilt (Unmap p v) = Unit {0}
 IsBuilt (make_call what range frame table slot) = IsObjectMade what
 IsBuilt Flush = Unit {0}

@@ -35,6 +35,7 @@ pub fn is_built(call: &Call) -> bool
                 table: _,
                 slot: _
             }
+            | Call::Map { .. }
             | Call::Unmap { .. }
             | Call::Flush
             | Call::Tick { .. }

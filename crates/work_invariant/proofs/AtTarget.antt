@@ -1,7 +1,7 @@
 -- The act with which a call begins at a target that is to be free: it fills the place, it makes an object in a frame of its range, or this
 -- frame is out of range.
 use Rattle.std.specs.Prelude.{IsSome}
-use Rattle.std.proofs.Common.{◌≡◌, inl, ℕ, ◌<◌, ◌&&◌, nat_lt, Bool, true, false, List, [], ◌∷◌, Option, Some, refl, sym, ◌∙◌, ap, subst, IsTrue, arith}
+use Rattle.std.proofs.Common.{◌≡◌, inl, ℕ, ◌<◌, ◌&&◌, nat_lt, Bool, true, false, List, [], ◌∷◌, Option, Some, refl, sym, ◌∙◌, ap, subst, IsTrue, arith, if◌then◌else◌, None, ◌≤◌}
 use Rattle.std.proofs.lemmas.Bool.{lt-ltb, le-leb, false≢true}
 use Rattle.spk_nums.specs.Capability.{Capability}
 use Rattle.spk_nums.specs.Setting.{Setting, IsSetting}
@@ -9,9 +9,11 @@ use Rattle.spk_nums.specs.declared.kinds.FrameKind.TheVariants as frame_kind
 use Rattle.spk_nums.specs.declared.kinds.Kind.{Kind}
 use Rattle.spk_nums.specs.declared.kinds.Kind.TheVariants as kind
 use Rattle.spk_nums.specs.declared.calls.Call.{Call}
-use Rattle.spk_nums.specs.declared.calls.Call.TheVariants.{Look as look_call, Copy, Remove, Shrink, Unmap, Retype, Make as make_call, Tick, Gate, Kill, Grow, Flush}
+use Rattle.spk_nums.specs.declared.calls.Call.TheVariants.{Look as look_call, Copy, Remove, Shrink, Unmap, Retype, Make as make_call, Tick, Gate, Kill, Grow, Flush, Map}
 use Rattle.spk_nums.specs.declared.calls.Make.{Make}
 use Rattle.spk_nums.specs.declared.calls.Make.TheVariants as make
+use Rattle.spk_nums.specs.CallLimits.{InLimits}
+use Rattle.spk_nums.specs.declared.kinds.PageFlags.{PageFlags}
 use Rattle.supported_calls.specs.Built.{IsBuilt}
 use Rattle.entry_words.specs.EntryWord.{EntryFits, entry_of_word}
 use Rattle.entry_words.specs.declared.entry.Entry.TheVariants as entry
@@ -45,8 +47,8 @@ use Rattle.call_acts.specs.declared.objects.NewObject.TheVariants as objects
 use Rattle.call_acts.specs.declared.work.Act.{Act as ActOf}
 use Rattle.call_acts.specs.declared.work.Act.TheVariants.{Outside}
 use Rattle.call_acts.specs.Objects.{object_made}
-use Rattle.call_acts.specs.Acts.{gate_if, gate_to, put_by, reads_of, fills_with, scans, stamp_in, stamp_shown, stamp_of_act, filling, making, making_if, makes_at, act_begun, fills_page}
-use Rattle.core_invariant.specs.Knows.{IsRead, ReadIs, IsSpot, KnowsAct, OutsideBy, is_start, goes_on}
+use Rattle.call_acts.specs.Acts.{gate_if, gate_to, put_by, reads_of, fills_with, scans, stamp_in, stamp_shown, stamp_of_act, filling, making, making_if, makes_at, act_begun, fills_page, page_cap, mapping, mapping_if, maps_if}
+use Rattle.core_invariant.specs.Knows.{IsRead, ReadIs, IsSpot, KnowsAct, OutsideBy, is_start, goes_on, HasUser}
 use Rattle.core_invariant.proofs.Sounds.{limits_of}
 use Rattle.place_invariant.proofs.ObjectMakes.{made_of, TwoFound, object_make}
 use Rattle.work_invariant.proofs.AtName.{range_below}
@@ -93,8 +95,9 @@ module _ (own : Own) (plan : Plan) (read : Option ℕ) (c : ℕ) (own_core : own
   begins_fill : (call : Call) (ks : List Capability) (k : Capability)
       → act_begun own call ks read (Some at)
       ≡ scans own.core (quiet_scan (stamp_in at.value) own.core own.layout.cores (fills_page call ks)) (filling k at)
-      → EntryFits (entry.Held k) → put_by call ks read ≡ Some k → Begins own call plan ks read c at
-  begins_fill call ks k begins fits puts = record {
+      → EntryFits (entry.Held k) → put_by call ks read ≡ Some k → ((s : State) → HasUser s call)
+      → Begins own call plan ks read c at
+  begins_fill call ks k begins fits puts user = record {
     act = filling k at;
     begins = begins;
     stamp = refl;
@@ -109,9 +112,48 @@ module _ (own : Own) (plan : Plan) (read : Option ℕ) (c : ℕ) (own_core : own
       read = read;
       has_read = reads;
       puts = puts;
+      user = user (state_after setup t);
     };
     outside = λ out. absurd (false≢true (sym out));
   }
+
+  -- it maps a frame
+  module _ (p v r f : ℕ) (w : PageFlags) (pages range : Capability) (rest : List Capability) where
+    abbrev map_scan : ActOf → Rattle.call_acts.specs.declared.work.WorkStep.WorkStep
+    map_scan act = scans own.core (quiet_scan (stamp_in at.value) own.core own.layout.cores true) act
+
+    map_within : (has : Bool) → has_frame (found range) f ≡ has → w.0 < 4
+        → act_begun own (Map p v r f w) (pages ∷ range ∷ rest) read (Some at) ≡ map_scan (mapping_if (has && nat_lt f own.layout.frames) f w at)
+    map_within has is flags = ap (λ b. maps_if b own range f w at) (lt-ltb w.0 4 flags)
+        ∙ ap (λ b. map_scan (mapping_if (b && nat_lt f own.layout.frames) f w at)) is
+
+    begins_map : w.0 < 4 → own.layout.frames ≤ 512 → (has_frame (found range) f ≡ true → f < own.layout.frames)
+        → Begins own (Map p v r f w) plan (pages ∷ range ∷ rest) read c at
+    begins_map flags small below = by (has_frame (found range) f) refl
+      where
+        by : (has : Bool) → has_frame (found range) f ≡ has → Begins own (Map p v r f w) plan (pages ∷ range ∷ rest) read c at
+        by true has = record {
+          act = mapping f w at;
+          begins = map_within true has flags ∙ ap (λ b. map_scan (mapping_if b f w at)) (lt-ltb f own.layout.frames (below has));
+          stamp = refl;
+          starts = refl;
+          knows = λ setup t upto spot reads. record {
+            spot = spot;
+            fits = (let low = below has in omega (arith, low, small), omega arith, flags);
+            puts = ap (λ b. if b then Some (page_cap f w) else None) has;
+            frame = refl;
+            maps = refl;
+          };
+          outside = λ out. absurd (false≢true (sym out));
+        }
+        by false has = record {
+          act = Outside at.node at.entry at.word;
+          begins = map_within false has flags;
+          stamp = refl;
+          starts = refl;
+          knows = λ setup t upto spot reads. record { spot = spot; outside = has };
+          outside = λ out. has;
+        }
 
   -- it makes an object
   module _ (what : Make) (r f u b : ℕ) (object : NewObject) (range : Capability) (rest : List Capability)
@@ -175,7 +217,7 @@ gate_of s c comp read has fits = record {
 link_fits : (leaf : Capability) → EntryFits (entry.Held leaf) → EntryFits (entry.Held (plain_cap kind.Link leaf.frame))
 link_fits leaf fits = (fits.0, omega arith, omega arith)
 
-pub begins_free : (own : Own) (call : Call) → IsBuilt call → (spot : Spot) → (plan_for call).target ≡ Free spot
+pub begins_free : (own : Own) (call : Call) → IsBuilt call → InLimits call → own.layout.frames ≤ 512 → (spot : Spot) → (plan_for call).target ≡ Free spot
     → (s : State) (plan : Plan) (ks : List Capability) (read : Option ℕ) (c : ℕ) → own.core ≡ c
     → names_after (plan_for call).names ks ≡ [] → Leads (LeadsIn s c) (plan_for call).names [] ks
     → ((at : Nth) (k : Capability) → at_place ks at ≡ Some k → EntryFits (entry.Held k))
@@ -183,71 +225,82 @@ pub begins_free : (own : Own) (call : Call) → IsBuilt call → (spot : Spot) �
     → f < own.layout.frames)
     → ReadIs s c (reads_of call ks) read
     → (at : Found) → Begins own call plan ks read c at
-begins_free own (look_call a) built spot to s plan ks read c core none leads fits within reads at = absurd (not_free to)
+begins_free own (look_call a) built limits small spot to s plan ks read c core none leads fits within reads at = absurd (not_free to)
   where
     not_free : Nowhere ≡ Free spot → ⊥
     not_free h = cc
-begins_free own (Copy a u b) built spot to s plan [] read c core none leads fits within reads at = absurd (not_none none)
+begins_free own (Copy a u b) built limits small spot to s plan [] read c core none leads fits within reads at = absurd (not_none none)
   where
     not_none : any_cap a ∷ of_kind kind.Table u ∷ [] ≡ [] → ⊥
     not_none h = cc
-begins_free own (Copy a u b) built spot to s plan (k ∷ ks) read c core none leads fits within reads at =
-    begins_fill own plan read c core at (Copy a u b) (k ∷ ks) k refl (fits First k refl) refl
-begins_free own (Grow u i l) built spot to s plan [] read c core none leads fits within reads at = absurd (not_none none)
+begins_free own (Copy a u b) built limits small spot to s plan (k ∷ ks) read c core none leads fits within reads at =
+    begins_fill own plan read c core at (Copy a u b) (k ∷ ks) k refl (fits First k refl) refl (λ s. tt)
+begins_free own (Grow u i l) built limits small spot to s plan [] read c core none leads fits within reads at = absurd (not_none none)
   where
     not_none : a_root u ∷ a_leaf l ∷ [] ≡ [] → ⊥
     not_none h = cc
-begins_free own (Grow u i l) built spot to s plan (k ∷ []) read c core none leads fits within reads at = absurd (not_none none)
+begins_free own (Grow u i l) built limits small spot to s plan (k ∷ []) read c core none leads fits within reads at = absurd (not_none none)
   where
     not_none : a_leaf l ∷ [] ≡ [] → ⊥
     not_none h = cc
-begins_free own (Grow u i l) built spot to s plan (k ∷ j ∷ ks) read c core none leads fits within reads at =
+begins_free own (Grow u i l) built limits small spot to s plan (k ∷ j ∷ ks) read c core none leads fits within reads at =
     begins_fill own plan read c core at (Grow u i l) (k ∷ j ∷ ks) (plain_cap kind.Link j.frame) refl
-    (link_fits j (fits Second j refl)) refl
-begins_free own (Remove u b) built spot to s plan ks read c core none leads fits within reads at = absurd (not_free to)
+    (link_fits j (fits Second j refl)) refl (λ s. tt)
+begins_free own (Map p v r f w) built limits small spot to s plan [] read c core none leads fits within reads at = absurd (not_none none)
+  where
+    not_none : of_kind kind.Pages p ∷ of_kind kind.Range r ∷ [] ≡ [] → ⊥
+    not_none h = cc
+begins_free own (Map p v r f w) built limits small spot to s plan (k ∷ []) read c core none leads fits within reads at = absurd (not_none none)
+  where
+    not_none : of_kind kind.Range r ∷ [] ≡ [] → ⊥
+    not_none h = cc
+begins_free own (Map p v r f w) built limits small spot to s plan (k ∷ j ∷ ks) read c core none leads fits within reads at =
+    begins_map own plan read c core at p v r f w k j ks limits small (within r f j leads.1.0)
+begins_free own (Remove u b) built limits small spot to s plan ks read c core none leads fits within reads at = absurd (not_free to)
   where
     not_free : Held (spot_of.Under First b) ≡ Free spot → ⊥
     not_free h = cc
-begins_free own (Shrink u i) built spot to s plan ks read c core none leads fits within reads at = absurd (not_free to)
+begins_free own (Shrink u i) built limits small spot to s plan ks read c core none leads fits within reads at = absurd (not_free to)
   where
     not_free : Held (spot_of.InRoot First i) ≡ Free spot → ⊥
     not_free h = cc
-begins_free own (Unmap p v) built spot to s plan ks read c core none leads fits within reads at = absurd (not_free to)
+begins_free own (Unmap p v) built limits small spot to s plan ks read c core none leads fits within reads at = absurd (not_free to)
   where
     not_free : Held (spot_of.Under First v) ≡ Free spot → ⊥
     not_free h = cc
-begins_free own (Retype r f frame_kind.Untyped) built spot to s plan ks read c core none leads fits within reads at = absurd built
-begins_free own (Retype r f frame_kind.User) built spot to s plan ks read c core none leads fits within reads at = absurd (not_target to)
+begins_free own (Retype r f frame_kind.Untyped) built limits small spot to s plan ks read c core none leads fits within reads at = absurd built
+begins_free own (Retype r f frame_kind.User) built limits small spot to s plan ks read c core none leads fits within reads at = absurd (not_target to)
   where
     not_target : Nowhere ≡ Free spot → ⊥
     not_target h = cc
-begins_free own (Retype r f frame_kind.Kernel) built spot to s plan ks read c core none leads fits within reads at = absurd (not_target to)
+begins_free own (Retype r f frame_kind.Kernel) built limits small spot to s plan ks read c core none leads fits within reads at = absurd (not_target to)
   where
     not_target : Nowhere ≡ Free spot → ⊥
     not_target h = cc
-begins_free own (make_call what r f u b) built spot to s plan ks read c core none leads fits within reads at =
+begins_free own (make_call what r f u b) built limits small spot to s plan ks read c core none leads fits within reads at =
     made_of what built r f u b ks none (Begins own (make_call what r f u b) plan ks read c at) (λ object is.
     let two : TwoFound s c r u ks = (object_make s c r f u b what object ks is leads none).two in
     subst (λ ks. Begins own (make_call what r f u b) plan ks read c at) (sym two.found_is)
     (begins_make own plan read c core at what r f u b object two.range (two.table ∷ two.rest)
     (subst (λ ks. object_made what ks ≡ Some object) two.found_is is) (within r f two.range two.first)))
-begins_free own Flush built spot to s plan ks read c core none leads fits within reads at = absurd (not_target to)
+begins_free own Flush built limits small spot to s plan ks read c core none leads fits within reads at = absurd (not_target to)
   where
     not_target : Nowhere ≡ Free spot → ⊥
     not_target h = cc
-begins_free own (Tick n) built spot to s plan ks read c core none leads fits within reads at = absurd (not_target to)
+begins_free own (Tick n) built limits small spot to s plan ks read c core none leads fits within reads at = absurd (not_target to)
   where
     not_target : Nowhere ≡ Free spot → ⊥
     not_target h = cc
-begins_free own (Gate n u b) built spot to s plan [] read c core none leads fits within reads at = absurd (not_none none)
+begins_free own (Gate n u b) built limits small spot to s plan [] read c core none leads fits within reads at = absurd (not_none none)
   where
     not_none : of_kind kind.Comp n ∷ of_kind kind.Table u ∷ [] ≡ [] → ⊥
     not_none h = cc
-begins_free own (Gate n u b) built spot to s plan (k ∷ ks) read c core none leads fits within reads at =
+begins_free own (Gate n u b) built limits small spot to s plan (k ∷ ks) read c core none leads fits within reads at =
     let gate : GateOf k read = gate_of s c k read reads (fits k refl) in
     begins_fill own plan read c core at (Gate n u b) (k ∷ ks) gate.cap (ap (λ o. fills_with own o false (Some at)) gate.is) gate.fits gate.is
-begins_free own (Kill n) built spot to s plan ks read c core none leads fits within reads at = absurd (not_target to)
+    (λ s. tt)
+begins_free own (Kill n) built limits small spot to s plan ks read c core none leads fits within reads at = absurd (not_target to)
   where
     not_target : Nowhere ≡ Free spot → ⊥
     not_target h = cc
-begins_free own call built spot to s plan ks read c core none leads fits within reads at = absurd built
+begins_free own call built limits small spot to s plan ks read c core none leads fits within reads at = absurd built

@@ -3,7 +3,7 @@ use Rattle.std.proofs.Common.{◌≡◌, ℕ, nat_le, nat_lt, ◌&&◌, Bool, tr
 use Rattle.std.proofs.lemmas.Bool.{leb-false, lt-ltb}
 use Rattle.spk_nums.specs.Capability.{Capability}
 use Rattle.spk_nums.specs.declared.calls.Call.{Call}
-use Rattle.spk_nums.specs.declared.calls.Call.TheVariants.{Look as look_call, Copy, Remove, Shrink, Unmap, Retype, Make as make_call, Tick, Gate, Kill, Grow, Flush}
+use Rattle.spk_nums.specs.declared.calls.Call.TheVariants.{Look as look_call, Copy, Remove, Shrink, Unmap, Retype, Make as make_call, Tick, Gate, Kill, Grow, Flush, Map}
 use Rattle.spk_nums.specs.declared.calls.Make.{Make}
 use Rattle.spk_nums.specs.declared.calls.Make.TheVariants as make
 use Rattle.spk_nums.specs.declared.kinds.FrameKind.TheVariants as frame_kind
@@ -81,6 +81,7 @@ no_own (Copy a u b) built v is = cc
 no_own (Grow u i l) built v is = cc
 no_own (Remove u b) built v is = cc
 no_own (Shrink u i) built v is = cc
+no_own (Map p n r f w) built v is = cc
 no_own (Unmap p n) built v is = cc
 no_own (Retype r f frame_kind.Untyped) built v is = cc
 no_own (Retype r f frame_kind.User) built v is = cc
@@ -138,6 +139,10 @@ begins_removal own (Grow u i l) built spot to ks = absurd (not_held to)
     not_held h = cc
 begins_removal own (Remove u b) built spot to ks = record { removes = refl; act = λ f. refl }
 begins_removal own (Shrink u i) built spot to ks = record { removes = refl; act = λ f. refl }
+begins_removal own (Map p v r f w) built spot to ks = absurd (not_held to)
+  where
+    not_held : Free (spot_of.Under First v) ≡ Held spot → ⊥
+    not_held h = cc
 begins_removal own (Unmap p v) built spot to ks = record { removes = refl; act = λ f. refl }
 begins_removal own (Retype r f frame_kind.Untyped) built spot to ks = absurd (not_target to)
   where

@@ -5,7 +5,7 @@ use Rattle.spk_nums.specs.Capability.{Capability}
 use Rattle.spk_nums.specs.Setting.{Setting, IsSetting}
 use Rattle.spk_nums.specs.declared.kinds.Kind.{Kind}
 use Rattle.spk_nums.specs.declared.calls.Call.{Call}
-use Rattle.spk_nums.specs.declared.calls.Call.TheVariants.{Look as look_call, Copy, Remove, Shrink, Unmap, Retype, Make as make_call, Tick, Gate, Kill, Grow, Flush}
+use Rattle.spk_nums.specs.declared.calls.Call.TheVariants.{Look as look_call, Copy, Remove, Shrink, Unmap, Retype, Make as make_call, Tick, Gate, Kill, Grow, Flush, Map}
 use Rattle.supported_calls.specs.Built.{IsBuilt}
 use Rattle.spk_nums.specs.declared.replies.Reply.{Reply}
 use Rattle.spk_nums.specs.declared.replies.Reply.TheVariants as reply
@@ -256,6 +256,7 @@ module _ (setup : Setting) (setting : IsSetting setup) (cores : ℕ → Core) (t
     acts_at_name (Grow u i l) is built nowhere = absurd (free_somewhere (spot_of.InRoot First i) nowhere)
     acts_at_name (Remove u v) is built nowhere = absurd (held_somewhere (spot_of.Under First v) nowhere)
     acts_at_name (Shrink u i) is built nowhere = absurd (held_somewhere (spot_of.InRoot First i) nowhere)
+    acts_at_name (Map p v r f w) is built nowhere = absurd (free_somewhere (spot_of.Under First v) nowhere)
     acts_at_name (Unmap p v) is built nowhere = absurd (held_somewhere (spot_of.Under First v) nowhere)
     acts_at_name (Retype r f frame_kind.Untyped) is built nowhere = absurd built
     acts_at_name (Retype r f frame_kind.User) is built nowhere = range_at_name r f frame_kind.User is refl refl
@@ -370,7 +371,9 @@ module _ (setup : Setting) (setting : IsSetting setup) (cores : ℕ → Core) (t
     -- the act with which the call begins at the place
     begins_with : (at : Slot) (v : Entry)
         → Begins (cores c).own a.call a.plan a.found a.read c (found_at at.node at.index (last_left setup t (EntryAt at.node at.index)) v)
-    begins_with at v = begins_free (cores c).own a.call (is_active setup setting cores t stands c here a active).built spot
+    begins_with at v = begins_free (cores c).own a.call (is_active setup setting cores t stands c here a active).built
+        (is_active setup setting cores t stands c here a active).limits
+        (subst (λ (n : ℕ). n ≤ 512) (sym (ap (λ x. x.frames) (stands.each c here).shape)) setting.most_frames) spot
         (ap (λ (p : Plan). p.target) (sym plan_is) ∙ to) s a.plan a.found a.read c (stands.each c here).number
         (subst (λ (p : Plan). names_after p.names a.found ≡ []) plan_is none)
         (subst (λ (p : Plan). Leads (LeadsIn s c) p.names [] a.found) plan_is leads)
@@ -412,9 +415,9 @@ module _ (setup : Setting) (setting : IsSetting setup) (cores : ℕ → Core) (t
       starts_now may_then may =
           starts_good setup setting cores t stands c here a active opens held_is no_counts room has.names
           (LoadOf (EntryAt at.node at.index)) looks begun.act begun.starts (λ carries. knows_begun setup.cores may_then)
-          (λ out. refused_vacant setup setting cores t stands c here a active opens has.names at.node at.index target next_free
+          (λ out. refused_vacant setup setting cores t stands c here a active has.names at.node at.index target next_free
           arrives.reached (begun.outside out) (LoadOf (EntryAt at.node at.index))
-          (λ leaf alone. vacant_by setup t c at.node at.index
+          (λ alone. vacant_by setup t c at.node at.index
           (ap (λ l. l.cores) (limits_of setup t)) setup.frames (entry_of_word word) arrives.plain.says
           (subst (MayFill setup t c thing setup.cores) (sym reads) may)))
 

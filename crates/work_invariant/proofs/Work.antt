@@ -8,7 +8,7 @@ use Rattle.stage_look.specs.Shown.{shown_in}
 use Rattle.stage_look.specs.Lookup.{look_move}
 use Rattle.stage_look.specs.declared.look.Look.{Look}
 use Rattle.stage_look.specs.declared.look.Look.TheVariants.{AtRoot, AtLeaf, AtEntry}
-use Rattle.call_acts.specs.declared.work.Act.TheVariants.{Fill as fill_act, Remove as remove_act, Retype as type_act, Make as make_act, Outside, Tick as tick_act, Flush as flush_act, Kill as kill_act, Untype as untype_act}
+use Rattle.call_acts.specs.declared.work.Act.TheVariants.{Fill as fill_act, Remove as remove_act, Retype as type_act, Make as make_act, Outside, Tick as tick_act, Flush as flush_act, Kill as kill_act, Untype as untype_act, Map as map_act}
 use Rattle.call_acts.specs.declared.work.Work.{Work}
 use Rattle.call_acts.specs.declared.work.Work.TheVariants.{Lookup, Read, Scan, Acquire, Act}
 use Rattle.call_steps.specs.declared.stages.Stage.TheVariants.{Undecided}
@@ -23,6 +23,7 @@ use Rattle.count_invariant.proofs.Acquiring.{acquire_good}
 use Rattle.work_invariant.proofs.ByPlan.{lookup_good}
 use Rattle.work_invariant.proofs.Reading.{read_good}
 use Rattle.place_invariant.proofs.Fills.{fill_good}
+use Rattle.place_invariant.proofs.Mappings.{map_good}
 use Rattle.place_invariant.proofs.Removals.{remove_good}
 use Rattle.place_invariant.proofs.ScanSteps.{scan_good}
 use Rattle.frame_invariant.proofs.Typings.{typing_good}
@@ -67,6 +68,8 @@ work_good setup setting cores t stands c here a active (Act (type_act typing)) i
     typing_good setup setting cores t stands c here a active typing.frame typing.kind typing.at is knows
 work_good setup setting cores t stands c here a active (Act (make_act m)) is knows =
     making_good setup setting cores t stands c here a active m is knows
+work_good setup setting cores t stands c here a active (Act (map_act fill)) is knows =
+    map_good setup setting cores t stands c here a active fill is knows
 work_good setup setting cores t stands c here a active (Act (Outside node entry word)) is knows =
     absurd (false≢true knows.knows.goes)
 work_good setup setting cores t stands c here a active (Act (tick_act charge)) is knows =

@@ -1,0 +1,89 @@
+//! What the tests of grows and maps share: tables with links and pages, and orders of single steps.
+
+use speck_run::Status;
+use std::alloc::Global;
+use std::test::Fail;
+use std::thread::Threads;
+use test_machine::{AMPLE, FROM_ENTRIES, MACHINE, TO_ENTRIES, answers};
+
+/// What the tables of the start have besides: the entries of the table's root, of its leaf and of the pages' root, and what is in frames 8
+/// and on.
+#[derive(Clone, Copy)]
+pub struct Added<'a> {
+    pub root: &'a str,
+    pub leaf: &'a str,
+    pub pages: &'a str,
+    pub frames: &'a str,
+}
+
+pub fn tables(alloc: Global, added: &Added) -> Result<String, Fail> {
+    let leaf = added.leaf;
+    let start = format!(in alloc; "{TO_ENTRIES}{leaf}{FROM_ENTRIES}")?;
+    let root = added.root;
+    let root = format!(in alloc; "  0 link 1\n{root}")?;
+    let text = start.replace(alloc, "  0 link 1\n", &root)?;
+    let pages = added.pages;
+    let pages = format!(in alloc; "pages refs 2\n{pages}")?;
+    let text = text.replace(alloc, "pages refs 2\n", &pages)?;
+    let frames = added.frames;
+    let frames = format!(in alloc; "{frames}live 0 epoch")?;
+    let text = text.replace(alloc, "live 0 epoch", &frames)?;
+    Ok(text)
+}
+
+/// Whether the script of these lines ends with these reply lines and tables by each of these commands.
+pub fn ends<R: Threads + Sync>(
+    rt: &R,
+    alloc: Global,
+    commands: &[&str],
+    lines: &str,
+    replies: &str,
+    added: &Added,
+) -> Result<bool, Fail> {
+    let script = format!(in alloc; "{MACHINE}{lines}")?;
+    let tables = tables(alloc, added)?;
+    let text = format!(in alloc; "{replies}{tables}")?;
+    for command in commands.iter() {
+        if !answers(
+            rt,
+            alloc,
+            &[*command],
+            script.as_bytes(),
+            &AMPLE,
+            Status::Done,
+            &text,
+        )? {
+            return Ok(false);
+        }
+    }
+    Ok(true)
+}
+
+/// The items by which a core makes so many steps.
+pub fn steps(alloc: Global, core: u8, number: usize) -> Result<String, Fail> {
+    let mut items = String::new(alloc);
+    for _ in 0..number {
+        write!(items, "{core} ")?;
+    }
+    Ok(items)
+}
+
+/// The order of two cores that is this number's: bit by bit the core that steps next, where core 1 makes so many of the steps.
+pub fn order_of(number: u32, length: usize, ones: u32) -> Option<[u8; 12]> {
+    if number.count_ones() != ones {
+        return None;
+    }
+    let mut order = [2; 12];
+    for at in 0..length {
+        order[at] = if number & (1u32 << at) == 0 { 0 } else { 1 };
+    }
+    Some(order)
+}
+
+pub fn items_of(alloc: Global, order: &[u8]) -> Result<String, Fail> {
+    let mut items = String::new(alloc);
+    for core in order.iter() {
+        write!(items, "{core} ")?;
+    }
+    Ok(items)
+}
