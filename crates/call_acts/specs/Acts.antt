@@ -316,12 +316,15 @@ took_untyping s m found = took_untyping_at s m m.at found
 abbrev pub maps_kind : Fill → FrameKind → WorkStep
 maps_kind fill User = Goes (act_work (fill_act fill))
 maps_kind fill _ = refuse wrong_kind
+
 abbrev pub maps_frame : Fill → FrameKind → Option ℕ → WorkStep
 maps_frame fill k None = maps_kind fill k
 maps_frame fill k (Some d) = refuse (Busy d)
+
 abbrev pub maps_word : Fill → Option FrameWord → WorkStep
 maps_word fill None = refuse Raced
 maps_word fill (Some v) = maps_frame fill v.kind v.mark
+
 -- what an act takes from the word found
 abbrev pub took_act : Shape → Act → ℕ → WorkStep
 took_act s (fill_act fill) found = took_fill fill found

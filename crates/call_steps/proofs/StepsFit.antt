@@ -686,7 +686,7 @@ more_steps s later most more (Goes work) few fits = (fits.0, (let left = fits.1 
 more_steps s later most more (Acquires count work) few fits = fits
 more_steps s later most more (Refuses r tail) few fits = ((let left = fits.0 in omega (arith, left, few)), fits.1)
 more_steps s later most more (Answers v drawn tail) few fits = ((let left = fits.0 in omega (arith, left, few)), fits.1)
-more_steps s later most more (Changes r change tail) few fits = (omega (arith, fits.0), fits.1)
+more_steps s later most more (Changes r change tail) few fits = ((let left = fits.0 in omega (arith, left, few)), fits.1)
 
 -- a step that begins a look-up, or refuses
 abbrev IsLook : WorkStep → Type 0

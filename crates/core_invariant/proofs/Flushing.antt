@@ -129,10 +129,11 @@ none_flushing None p at undecided = refl
 none_flushing (Some a) p at undecided = by a.stage refl
   where
     none : (r : Reply) → p ≡ Decided_phase a.call r → ⊥
-    none r is = elim undecided [ | inl out ↦ out_no (sym out ∙ is) | inr open ↦ open_no open.0 (sym open.1 ∙ is) ]
+    none r is = elim undecided [ inl out ↦ out_no (sym out ∙ is) | inr in_call ↦ open_no in_call.0 (sym in_call.1 ∙ is) ]
       where
         out_no : Out ≡ Decided_phase a.call r → ⊥
         out_no h = cc
+
         open_no : (call : Call) → Open call ≡ Decided_phase a.call r → ⊥
         open_no call h = cc
 

@@ -176,12 +176,13 @@ module _ (setup : Setting) (setting : IsSetting setup) (cores : ℕ → Core) (t
     }
 
     pub inner_own : returns ≡ None → BeginsNone setup t inner → (made : ℕ) (found : List Capability) (stage : Stage)
+        → (is_flushing stage ≡ false → is_flushing a.stage ≡ false)
         → IsCore (core_at (cores c) made (next_at a found stage))
         → WorksIn (record (cores c).own { made = made }) (state_after setup (inner ∷ t)) c
         → after_decide decides (phase_at a.call a.stage) ≡ phase_at a.call stage
         → Knows setup (inner ∷ t) c (cores c).own.table (next_at a found stage)
         → CoreIs setup (core_at (cores c) made (next_at a found stage)) (inner ∷ t) c
-    inner_own none plain made found stage fits works at knows = inner_with none plain made found a.read stage fits works at knows
+    inner_own none plain made found stage was fits works at knows = inner_with none plain made found a.read stage was fits works at knows
 
     -- the core holds at the next stage what it held
     pub still_with : (made : ℕ) (found : List Capability) (read : Option ℕ) (stage : Stage) → holds_at stage a.counts ≡ holds_in (Some a)

@@ -220,6 +220,7 @@ ReadIs s c (Some f) read = IsRead s c f read
 abbrev pub HasUser : State → Call → Type 0
 HasUser s (Map p v r f w) = s.frame f ≡ User
 HasUser s call = Unit {0}
+
 -- The slot of the target is reached, and the call's last step on its entry has read this word there, which it may fill; and what is to
 -- be put there is what the call puts.
 pub record IsFill (setup : Setting) (t : Trace) (c : ℕ) (call : Call) (plan : Plan) (found : List Capability) (upto : ℕ) (fill : Fill) :
@@ -248,7 +249,7 @@ pub record IsMapping (setup : Setting) (t : Trace) (c : ℕ) (call : Call) (plan
     Type 0 where
   pub spot : IsSpot setup t c plan found upto fill.node fill.entry fill.word
   pub fits : EntryFits (entry.Held fill.cap)
-  pub puts : put_by call found ≡ Some fill.cap
+  pub puts : put_by call found None ≡ Some fill.cap
   pub frame : fill.cap.frame ≡ mapped_frame call
   pub maps : is_mapping call ≡ true
 

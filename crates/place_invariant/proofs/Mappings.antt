@@ -43,14 +43,14 @@ use Rattle.call_acts.specs.declared.work.WorkStep.TheVariants.{Goes}
 use Rattle.call_acts.specs.WorkSteps.{refuse}
 use Rattle.stage_pins.specs.declared.held.Acquired.{Acquired}
 use Rattle.kernel_rules.specs.Relies.{is_node}
-use Rattle.call_acts.specs.Acts.{put_by, maps_kind, maps_frame, maps_word, page_cap}
+use Rattle.call_acts.specs.Acts.{reads_of, put_by, maps_kind, maps_frame, maps_word, page_cap}
 use Rattle.call_steps.specs.declared.stages.Stage.TheVariants.{Undecided}
 use Rattle.call_steps.specs.declared.stages.ActiveCall.{ActiveCall}
 use Rattle.call_steps.specs.Fits.{StageFits, HasRoom}
 use Rattle.call_steps.specs.Steps.{landed}
 use Rattle.call_steps.specs.View.{Core}
 use Rattle.core_invariant.specs.Holding.{holds_counts, settled_by}
-use Rattle.core_invariant.specs.Knows.{HasUser, IsMapping, mapped_frame, is_mapping, KnowsUndecided, phase_at}
+use Rattle.core_invariant.specs.Knows.{ReadIs, HasUser, IsMapping, mapped_frame, is_mapping, KnowsUndecided, phase_at}
 use Rattle.core_invariant.specs.Stands.{holds_at, holds_in, held_by, Stands}
 use Rattle.core_invariant.proofs.Carries.{names_on, spot_on, slot_relies}
 use Rattle.core_invariant.proofs.Loads.{OnlyLooks, step_to, inner, core_is, call_is, is_active, loads_on, decides_on}
@@ -96,7 +96,7 @@ record MapRule (s : State) (c : ℕ) (call : Call) (ks : List Capability) (f : �
 
 map_rule_of : (s : State) (c p v r f : ℕ) (w : PageFlags) (ks : List Capability) (k : Capability) (target : Target)
     → Leads (LeadsIn s c) (plan_for (Map p v r f w)).names [] ks → next_of (plan_for (Map p v r f w)) ks ≡ NextFree target
-    → put_by (Map p v r f w) ks ≡ Some k → MapRule s c (Map p v r f w) ks f target
+    → put_by (Map p v r f w) ks None ≡ Some k → MapRule s c (Map p v r f w) ks f target
 map_rule_of s c p v r f w (x ∷ y ∷ []) k target leads next puts = by (has_frame (found y) f) refl puts
   where
     by : (has : Bool) → has_frame (found y) f ≡ has → (if has then Some (page_cap f w) else None) ≡ Some k
@@ -170,7 +170,7 @@ module _ (setup : Setting) (setting : IsSetting setup) (cores : ℕ → Core) (t
       (subst (λ x. Leads (LeadsIn s c) (plan_for x).names [] a.found) is.call_is
       (subst (λ (p : Plan). Leads (LeadsIn s c) p.names [] a.found) plan_is leads))
       (ap (λ x. next_of (plan_for x) a.found) (sym is.call_is) ∙ ap (λ p. next_of p a.found) (sym plan_is) ∙ knows.spot.next)
-      (subst (λ x. put_by x a.found ≡ Some fill.cap) is.call_is knows.puts)))
+      (subst (λ x. put_by x a.found None ≡ Some fill.cap) is.call_is knows.puts)))
 
   near : is_one_of f (frames_near s c a.call) ≡ true
   near = argument_near s c a.call f (subst (λ x. is_one_of f (frame_argument x) ≡ true) (sym is.call_is)
@@ -250,6 +250,8 @@ module _ (setup : Setting) (setting : IsSetting setup) (cores : ℕ → Core) (t
             own = spot.own;
             vacant = spot.vacant;
             fits = knows.fits;
+            read = None;
+            has_read = subst (λ (call : Call). ReadIs (state_after setup (e ∷ t)) c (reads_of call a.found) None) (sym is.call_is) tt;
             puts = knows.puts;
             user = subst (HasUser s) (sym is.call_is) (ap s.frame frame_is
                 ∙ user_is (s.frame f) (ap (λ x. x.kind) (shown_is v shown bare) ∙ kind_is));

@@ -7,7 +7,7 @@ use Rattle.spk_nums.specs.declared.kinds.FrameKind.TheVariants as frame_kind
 use Rattle.spk_nums.specs.declared.kinds.Kind.{Kind}
 use Rattle.spk_nums.specs.declared.kinds.Kind.TheVariants as kind
 use Rattle.spk_nums.specs.declared.calls.Call.{Call}
-use Rattle.spk_nums.specs.declared.calls.Call.TheVariants.{Look, Copy, Remove, Grow, Shrink, Map, Unmap, Retype, Make as make_call, Tick, Kill}
+use Rattle.spk_nums.specs.declared.calls.Call.TheVariants.{Look, Copy, Remove, Grow, Shrink, Map, Unmap, Retype, Make as make_call, Tick, Kill, Gate, Flush}
 use Rattle.supported_calls.specs.Built.{IsBuilt}
 use Rattle.kernel_rules.specs.State.{Table, Pages, Frame, Kernel, State}
 use Rattle.kernel_rules.specs.Access.{Slot, Named, found, root, only, Target, Under, InRoot, reached}
@@ -114,6 +114,13 @@ module _ (setup : Setting) (setting : IsSetting setup) (t : Trace) (legal : IsLe
       let make : IsObjectMake s c r f u b what object ks = object_make s c r f u b what object ks of lead none in
       ap is_paging (in_leaf setup setting t legal c (make_call what r f u b) is u b make.two.table at make.two.second
       (ap (reached s c) (target_in (Under (found make.two.table) b) target (sym make.next ∙ next)) ∙ reaches)))
+  paging_by (Gate n u b) is built (k ∷ j ∷ []) lead next =
+      ap is_paging (in_leaf setup setting t legal c (Gate n u b) is u b j at lead.1.0
+      (ap (reached s c) (target_in (Under (found j) b) target next) ∙ reaches))
+  paging_by (Gate n u b) is built [] lead next = absurd (cc)
+  paging_by (Gate n u b) is built (k ∷ []) lead next = absurd (cc)
+  paging_by (Gate n u b) is built (k ∷ j ∷ i ∷ ks) lead next = absurd lead.1.1
+  paging_by Flush is built ks lead next = absurd (none_free Flush ks next)
   paging_by (Look a) is built ks lead next = absurd (none_free (Look a) ks next)
   paging_by (Remove u b) is built ks lead next = absurd (none_free (Remove u b) ks next)
   paging_by (Shrink u i) is built ks lead next = absurd (none_free (Shrink u i) ks next)
