@@ -296,7 +296,7 @@ begins_free own (Gate n u b) built limits small spot to s plan [] read c core no
     not_none : of_kind kind.Comp n ∷ of_kind kind.Table u ∷ [] ≡ [] → ⊥
     not_none h = cc
 begins_free own (Gate n u b) built limits small spot to s plan (k ∷ ks) read c core none leads fits within reads at =
-    let gate : GateOf k read = gate_of s c k read reads (fits k refl) in
+    let gate : GateOf k read = gate_of s c k read reads (fits First k refl) in
     begins_fill own plan read c core at (Gate n u b) (k ∷ ks) gate.cap (ap (λ o. fills_with own o false (Some at)) gate.is) gate.fits gate.is
     (λ s. tt)
 begins_free own (Kill n) built limits small spot to s plan ks read c core none leads fits within reads at = absurd (not_target to)
