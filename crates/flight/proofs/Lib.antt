@@ -12,3 +12,4 @@ pub mod ByPlace
 pub mod AfterStep
 pub mod Alike
 pub mod Time
+pub mod Pages

@@ -6,3 +6,4 @@ pub mod Places
 pub mod Phases
 pub mod Time
 pub mod Lives
+pub mod Pages

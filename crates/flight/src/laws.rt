@@ -2,6 +2,7 @@
 
 ghost use Rattle.flight.specs.Histories.{MadeHistories};
 ghost use Rattle.flight.specs.Lives.{DeadForGood};
+ghost use Rattle.flight.specs.Pages.{CachedFramesStay};
 ghost use Rattle.flight.specs.Places.{PlacesFound, ScannedCores};
 ghost use Rattle.flight.specs.Time.{HeadsSay, TicksAreCounted, TimeIsKept};
 ghost use Rattle.flight.specs.Theorems.{Boots, StepsOn, MadeStands, SaysWords, Represents, RepresentsCounts};
@@ -86,4 +87,10 @@ pub fn heads_say()
 #[tactic(auto, using(crate::proofs::Lives::dead_for_good))]
 pub fn dead_for_good()
     ensures { DeadForGood }
+{}
+
+/// At each moment each translation that a core has cached stands: its frame is a user frame, which is not retyped till the core flushes.
+#[tactic(auto, using(crate::proofs::Pages::cached_frames_stay))]
+pub fn cached_frames_stay()
+    ensures { CachedFramesStay }
 {}
