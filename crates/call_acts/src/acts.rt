@@ -209,7 +209,8 @@ fn cap_due(cap: &Cap, change: i32, n: u8) -> Option<Due>
 }
 
 /// What a call of a core does whose names have led to these and whose target, if it has one, was found: a look answers at once, a
-/// copy, a grow and a map begin to fill their target, a remove, a shrink and an unmap to remove what their target holds, a retype to type its frame,
+/// copy, a grow and a map begin to fill their target, a remove, a shrink and an unmap to remove what their target holds, a retype to
+/// type its frame,
 /// a make to make its object, a tick to charge its ticks. The core is one of the layout's at most 8.
 #[inline]
 pub fn begin_act(own: &Own, call: &Call, found: &Caps, target: &Option<Found>) -> WorkStep
@@ -219,8 +220,7 @@ pub fn begin_act(own: &Own, call: &Call, found: &Caps, target: &Option<Found>) -
 {
     match call {
         Call::Look { a: _ } => looked(&found.get(Nth::First)),
-        Call::Copy { a: _, t: _, b: _ } =>
-            fills_with(own, &found.get(Nth::First), false, target),
+        Call::Copy { a: _, t: _, b: _ } => fills_with(own, &found.get(Nth::First), false, target),
         Call::Grow { t: _, i: _, l: _ } => fills_with(
             own,
             &link_to(&found.get(Nth::Second)),

@@ -404,7 +404,8 @@ pub record KnowsKilling (setup : Setting) (t : Trace) (c : ℕ) (call : Call) (k
   pub comp : HasComp (state_after setup t) c m.comp
   pub at : KnowsKillingAt setup t c m.comp m.at
 
--- What a call with this plan knows of its act, where its names have led to these and the cores below `upto` were scanned, with their flushes.
+-- What a call with this plan knows of its act, where its names have led to these and the cores below `upto` were scanned, with their
+-- flushes.
 abbrev pub KnowsAct : Setting → Trace → ℕ → Call → Plan → List Capability → ℕ → ActOf → Type 0
 KnowsAct setup t c call plan found upto (fill_act fill) = IsFill setup t c call plan found upto fill
 KnowsAct setup t c call plan found upto (remove_act close cap) = KnowsClose setup t c call plan found close cap

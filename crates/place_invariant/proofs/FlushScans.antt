@@ -351,7 +351,7 @@ module _ (setup : Setting) (setting : IsSetting setup) (cores : ℕ → Core) (t
         })
       where
         below_one : (d : ℕ) → d < at + 1 → (d < at) ⊎ (d ≡ at)
-        below_one d under = elim (cases_eq d at) [ | inl same ↦ inr same | inr apart ↦ inl (omega arith) ]
+        below_one d under = elim (cases_eq d at) [ inl same ↦ inr same | inr apart ↦ inl (omega arith) ]
 
     -- there is none: the act starts
     ends : setup.cores ≤ at + 1 → GoodTook setup cores t c load (landed a (starts (cores c).own.core act))
@@ -359,7 +359,7 @@ module _ (setup : Setting) (setting : IsSetting setup) (cores : ℕ → Core) (t
         has.knows.starts (carried setup.cores (again setup.cores whole)) (λ out. outside out whole)
       where
         below_all : (d : ℕ) → d < setup.cores → (d < at) ⊎ (d ≡ at)
-        below_all d under = elim (cases_eq d at) [ | inl same ↦ inr same | inr apart ↦ inl (let l = last in omega arith) ]
+        below_all d under = elim (cases_eq d at) [ inl same ↦ inr same | inr apart ↦ inl (let l = last in omega arith) ]
 
         whole : IsSpot setup t c a.plan a.found setup.cores node index word
         whole = spot_then setup.cores (omega arith) below_all
