@@ -244,7 +244,8 @@ meets_comp m None = refuse Raced
 meets_comp m (Some life) = Goes (act_work (kill_act (record m { at = LoadLive life })))
 
 abbrev pub meets_life : Killing → CompWord → ℕ → Bool → WorkStep
-meets_life m life word lives = if lives then Goes (next_work m.core 0 (kill_act (record m { at = kill_close life word }))) else refuse is_dead
+meets_life m life word lives = if lives then Goes (next_work m.core 0 (kill_act (record m { at = kill_close life word }))) else refuse
+    is_dead
 
 abbrev pub meets_number : Killing → CompWord → ℕ → LiveWord → WorkStep
 meets_number m life word live.Free = refuse is_dead

@@ -221,7 +221,8 @@ fn cap_due(cap: &Cap, change: i32, n: u8) -> Option<Due>
 }
 
 /// What a call of a core does whose names have led to these, which has read this, and whose target, if it has one, was found: a look answers
-/// at once, a copy, a grow, a map and a gate begin to fill their target, a remove, a shrink and an unmap to remove what their target holds, a retype to type its frame,
+/// at once, a copy, a grow, a map and a gate begin to fill their target, a remove, a shrink and an unmap to remove what their target holds, a retype to
+/// type its frame,
 /// a make to make its object, a flush to drop its translations, a tick to charge its ticks. The core is one of the layout's at most 8.
 #[inline]
 pub fn begin_act(

@@ -103,6 +103,7 @@ use Rattle.call_acts.specs.Acts.{ActFits, close_left, act_left, took_close, maps
 use Rattle.call_acts.specs.Lookups.{met_name, met_free, met_held}
 use Rattle.call_steps.specs.Steps.{GoesOn, landed, found_more, next_by, took_enter, named_one, read_more, took_read, took_found, took_end, took_look, took_scan, took_count, took_work, went_with, is_spent, took_at, took}
 use Rattle.call_steps.proofs.LandsFit.{TookFits, Facts, names_object, next_fits, landed_fits}
+use Rattle.call_steps.proofs.ScansFit.{scan_goes, scan_left}
 use Rattle.call_steps.proofs.KillsFit.{kill_fits}
 use Rattle.call_steps.proofs.UntypingsFit.{untype_fits, undone_fits, released_fits}
 
@@ -319,107 +320,6 @@ module _ (own : Own) (a : ActiveCall) (facts : Facts own a) (room : own.made < o
   undo_fits (kill_act m) fits = (tt, omega arith)
   undo_fits (untype_act m) fits = undone_fits own.layout m m.at facts.own_fits.shape fits
 
-  -- a scan goes on to the next core, to the flush words, or to the act
-  core_left : (core at : ℕ) → core < own.layout.cores → at < own.layout.cores → 1 ≤ left_of_cores own.layout.cores core at
-  core_left core at here below = by (nat_lt at core) refl
-    where
-      by : (b : Bool) → nat_lt at core ≡ b → 1 ≤ (if b then own.layout.cores - at - 1 else own.layout.cores - at)
-      by true is = let l = ltb-true at core is in let h = here in omega arith
-      by false is = let h = below in omega arith
-
-  with_more : (x y more : ℕ) → x < y → x + more < y + more
-  with_more x y more less = omega arith
-
-  flushes_fewer : (x cores : ℕ) → 1 ≤ x → cores - 0 < x + cores
-  flushes_fewer x cores some = omega arith
-
-  scan_goes : (q : Quiet) (found : ℕ) → QuietFits own.layout q → ScanFits own.layout q → quiet_end own.layout.cores q found ≡ ends.Going
-      → QuietFits own.layout (quiet_after own.layout.cores q found) × ScanFits own.layout (quiet_after own.layout.cores q found)
-      × (left_of_scan own.layout.cores (quiet_after own.layout.cores q found) < left_of_scan own.layout.cores q)
-  scan_goes (AtFlush stamp at) found quiet fits is =
-      by (quiet_refuses (AtFlush stamp at) found) (nat_lt (at + 1) own.layout.cores) refl is
-    where
-      by : (refused : Option Reply) (there : Bool) → nat_lt (at + 1) own.layout.cores ≡ there
-          → scan_end refused (if there then Some (AtFlush stamp (at + 1)) else None) ≡ ends.Going
-          → QuietFits own.layout (scan_after (AtFlush stamp at) refused (if there then Some (AtFlush stamp (at + 1)) else None))
-          × ScanFits own.layout (scan_after (AtFlush stamp at) refused (if there then Some (AtFlush stamp (at + 1)) else None))
-          × (left_of_scan own.layout.cores
-          (scan_after (AtFlush stamp at) refused (if there then Some (AtFlush stamp (at + 1)) else None)) < own.layout.cores - at)
-      by (Some r) there below is = absurd (cc)
-      by None true below is = let l = ltb-true (at + 1) own.layout.cores below in (l, fits, omega (arith, l))
-      by None false below is = absurd (cc)
-  scan_goes (AtCore stamp core at page) found quiet fits is =
-      by (quiet_refuses (AtCore stamp core at page) found) (nat_lt (next_other core at) own.layout.cores) refl page is
-    where
-      left_is : (n : ℕ) → ℕ
-      left_is n = if nat_lt n core then own.layout.cores - n - 1 else own.layout.cores - n
-
-      fewer : (less next one : Bool) → nat_lt at core ≡ less → nat_lt (next_other core at) core ≡ next → (at + 1 == core) ≡ one
-          → next_other core at < own.layout.cores → left_is (next_other core at) < left_is at
-      fewer less next one a b d below =
-          subst (λ x. (if x then own.layout.cores - next_other core at - 1 else own.layout.cores - next_other core at) < left_is at)
-          (sym b)
-          (subst (λ x. (if next then own.layout.cores - next_other core at - 1 else own.layout.cores - next_other core at) <
-          (if x then own.layout.cores - at - 1 else own.layout.cores - at)) (sym a) (go less next one a b d below))
-        where
-          go : (less next one : Bool) → nat_lt at core ≡ less → nat_lt (next_other core at) core ≡ next → (at + 1 == core) ≡ one
-              → next_other core at < own.layout.cores
-              → (if next then own.layout.cores - next_other core at - 1 else own.layout.cores - next_other core at) <
-              (if less then own.layout.cores - at - 1 else own.layout.cores - at)
-          go true true true a b d below =
-              let n : next_other core at ≡ at + 2 = ap (λ x. if x then at + 2 else at + 1) d in
-              let e = eqb-true (at + 1) core d in
-              let l = ltb-true (next_other core at) core b in absurd (omega arith)
-          go true true false a b d below =
-              let n : next_other core at ≡ at + 1 = ap (λ x. if x then at + 2 else at + 1) d in
-              let l = ltb-true (next_other core at) core b in
-              let here = facts.own_fits.core in omega arith
-          go true false true a b d below = let n : next_other core at ≡ at + 2 = ap (λ x. if x then at + 2 else at + 1) d in omega arith
-          go true false false a b d below =
-              let n : next_other core at ≡ at + 1 = ap (λ x. if x then at + 2 else at + 1) d in
-              let e = eqb-false (at + 1) core d in
-              let l = ltb-true at core a in
-              let m = ltb-false (next_other core at) core b in absurd (e (omega arith))
-          go false next one a b d below = go_far next one b d
-            where
-              l : core ≤ at
-              l = ltb-false at core a
-
-              go_far : (next one : Bool) → nat_lt (next_other core at) core ≡ next → (at + 1 == core) ≡ one
-                  → (if next then own.layout.cores - next_other core at - 1 else own.layout.cores - next_other core at) < own.layout.cores
-                  - at
-              go_far next true b d = let e = eqb-true (at + 1) core d in let m = l in absurd (omega arith)
-              go_far true false b d =
-                  let n : next_other core at ≡ at + 1 = ap (λ x. if x then at + 2 else at + 1) d in
-                  let k = ltb-true (next_other core at) core b in let m = l in absurd (omega arith)
-              go_far false false b d = let n : next_other core at ≡ at + 1 = ap (λ x. if x then at + 2 else at + 1) d in omega arith
-
-      apart : (one : Bool) → (at + 1 == core) ≡ one → next_other core at ≢ core
-      apart true d = let n : next_other core at ≡ at + 2 =
-          ap (λ x. if x then at + 2 else at + 1) d in let e = eqb-true (at + 1) core d in omega arith
-      apart false d = let n : next_other core at ≡ at + 1 =
-          ap (λ x. if x then at + 2 else at + 1) d in let e = eqb-false (at + 1) core d in λ h. e (omega arith)
-
-      by : (refused : Option Reply) (there : Bool) → nat_lt (next_other core at) own.layout.cores ≡ there → (page : Bool)
-          → scan_end refused (core_scan there stamp core (next_other core at) page) ≡ ends.Going
-          → QuietFits own.layout (scan_after (AtCore stamp core at page) refused (core_scan there stamp core (next_other core at) page))
-          × ScanFits own.layout (scan_after (AtCore stamp core at page) refused (core_scan there stamp core (next_other core at) page))
-          × (left_of_scan own.layout.cores (scan_after (AtCore stamp core at page) refused
-          (core_scan there stamp core (next_other core at) page)) < left_is at + (if page then own.layout.cores else 0))
-      by (Some r) there below page is = absurd (cc)
-      by None true below page is =
-          let in_machine = ltb-true (next_other core at) own.layout.cores below in (
-            (in_machine, apart (at + 1 == core) refl),
-            (fits.0, fits.1),
-            with_more (left_is (next_other core at)) (left_is at) (if page then own.layout.cores else 0)
-                (fewer (nat_lt at core) (nat_lt (next_other core at) core) (at + 1 == core) refl refl refl in_machine),
-          )
-      by None false below true is =
-          let here = fits.0 in
-          let some = core_left core at fits.0 quiet.0 in
-          (omega (arith, here), fits.1, flushes_fewer (left_is at) own.layout.cores some)
-      by None false below false is = absurd (cc)
-
   scan_end_fits : (left : ℕ) (act : ActType) (q : Quiet) (end : StageEnd (Unit {0})) → a.counts ≡ [] → ActFits own.layout act
       → (end ≡ ends.Going → QuietFits own.layout q × ScanFits own.layout q ×
       (2 + (left_of_scan own.layout.cores q + 3 * length (dues act) + act_left own.layout.cores act) < left))
@@ -442,19 +342,15 @@ module _ (own : Own) (a : ActiveCall) (facts : Facts own a) (room : own.made < o
   scan_end_fits left act q (ends.Refuse r) none fits goes some =
       let empty : length a.counts ≡ 0 = ap length none in act_refused left (refusal_of r) (omega arith)
 
-  scan_left : (q : Quiet) → QuietFits own.layout q → ScanFits own.layout q → 1 ≤ left_of_scan own.layout.cores q
-  scan_left (AtFlush stamp at) quiet fits = let h : at < own.layout.cores = quiet in omega arith
-  scan_left (AtCore stamp core at page) quiet fits = let some = core_left core at fits.0 quiet.0 in omega (arith, some)
-
   scan_fits : (q : Quiet) (act : ActType) (found : ℕ) → QuietFits own.layout q → ScanFits own.layout q → ActFits own.layout act
       → a.counts ≡ []
       → TookFits own (left_at own.layout.cores a (Undecided (Scan q act))) a
       (landed a (took_scan own.core act (quiet_after own.layout.cores q found) (quiet_end own.layout.cores q found)))
   scan_fits q act found quiet scan fits none =
       let empty : length a.counts ≡ 0 = ap length none in
-      let some = scan_left q quiet scan in
+      let some = scan_left own.layout q quiet scan in
       scan_end_fits _ act (quiet_after own.layout.cores q found) (quiet_end own.layout.cores q found) none fits
-      (λ going. let on = scan_goes q found quiet scan going in (on.0, on.1, let fewer = on.2 in omega arith)) (omega arith)
+      (λ going. let on = scan_goes own.layout q found quiet scan going in (on.0, on.1, let fewer = on.2 in omega arith)) (omega arith)
 
   -- one count more is acquired
   pushed_is : (p : Pinned) (change : ℤ) → length a.counts < 4

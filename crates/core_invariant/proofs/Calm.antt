@@ -197,7 +197,8 @@ none_flush setup t e none d = elim (cases_eq d e.core) [
   | inr other ↦ flush_stored-other d e t other
 ]
   where
-    by : (hit : Bool) → d ≡ e.core → stored_by t e.core d hit ≡ flush_stored t d → cond hit (flush_of t d) (flush_stored t d) ≡ flush_stored t d
+    by : (hit : Bool) → d ≡ e.core → stored_by t e.core d hit ≡ flush_stored t d
+        → cond hit (flush_of t d) (flush_stored t d) ≡ flush_stored t d
     by true own is = sym (ap (λ b. if b then flush_of t d else flush_stored t d) (eq-eqb d e.core own)) ∙ is
     by false own is = refl
 

@@ -228,7 +228,8 @@ module _ (setup : Setting) (setting : IsSetting setup) (cores : ℕ → Core) (t
           (sym (subst (λ (x : ℕ). frame_of_word x ≡ Some (frame_value ((state_after setup t).frame f))) (held (FrameAt f) filled.marks).1
           (stands.words (FrameAt f))) ∙ filled.says)
 
-  knows_other : MayFollow setup t e → KeepsTime setup t e → SparesBlanks setup t e → KeepsUsers setup t e → (c table : ℕ) (a : ActiveCall) → c ≢ e.core
+  knows_other : MayFollow setup t e → KeepsTime setup t e → SparesBlanks setup t e → KeepsUsers setup t e
+      → (c table : ℕ) (a : ActiveCall) → c ≢ e.core
       → (stage : Stage)
       → ((w : Word) → (holds_at stage a.counts).marks w ≡ true
       → (marked_by setup t w ≡ Some c) × (settled setup (held_by cores) t w ≡ (holds_at stage a.counts).stands w))
@@ -257,7 +258,8 @@ module _ (setup : Setting) (setting : IsSetting setup) (cores : ℕ → Core) (t
   knows_other follows time blanks users c table a other (Leave r x) held at has =
       leave_on setup t e follows time stands.graces c x other (inside_is setup t c ∙ ap is_in at) has
 
-  call_other : MayFollow setup t e → KeepsTime setup t e → SparesBlanks setup t e → KeepsUsers setup t e → (c table : ℕ) → c ≢ e.core → (o : Option ActiveCall)
+  call_other : MayFollow setup t e → KeepsTime setup t e → SparesBlanks setup t e → KeepsUsers setup t e → (c table : ℕ) → c ≢ e.core
+      → (o : Option ActiveCall)
       → ((w : Word) → (holds_in o).marks w ≡ true
       → (marked_by setup t w ≡ Some c) × (settled setup (held_by cores) t w ≡ (holds_in o).stands w))
       → CallIs setup t c table o
@@ -278,7 +280,8 @@ module _ (setup : Setting) (setting : IsSetting setup) (cores : ℕ → Core) (t
       let mark = (stands.marks w c).kept is in
       (mark, ap (λ o. settled_by o (held_by cores) w (last_left setup t w)) mark)
 
-  core_other : MayFollow setup t e → KeepsTime setup t e → SparesBlanks setup t e → KeepsUsers setup t e → (c : ℕ) → c < setup.cores → c ≢ e.core
+  core_other : MayFollow setup t e → KeepsTime setup t e → SparesBlanks setup t e → KeepsUsers setup t e → (c : ℕ) → c < setup.cores
+      → c ≢ e.core
       → CoreIs setup (cores c) t c → CoreIs setup (cores c) (e ∷ t) c
   core_other follows time blanks users c here other is =
       let core : Core = cores c in record {

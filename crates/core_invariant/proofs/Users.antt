@@ -133,6 +133,7 @@ module _ (setup : Setting) (setting : IsSetting setup) (t : Trace) (legal : IsLe
       by_phase (Some r) is (Open call) at may =
           turned call r (built call r is at) _
           (decided_turns before (opened (entered_events t e)) e.core (opens setup setting t legal e follows call at) call r f)
-          (λ h. ends_by_rule before (opened (entered_events t e)) e.core (opens setup setting t legal e follows call at) call r (PlaceOf f 0)
+          (λ h. ends_by_rule before (opened (entered_events t e)) e.core (opens setup setting t legal e follows call at) call r
+          (PlaceOf f 0)
           (subst (λ k. MayReply before e.core k r) (open_inj may.call call may.is_open) may.permitted) h)
       by_phase (Some r) is (history.Decided call q) at may = user_before

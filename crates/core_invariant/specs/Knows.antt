@@ -425,7 +425,8 @@ pub record KnowsFlushing (c : ℕ) (call : Call) (by : ℕ) : Type 0 where
   pub call_is : call ≡ Flush
   pub core : by ≡ c
 
--- What a call with this plan knows of its act, where its names have led to these and the cores below `upto` were scanned, with their flushes. No
+-- What a call with this plan knows of its act, where its names have led to these and the cores below `upto` were scanned, with their
+-- flushes. No
 -- call is carried out today with the act that makes a frame untyped.
 abbrev pub KnowsAct : Setting → Trace → ℕ → Call → Plan → List Capability → ℕ → ActOf → Type 0
 KnowsAct setup t c call plan found upto (fill_act fill) = IsFill setup t c call plan found upto fill

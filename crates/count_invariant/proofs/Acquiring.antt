@@ -763,8 +763,7 @@ acquire_good setup setting cores t stands c here a active pin change (fill_act f
     has.knows.knows.puts)
     (λ b. put_near (state_after setup t) c a.call (is_active setup setting cores t stands c here a active).built a.found
     has.knows.knows.read fill.cap
-    has.knows.knows.puts
-    (call_leads setup setting cores t stands c here a active has.names) (pin_frame pin)
+    has.knows.knows.puts (call_leads setup setting cores t stands c here a active has.names) (pin_frame pin)
     (due_named (named_by fill.cap.kind fill.cap.frame) (pos 1) (map due_of a.counts) (record { frame = pin_frame pin; change = change })
     has.knows.rest has.knows.due)) (λ e. tt) refl
 acquire_good setup setting cores t stands c here a active pin change (map_act fill) is has =
@@ -773,8 +772,7 @@ acquire_good setup setting cores t stands c here a active pin change (map_act fi
     has.knows.knows.puts)
     (λ b. put_near (state_after setup t) c a.call (is_active setup setting cores t stands c here a active).built a.found None
     fill.cap
-    has.knows.knows.puts
-    (call_leads setup setting cores t stands c here a active has.names) (pin_frame pin)
+    has.knows.knows.puts (call_leads setup setting cores t stands c here a active has.names) (pin_frame pin)
     (due_named (named_by fill.cap.kind fill.cap.frame) (pos 1) (map due_of a.counts) (record { frame = pin_frame pin; change = change })
     has.knows.rest has.knows.due)) (λ e. tt) refl
 acquire_good setup setting cores t stands c here a active pin change (type_act typing) is has =
@@ -863,8 +861,7 @@ module _ (setup : Setting) (setting : IsSetting setup) (cores : ℕ → Core) (t
       (ap count_mark stored_says.says ∙ sym (ap (λ b. if b then Some c else None) bare))
       (λ b other is. other (sym (some_inj c b (sym own_mark ∙ is))))
       (ap (λ b. settled_by (if b then Some c else None) (held_by (put cores c after)) (count_of x) stored) bare ∙ sym settles)
-      (ap (phase_at a.call) stage_is)
-      (λ carries. tt)
+      (ap (phase_at a.call) stage_is) (λ carries. tt)
       (counts_on setup t e c a.call (λ own. refl) xs (All-tail (IsCount setup t c a.call) x xs known))
       apart.1
       (spares_other setup t e (λ f i h. cc))

@@ -1,4 +1,5 @@
--- The count of a leaf that a grow links is near the call: its second name has led to the leaf. And so is that of a frame that a map maps, its
+-- The count of a leaf that a grow links is near the call: its second name has led to the leaf. And so is that of a frame that a map
+-- maps, its
 -- argument.
 use Rattle.std.proofs.Common.{◌≡◌, ℕ, Bool, true, false, if◌then◌else◌, List, [], ◌∷◌, Option, Some, None, refl, ◌∙◌, ap}
 use Rattle.spk_nums.specs.Capability.{Capability}

@@ -123,8 +123,7 @@ fn a_shrunk_entry_of_a_table_is_grown_again_once_the_other_core_has_left(
         "{LEAVES}grow 1 1 20\nshrink 1 1\ngrow 1 1 20\ngrow 1 1 20\ncore 1\nlook 0\n"
     )?;
     let shrunk = format!(in alloc; "{LEAVES_MADE}0.5 grow 1 1 20 = ok\n0.6 shrink 1 1 = ok\n")?;
-    let waits =
-        "0.7 grow 1 1 20 = quiescing 1\n1.1 look 0 = ok range 8 24\n0.8 grow 1 1 20 = ok\n";
+    let waits = "0.7 grow 1 1 20 = quiescing 1\n1.1 look 0 = ok range 8 24\n0.8 grow 1 1 20 = ok\n";
     let rows = [
         ("0. 0. 0. 0. 0. 1< 0. 0. 1. 0.", waits),
         // Core 1 has entered after the removal, and left no call since.
@@ -233,7 +232,11 @@ fn of_two_grows_of_one_entry_one_is_carried_out(rt: HostRuntime) -> Result<(), F
                 format!(in alloc; "1.1 grow 1 1 21 = ok\n0.5 grow 1 1 20 = {lost}\n")?
             };
             let added = Added {
-                root: if zero_wins { "  1 link 8\n" } else { "  1 link 9\n" },
+                root: if zero_wins {
+                    "  1 link 8\n"
+                } else {
+                    "  1 link 9\n"
+                },
                 leaf: "  20 leaf 8\n  21 leaf 9\n",
                 pages: "",
                 frames: if zero_wins {
@@ -377,8 +380,6 @@ fn two_threads_grow_two_roots(rt: HostRuntime) -> Result<(), Fail> {
     let text = format!(in alloc;
         "0.1 retype 0 8 kernel = ok\n0.2 make leaf 0 8 1 20 = ok\n0.3 grow 1 1 20 = ok\n0.4 copy 0 1 64 = ok\n1.1 retype 0 9 kernel = ok\n1.2 make pleaf 0 9 1 21 = ok\n1.3 grow 2 0 21 = ok\n1.4 look 21 = ok pleaf 9\n{made}"
     )?;
-    assert!(rt;
-        runs(&rt, alloc, &FreeGate, &script, Status::Done, &text)?
-    );
+    assert!(rt; runs(&rt, alloc, &FreeGate, &script, Status::Done, &text)?);
     Ok(())
 }

@@ -155,8 +155,7 @@ fn what_a_frame_is_is_judged_at_the_load_of_its_word(rt: HostRuntime) -> Result<
     let replies = format!(in alloc;
         "{PAGES_MADE}1.1 retype 0 10 kernel = ok\n0.5 map 2 0 0 10 1 = busy 1\n1.2 make leaf 0 10 1 21 = ok\n"
     )?;
-    let mut added =
-        mapped("frame 8 pleaf refs 2\nframe 9 user refs 0\nframe 10 leaf refs 1\n");
+    let mut added = mapped("frame 8 pleaf refs 2\nframe 9 user refs 0\nframe 10 leaf refs 1\n");
     added.leaf = "  20 pleaf 8\n  21 leaf 10\n";
     assert!(rt; ends(&rt, alloc, &["replay"], &lines, &replies, &added)?);
     Ok(())
@@ -224,8 +223,6 @@ fn two_threads_map_pages_of_two_leaves(rt: HostRuntime) -> Result<(), Fail> {
     let text = format!(in alloc;
         "{PAGES_MADE}0.5 map 2 0 0 9 1 = ok\n1.1 retype 0 12 kernel = ok\n1.2 make pleaf 0 12 1 21 = ok\n1.3 grow 2 1 21 = ok\n1.4 retype 0 13 user = ok\n1.5 map 2 64 0 13 3 = ok\n{made}"
     )?;
-    assert!(rt;
-        runs(&rt, alloc, &FreeGate, &script, Status::Done, &text)?
-    );
+    assert!(rt; runs(&rt, alloc, &FreeGate, &script, Status::Done, &text)?);
     Ok(())
 }

@@ -56,6 +56,7 @@ use Rattle.core_invariant.proofs.Refusals.{GoodTook, not_spent}
 use Rattle.core_invariant.proofs.Sounds.{limits_of}
 use Rattle.count_invariant.proofs.Acquiring.{plan_leads, goes_by}
 use Rattle.place_invariant.proofs.Scans.{before_next, IsScanFor, scan_for, asks_for}
+
 use Rattle.kernel_rules.specs.Relies.{is_node}
 use Rattle.call_plans.specs.declared.plans.Plan.{Plan}
 use Rattle.call_plans.specs.PlanOf.{plan_for}
@@ -67,7 +68,8 @@ module _ (setup : Setting) (setting : IsSetting setup) (cores : ℕ → Core) (t
     (a : ActiveCall) (active : (cores c).active ≡ Some a) (x by at : ℕ) (page : Bool) (act : ActOf) (node index word : ℕ)
     (stage_is : a.stage ≡ Undecided (Scan (AtCore x by at page) act))
     (has : KnowsUndecided setup t c (cores c).own.table a (Scan (AtCore x by at page) act))
-    (thing_is : scanned_for act ≡ PlaceOf node index) (spot : IsSpot setup t c a.plan a.found 0 node index word) (since : stamp_shown (entry_of_word word) ≡ x)
+    (thing_is : scanned_for act ≡ PlaceOf node index) (spot : IsSpot setup t c a.plan a.found 0 node index word) (since : stamp_shown
+    (entry_of_word word) ≡ x)
     (again : (upto : ℕ) → IsSpot setup t c a.plan a.found upto node index word → KnowsAct setup t c a.call a.plan a.found upto act)
     (outside : goes_on_act act ≡ false → IsSpot setup t c a.plan a.found setup.cores node index word
     → RefusedOutside setup t c a.call (LoadOf (CoreAt at))) where

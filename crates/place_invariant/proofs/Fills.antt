@@ -83,7 +83,8 @@ use Rattle.look_invariant.proofs.Lookups.{slot_right, slot_one, near_way}
 use Rattle.look_invariant.proofs.Findings.{own_is, found_named, way_gone}
 use Rattle.look_invariant.proofs.Next.{Rest, ANameLeft, NoneLeft, rest_of, next_name}
 
--- What a call puts at its target: what is left of its rule after its names fills the target with k, where no own cause stands, and it changes
+-- What a call puts at its target: what is left of its rule after its names fills the target with k, where no own cause stands, and it
+-- changes
 -- places alone.
 record Puts (s : State) (c : ℕ) (call : Call) (ks : List Capability) (target : Target) (k : Capability) : Type 0 where
   causes : List Cause

@@ -123,7 +123,8 @@ made_refusable s c call ks target is leads next =
     object_make s c is.name is.frame is.root is.slot is.what is.object ks is.object_is
     (subst (λ (x : Call). Leads (LeadsIn s c) (plan_for x).names [] ks) call_is leads)
     (subst (λ (x : Call). names_after (plan_for x).names ks ≡ []) call_is (none_left_of (plan_for call) ks target next)) in
-    let to : Under (found make.two.table) is.slot ≡ target = target_in _ _ (sym make.next ∙ ap (λ x. next_of (plan_for x) ks) (sym call_is) ∙ next)
+    let to : Under (found make.two.table) is.slot ≡ target = target_in _ _ (sym make.next ∙ ap (λ x. next_of (plan_for x) ks)
+    (sym call_is) ∙ next)
     in
     record {
       range = make.two.range;
@@ -193,7 +194,8 @@ module _ (setup : Setting) (setting : IsSetting setup) (cores : ℕ → Core) (t
       ∙ ap (λ x. and_then x λ at. unless (first_of (if not (has_frame (found is.range) is.frame) then Some reply.OutOfRange else None)
       (first_cause s c is.causes)) (is.change at))
       (vacant_slot s c target slot reaches (vacant_alone alone).vacant)
-      ∙ ap (λ b. unless (first_of (if not b then Some reply.OutOfRange else None) (first_cause s c is.causes)) (is.change slot)) is.is_outside
+      ∙ ap (λ b. unless (first_of (if not b then Some reply.OutOfRange else None) (first_cause s c is.causes))
+      (is.change slot)) is.is_outside
 
   pub refused_vacant : IsRefusedOutside setup t c a.call move
   refused_vacant = record {
@@ -241,7 +243,8 @@ module _ (setup : Setting) (setting : IsSetting setup) (cores : ℕ → Core) (t
 
   in_node : IsTrue (is_node ((state_after setup t).frame node))
   in_node = (slot_relies setup setting t stands.legal c a.call
-      ((call_is setup setting cores t stands c here a active).phase ∙ opens) spot.target (record { node = node; index = index }) spot.way).node
+      ((call_is setup setting cores t stands c here a active).phase ∙ opens) spot.target
+      (record { node = node; index = index }) spot.way).node
 
   pub refused_outside : (index < 64) → OutsideBy a.call a.found → (move : Move) → IsRefusedOutside setup t c a.call move
   refused_outside small out move =

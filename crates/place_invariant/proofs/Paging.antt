@@ -65,7 +65,8 @@ root_paging kind.Pages (Kernel Pages) r h = refl
 root_paging kind.Pages _ r h = absurd (false≢true h)
 root_paging _ x r h = absurd (false≢true r)
 
-in_root_node : (table : Named) (i : ℕ) (at : Slot) (b : Bool) → (if b then Some (record { node = table.frame; index = i }) else None) ≡ Some at
+in_root_node : (table : Named) (i : ℕ) (at : Slot) (b : Bool) → (if b then Some (record { node = table.frame; index = i }) else None) ≡
+    Some at
     → table.frame ≡ at.node
 in_root_node table i at true h = ap (λ (x : Slot). x.node) (some_inj (record { node = table.frame; index = i }) at h)
 in_root_node table i at false h = absurd (none_some at h)

@@ -22,7 +22,8 @@ IsObjectMade (Thread comp) = Unit {0}
 IsObjectMade (Tcap sched quality) = Unit {0}
 IsObjectMade (Comp table pages live) = ⊥
 
--- the calls that the machine carries out today: `look`, `copy`, `remove`, `grow`, `shrink`, `map`, `unmap`, `retype` to user and to kernel, `make` of
+-- the calls that the machine carries out today: `look`, `copy`, `remove`, `grow`, `shrink`, `map`, `unmap`, `retype` to user and to
+-- kernel, `make` of
 -- any object but a component, `flush`, `tick`, `gate`, and `kill`
 abbrev pub IsBuilt : Call → Type 0
 IsBuilt (Look a) = Unit {0}

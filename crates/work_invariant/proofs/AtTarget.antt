@@ -217,7 +217,8 @@ gate_of s c comp read has fits = record {
 link_fits : (leaf : Capability) → EntryFits (entry.Held leaf) → EntryFits (entry.Held (plain_cap kind.Link leaf.frame))
 link_fits leaf fits = (fits.0, omega arith, omega arith)
 
-pub begins_free : (own : Own) (call : Call) → IsBuilt call → InLimits call → own.layout.frames ≤ 512 → (spot : Spot) → (plan_for call).target ≡ Free spot
+pub begins_free : (own : Own) (call : Call) → IsBuilt call → InLimits call → own.layout.frames ≤ 512 → (spot : Spot)
+    → (plan_for call).target ≡ Free spot
     → (s : State) (plan : Plan) (ks : List Capability) (read : Option ℕ) (c : ℕ) → own.core ≡ c
     → names_after (plan_for call).names ks ≡ [] → Leads (LeadsIn s c) (plan_for call).names [] ks
     → ((at : Nth) (k : Capability) → at_place ks at ≡ Some k → EntryFits (entry.Held k))
@@ -273,7 +274,8 @@ begins_free own (Retype r f frame_kind.User) built limits small spot to s plan k
   where
     not_target : Nowhere ≡ Free spot → ⊥
     not_target h = cc
-begins_free own (Retype r f frame_kind.Kernel) built limits small spot to s plan ks read c core none leads fits within reads at = absurd (not_target to)
+begins_free own (Retype r f frame_kind.Kernel) built limits small spot to s plan ks read c core none leads fits within reads at = absurd
+    (not_target to)
   where
     not_target : Nowhere ≡ Free spot → ⊥
     not_target h = cc

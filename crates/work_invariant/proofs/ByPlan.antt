@@ -27,15 +27,14 @@ use Rattle.kernel_history.proofs.Steps.{own_read-here}
 use Rattle.stage_look.specs.Shown.{shown_in}
 use Rattle.stage_look.specs.Lookup.{look_move, found_at}
 use Rattle.stage_look.specs.declared.look.Look.{Look}
-use Rattle.call_plans.specs.declared.plans.Nth.{Nth}
-use Rattle.call_plans.specs.declared.plans.Nth.TheVariants.{First, Second, Third, Fourth}
+use Rattle.call_plans.specs.declared.plans.Nth.TheVariants.{First, Second}
 use Rattle.call_plans.specs.declared.plans.Name.{Name}
 use Rattle.call_plans.specs.declared.plans.Spot.{Spot}
 use Rattle.call_plans.specs.declared.plans.Spot.TheVariants as spot_of
 use Rattle.call_plans.specs.declared.plans.Target.{Target}
 use Rattle.call_plans.specs.declared.plans.Target.TheVariants.{Nowhere, Free, Held, Own as own_page}
 use Rattle.call_plans.specs.declared.plans.Plan.{Plan}
-use Rattle.call_plans.specs.Plans.{head, tail, at_place}
+use Rattle.call_plans.specs.Plans.{at_place}
 use Rattle.call_plans.specs.PlanOf.{any_cap, plan_for, of_kind}
 use Rattle.call_plans.specs.GoesBy.{GoesBy, own_pages, earlier, wants, place_of}
 use Rattle.call_plans.specs.After.{with_found, names_after, Leads, LeadsIn, Next, NextName, NextFree, NextHeld, NextOwn, NextNothing, next_in, next_of, NextMay}
@@ -373,8 +372,8 @@ module _ (setup : Setting) (setting : IsSetting setup) (cores : ℕ → Core) (t
         → Begins (cores c).own a.call a.plan a.found a.read c (found_at at.node at.index (last_left setup t (EntryAt at.node at.index)) v)
     begins_with at v = begins_free (cores c).own a.call (is_active setup setting cores t stands c here a active).built
         (is_active setup setting cores t stands c here a active).limits
-        (subst (λ (n : ℕ). n ≤ 512) (sym (ap (λ x. x.frames) (stands.each c here).shape)) setting.most_frames) spot
-        (ap (λ (p : Plan). p.target) (sym plan_is) ∙ to) s a.plan a.found a.read c (stands.each c here).number
+        (subst (λ (n : ℕ). n ≤ 512) (sym (ap (λ x. x.frames) (stands.each c here).shape)) setting.most_frames)
+        spot (ap (λ (p : Plan). p.target) (sym plan_is) ∙ to) s a.plan a.found a.read c (stands.each c here).number
         (subst (λ (p : Plan). names_after p.names a.found ≡ []) plan_is none)
         (subst (λ (p : Plan). Leads (LeadsIn s c) p.names [] a.found) plan_is leads)
         (λ nth k is. found_fits setup t c table a.plan.names [] a.found nth k has.names is)
@@ -473,7 +472,8 @@ module _ (setup : Setting) (setting : IsSetting setup) (cores : ℕ → Core) (t
       waits = scan_starts setup setting cores t stands c here a active is_open leads target next_free at arrives x reads
 
       fills_removed : GoodTook setup cores t c (LoadOf (EntryAt at.node at.index)) (landed a (scans (cores c).own.core
-          (quiet_scan x (cores c).own.core (cores c).own.layout.cores (fills_page a.call a.found)) (begins_with at (entry.Quiescing x)).act))
+          (quiet_scan x (cores c).own.core (cores c).own.layout.cores (fills_page a.call a.found)) (begins_with at
+          (entry.Quiescing x)).act))
       fills_removed = subst (λ (n : ℕ). Goal (quiet_scan x (cores c).own.core n (fills_page a.call a.found)))
           (sym (ap (λ s. s.cores) (stands.each c here).shape))
           (by (quiet_scan x (cores c).own.core setup.cores (fills_page a.call a.found)) refl)
@@ -492,8 +492,7 @@ module _ (setup : Setting) (setting : IsSetting setup) (cores : ℕ → Core) (t
               (waits.now setup.cores none (λ d below. waits.unpaged alone.0 d))
           by (Some q) is = scans_first at arrives (entry.Quiescing x) reads looks x refl q
               (scan_begins x (cores c).own.core setup.cores (fills_page a.call a.found) waits.drawn q is)
-              waits.past
-              (waits.loaded (last_left setup t (EntryAt at.node at.index)) 0 (λ d below other. absurd (omega arith))
+              waits.past (waits.loaded (last_left setup t (EntryAt at.node at.index)) 0 (λ d below other. absurd (omega arith))
               (λ d below. absurd (omega arith)))
 
     free_at : (at : Slot) (v : Entry) → Arrives setup t c target at
