@@ -15,10 +15,9 @@ use Rattle.std.proofs.lemmas.List.Elements.{All-nil, All-cons, All-head, All-tai
 use Rattle.spk_nums.specs.Setting.{Setting, IsSetting}
 use Rattle.spk_nums.specs.Capability.{Capability}
 use Rattle.spk_nums.specs.declared.calls.Call.{Call}
-use Rattle.spk_nums.specs.declared.calls.Call.TheVariants.{Look, Copy, Remove, Shrink, Unmap, Retype, Make as make_call, Tick, Gate, Kill, Grow, Flush, Map}
+use Rattle.spk_nums.specs.declared.calls.Call.TheVariants.{Remove, Shrink, Unmap}
 use Rattle.spk_nums.specs.declared.replies.Reply.{Reply}
 use Rattle.spk_nums.specs.declared.replies.Reply.TheVariants as reply
-use Rattle.supported_calls.specs.Built.{IsBuilt}
 use Rattle.frame_words.specs.Count.{CountFits, word_of_count, count_of_word}
 use Rattle.frame_words.specs.declared.count_word.CountWord.{CountWord}
 use Rattle.frame_words.specs.declared.count_word.Hold.{Hold}
@@ -37,13 +36,7 @@ use Rattle.kernel_history.specs.Discipline.{counts_references, changes_places, r
 use Rattle.kernel_history.specs.Footprint.{IsNearIn, frame_of_cap, frame_at_slot, frame_argument, frames_named, is_one_of, frames_near}
 use Rattle.kernel_history.specs.Ways.{capability_in, target_of}
 use Rattle.kernel_rules.specs.CallRelation.{rule_of}
-use Rattle.spk_nums.specs.declared.kinds.Kind.TheVariants.{Comp as comp_kind, Gate as gate_kind}
-use Rattle.spk_nums.specs.declared.replies.Reply.TheVariants.{WrongCap}
-use Rattle.kernel_rules.specs.Access.{usable_in, only}
-use Rattle.kernel_rules.specs.Rules.{Found, Refused, of_kind}
-use Rattle.kernel_rules.proofs.Sound.{only_is}
-use Rattle.kernel_rules.proofs.Stays.{name_parts}
-use Rattle.call_plans.specs.Plans.{at_place}
+use Rattle.kernel_rules.specs.Access.{usable_in}
 use Rattle.stage_quiet.specs.declared.close.Close.{Close}
 use Rattle.stage_quiet.specs.declared.close.Close.TheVariants.{AtCompare as close_compare, AtDraw, AtStore}
 use Rattle.kernel_history.specs.Trace.{Step, Trace, Open, phase, state_after, last_left, own_read}
@@ -58,18 +51,16 @@ use Rattle.stage_pins.specs.declared.pin.Pin.{Pin}
 use Rattle.stage_pins.specs.declared.pin.Pin.TheVariants.{AtLoad, AtCompare}
 use Rattle.stage_pins.specs.declared.held.Acquired.{Acquired}
 use Rattle.stage_pins.proofs.PinLemmas.{changed_none}
-use Rattle.call_plans.specs.declared.plans.Nth.TheVariants.{First, Second}
 use Rattle.call_plans.specs.PlanOf.{plan_for}
 use Rattle.call_plans.specs.After.{Leads, LeadsIn}
 use Rattle.call_plans.specs.declared.plans.Plan.{Plan}
 use Rattle.call_plans.proofs.AfterNames.{leads_by}
 use Rattle.plan_ways.specs.Laws.{IsTargetOf}
 use Rattle.plan_ways.proofs.Ways.{target_is}
-use Rattle.plan_ways.proofs.Near.{one_left, one_right, near_about, near_found}
+use Rattle.plan_ways.proofs.Near.{one_left, one_right, near_about}
 use Rattle.call_plans.specs.GoesBy.{GoesBy, own_pages}
 use Rattle.call_plans.proofs.CallsGoBy.{calls_go}
 use Rattle.count_invariant.proofs.MakingCounts.{no_due, made_counts, made_changes, made_argument, due_near, made_left, due_named}
-use Rattle.count_invariant.proofs.LinkCounts.{link_near, page_near}
 use Rattle.count_invariant.proofs.KillingCounts.{kill_counts, kill_near, killing_due}
 use Rattle.look_invariant.proofs.Findings.{found_named}
 use Rattle.call_acts.specs.declared.refusals.Refusal.TheVariants as refusal
@@ -81,7 +72,7 @@ use Rattle.call_acts.specs.declared.work.Work.TheVariants.{Acquire}
 use Rattle.call_steps.specs.declared.stages.Stage.TheVariants.{Undecided, Decided}
 use Rattle.call_steps.specs.declared.stages.ActiveCall.{ActiveCall}
 use Rattle.call_acts.specs.declared.work.WorkStep.TheVariants.{Goes, Acquires}
-use Rattle.call_acts.specs.Acts.{dues, acquires, next_work, gate_if, gate_to, put_by, removes_by, undo}
+use Rattle.call_acts.specs.Acts.{dues, acquires, next_work, removes_by, undo}
 use Rattle.call_steps.specs.Fits.{CountsAt, HasRoom}
 use Rattle.call_steps.specs.Steps.{GoesOn, landed, went_with, took_count, gives_up}
 use Rattle.call_steps.specs.Tails.{is_ok}
@@ -100,6 +91,7 @@ use Rattle.core_invariant.proofs.Good.{IsGood, spares_other}
 use Rattle.core_invariant.proofs.Counting as counters
 use Rattle.core_invariant.proofs.Loads.{IsOfCall, Lands, step_to, core_at, inner, call_is, is_active, loads_on}
 use Rattle.core_invariant.proofs.Refusals.{GoodTook, ticks_in, ticks_at, raced_leaving, busy_leaving}
+use Rattle.count_invariant.proofs.PutCounts.{put_counts, put_near}
 
 -- What stands in a list after those before it.
 get_after : {A : Type 0} (xs : List A) (x : A) (ys : List A) → slice_get (xs ++ x ∷ ys) (length xs) ≡ Some x
@@ -291,77 +283,6 @@ counts_plain (tick_act charge) before due rest is = absurd (no_due before due re
 counts_plain (flush_act core) before due rest is = refl
 counts_plain (kill_act m) before due rest is = refl
 counts_plain (untype_act m) before due rest is = refl
-
--- A call that fills its target changes references, and the frame that it names there is near it: a line a call.
-put_counts : (call : Call) → IsBuilt call → (ks : List Capability) (read : Option ℕ) (k : Capability) → put_by call ks read ≡ Some k
-    → IsTrue (counts_references call)
-put_counts (Look a) built ks read k puts = absurd (cc)
-put_counts (Copy a u b) built ks read k puts = refl
-put_counts (Grow u i l) built ks read k puts = refl
-put_counts (Remove u b) built ks read k puts = absurd (cc)
-put_counts (Shrink u i) built ks read k puts = absurd (cc)
-put_counts (Map p v r f w) built ks read k puts = refl
-put_counts (Unmap p v) built ks read k puts = absurd (cc)
-put_counts (Retype r f j) built ks read k puts = absurd (cc)
-put_counts (make_call what r f u b) built ks read k puts = absurd (cc)
-put_counts Flush built ks read k puts = absurd (cc)
-put_counts (Tick n) built ks read k puts = absurd (cc)
-put_counts (Gate n u b) built ks read k puts = refl
-put_counts (Kill n) built ks read k puts = absurd (cc)
-put_counts call built ks read k puts = absurd built
-
-cap_same : (j k : Capability) → Some j ≡ Some k → j ≡ k
-cap_same j k h = cc
-
-found_same : (j k : Capability) → Found j ≡ Found k → j ≡ k
-found_same j k h = cc
-
--- A name that wants a component has led to one.
-wanted_is : (j k : Capability) → of_kind (only comp_kind) j ≡ Found k → k.kind ≡ comp_kind
-wanted_is j k = by (only comp_kind j.kind) refl
-  where
-    by : (b : Bool) → only comp_kind j.kind ≡ b → (if b then Found j else Refused WrongCap) ≡ Found k → k.kind ≡ comp_kind
-    by true is h = ap (λ (x : Capability). x.kind) (sym (found_same j k h)) ∙ only_is comp_kind j.kind (subst IsTrue (sym is) refl)
-    by false is h = absurd (cc)
-
--- A gate names the frame of the component to which its call's first name has led.
-gate_near : (s : State) (c : ℕ) (n u b : ℕ) (ks : List Capability) (o : Option Capability) (read : Option ℕ) (k : Capability)
-    → at_place ks First ≡ o → gate_to o read ≡ Some k
-    → Leads (LeadsIn s c) (plan_for (Gate n u b)).names [] ks
-    → (f : ℕ) → is_one_of f (named_by k.kind k.frame) ≡ true → is_one_of f (frames_near s c (Gate n u b)) ≡ true
-gate_near s c n u b ks None read k is puts lead f names_it = absurd (cc)
-gate_near s c n u b ks (Some comp) None k is puts lead f names_it = absurd (cc)
-gate_near s c n u b [] (Some comp) (Some epoch) k is puts lead f names_it = absurd (cc)
-gate_near s c n u b (j ∷ ks) (Some comp) (Some epoch) k is puts lead f names_it =
-    near_found s c (Gate n u b) (j ∷ ks) lead First j refl f (by (nat_le 1 epoch) puts)
-  where
-    by : (some : Bool) → gate_if some comp.frame epoch ≡ Some k → is_one_of f (named_by j.kind j.frame) ≡ true
-    by true h =
-        let parts = name_parts s c n (only comp_kind) j lead.0 in
-        subst (λ x. is_one_of f (named_by x j.frame) ≡ true) (sym (wanted_is parts.2 j parts.4))
-        (subst (λ (x : Capability). is_one_of f (x.frame ∷ []) ≡ true) (sym (cap_same j comp is))
-        (subst (λ (x : Capability). is_one_of f (named_by x.kind x.frame) ≡ true)
-        (sym (cap_same (record { kind = gate_kind; frame = comp.frame; arg = epoch }) k h)) names_it))
-    by false h = absurd (cc)
-
-put_near : (s : State) (c : ℕ) (call : Call) → IsBuilt call → (ks : List Capability) (read : Option ℕ) (k : Capability)
-    → put_by call ks read ≡ Some k
-    → Leads (LeadsIn s c) (plan_for call).names [] ks
-    → (f : ℕ) → is_one_of f (named_by k.kind k.frame) ≡ true → is_one_of f (frames_near s c call) ≡ true
-put_near s c (Look a) built ks read k puts lead f names_it = absurd (cc)
-put_near s c (Copy a u b) built ks read k puts lead f names_it = near_found s c (Copy a u b) ks lead First k puts f names_it
-put_near s c (Grow u i l) built ks read k puts lead f names_it = link_near s c u i l ks k puts lead f names_it
-put_near s c (Remove u b) built ks read k puts lead f names_it = absurd (cc)
-put_near s c (Shrink u i) built ks read k puts lead f names_it = absurd (cc)
-put_near s c (Map p v r g w) built ks read k puts lead f names_it = page_near s c p v r g w (at_place ks Second) k puts f names_it
-put_near s c (Unmap p v) built ks read k puts lead f names_it = absurd (cc)
-put_near s c (Retype r g j) built ks read k puts lead f names_it = absurd (cc)
-put_near s c (make_call what r g u b) built ks read k puts lead f names_it = absurd (cc)
-put_near s c Flush built ks read k puts lead f names_it = absurd (cc)
-put_near s c (Tick n) built ks read k puts lead f names_it = absurd (cc)
-put_near s c (Gate n u b) built ks read k puts lead f names_it = gate_near s c n u b ks (at_place ks First) read k refl puts lead f names_it
-put_near s c (Kill n) built ks read k puts lead f names_it = absurd (cc)
-put_near s c call built ks read k puts lead f names_it = absurd built
 
 -- The word of an acquired count stands for the word that was found.
 stands_found : (frame core : ℕ) (count change : ℤ) (stamp : ℕ) → CountFits (unheld count stamp)

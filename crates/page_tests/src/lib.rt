@@ -1,12 +1,11 @@
-//! Tests of the calls that fill places of roots and of page tables: `grow` and `map`.
+//! Tests of the calls on pages: `grow` and `map`, which fill places of roots and of page tables, and `flush`, which drops the translations
+//! of a core.
 #![tactic(auto)]
 
 #[cfg(test)]
-mod grows;
-//! Tests of the calls on pages and on the translations of cores: `flush`.
-#![tactic(auto)]
-#[cfg(test)]
 mod flushes;
+#[cfg(test)]
+mod grows;
 #[cfg(test)]
 mod maps;
 #[cfg(test)]

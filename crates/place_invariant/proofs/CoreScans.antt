@@ -56,7 +56,6 @@ use Rattle.core_invariant.proofs.Refusals.{GoodTook, not_spent}
 use Rattle.core_invariant.proofs.Sounds.{limits_of}
 use Rattle.count_invariant.proofs.Acquiring.{plan_leads, goes_by}
 use Rattle.place_invariant.proofs.Scans.{before_next, IsScanFor, scan_for, asks_for}
-
 use Rattle.kernel_rules.specs.Relies.{is_node}
 use Rattle.call_plans.specs.declared.plans.Plan.{Plan}
 use Rattle.call_plans.specs.PlanOf.{plan_for}

@@ -1,0 +1,99 @@
+-- What a call puts at its target is counted: the call changes references, and the frame that it names there is near it.
+use Rattle.std.proofs.Common.{◌≡◌, ◌≢◌, ℕ, suc, ℤ, pos, negsuc, ◌+◌, ◌++◌, ◌==◌, ◌^◌, ◌<◌, ◌≤◌, map, slice_get, length, length-append, Bool, true, false, if◌then◌else◌, nat_le, cond, List, [], ◌∷◌, Option, Some, None, IsTrue, inl, inr, arith, refl, sym, ◌∙◌, ap, subst, lt-ltb, not}
+use Rattle.std.specs.Prelude.{All, is_some}
+use Rattle.std.proofs.lemmas.Bool.{false≢true, eq-eqb, eqb-true, eqb-false}
+use Rattle.std.proofs.lemmas.List.Elements.{All-nil, All-cons, All-head, All-tail, All-append}
+use Rattle.spk_nums.specs.Capability.{Capability}
+use Rattle.spk_nums.specs.declared.calls.Call.{Call}
+use Rattle.spk_nums.specs.declared.calls.Call.TheVariants.{Look, Copy, Remove, Shrink, Unmap, Retype, Make as make_call, Tick, Gate, Kill, Grow, Flush, Map}
+use Rattle.supported_calls.specs.Built.{IsBuilt}
+use Rattle.kernel_rules.specs.State.{State}
+use Rattle.kernel_rules.specs.References.{named_by}
+use Rattle.kernel_history.specs.Discipline.{counts_references}
+use Rattle.kernel_history.specs.Footprint.{is_one_of, frames_near}
+use Rattle.spk_nums.specs.declared.kinds.Kind.TheVariants.{Comp as comp_kind, Gate as gate_kind}
+use Rattle.spk_nums.specs.declared.replies.Reply.TheVariants.{WrongCap}
+use Rattle.kernel_rules.specs.Access.{only}
+use Rattle.kernel_rules.specs.Rules.{Found, Refused, of_kind}
+use Rattle.kernel_rules.proofs.Sound.{only_is}
+use Rattle.kernel_rules.proofs.Stays.{name_parts}
+use Rattle.call_plans.specs.Plans.{at_place}
+use Rattle.kernel_history.proofs.Names.{same_word-other}
+use Rattle.kernel_history.proofs.Steps.{own_read-here, own_read-there, last_left-there}
+use Rattle.call_plans.specs.declared.plans.Nth.TheVariants.{First, Second}
+use Rattle.call_plans.specs.PlanOf.{plan_for}
+use Rattle.call_plans.specs.After.{Leads, LeadsIn}
+use Rattle.plan_ways.proofs.Near.{near_found}
+use Rattle.count_invariant.proofs.LinkCounts.{link_near, page_near}
+use Rattle.call_acts.specs.Acts.{gate_if, gate_to, put_by}
+
+-- A call that fills its target changes references, and the frame that it names there is near it: a line a call.
+pub put_counts : (call : Call) → IsBuilt call → (ks : List Capability) (read : Option ℕ) (k : Capability) → put_by call ks read ≡ Some k
+    → IsTrue (counts_references call)
+put_counts (Look a) built ks read k puts = absurd (cc)
+put_counts (Copy a u b) built ks read k puts = refl
+put_counts (Grow u i l) built ks read k puts = refl
+put_counts (Remove u b) built ks read k puts = absurd (cc)
+put_counts (Shrink u i) built ks read k puts = absurd (cc)
+put_counts (Map p v r f w) built ks read k puts = refl
+put_counts (Unmap p v) built ks read k puts = absurd (cc)
+put_counts (Retype r f j) built ks read k puts = absurd (cc)
+put_counts (make_call what r f u b) built ks read k puts = absurd (cc)
+put_counts Flush built ks read k puts = absurd (cc)
+put_counts (Tick n) built ks read k puts = absurd (cc)
+put_counts (Gate n u b) built ks read k puts = refl
+put_counts (Kill n) built ks read k puts = absurd (cc)
+put_counts call built ks read k puts = absurd built
+
+cap_same : (j k : Capability) → Some j ≡ Some k → j ≡ k
+cap_same j k h = cc
+
+found_same : (j k : Capability) → Found j ≡ Found k → j ≡ k
+found_same j k h = cc
+
+-- A name that wants a component has led to one.
+wanted_is : (j k : Capability) → of_kind (only comp_kind) j ≡ Found k → k.kind ≡ comp_kind
+wanted_is j k = by (only comp_kind j.kind) refl
+  where
+    by : (b : Bool) → only comp_kind j.kind ≡ b → (if b then Found j else Refused WrongCap) ≡ Found k → k.kind ≡ comp_kind
+    by true is h = ap (λ (x : Capability). x.kind) (sym (found_same j k h)) ∙ only_is comp_kind j.kind (subst IsTrue (sym is) refl)
+    by false is h = absurd (cc)
+
+-- A gate names the frame of the component to which its call's first name has led.
+gate_near : (s : State) (c : ℕ) (n u b : ℕ) (ks : List Capability) (o : Option Capability) (read : Option ℕ) (k : Capability)
+    → at_place ks First ≡ o → gate_to o read ≡ Some k
+    → Leads (LeadsIn s c) (plan_for (Gate n u b)).names [] ks
+    → (f : ℕ) → is_one_of f (named_by k.kind k.frame) ≡ true → is_one_of f (frames_near s c (Gate n u b)) ≡ true
+gate_near s c n u b ks None read k is puts lead f names_it = absurd (cc)
+gate_near s c n u b ks (Some comp) None k is puts lead f names_it = absurd (cc)
+gate_near s c n u b [] (Some comp) (Some epoch) k is puts lead f names_it = absurd (cc)
+gate_near s c n u b (j ∷ ks) (Some comp) (Some epoch) k is puts lead f names_it =
+    near_found s c (Gate n u b) (j ∷ ks) lead First j refl f (by (nat_le 1 epoch) puts)
+  where
+    by : (some : Bool) → gate_if some comp.frame epoch ≡ Some k → is_one_of f (named_by j.kind j.frame) ≡ true
+    by true h =
+        let parts = name_parts s c n (only comp_kind) j lead.0 in
+        subst (λ x. is_one_of f (named_by x j.frame) ≡ true) (sym (wanted_is parts.2 j parts.4))
+        (subst (λ (x : Capability). is_one_of f (x.frame ∷ []) ≡ true) (sym (cap_same j comp is))
+        (subst (λ (x : Capability). is_one_of f (named_by x.kind x.frame) ≡ true)
+        (sym (cap_same (record { kind = gate_kind; frame = comp.frame; arg = epoch }) k h)) names_it))
+    by false h = absurd (cc)
+
+pub put_near : (s : State) (c : ℕ) (call : Call) → IsBuilt call → (ks : List Capability) (read : Option ℕ) (k : Capability)
+    → put_by call ks read ≡ Some k
+    → Leads (LeadsIn s c) (plan_for call).names [] ks
+    → (f : ℕ) → is_one_of f (named_by k.kind k.frame) ≡ true → is_one_of f (frames_near s c call) ≡ true
+put_near s c (Look a) built ks read k puts lead f names_it = absurd (cc)
+put_near s c (Copy a u b) built ks read k puts lead f names_it = near_found s c (Copy a u b) ks lead First k puts f names_it
+put_near s c (Grow u i l) built ks read k puts lead f names_it = link_near s c u i l ks k puts lead f names_it
+put_near s c (Remove u b) built ks read k puts lead f names_it = absurd (cc)
+put_near s c (Shrink u i) built ks read k puts lead f names_it = absurd (cc)
+put_near s c (Map p v r g w) built ks read k puts lead f names_it = page_near s c p v r g w (at_place ks Second) k puts f names_it
+put_near s c (Unmap p v) built ks read k puts lead f names_it = absurd (cc)
+put_near s c (Retype r g j) built ks read k puts lead f names_it = absurd (cc)
+put_near s c (make_call what r g u b) built ks read k puts lead f names_it = absurd (cc)
+put_near s c Flush built ks read k puts lead f names_it = absurd (cc)
+put_near s c (Tick n) built ks read k puts lead f names_it = absurd (cc)
+put_near s c (Gate n u b) built ks read k puts lead f names_it = gate_near s c n u b ks (at_place ks First) read k refl puts lead f names_it
+put_near s c (Kill n) built ks read k puts lead f names_it = absurd (cc)
+put_near s c call built ks read k puts lead f names_it = absurd built
