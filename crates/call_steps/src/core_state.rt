@@ -241,6 +241,7 @@ impl CoreState {
                 },
             },
             found: Caps::none(),
+            read: None,
             counts: AcquiredCounts::none(),
             call,
             plan,
