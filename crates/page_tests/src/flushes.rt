@@ -137,16 +137,16 @@ fn two_cores_flush_in_every_order_of_their_steps(rt: HostRuntime) -> Result<(), 
         }
         // The core of each of ten steps, and how many of them core 0 and core 1 have made when the first of the two has made two.
         let mut order = String::new(alloc);
-        let mut made = (0, 0);
+        let mut made = (0_u32, 0_u32);
         let mut first = 2;
         for step in 0_u32..10 {
             let core = (ones >> step) & 1;
             let item = format!(in alloc; "{core} ")?;
             order.push_str(&item)?;
             if core == 0 {
-                made.0 += 1;
+                made.0 = made.0.saturating_add(1);
             } else {
-                made.1 += 1;
+                made.1 = made.1.saturating_add(1);
             }
             if first == 2 && (made.0 == 2 || made.1 == 2) {
                 first = core;

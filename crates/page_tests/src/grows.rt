@@ -245,7 +245,7 @@ fn of_two_grows_of_one_entry_one_is_carried_out(rt: HostRuntime) -> Result<(), F
                     "frame 8 leaf refs 1\nframe 9 leaf refs 2\n"
                 },
             };
-            let items = items_of(alloc, &order[..10])?;
+            let items = items_of(alloc, &order)?;
             let lines = format!(in alloc;
                 "{made}grow 1 1 20\ncore 1\ngrow 1 1 21\norder\n0. 0. 0. 0. {zero}{one}{items}0. 1.\n"
             )?;
@@ -338,7 +338,7 @@ fn a_grow_meets_a_shrink_of_its_entry(rt: HostRuntime) -> Result<(), Fail> {
                     _ => "0.6 shrink 1 1 = ok\n1.1 grow 1 1 20 = quiescing 0\n",
                 }
             };
-            let items = items_of(alloc, &order[..8])?;
+            let items = items_of(alloc, &order)?;
             let lines = format!(in alloc;
                 "{LEAVES}grow 1 1 20\nshrink 1 1\ncore 1\ngrow 1 1 20\norder\n0. 0. 0. 0. 0. {zero}{one}{items}0. 1.\n"
             )?;
