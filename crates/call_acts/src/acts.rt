@@ -17,10 +17,14 @@ ghost use Rattle.word_map.specs.Places.{Shape, size_of};
 ghost use Rattle.word_map.specs.Moves.{op_of};
 ghost use Rattle.spk_nums.specs.WordSteps.{place_in};
 ghost use Rattle.call_acts.specs.WorkSteps.{refuse};
-ghost use Rattle.call_acts.specs.Acts.{ActFits, act_move, took_act, act_ready, looked, cap_dues, dues, acquires, next_work, filling, fills_at, fills_with, put_by, act_begun, drawn_by, took_close, is_draw, scans, stamp_in, removing, removes_held, removes_at, types_if, types_at, starts, undo, made_dues, makes_at, makes_in, killing_dues, kills_in, kills_at};
+ghost use Rattle.call_acts.specs.Acts.{ActFits, act_move, took_act, act_ready, looked, cap_dues, dues, acquires, next_work, filling, fills_at, fills_with, put_by, act_begun, drawn_by, took_close, is_draw, scans, stamp_in, removing, removes_held, removes_at, types_if, types_at, starts, undo, made_dues, makes_at, makes_in, killing_dues, kills_in, kills_at, comp_if, comps_in, comps_at, made_begun};
+ghost use Rattle.call_acts.specs.Comps.{comp_dues, comp_due_list};
+ghost use Rattle.call_plans.specs.Plans.{at_place};
+ghost use Rattle.call_plans.specs.declared.plans.Nth.TheVariants.{First, Third, Fourth};
 ghost use Rattle.kernel_rules.specs.Access.{found as named_by_cap};
 ghost use Rattle.kernel_rules.specs.CapabilityCalls.{has_frame};
 
+use crate::comps::{CompAt, CompMaking};
 use crate::fills::Fill;
 use crate::kills::{Killing, KillingAt};
 use crate::makings::{Making, MakingAt};
@@ -33,7 +37,7 @@ use crate::work::{Act, Due, Tail, Work, WorkStep};
 use call_plans::{Caps, Nth};
 use entry_words::Entry;
 use spk_nums::{
-    Call, Cap, CoreNo, FrameArg, FrameKind, FrameNo, Kind, StageEnd, Stamp, Value, WordOp,
+    Call, Cap, CoreNo, FrameArg, FrameKind, FrameNo, Kind, Make, StageEnd, Stamp, Value, WordOp,
 };
 use stage_look::Found;
 use stage_pins::Pin;
@@ -61,6 +65,7 @@ pub fn act_op(act: &Act, layout: &Layout) -> WordOp
         },
         Act::Tick { charge } => tick_op(charge, layout),
         Act::Kill { killing } => killing.next(layout),
+        Act::MakeComp { making } => making.next(layout),
     }
 }
 
@@ -82,6 +87,7 @@ pub fn act_took(act: &Act, layout: &Layout, found: u64) -> WorkStep
         Act::Outside { .. } => refuse(Refusal::OutOfRange),
         Act::Tick { charge } => tick_took(charge, layout, found),
         Act::Kill { killing } => killing.take(found),
+        Act::MakeComp { making } => making.take(layout, found),
     }
 }
 
@@ -134,6 +140,7 @@ pub fn act_ready(act: &Act) -> bool
         Act::Outside { .. } => false,
         Act::Tick { charge } => is_charging(charge),
         Act::Kill { killing } => killing.is_ready(),
+        Act::MakeComp { making } => making.is_ready(),
     }
 }
 
@@ -176,6 +183,7 @@ fn due(act: &Act, n: u8) -> Option<Due>
         Act::Outside { .. } => None,
         Act::Tick { charge: _ } => None,
         Act::Kill { killing } => killing_due(killing, n),
+        Act::MakeComp { making } => comp_due(making, n),
     }
 }
 
@@ -217,13 +225,7 @@ pub fn begin_act(own: &Own, call: &Call, found: &Caps, target: &Option<Found>) -
             frame,
             table: _,
             slot: _,
-        } => makes_at(
-            own,
-            object_made(what, found),
-            &found.get(Nth::First),
-            *frame,
-            target,
-        ),
+        } => made_begun(own, what, found, *frame, target),
         Call::Retype { r: _, f, k } => types_at(own, &found.get(Nth::First), *f, *k),
         Call::Tick { n } => charges(own, *n),
         Call::Kill { c: _ } => kills_at(own, &found.get(Nth::First)),
@@ -322,6 +324,7 @@ pub fn undo(act: &Act) -> Tail
 {
     match act {
         Act::Make { making } => making.undo(),
+        Act::MakeComp { making } => making.undo(),
         _ => Tail::Nothing,
     }
 }
@@ -390,6 +393,135 @@ fn makes_in(own: &Own, object: &NewObject, range: &Cap, frame: FrameArg, target:
     };
     let quiet = Quiet::entry(stamp_in(&target.value), own.core, own.layout.cores());
     scans(own.core, quiet, &act)
+}
+
+// What a `make` does whose names have led to these.
+#[inline]
+fn made_begun(
+    own: &Own,
+    what: &Make,
+    found: &Caps,
+    frame: FrameArg,
+    target: &Option<Found>,
+) -> WorkStep
+    requires core { own.now.core < own.now.layout.cores }
+    requires cores { own.now.layout.cores ≤ 8 }
+    ensures { result ≡ made_begun own.now what.now found.now frame target.now }
+{
+    match what {
+        Make::Comp {
+            table: _,
+            pages: _,
+            live,
+        } => comps_at(own, *live, found, frame, target),
+        _ => makes_at(
+            own,
+            object_made(what, found),
+            &found.get(Nth::First),
+            frame,
+            target,
+        ),
+    }
+}
+
+// A component is made in a frame of the range to which the first name has led, with the table and the pages of the third and the fourth.
+#[inline]
+fn comps_at(own: &Own, live: u8, found: &Caps, frame: FrameArg, target: &Option<Found>) -> WorkStep
+    requires core { own.now.core < own.now.layout.cores }
+    requires cores { own.now.layout.cores ≤ 8 }
+    ensures { result ≡ comps_at own.now live (at_place found.now First) (at_place found.now Third) (at_place found.now Fourth) frame target.now }
+{
+    let range = found.get(Nth::First);
+    let table = found.get(Nth::Third);
+    let pages = found.get(Nth::Fourth);
+    match (range, table, pages, target) {
+        (Some(range), Some(table), Some(pages), Some(target)) => {
+            comps_in(own, live, &range, &table, &pages, frame, target)
+        }
+        _ => refuse(Refusal::Raced),
+    }
+}
+
+// A component with this table and these pages is made in a frame, where the range has it, after a scan where the target is quiescing.
+#[inline]
+fn comps_in(
+    own: &Own,
+    live: u8,
+    range: &Cap,
+    table: &Cap,
+    pages: &Cap,
+    frame: FrameArg,
+    target: &Found,
+) -> WorkStep
+    requires core { own.now.core < own.now.layout.cores }
+    requires cores { own.now.layout.cores ≤ 8 }
+    ensures { result ≡ comps_in own.now live range.now table.now pages.now frame target.now }
+{
+    let act = if has_frame(range, frame) && frame.number() < own.layout.frames() {
+        let frame = FrameNo::new(frame.number());
+        Act::MakeComp {
+            making: CompMaking {
+                frame,
+                table: table.frame(),
+                pages: pages.frame(),
+                number: live,
+                core: own.core,
+                cores: own.layout.cores(),
+                epochs: own.epochs,
+                fill: Fill {
+                    node: target.node,
+                    entry: target.entry,
+                    word: target.word,
+                    cap: Cap::new(Kind::Comp, frame, 0),
+                },
+                at: CompAt::Load,
+            },
+        }
+    } else {
+        Act::Outside {
+            node: target.node,
+            entry: target.entry,
+            word: target.word,
+        }
+    };
+    let quiet = Quiet::entry(stamp_in(&target.value), own.core, own.layout.cores());
+    scans(own.core, quiet, &act)
+}
+
+// The count of this number that the making of a component changes.
+#[inline]
+fn comp_due(making: &CompMaking, n: u8) -> Option<Due>
+    ensures { result ≡ slice_get (comp_dues making.now making.now.at) n }
+{
+    match making.at {
+        CompAt::Load => None,
+        CompAt::Mark { word: _ } => None,
+        _ => comp_due_at(making, n),
+    }
+}
+
+#[inline]
+fn comp_due_at(making: &CompMaking, n: u8) -> Option<Due>
+    ensures { result ≡ slice_get (comp_due_list making.now) n }
+{
+    if n == 0 {
+        Some(Due {
+            frame: making.frame,
+            change: 2,
+        })
+    } else if n == 1 {
+        Some(Due {
+            frame: making.table,
+            change: 1,
+        })
+    } else if n == 2 {
+        Some(Due {
+            frame: making.pages,
+            change: 1,
+        })
+    } else {
+        None
+    }
 }
 
 // What the target holds is removed.
