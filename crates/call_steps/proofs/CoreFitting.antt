@@ -1,7 +1,5 @@
 -- The core and its call after a step stay in their ranges.
-use Rattle.std.proofs.lemmas.List.Elements.{All-nil, All-cons, All-tail, All-append}
-use Rattle.std.proofs.Common.{◌≡◌, ℕ, suc, ℤ, ◌≢◌, nat_lt, if◌then◌else◌, ◌+◌, ◌*◌, ◌-◌, ◌++◌, slice_get, ◌%◌, ◌<◌, ◌≤◌, Bool, true, false, ◌==◌, List, [], ◌∷◌, length, length-append, lt-ltb, Option, Some, None, IfSome, refl, sym, ◌∙◌, ap, subst, arith, negsuc}
-use Rattle.std.proofs.lemmas.Bool.{leb-false, ltb-true, ltb-false, eqb-true, eqb-false}
+use Rattle.std.proofs.Common.{◌≡◌, ℕ, ◌+◌, ◌<◌, ◌≤◌, Option, Some, refl, sym, ◌∙◌, ap, subst, arith}
 use Rattle.spk_nums.specs.Bounds.{bound_of}
 use Rattle.spk_nums.specs.CallLimits.{InLimits}
 use Rattle.supported_calls.specs.Built.{IsBuilt}
@@ -13,9 +11,7 @@ use Rattle.call_acts.specs.declared.own.Own.{Own}
 use Rattle.call_acts.specs.declared.own.OwnChange.{OwnChange}
 use Rattle.call_acts.specs.declared.own.OwnChange.TheVariants.{Ticks}
 use Rattle.call_acts.specs.OwnChanges.{own_changed}
-use Rattle.std.specs.Prelude.{◌^◌, min}
 use Rattle.call_steps.specs.Fits.{left_of, IsActive, CallFits, IsOwn, IsCore, left_for}
-use Rattle.call_steps.specs.declared.stages.Stage.TheVariants.{Decided}
 use Rattle.call_steps.specs.declared.stages.ActiveCall.{ActiveCall}
 use Rattle.call_steps.specs.declared.stages.Told.TheVariants as told_as
 use Rattle.call_steps.specs.Steps.{GoesOn, Decides, took, told, call_after, Changes}
@@ -56,6 +52,7 @@ changed_on own (Ticks charged owed) h = record {
   pages = h.pages;
   tcap = h.tcap;
   most_calls = h.most_calls;
+  most_epochs = h.most_epochs;
   made = h.made;
 }
 
@@ -69,6 +66,7 @@ own_on own made h counted = record {
   pages = h.pages;
   tcap = h.tcap;
   most_calls = h.most_calls;
+  most_epochs = h.most_epochs;
   made = counted;
 }
 

@@ -3,16 +3,15 @@ use Rattle.std.proofs.lemmas.List.Elements.{All-nil, All-cons, All-tail, All-app
 use Rattle.frame_words.specs.Count.{word_of_count, count_of_word}
 use Rattle.stage_pins.specs.Counts.{unheld}
 use Rattle.stage_pins.proofs.PinLemmas.{after_fits}
-use Rattle.std.proofs.Common.{◌≡◌, ℕ, suc, ℤ, ◌≢◌, nat_lt, if◌then◌else◌, ◌+◌, ◌*◌, ◌-◌, ◌++◌, slice_get, ◌%◌, ◌<◌, ◌≤◌, Bool, true, false, ◌==◌, List, [], ◌∷◌, length, length-append, lt-ltb, Option, Some, None, IfSome, refl, sym, ◌∙◌, ap, subst, arith, negsuc}
-use Rattle.std.proofs.lemmas.Bool.{leb-false, ltb-true, ltb-false, eqb-true, eqb-false}
+use Rattle.std.proofs.Common.{◌≡◌, ℕ, suc, ℤ, nat_lt, if◌then◌else◌, ◌+◌, ◌*◌, ◌-◌, ◌++◌, slice_get, ◌%◌, ◌<◌, ◌≤◌, Bool, true, false, ◌==◌, List, [], ◌∷◌, length, length-append, lt-ltb, Option, Some, None, IfSome, refl, sym, ◌∙◌, ap, subst, arith, negsuc}
+use Rattle.std.proofs.lemmas.Bool.{leb-false, ltb-true}
 use Rattle.spk_nums.specs.declared.replies.Value.TheVariants.{Nothing as nothing, Amount}
 use Rattle.stage_quiet.specs.Clocks.{drawn_stamp}
 use Rattle.stage_quiet.specs.declared.close.Close.{Close}
 use Rattle.stage_quiet.specs.declared.close.Close.TheVariants.{AtCompare as close_compare, AtDraw, AtStore}
 use Rattle.stage_quiet.specs.declared.quiet.Quiet.{Quiet}
-use Rattle.stage_quiet.specs.declared.quiet.Quiet.TheVariants.{AtCore, AtFlush}
 use Rattle.stage_quiet.specs.Removal.{CloseFits, close_compared, close_at, close_end, close_after}
-use Rattle.stage_quiet.specs.Scan.{QuietFits, next_other, core_scan, quiet_refuses, scan_end, scan_after, quiet_end, quiet_after}
+use Rattle.stage_quiet.specs.Scan.{QuietFits, quiet_end, quiet_after}
 use Rattle.stage_pins.specs.declared.pin.Pin.{Pin}
 use Rattle.stage_pins.specs.declared.pin.Pin.TheVariants.{AtLoad, AtCompare}
 use Rattle.stage_pins.specs.declared.pin.Pinned.{Pinned}
@@ -81,12 +80,13 @@ use Rattle.call_acts.specs.declared.makings.MakingAt.TheVariants.{Load as make_l
 use Rattle.call_acts.specs.Objects.{counts_of, last_word}
 use Rattle.call_acts.specs.Makings.{MakingFits, making_left, undo_at}
 use Rattle.call_steps.specs.Tails.{tail_left, took_tail, tail_counts}
-use Rattle.call_steps.specs.Fits.{TailFits, ScanFits, WorkFits, StageFits, IsWanted, FoundFits, HasRoom, CountsWait, CountsAt, looks_later, names_left, steps_later, left_of_look, left_of_scan, left_of_pin, work_left, left_at, left_of, IsActive, IsOwn}
+use Rattle.call_acts.specs.Scans.{ScanFits, left_of_scan}
+use Rattle.call_steps.specs.Fits.{TailFits, WorkFits, StageFits, IsWanted, FoundFits, HasRoom, CountsWait, CountsAt, looks_later, names_left, steps_later, left_of_look, left_of_pin, work_left, left_at, left_of, IsActive, IsOwn}
 use Rattle.call_steps.proofs.StepsFit.{StepFits, starts_fit, few_dues, object_count, work_next, counts_next, first_named, act_fits}
 use Rattle.call_acts.specs.declared.work.Act.{Act as ActType}
-use Rattle.call_acts.specs.declared.work.Act.TheVariants.{Fill as fill_act, Remove as remove_act, Retype as type_act, Make as make_act, Outside, Tick as tick_act, Kill as kill_act}
+use Rattle.call_acts.specs.declared.work.Act.TheVariants.{Fill as fill_act, Remove as remove_act, Retype as type_act, Make as make_act, Outside, Tick as tick_act, Kill as kill_act, MakeComp as comp_act}
 use Rattle.call_acts.specs.declared.work.Tail.{Tail}
-use Rattle.call_acts.specs.declared.work.Tail.TheVariants.{Nothing, Quiesce, Unmark, StoreDead}
+use Rattle.call_acts.specs.declared.work.Tail.TheVariants.{Nothing, Quiesce, Unmark, StoreDead, StoreLive}
 use Rattle.call_steps.specs.declared.stages.Stage.{Stage}
 use Rattle.call_steps.specs.declared.stages.Stage.TheVariants.{Enter, Undecided, Decided, Leave}
 use Rattle.call_steps.specs.declared.stages.ActiveCall.{ActiveCall}
@@ -102,6 +102,8 @@ use Rattle.call_acts.specs.Lookups.{met_name, met_free, met_held}
 use Rattle.call_steps.specs.Steps.{GoesOn, landed, found_more, next_by, took_enter, named_one, took_found, took_end, took_look, took_scan, took_count, took_work, went_with, is_spent, took_at, took}
 use Rattle.call_steps.proofs.LandsFit.{TookFits, Facts, names_object, next_fits, landed_fits}
 use Rattle.call_steps.proofs.KillsFit.{kill_fits}
+use Rattle.call_steps.proofs.CompsFit.{comp_fits, comp_undone}
+use Rattle.call_steps.proofs.ScansFit.{scan_goes, scan_left}
 
 -- a step of the work of a call that has acquired its counts, or acquires them
 module _ (own : Own) (a : ActiveCall) (facts : Facts own a) (room : own.made < own.limit) where
@@ -276,6 +278,7 @@ module _ (own : Own) (a : ActiveCall) (facts : Facts own a) (room : own.made < o
   done_fits (Outside node entry word) found fits waits = act_refused _ refusal.OutOfRange (omega arith)
   done_fits (tick_act charge) found fits waits = tick_fits charge found fits waits
   done_fits (kill_act m) found fits waits = kill_fits own a facts room m m.at found fits waits
+  done_fits (comp_act m) found fits waits = comp_fits own a facts room m m.at found fits waits
 
   undo_fits : (act : ActType) → ActFits own.layout act → TailFits own.layout (undo act) × (tail_left (undo act) ≤ act_left act)
   undo_fits (fill_act fill) fits = (tt, omega arith)
@@ -291,79 +294,7 @@ module _ (own : Own) (a : ActiveCall) (facts : Facts own a) (room : own.made < o
   undo_fits (Outside node entry word) fits = (tt, omega arith)
   undo_fits (tick_act charge) fits = (tt, omega arith)
   undo_fits (kill_act m) fits = (tt, omega arith)
-
-  -- a scan goes on to the next core, or to the act
-  scan_goes : (q : Quiet) (found : ℕ) → QuietFits own.layout q → ScanFits own.layout q → quiet_end own.layout.cores q found ≡ ends.Going
-      → QuietFits own.layout (quiet_after own.layout.cores q found) × ScanFits own.layout (quiet_after own.layout.cores q found)
-      × (left_of_scan own.layout.cores (quiet_after own.layout.cores q found) < left_of_scan own.layout.cores q)
-  scan_goes (AtFlush stamp at) found quiet fits is = absurd fits
-  scan_goes (AtCore stamp core at page) found quiet fits is =
-      by (quiet_refuses (AtCore stamp core at page) found) (nat_lt (next_other core at) own.layout.cores) refl page fits.1 is
-    where
-      left_is : (n : ℕ) → ℕ
-      left_is n = if nat_lt n core then own.layout.cores - n - 1 else own.layout.cores - n
-
-      fewer : (less next one : Bool) → nat_lt at core ≡ less → nat_lt (next_other core at) core ≡ next → (at + 1 == core) ≡ one
-          → next_other core at < own.layout.cores → left_is (next_other core at) < left_is at
-      fewer less next one a b d below =
-          subst (λ x. (if x then own.layout.cores - next_other core at - 1 else own.layout.cores - next_other core at) < left_is at)
-          (sym b)
-          (subst (λ x. (if next then own.layout.cores - next_other core at - 1 else own.layout.cores - next_other core at) <
-          (if x then own.layout.cores - at - 1 else own.layout.cores - at)) (sym a) (go less next one a b d below))
-        where
-          go : (less next one : Bool) → nat_lt at core ≡ less → nat_lt (next_other core at) core ≡ next → (at + 1 == core) ≡ one
-              → next_other core at < own.layout.cores
-              → (if next then own.layout.cores - next_other core at - 1 else own.layout.cores - next_other core at) <
-              (if less then own.layout.cores - at - 1 else own.layout.cores - at)
-          go true true true a b d below =
-              let n : next_other core at ≡ at + 2 = ap (λ x. if x then at + 2 else at + 1) d in
-              let e = eqb-true (at + 1) core d in
-              let l = ltb-true (next_other core at) core b in absurd (omega arith)
-          go true true false a b d below =
-              let n : next_other core at ≡ at + 1 = ap (λ x. if x then at + 2 else at + 1) d in
-              let l = ltb-true (next_other core at) core b in
-              let here = facts.own_fits.core in omega arith
-          go true false true a b d below = let n : next_other core at ≡ at + 2 = ap (λ x. if x then at + 2 else at + 1) d in omega arith
-          go true false false a b d below =
-              let n : next_other core at ≡ at + 1 = ap (λ x. if x then at + 2 else at + 1) d in
-              let e = eqb-false (at + 1) core d in
-              let l = ltb-true at core a in
-              let m = ltb-false (next_other core at) core b in absurd (e (omega arith))
-          go false next one a b d below = go_far next one b d
-            where
-              l : core ≤ at
-              l = ltb-false at core a
-
-              go_far : (next one : Bool) → nat_lt (next_other core at) core ≡ next → (at + 1 == core) ≡ one
-                  → (if next then own.layout.cores - next_other core at - 1 else own.layout.cores - next_other core at) < own.layout.cores
-                  - at
-              go_far next true b d = let e = eqb-true (at + 1) core d in let m = l in absurd (omega arith)
-              go_far true false b d =
-                  let n : next_other core at ≡ at + 1 = ap (λ x. if x then at + 2 else at + 1) d in
-                  let k = ltb-true (next_other core at) core b in let m = l in absurd (omega arith)
-              go_far false false b d = let n : next_other core at ≡ at + 1 = ap (λ x. if x then at + 2 else at + 1) d in omega arith
-
-      apart : (one : Bool) → (at + 1 == core) ≡ one → next_other core at ≢ core
-      apart true d = let n : next_other core at ≡ at + 2 =
-          ap (λ x. if x then at + 2 else at + 1) d in let e = eqb-true (at + 1) core d in omega arith
-      apart false d = let n : next_other core at ≡ at + 1 =
-          ap (λ x. if x then at + 2 else at + 1) d in let e = eqb-false (at + 1) core d in λ h. e (omega arith)
-
-      by : (refused : Option Reply) (there : Bool) → nat_lt (next_other core at) own.layout.cores ≡ there → (page : Bool) → page ≡ false
-          → scan_end refused (core_scan there stamp core (next_other core at) page) ≡ ends.Going
-          → QuietFits own.layout (scan_after (AtCore stamp core at page) refused (core_scan there stamp core (next_other core at) page))
-          × ScanFits own.layout (scan_after (AtCore stamp core at page) refused (core_scan there stamp core (next_other core at) page))
-          × (left_of_scan own.layout.cores (scan_after (AtCore stamp core at page) refused
-          (core_scan there stamp core (next_other core at) page)) < left_is at)
-      by (Some r) there below page none is = absurd (cc)
-      by None true below page none is =
-          let in_machine = ltb-true (next_other core at) own.layout.cores below in (
-            (in_machine, apart (at + 1 == core) refl),
-            (fits.0, none, fits.2),
-            fewer (nat_lt at core) (nat_lt (next_other core at) core) (at + 1 == core) refl refl refl in_machine,
-          )
-      by None false below true none is = absurd (cc)
-      by None false below false none is = absurd (cc)
+  undo_fits (comp_act m) fits = comp_undone own m m.at fits
 
   scan_end_fits : (left : ℕ) (act : ActType) (q : Quiet) (end : StageEnd (Unit {0})) → a.counts ≡ [] → ActFits own.layout act
       → (end ≡ ends.Going → QuietFits own.layout q × ScanFits own.layout q ×
@@ -387,23 +318,15 @@ module _ (own : Own) (a : ActiveCall) (facts : Facts own a) (room : own.made < o
   scan_end_fits left act q (ends.Refuse r) none fits goes some =
       let empty : length a.counts ≡ 0 = ap length none in act_refused left (refusal_of r) (omega arith)
 
-  scan_left : (q : Quiet) → QuietFits own.layout q → ScanFits own.layout q → 1 ≤ left_of_scan own.layout.cores q
-  scan_left (AtFlush stamp at) quiet fits = absurd fits
-  scan_left (AtCore stamp core at page) quiet fits = by (nat_lt at core) refl
-    where
-      by : (b : Bool) → nat_lt at core ≡ b → 1 ≤ (if b then own.layout.cores - at - 1 else own.layout.cores - at)
-      by true is = let l = ltb-true at core is in let h = fits.0 in omega arith
-      by false is = let h = quiet.0 in omega arith
-
   scan_fits : (q : Quiet) (act : ActType) (found : ℕ) → QuietFits own.layout q → ScanFits own.layout q → ActFits own.layout act
       → a.counts ≡ []
       → TookFits own (left_at own.layout.cores a (Undecided (Scan q act))) a
       (landed a (took_scan own.core act (quiet_after own.layout.cores q found) (quiet_end own.layout.cores q found)))
   scan_fits q act found quiet scan fits none =
       let empty : length a.counts ≡ 0 = ap length none in
-      let some = scan_left q quiet scan in
+      let some = scan_left own.layout q quiet scan in
       scan_end_fits _ act (quiet_after own.layout.cores q found) (quiet_end own.layout.cores q found) none fits
-      (λ going. let on = scan_goes q found quiet scan going in (on.0, on.1, let fewer = on.2 in omega arith)) (omega arith)
+      (λ going. let on = scan_goes own.layout q found quiet scan going in (on.0, on.1, let fewer = on.2 in omega arith)) (omega arith)
 
   -- one count more is acquired
   pushed_is : (p : Pinned) (change : ℤ) → length a.counts < 4
@@ -692,10 +615,10 @@ enter_fits own a false is facts none =
     (next_fits own a facts) (omega arith)
 
 tail_fits : (own : Own) (a : ActiveCall) (r : Reply) (drawn : Option ℕ) (tail : Tail) (counts : List Acquired) (found : ℕ) → Facts own a
-    → a.counts ≡ counts
+    → TailFits own.layout tail → a.counts ≡ counts
     → TookFits own (left_at own.layout.cores a (Decided r drawn tail)) a
     (GoesOn (went_with a (tail_counts tail counts) (took_tail r drawn tail counts found)))
-tail_fits own a r drawn (Quiesce close) counts found facts is = record {
+tail_fits own a r drawn (Quiesce close) counts found facts fits is = record {
   call = refl;
   plan = refl;
   found = facts.found;
@@ -708,7 +631,7 @@ tail_fits own a r drawn (Quiesce close) counts found facts is = record {
   steps = refl;
   fewer = let same : length a.counts ≡ length counts = ap length is in omega arith;
 }
-tail_fits own a r drawn (Unmark f word) counts found facts is = record {
+tail_fits own a r drawn (Unmark f word) counts found facts fits is = record {
   call = refl;
   plan = refl;
   found = facts.found;
@@ -721,7 +644,7 @@ tail_fits own a r drawn (Unmark f word) counts found facts is = record {
   steps = refl;
   fewer = let same : length a.counts ≡ length counts = ap length is in omega arith;
 }
-tail_fits own a r drawn (StoreDead life stamp) counts found facts is = record {
+tail_fits own a r drawn (StoreDead life stamp) counts found facts fits is = record {
   call = refl;
   plan = refl;
   found = facts.found;
@@ -734,7 +657,20 @@ tail_fits own a r drawn (StoreDead life stamp) counts found facts is = record {
   steps = refl;
   fewer = let same : length a.counts ≡ length counts = ap length is in omega arith;
 }
-tail_fits own a r drawn Nothing [] found facts is = record {
+tail_fits own a r drawn (StoreLive l live f word) counts found facts fits is = record {
+  call = refl;
+  plan = refl;
+  found = facts.found;
+  first = tt;
+  stage = fits.1;
+  acquired = subst (AllFit own.layout) is facts.acquired;
+  counts = tt;
+  room = tt;
+  counted = facts.own_fits.made;
+  steps = refl;
+  fewer = let same : length a.counts ≡ length counts = ap length is in omega arith;
+}
+tail_fits own a r drawn Nothing [] found facts fits is = record {
   call = refl;
   plan = refl;
   found = facts.found;
@@ -747,7 +683,7 @@ tail_fits own a r drawn Nothing [] found facts is = record {
   steps = refl;
   fewer = omega arith;
 }
-tail_fits own a r drawn Nothing (x ∷ xs) found facts is = record {
+tail_fits own a r drawn Nothing (x ∷ xs) found facts fits is = record {
   call = refl;
   plan = refl;
   found = facts.found;
@@ -765,7 +701,7 @@ stage_fits : (own : Own) (a : ActiveCall) (stage : Stage) (found : ℕ) → Fact
     → HasRoom own.made own.limit stage → TookFits own (left_at own.layout.cores a stage) a (took_at own a stage found)
 stage_fits own a Enter found facts fits counts room = enter_fits own a _ refl facts counts
 stage_fits own a (Undecided work) found facts fits counts room = work_fits own a work found facts room fits counts
-stage_fits own a (Decided r drawn tail) found facts fits counts room = tail_fits own a r drawn tail a.counts found facts refl
+stage_fits own a (Decided r drawn tail) found facts fits counts room = tail_fits own a r drawn tail a.counts found facts fits refl
 stage_fits own a (Leave r stamp) found facts fits counts room = omega arith
 
 pub took_fits : (own : Own) (a : ActiveCall) (found : ℕ) → IsOwn own → IsActive own a

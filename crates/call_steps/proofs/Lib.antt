@@ -1,8 +1,10 @@
 pub mod Landing
 pub mod StepsFit
 pub mod LandsFit
+pub mod ScansFit
 pub mod Fitting
 pub mod Begun
 pub mod Decisions
 pub mod KillsFit
+pub mod CompsFit
 pub mod CoreFitting

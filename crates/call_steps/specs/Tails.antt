@@ -2,7 +2,7 @@
 use Rattle.std.specs.Prelude.{ℕ, ◌-◌, ◌^◌, Bool, true, false, nat_lt, Option, List, [], ◌∷◌, if◌then◌else◌}
 use Rattle.spk_nums.specs.declared.replies.Reply.{Reply}
 use Rattle.spk_nums.specs.declared.replies.Reply.TheVariants.{Ok}
-use Rattle.word_map.specs.Word.{ClockAt, FrameAt}
+use Rattle.word_map.specs.Word.{ClockAt, FrameAt, LiveAt}
 use Rattle.word_map.specs.Moves.{Move, LoadOf, StoreOf}
 use Rattle.stage_quiet.specs.Removal.{close_move}
 use Rattle.stage_pins.specs.declared.held.Acquired.{Acquired}
@@ -10,7 +10,7 @@ use Rattle.stage_pins.specs.Commit.{settle_move}
 use Rattle.stage_pins.specs.Held.{commit_of, rest_of}
 use Rattle.call_acts.specs.Kills.{dead_move}
 use Rattle.call_acts.specs.declared.work.Tail.{Tail}
-use Rattle.call_acts.specs.declared.work.Tail.TheVariants.{Nothing, Quiesce, Unmark, StoreDead}
+use Rattle.call_acts.specs.declared.work.Tail.TheVariants.{Nothing, Quiesce, Unmark, StoreDead, StoreLive}
 use Rattle.call_steps.specs.declared.stages.Stage.{Stage}
 use Rattle.call_steps.specs.declared.stages.Stage.TheVariants.{Decided, Leave}
 
@@ -24,6 +24,7 @@ abbrev pub tail_move : Reply → Option ℕ → Tail → List Acquired → Move
 tail_move r drawn (Quiesce close) counts = close_move close
 tail_move r drawn (Unmark f word) counts = StoreOf (FrameAt f) word
 tail_move r drawn (StoreDead life stamp) counts = dead_move life stamp
+tail_move r drawn (StoreLive l live f word) counts = StoreOf (LiveAt l) live
 tail_move r drawn Nothing [] = LoadOf ClockAt
 tail_move r drawn Nothing (x ∷ xs) = settle_move (commit_of (is_ok r) drawn x)
 
@@ -39,6 +40,7 @@ abbrev pub took_tail : Reply → Option ℕ → Tail → List Acquired → ℕ �
 took_tail r drawn (Quiesce close) counts found = Decided r drawn Nothing
 took_tail r drawn (Unmark f word) counts found = Decided r drawn Nothing
 took_tail r drawn (StoreDead life stamp) counts found = Decided r drawn Nothing
+took_tail r drawn (StoreLive l live f word) counts found = Decided r drawn (Unmark f word)
 took_tail r drawn Nothing [] found = Leave r (stamp_of found)
 took_tail r drawn Nothing (x ∷ xs) found = Decided r drawn Nothing
 
@@ -46,6 +48,7 @@ abbrev pub tail_counts : Tail → List Acquired → List Acquired
 tail_counts (Quiesce close) xs = xs
 tail_counts (Unmark f word) xs = xs
 tail_counts (StoreDead life stamp) xs = xs
+tail_counts (StoreLive l live f word) xs = xs
 tail_counts Nothing xs = rest_of xs
 
 -- how many stores are left beside the counts
@@ -54,3 +57,4 @@ tail_left Nothing = 0
 tail_left (Quiesce close) = 1
 tail_left (Unmark f word) = 1
 tail_left (StoreDead life stamp) = 1
+tail_left (StoreLive l live f word) = 2
