@@ -3,12 +3,13 @@ use Rattle.frame_words.specs.declared.frame_word.FrameWord.{FrameWord}
 use Rattle.spk_nums.specs.declared.kinds.Obj.TheVariants.{Blank as BlankObject}
 use Rattle.spk_nums.specs.declared.kinds.FrameKind.TheVariants.{Untyped as FrameUntyped, User as FrameUser, Kernel as FrameKernel}
 use Rattle.call_acts.specs.declared.objects.NewObject.{NewObject}
+use Rattle.call_acts.specs.Comps.{comp_is_marked}
 use Rattle.call_acts.specs.Makings.{is_marked}
 use Rattle.call_acts.specs.declared.makings.MakingAt.TheVariants.{Load as making_load, Mark, Store, Fill as making_fill}
 use Rattle.call_acts.specs.declared.makings.MakingAt.{MakingAt}
 use Rattle.call_acts.specs.declared.work.Work.TheVariants.{Lookup, Scan, Acquire, Act as act_work}
 use Rattle.call_acts.specs.declared.work.Work.{Work}
-use Rattle.call_acts.specs.declared.work.Act.TheVariants.{Fill as fill_act, Remove as remove_act, Retype as type_act, Make as make_act, Outside, Tick as tick_act, Kill as kill_act}
+use Rattle.call_acts.specs.declared.work.Act.TheVariants.{Fill as fill_act, Remove as remove_act, Retype as type_act, Make as make_act, Outside, Tick as tick_act, Kill as kill_act, MakeComp as comp_act}
 use Rattle.call_acts.specs.declared.work.Act.{Act as ActOf}
 use Rattle.stage_quiet.specs.declared.quiet.Quiet.TheVariants.{AtCore, AtFlush}
 use Rattle.call_plans.specs.declared.plans.Plan.{Plan}
@@ -47,7 +48,7 @@ use Rattle.call_steps.specs.declared.stages.Stage.{Stage}
 use Rattle.call_steps.specs.declared.stages.Stage.TheVariants.{Enter, Undecided, Decided, Leave}
 use Rattle.call_steps.specs.declared.stages.ActiveCall.{ActiveCall}
 use Rattle.call_acts.specs.declared.own.Own.{Own}
-use Rattle.call_acts.specs.declared.work.Tail.TheVariants.{Nothing, Quiesce, Unmark, StoreDead}
+use Rattle.call_acts.specs.declared.work.Tail.TheVariants.{Nothing, Quiesce, Unmark, StoreDead, StoreLive}
 use Rattle.call_steps.specs.View.{Core}
 use Rattle.core_invariant.specs.Holding.{settled, MarkIs, Holding, keeps, holds_counts, settled_by}
 use Rattle.core_invariant.specs.Words.{WordIs}
@@ -108,6 +109,7 @@ filled_act setup t c f call plan ks (type_act typing) h knows is = absurd (false
 filled_act setup t c f call plan ks (Outside node entry word) h knows is = absurd (false≢true is)
 filled_act setup t c f call plan ks (tick_act charge) h knows is = absurd (false≢true is)
 filled_act setup t c f call plan ks (kill_act m) h knows is = absurd (false≢true is)
+filled_act setup t c f call plan ks (comp_act m) h knows is = absurd knows
 
 -- A scan is made before the frame is marked.
 scans_nothing : (act : ActOf) (f : ℕ) → is_start act ≡ true → stores_in act f ≡ false
@@ -122,6 +124,11 @@ scans_nothing (type_act typing) f starts = refl
 scans_nothing (Outside node entry word) f starts = refl
 scans_nothing (tick_act charge) f starts = refl
 scans_nothing (kill_act m) f starts = refl
+scans_nothing (comp_act m) f starts = by (comp_is_marked m.at) starts
+  where
+    by : (b : Bool) → not b ≡ true → (b && f == m.frame) ≡ false
+    by true h = absurd (false≢true h)
+    by false h = refl
 
 filled_work : (setup : Setting) (t : Trace) (c table f : ℕ) (a : ActiveCall) (work : Work) (h : Holding) → KnowsWork setup t c table a work
     → stores_of work f ≡ true → IsFilled (holds_work work h) f
@@ -234,6 +241,7 @@ module _ (setup : Setting) (setting : IsSetting setup) (cores : ℕ → Core) (t
   knows_other follows time blanks c table a other (Decided r drawn (Unmark f word)) held at has = has
   knows_other follows time blanks c table a other (Decided r drawn (StoreDead life stamp)) held at has =
       dead_on setup t e c a.call (λ own. absurd (other own)) life has
+  knows_other follows time blanks c table a other (Decided r drawn (StoreLive l live f word)) held at has = absurd has
   knows_other follows time blanks c table a other (Decided r drawn (Quiesce close)) held at has =
       store_on setup t e c a.call (λ own. absurd (other own)) (λ f.
       (stays_in_other setup setting t stands.legal e follows c other (ap is_in at)).relies f) close has

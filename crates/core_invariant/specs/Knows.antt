@@ -7,6 +7,7 @@ use Rattle.call_acts.specs.Ticks.{ticks_due, ticks_of, is_charging}
 use Rattle.kernel_history.specs.Marks.{frame_mark}
 use Rattle.spk_nums.specs.declared.kinds.Obj.TheVariants.{Blank}
 use Rattle.call_acts.specs.Objects.{object_cap, object_made, object_word, last_word}
+use Rattle.call_acts.specs.Comps.{comp_is_marked}
 use Rattle.call_acts.specs.Makings.{is_marked}
 use Rattle.call_acts.specs.declared.makings.MakingAt.TheVariants.{Load as making_load, Mark, Store, Fill as making_fill}
 use Rattle.call_acts.specs.declared.makings.MakingAt.{MakingAt}
@@ -65,12 +66,12 @@ use Rattle.call_acts.specs.declared.typings.TypingAt.TheVariants.{Load, Compare 
 use Rattle.call_acts.specs.Typings.{is_typing}
 use Rattle.kernel_rules.specs.CapabilityCalls.{has_frame}
 use Rattle.call_acts.specs.declared.work.Act.{Act as ActOf}
-use Rattle.call_acts.specs.declared.work.Act.TheVariants.{Fill as fill_act, Remove as remove_act, Retype as type_act, Make as make_act, Outside, Tick as tick_act, Kill as kill_act}
+use Rattle.call_acts.specs.declared.work.Act.TheVariants.{Fill as fill_act, Remove as remove_act, Retype as type_act, Make as make_act, Outside, Tick as tick_act, Kill as kill_act, MakeComp as comp_act}
 use Rattle.call_acts.specs.declared.work.Work.{Work}
 use Rattle.call_acts.specs.declared.work.Due.{Due}
 use Rattle.call_acts.specs.declared.work.Work.TheVariants.{Lookup, Scan, Acquire, Act}
 use Rattle.call_acts.specs.declared.work.Tail.{Tail}
-use Rattle.call_acts.specs.declared.work.Tail.TheVariants.{Nothing, Quiesce, Unmark, StoreDead}
+use Rattle.call_acts.specs.declared.work.Tail.TheVariants.{Nothing, Quiesce, Unmark, StoreDead, StoreLive}
 use Rattle.call_steps.specs.declared.stages.Stage.{Stage}
 use Rattle.call_steps.specs.declared.stages.Stage.TheVariants.{Enter, Undecided, Decided, Leave}
 use Rattle.call_steps.specs.declared.stages.ActiveCall.{ActiveCall}
@@ -375,7 +376,8 @@ pub record KnowsKilling (setup : Setting) (t : Trace) (c : ℕ) (call : Call) (k
   pub comp : HasComp (state_after setup t) c m.comp
   pub at : KnowsKillingAt setup t c m.comp m.at
 
--- What a call with this plan knows of its act, where its names have led to these and the cores below `upto` were scanned.
+-- What a call with this plan knows of its act, where its names have led to these and the cores below `upto` were scanned. No call that is
+-- carried out today makes a component.
 abbrev pub KnowsAct : Setting → Trace → ℕ → Call → Plan → List Capability → ℕ → ActOf → Type 0
 KnowsAct setup t c call plan found upto (fill_act fill) = IsFill setup t c call plan found upto fill
 KnowsAct setup t c call plan found upto (remove_act close cap) = KnowsClose setup t c call plan found close cap
@@ -384,6 +386,7 @@ KnowsAct setup t c call plan found upto (make_act making) = KnowsMaking setup t 
 KnowsAct setup t c call plan found upto (Outside node entry word) = KnowsOutside setup t c call plan found upto node entry word
 KnowsAct setup t c call plan found upto (tick_act charge) = KnowsTick setup t c call charge
 KnowsAct setup t c call plan found upto (kill_act m) = KnowsKilling setup t c call found m
+KnowsAct setup t c call plan found upto (comp_act m) = ⊥
 
 -- An act is before its first step.
 abbrev pub is_first_of : Close → Bool
@@ -399,6 +402,7 @@ is_start (make_act making) = not (is_marked making.at)
 is_start (Outside node entry word) = true
 is_start (tick_act charge) = not (is_charging charge)
 is_start (kill_act m) = not (is_killing m.at)
+is_start (comp_act m) = not (comp_is_marked m.at)
 
 -- Its counts may be acquired here: no entry and no liveness number is closed yet.
 abbrev pub is_counting : ActOf → Bool
@@ -507,6 +511,7 @@ KnowsTail setup t c call Nothing = Unit {0}
 KnowsTail setup t c call (Quiesce close) = KnowsStore setup t c call close
 KnowsTail setup t c call (Unmark f word) = KnowsUnmark call f word
 KnowsTail setup t c call (StoreDead life stamp) = KnowsDead setup t c call life
+KnowsTail setup t c call (StoreLive l live f word) = ⊥
 
 -- What a call knows at its stage. One that has made no step is in no trace.
 abbrev pub KnowsAt : Setting → Trace → ℕ → ℕ → ActiveCall → Stage → Type 0

@@ -2,7 +2,10 @@
 -- is acquired; and so is the step by which a decided call commits it.
 use Rattle.entry_words.specs.declared.entry.Entry.TheVariants.{Held}
 use Rattle.entry_words.specs.EntryWord.{word_of_entry}
+use Rattle.call_acts.specs.Comps.{comp_undo}
 use Rattle.call_acts.specs.Makings.{undo_at}
+use Rattle.call_acts.specs.declared.comps.CompAt.{CompAt}
+use Rattle.call_acts.specs.declared.comps.CompAt.TheVariants as comp_at
 use Rattle.call_acts.specs.Kills.{is_killing}
 use Rattle.call_acts.specs.declared.kills.KillingAt.{KillingAt}
 use Rattle.call_acts.specs.declared.kills.KillingAt.TheVariants.{LoadComp, LoadLive, Close as kill_close, Draw as kill_draw}
@@ -68,7 +71,7 @@ use Rattle.look_invariant.proofs.Findings.{found_named}
 use Rattle.call_acts.specs.declared.refusals.Refusal.TheVariants as refusal
 use Rattle.call_acts.specs.declared.work.Due.{Due}
 use Rattle.call_acts.specs.declared.work.Act.{Act as ActOf}
-use Rattle.call_acts.specs.declared.work.Act.TheVariants.{Fill as fill_act, Remove as remove_act, Retype as type_act, Make as make_act, Outside, Tick as tick_act, Kill as kill_act}
+use Rattle.call_acts.specs.declared.work.Act.TheVariants.{Fill as fill_act, Remove as remove_act, Retype as type_act, Make as make_act, Outside, Tick as tick_act, Kill as kill_act, MakeComp as comp_act}
 use Rattle.call_acts.specs.declared.work.Tail.TheVariants.{Nothing}
 use Rattle.call_acts.specs.declared.work.Work.TheVariants.{Acquire}
 use Rattle.call_steps.specs.declared.stages.Stage.TheVariants.{Undecided, Decided}
@@ -83,7 +86,7 @@ use Rattle.call_steps.proofs.StepsFit.{few_dues}
 use Rattle.core_invariant.specs.Holding.{Holding, count_of, committed, holds_counts, AreApart, settled_by, settled, keeps}
 use Rattle.core_invariant.specs.Words.{SaysCount, count_room}
 use Rattle.core_invariant.specs.Knows.{AreDuesApart, own_in, HasFound, NamesAre, due_of, pin_frame, pin_core, IsRemoval, KnowsClose, KnowsAct, KnowsWork, KnowsUndecided, IsCount, HasRead, phase_at, KnowsTail, goes_on, is_counting}
-use Rattle.core_invariant.specs.Stands.{done_by, holds_act, holds_work, holds_at, holds_in, holds, held_by, Stands, holds_tail, holds_making, holds_killing}
+use Rattle.core_invariant.specs.Stands.{done_by, holds_act, holds_work, holds_at, holds_in, holds, held_by, Stands, holds_tail, holds_making, holds_killing, holds_comp}
 use Rattle.core_invariant.proofs.Carries.{names_on, act_on, counts_on, ReadsSame}
 use Rattle.core_invariant.proofs.Writes.{same_marks}
 use Rattle.core_invariant.proofs.Good.{IsGood, spares_other}
@@ -186,6 +189,16 @@ undo_holds (kill_act m) h is = by m.at is
     by (LoadLive life) is = refl
     by (kill_close life word) is = refl
     by (kill_draw life word) is = absurd (false≢true is)
+undo_holds (comp_act m) h is = by m.at
+  where
+    by : (at : CompAt) → holds_tail (comp_undo m at) h ≡ holds_comp m at h
+    by comp_at.Load = refl
+    by (comp_at.Mark word) = refl
+    by (comp_at.LoadLive word) = refl
+    by (comp_at.Scan word last q) = refl
+    by (comp_at.Close word last) = refl
+    by (comp_at.Store word last entry) = refl
+    by (comp_at.Fill word last) = refl
 
 acquires_holds : (core : ℕ) (act : ActOf) (o : Option Due) (h : Holding) → holds_work (acquires core act o) h ≡ holds_act act h
 acquires_holds core act None h = refl
@@ -220,6 +233,17 @@ act_count (kill_act m) h f d = by m.at
     by (LoadLive life) = (refl, refl)
     by (kill_close life word) = (refl, refl)
     by (kill_draw life word) = (refl, refl)
+act_count (comp_act m) h f d = by m.at
+  where
+    by : (at : CompAt) → ((holds_comp m at h).marks (CountAt f d) ≡ h.marks (CountAt f d))
+        × ((holds_comp m at h).stands (CountAt f d) ≡ h.stands (CountAt f d))
+    by comp_at.Load = (refl, refl)
+    by (comp_at.Mark word) = (refl, refl)
+    by (comp_at.LoadLive word) = (refl, refl)
+    by (comp_at.Scan word last q) = (refl, refl)
+    by (comp_at.Close word last) = (refl, refl)
+    by (comp_at.Store word last entry) = (refl, refl)
+    by (comp_at.Fill word last) = (refl, refl)
 
 keeps_over : (v w : Word) (x : ℕ) (h g : Holding) → (h.marks w ≡ g.marks w) × (h.stands w ≡ g.stands w)
     → ((keeps v x h).marks w ≡ (keeps v x g).marks w) × ((keeps v x h).stands w ≡ (keeps v x g).stands w)
@@ -253,6 +277,29 @@ act_over (kill_act m) h g w same = by m.at
     by (LoadLive life) = same
     by (kill_close life word) = same
     by (kill_draw life word) = keeps_over (LiveAt life.number) w word h g same
+act_over (comp_act m) h g w same = by m.at
+  where
+    marked : (word : ℕ) → ((keeps (FrameAt m.frame) word h).marks w ≡ (keeps (FrameAt m.frame) word g).marks w)
+        × ((keeps (FrameAt m.frame) word h).stands w ≡ (keeps (FrameAt m.frame) word g).stands w)
+    marked word = keeps_over (FrameAt m.frame) w word h g same
+
+    both : (word live : ℕ)
+        → ((keeps (LiveAt m.number) live (keeps (FrameAt m.frame) word h)).marks w
+        ≡ (keeps (LiveAt m.number) live (keeps (FrameAt m.frame) word g)).marks w)
+        × ((keeps (LiveAt m.number) live (keeps (FrameAt m.frame) word h)).stands w
+        ≡ (keeps (LiveAt m.number) live (keeps (FrameAt m.frame) word g)).stands w)
+    both word live =
+        keeps_over (LiveAt m.number) w live (keeps (FrameAt m.frame) word h) (keeps (FrameAt m.frame) word g) (marked word)
+
+    by : (at : CompAt) → ((holds_comp m at h).marks w ≡ (holds_comp m at g).marks w)
+        × ((holds_comp m at h).stands w ≡ (holds_comp m at g).stands w)
+    by comp_at.Load = same
+    by (comp_at.Mark word) = same
+    by (comp_at.LoadLive word) = marked word
+    by (comp_at.Scan word last q) = marked word
+    by (comp_at.Close word last) = marked word
+    by (comp_at.Store word last entry) = both word last.word
+    by (comp_at.Fill word last) = both word last.word
 
 -- An act that changes a count charges no ticks.
 counts_plain : (act : ActOf) (before : List Due) (due : Due) (rest : List Due) → dues act ≡ before ++ due ∷ rest → ticks_in act ≡ false
@@ -263,6 +310,7 @@ counts_plain (make_act m) before due rest is = refl
 counts_plain (Outside node entry word) before due rest is = refl
 counts_plain (tick_act charge) before due rest is = absurd (no_due before due rest is)
 counts_plain (kill_act m) before due rest is = refl
+counts_plain (comp_act m) before due rest is = refl
 
 -- A call that fills its target changes references, and the frame that it names there is near it: a line a call.
 put_counts : (call : Call) → IsBuilt call → (ks : List Capability) (k : Capability) → put_by call ks ≡ Some k
@@ -720,6 +768,7 @@ acquire_good setup setting cores t stands c here a active pin change (kill_act m
     (killing_due m.comp m.at (map due_of a.counts) (record { frame = pin_frame pin; change = change }) has.knows.rest has.knows.due)
     ∙ kill_near (state_after setup t) c a.call a.found m.comp has.knows.knows.kills
     (call_leads setup setting cores t stands c here a active has.names)) (λ e. tt) refl
+acquire_good setup setting cores t stands c here a active pin change (comp_act m) is has = absurd has.knows.knows
 
 -- A decided call commits its earliest count.
 module _ (setup : Setting) (setting : IsSetting setup) (cores : ℕ → Core) (t : Trace) (stands : Stands setup cores t) (c : ℕ)

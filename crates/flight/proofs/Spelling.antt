@@ -9,12 +9,16 @@ use Rattle.stage_look.specs.declared.look.Look.TheVariants.{AtRoot, AtLeaf, AtEn
 use Rattle.stage_look.proofs.LookLemmas.{look_is_in}
 use Rattle.call_steps.specs.Fits.{TailFits, StageFits, CallFits}
 use Rattle.call_steps.specs.Cores.{move_in}
+use Rattle.call_acts.specs.Comps.{CompMakingFits, comp_at}
+use Rattle.call_acts.specs.declared.comps.CompAt.{CompAt}
+use Rattle.call_acts.specs.declared.comps.CompAt.TheVariants as comp_stands
+use Rattle.call_acts.specs.declared.comps.CompMaking.{CompMaking}
 use Rattle.call_acts.specs.declared.kills.KillingAt.{KillingAt}
 use Rattle.call_acts.specs.declared.kills.KillingAt.TheVariants.{LoadComp, LoadLive, Close as kill_close, Draw as kill_draw}
 use Rattle.call_acts.specs.Kills.{KillingAtFits, killing_at}
 use Rattle.call_acts.specs.declared.own.Own.{Own}
 use Rattle.call_acts.specs.declared.work.Act.{Act}
-use Rattle.call_acts.specs.declared.work.Act.TheVariants.{Fill, Remove, Retype, Make, Outside, Tick, Kill}
+use Rattle.call_acts.specs.declared.work.Act.TheVariants.{Fill, Remove, Retype, Make, Outside, Tick, Kill, MakeComp}
 use Rattle.spk_nums.specs.declared.kinds.FrameKind.{FrameKind}
 use Rattle.call_acts.specs.declared.typings.TypingAt.{TypingAt}
 use Rattle.call_acts.specs.declared.typings.TypingAt.TheVariants.{Load, Compare as type_compare}
@@ -28,7 +32,7 @@ use Rattle.call_acts.specs.Makings.{MakingAtFits, making_at}
 use Rattle.call_steps.proofs.StepsFit.{last_small}
 use Rattle.call_acts.specs.declared.work.Work.TheVariants.{Lookup, Scan, Acquire, Act as act_work}
 use Rattle.call_acts.specs.declared.work.Tail.{Tail}
-use Rattle.call_acts.specs.declared.work.Tail.TheVariants.{Nothing, Quiesce, Unmark, StoreDead}
+use Rattle.call_acts.specs.declared.work.Tail.TheVariants.{Nothing, Quiesce, Unmark, StoreDead, StoreLive}
 use Rattle.call_acts.specs.Acts.{ActFits, act_move}
 use Rattle.call_steps.specs.Tails.{tail_move, is_ok}
 use Rattle.std.proofs.lemmas.List.Elements.{All-head}
@@ -92,6 +96,15 @@ killing_named f core (LoadLive life) = refl
 killing_named f core (kill_close life word) = refl
 killing_named f core (kill_draw life word) = refl
 
+comp_named : (m : CompMaking) (at : CompAt) → shared (word_of (comp_at m at)) ≡ word_of (comp_at m at)
+comp_named m comp_stands.Load = refl
+comp_named m (comp_stands.Mark word) = refl
+comp_named m (comp_stands.LoadLive word) = refl
+comp_named m (comp_stands.Scan word last q) = quiet_named q
+comp_named m (comp_stands.Close word last) = refl
+comp_named m (comp_stands.Store word last entry) = refl
+comp_named m (comp_stands.Fill word last) = refl
+
 act_named : (act : Act) → shared (word_of (act_move act)) ≡ word_of (act_move act)
 act_named (Fill fill) = refl
 act_named (Remove close cap) = close_named close
@@ -100,6 +113,7 @@ act_named (Make m) = making_named m.frame m.object m.core m.fill m.at
 act_named (Outside node entry word) = refl
 act_named (Tick charge) = charge_named charge
 act_named (Kill m) = killing_named m.comp m.core m.at
+act_named (MakeComp m) = comp_named m m.at
 
 -- a count's word is that of its core's counter
 pin_named : (pin : Pin) → shared (word_of (pin_move pin)) ≡ word_of (pin_move pin)
@@ -111,6 +125,7 @@ tail_named : (r : Reply) (drawn : Option ℕ) (tail : Tail) (counts : List Acqui
 tail_named r drawn (Quiesce close) counts = close_named close
 tail_named r drawn (Unmark f word) counts = refl
 tail_named r drawn (StoreDead life stamp) counts = refl
+tail_named r drawn (StoreLive l live f word) counts = refl
 tail_named r drawn Nothing [] = refl
 tail_named r drawn Nothing (x ∷ xs) = refl
 
@@ -143,6 +158,16 @@ killing_in shape f core (LoadLive life) below fits = fits.0
 killing_in shape f core (kill_close life word) below fits = fits.0
 killing_in shape f core (kill_draw life word) below fits = tt
 
+comp_in : (shape : Shape) (m : CompMaking) (at : CompAt) → CompMakingFits shape (record m { at = at })
+    → IsIn shape (word_of (comp_at m at))
+comp_in shape m comp_stands.Load fits = fits.frame
+comp_in shape m (comp_stands.Mark word) fits = fits.frame
+comp_in shape m (comp_stands.LoadLive word) fits = fits.number
+comp_in shape m (comp_stands.Scan word last q) fits = quiet_is_in shape q fits.at.0
+comp_in shape m (comp_stands.Close word last) fits = fits.number
+comp_in shape m (comp_stands.Store word last entry) fits = (fits.frame, (let most = fits.at.1 in omega (arith, most)))
+comp_in shape m (comp_stands.Fill word last) fits = (fits.fill.node, fits.fill.entry)
+
 act_in : (shape : Shape) (act : Act) → ActFits shape act → IsIn shape (word_of (act_move act))
 act_in shape (Fill fill) fits = (fits.node, fits.entry)
 act_in shape (Remove close cap) fits = close_is_in shape close fits.0
@@ -151,6 +176,7 @@ act_in shape (Make m) fits = making_in shape m.frame m.object m.core m.fill m.at
 act_in shape (Outside node entry word) fits = fits
 act_in shape (Tick charge) fits = charge_is_in shape charge fits
 act_in shape (Kill m) fits = killing_in shape m.comp m.core m.at fits.comp fits.at
+act_in shape (MakeComp m) fits = comp_in shape m m.at fits
 
 tail_in : (shape : Shape) (r : Reply) (drawn : Option ℕ) (tail : Tail) (counts : List Acquired) → TailFits shape tail
     → AllFit shape counts
@@ -158,6 +184,7 @@ tail_in : (shape : Shape) (r : Reply) (drawn : Option ℕ) (tail : Tail) (counts
 tail_in shape r drawn (Quiesce close) counts fits fit = close_is_in shape close fits
 tail_in shape r drawn (Unmark f word) counts fits fit = fits
 tail_in shape r drawn (StoreDead life stamp) counts fits fit = fits.0.0
+tail_in shape r drawn (StoreLive l live f word) counts fits fit = fits.0
 tail_in shape r drawn Nothing [] fits fit = tt
 tail_in shape r drawn Nothing (x ∷ xs) fits fit =
     settle_is_in shape (commit_of (is_ok r) drawn x) (commit_fits shape (is_ok r) drawn x (All-head (AcquiredFits shape) x xs fit))

@@ -1,7 +1,7 @@
 -- The act with which a call begins at a target that is to be free: it fills the place, it makes an object in a frame of its range, or this
 -- frame is out of range.
 use Rattle.std.specs.Prelude.{IsSome}
-use Rattle.std.proofs.Common.{◌≡◌, inl, ℕ, ◌<◌, ◌&&◌, nat_lt, Bool, true, false, List, [], ◌∷◌, Option, Some, refl, sym, ◌∙◌, ap, subst, IsTrue}
+use Rattle.std.proofs.Common.{None, ◌≡◌, inl, ℕ, ◌<◌, ◌&&◌, nat_lt, Bool, true, false, List, [], ◌∷◌, Option, Some, refl, sym, ◌∙◌, ap, subst, IsTrue}
 use Rattle.std.proofs.lemmas.Bool.{lt-ltb, false≢true}
 use Rattle.spk_nums.specs.Capability.{Capability}
 use Rattle.spk_nums.specs.Setting.{Setting, IsSetting}
@@ -43,7 +43,7 @@ use Rattle.call_acts.specs.declared.objects.NewObject.TheVariants as objects
 use Rattle.call_acts.specs.declared.work.Act.{Act as ActOf}
 use Rattle.call_acts.specs.declared.work.Act.TheVariants.{Outside}
 use Rattle.call_acts.specs.Objects.{object_made}
-use Rattle.call_acts.specs.Acts.{scans, stamp_in, stamp_shown, stamp_of_act, filling, making, making_if, makes_at, act_begun}
+use Rattle.call_acts.specs.Acts.{scans, stamp_in, stamp_shown, stamp_of_act, filling, making, making_if, makes_at, made_begun, act_begun}
 use Rattle.core_invariant.specs.Knows.{IsSpot, KnowsAct, OutsideBy, is_start, goes_on}
 use Rattle.core_invariant.proofs.Sounds.{limits_of}
 use Rattle.place_invariant.proofs.ObjectMakes.{TwoFound, object_make}
@@ -107,6 +107,15 @@ module _ (own : Own) (plan : Plan) (c : ℕ) (own_core : own.core ≡ c) (at : F
     outside = λ out. absurd (false≢true (sym out));
   }
 
+  -- what a make of an object does
+  object_begun : (what : Make) (ks : List Capability) (object : NewObject) → object_made what ks ≡ Some object → (f : ℕ)
+      → made_begun own what ks f (Some at) ≡ makes_at own (object_made what ks) (at_place ks First) f (Some at)
+  object_begun (make.Comp table pages live) ks object is f = absurd (none_some is)
+    where
+      none_some : None ≡ Some object → ⊥
+      none_some h = cc
+  object_begun what ks object is f = refl
+
   -- it makes an object
   module _ (what : Make) (r f u b : ℕ) (object : NewObject) (range : Capability) (rest : List Capability)
       (is : object_made what (range ∷ rest) ≡ Some object) where
@@ -118,7 +127,7 @@ module _ (own : Own) (plan : Plan) (c : ℕ) (own_core : own.core ≡ c) (at : F
 
     within_is : (has : Bool) → has_frame (found range) f ≡ has
         → act_begun own (make_call what r f u b) ks (Some at) ≡ scan (making_if (has && nat_lt f own.layout.frames) own object f at)
-    within_is has by = ap (λ o. makes_at own o (Some range) f (Some at)) is
+    within_is has by = object_begun what ks object is f ∙ ap (λ o. makes_at own o (Some range) f (Some at)) is
         ∙ ap (λ b. scan (making_if (b && nat_lt f own.layout.frames) own object f at)) by
 
     begins_make : (has_frame (found range) f ≡ true → f < own.layout.frames) → Begins own (make_call what r f u b) plan ks c at

@@ -8,7 +8,7 @@ use Rattle.stage_look.specs.Shown.{shown_in}
 use Rattle.stage_look.specs.Lookup.{look_move}
 use Rattle.stage_look.specs.declared.look.Look.{Look}
 use Rattle.stage_look.specs.declared.look.Look.TheVariants.{AtRoot, AtLeaf, AtEntry}
-use Rattle.call_acts.specs.declared.work.Act.TheVariants.{Fill as fill_act, Remove as remove_act, Retype as type_act, Make as make_act, Outside, Tick as tick_act, Kill as kill_act}
+use Rattle.call_acts.specs.declared.work.Act.TheVariants.{Fill as fill_act, Remove as remove_act, Retype as type_act, Make as make_act, Outside, Tick as tick_act, Kill as kill_act, MakeComp as comp_act}
 use Rattle.call_acts.specs.declared.work.Work.{Work}
 use Rattle.call_acts.specs.declared.work.Work.TheVariants.{Lookup, Scan, Acquire, Act}
 use Rattle.call_steps.specs.declared.stages.Stage.TheVariants.{Undecided}
@@ -69,5 +69,6 @@ work_good setup setting cores t stands c here a active (Act (tick_act charge)) i
     tick_good setup setting cores t stands c here a active charge is knows
 work_good setup setting cores t stands c here a active (Act (kill_act m)) is knows =
     killing_good setup setting cores t stands c here a active m.comp m.core m.at is knows
+work_good setup setting cores t stands c here a active (Act (comp_act m)) is knows = absurd knows.knows.knows
 work_good setup setting cores t stands c here a active (Scan q act) is knows =
     scan_good setup setting cores t stands c here a active q act is knows
