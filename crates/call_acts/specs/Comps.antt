@@ -189,6 +189,16 @@ comp_is_marked (Close word last) = true
 comp_is_marked (Store word last entry) = true
 comp_is_marked (fill_at word last) = true
 
+-- whether the number's word is loaded
+abbrev pub comp_meets_number : CompAt → Bool
+comp_meets_number Load = false
+comp_meets_number (Mark word) = false
+comp_meets_number (LoadLive word) = false
+comp_meets_number (Scan word last q) = true
+comp_meets_number (Close word last) = true
+comp_meets_number (Store word last entry) = true
+comp_meets_number (fill_at word last) = true
+
 -- whether the next step is the compare of the target
 abbrev pub comp_filling : CompAt → Bool
 comp_filling Load = false

@@ -1,5 +1,7 @@
-//! Tests of the calls on components: `kill`.
+//! Tests of the calls on components: `kill`, and `make` of a component.
 #![tactic(auto)]
 
+#[cfg(test)]
+mod comp_makes;
 #[cfg(test)]
 mod kills;

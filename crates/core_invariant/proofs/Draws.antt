@@ -102,6 +102,7 @@ module _ (setup : Setting) (setting : IsSetting setup) (cores : ℕ → Core) (t
           number = is.number;
           shape = is.shape;
           limit = is.limit;
+          epochs = is.epochs;
           works = works;
           exit = is.exit ∙ sym (plain_exit t e refl c);
           flushed = flush_stored-own c e t refl ∙ is.flushed ∙ sym

@@ -1,6 +1,6 @@
 -- The refusals of a call at a load: each leaves all as it was, but counts the call.
 use Rattle.call_acts.specs.declared.work.Tail.{Tail}
-use Rattle.std.proofs.Common.{◌≡◌, ◌≢◌, ℕ, ◌+◌, ◌<◌, Option, Bool, true, false, Some, None, arith, refl, sym, ◌∙◌, ap, subst, List, [], ◌∷◌}
+use Rattle.std.proofs.Common.{◌≡◌, ◌≢◌, ℕ, ◌+◌, ◌<◌, Option, Bool, true, false, Some, None, arith, refl, sym, ◌∙◌, ap, subst, List, [], ◌∷◌, inl, inr}
 use Rattle.std.proofs.lemmas.Bool.{false≢true, lt-leb}
 use Rattle.supported_calls.specs.Built.{IsBuilt}
 use Rattle.spk_nums.specs.Setting.{Setting, IsSetting}
@@ -110,10 +110,10 @@ module _ (setup : Setting) (t : Trace) (c table n : ℕ) where
   act_ticks plan ks upto (remove_act (AtStore node index x) cap) has is = has
   act_ticks plan ks upto (type_act typing) has is = has.types
   act_ticks plan ks upto (make_act m) has is = has.makes
-  act_ticks plan ks upto (Outside node entry word) has is = has.outside
+  act_ticks plan ks upto (Outside node entry word) has is = elim has.outside [ | inl h ↦ h | inr h ↦ h ]
   act_ticks plan ks upto (tick_act charge) has is = false≢true (sym is)
   act_ticks plan ks upto (kill_act m) has is = has.kills
-  act_ticks plan ks upto (comp_act m) has is = has
+  act_ticks plan ks upto (comp_act m) has is = has.makes
 
   look_ticks : (ks : List Capability) (look : LookOf) → NamesAre setup t c table (plan_for (Tick n)) ks
       → LooksFor setup t c table (next_of (plan_for (Tick n)) ks) look → ⊥

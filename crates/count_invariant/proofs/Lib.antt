@@ -3,3 +3,5 @@ pub mod CountChanges
 pub mod CapChanges
 pub mod MakingCounts
 pub mod KillingCounts
+pub mod CompCounts
+pub mod ActHolds

@@ -103,7 +103,7 @@ made_due object f (Store word entry) xs d rest is = due_here object f xs d rest 
 made_due object f (making_fill word) xs d rest is = due_here object f xs d rest is
 
 -- A name leads to a capability of a wanted kind.
-named_kind : (s : State) (c n : ℕ) (wanted : Kind → Bool) (k : Capability) → named s c n wanted ≡ Found k → wanted k.kind ≡ true
+pub named_kind : (s : State) (c n : ℕ) (wanted : Kind → Bool) (k : Capability) → named s c n wanted ≡ Found k → wanted k.kind ≡ true
 named_kind s c n wanted k e =
     let a = then_parts (or_refuse (reached s c (own s c n)) reply.NoSlot)
     (λ at. and_then (or_refuse (usable s c at) reply.Empty) λ k. of_kind wanted k) k e in

@@ -36,6 +36,7 @@ use Rattle.flight.specs.Phases.{IsWord}
 use Rattle.flight.proofs.CoreFits.{begun_fits, after_fits}
 use Rattle.flight.proofs.Spelling.{stage_word}
 use Rattle.place_invariant.proofs.Removals.{store_good}
+use Rattle.frame_invariant.proofs.CompStores.{give_live_good}
 use Rattle.frame_invariant.proofs.Makes.{unmark_good}
 use Rattle.live_invariant.proofs.Killed.{dead_good}
 use Rattle.work_invariant.proofs.Work.{work_good}
@@ -118,7 +119,8 @@ module _ (setup : Setting) (setting : IsSetting setup) (cores : ℕ → Core) (t
       unmark_good setup setting cores t stands c here a active r drawn f word at knows
   stage_good a (Decided r drawn (StoreDead life x)) active at knows =
       dead_good setup setting cores t stands c here a active r drawn life x at knows
-  stage_good a (Decided r drawn (StoreLive l live f word)) active at knows = absurd knows
+  stage_good a (Decided r drawn (StoreLive l live f word)) active at knows =
+      give_live_good setup setting cores t stands c here a active r drawn l live f word at knows
   stage_good a (Leave r x) active at knows = leave_good a r x active at
 
   -- the step of a call

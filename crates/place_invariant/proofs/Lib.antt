@@ -7,3 +7,4 @@ pub mod Removals
 pub mod Closings
 pub mod Scans
 pub mod ScanSteps
+pub mod CompMakes

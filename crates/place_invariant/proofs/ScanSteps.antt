@@ -326,7 +326,17 @@ scan_good setup setting cores t stands c here a active (AtCore x by at page) act
     by_act (type_act typing) is knows = absurd (none_scanned (type_act typing) is knows.knows.stamp)
     by_act (tick_act charge) is knows = absurd (none_scanned (tick_act charge) is knows.knows.stamp)
     by_act (kill_act m) is knows = absurd (none_scanned (kill_act m) is knows.knows.stamp)
-    by_act (comp_act m) is knows = absurd knows.knows.knows
+    by_act (comp_act m) is knows =
+        core_good setup setting cores t stands c here a active x by at page (comp_act m) m.fill.node m.fill.entry m.fill.word is knows
+        knows.knows.knows.spot knows.knows.stamp
+        (λ upto spot. record {
+          spot = spot;
+          makes = knows.knows.knows.makes;
+          core = knows.knows.knows.core;
+          epochs = knows.knows.knows.epochs;
+          cap = knows.knows.knows.cap;
+          at = knows.knows.knows.at;
+        }) (λ out. absurd (false≢true (sym out)))
     by_act (fill_act fill) is knows =
         core_good setup setting cores t stands c here a active x by at page (fill_act fill) fill.node fill.entry fill.word is knows
         (record {

@@ -16,7 +16,7 @@ use Rattle.stage_pins.specs.declared.held.Acquired.{Acquired}
 use Rattle.call_acts.specs.declared.refusals.Refusal.TheVariants as refusal
 use Rattle.call_acts.specs.declared.makings.MakingAt.{MakingAt}
 use Rattle.call_acts.specs.declared.makings.MakingAt.TheVariants.{Load as making_load, Mark, Store, Fill as making_fill}
-use Rattle.call_acts.specs.Comps.{comp_is_marked, comp_dues}
+use Rattle.call_acts.specs.Comps.{comp_is_marked, comp_meets_number, comp_dues}
 use Rattle.call_acts.specs.Makings.{is_marked}
 use Rattle.call_acts.specs.declared.comps.CompAt.{CompAt}
 use Rattle.call_acts.specs.declared.comps.CompAt.TheVariants as comp_at
@@ -84,7 +84,16 @@ start_counts (make_act m) is = refl
 start_counts (Outside node entry word) is = refl
 start_counts (tick_act charge) is = refl
 start_counts (kill_act m) is = is
-start_counts (comp_act m) is = refl
+start_counts (comp_act m) is = by m.at is
+  where
+    by : (at : CompAt) → not (comp_is_marked at) ≡ true → not (comp_meets_number at) ≡ true
+    by comp_at.Load is = refl
+    by (comp_at.Mark word) is = refl
+    by (comp_at.LoadLive word) is = refl
+    by (comp_at.Scan word last q) is = absurd (false≢true is)
+    by (comp_at.Close word last) is = absurd (false≢true is)
+    by (comp_at.Store word last entry) is = absurd (false≢true is)
+    by (comp_at.Fill word last) is = absurd (false≢true is)
 
 -- Before its first step an act changes one count at most.
 start_apart : (act : ActOf) → is_start act ≡ true → AreDuesApart (dues act)

@@ -1,7 +1,7 @@
 -- The act with which a call begins at a target that is to be free: it fills the place, it makes an object in a frame of its range, or this
 -- frame is out of range.
 use Rattle.std.specs.Prelude.{IsSome}
-use Rattle.std.proofs.Common.{None, ◌≡◌, inl, ℕ, ◌<◌, ◌&&◌, nat_lt, Bool, true, false, List, [], ◌∷◌, Option, Some, refl, sym, ◌∙◌, ap, subst, IsTrue}
+use Rattle.std.proofs.Common.{None, ◌≡◌, inl, ℕ, ◌<◌, ◌&&◌, nat_lt, Bool, true, false, List, [], ◌∷◌, Option, Some, refl, sym, ◌∙◌, ap, subst, IsTrue, inr, if◌then◌else◌}
 use Rattle.std.proofs.lemmas.Bool.{lt-ltb, false≢true}
 use Rattle.spk_nums.specs.Capability.{Capability}
 use Rattle.spk_nums.specs.Setting.{Setting, IsSetting}
@@ -43,7 +43,8 @@ use Rattle.call_acts.specs.declared.objects.NewObject.TheVariants as objects
 use Rattle.call_acts.specs.declared.work.Act.{Act as ActOf}
 use Rattle.call_acts.specs.declared.work.Act.TheVariants.{Outside}
 use Rattle.call_acts.specs.Objects.{object_made}
-use Rattle.call_acts.specs.Acts.{scans, stamp_in, stamp_shown, stamp_of_act, filling, making, making_if, makes_at, made_begun, act_begun}
+use Rattle.place_invariant.proofs.CompMakes.{IsCompMake, comp_make}
+use Rattle.call_acts.specs.Acts.{scans, stamp_in, stamp_shown, stamp_of_act, filling, making, making_if, makes_at, made_begun, act_begun, comp_making, comp_if}
 use Rattle.core_invariant.specs.Knows.{IsSpot, KnowsAct, OutsideBy, is_start, goes_on}
 use Rattle.core_invariant.proofs.Sounds.{limits_of}
 use Rattle.place_invariant.proofs.ObjectMakes.{TwoFound, object_make}
@@ -56,7 +57,7 @@ pub record Begins (own : Own) (call : Call) (plan : Plan) (ks : List Capability)
   pub begins : act_begun own call ks (Some f) ≡ scans own.core (quiet_scan (stamp_in f.value) own.core own.layout.cores false) act
   pub stamp : stamp_of_act act ≡ stamp_shown (entry_of_word f.word)
   pub starts : is_start act ≡ true
-  pub knows : (setup : Setting) (t : Trace) (upto : ℕ) → IsSpot setup t c plan ks upto f.node f.entry f.word
+  pub knows : (setup : Setting) (t : Trace) (upto : ℕ) → own.epochs ≡ setup.epochs → IsSpot setup t c plan ks upto f.node f.entry f.word
       → KnowsAct setup t c call plan ks upto act
   pub outside : goes_on act ≡ false → OutsideBy call ks
 
@@ -95,7 +96,7 @@ module _ (own : Own) (plan : Plan) (c : ℕ) (own_core : own.core ≡ c) (at : F
     begins = begins;
     stamp = refl;
     starts = refl;
-    knows = λ setup t upto spot. record {
+    knows = λ setup t upto epochs spot. record {
       target = spot.target;
       next = spot.next;
       way = spot.way;
@@ -139,7 +140,7 @@ module _ (own : Own) (plan : Plan) (c : ℕ) (own_core : own.core ≡ c) (at : F
           begins = within_is true has ∙ ap (λ b. scan (making_if b own object f at)) (lt-ltb f own.layout.frames (below has));
           stamp = refl;
           starts = refl;
-          knows = λ setup t upto spot. record {
+          knows = λ setup t upto epochs spot. record {
             spot = spot;
             makes = record { frame = refl; object = is; within = has };
             core = own_core;
@@ -153,15 +154,63 @@ module _ (own : Own) (plan : Plan) (c : ℕ) (own_core : own.core ≡ c) (at : F
           begins = within_is false has;
           stamp = refl;
           starts = refl;
-          knows = λ setup t upto spot. record {
+          knows = λ setup t upto epochs spot. record {
             spot = spot;
-            outside = record { object = subst (λ (o : Option NewObject). IsSome o) (sym is) refl; outside = has };
+            outside = inl (record { object = subst (λ (o : Option NewObject). IsSome o) (sym is) refl; outside = has });
           };
-          outside = λ out. record { object = subst (λ (o : Option NewObject). IsSome o) (sym is) refl; outside = has };
+          outside = λ out. inl (record { object = subst (λ (o : Option NewObject). IsSome o) (sym is) refl; outside = has });
         }
 
+-- It makes a component.
+module _ (own : Own) (plan : Plan) (c : ℕ) (own_core : own.core ≡ c) (at : Found) (x p live r f u b : ℕ)
+    (range second table pages : Capability) where
+  abbrev four : List Capability
+  four = range ∷ second ∷ table ∷ pages ∷ []
+
+  abbrev comp_scan : ActOf → Rattle.call_acts.specs.declared.work.WorkStep.WorkStep
+  comp_scan act = scans own.core (quiet_scan (stamp_in at.value) own.core own.layout.cores false) act
+
+  comp_within : (has : Bool) → has_frame (found range) f ≡ has
+      → act_begun own (make_call (make.Comp x p live) r f u b) four (Some at)
+      ≡ comp_scan (comp_if (has && nat_lt f own.layout.frames) own live table pages f at)
+  comp_within has by = ap (λ b. comp_scan (comp_if (b && nat_lt f own.layout.frames) own live table pages f at)) by
+
+  begins_comp : (has_frame (found range) f ≡ true → f < own.layout.frames)
+      → Begins own (make_call (make.Comp x p live) r f u b) plan four c at
+  begins_comp below = by (has_frame (found range) f) refl
+    where
+      by : (has : Bool) → has_frame (found range) f ≡ has → Begins own (make_call (make.Comp x p live) r f u b) plan four c at
+      by true has = record {
+        act = comp_making own live table pages f at;
+        begins = comp_within true has ∙ ap (λ b. comp_scan (comp_if b own live table pages f at)) (lt-ltb f own.layout.frames (below has));
+        stamp = refl;
+        starts = refl;
+        knows = λ setup t upto epochs spot. record {
+          spot = spot;
+          makes = record { frame = refl; number = refl; table = refl; pages = refl; within = has };
+          core = own_core;
+          epochs = epochs;
+          cap = refl;
+          at = tt;
+        };
+        outside = λ out. absurd (false≢true (sym out));
+      }
+      by false has = record {
+        act = Outside at.node at.entry at.word;
+        begins = comp_within false has;
+        stamp = refl;
+        starts = refl;
+        knows = λ setup t upto epochs spot. record { spot = spot; outside = inr has };
+        outside = λ out. inr has;
+      }
+
+-- A make of another object than a component.
+abbrev IsObject : Make → Type 0
+IsObject (make.Comp table pages live) = ⊥
+IsObject what = Unit {0}
+
 -- The object that a call makes whose names have all led to something.
-made_of : (what : Make) → IsObjectMade what → (r f u b : ℕ) (ks : List Capability)
+made_of : (what : Make) → IsObject what → (r f u b : ℕ) (ks : List Capability)
     → names_after (plan_for (make_call what r f u b)).names ks ≡ []
     → (R : Type 0) → ((object : NewObject) → object_made what ks ≡ Some object → R) → R
 made_of make.Table built r f u b ks none R by = by objects.Table refl
@@ -222,6 +271,10 @@ begins_free own (Retype r f frame_kind.Kernel) built spot to s plan ks c core no
   where
     not_target : Nowhere ≡ Free spot → ⊥
     not_target h = cc
+begins_free own (make_call (make.Comp x p live) r f u b) built spot to s plan ks c core none leads fits within at =
+    let of : IsCompMake s c r f u b x p live ks = comp_make s c r f u b x p live ks leads none in
+    subst (λ ks. Begins own (make_call (make.Comp x p live) r f u b) plan ks c at) (sym of.found_is)
+    (begins_comp own plan c core at x p live r f u b of.range of.second of.table of.pages (within r f of.range of.first))
 begins_free own (make_call what r f u b) built spot to s plan ks c core none leads fits within at =
     made_of what built r f u b ks none (Begins own (make_call what r f u b) plan ks c at) (λ object is.
     let two : TwoFound s c r u ks = (object_make s c r f u b what object ks is leads none).two in

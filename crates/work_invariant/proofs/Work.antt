@@ -25,6 +25,7 @@ use Rattle.place_invariant.proofs.Fills.{fill_good}
 use Rattle.place_invariant.proofs.Removals.{remove_good}
 use Rattle.place_invariant.proofs.ScanSteps.{scan_good}
 use Rattle.frame_invariant.proofs.Typings.{typing_good}
+use Rattle.frame_invariant.proofs.MadeComps.{comp_good}
 use Rattle.frame_invariant.proofs.MadeObjects.{making_good}
 use Rattle.time_invariant.proofs.Ticks.{tick_good}
 use Rattle.live_invariant.proofs.Killed.{killing_good}
@@ -69,6 +70,7 @@ work_good setup setting cores t stands c here a active (Act (tick_act charge)) i
     tick_good setup setting cores t stands c here a active charge is knows
 work_good setup setting cores t stands c here a active (Act (kill_act m)) is knows =
     killing_good setup setting cores t stands c here a active m.comp m.core m.at is knows
-work_good setup setting cores t stands c here a active (Act (comp_act m)) is knows = absurd knows.knows.knows
+work_good setup setting cores t stands c here a active (Act (comp_act m)) is knows =
+    comp_good setup setting cores t stands c here a active m is knows
 work_good setup setting cores t stands c here a active (Scan q act) is knows =
     scan_good setup setting cores t stands c here a active q act is knows
