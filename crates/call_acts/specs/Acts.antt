@@ -3,6 +3,8 @@ use Rattle.std.specs.Prelude.{ℕ, ℤ, ◌<◌, ◌==◌, pos, negsuc, Bool, tr
 use Rattle.spk_nums.specs.Capability.{Capability}
 use Rattle.spk_nums.specs.declared.calls.Call.{Call}
 use Rattle.spk_nums.specs.declared.calls.Call.TheVariants.{Look, Copy, Remove, Shrink, Retype, Make as make_call, Unmap, Tick, Gate, Kill, Grow, Flush, Map}
+use Rattle.spk_nums.specs.declared.calls.Make.{Make}
+use Rattle.spk_nums.specs.declared.calls.Make.TheVariants as make
 use Rattle.spk_nums.specs.declared.replies.Value.TheVariants.{Cap, Nothing as nothing}
 use Rattle.spk_nums.specs.declared.steps.StageEnd.{StageEnd}
 use Rattle.spk_nums.specs.declared.steps.StageEnd.TheVariants as ends
@@ -14,18 +16,18 @@ use Rattle.stage_quiet.specs.declared.close.Close.{Close}
 use Rattle.stage_quiet.specs.declared.close.Close.TheVariants.{AtCompare as close_compare, AtDraw, AtStore}
 use Rattle.stage_quiet.specs.declared.quiet.Quiet.{Quiet}
 use Rattle.stage_quiet.specs.Removal.{CloseFits, close_move, close_end, close_after}
-use Rattle.stage_quiet.specs.Scan.{quiet_scan}
+use Rattle.stage_quiet.specs.Scan.{quiet_scan, quiet_after, quiet_end}
 use Rattle.call_acts.specs.declared.own.Own.{Own}
 use Rattle.kernel_rules.specs.References.{named_by}
 use Rattle.word_map.specs.Places.{Shape}
 use Rattle.word_map.specs.Moves.{Move, LoadOf}
 use Rattle.stage_look.specs.declared.look.Found.{Found}
 use Rattle.stage_pins.specs.declared.pin.Pin.TheVariants.{AtLoad}
-use Rattle.call_plans.specs.declared.plans.Nth.TheVariants.{First, Second}
+use Rattle.call_plans.specs.declared.plans.Nth.TheVariants.{First, Second, Third, Fourth}
 use Rattle.call_plans.specs.Plans.{at_place}
 use Rattle.call_acts.specs.declared.refusals.Refusal.TheVariants.{Raced, OutOfRange, Busy, FrameKind as wrong_kind, Dead as is_dead}
 use Rattle.call_acts.specs.declared.work.Act.{Act}
-use Rattle.call_acts.specs.declared.work.Act.TheVariants.{Fill as fill_act, Remove as remove_act, Retype as type_act, Make as make_act, Outside, Tick as tick_act, Flush as flush_act, Kill as kill_act, Untype as untype_act, Map as map_act}
+use Rattle.call_acts.specs.declared.work.Act.TheVariants.{Fill as fill_act, Remove as remove_act, Retype as type_act, Make as make_act, Outside, Tick as tick_act, Flush as flush_act, Kill as kill_act, Untype as untype_act, Map as map_act, MakeComp as comp_act}
 use Rattle.call_acts.specs.declared.work.Due.{Due}
 use Rattle.call_acts.specs.declared.work.Work.{Work}
 use Rattle.call_acts.specs.declared.work.Work.TheVariants.{Scan, Acquire, Act as act_work}
@@ -44,6 +46,10 @@ use Rattle.call_acts.specs.Objects.{object_cap, object_made, object_dues}
 use Rattle.call_acts.specs.declared.makings.MakingAt.{MakingAt}
 use Rattle.call_acts.specs.declared.makings.MakingAt.TheVariants.{Load as make_load, Mark, Store, Fill as fill_at}
 use Rattle.call_acts.specs.declared.makings.Making.{Making}
+use Rattle.call_acts.specs.declared.comps.CompMaking.{CompMaking}
+use Rattle.call_acts.specs.declared.comps.CompAt.{CompAt}
+use Rattle.call_acts.specs.declared.comps.CompAt.TheVariants as comp_at_as
+use Rattle.call_acts.specs.Comps.{CompMakingFits, comp_move, comp_dues, comp_undo, comp_filling, comp_left, comp_meets, number_met, number_scanned, closes_number, comp_goes, comp_stored, comp_published}
 use Rattle.call_acts.specs.Makings.{made, MakingFits, making_move, stored, undo_at, is_filling, making_left}
 use Rattle.stage_tcap.specs.Charging.{ChargeFits, charge_move}
 use Rattle.call_acts.specs.Ticks.{charges, took_tick, is_charging, charge_left}
@@ -94,6 +100,7 @@ ActFits s (tick_act charge) = ChargeFits s charge
 ActFits s (flush_act core) = core < s.cores
 ActFits s (kill_act m) = KillingFits s m
 ActFits s (untype_act m) = UntypingFits s m
+ActFits s (comp_act m) = CompMakingFits s m
 
 -- the stamp with which a removal that has drawn it goes on to its store
 abbrev pub drawn_by : Close → Option ℕ
@@ -121,6 +128,7 @@ act_move (tick_act charge) = charge_move charge
 act_move (flush_act core) = flush_move (flush_load core)
 act_move (kill_act m) = killing_move m
 act_move (untype_act m) = untyping_move m
+act_move (comp_act m) = comp_move m
 
 -- whether the next step of a removal draws its stamp
 abbrev pub is_draw : Close → Bool
@@ -140,6 +148,7 @@ act_ready (tick_act charge) = is_charging charge
 act_ready (flush_act core) = true
 act_ready (kill_act m) = is_killing m.at
 act_ready (untype_act m) = is_drawing m.at
+act_ready (comp_act m) = comp_filling m.at
 
 -- the steps of a removal that are still to come
 abbrev pub close_left : Close → ℕ
@@ -159,6 +168,7 @@ act_left cores (tick_act charge) = charge_left charge
 act_left cores (flush_act core) = 2
 act_left cores (kill_act m) = killing_left m.at
 act_left cores (untype_act m) = untyping_left cores m.at
+act_left cores (comp_act m) = comp_left m.cores m.at
 
 -- a look answers what its name has led to
 abbrev pub looked : Option Capability → WorkStep
@@ -195,6 +205,7 @@ dues (tick_act charge) = []
 dues (flush_act core) = []
 dues (kill_act m) = killing_dues m.comp m.at
 dues (untype_act m) = untyping_dues m.at
+dues (comp_act m) = comp_dues m m.at
 
 -- a core acquires this count for an act next, or has acquired all and goes on to the act
 abbrev pub acquires : ℕ → Act → Option Due → Work
@@ -326,6 +337,20 @@ abbrev pub maps_word : Fill → Option FrameWord → WorkStep
 maps_word fill None = refuse Raced
 maps_word fill (Some v) = maps_frame fill v.kind v.mark
 
+-- what the making of a component takes from its step
+abbrev pub comp_marks : CompMaking → ℕ → Bool → WorkStep
+comp_marks m word equal =
+    if equal then Goes (next_work m.core 0 (comp_act (record m { at = comp_at_as.LoadLive word }))) else refuse Raced
+abbrev pub took_comp_at : CompMaking → CompAt → ℕ → WorkStep
+took_comp_at m comp_at_as.Load found = comp_meets m found (frame_of_word found)
+took_comp_at m (comp_at_as.Mark word) found = comp_marks m word (found == word)
+took_comp_at m (comp_at_as.LoadLive word) found = number_met m word found (live_of_word found)
+took_comp_at m (comp_at_as.Scan word last q) found = number_scanned m word last (quiet_after m.cores q found) (quiet_end m.cores q found)
+took_comp_at m (comp_at_as.Close word last) found = closes_number m word last (found == last.word)
+took_comp_at m (comp_at_as.Store word last entry) found = comp_goes m (comp_stored word last entry)
+took_comp_at m (comp_at_as.Fill word last) found = comp_published m word last (found == m.fill.word)
+abbrev pub took_comp : CompMaking → ℕ → WorkStep
+took_comp m found = took_comp_at m m.at found
 -- what an act takes from the word found
 abbrev pub took_act : Shape → Act → ℕ → WorkStep
 took_act s (fill_act fill) found = took_fill fill found
@@ -338,6 +363,7 @@ took_act s (tick_act charge) found = took_tick charge found
 took_act s (flush_act core) found = took_flush core found
 took_act s (kill_act m) found = took_killing m found
 took_act s (untype_act m) found = took_untyping s m found
+took_act s (comp_act m) found = took_comp m found
 
 -- what a refused call has still to store where it acquires a count for an act
 abbrev pub undo : Act → Tail
@@ -351,6 +377,7 @@ undo (tick_act charge) = Nothing
 undo (flush_act core) = Nothing
 undo (kill_act m) = Nothing
 undo (untype_act m) = untyping_undo m.frame m.at
+undo (comp_act m) = comp_undo m m.at
 
 -- an act starts with its first count, where it is not out of range
 abbrev pub starts : ℕ → Act → WorkStep
@@ -467,6 +494,7 @@ stamp_of_act (tick_act charge) = 0
 stamp_of_act (flush_act core) = 0
 stamp_of_act (kill_act m) = 0
 stamp_of_act (untype_act m) = 0
+stamp_of_act (comp_act m) = stamp_shown (entry_of_word m.fill.word)
 
 -- a frame is typed, or made untyped again, where it is in the range, which has none past the machine's
 abbrev pub typing_to : ℕ → ℕ → FrameKind → Act
@@ -522,6 +550,36 @@ abbrev pub maps_at : Own → Option Capability → ℕ → PageFlags → Option 
 maps_at own (Some range) frame w (Some f) = maps_if (nat_lt w.0 4) own range frame w f
 maps_at own _ frame w _ = refuse Raced
 
+-- a component is made in a frame of the range, and its capability put at the target
+abbrev pub comp_cap : ℕ → Capability
+comp_cap f = record { kind = kind.Comp; frame = f; arg = 0 }
+abbrev pub comp_making : Own → ℕ → Capability → Capability → ℕ → Found → Act
+comp_making own live table pages frame f = comp_act (record {
+  frame = frame;
+  table = table.frame;
+  pages = pages.frame;
+  number = live;
+  core = own.core;
+  cores = own.layout.cores;
+  epochs = own.epochs;
+  fill = record { node = f.node; entry = f.entry; word = f.word; cap = comp_cap frame };
+  at = comp_at_as.Load;
+})
+abbrev pub comp_if : Bool → Own → ℕ → Capability → Capability → ℕ → Found → Act
+comp_if within own live table pages frame f =
+    if within then comp_making own live table pages frame f else Outside f.node f.entry f.word
+abbrev pub comps_in : Own → ℕ → Capability → Capability → Capability → ℕ → Found → WorkStep
+comps_in own live range table pages frame f =
+    scans own.core (quiet_scan (stamp_in f.value) own.core own.layout.cores false)
+    (comp_if (has_frame (named range) frame && nat_lt frame own.layout.frames) own live table pages frame f)
+abbrev pub comps_at : Own → ℕ → Option Capability → Option Capability → Option Capability → ℕ → Option Found → WorkStep
+comps_at own live (Some range) (Some table) (Some pages) frame (Some f) = comps_in own live range table pages frame f
+comps_at own live _ _ _ frame _ = refuse Raced
+-- what a `make` does whose names have led to these
+abbrev pub made_begun : Own → Make → List Capability → ℕ → Option Found → WorkStep
+made_begun own (make.Comp table pages live) found frame target =
+    comps_at own live (at_place found First) (at_place found Third) (at_place found Fourth) frame target
+made_begun own what found frame target = makes_at own (object_made what found) (at_place found First) frame target
 -- the component to which a name has led is killed; a capability of another kind names none
 abbrev pub kills_in : ℕ → Kind → ℕ → WorkStep
 kills_in core kind.Comp f = Goes (act_work (kill_act (record { comp = f; core = core; at = LoadComp })))
@@ -541,8 +599,7 @@ act_begun own (Remove t b) found read target = removes_at own.core target
 act_begun own (Shrink t i) found read target = removes_at own.core target
 act_begun own (Unmap p v) found read target = removes_at own.core target
 act_begun own (Retype r f k) found read target = types_at own (at_place found First) f k
-act_begun own (make_call what range frame table slot) found read target =
-    makes_at own (object_made what found) (at_place found First) frame target
+act_begun own (make_call what range frame table slot) found read target = made_begun own what found frame target
 act_begun own Flush found read target = flushes own.core
 act_begun own (Tick n) found read target = charges own n
 act_begun own (Gate c t b) found read target = fills_with own (put_by (Gate c t b) found read) false target

@@ -1,5 +1,7 @@
 pub mod Refusals
+pub mod Scans
 pub mod WorkSteps
+pub mod Comps
 pub mod Fills
 pub mod Typings
 pub mod Objects

@@ -17,11 +17,15 @@ ghost use Rattle.word_map.specs.Places.{Shape, size_of};
 ghost use Rattle.word_map.specs.Moves.{op_of};
 ghost use Rattle.spk_nums.specs.WordSteps.{place_in};
 ghost use Rattle.call_acts.specs.WorkSteps.{refuse};
-ghost use Rattle.call_acts.specs.Acts.{gate_if, gate_to, frame_named, reads_of, ActFits, act_move, took_act, act_ready, looked, cap_dues, dues, acquires, next_work, filling, fills_at, fills_with, act_begun, drawn_by, took_close, is_draw, scans, stamp_in, removing, removes_held, removes_at, types_if, types_at, starts, undo, made_dues, makes_at, makes_in, killing_dues, kills_in, kills_at, link_to, is_pages, typing_to, maps_word, maps_frame, maps_in, maps_at};
+ghost use Rattle.call_acts.specs.Acts.{gate_if, gate_to, frame_named, reads_of, ActFits, act_move, took_act, act_ready, looked, cap_dues, dues, acquires, next_work, filling, fills_at, fills_with, act_begun, drawn_by, took_close, is_draw, scans, stamp_in, removing, removes_held, removes_at, types_if, types_at, starts, undo, made_dues, makes_at, makes_in, killing_dues, kills_in, kills_at, link_to, is_pages, typing_to, maps_word, maps_frame, maps_in, maps_at, comp_if, comps_in, comps_at, made_begun};
 ghost use Rattle.call_acts.specs.Untypings.{untyping_dues, owned_dues};
+ghost use Rattle.call_acts.specs.Comps.{comp_dues, comp_due_list};
+ghost use Rattle.call_plans.specs.Plans.{at_place};
+ghost use Rattle.call_plans.specs.declared.plans.Nth.TheVariants.{First, Third, Fourth};
 ghost use Rattle.kernel_rules.specs.Access.{found as named_by_cap};
 ghost use Rattle.kernel_rules.specs.CapabilityCalls.{has_frame};
 
+use crate::comps::{CompAt, CompMaking};
 use crate::fills::Fill;
 use crate::flushes::{flush_op, flush_took, flushes};
 use crate::kills::{Killing, KillingAt};
@@ -37,7 +41,7 @@ use call_plans::{Caps, Nth};
 use entry_words::Entry;
 use frame_words::FrameWord;
 use spk_nums::{
-    Call, Cap, CoreNo, FrameArg, FrameKind, FrameNo, Kind, PageFlags, StageEnd, Stamp, Value,
+    Call, Cap, CoreNo, FrameArg, FrameKind, FrameNo, Kind, Make, PageFlags, StageEnd, Stamp, Value,
     WordOp,
 };
 use stage_look::Found;
@@ -75,6 +79,7 @@ pub fn act_op(act: &Act, layout: &Layout) -> WordOp
         Act::Flush { core } => flush_op(*core, layout),
         Act::Kill { killing } => killing.next(layout),
         Act::Untype { untyping } => untyping.next(layout),
+        Act::MakeComp { making } => making.next(layout),
     }
 }
 
@@ -99,6 +104,7 @@ pub fn act_took(act: &Act, layout: &Layout, found: u64) -> WorkStep
         Act::Flush { core } => flush_took(*core, layout, found),
         Act::Kill { killing } => killing.take(found),
         Act::Untype { untyping } => untyping.take(layout, found),
+        Act::MakeComp { making } => making.take(layout, found),
     }
 }
 
@@ -154,6 +160,7 @@ pub fn act_ready(act: &Act) -> bool
         Act::Flush { core: _ } => true,
         Act::Kill { killing } => killing.is_ready(),
         Act::Untype { untyping } => untyping.is_ready(),
+        Act::MakeComp { making } => making.is_ready(),
     }
 }
 
@@ -199,6 +206,7 @@ fn due(act: &Act, n: u8) -> Option<Due>
         Act::Flush { core: _ } => None,
         Act::Kill { killing } => killing_due(killing, n),
         Act::Untype { untyping } => untyping_due(untyping, n),
+        Act::MakeComp { making } => comp_due(making, n),
     }
 }
 
@@ -260,13 +268,7 @@ pub fn begin_act(
             frame,
             table: _,
             slot: _,
-        } => makes_at(
-            own,
-            object_made(what, found),
-            &found.get(Nth::First),
-            *frame,
-            target,
-        ),
+        } => made_begun(own, what, found, *frame, target),
         Call::Retype { r: _, f, k } => types_at(own, &found.get(Nth::First), *f, *k),
         Call::Flush => flushes(own.core),
         Call::Tick { n } => charges(own, *n),
@@ -432,6 +434,7 @@ pub fn undo(act: &Act) -> Tail
     match act {
         Act::Make { making } => making.undo(),
         Act::Untype { untyping } => untyping.undo(),
+        Act::MakeComp { making } => making.undo(),
         _ => Tail::Nothing,
     }
 }
@@ -582,6 +585,130 @@ fn maps_in(own: &Own, range: &Cap, frame: FrameArg, flags: PageFlags, target: &F
     scans(own.core, quiet, &act)
 }
 
+// What a `make` does whose names have led to these.
+#[inline]
+fn made_begun(
+    own: &Own,
+    what: &Make,
+    found: &Caps,
+    frame: FrameArg,
+    target: &Option<Found>,
+) -> WorkStep
+    requires core { own.now.core < own.now.layout.cores }
+    requires cores { own.now.layout.cores ≤ 8 }
+    ensures { result ≡ made_begun own.now what.now found.now frame target.now }
+{
+    match what {
+        Make::Comp {
+            table: _,
+            pages: _,
+            live,
+        } => comps_at(own, *live, found, frame, target),
+        _ => makes_at(
+            own,
+            object_made(what, found),
+            &found.get(Nth::First),
+            frame,
+            target,
+        ),
+    }
+}
+// A component is made in a frame of the range to which the first name has led, with the table and the pages of the third and the fourth.
+#[inline]
+fn comps_at(own: &Own, live: u8, found: &Caps, frame: FrameArg, target: &Option<Found>) -> WorkStep
+    requires core { own.now.core < own.now.layout.cores }
+    requires cores { own.now.layout.cores ≤ 8 }
+    ensures { result ≡ comps_at own.now live (at_place found.now First) (at_place found.now Third) (at_place found.now Fourth) frame target.now }
+{
+    let range = found.get(Nth::First);
+    let table = found.get(Nth::Third);
+    let pages = found.get(Nth::Fourth);
+    match (range, table, pages, target) {
+        (Some(range), Some(table), Some(pages), Some(target)) => {
+            comps_in(own, live, &range, &table, &pages, frame, target)
+        }
+        _ => refuse(Refusal::Raced),
+    }
+}
+// A component with this table and these pages is made in a frame, where the range has it, after a scan where the target is quiescing.
+#[inline]
+fn comps_in(
+    own: &Own,
+    live: u8,
+    range: &Cap,
+    table: &Cap,
+    pages: &Cap,
+    frame: FrameArg,
+    target: &Found,
+) -> WorkStep
+    requires core { own.now.core < own.now.layout.cores }
+    requires cores { own.now.layout.cores ≤ 8 }
+    ensures { result ≡ comps_in own.now live range.now table.now pages.now frame target.now }
+{
+    let act = if has_frame(range, frame) && frame.number() < own.layout.frames() {
+        let frame = FrameNo::new(frame.number());
+        Act::MakeComp {
+            making: CompMaking {
+                frame,
+                table: table.frame(),
+                pages: pages.frame(),
+                number: live,
+                core: own.core,
+                cores: own.layout.cores(),
+                epochs: own.epochs,
+                fill: Fill {
+                    node: target.node,
+                    entry: target.entry,
+                    word: target.word,
+                    cap: Cap::new(Kind::Comp, frame, 0),
+                },
+                at: CompAt::Load,
+            },
+        }
+    } else {
+        Act::Outside {
+            node: target.node,
+            entry: target.entry,
+            word: target.word,
+        }
+    };
+    let quiet = Quiet::entry(stamp_in(&target.value), own.core, own.layout.cores());
+    scans(own.core, quiet, &act)
+}
+// The count of this number that the making of a component changes.
+#[inline]
+fn comp_due(making: &CompMaking, n: u8) -> Option<Due>
+    ensures { result ≡ slice_get (comp_dues making.now making.now.at) n }
+{
+    match making.at {
+        CompAt::Load => None,
+        CompAt::Mark { word: _ } => None,
+        _ => comp_due_at(making, n),
+    }
+}
+#[inline]
+fn comp_due_at(making: &CompMaking, n: u8) -> Option<Due>
+    ensures { result ≡ slice_get (comp_due_list making.now) n }
+{
+    if n == 0 {
+        Some(Due {
+            frame: making.frame,
+            change: 2,
+        })
+    } else if n == 1 {
+        Some(Due {
+            frame: making.table,
+            change: 1,
+        })
+    } else if n == 2 {
+        Some(Due {
+            frame: making.pages,
+            change: 1,
+        })
+    } else {
+        None
+    }
+}
 // What the target holds is removed.
 #[inline]
 fn removes_at(core: CoreNo, target: &Option<Found>) -> WorkStep

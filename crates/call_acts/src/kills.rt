@@ -190,7 +190,7 @@ fn drawn_dead(life: CompWord, stamp: Stamp) -> WorkStep
 
 // The word of a number that a core is closing.
 #[inline]
-fn closing_word(epoch: u16, core: CoreNo) -> u64
+pub(crate) fn closing_word(epoch: u16, core: CoreNo) -> u64
     ensures { result ≡ word_of_live (Closing epoch core) }
 {
     let _number = core.number();

@@ -35,7 +35,12 @@
 //! and that no core has marked it; the compare marks it. Then the counts are acquired that the object changes: that of the frame, and
 //! of a thread that of its component. Its words are stored, and the target's entry is compared with the word that this call has loaded
 //! there; this compare decides. The frame's word is still to be stored: that of the object, or the word found, where the call is
-//! refused after the mark. A target that is quiescing is scanned for before the frame's word is loaded. A component is not made today.
+//! refused after the mark. A target that is quiescing is scanned for before the frame's word is loaded.
+//!
+//! **Make a component.** So is a component made, with these steps between the counts and its words: the word of its liveness number is
+//! loaded, a number that is dead is scanned for since its stamp, and its word is marked by a compare with the word found. After the
+//! decision the number's word is stored, live in its next epoch, and then the frame's; a refused call stores as it was found each of the
+//! two that it has marked.
 //!
 //! **Tick.** The head of the core's temporal capability is loaded, and compared with the head found, which no core has marked: with the
 //! ticks asked for and those owed less, or with no budget where it has fewer; the compare decides. What is not charged stays owed,
@@ -54,7 +59,7 @@
 //! **Refusals.** A refusal decides at the first step by which it is known and every earlier cause is judged: of each name in
 //! written order `no-slot`, `empty` and `wrong-cap`, then of the target `no-slot` and `occupied`, then what the act asks:
 //! `out-of-range` of a frame that is not in the range, and `frame-kind` of one that is not untyped, or for an object not blank; `dead` of a component that does
-//! not live. A lost
+//! not live, and of the number of one that is made `occupied`, `quiescing` and `epochs-spent`. A lost
 //! compare is `raced`.
 //!
 //! **A call more** adds a line to each function of `acts`: where its act begins, which counts it changes, the act's next step, what
@@ -62,6 +67,7 @@
 #![tactic(auto)]
 
 mod acts;
+mod comps;
 mod fills;
 mod flushes;
 mod kills;
@@ -77,6 +83,7 @@ mod untypings;
 mod work;
 
 pub use acts::{act_op, act_ready, act_took, begin_act, next_work, reads_of, refuse, starts, undo};
+pub use comps::{CompAt, CompMaking, LastEpoch};
 pub use fills::Fill;
 pub use flushes::flushed_op;
 pub use kills::{Killing, KillingAt, dead_op};

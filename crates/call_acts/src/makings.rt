@@ -216,7 +216,7 @@ fn stored(object: NewObject, word: u64, entry: EntryNo) -> MakingAt
 
 // The word of a blank kernel frame that a core has marked.
 #[inline]
-fn marked_word(core: CoreNo) -> u64
+pub(crate) fn marked_word(core: CoreNo) -> u64
     ensures { result ≡ word_of_frame (marked core) }
 {
     let _number = core.number();

@@ -18,6 +18,8 @@ pub struct Own {
     pub table: FrameNo,
     /// The most calls that it may make.
     pub limit: u32,
+    /// The most epochs that a liveness number has.
+    pub epochs: u16,
     /// The calls that it has made, those answered `calls-spent` excepted.
     pub made: u32,
     /// The clock that its last exit loaded.

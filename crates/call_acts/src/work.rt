@@ -1,5 +1,6 @@
 //! The work of a call between its entry and its decision, what a step of it leads to, and what a decision leaves to be stored.
 
+use crate::comps::CompMaking;
 use crate::fills::Fill;
 use crate::kills::Killing;
 use crate::makings::Making;
@@ -60,6 +61,10 @@ pub enum Act {
     Untype {
         untyping: Untyping,
     },
+    /// It makes a component in a blank kernel frame.
+    MakeComp {
+        making: CompMaking,
+    },
 }
 
 /// A count that an act changes: that of the references to a frame, by so many.
@@ -94,12 +99,28 @@ pub enum Tail {
     /// Nothing.
     Nothing,
     /// The entry that quiesces since the stamp that was drawn.
-    Quiesce { close: Close },
+    Quiesce {
+        close: Close,
+    },
     /// The word of a frame that the call has marked: with its object where the call is carried out, and as it was found where it is
     /// refused.
-    Unmark { frame: FrameNo, word: u64 },
+    Unmark {
+        frame: FrameNo,
+        word: u64,
+    },
     /// The word of a liveness number that is dead since the stamp that was drawn.
-    StoreDead { life: CompWord, stamp: Stamp },
+    StoreDead {
+        life: CompWord,
+        stamp: Stamp,
+    },
+    /// The word of a liveness number that the call has marked, and then that of a frame: live and with its component where the call is
+    /// carried out, and both as they were found where it is refused.
+    StoreLive {
+        number: u8,
+        live: u64,
+        frame: FrameNo,
+        word: u64,
+    },
     /// The word of a core's last flush, which this stamp has.
     StoreFlush { core: CoreNo, stamp: Stamp },
     /// The counters that the call has frozen, and then the word of their frame, which it has marked. These are stored after its counts

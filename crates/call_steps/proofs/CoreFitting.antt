@@ -52,6 +52,7 @@ changed_on own (Ticks charged owed) h = record {
   pages = h.pages;
   tcap = h.tcap;
   most_calls = h.most_calls;
+  most_epochs = h.most_epochs;
   made = h.made;
 }
 changed_on own Empties h = record {
@@ -76,6 +77,7 @@ own_on own made h counted = record {
   pages = h.pages;
   tcap = h.tcap;
   most_calls = h.most_calls;
+  most_epochs = h.most_epochs;
   made = counted;
 }
 

@@ -8,7 +8,7 @@ use Rattle.stage_pins.specs.declared.pin.Pin.{Pin}
 use Rattle.stage_pins.specs.declared.pin.Pinned.{Pinned}
 use Rattle.stage_pins.specs.declared.held.Acquired.{Acquired}
 use Rattle.stage_pins.specs.Acquire.{pin_after, pin_end}
-use Rattle.std.proofs.Common.{◌≡◌, ℕ, ℤ, ◌+◌, ◌==◌, ◌&&◌, nat_lt, Bool, true, false, List, [], ◌∷◌, length, Option, Some, None, refl, sym, ◌∙◌, ap, subst, arith, eqb-true}
+use Rattle.std.proofs.Common.{◌≡◌, ℕ, ℤ, ◌+◌, ◌==◌, ◌&&◌, nat_lt, Bool, true, false, List, [], ◌∷◌, length, Option, Some, None, refl, sym, ◌∙◌, ap, subst, arith, eqb-true, if◌then◌else◌}
 use Rattle.call_plans.specs.Plans.{pushed, at_place}
 use Rattle.spk_nums.specs.Capability.{Capability}
 use Rattle.spk_nums.specs.declared.kinds.PageFlags.{PageFlags}
@@ -56,13 +56,13 @@ use Rattle.call_acts.specs.declared.makings.MakingAt.{MakingAt}
 use Rattle.call_acts.specs.declared.makings.MakingAt.TheVariants.{Load as make_load, Mark, Store, Fill as fill_at}
 use Rattle.call_acts.specs.Makings.{is_filling}
 use Rattle.call_acts.specs.declared.work.Act.{Act as ActType}
-use Rattle.call_acts.specs.declared.work.Act.TheVariants.{Fill as fill_act, Remove as remove_act, Retype as type_act, Make as make_act, Outside, Tick as tick_act, Flush as flush_act, Kill as kill_act, Untype as untype_act, Map as map_act}
+use Rattle.call_acts.specs.declared.work.Act.TheVariants.{Fill as fill_act, Remove as remove_act, Retype as type_act, Make as make_act, Outside, Tick as tick_act, Flush as flush_act, Kill as kill_act, Untype as untype_act, Map as map_act, MakeComp as comp_act}
 use Rattle.call_acts.specs.declared.work.Work.{Work}
 use Rattle.call_acts.specs.declared.work.Work.TheVariants.{Lookup, Read, Scan, Acquire, Act}
 use Rattle.call_steps.specs.declared.stages.Stage.{Stage}
 use Rattle.call_steps.specs.declared.stages.Stage.TheVariants.{Enter, Undecided, Decided, Leave}
 use Rattle.call_acts.specs.declared.work.Tail.{Tail}
-use Rattle.call_acts.specs.declared.work.Tail.TheVariants.{Nothing, Quiesce, Unmark, StoreDead, StoreFlush, Release}
+use Rattle.call_acts.specs.declared.work.Tail.TheVariants.{Nothing, Quiesce, Unmark, StoreDead, StoreFlush, Release, StoreLive}
 use Rattle.call_steps.specs.declared.stages.ActiveCall.{ActiveCall}
 use Rattle.call_acts.specs.declared.work.WorkStep.{WorkStep}
 use Rattle.call_acts.specs.declared.work.WorkStep.TheVariants.{Goes, Acquires, Refuses as refuses_to, Answers, Changes as work_changes}
@@ -70,9 +70,15 @@ use Rattle.call_acts.specs.Refusals.{refusal_of}
 use Rattle.call_acts.proofs.Refusing.{refusal_refuses}
 use Rattle.call_acts.specs.Fills.{filled_if}
 use Rattle.call_acts.specs.WorkSteps.{refuse}
-use Rattle.call_acts.specs.Acts.{took_close, is_draw, took_act, act_ready, reads_of, fills_with, removes_held, removes_at, act_begun, types_if, types_at, stamp_in, filling, starts, scans, makes_at, meets_object, meets_blank, meets_making, marks_if, published, took_making_at, kills_in, kills_at, meets_comp, meets_live, meets_number, meets_life, closes_if, took_killing_at, meets_untyped, meets_untyping, sweeps_if, took_sweep, took_untyping_at, maps_frame, maps_word, maps_if, maps_at}
-use Rattle.call_plans.specs.declared.plans.Nth.TheVariants.{First, Second}
+use Rattle.call_acts.specs.Acts.{took_close, is_draw, took_act, act_ready, reads_of, fills_with, removes_held, removes_at, act_begun, types_if, types_at, stamp_in, filling, starts, scans, makes_at, meets_object, meets_blank, meets_making, marks_if, published, took_making_at, kills_in, kills_at, meets_comp, meets_live, meets_number, meets_life, closes_if, took_killing_at, meets_untyped, meets_untyping, sweeps_if, took_sweep, took_untyping_at, maps_frame, maps_word, maps_if, maps_at, comps_at, made_begun, comp_marks, took_comp_at}
+use Rattle.call_plans.specs.declared.plans.Nth.TheVariants.{First, Second, Third, Fourth}
 use Rattle.call_acts.specs.declared.fills.Fill.{Fill}
+use Rattle.call_acts.specs.Comps.{comp_filling, comp_goes, comp_refuses, comp_meets, comp_meets_object, comp_meets_blank, number_met, number_shown, takes_number, scans_number, number_scanned, closes_number, comp_published}
+use Rattle.frame_words.specs.Live.{live_of_word}
+use Rattle.call_acts.specs.declared.comps.CompAt.{CompAt}
+use Rattle.call_acts.specs.declared.comps.CompAt.TheVariants as comp_at_as
+use Rattle.call_acts.specs.declared.comps.CompMaking.{CompMaking}
+use Rattle.call_acts.specs.declared.comps.LastEpoch.{LastEpoch}
 use Rattle.frame_words.specs.declared.frame_word.FrameWord.{FrameWord}
 use Rattle.spk_nums.specs.declared.kinds.Kind.{Kind}
 use Rattle.spk_nums.specs.declared.kinds.Kind.TheVariants as kind
@@ -150,6 +156,7 @@ tail_turns a r drawn (Quiesce close) counts found = refl
 tail_turns a r drawn (Unmark f word) counts found = refl
 tail_turns a r drawn (StoreDead life stamp) counts found = refl
 tail_turns a r drawn (StoreFlush core stamp) counts found = refl
+tail_turns a r drawn (StoreLive l live f word) counts found = refl
 tail_turns a r drawn Nothing [] found = refl
 tail_turns a r drawn Nothing (x ∷ xs) found = refl
 tail_turns a r drawn (Release release) [] found = refl
@@ -203,6 +210,7 @@ starts_no core (tick_act charge) = tt
 starts_no core (flush_act by) = tt
 starts_no core (kill_act m) = tt
 starts_no core (untype_act m) = tt
+starts_no core (comp_act m) = tt
 
 scans_no : (core : ℕ) (o : Option Quiet) (act : ActType) → NoAnswer (scans core o act)
 scans_no core None act = starts_no core act
@@ -247,6 +255,17 @@ maps_no own (Some range) f w (Some at) = by (nat_lt w.0 4)
     by true = scans_no own.core _ _
     by false = tt
 
+comps_no : (own : Own) (live : ℕ) (range table pages : Option Capability) (f : ℕ) (target : Option Found)
+    → NoAnswer (comps_at own live range table pages f target)
+comps_no own live (Some range) (Some table) (Some pages) f (Some target) = scans_no own.core _ _
+comps_no own live None table pages f target = tt
+comps_no own live (Some range) None pages f target = tt
+comps_no own live (Some range) (Some table) None f target = tt
+comps_no own live (Some range) (Some table) (Some pages) f None = tt
+made_no : (own : Own) (what : Make) (found : List Capability) (f : ℕ) (target : Option Found) → NoAnswer (made_begun own what found f target)
+made_no own (make.Comp table pages live) found f target =
+    comps_no own live (at_place found First) (at_place found Third) (at_place found Fourth) f target
+made_no own what found f target = makes_no own (object_made what found) (at_place found First) f target
 kill_no : (core : ℕ) (kind : Kind) (f : ℕ) → NoAnswer (kills_in core kind f)
 kill_no core kind.Comp f = tt
 kill_no core kind f = tt
@@ -266,8 +285,7 @@ act_no own (Remove t b) found read target not = remove_no own.core target
 act_no own (Shrink t i) found read target not = remove_no own.core target
 act_no own (Unmap p v) found read target not = remove_no own.core target
 act_no own (Retype r f k) found read target not = types_no own (at_place found First) f k
-act_no own (make_call what range frame table slot) found read target not =
-    makes_no own (object_made what found) (at_place found First) frame target
+act_no own (make_call what range frame table slot) found read target not = made_no own what found frame target
 act_no own (Gate c t b) found read target not = fill_no own _ false target
 act_no own (Kill k) found read target not = kills_no own (at_place found First)
 act_no own call found read target not = tt
@@ -494,6 +512,65 @@ killing_no m (LoadLive life) found not = live_no m life found _
 killing_no m (kill_close life word) found not = closes_no m life word _
 killing_no m (kill_draw life word) found not = absurd (cc)
 
+taking_no : (m : CompMaking) (word : ℕ) (last : LastEpoch) → NoAnswer (takes_number m word last)
+taking_no m word last = by (nat_lt last.epoch m.epochs)
+  where
+    by : (b : Bool) → NoAnswer (if b then comp_goes m (comp_at_as.Close word last) else comp_refuses m word refusal.EpochsSpent)
+    by true = tt
+    by false = tt
+
+scanning_no : (m : CompMaking) (word : ℕ) (last : LastEpoch) (o : Option Quiet) → NoAnswer (scans_number m word last o)
+scanning_no m word last None = taking_no m word last
+scanning_no m word last (Some q) = tt
+
+shown_no : (m : CompMaking) (word found : ℕ) (v : LiveWord) → NoAnswer (number_shown m word found v)
+shown_no m word found live.Free = taking_no m word _
+shown_no m word found (live.Live epoch f) = tt
+shown_no m word found (live.Closing epoch by) = tt
+shown_no m word found (live.Dead epoch stamp) = scanning_no m word _ _
+
+number_met_no : (m : CompMaking) (word found : ℕ) (o : Option LiveWord) → NoAnswer (number_met m word found o)
+number_met_no m word found None = tt
+number_met_no m word found (Some v) = shown_no m word found v
+
+scanned_no : (m : CompMaking) (word : ℕ) (last : LastEpoch) (q : Quiet) (end : StageEnd (Unit {0}))
+    → NoAnswer (number_scanned m word last q end)
+scanned_no m word last q ends.Going = tt
+scanned_no m word last q (ends.Decided r) = tt
+scanned_no m word last q (ends.Done x) = taking_no m word last
+scanned_no m word last q (ends.Refuse r) = tt
+
+comp_object_no : (m : CompMaking) (word : ℕ) (o : Obj) → NoAnswer (comp_meets_object m word o)
+comp_object_no m word Blank = tt
+comp_object_no m word o = tt
+
+comp_blank_no : (m : CompMaking) (word : ℕ) (k : FrameKind) (o : Obj) (mark : Option ℕ) → NoAnswer (comp_meets_blank m word k o mark)
+comp_blank_no m word k o (Some d) = tt
+comp_blank_no m word Untyped o None = tt
+comp_blank_no m word User o None = tt
+comp_blank_no m word Kernel o None = comp_object_no m word o
+
+comp_met_no : (m : CompMaking) (word : ℕ) (o : Option FrameWord) → NoAnswer (comp_meets m word o)
+comp_met_no m word None = tt
+comp_met_no m word (Some v) = comp_blank_no m word v.kind v.object v.mark
+
+comp_marks_no : (m : CompMaking) (word : ℕ) (equal : Bool) → NoAnswer (comp_marks m word equal)
+comp_marks_no m word true = tt
+comp_marks_no m word false = tt
+
+comp_closes_no : (m : CompMaking) (word : ℕ) (last : LastEpoch) (equal : Bool) → NoAnswer (closes_number m word last equal)
+comp_closes_no m word last true = tt
+comp_closes_no m word last false = tt
+
+comp_unready : (m : CompMaking) (at : CompAt) (found : ℕ) → comp_filling at ≡ false → NoAnswer (took_comp_at m at found)
+comp_unready m comp_at_as.Load found not = comp_met_no m found _
+comp_unready m (comp_at_as.Mark word) found not = comp_marks_no m word _
+comp_unready m (comp_at_as.LoadLive word) found not = number_met_no m word found (live_of_word found)
+comp_unready m (comp_at_as.Scan word last q) found not = scanned_no m word last _ _
+comp_unready m (comp_at_as.Close word last) found not = comp_closes_no m word last _
+comp_unready m (comp_at_as.Store word last entry) found not = tt
+comp_unready m (comp_at_as.Fill word last) found not = absurd (cc)
+
 untyped_no : (m : Untyping) (word : ℕ) (v : FrameWord) (k : FrameKind) (mark : Option ℕ) → NoAnswer (meets_untyped m word v k mark)
 untyped_no m word v k (Some d) = tt
 untyped_no m word v Untyped None = tt
@@ -541,6 +618,7 @@ act_unready s (tick_act charge) found not = charge_no charge found not
 act_unready s (flush_act core) found not = absurd (cc)
 act_unready s (kill_act m) found not = killing_no m m.at found not
 act_unready s (untype_act m) found not = untyping_no s m m.at found not
+act_unready s (comp_act m) found not = comp_unready m m.at found not
 
 -- a step of a scan answers nothing
 scan_refuses : (core : ℕ) (act : ActType) (a : ActiveCall) (q : Quiet) (end : StageEnd (Unit {0}))
@@ -659,6 +737,20 @@ killing_decides a m (LoadLive life) found ready = absurd (cc)
 killing_decides a m (kill_close life word) found ready = absurd (cc)
 killing_decides a m (kill_draw life word) found ready = tt
 
+component_decides : (a : ActiveCall) (m : CompMaking) (at : CompAt) (found : ℕ) → comp_filling at ≡ true
+    → IsDecision (landed a (took_comp_at m at found))
+component_decides a m comp_at_as.Load found ready = absurd (cc)
+component_decides a m (comp_at_as.Mark word) found ready = absurd (cc)
+component_decides a m (comp_at_as.LoadLive word) found ready = absurd (cc)
+component_decides a m (comp_at_as.Scan word last q) found ready = absurd (cc)
+component_decides a m (comp_at_as.Close word last) found ready = absurd (cc)
+component_decides a m (comp_at_as.Store word last entry) found ready = absurd (cc)
+component_decides a m (comp_at_as.Fill word last) found ready = by (found == m.fill.word)
+  where
+    by : (equal : Bool) → IsDecision (landed a (comp_published m word last equal))
+    by true = tt
+    by false = tt
+
 untyping_decides : (s : Shape) (a : ActiveCall) (m : Untyping) (at : UntypingAt) (found : ℕ) → is_drawing at ≡ true
     → IsDecision (landed a (took_untyping_at s m at found))
 untyping_decides s a m untype.Load found ready = absurd (cc)
@@ -680,6 +772,7 @@ act_decides s a (tick_act charge) found ready = charge_decides a charge found re
 act_decides s a (flush_act core) found ready = tt
 act_decides s a (kill_act m) found ready = killing_decides a m m.at found ready
 act_decides s a (untype_act m) found ready = untyping_decides s a m m.at found ready
+act_decides s a (comp_act m) found ready = component_decides a m m.at found ready
 
 begun_over : (own : Own) (call : Call) (k : Capability) → decides_at_name (plan_for call).decides ≡ true
     → IsOver (act_begun own call (k ∷ []) None None)

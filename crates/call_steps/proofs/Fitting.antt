@@ -3,16 +3,15 @@ use Rattle.std.proofs.lemmas.List.Elements.{All-nil, All-cons, All-tail, All-app
 use Rattle.frame_words.specs.Count.{word_of_count, count_of_word}
 use Rattle.stage_pins.specs.Counts.{unheld}
 use Rattle.stage_pins.proofs.PinLemmas.{after_fits}
-use Rattle.std.proofs.Common.{◌≡◌, ℕ, suc, ℤ, ◌≢◌, nat_lt, if◌then◌else◌, ◌+◌, ◌*◌, ◌-◌, ◌++◌, slice_get, ◌%◌, ◌<◌, ◌≤◌, Bool, true, false, ◌==◌, List, [], ◌∷◌, length, length-append, lt-ltb, Option, Some, None, IfSome, refl, sym, ◌∙◌, ap, subst, arith, negsuc}
-use Rattle.std.proofs.lemmas.Bool.{leb-false, ltb-true, ltb-false, eqb-true, eqb-false}
+use Rattle.std.proofs.Common.{◌≡◌, ℕ, suc, ℤ, nat_lt, if◌then◌else◌, ◌+◌, ◌*◌, ◌-◌, ◌++◌, slice_get, ◌%◌, ◌<◌, ◌≤◌, Bool, true, false, ◌==◌, List, [], ◌∷◌, length, length-append, lt-ltb, Option, Some, None, IfSome, refl, sym, ◌∙◌, ap, subst, arith, negsuc}
+use Rattle.std.proofs.lemmas.Bool.{leb-false, ltb-true}
 use Rattle.spk_nums.specs.declared.replies.Value.TheVariants.{Nothing as nothing, Amount}
 use Rattle.stage_quiet.specs.Clocks.{drawn_stamp, stamp_of_clock}
 use Rattle.stage_quiet.specs.declared.close.Close.{Close}
 use Rattle.stage_quiet.specs.declared.close.Close.TheVariants.{AtCompare as close_compare, AtDraw, AtStore}
 use Rattle.stage_quiet.specs.declared.quiet.Quiet.{Quiet}
-use Rattle.stage_quiet.specs.declared.quiet.Quiet.TheVariants.{AtCore, AtFlush}
 use Rattle.stage_quiet.specs.Removal.{CloseFits, close_compared, close_at, close_end, close_after}
-use Rattle.stage_quiet.specs.Scan.{QuietFits, next_other, core_scan, quiet_refuses, scan_end, scan_after, quiet_end, quiet_after}
+use Rattle.stage_quiet.specs.Scan.{QuietFits, quiet_end, quiet_after}
 use Rattle.stage_pins.specs.declared.pin.Pin.{Pin}
 use Rattle.stage_pins.specs.declared.pin.Pin.TheVariants.{AtLoad, AtCompare}
 use Rattle.stage_pins.specs.declared.pin.Pinned.{Pinned}
@@ -83,12 +82,13 @@ use Rattle.call_acts.specs.Makings.{MakingFits, making_left, undo_at}
 use Rattle.frame_words.specs.Comp.{comp_of_word}
 use Rattle.frame_words.specs.declared.comp_word.CompWord.{CompWord}
 use Rattle.call_steps.specs.Tails.{tail_left, took_tail, tail_counts}
-use Rattle.call_steps.specs.Fits.{TailFits, ScanFits, WorkFits, StageFits, IsWanted, FoundFits, HasRoom, CountsWait, CountsAt, looks_later, after_reading, acts_later, names_left, steps_later, left_of_look, left_of_scan, left_of_pin, work_left, left_at, left_of, IsActive, IsOwn, left_of_cores}
+use Rattle.call_steps.specs.Fits.{TailFits, WorkFits, StageFits, IsWanted, FoundFits, HasRoom, CountsWait, CountsAt, looks_later, after_reading, acts_later, names_left, steps_later, left_of_look, left_of_pin, work_left, left_at, left_of, IsActive, IsOwn}
+use Rattle.call_acts.specs.Scans.{left_of_cores, ScanFits, left_of_scan}
 use Rattle.call_steps.proofs.StepsFit.{StepFits, starts_fit, few_dues, object_count, work_next, counts_next, first_named, act_fits}
 use Rattle.call_acts.specs.declared.work.Act.{Act as ActType}
-use Rattle.call_acts.specs.declared.work.Act.TheVariants.{Fill as fill_act, Remove as remove_act, Retype as type_act, Make as make_act, Outside, Tick as tick_act, Flush as flush_act, Kill as kill_act, Untype as untype_act, Map as map_act}
+use Rattle.call_acts.specs.declared.work.Act.TheVariants.{Fill as fill_act, Remove as remove_act, Retype as type_act, Make as make_act, Outside, Tick as tick_act, Flush as flush_act, Kill as kill_act, Untype as untype_act, Map as map_act, MakeComp as comp_act}
 use Rattle.call_acts.specs.declared.work.Tail.{Tail}
-use Rattle.call_acts.specs.declared.work.Tail.TheVariants.{Nothing, Quiesce, Unmark, StoreDead, StoreFlush, Release}
+use Rattle.call_acts.specs.declared.work.Tail.TheVariants.{Nothing, Quiesce, Unmark, StoreDead, StoreFlush, Release, StoreLive}
 use Rattle.call_steps.specs.declared.stages.Stage.{Stage}
 use Rattle.call_steps.specs.declared.stages.Stage.TheVariants.{Enter, Undecided, Decided, Leave}
 use Rattle.call_steps.specs.declared.stages.ActiveCall.{ActiveCall}
@@ -106,6 +106,7 @@ use Rattle.call_steps.proofs.LandsFit.{TookFits, Facts, names_object, next_fits,
 use Rattle.call_steps.proofs.ScansFit.{scan_goes, scan_left}
 use Rattle.call_steps.proofs.KillsFit.{kill_fits}
 use Rattle.call_steps.proofs.UntypingsFit.{untype_fits, undone_fits, released_fits}
+use Rattle.call_steps.proofs.CompsFit.{comp_fits, comp_undone}
 
 -- a step of the work of a call that has acquired its counts, or acquires them
 module _ (own : Own) (a : ActiveCall) (facts : Facts own a) (room : own.made < own.limit) where
@@ -301,6 +302,7 @@ module _ (own : Own) (a : ActiveCall) (facts : Facts own a) (room : own.made < o
       (work_changes (reply.Ok nothing) Empties (StoreFlush core (stamp_of_clock found))) (omega arith, fits) (omega arith)
   done_fits (kill_act m) found fits waits = kill_fits own a facts room m m.at found fits waits
   done_fits (untype_act m) found fits waits = untype_fits own a facts room m m.at found fits waits
+  done_fits (comp_act m) found fits waits = comp_fits own a facts room m m.at found fits waits
 
   undo_fits : (act : ActType) → ActFits own.layout act → TailFits own.layout (undo act) × (tail_left (undo act) ≤ act_left own.layout.cores act)
   undo_fits (fill_act fill) fits = (tt, omega arith)
@@ -319,6 +321,7 @@ module _ (own : Own) (a : ActiveCall) (facts : Facts own a) (room : own.made < o
   undo_fits (flush_act core) fits = (tt, omega arith)
   undo_fits (kill_act m) fits = (tt, omega arith)
   undo_fits (untype_act m) fits = undone_fits own.layout m m.at facts.own_fits.shape fits
+  undo_fits (comp_act m) fits = comp_undone own m m.at fits
 
   scan_end_fits : (left : ℕ) (act : ActType) (q : Quiet) (end : StageEnd (Unit {0})) → a.counts ≡ [] → ActFits own.layout act
       → (end ≡ ends.Going → QuietFits own.layout q × ScanFits own.layout q ×
@@ -697,6 +700,19 @@ tail_fits own a r drawn (StoreFlush core stamp) counts found facts is fits = rec
   found = facts.found;
   first = tt;
   stage = tt;
+  acquired = subst (AllFit own.layout) is facts.acquired;
+  counts = tt;
+  room = tt;
+  counted = facts.own_fits.made;
+  steps = refl;
+  fewer = let same : length a.counts ≡ length counts = ap length is in omega arith;
+}
+tail_fits own a r drawn (StoreLive l live f word) counts found facts is fits = record {
+  call = refl;
+  plan = refl;
+  found = facts.found;
+  first = tt;
+  stage = fits.1;
   acquired = subst (AllFit own.layout) is facts.acquired;
   counts = tt;
   room = tt;

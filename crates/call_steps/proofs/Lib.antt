@@ -7,4 +7,5 @@ pub mod Begun
 pub mod Decisions
 pub mod KillsFit
 pub mod UntypingsFit
+pub mod CompsFit
 pub mod CoreFitting

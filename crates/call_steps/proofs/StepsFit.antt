@@ -19,7 +19,7 @@ use Rattle.kernel_rules.specs.Access.{Named, found, only, root, Target as place,
 use Rattle.stage_look.specs.Shown.{end_of_frames, CapNames, EntryNames}
 use Rattle.stage_look.specs.Lookup.{FoundFits as PlaceFits}
 use Rattle.stage_look.specs.declared.look.Found.{Found}
-use Rattle.call_plans.specs.declared.plans.Nth.TheVariants.{First, Second, Third}
+use Rattle.call_plans.specs.declared.plans.Nth.TheVariants.{First, Second, Third, Fourth}
 use Rattle.call_plans.specs.declared.plans.Name.{Name}
 use Rattle.call_plans.specs.declared.plans.Spot.{Spot}
 use Rattle.call_plans.specs.declared.plans.Spot.TheVariants.{Under, InRoot}
@@ -49,18 +49,23 @@ use Rattle.call_acts.specs.declared.kills.KillingAt.{KillingAt}
 use Rattle.call_acts.specs.declared.kills.KillingAt.TheVariants.{LoadComp, LoadLive, Close as kill_close, Draw as kill_draw}
 use Rattle.call_acts.specs.declared.own.Own.{Own}
 use Rattle.call_acts.specs.declared.work.Act.{Act as ActType}
-use Rattle.call_acts.specs.declared.work.Act.TheVariants.{Fill as fill_act, Remove as remove_act, Retype as type_act, Make as make_act, Outside, Tick as tick_act, Kill as kill_act, Flush as flush_act, Untype as untype_act, Map as map_act}
+use Rattle.call_acts.specs.declared.work.Act.TheVariants.{Fill as fill_act, Remove as remove_act, Retype as type_act, Make as make_act, Outside, Tick as tick_act, Kill as kill_act, Flush as flush_act, Untype as untype_act, Map as map_act, MakeComp as comp_act}
 use Rattle.call_acts.specs.declared.work.Work.TheVariants.{Lookup}
 use Rattle.call_acts.specs.declared.work.WorkStep.{WorkStep}
 use Rattle.call_acts.specs.declared.work.WorkStep.TheVariants.{Goes, Acquires, Refuses, Answers, Changes}
 use Rattle.call_acts.specs.declared.work.Due.{Due}
-use Rattle.call_acts.specs.Acts.{ActFits, act_left, looked, cap_dues, dues, acquires, scans, stamp_in, filling, fills_with, removing, removes_held, removes_at, types_if, types_at, gate_if, gate_to, frame_named, reads_of, made_dues, starts, making, making_if, makes_in, makes_at, act_begun, next_work, killing_dues, kills_in, kills_at, link_to, is_pages, page_cap, mapping, mapping_if, maps_if, maps_at}
+use Rattle.call_acts.specs.Acts.{ActFits, act_left, looked, cap_dues, dues, acquires, scans, stamp_in, filling, fills_with, removing, removes_held, removes_at, types_if, types_at, gate_if, gate_to, frame_named, reads_of, made_dues, starts, making, making_if, makes_in, makes_at, act_begun, next_work, killing_dues, kills_in, kills_at, link_to, is_pages, page_cap, mapping, mapping_if, maps_if, maps_at, comp_making, comp_if, comps_in, comps_at, made_begun}
 use Rattle.call_acts.specs.declared.untypings.UntypingAt.{UntypingAt}
 use Rattle.call_acts.specs.declared.untypings.UntypingAt.TheVariants as untype
 use Rattle.call_acts.specs.Untypings.{UntypingAtFits, released_dues, untyping_dues}
+use Rattle.call_acts.specs.Comps.{comp_dues}
+use Rattle.call_acts.specs.Scans.{ScanFits, left_of_scan, left_of_cores}
+use Rattle.call_acts.specs.declared.comps.CompAt.{CompAt}
+use Rattle.call_acts.specs.declared.comps.CompAt.TheVariants as comp_at_as
+use Rattle.call_acts.specs.declared.comps.CompMaking.{CompMaking}
 use Rattle.call_steps.specs.Tails.{tail_left}
 use Rattle.call_acts.specs.Lookups.{looks_under, looks_entry, looks_at, read_first, next_step}
-use Rattle.call_steps.specs.Fits.{ScanFits, WorkFits, TailFits, IsWanted, FoundFits, CountsWait, looks_later, after_reading, acts_later, left_of_scan, work_left, IsOwn, left_of_cores}
+use Rattle.call_steps.specs.Fits.{WorkFits, TailFits, IsWanted, FoundFits, CountsWait, looks_later, after_reading, acts_later, work_left, IsOwn}
 
 -- where a step of the work leads to fits, where so many counts are acquired, and leaves at most so many steps before these are
 -- committed; it acquires none
@@ -91,6 +96,15 @@ killing_one f LoadComp = omega arith
 killing_one f (LoadLive life) = omega arith
 killing_one f (kill_close life word) = omega arith
 killing_one f (kill_draw life word) = omega arith
+
+comp_few : (m : CompMaking) (at : CompAt) → length (comp_dues m at) ≤ 3
+comp_few m comp_at_as.Load = omega arith
+comp_few m (comp_at_as.Mark word) = omega arith
+comp_few m (comp_at_as.LoadLive word) = omega arith
+comp_few m (comp_at_as.Scan word last q) = omega arith
+comp_few m (comp_at_as.Close word last) = omega arith
+comp_few m (comp_at_as.Store word last entry) = omega arith
+comp_few m (comp_at_as.Fill word last) = omega arith
 
 counts_few : (object : NewObject) → counts_of object ≤ 4
 counts_few NewTable = omega arith
@@ -138,6 +152,7 @@ few_dues (tick_act charge) = omega arith
 few_dues (flush_act core) = omega arith
 few_dues (kill_act m) = let one = killing_one m.comp m.at in omega (arith, one)
 few_dues (untype_act m) = let two = untyped_few m.at in omega (arith, two)
+few_dues (comp_act m) = let few = comp_few m m.at in omega (arith, few)
 
 -- the counts that an act changes are of frames of the machine
 abbrev pub DueFits : Shape → Option Due → Type 0
@@ -202,6 +217,23 @@ untyped_fit s (untype.Sweep word w) zero fits = tt
 untyped_fit s (untype.Sweep word w) (suc n) fits = tt
 untyped_fit s (untype.Draw word w) n fits = released_fit s w.owned.first w.owned.second n fits.owned.first fits.owned.second
 
+three_fit : (s : Shape) (m : CompMaking) (n : ℕ) → m.frame < s.frames → m.table < s.frames → m.pages < s.frames
+    → DueFits s (slice_get (comp_dues m (comp_at_as.LoadLive 0)) n)
+three_fit s m zero frame table pages = frame
+three_fit s m (suc zero) frame table pages = table
+three_fit s m (suc (suc zero)) frame table pages = pages
+three_fit s m (suc (suc (suc n))) frame table pages = tt
+comp_fit : (s : Shape) (m : CompMaking) (at : CompAt) (n : ℕ) → m.frame < s.frames → m.table < s.frames → m.pages < s.frames
+    → DueFits s (slice_get (comp_dues m at) n)
+comp_fit s m comp_at_as.Load zero frame table pages = tt
+comp_fit s m comp_at_as.Load (suc n) frame table pages = tt
+comp_fit s m (comp_at_as.Mark word) zero frame table pages = tt
+comp_fit s m (comp_at_as.Mark word) (suc n) frame table pages = tt
+comp_fit s m (comp_at_as.LoadLive word) n frame table pages = three_fit s m n frame table pages
+comp_fit s m (comp_at_as.Scan word last q) n frame table pages = three_fit s m n frame table pages
+comp_fit s m (comp_at_as.Close word last) n frame table pages = three_fit s m n frame table pages
+comp_fit s m (comp_at_as.Store word last entry) n frame table pages = three_fit s m n frame table pages
+comp_fit s m (comp_at_as.Fill word last) n frame table pages = three_fit s m n frame table pages
 pub dues_fit : (s : Shape) (act : ActType) (n : ℕ) → ActFits s act → DueFits s (slice_get (dues act) n)
 dues_fit s (fill_act fill) n fits = cap_fit s fill.cap.kind fill.cap.frame fill.cap.arg (pos 1) n fits.cap
 dues_fit s (remove_act close cap) n fits = cap_fit s cap.kind cap.frame cap.arg (negsuc 0) n fits.1
@@ -217,6 +249,7 @@ dues_fit s (flush_act core) zero fits = tt
 dues_fit s (flush_act core) (suc n) fits = tt
 dues_fit s (kill_act m) n fits = killing_fit s m.comp m.at n fits.comp
 dues_fit s (untype_act m) n fits = untyped_fit s m.at n fits.at
+dues_fit s (comp_act m) n fits = comp_fit s m m.at n fits.frame fits.table fits.pages
 
 -- what a core does for an act of whose counts it has acquired so many
 pub work_next : (s : Shape) (later core n : ℕ) (act : ActType) (o : Option Due) → slice_get (dues act) n ≡ o → core < s.cores
@@ -342,6 +375,7 @@ starts_fit s later most core (tick_act charge) here fits some = first_fits s lat
 starts_fit s later most core (flush_act by) here fits some = first_fits s later most core (flush_act by) here fits some
 starts_fit s later most core (kill_act m) here fits some = first_fits s later most core (kill_act m) here fits some
 starts_fit s later most core (untype_act m) here fits some = first_fits s later most core (untype_act m) here fits some
+starts_fit s later most core (comp_act m) here fits some = first_fits s later most core (comp_act m) here fits some
 
 pub scans_fit : (s : Shape) (later most core : ℕ) (act : ActType) (page : Bool) (o : Option Quiet) → core < s.cores → ActFits s act
     → ScanMay s page o
@@ -509,11 +543,63 @@ maps own later (Some range) f w (Some at) h fits = by_flags (nat_lt w.0 4)
     by_flags true = by (has_frame (found range) f && nat_lt f own.layout.frames) refl
     by_flags false = (omega arith, tt)
 
--- the name of a thread's component has led to a frame of the machine, and so has that of a leaf
+-- the act that makes a component, where the range has its frame
+comps : (own : Own) (later live : ℕ) (range table pages : Capability) (f : ℕ) (target : Found) → IsOwn own → live < 64
+    → table.frame < own.layout.frames → pages.frame < own.layout.frames → PlaceFits own.layout target
+    → StepFits own.layout [] later (17 + 2 * own.layout.cores) (comps_in own live range table pages f target)
+comps own later live range table pages f target h small root_fits pages_fit fits = by (frame_in own range f) refl
+  where
+    both : (x y : Bool) → (x && y) ≡ true → y ≡ true
+    both true y is = is
+    both false y is = cc
+
+    by : (within : Bool) → frame_in own range f ≡ within
+        → StepFits own.layout [] later (17 + 2 * own.layout.cores)
+        (scans own.core (quiet_scan (stamp_in target.value) own.core own.layout.cores false)
+        (comp_if within own live table pages f target))
+    by true is =
+        let many = h.shape.some_core in
+        let below : f < own.layout.frames = ltb-true f own.layout.frames (both (has_frame (found range) f) (nat_lt f own.layout.frames) is)
+        in
+        scans_fit own.layout later (17 + 2 * own.layout.cores) own.core (comp_making own live table pages f target) false
+        (quiet_scan (stamp_in target.value) own.core own.layout.cores false) h.core
+        (record {
+          frame = below;
+          table = root_fits;
+          pages = pages_fit;
+          number = small;
+          core = h.core;
+          cores = refl;
+          few = h.shape.most_cores;
+          epochs = h.most_epochs;
+          fill = record { node = fits.node; entry = fits.entry; cap = omega (arith, below) };
+          at = tt;
+        })
+        (scan_may own.layout (stamp_in target.value) own.core false h.core) (omega (arith, many))
+    by false is =
+        let many = h.shape.some_core in
+        scans_fit own.layout later (17 + 2 * own.layout.cores) own.core (Outside target.node target.entry target.word) false
+        (quiet_scan (stamp_in target.value) own.core own.layout.cores false) h.core (fits.node, fits.entry)
+        (scan_may own.layout (stamp_in target.value) own.core false h.core) (omega (arith, many))
+
+comp_at : (own : Own) (later live : ℕ) (range table pages : Option Capability) (f : ℕ) (target : Option Found) → IsOwn own → live < 64
+    → IfSome table (λ k. k.frame < own.layout.frames) → IfSome pages (λ k. k.frame < own.layout.frames)
+    → IfSome target (PlaceFits own.layout)
+    → StepFits own.layout [] later (17 + 2 * own.layout.cores) (comps_at own live range table pages f target)
+comp_at own later live (Some range) (Some table) (Some pages) f (Some target) h small root_fits pages_fit fits =
+    comps own later live range table pages f target h small root_fits pages_fit fits
+comp_at own later live None table pages f target h small root_fits pages_fit fits = (omega arith, tt)
+comp_at own later live (Some range) None pages f target h small root_fits pages_fit fits = (omega arith, tt)
+comp_at own later live (Some range) (Some table) None f target h small root_fits pages_fit fits = (omega arith, tt)
+comp_at own later live (Some range) (Some table) (Some pages) f None h small root_fits pages_fit fits = (omega arith, tt)
+
+-- the name of a thread's component has led to a frame of the machine, and so have those of a component's table and pages
 abbrev pub ObjectNamed : ℕ → Call → List Capability → Type 0
 ObjectNamed frames (Grow t i l) found = IfSome (at_place found Second) (λ k. k.frame < frames)
 ObjectNamed frames (make_call (make.Thread comp) r f t b) found = IfSome (at_place found Third) (λ k. k.frame < frames)
 ObjectNamed frames (Gate c t b) found = IfSome (at_place found First) (λ k. k.frame < frames)
+ObjectNamed frames (make_call (make.Comp table pages live) r f t b) found =
+    IfSome (at_place found Third) (λ k. k.frame < frames) × IfSome (at_place found Fourth) (λ k. k.frame < frames)
 ObjectNamed frames call found = Unit {0}
 
 comp_below : (frames : ℕ) (kind : Kind) (frame arg : ℕ) → only KindComp kind ≡ true → end_of_frames kind frame arg ≤ frames
@@ -530,6 +616,14 @@ leaf_below : (frames : ℕ) (root kind : Kind) (frame arg : ℕ) → only (leaf_
 leaf_below frames root Range frame arg wanted names = absurd (no_range root wanted)
 leaf_below frames root kind frame arg wanted names = omega (arith, names)
 
+table_below : (frames : ℕ) (kind : Kind) (frame arg : ℕ) → only Table kind ≡ true → end_of_frames kind frame arg ≤ frames
+    → frame < frames
+table_below frames Range frame arg wanted names = absurd (cc)
+table_below frames kind frame arg wanted names = omega (arith, names)
+pages_below : (frames : ℕ) (kind : Kind) (frame arg : ℕ) → only Pages kind ≡ true → end_of_frames kind frame arg ≤ frames
+    → frame < frames
+pages_below frames Range frame arg wanted names = absurd (cc)
+pages_below frames kind frame arg wanted names = omega (arith, names)
 pub object_named : (frames : ℕ) (call : Call) (found : List Capability) → FoundFits frames (plan_for call) found
     → ObjectNamed frames call found
 object_named frames (Grow t i l) [] leads = tt
@@ -542,6 +636,15 @@ object_named frames (make_call (make.Thread comp) r f t b) (k ∷ j ∷ i ∷ ks
     comp_below frames i.kind i.frame i.arg leads.1.1.0.0 leads.1.1.0.1
 object_named frames (Gate c t b) [] leads = tt
 object_named frames (Gate c t b) (k ∷ ks) leads = comp_below frames k.kind k.frame k.arg leads.0.0 leads.0.1
+object_named frames (make_call (make.Comp table pages live) r f t b) [] leads = (tt, tt)
+object_named frames (make_call (make.Comp table pages live) r f t b) (k ∷ []) leads = (tt, tt)
+object_named frames (make_call (make.Comp table pages live) r f t b) (k ∷ j ∷ []) leads = (tt, tt)
+object_named frames (make_call (make.Comp table pages live) r f t b) (k ∷ j ∷ i ∷ []) leads =
+    (table_below frames i.kind i.frame i.arg leads.1.1.0.0 leads.1.1.0.1, tt)
+object_named frames (make_call (make.Comp table pages live) r f t b) (k ∷ j ∷ i ∷ h ∷ ks) leads = (
+  table_below frames i.kind i.frame i.arg leads.1.1.0.0 leads.1.1.0.1,
+  pages_below frames h.kind h.frame h.arg leads.1.1.1.0.0 leads.1.1.1.0.1,
+)
 object_named frames call found leads = tt
 
 made_fits : (s : Shape) (what : Make) (r f t b : ℕ) (found : List Capability) (cores : ℕ) → MakeInLimits what
@@ -559,6 +662,16 @@ made_fits s (make.Thread comp) r f t b found cores limits named = by (at_place f
     by (Some k) below = (record { pair = tt; names = below }, omega arith)
 made_fits s (make.Tcap sched quality) r f t b found cores limits named = (record { pair = limits; names = tt }, omega arith)
 made_fits s (make.Comp table pages live) r f t b found cores limits named = tt
+
+-- the act of a make
+begun_made : (own : Own) (later : ℕ) (what : Make) (r f t b : ℕ) (found : List Capability) (target : Option Found) → IsOwn own
+    → ObjectNamed own.layout.frames (make_call what r f t b) found → MakeInLimits what → IfSome target (PlaceFits own.layout)
+    → StepFits own.layout [] later (make_steps what own.layout.cores) (made_begun own what found f target)
+begun_made own later (make.Comp table pages live) r f t b found target h named limits fits =
+    comp_at own later live (at_place found First) (at_place found Third) (at_place found Fourth) f target h limits named.0 named.1 fits
+begun_made own later what r f t b found target h named limits fits =
+    made_at own later (make_steps what own.layout.cores) (object_made what found) (at_place found First) f target h fits
+    (made_fits own.layout what r f t b found own.layout.cores limits named)
 
 -- the act that kills a component
 kills : (s : Shape) (later most core : ℕ) (kind : Kind) (f arg : ℕ) → core < s.cores
@@ -616,8 +729,7 @@ act_fits own later (Unmap p v) found read target h names objects limits fits =
 act_fits own later (Retype r f k) found read target h names objects limits fits =
     types own later (at_place found First) f k h.core
 act_fits own later (make_call what range frame table slot) found read target h names objects limits fits =
-    made_at own later (make_steps what own.layout.cores) (object_made what found) (at_place found First) frame target h fits
-    (made_fits own.layout what range frame table slot found own.layout.cores limits objects)
+    begun_made own later what range frame table slot found target h objects limits fits
 act_fits own later Flush found read target h names objects limits fits = (h.core, omega arith, refl)
 act_fits own later (Tick n) found read target h names objects limits fits = (h.tcap, omega arith, refl)
 act_fits own later (Gate c t b) found read target h names objects limits fits =

@@ -1,5 +1,5 @@
 -- What holds of a core at every moment: its numbers are in range, and its call keeps within its bound of steps.
-use Rattle.std.specs.Prelude.{ℕ, ◌+◌, ◌*◌, ◌-◌, ◌<◌, ◌≤◌, ◌≡◌, Bool, nat_lt, if◌then◌else◌, IsTrue, List, [], ◌∷◌, length, Option, Some, None}
+use Rattle.std.specs.Prelude.{ℕ, ◌+◌, ◌*◌, ◌-◌, ◌<◌, ◌≤◌, ◌≡◌, Bool, IsTrue, List, [], ◌∷◌, length, Option, Some, None, ◌^◌}
 use Rattle.spk_nums.specs.Bounds.{bound_of}
 use Rattle.spk_nums.specs.CallLimits.{InLimits}
 use Rattle.spk_nums.specs.Capability.{Capability}
@@ -25,11 +25,9 @@ use Rattle.call_acts.specs.declared.work.Work.TheVariants.{Lookup, Read, Scan, A
 use Rattle.call_steps.specs.declared.stages.Stage.{Stage}
 use Rattle.call_steps.specs.declared.stages.Stage.TheVariants.{Enter, Undecided, Decided, Leave}
 use Rattle.call_acts.specs.declared.work.Tail.{Tail}
-use Rattle.call_acts.specs.declared.work.Tail.TheVariants.{Nothing, Quiesce, Unmark, StoreDead, StoreFlush, Release}
+use Rattle.call_acts.specs.declared.work.Tail.TheVariants.{Nothing, Quiesce, Unmark, StoreDead, StoreFlush, Release, StoreLive}
 use Rattle.call_acts.specs.Untypings.{ReleaseFits}
 use Rattle.call_steps.specs.declared.stages.ActiveCall.{ActiveCall}
-use Rattle.stage_quiet.specs.declared.quiet.Quiet.{Quiet}
-use Rattle.stage_quiet.specs.declared.quiet.Quiet.TheVariants.{AtCore, AtFlush}
 use Rattle.stage_quiet.specs.Scan.{QuietFits}
 use Rattle.stage_quiet.specs.Removal.{CloseFits}
 use Rattle.stage_pins.specs.declared.pin.Pin.{Pin}
@@ -38,13 +36,9 @@ use Rattle.stage_pins.specs.declared.held.Acquired.{Acquired}
 use Rattle.stage_pins.specs.Acquire.{PinFits}
 use Rattle.stage_pins.specs.Held.{AllFit}
 use Rattle.call_acts.specs.Acts.{ActFits, act_left, dues}
+use Rattle.call_acts.specs.Scans.{ScanFits, left_of_scan}
 use Rattle.call_steps.specs.Tails.{tail_left}
 use Rattle.call_steps.specs.View.{Core}
-
--- a scan is of the other cores' words, from the first on, and for a place of a page table then of all flush words
-abbrev pub ScanFits : Shape → Quiet → Type 0
-ScanFits s (AtCore stamp core at page) = (core < s.cores) × (1 ≤ stamp)
-ScanFits s (AtFlush stamp at) = 1 ≤ stamp
 
 -- a stage names frames of the machine alone
 abbrev pub WorkFits : Shape → Work → Type 0
@@ -61,6 +55,7 @@ TailFits s (Unmark f word) = f < s.frames
 TailFits s (StoreDead life stamp) = CompFits life × (1 ≤ stamp)
 TailFits s (StoreFlush core stamp) = core < s.cores
 TailFits s (Release release) = ReleaseFits s release
+TailFits s (StoreLive l live f word) = (l < 64) × (f < s.frames)
 
 abbrev pub StageFits : Shape → Stage → Type 0
 StageFits s Enter = Unit {0}
@@ -121,14 +116,6 @@ steps_later cores a = looks_later (names_left a) a.plan.target + acts_later (nam
 abbrev pub left_of_pin : Pin → ℕ
 left_of_pin (AtLoad frame core) = 2
 left_of_pin (AtCompare frame core count stamp) = 1
-
--- the loads of a scan that are still to come: of the other cores' words, from this on, and of flush words
-abbrev pub left_of_cores : ℕ → ℕ → ℕ → ℕ
-left_of_cores cores core at = if nat_lt at core then cores - at - 1 else cores - at
-
-abbrev pub left_of_scan : ℕ → Quiet → ℕ
-left_of_scan cores (AtCore stamp core at page) = left_of_cores cores core at + (if page then cores else 0)
-left_of_scan cores (AtFlush stamp at) = cores - at
 
 -- the most steps of the work that are still to come, where so many come after its look-up and so many counts are acquired: each
 -- count that is still to be acquired takes two steps, and one for its commit
@@ -199,6 +186,7 @@ pub record IsOwn (own : Own) : Type 0 where
   pub pages : own.pages < own.layout.frames
   pub tcap : own.tcap < own.layout.frames
   pub most_calls : own.limit ≤ 4194304
+  pub most_epochs : own.epochs < 2 ^ 16
   pub made : own.made ≤ own.limit
 
 pub record IsCore (c : Core) : Type 0 where

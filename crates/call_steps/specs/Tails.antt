@@ -2,7 +2,7 @@
 use Rattle.std.specs.Prelude.{ℕ, ◌-◌, ◌^◌, Bool, true, false, nat_lt, Option, List, [], ◌∷◌, if◌then◌else◌}
 use Rattle.spk_nums.specs.declared.replies.Reply.{Reply}
 use Rattle.spk_nums.specs.declared.replies.Reply.TheVariants.{Ok}
-use Rattle.word_map.specs.Word.{ClockAt, FrameAt}
+use Rattle.word_map.specs.Word.{ClockAt, FrameAt, LiveAt}
 use Rattle.word_map.specs.Moves.{Move, LoadOf, StoreOf}
 use Rattle.stage_quiet.specs.Removal.{close_move}
 use Rattle.stage_quiet.specs.Flushing.{flush_move}
@@ -12,7 +12,7 @@ use Rattle.stage_pins.specs.Commit.{settle_move}
 use Rattle.stage_pins.specs.Held.{commit_of, rest_of}
 use Rattle.call_acts.specs.Kills.{dead_move}
 use Rattle.call_acts.specs.declared.work.Tail.{Tail}
-use Rattle.call_acts.specs.declared.work.Tail.TheVariants.{Nothing, Quiesce, Unmark, StoreDead, StoreFlush, Release}
+use Rattle.call_acts.specs.declared.work.Tail.TheVariants.{Nothing, Quiesce, Unmark, StoreDead, StoreFlush, Release, StoreLive}
 use Rattle.call_acts.specs.Untypings.{release_move, release_after, release_left}
 use Rattle.call_steps.specs.declared.stages.Stage.{Stage}
 use Rattle.call_steps.specs.declared.stages.Stage.TheVariants.{Decided, Leave}
@@ -29,6 +29,7 @@ tail_move r drawn (Quiesce close) counts = close_move close
 tail_move r drawn (Unmark f word) counts = StoreOf (FrameAt f) word
 tail_move r drawn (StoreDead life stamp) counts = dead_move life stamp
 tail_move r drawn (StoreFlush core stamp) counts = flush_move (AtStore core stamp)
+tail_move r drawn (StoreLive l live f word) counts = StoreOf (LiveAt l) live
 tail_move r drawn Nothing [] = LoadOf ClockAt
 tail_move r drawn Nothing (x ∷ xs) = settle_move (commit_of (is_ok r) drawn x)
 tail_move r drawn (Release release) [] = release_move release
@@ -47,6 +48,7 @@ took_tail r drawn (Quiesce close) counts found = Decided r drawn Nothing
 took_tail r drawn (Unmark f word) counts found = Decided r drawn Nothing
 took_tail r drawn (StoreDead life stamp) counts found = Decided r drawn Nothing
 took_tail r drawn (StoreFlush core stamp) counts found = Decided r drawn Nothing
+took_tail r drawn (StoreLive l live f word) counts found = Decided r drawn (Unmark f word)
 took_tail r drawn Nothing [] found = Leave r (stamp_of found)
 took_tail r drawn Nothing (x ∷ xs) found = Decided r drawn Nothing
 took_tail r drawn (Release release) [] found = Decided r drawn (release_after release)
@@ -58,6 +60,7 @@ commits (Quiesce close) = false
 commits (Unmark f word) = false
 commits (StoreDead life stamp) = false
 commits (StoreFlush core stamp) = false
+commits (StoreLive l live f word) = false
 commits Nothing = true
 commits (Release release) = true
 
@@ -66,6 +69,7 @@ tail_counts (Quiesce close) xs = xs
 tail_counts (Unmark f word) xs = xs
 tail_counts (StoreDead life stamp) xs = xs
 tail_counts (StoreFlush core stamp) xs = xs
+tail_counts (StoreLive l live f word) xs = xs
 tail_counts Nothing xs = rest_of xs
 tail_counts (Release release) xs = rest_of xs
 
@@ -77,3 +81,4 @@ tail_left (Unmark f word) = 1
 tail_left (StoreDead life stamp) = 1
 tail_left (StoreFlush core stamp) = 1
 tail_left (Release release) = release_left release
+tail_left (StoreLive l live f word) = 2

@@ -64,6 +64,7 @@ impl CoreState {
                 layout,
                 table: FrameNo::new(0),
                 limit: setup.calls(),
+                epochs: setup.epochs(),
                 made: 0,
                 exit: Stamp::new(0),
                 thread: FrameNo::new(4 + number),

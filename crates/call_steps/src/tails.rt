@@ -38,6 +38,15 @@ pub fn tail_op(
         },
         Tail::StoreDead { life, stamp } => dead_op(life, *stamp, layout),
         Tail::StoreFlush { core, stamp } => flushed_op(*core, *stamp, layout),
+        Tail::StoreLive {
+            number,
+            live,
+            frame: _,
+            word: _,
+        } => WordOp::Store {
+            at: layout.live_at(*number),
+            word: *live,
+        },
         Tail::Nothing => match counts.first() {
             None => WordOp::Load {
                 at: layout.clock_at(),
@@ -97,6 +106,19 @@ pub fn took_tail(
             reply,
             drawn,
             tail: Tail::Nothing,
+        },
+        Tail::StoreLive {
+            number: _,
+            live: _,
+            frame,
+            word,
+        } => Stage::Decided {
+            reply,
+            drawn,
+            tail: Tail::Unmark {
+                frame: *frame,
+                word: *word,
+            },
         },
         Tail::Nothing => match counts.first() {
             None => Stage::Leave {

@@ -1,7 +1,9 @@
-//! Tests of the calls on components: `gate` and `kill`.
+//! Tests of the calls on components: `gate` and `kill`, and `make` of a component.
 #![tactic(auto)]
 
 #[cfg(test)]
 mod gates;
+#[cfg(test)]
+mod comp_makes;
 #[cfg(test)]
 mod kills;

@@ -2,6 +2,14 @@
 -- knowledge once, over the few things that such a step keeps.
 use Rattle.call_acts.specs.Objects.{last_word}
 use Rattle.call_acts.specs.declared.objects.NewObject.{NewObject}
+use Rattle.frame_words.specs.Live.{live_of_word}
+use Rattle.frame_words.specs.declared.live_word.LiveWord.{LiveWord}
+use Rattle.frame_words.specs.declared.live_word.LiveWord.TheVariants as live_word
+use Rattle.call_acts.specs.declared.comps.CompAt.{CompAt}
+use Rattle.call_acts.specs.declared.comps.CompAt.TheVariants as comp_at
+use Rattle.call_acts.specs.declared.comps.CompMaking.{CompMaking}
+use Rattle.call_acts.specs.declared.comps.LastEpoch.{LastEpoch}
+use Rattle.call_acts.specs.Comps.{comp_is_marked, comp_word_at}
 use Rattle.call_acts.specs.Makings.{is_marked}
 use Rattle.call_acts.specs.declared.makings.MakingAt.TheVariants.{Load as making_load, Mark, Store, Fill as making_fill}
 use Rattle.call_acts.specs.declared.makings.MakingAt.{MakingAt}
@@ -44,7 +52,7 @@ use Rattle.call_acts.specs.declared.fills.Fill.{Fill}
 use Rattle.entry_words.specs.declared.entry.Entry.{Entry}
 use Rattle.entry_words.specs.declared.entry.Entry.TheVariants as entry
 use Rattle.entry_words.specs.EntryWord.{entry_of_word}
-use Rattle.kernel_rules.specs.State.{User, Thing, PlaceOf, Frame, Kernel, Comp, comp_in}
+use Rattle.kernel_rules.specs.State.{User, Thing, PlaceOf, Frame, Kernel, Comp, comp_in, NumberOf}
 use Rattle.kernel_history.specs.Stamps.{stamp}
 use Rattle.stage_quiet.specs.declared.close.Close.{Close}
 use Rattle.stage_quiet.specs.declared.close.Close.TheVariants.{AtCompare, AtDraw, AtStore}
@@ -53,12 +61,12 @@ use Rattle.stage_quiet.specs.declared.quiet.Quiet.TheVariants.{AtCore, AtFlush}
 use Rattle.stage_pins.specs.declared.pin.Pin.{Pin}
 use Rattle.stage_pins.specs.declared.pin.Pin.TheVariants.{AtLoad, AtCompare as pin_compare}
 use Rattle.call_acts.specs.declared.work.Act.{Act as ActOf}
-use Rattle.call_acts.specs.declared.work.Act.TheVariants.{Fill as fill_act, Remove as remove_act, Retype as type_act, Make as make_act, Outside, Tick as tick_act, Flush as flush_act, Kill as kill_act, Untype as untype_act, Map as map_act}
+use Rattle.call_acts.specs.declared.work.Act.TheVariants.{Fill as fill_act, Remove as remove_act, Retype as type_act, Make as make_act, Outside, Tick as tick_act, Flush as flush_act, Kill as kill_act, Untype as untype_act, Map as map_act, MakeComp as comp_act}
 use Rattle.call_acts.specs.declared.work.Work.{Work}
 use Rattle.call_acts.specs.declared.work.Work.TheVariants.{Lookup, Read, Scan, Acquire, Act}
 use Rattle.call_acts.specs.Acts.{reads_of}
 use Rattle.call_steps.specs.declared.stages.ActiveCall.{ActiveCall}
-use Rattle.core_invariant.specs.Knows.{IsCount, IsReached, HasFound, LookIs, LooksUp, own_in, NamesAre, LooksFor, IsScanned, MayFill, IsFill, IsRemoval, KnowsClose, KnowsAct, KnowsQuiet, KnowsStore, HasLoaded, KnowsWork, KnowsUndecided, KnowsTyping, HasMetAt, ChargesBy, HasHeadAt, KnowsTick, IsSpot, HasStored, KnowsMakingAt, HasLife, HasComp, KnowsKillingAt, KnowsDead, ReadIs, ReadBefore, scanned_for, KnowsScan, HasUser}
+use Rattle.core_invariant.specs.Knows.{IsCount, IsReached, HasFound, LookIs, LooksUp, own_in, NamesAre, LooksFor, IsScanned, MayFill, IsFill, IsRemoval, KnowsClose, KnowsAct, KnowsQuiet, KnowsStore, HasLoaded, KnowsWork, KnowsUndecided, KnowsTyping, HasMetAt, ChargesBy, HasHeadAt, KnowsTick, IsSpot, HasStored, KnowsMakingAt, HasLife, HasComp, KnowsKillingAt, KnowsDead, ReadIs, ReadBefore, scanned_for, KnowsScan, HasUser, MayTake, TakesNumber, KnowsNumber, HasWords, KnowsCompAt, KnowsLive}
 use Rattle.stage_tcap.specs.declared.charge.Charge.{Charge}
 use Rattle.stage_tcap.specs.declared.charge.Charge.TheVariants.{AtLoad as charge_load, AtCompare as charge_compare}
 use Rattle.call_acts.specs.Ticks.{ticks_due}
@@ -98,6 +106,7 @@ stores_in (tick_act charge) f = false
 stores_in (flush_act by) f = false
 stores_in (kill_act m) f = false
 stores_in (untype_act m) f = false
+stores_in (comp_act m) f = comp_is_marked m.at && f == m.frame
 
 abbrev pub stores_of : Work → ℕ → Bool
 stores_of (Lookup look) f = false
@@ -352,6 +361,53 @@ module _ (setup : Setting) (setting : IsSetting setup) (t : Trace) (e : Step) (l
       record { has_life = life_on f life comp has.has_life; own = same life.number ∙ has.own; live = has.live }
   killing_on f (kill_draw life word) same comp has = record { has_life = life_on f life comp has.has_life; live = has.live }
 
+  pub may_take_on : (l last upto : ℕ) (o : Option LiveWord) → MayTake setup t c l last upto o → MayTake setup (e ∷ t) c l last upto o
+  may_take_on l last upto None has = has
+  may_take_on l last upto (Some live_word.Free) has = has
+  may_take_on l last upto (Some (live_word.Live d f)) has = has
+  may_take_on l last upto (Some (live_word.Closing d by)) has = has
+  may_take_on l last upto (Some (live_word.Dead d x)) has = (has.0, scanned_on (NumberOf l) x upto (carries.number_rises l) has.1)
+
+  pub takes_on : (l epochs : ℕ) (last : LastEpoch) → TakesNumber setup t c l epochs last → TakesNumber setup (e ∷ t) c l epochs last
+  takes_on l epochs last has = record { may = may_take_on l last.epoch setup.cores (live_of_word last.word) has.may; more = has.more }
+
+  pub number_on : (l : ℕ) (last : LastEpoch) (q : Quiet) → own_read (e ∷ t) c (LiveAt l) ≡ own_read t c (LiveAt l)
+      → KnowsNumber setup t c l last q → KnowsNumber setup (e ∷ t) c l last q
+  number_on l last (AtCore x by upto page) same has = record {
+    own = same ∙ has.own;
+    says = has.says;
+    core = has.core;
+    was_dead = carries.was_dead l last.epoch has.was_dead;
+    scanned = scanned_on (NumberOf l) x upto (carries.number_rises l) has.scanned;
+  }
+  number_on l last (AtFlush x upto) same has = has
+
+  words_on : (f : ℕ) (words : ℕ → ℕ) (n : ℕ)
+      → ((i : ℕ) → last_left setup (e ∷ t) (EntryAt f i) ≡ last_left setup t (EntryAt f i))
+      → HasWords setup t f words n → HasWords setup (e ∷ t) f words n
+  words_on f words n same has = record { stored = λ i below. same i ∙ has.stored i below }
+
+  pub making_comp_on : (m : CompMaking) (at : CompAt) → ((g : ℕ) → own_read (e ∷ t) c (FrameAt g) ≡ own_read t c (FrameAt g))
+      → ((l : ℕ) → own_read (e ∷ t) c (LiveAt l) ≡ own_read t c (LiveAt l))
+      → (comp_is_marked at ≡ true → (i : ℕ) → last_left setup (e ∷ t) (EntryAt m.frame i) ≡ last_left setup t (EntryAt m.frame i))
+      → KnowsCompAt setup t c m at → KnowsCompAt setup (e ∷ t) c m at
+  making_comp_on m comp_at.Load frames numbers stays has = tt
+  making_comp_on m (comp_at.Mark word) frames numbers stays has = record { own = frames m.frame ∙ has.own; says = has.says }
+  making_comp_on m (comp_at.LoadLive word) frames numbers stays has = has
+  making_comp_on m (comp_at.Scan word last q) frames numbers stays has = (has.0, number_on m.number last q (numbers m.number) has.1)
+  making_comp_on m (comp_at.Close word last) frames numbers stays has =
+      (has.0, record { takes = takes_on m.number m.epochs last has.1.takes; own = numbers m.number ∙ has.1.own })
+  making_comp_on m (comp_at.Store word last n) frames numbers stays has = (
+    has.0,
+    takes_on m.number m.epochs last has.1,
+    words_on m.frame (comp_word_at m (last.epoch + 1)) n (stays refl) has.2,
+  )
+  making_comp_on m (comp_at.Fill word last) frames numbers stays has = (
+    has.0,
+    takes_on m.number m.epochs last has.1,
+    words_on m.frame (comp_word_at m (last.epoch + 1)) 3 (stays refl) has.2,
+  )
+
   pub act_on : (of : Call) (plan : Plan) (caps : List Capability) (upto : ℕ) (act : ActOf) → ReadsSame setup t e c act
       → KnowsAct setup t c of plan caps upto act → KnowsAct setup (e ∷ t) c of plan caps upto act
   act_on of plan caps upto (fill_act fill) same has = fill_on of plan caps upto fill same.entries same.users has
@@ -394,6 +450,15 @@ module _ (setup : Setting) (setting : IsSetting setup) (t : Trace) (e : Step) (l
     past = carries.past at has.past;
     passed = λ d below other. carries.passed (scanned_for act) at d has.past (has.passed d below other);
     pages = has.pages;
+  }
+  act_on of plan caps upto (comp_act m) same has = record {
+    spot = spot_on plan caps upto m.fill.node m.fill.entry m.fill.word (same.entries m.fill.node m.fill.entry) has.spot;
+    makes = has.makes;
+    core = has.core;
+    epochs = has.epochs;
+    cap = has.cap;
+    at = making_comp_on m m.at same.frames same.numbers
+        (λ marked i. same.stored m.frame i (ap (λ b. b && m.frame == m.frame) marked ∙ eq-eqb m.frame m.frame refl)) has.at;
   }
 
   quiet_on : (a : ActiveCall) (q : Quiet) (act : ActOf) → ReadsSame setup t e c act
@@ -473,6 +538,17 @@ counts_on setup t e c call no_entry (x ∷ xs) has =
           no_entry first.near;
     })
     (counts_on setup t e c call no_entry xs (All-tail (IsCount setup t c call) x xs has))
+
+-- And of the words of a number and of a frame.
+pub live_on : (setup : Setting) (t : Trace) (e : Step) (c : ℕ) (call : Call) → (c ≡ e.core → e.enters ≡ None) → (l live f word : ℕ)
+    → KnowsLive setup t c call l live f word → KnowsLive setup (e ∷ t) c call l live f word
+live_on setup t e c call no_entry l live f word has = record {
+  numbers = has.numbers;
+  near = was_stays (IsNearIn c call (LiveAt l)) setup t e c no_entry has.near;
+  bare = has.bare;
+  small = has.small;
+  unmark = has.unmark;
+}
 
 -- What a call knows of its store it knows still where it relies on the node still.
 pub store_on : (setup : Setting) (t : Trace) (e : Step) (c : ℕ) (call : Call) → (c ≡ e.core → e.enters ≡ None)

@@ -99,6 +99,7 @@ module _ (setup : Setting) (setting : IsSetting setup) (cores : ℕ → Core) (t
           number = is.number;
           shape = is.shape;
           limit = is.limit;
+          epochs = is.epochs;
           works = is.works;
           exit = is.exit ∙ sym (plain_exit t e refl c);
           flushed = λ done. plain_flushed setup t e plain c (is.flushed (ap flushing_in active ∙ still_flushed setup t c

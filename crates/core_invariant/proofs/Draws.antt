@@ -103,6 +103,7 @@ module _ (setup : Setting) (setting : IsSetting setup) (cores : ℕ → Core) (t
           number = is.number;
           shape = is.shape;
           limit = is.limit;
+          epochs = is.epochs;
           works = works;
           exit = is.exit ∙ sym (plain_exit t e refl c);
           flushed = λ done. flush_stored-own c e t refl ∙ is.flushed (ap flushing_in active ∙ open_flushed a.call a.stage opens) ∙ sym

@@ -5,9 +5,12 @@ use Rattle.call_acts.specs.declared.kills.KillingAt.TheVariants.{LoadComp, LoadL
 use Rattle.call_acts.specs.declared.makings.MakingAt.{MakingAt}
 use Rattle.call_acts.specs.declared.makings.MakingAt.TheVariants.{Load, Mark, Store, Fill as making_fill}
 use Rattle.call_acts.specs.declared.work.Act.{Act as ActOf}
-use Rattle.call_acts.specs.declared.work.Act.TheVariants.{Fill, Remove, Retype, Make, Map, Outside, Tick, Flush, Kill, Untype}
+use Rattle.call_acts.specs.declared.work.Act.TheVariants.{Fill, Remove, Retype, Make, Map, Outside, Tick, Flush, Kill, Untype, MakeComp}
+use Rattle.call_acts.specs.declared.comps.CompMaking.{CompMaking}
+use Rattle.call_acts.specs.declared.comps.CompAt.{CompAt}
+use Rattle.call_acts.specs.declared.comps.CompAt.TheVariants as comp_at
 use Rattle.call_acts.specs.declared.work.Tail.{Tail}
-use Rattle.call_acts.specs.declared.work.Tail.TheVariants.{Nothing, Quiesce, Unmark, StoreDead, StoreFlush, Release}
+use Rattle.call_acts.specs.declared.work.Tail.TheVariants.{Nothing, Quiesce, Unmark, StoreDead, StoreFlush, StoreLive, Release}
 use Rattle.call_acts.specs.declared.work.Work.{Work}
 use Rattle.call_acts.specs.declared.work.Work.TheVariants.{Lookup, Read, Scan, Acquire, Act as act_work}
 use Rattle.call_steps.specs.declared.stages.ActiveCall.{ActiveCall}
@@ -15,7 +18,7 @@ use Rattle.call_steps.specs.declared.stages.Stage.{Stage}
 use Rattle.call_steps.specs.declared.stages.Stage.TheVariants.{Enter, Undecided, Decided, Leave}
 use Rattle.core_invariant.specs.Holding.{Holding, holds_counts, holds_closed, holds_drawn}
 use Rattle.core_invariant.specs.Knows.{flushes_tail, is_flushing, flushing_in, phase_at, KnowsAt}
-use Rattle.core_invariant.specs.Stands.{is_done, holds_making, holds_killing, holds_act, holds_tail, holds_work, holds_stage, holds_at}
+use Rattle.core_invariant.specs.Stands.{is_done, holds_making, holds_killing, holds_comp, holds_act, holds_tail, holds_work, holds_stage, holds_at}
 use Rattle.kernel_history.specs.Trace.{Trace, Phase, Out, Open, Decided as Decided_phase}
 use Rattle.spk_nums.specs.declared.replies.Reply.{Reply}
 use Rattle.spk_nums.specs.Capability.{Capability}
@@ -55,6 +58,15 @@ killing_flush (LoadLive life) h c = refl
 killing_flush (kill_close life word) h c = refl
 killing_flush (kill_draw life word) h c = refl
 
+comp_flush : (m : CompMaking) (at : CompAt) (h : Holding) (c : ℕ) → (holds_comp m at h).stands (FlushAt c) ≡ h.stands (FlushAt c)
+comp_flush m comp_at.Load h c = refl
+comp_flush m (comp_at.Mark word) h c = refl
+comp_flush m (comp_at.LoadLive word) h c = refl
+comp_flush m (comp_at.Scan word last q) h c = refl
+comp_flush m (comp_at.Close word last) h c = refl
+comp_flush m (comp_at.Store word last entry) h c = refl
+comp_flush m (comp_at.Fill word last) h c = refl
+
 act_flush : (act : ActOf) (h : Holding) (c : ℕ) → (holds_act act h).stands (FlushAt c) ≡ h.stands (FlushAt c)
 act_flush (Fill fill) h c = refl
 act_flush (Remove close cap) h c = closed_flush close cap h c
@@ -66,6 +78,7 @@ act_flush (Tick charge) h c = refl
 act_flush (Flush by) h c = refl
 act_flush (Kill m) h c = killing_flush m.at h c
 act_flush (Untype m) h c = refl
+act_flush (MakeComp m) h c = comp_flush m m.at h c
 
 work_flush : (work : Work) (h : Holding) (c : ℕ) → (holds_work work h).stands (FlushAt c) ≡ h.stands (FlushAt c)
 work_flush (Lookup look) h c = refl
@@ -80,6 +93,7 @@ tail_flush (Quiesce close) h c none = drawn_flush close h c
 tail_flush (Unmark f word) h c none = refl
 tail_flush (StoreDead life stamp) h c none = refl
 tail_flush (Release release) h c none = refl
+tail_flush (StoreLive l live f word) h c none = refl
 tail_flush (StoreFlush by stamp) h c none = absurd (false≢true (sym none))
 
 stage_flush : (stage : Stage) (h : Holding) (c : ℕ) → is_flushing stage ≡ false
@@ -100,6 +114,7 @@ some_flush setup t c table a (Decided r drawn (Quiesce close)) h knows is = absu
 some_flush setup t c table a (Decided r drawn (Unmark f word)) h knows is = absurd (false≢true is)
 some_flush setup t c table a (Decided r drawn (StoreDead life stamp)) h knows is = absurd (false≢true is)
 some_flush setup t c table a (Decided r drawn (Release release)) h knows is = absurd (false≢true is)
+some_flush setup t c table a (Decided r drawn (StoreLive l live f word)) h knows is = absurd (false≢true is)
 some_flush setup t c table a (Decided r drawn (StoreFlush by stamp)) h knows is =
     subst (λ (d : ℕ). 1 ≤ (holds_tail (StoreFlush by stamp) h).stands (FlushAt d)) knows.core
     (subst (λ (n : ℕ). 1 ≤ n) (sym (ap (λ b. if b then stamp else h.stands (FlushAt by)) (same_same (FlushAt by)))) knows.some)

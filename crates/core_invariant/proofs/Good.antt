@@ -3,12 +3,16 @@ use Rattle.frame_words.specs.declared.frame_word.FrameWord.{FrameWord}
 use Rattle.spk_nums.specs.declared.kinds.Obj.TheVariants.{Blank as BlankObject}
 use Rattle.spk_nums.specs.declared.kinds.FrameKind.TheVariants.{Untyped as FrameUntyped, User as FrameUser, Kernel as FrameKernel}
 use Rattle.call_acts.specs.declared.objects.NewObject.{NewObject}
+use Rattle.call_acts.specs.declared.comps.CompAt.{CompAt}
+use Rattle.call_acts.specs.declared.comps.CompAt.TheVariants as comp_at
+use Rattle.call_acts.specs.declared.comps.CompMaking.{CompMaking}
+use Rattle.call_acts.specs.Comps.{comp_is_marked}
 use Rattle.call_acts.specs.Makings.{is_marked}
 use Rattle.call_acts.specs.declared.makings.MakingAt.TheVariants.{Load as making_load, Mark, Store, Fill as making_fill}
 use Rattle.call_acts.specs.declared.makings.MakingAt.{MakingAt}
 use Rattle.call_acts.specs.declared.work.Work.TheVariants.{Lookup, Read, Scan, Acquire, Act as act_work}
 use Rattle.call_acts.specs.declared.work.Work.{Work}
-use Rattle.call_acts.specs.declared.work.Act.TheVariants.{Fill as fill_act, Remove as remove_act, Retype as type_act, Make as make_act, Outside, Tick as tick_act, Flush as flush_act, Kill as kill_act, Untype as untype_act, Map as map_act}
+use Rattle.call_acts.specs.declared.work.Act.TheVariants.{Fill as fill_act, Remove as remove_act, Retype as type_act, Make as make_act, Outside, Tick as tick_act, Flush as flush_act, Kill as kill_act, Untype as untype_act, Map as map_act, MakeComp as comp_act}
 use Rattle.call_acts.specs.declared.work.Act.{Act as ActOf}
 use Rattle.stage_quiet.specs.declared.quiet.Quiet.TheVariants.{AtCore, AtFlush}
 use Rattle.call_plans.specs.declared.plans.Plan.{Plan}
@@ -23,7 +27,7 @@ use Rattle.std.proofs.Common.{◌≡◌, ◌≢◌, inl, inr, ℕ, ◌+◌, ◌<
 use Rattle.std.proofs.lemmas.Bool.{cases_eq, true≢false, eqb-true, false≢true}
 use Rattle.spk_nums.specs.Setting.{Setting, IsSetting}
 use Rattle.spk_nums.specs.declared.calls.Call.{Call}
-use Rattle.word_map.specs.Word.{Word, EntryAt, FrameAt}
+use Rattle.word_map.specs.Word.{Word, EntryAt, FrameAt, LiveAt}
 use Rattle.kernel_rules.specs.State.{put, first_of_stack, Frame, Untyped, User, Kernel, Blank, Table, Leaf, Pages, Pleaf, Comp, Thread, Tcap, Object}
 use Rattle.kernel_rules.proofs.Within.{put_same, put_other}
 use Rattle.kernel_history.specs.Trace.{Step, Trace, Out, Open, phase, state_after, last_left}
@@ -47,15 +51,15 @@ use Rattle.call_steps.specs.declared.stages.Stage.{Stage}
 use Rattle.call_steps.specs.declared.stages.Stage.TheVariants.{Enter, Undecided, Decided, Leave}
 use Rattle.call_steps.specs.declared.stages.ActiveCall.{ActiveCall}
 use Rattle.call_acts.specs.declared.own.Own.{Own}
-use Rattle.call_acts.specs.declared.work.Tail.TheVariants.{Nothing, Quiesce, Unmark, StoreDead, StoreFlush, Release}
+use Rattle.call_acts.specs.declared.work.Tail.TheVariants.{Nothing, Quiesce, Unmark, StoreDead, StoreFlush, Release, StoreLive}
 use Rattle.call_steps.specs.View.{Core}
 use Rattle.core_invariant.proofs.Users.{users_stay}
 use Rattle.core_invariant.specs.Holding.{settled, MarkIs, Holding, keeps, holds_counts, settled_by}
 use Rattle.core_invariant.specs.Words.{WordIs}
-use Rattle.core_invariant.specs.Knows.{phase_at, CallIs, KnowsAt, WorksIn, CoreIs, blank_word, is_start, KnowsMakingAt, KnowsAct, KnowsWork}
-use Rattle.core_invariant.specs.Stands.{held_by, times_of, counted_in, SumIs, Stands, is_done, holds_making, holds_act, holds_work, holds_at, holds_in, holds}
+use Rattle.core_invariant.specs.Knows.{phase_at, CallIs, KnowsAt, WorksIn, CoreIs, blank_word, is_start, KnowsMakingAt, KnowsAct, KnowsWork, KnowsCompAt}
+use Rattle.core_invariant.specs.Stands.{held_by, times_of, counted_in, SumIs, Stands, is_done, holds_making, holds_act, holds_work, holds_at, holds_in, holds, holds_comp}
 use Rattle.core_invariant.proofs.Markers.{marker_inside}
-use Rattle.core_invariant.proofs.Carries.{KeepsUsers, undecided_on, counts_on, store_on, stores_in, stores_of, dead_on}
+use Rattle.core_invariant.proofs.Carries.{KeepsUsers, undecided_on, counts_on, store_on, stores_in, stores_of, dead_on, live_on}
 
 -- A step changes a word of a blank frame only where its core has marked the frame.
 abbrev pub SparesBlanks : Setting → Trace → Step → Type 0
@@ -100,6 +104,21 @@ filled_making setup t c f g object (Mark word) h knows is = absurd (false≢true
 filled_making setup t c f g object (Store word n) h knows is = filled_here f g word h is knows.says
 filled_making setup t c f g object (making_fill word) h knows is = filled_here f g word h is knows.says
 
+filled_two : (f g l word live : ℕ) (h : Holding) → (true && f == g) ≡ true → frame_of_word word ≡ Some blank_word
+    → IsFilled (keeps (LiveAt l) live (keeps (FrameAt g) word h)) f
+filled_two f g l word live h same says =
+    let filled = filled_here f g word h same says in record { marks = filled.marks; says = filled.says }
+
+filled_comp : (setup : Setting) (t : Trace) (c f : ℕ) (m : CompMaking) (at : CompAt) (h : Holding) → KnowsCompAt setup t c m at
+    → (comp_is_marked at && f == m.frame) ≡ true → IsFilled (holds_comp m at h) f
+filled_comp setup t c f m comp_at.Load h knows is = absurd (false≢true is)
+filled_comp setup t c f m (comp_at.Mark word) h knows is = absurd (false≢true is)
+filled_comp setup t c f m (comp_at.LoadLive word) h knows is = filled_here f m.frame word h is knows
+filled_comp setup t c f m (comp_at.Scan word last q) h knows is = filled_here f m.frame word h is knows.0
+filled_comp setup t c f m (comp_at.Close word last) h knows is = filled_here f m.frame word h is knows.0
+filled_comp setup t c f m (comp_at.Store word last n) h knows is = filled_two f m.frame m.number word last.word h is knows.0
+filled_comp setup t c f m (comp_at.Fill word last) h knows is = filled_two f m.frame m.number word last.word h is knows.0
+
 filled_act : (setup : Setting) (t : Trace) (c f : ℕ) (call : Call) (plan : Plan) (ks : List Capability) (act : ActOf) (h : Holding)
     → KnowsAct setup t c call plan ks setup.cores act → stores_in act f ≡ true → IsFilled (holds_act act h) f
 filled_act setup t c f call plan ks (make_act m) h knows is = filled_making setup t c f m.frame m.object m.at h knows.at is
@@ -112,6 +131,7 @@ filled_act setup t c f call plan ks (tick_act charge) h knows is = absurd (false
 filled_act setup t c f call plan ks (flush_act by) h knows is = absurd (false≢true is)
 filled_act setup t c f call plan ks (kill_act m) h knows is = absurd (false≢true is)
 filled_act setup t c f call plan ks (untype_act m) h knows is = absurd knows
+filled_act setup t c f call plan ks (comp_act m) h knows is = filled_comp setup t c f m m.at h knows.at is
 
 -- A scan is made before the frame is marked.
 scans_nothing : (act : ActOf) (f : ℕ) → is_start act ≡ true → stores_in act f ≡ false
@@ -129,6 +149,11 @@ scans_nothing (tick_act charge) f starts = refl
 scans_nothing (flush_act by) f starts = refl
 scans_nothing (kill_act m) f starts = refl
 scans_nothing (untype_act m) f starts = refl
+scans_nothing (comp_act m) f starts = by (comp_is_marked m.at) starts
+  where
+    by : (b : Bool) → not b ≡ true → (b && f == m.frame) ≡ false
+    by true h = absurd (false≢true h)
+    by false h = refl
 
 filled_work : (setup : Setting) (t : Trace) (c table f : ℕ) (a : ActiveCall) (work : Work) (h : Holding) → KnowsWork setup t c table a work
     → stores_of work f ≡ true → IsFilled (holds_work work h) f
@@ -252,6 +277,8 @@ module _ (setup : Setting) (setting : IsSetting setup) (cores : ℕ → Core) (t
     last = flush_of-other c e t other ∙ has.last;
   }
   knows_other follows time blanks users c table a other (Decided r drawn (Release release)) held at has = absurd has
+  knows_other follows time blanks users c table a other (Decided r drawn (StoreLive l live f word)) held at has =
+      live_on setup t e c a.call (λ own. absurd (other own)) l live f word has
   knows_other follows time blanks users c table a other (Decided r drawn (Quiesce close)) held at has =
       store_on setup t e c a.call (λ own. absurd (other own)) (λ f.
       (stays_in_other setup setting t stands.legal e follows c other (ap is_in at)).relies f) close has
@@ -289,6 +316,7 @@ module _ (setup : Setting) (setting : IsSetting setup) (cores : ℕ → Core) (t
         number = is.number;
         shape = is.shape;
         limit = is.limit;
+        epochs = is.epochs;
         works = works_on setup t e core.own c (own_stays_other setup setting t stands.legal e follows c here other) is.works;
         exit = is.exit ∙ sym (exit_of-other c e t other);
         flushed = λ done. flush_stored-other c e t other ∙ is.flushed done ∙ sym (flush_of-other c e t other);

@@ -162,6 +162,7 @@ module _ (setup : Setting) (setting : IsSetting setup) (cores : ℕ → Core) (t
       number = core_is.number;
       shape = core_is.shape;
       limit = core_is.limit;
+      epochs = core_is.epochs;
       works = works;
       exit = core_is.exit ∙ sym (plain_exit t inner none c);
       flushed = λ done. none_flushed setup t inner plain c (core_is.flushed (ap flushing_in active ∙ was done));

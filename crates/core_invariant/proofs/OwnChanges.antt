@@ -33,6 +33,7 @@ pub record IsSameCore (own own' : Own) : Type 0 where
   pub core : own'.core ≡ own.core
   pub layout : own'.layout ≡ own.layout
   pub limit : own'.limit ≡ own.limit
+  pub epochs : own'.epochs ≡ own.epochs
   pub exit : own'.exit ≡ own.exit
 
 module _ (setup : Setting) (setting : IsSetting setup) (cores : ℕ → Core) (t : Trace) (stands : Stands setup cores t) (c : ℕ)
@@ -93,6 +94,7 @@ module _ (setup : Setting) (setting : IsSetting setup) (cores : ℕ → Core) (t
           number = same.core ∙ now.number;
           shape = same.layout ∙ now.shape;
           limit = same.limit ∙ now.limit;
+          epochs = same.epochs ∙ now.epochs;
           works = works;
           exit = same.exit ∙ now.exit ∙ sym (plain_exit t changing refl c);
           flushed = flushed;

@@ -1,6 +1,6 @@
 -- The refusals of a call at a load: each leaves all as it was, but counts the call.
 use Rattle.call_acts.specs.declared.work.Tail.{Tail}
-use Rattle.std.proofs.Common.{◌≡◌, ◌≢◌, ℕ, ◌+◌, ◌<◌, Option, Bool, true, false, Some, None, arith, refl, sym, ◌∙◌, ap, subst, List, [], ◌∷◌}
+use Rattle.std.proofs.Common.{◌≡◌, ◌≢◌, ℕ, ◌+◌, ◌<◌, Option, Bool, true, false, Some, None, arith, refl, sym, ◌∙◌, ap, subst, List, [], ◌∷◌, inl, inr}
 use Rattle.std.proofs.lemmas.Bool.{false≢true, lt-leb}
 use Rattle.supported_calls.specs.Built.{IsBuilt}
 use Rattle.spk_nums.specs.Setting.{Setting, IsSetting}
@@ -29,7 +29,7 @@ use Rattle.stage_look.specs.declared.look.Look.{Look as LookOf}
 use Rattle.stage_quiet.specs.declared.close.Close.TheVariants.{AtCompare, AtDraw, AtStore}
 use Rattle.stage_quiet.specs.declared.quiet.Quiet.TheVariants.{AtCore, AtFlush}
 use Rattle.call_acts.specs.declared.work.Act.{Act as ActOf}
-use Rattle.call_acts.specs.declared.work.Act.TheVariants.{Fill as fill_act, Remove as remove_act, Retype as type_act, Make as make_act, Outside, Tick as tick_act, Flush as flush_act, Kill as kill_act, Untype as untype_act, Map as map_act}
+use Rattle.call_acts.specs.declared.work.Act.TheVariants.{Fill as fill_act, Remove as remove_act, Retype as type_act, Make as make_act, Outside, Tick as tick_act, Flush as flush_act, Kill as kill_act, Untype as untype_act, Map as map_act, MakeComp as comp_act}
 use Rattle.call_acts.specs.declared.work.Work.{Work}
 use Rattle.call_acts.specs.declared.work.Work.TheVariants.{Lookup, Read, Scan, Acquire, Act}
 use Rattle.call_steps.specs.View.{Core}
@@ -91,6 +91,7 @@ ticks_in (tick_act charge) = true
 ticks_in (flush_act by) = false
 ticks_in (kill_act m) = false
 ticks_in (untype_act m) = false
+ticks_in (comp_act m) = false
 
 abbrev pub ticks_work : Work → Bool
 ticks_work (Lookup look) = false
@@ -119,7 +120,7 @@ module _ (setup : Setting) (t : Trace) (c table n : ℕ) where
   act_ticks plan ks upto (type_act typing) has is = has.types
   act_ticks plan ks upto (make_act m) has is = has.makes
   act_ticks plan ks upto (map_act fill) has is = false≢true has.maps
-  act_ticks plan ks upto (Outside node entry word) has is = has.outside
+  act_ticks plan ks upto (Outside node entry word) has is = elim has.outside [ | inl h ↦ h | inr h ↦ h ]
   act_ticks plan ks upto (tick_act charge) has is = false≢true (sym is)
   act_ticks plan ks upto (flush_act by) has is = no_flush has.call_is
     where
@@ -127,6 +128,7 @@ module _ (setup : Setting) (t : Trace) (c table n : ℕ) where
       no_flush h = cc
   act_ticks plan ks upto (kill_act m) has is = has.kills
   act_ticks plan ks upto (untype_act m) has is = has
+  act_ticks plan ks upto (comp_act m) has is = has.makes
 
   look_ticks : (ks : List Capability) (look : LookOf) → NamesAre setup t c table (plan_for (Tick n)) ks
       → LooksFor setup t c table (next_of (plan_for (Tick n)) ks) look → ⊥

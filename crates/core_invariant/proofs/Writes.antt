@@ -375,6 +375,7 @@ module _ (setup : Setting) (setting : IsSetting setup) (cores : ℕ → Core) (t
             number = now.number;
             shape = now.shape;
             limit = now.limit;
+            epochs = now.epochs;
             works = calm_own (state_after setup t) (state_after setup (e ∷ t)) c (cores c).own after.own calm
                 (ap (λ (m : ℕ). record after.own { made = m }) (counts now)) now.works;
             exit = sym out;
@@ -470,6 +471,7 @@ module _ (setup : Setting) (setting : IsSetting setup) (cores : ℕ → Core) (t
           number = now.number;
           shape = now.shape;
           limit = now.limit;
+          epochs = now.epochs;
           works = calm_own (state_after setup t) (state_after setup (e ∷ t)) c (cores c).own after.own calm
               (ap (λ (m : ℕ). record (cores c).own { made = m }) counts) now.works;
           exit = sym last;

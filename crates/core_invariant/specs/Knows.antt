@@ -4,15 +4,23 @@ use Rattle.stage_tcap.specs.declared.charge.Charge.TheVariants.{AtLoad as charge
 use Rattle.stage_tcap.specs.Heads.{head}
 use Rattle.tcap_words.specs.Head.{HeadFits, word_of_head}
 use Rattle.call_acts.specs.Ticks.{ticks_due, ticks_of, is_charging}
-use Rattle.kernel_history.specs.Marks.{frame_mark}
+use Rattle.kernel_history.specs.Marks.{frame_mark, live_mark}
 use Rattle.spk_nums.specs.declared.kinds.Obj.TheVariants.{Blank}
 use Rattle.call_acts.specs.Objects.{object_cap, object_made, object_word, last_word}
+use Rattle.spk_nums.specs.declared.calls.Make.TheVariants as make
+use Rattle.frame_words.specs.declared.live_word.LiveWord.{LiveWord}
+use Rattle.call_acts.specs.Acts.{comp_cap, dues, put_by, reads_of, removes_by, stamp_of_act, fills_page}
+use Rattle.call_acts.specs.Comps.{comp_is_marked, comp_meets_number, comp_word_at}
+use Rattle.call_acts.specs.declared.comps.CompAt.{CompAt}
+use Rattle.call_acts.specs.declared.comps.CompAt.TheVariants as comp_at
+use Rattle.call_acts.specs.declared.comps.CompMaking.{CompMaking}
+use Rattle.call_acts.specs.declared.comps.LastEpoch.{LastEpoch}
 use Rattle.call_acts.specs.Makings.{is_marked}
 use Rattle.call_acts.specs.declared.makings.MakingAt.TheVariants.{Load as making_load, Mark, Store, Fill as making_fill}
 use Rattle.call_acts.specs.declared.makings.MakingAt.{MakingAt}
 use Rattle.call_acts.specs.declared.makings.Making.{Making}
 use Rattle.call_acts.specs.declared.objects.NewObject.{NewObject}
-use Rattle.std.specs.Prelude.{◌≡◌, ◌≢◌, ◌<◌, ◌≤◌, ◌+◌, ◌++◌, ◌/◌, ℕ, ℤ, Bool, true, false, map, All, List, [], ◌∷◌, length, Option, Some, None, IsSome, IsTrue, not, ◌^◌}
+use Rattle.std.specs.Prelude.{◌≡◌, ◌≢◌, ◌<◌, ◌≤◌, ◌+◌, ◌++◌, ◌/◌, ℕ, ℤ, Bool, true, false, map, All, List, [], ◌∷◌, length, Option, Some, None, IsSome, IsTrue, not, ◌^◌, ◌⊎◌}
 use Rattle.spk_nums.specs.Capability.{Capability}
 use Rattle.spk_nums.specs.Setting.{Setting}
 use Rattle.spk_nums.specs.declared.kinds.Kind.{Kind}
@@ -33,7 +41,7 @@ use Rattle.frame_words.specs.declared.comp_word.CompWord.{CompWord}
 use Rattle.frame_words.specs.declared.live_word.LiveWord.TheVariants as live_word
 use Rattle.word_map.specs.Word.{EntryAt, CountAt, FrameAt, LiveAt}
 use Rattle.word_map.specs.Places.{counter_of}
-use Rattle.kernel_rules.specs.State.{User, Thing, PlaceOf, State, first_of_stack, thread_of, comp_of, comp_in}
+use Rattle.kernel_rules.specs.State.{User, Thing, PlaceOf, State, first_of_stack, thread_of, comp_of, comp_in, NumberOf, Dead}
 use Rattle.kernel_rules.specs.Access.{Slot, Named, root_at, Target, Under, InRoot, usable, linked, root_slot, reached, found}
 use Rattle.kernel_rules.specs.Fitting.{fits}
 use Rattle.kernel_rules.specs.Relies.{IsGuarded, Relies}
@@ -66,12 +74,12 @@ use Rattle.call_acts.specs.declared.typings.TypingAt.TheVariants.{Load, Compare 
 use Rattle.call_acts.specs.Typings.{is_typing}
 use Rattle.kernel_rules.specs.CapabilityCalls.{has_frame}
 use Rattle.call_acts.specs.declared.work.Act.{Act as ActOf}
-use Rattle.call_acts.specs.declared.work.Act.TheVariants.{Fill as fill_act, Remove as remove_act, Retype as type_act, Make as make_act, Outside, Tick as tick_act, Flush as flush_act, Kill as kill_act, Untype as untype_act, Map as map_act}
+use Rattle.call_acts.specs.declared.work.Act.TheVariants.{Fill as fill_act, Remove as remove_act, Retype as type_act, Make as make_act, Outside, Tick as tick_act, Flush as flush_act, Kill as kill_act, Untype as untype_act, Map as map_act, MakeComp as comp_act}
 use Rattle.call_acts.specs.declared.work.Work.{Work}
 use Rattle.call_acts.specs.declared.work.Due.{Due}
 use Rattle.call_acts.specs.declared.work.Work.TheVariants.{Lookup, Read, Scan, Acquire, Act}
 use Rattle.call_acts.specs.declared.work.Tail.{Tail}
-use Rattle.call_acts.specs.declared.work.Tail.TheVariants.{Nothing, Quiesce, Unmark, StoreDead, StoreFlush, Release}
+use Rattle.call_acts.specs.declared.work.Tail.TheVariants.{Nothing, Quiesce, Unmark, StoreDead, StoreFlush, Release, StoreLive}
 use Rattle.call_steps.specs.declared.stages.Stage.{Stage}
 use Rattle.call_steps.specs.declared.stages.Stage.TheVariants.{Enter, Undecided, Decided, Leave}
 use Rattle.call_steps.specs.declared.stages.ActiveCall.{ActiveCall}
@@ -79,7 +87,6 @@ use Rattle.stage_quiet.specs.declared.close.Close.{Close}
 use Rattle.stage_quiet.specs.declared.close.Close.TheVariants.{AtCompare as close_compare, AtDraw, AtStore}
 use Rattle.stage_quiet.specs.declared.quiet.Quiet.{Quiet}
 use Rattle.stage_quiet.specs.declared.quiet.Quiet.TheVariants.{AtCore, AtFlush}
-use Rattle.call_acts.specs.Acts.{dues, put_by, reads_of, removes_by, stamp_of_act, fills_page}
 use Rattle.call_steps.specs.View.{Core}
 use Rattle.call_steps.specs.Fits.{IsCore}
 use Rattle.core_invariant.specs.Holding.{count_of, holds_counts, AreApart}
@@ -320,10 +327,17 @@ pub record IsOutside (made : Option NewObject) (has : Bool) : Type 0 where
   pub object : IsSome made
   pub outside : has ≡ false
 
+abbrev pub OutsideObject : Call → List Capability → Type 0
+OutsideObject (make_call what r f u b) (range ∷ ks) = IsOutside (object_made what (range ∷ ks)) (has_frame (found range) f)
+OutsideObject call ks = ⊥
+
+abbrev pub OutsideComp : Call → List Capability → Type 0
+OutsideComp (make_call (make.Comp x p live) r f u b) (range ∷ target ∷ table ∷ pages ∷ []) = has_frame (found range) f ≡ false
+OutsideComp call ks = ⊥
+
 abbrev pub OutsideBy : Call → List Capability → Type 0
-OutsideBy (make_call what r f u b) (range ∷ ks) = IsOutside (object_made what (range ∷ ks)) (has_frame (found range) f)
-OutsideBy (Map p v r f w) (pages ∷ range ∷ ks) = has_frame (found range) f ≡ false
-OutsideBy call ks = ⊥
+OutsideBy call ks = OutsideObject call ks ⊎ OutsideComp (Map p v r f w) (pages ∷ range ∷ ks) = has_frame (found range) f ≡ false
+OutsideBy call ks
 
 -- The frame's word as it was found: that of a blank kernel frame which no core has marked.
 abbrev pub blank_word : FrameWord
@@ -420,6 +434,79 @@ pub record KnowsKilling (setup : Setting) (t : Trace) (c : ℕ) (call : Call) (k
   pub comp : HasComp (state_after setup t) c m.comp
   pub at : KnowsKillingAt setup t c m.comp m.at
 
+-- The call makes this component in this frame, which the range has to which its first name has led, with the table and the pages to which its
+-- third and its fourth have led.
+pub record IsCompMade (f live : ℕ) (own_table own_pages : Capability) (m : CompMaking) (has : Bool) : Type 0 where
+  pub frame : m.frame ≡ f
+  pub number : m.number ≡ live
+  pub table : m.table ≡ own_table.frame
+  pub pages : m.pages ≡ own_pages.frame
+  pub within : has ≡ true
+
+abbrev pub MakesCompBy : Call → List Capability → CompMaking → Type 0
+MakesCompBy (make_call (make.Comp x p live) r f u b) (range ∷ target ∷ table ∷ pages ∷ []) m =
+    IsCompMade f live table pages m (has_frame (found range) f)
+MakesCompBy call ks m = ⊥
+
+-- The number's word as it was found says that it is free, or dead and scanned so far, and which epoch was its last.
+abbrev pub MayTake : Setting → Trace → ℕ → ℕ → ℕ → ℕ → Option LiveWord → Type 0
+MayTake setup t c l last upto None = ⊥
+MayTake setup t c l last upto (Some live_word.Free) = 0 ≡ last
+MayTake setup t c l last upto (Some (live_word.Live e f)) = ⊥
+MayTake setup t c l last upto (Some (live_word.Closing e by)) = ⊥
+MayTake setup t c l last upto (Some (live_word.Dead e x)) = (e ≡ last) × IsScanned setup t c (NumberOf l) x upto
+
+-- The frame's word as it was found is that of a blank kernel frame which no core has marked.
+abbrev pub SaysBlank : ℕ → Type 0
+SaysBlank word = frame_of_word word ≡ Some blank_word
+
+-- At a scan for the number: the call's last step on its word has read there that it is dead since the stamp, and the cores before this one
+-- were scanned.
+pub record ScansNumber (setup : Setting) (t : Trace) (c l : ℕ) (last : LastEpoch) (x by upto : ℕ) : Type 0 where
+  pub own : own_read t c (LiveAt l) ≡ Some last.word
+  pub says : live_of_word last.word ≡ Some (live_word.Dead last.epoch x)
+  pub core : by ≡ c
+  pub was_dead : WasAt (λ s. s.number l ≡ Dead last.epoch) setup t c
+  pub scanned : IsScanned setup t c (NumberOf l) x upto
+
+abbrev pub KnowsNumber : Setting → Trace → ℕ → ℕ → LastEpoch → Quiet → Type 0
+KnowsNumber setup t c l last (AtCore x by upto page) = ScansNumber setup t c l last x by upto
+KnowsNumber setup t c l last (AtFlush x upto) = ⊥
+
+-- The number may be taken, in an epoch that it has.
+pub record TakesNumber (setup : Setting) (t : Trace) (c l epochs : ℕ) (last : LastEpoch) : Type 0 where
+  pub may : MayTake setup t c l last.epoch setup.cores (live_of_word last.word)
+  pub more : last.epoch < epochs
+
+-- Before the compare the call's last step on the number's word has read there the word that is expected.
+pub record HasMetNumber (setup : Setting) (t : Trace) (c l epochs : ℕ) (last : LastEpoch) : Type 0 where
+  pub takes : TakesNumber setup t c l epochs last
+  pub own : own_read t c (LiveAt l) ≡ Some last.word
+
+-- Afterwards the first words of the component are stored.
+pub record HasWords (setup : Setting) (t : Trace) (f : ℕ) (words : ℕ → ℕ) (upto : ℕ) : Type 0 where
+  pub stored : (i : ℕ) → i < upto → last_left setup t (EntryAt f i) ≡ words i
+
+abbrev pub KnowsCompAt : Setting → Trace → ℕ → CompMaking → CompAt → Type 0
+KnowsCompAt setup t c m comp_at.Load = Unit {0}
+KnowsCompAt setup t c m (comp_at.Mark word) = HasBlank t c m.frame word
+KnowsCompAt setup t c m (comp_at.LoadLive word) = SaysBlank word
+KnowsCompAt setup t c m (comp_at.Scan word last q) = SaysBlank word × KnowsNumber setup t c m.number last q
+KnowsCompAt setup t c m (comp_at.Close word last) = SaysBlank word × HasMetNumber setup t c m.number m.epochs last
+KnowsCompAt setup t c m (comp_at.Store word last n) =
+    SaysBlank word × TakesNumber setup t c m.number m.epochs last × HasWords setup t m.frame (comp_word_at m (last.epoch + 1)) n
+KnowsCompAt setup t c m (comp_at.Fill word last) =
+    SaysBlank word × TakesNumber setup t c m.number m.epochs last × HasWords setup t m.frame (comp_word_at m (last.epoch + 1)) 3
+
+pub record KnowsComp (setup : Setting) (t : Trace) (c : ℕ) (call : Call) (plan : Plan) (ks : List Capability) (upto : ℕ) (m : CompMaking) :
+    Type 0 where
+  pub spot : IsSpot setup t c plan ks upto m.fill.node m.fill.entry m.fill.word
+  pub makes : MakesCompBy call ks m
+  pub core : m.core ≡ c
+  pub epochs : m.epochs ≡ setup.epochs
+  pub cap : m.fill.cap ≡ comp_cap m.frame
+  pub at : KnowsCompAt setup t c m m.at
+
 -- A flush is of the translations of the core itself.
 pub record KnowsFlushing (c : ℕ) (call : Call) (by : ℕ) : Type 0 where
   pub call_is : call ≡ Flush
@@ -439,6 +526,7 @@ KnowsAct setup t c call plan found upto (tick_act charge) = KnowsTick setup t c 
 KnowsAct setup t c call plan found upto (flush_act by) = KnowsFlushing c call by
 KnowsAct setup t c call plan found upto (kill_act m) = KnowsKilling setup t c call found m
 KnowsAct setup t c call plan found upto (untype_act m) = ⊥
+KnowsAct setup t c call plan found upto (comp_act m) = KnowsComp setup t c call plan found upto m
 
 -- An act is before its first step.
 abbrev pub is_first_of : Close → Bool
@@ -457,11 +545,13 @@ is_start (tick_act charge) = not (is_charging charge)
 is_start (flush_act by) = true
 is_start (kill_act m) = not (is_killing m.at)
 is_start (untype_act m) = false
+is_start (comp_act m) = not (comp_is_marked m.at)
 
 -- Its counts may be acquired here: no entry and no liveness number is closed yet.
 abbrev pub is_counting : ActOf → Bool
 is_counting (remove_act close cap) = is_first_of close
 is_counting (kill_act m) = not (is_killing m.at)
+is_counting (comp_act m) = not (comp_meets_number m.at)
 is_counting act = true
 
 -- It goes on: it is not out of range.
@@ -601,6 +691,13 @@ pub record KnowsFlush (t : Trace) (c : ℕ) (call : Call) (by at : ℕ) : Type 0
   pub small : at < 2 ^ 28
   pub last : flush_of t c ≡ at
 
+-- The number and the frame whose words are still to be stored: the number is near the call at a moment of it, and both words are spelled.
+pub record KnowsLive (setup : Setting) (t : Trace) (c : ℕ) (call : Call) (l live f word : ℕ) : Type 0 where
+  pub numbers : changes_numbers call ≡ true
+  pub near : WasAt (IsNearIn c call (LiveAt l)) setup t c
+  pub bare : live_mark (live_of_word live) ≡ None
+  pub small : live < 2 ^ 64
+  pub unmark : KnowsUnmark call f word
 -- What a call knows that has still this to store.
 abbrev pub KnowsTail : Setting → Trace → ℕ → Call → Tail → Type 0
 KnowsTail setup t c call Nothing = Unit {0}
@@ -609,6 +706,7 @@ KnowsTail setup t c call (Unmark f word) = KnowsUnmark call f word
 KnowsTail setup t c call (StoreDead life stamp) = KnowsDead setup t c call life
 KnowsTail setup t c call (StoreFlush by at) = KnowsFlush t c call by at
 KnowsTail setup t c call (Release release) = ⊥
+KnowsTail setup t c call (StoreLive l live f word) = KnowsLive setup t c call l live f word
 
 -- What a call knows at its stage. One that has made no step is in no trace.
 abbrev pub KnowsAt : Setting → Trace → ℕ → ℕ → ActiveCall → Stage → Type 0
@@ -669,6 +767,7 @@ flushes_tail (Quiesce close) = false
 flushes_tail (Unmark f word) = false
 flushes_tail (StoreDead life stamp) = false
 flushes_tail (Release release) = false
+flushes_tail (StoreLive l live f word) = false
 flushes_tail (StoreFlush by at) = true
 
 abbrev pub is_flushing : Stage → Bool
@@ -687,6 +786,7 @@ pub record CoreIs (setup : Setting) (core : Core) (t : Trace) (c : ℕ) : Type 0
   pub number : core.own.core ≡ c
   pub shape : core.own.layout ≡ shape_of setup
   pub limit : core.own.limit ≡ setup.calls
+  pub epochs : core.own.epochs ≡ setup.epochs
   pub works : WorksIn core.own (state_after setup t) c
   pub exit : core.own.exit ≡ exit_of t c
   -- its last flush is stored, but for one between the load of the clock and the store

@@ -1,6 +1,9 @@
 -- When the cores of a machine stand for a trace: what holds between two steps, whatever the calls.
 use Rattle.call_acts.specs.declared.makings.MakingAt.TheVariants.{Load, Mark, Store, Fill as making_fill}
 use Rattle.call_acts.specs.declared.makings.MakingAt.{MakingAt}
+use Rattle.call_acts.specs.declared.comps.CompAt.{CompAt}
+use Rattle.call_acts.specs.declared.comps.CompAt.TheVariants as comp_at
+use Rattle.call_acts.specs.declared.comps.CompMaking.{CompMaking}
 use Rattle.call_acts.specs.declared.kills.KillingAt.{KillingAt}
 use Rattle.call_acts.specs.declared.kills.KillingAt.TheVariants.{LoadComp, LoadLive, Close as kill_close, Draw as kill_draw}
 use Rattle.frame_words.specs.Live.{word_of_live}
@@ -28,11 +31,11 @@ use Rattle.spk_nums.specs.declared.replies.Reply.{Reply}
 use Rattle.spk_nums.specs.declared.replies.Reply.TheVariants.{Ok}
 use Rattle.stage_pins.specs.declared.held.Acquired.{Acquired}
 use Rattle.call_acts.specs.declared.work.Act.{Act}
-use Rattle.call_acts.specs.declared.work.Act.TheVariants.{Fill, Remove, Retype, Make, Outside, Tick, Flush, Kill, Untype, Map as map_act}
+use Rattle.call_acts.specs.declared.work.Act.TheVariants.{Fill, Remove, Retype, Make, Outside, Tick, Flush, Kill, Untype, Map as map_act, MakeComp}
 use Rattle.call_acts.specs.declared.work.Work.{Work}
 use Rattle.call_acts.specs.declared.work.Work.TheVariants.{Lookup, Read, Scan, Acquire, Act as act_work}
 use Rattle.call_acts.specs.declared.work.Tail.{Tail}
-use Rattle.call_acts.specs.declared.work.Tail.TheVariants.{Nothing, Quiesce, Unmark, StoreDead, StoreFlush, Release}
+use Rattle.call_acts.specs.declared.work.Tail.TheVariants.{Nothing, Quiesce, Unmark, StoreDead, StoreFlush, Release, StoreLive}
 use Rattle.call_steps.specs.View.{Core}
 use Rattle.core_invariant.specs.Holding.{Holding, nothing, holds_counts, holds_closed, holds_drawn, settled, MarkIs, keeps, will_store}
 use Rattle.core_invariant.specs.Words.{Times, WordIs, CountsAre}
@@ -63,7 +66,17 @@ holds_killing (LoadLive life) h = h
 holds_killing (kill_close life word) h = h
 holds_killing (kill_draw life word) h = keeps (LiveAt life.number) word h
 
--- The word that a call has marked beside its counts, at an act and at a tail. No call is carried out today with the act that makes a
+-- The frame in which a call makes a component, and then the number that it takes: each stands for its word as it was found.
+abbrev pub holds_comp : CompMaking → CompAt → Holding → Holding
+holds_comp m comp_at.Load h = h
+holds_comp m (comp_at.Mark word) h = h
+holds_comp m (comp_at.LoadLive word) h = keeps (FrameAt m.frame) word h
+holds_comp m (comp_at.Scan word last q) h = keeps (FrameAt m.frame) word h
+holds_comp m (comp_at.Close word last) h = keeps (FrameAt m.frame) word h
+holds_comp m (comp_at.Store word last entry) h = keeps (LiveAt m.number) last.word (keeps (FrameAt m.frame) word h)
+holds_comp m (comp_at.Fill word last) h = keeps (LiveAt m.number) last.word (keeps (FrameAt m.frame) word h)
+
+-- The words that a call has marked beside its counts, at an act and at a tail. No call is carried out today with the act that makes a
 -- frame untyped, so none holds what that would.
 abbrev pub holds_act : Act → Holding → Holding
 holds_act (Fill fill) h = h
@@ -76,6 +89,7 @@ holds_act (Tick charge) h = h
 holds_act (Flush by) h = h
 holds_act (Kill m) h = holds_killing m.at h
 holds_act (Untype m) h = h
+holds_act (MakeComp m) h = holds_comp m m.at h
 
 abbrev pub holds_tail : Tail → Holding → Holding
 holds_tail Nothing h = h
@@ -84,6 +98,7 @@ holds_tail (Unmark f word) h = keeps (FrameAt f) word h
 holds_tail (StoreDead life stamp) h = keeps (LiveAt life.number) (word_of_live (Dead life.epoch stamp)) h
 holds_tail (StoreFlush by stamp) h = will_store (FlushAt by) stamp h
 holds_tail (Release release) h = h
+holds_tail (StoreLive l live f word) h = keeps (LiveAt l) live (keeps (FrameAt f) word h)
 
 abbrev pub holds_work : Work → Holding → Holding
 holds_work (Lookup look) h = h

@@ -2,7 +2,12 @@
 -- is acquired; and so is the step by which a decided call commits it.
 use Rattle.entry_words.specs.declared.entry.Entry.TheVariants.{Held}
 use Rattle.entry_words.specs.EntryWord.{word_of_entry}
+use Rattle.call_acts.specs.Comps.{comp_undo, comp_meets_number}
+use Rattle.count_invariant.proofs.ActHolds.{undo_holds, act_count, act_over}
+use Rattle.count_invariant.proofs.CompCounts.{comp_call, comp_counts, comp_due_near, comp_left}
 use Rattle.call_acts.specs.Makings.{undo_at}
+use Rattle.call_acts.specs.declared.comps.CompAt.{CompAt}
+use Rattle.call_acts.specs.declared.comps.CompAt.TheVariants as comp_at
 use Rattle.call_acts.specs.Kills.{is_killing}
 use Rattle.call_acts.specs.declared.kills.KillingAt.{KillingAt}
 use Rattle.call_acts.specs.declared.kills.KillingAt.TheVariants.{LoadComp, LoadLive, Close as kill_close, Draw as kill_draw}
@@ -66,7 +71,7 @@ use Rattle.look_invariant.proofs.Findings.{found_named}
 use Rattle.call_acts.specs.declared.refusals.Refusal.TheVariants as refusal
 use Rattle.call_acts.specs.declared.work.Due.{Due}
 use Rattle.call_acts.specs.declared.work.Act.{Act as ActOf}
-use Rattle.call_acts.specs.declared.work.Act.TheVariants.{Fill as fill_act, Remove as remove_act, Retype as type_act, Make as make_act, Outside, Tick as tick_act, Flush as flush_act, Kill as kill_act, Untype as untype_act, Map as map_act}
+use Rattle.call_acts.specs.declared.work.Act.TheVariants.{Fill as fill_act, Remove as remove_act, Retype as type_act, Make as make_act, Outside, Tick as tick_act, Flush as flush_act, Kill as kill_act, Untype as untype_act, Map as map_act, MakeComp as comp_act}
 use Rattle.call_acts.specs.declared.work.Tail.TheVariants.{Nothing}
 use Rattle.call_acts.specs.declared.work.Work.TheVariants.{Acquire}
 use Rattle.call_steps.specs.declared.stages.Stage.TheVariants.{Undecided, Decided}
@@ -84,7 +89,7 @@ use Rattle.call_acts.specs.Untypings.{untyping_undo}
 use Rattle.core_invariant.specs.Holding.{Holding, count_of, committed, holds_counts, AreApart, settled_by, settled, keeps}
 use Rattle.core_invariant.specs.Words.{SaysCount, count_room}
 use Rattle.core_invariant.specs.Knows.{AreDuesApart, own_in, HasFound, NamesAre, due_of, pin_frame, pin_core, IsRemoval, KnowsClose, KnowsAct, KnowsWork, KnowsUndecided, IsCount, HasRead, phase_at, KnowsTail, goes_on, is_counting}
-use Rattle.core_invariant.specs.Stands.{done_by, holds_act, holds_work, holds_at, holds_in, holds, held_by, Stands, holds_tail, holds_making, holds_killing}
+use Rattle.core_invariant.specs.Stands.{done_by, holds_act, holds_work, holds_at, holds_in, holds, held_by, Stands, holds_tail, holds_making, holds_killing, holds_comp}
 use Rattle.core_invariant.proofs.Carries.{names_on, act_on, counts_on, KeepsUsers, ReadsSame}
 use Rattle.core_invariant.proofs.Writes.{same_marks}
 use Rattle.core_invariant.proofs.Good.{IsGood, spares_other}
@@ -165,111 +170,12 @@ knows_next setup t c table a core act (d ∷ ds) own knows prefix apart n is sta
       starts = starts;
     })
 
--- While its counts are acquired an act holds what it will hold at its next step, which is what a refusal has then to store.
-undo_holds : (act : ActOf) (h : Holding) → is_counting act ≡ true → holds_tail (undo act) h ≡ holds_act act h
-undo_holds (fill_act fill) h is = refl
-undo_holds (remove_act (close_compare node index word by) cap) h is = refl
-undo_holds (remove_act (AtDraw node index) cap) h is = absurd (false≢true is)
-undo_holds (remove_act (AtStore node index x) cap) h is = absurd (false≢true is)
-undo_holds (type_act typing) h is = refl
-undo_holds (make_act m) h is = by m.at
-  where
-    by : (at : MakingAt) → holds_tail (undo_at m.frame at) h ≡ holds_making m.frame at h
-    by making_load = refl
-    by (Mark word) = refl
-    by (Store word entry) = refl
-    by (making_fill word) = refl
-undo_holds (map_act fill) h is = refl
-undo_holds (Outside node entry word) h is = refl
-undo_holds (tick_act charge) h is = refl
-undo_holds (flush_act core) h is = refl
-undo_holds (kill_act m) h is = by m.at is
-  where
-    by : (at : KillingAt) → not (is_killing at) ≡ true → h ≡ holds_killing at h
-    by LoadComp is = refl
-    by (LoadLive life) is = refl
-    by (kill_close life word) is = refl
-    by (kill_draw life word) is = absurd (false≢true is)
-undo_holds (untype_act m) h is = by m.at
-  where
-    by : (at : UntypingAt) → holds_tail (untyping_undo m.frame at) h ≡ h
-    by untype.Load = refl
-    by (untype.Mark word v) = refl
-    by (untype.Sweep word w) = refl
-    by (untype.Draw word w) = refl
-
 acquires_holds : (core : ℕ) (act : ActOf) (o : Option Due) (h : Holding) → holds_work (acquires core act o) h ≡ holds_act act h
 acquires_holds core act None h = refl
 acquires_holds core act (Some due) h = refl
 
 pub next_holds : (core n : ℕ) (act : ActOf) (h : Holding) → holds_work (next_work core n act) h ≡ holds_act act h
 next_holds core n act h = acquires_holds core act (slice_get (dues act) n) h
-
--- An act holds no count, and what it holds of another word does not depend on the counts.
-act_count : (act : ActOf) (h : Holding) (f d : ℕ) → ((holds_act act h).marks (CountAt f d) ≡ h.marks (CountAt f d))
-    × ((holds_act act h).stands (CountAt f d) ≡ h.stands (CountAt f d))
-act_count (fill_act fill) h f d = (refl, refl)
-act_count (map_act fill) h f d = (refl, refl)
-act_count (remove_act (close_compare node index word by) cap) h f d = (refl, refl)
-act_count (remove_act (AtDraw node index) cap) h f d = (refl, refl)
-act_count (remove_act (AtStore node index x) cap) h f d = (refl, refl)
-act_count (type_act typing) h f d = (refl, refl)
-act_count (make_act m) h f d = by m.at
-  where
-    by : (at : MakingAt) → ((holds_making m.frame at h).marks (CountAt f d) ≡ h.marks (CountAt f d))
-        × ((holds_making m.frame at h).stands (CountAt f d) ≡ h.stands (CountAt f d))
-    by making_load = (refl, refl)
-    by (Mark word) = (refl, refl)
-    by (Store word entry) = (refl, refl)
-    by (making_fill word) = (refl, refl)
-act_count (Outside node entry word) h f d = (refl, refl)
-act_count (tick_act charge) h f d = (refl, refl)
-act_count (flush_act core) h f d = (refl, refl)
-act_count (kill_act m) h f d = by m.at
-  where
-    by : (at : KillingAt) → ((holds_killing at h).marks (CountAt f d) ≡ h.marks (CountAt f d))
-        × ((holds_killing at h).stands (CountAt f d) ≡ h.stands (CountAt f d))
-    by LoadComp = (refl, refl)
-    by (LoadLive life) = (refl, refl)
-    by (kill_close life word) = (refl, refl)
-    by (kill_draw life word) = (refl, refl)
-act_count (untype_act m) h f d = (refl, refl)
-
-keeps_over : (v w : Word) (x : ℕ) (h g : Holding) → (h.marks w ≡ g.marks w) × (h.stands w ≡ g.stands w)
-    → ((keeps v x h).marks w ≡ (keeps v x g).marks w) × ((keeps v x h).stands w ≡ (keeps v x g).stands w)
-keeps_over v w x h g same = (
-  ap (λ b. if same_word w v then true else b) same.0,
-  ap (λ (n : ℕ). if same_word w v then x else n) same.1,
-)
-
-act_over : (act : ActOf) (h g : Holding) (w : Word) → (h.marks w ≡ g.marks w) × (h.stands w ≡ g.stands w)
-    → ((holds_act act h).marks w ≡ (holds_act act g).marks w) × ((holds_act act h).stands w ≡ (holds_act act g).stands w)
-act_over (fill_act fill) h g w same = same
-act_over (map_act fill) h g w same = same
-act_over (remove_act (close_compare node index word by) cap) h g w same = same
-act_over (remove_act (AtDraw node index) cap) h g w same = keeps_over (EntryAt node index) w (word_of_entry (Held cap)) h g same
-act_over (remove_act (AtStore node index x) cap) h g w same = same
-act_over (type_act typing) h g w same = same
-act_over (make_act m) h g w same = by m.at
-  where
-    by : (at : MakingAt) → ((holds_making m.frame at h).marks w ≡ (holds_making m.frame at g).marks w)
-        × ((holds_making m.frame at h).stands w ≡ (holds_making m.frame at g).stands w)
-    by making_load = same
-    by (Mark word) = same
-    by (Store word entry) = keeps_over (FrameAt m.frame) w word h g same
-    by (making_fill word) = keeps_over (FrameAt m.frame) w word h g same
-act_over (Outside node entry word) h g w same = same
-act_over (tick_act charge) h g w same = same
-act_over (flush_act core) h g w same = same
-act_over (kill_act m) h g w same = by m.at
-  where
-    by : (at : KillingAt) → ((holds_killing at h).marks w ≡ (holds_killing at g).marks w)
-        × ((holds_killing at h).stands w ≡ (holds_killing at g).stands w)
-    by LoadComp = same
-    by (LoadLive life) = same
-    by (kill_close life word) = same
-    by (kill_draw life word) = keeps_over (LiveAt life.number) w word h g same
-act_over (untype_act m) h g w same = same
 
 -- An act that changes a count charges no ticks.
 counts_plain : (act : ActOf) (before : List Due) (due : Due) (rest : List Due) → dues act ≡ before ++ due ∷ rest → ticks_in act ≡ false
@@ -282,6 +188,7 @@ counts_plain (Outside node entry word) before due rest is = refl
 counts_plain (tick_act charge) before due rest is = absurd (no_due before due rest is)
 counts_plain (flush_act core) before due rest is = refl
 counts_plain (kill_act m) before due rest is = refl
+counts_plain (comp_act m) before due rest is = refl
 counts_plain (untype_act m) before due rest is = refl
 
 -- The word of an acquired count stands for the word that was found.
@@ -726,6 +633,18 @@ acquire_good setup setting cores t stands c here a active pin change (kill_act m
     ∙ kill_near (state_after setup t) c a.call a.found m.comp has.knows.knows.kills
     (call_leads setup setting cores t stands c here a active has.names)) (λ e. tt) refl
 acquire_good setup setting cores t stands c here a active pin change (untype_act m) is has = absurd has.knows.knows
+acquire_good setup setting cores t stands c here a active pin change (comp_act m) is has =
+    let of = comp_call a.call a.found m has.knows.knows.makes in
+    acquire_near setup setting cores t stands c here a active pin change (comp_act m) is has
+    (comp_counts a.call a.found m of)
+    (λ b. comp_due_near (state_after setup t) c a.call a.found m of
+    (call_leads setup setting cores t stands c here a active has.names) m.at (map due_of a.counts)
+    (record { frame = pin_frame pin; change = change }) has.knows.rest has.knows.due)
+    (λ e. comp_left setup t (e ∷ t) c a.call a.found m of m.at (not_true (comp_meets_number m.at) has.knows.starts) has.knows.knows.at) refl
+  where
+    not_true : (b : Bool) → not b ≡ true → b ≡ false
+    not_true true h = cc
+    not_true false h = refl
 
 -- A decided call commits its earliest count.
 module _ (setup : Setting) (setting : IsSetting setup) (cores : ℕ → Core) (t : Trace) (stands : Stands setup cores t) (c : ℕ)

@@ -5,3 +5,5 @@ pub mod CapChanges
 pub mod MakingCounts
 pub mod KillingCounts
 pub mod LinkCounts
+pub mod CompCounts
+pub mod ActHolds

@@ -311,6 +311,7 @@ boots setup setting = record {
     number = refl;
     shape = refl;
     limit = refl;
+    epochs = refl;
     works = record {
       thread = refl;
       depth = ap (λ k. length k.stack) (sym whose);

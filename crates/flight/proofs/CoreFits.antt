@@ -33,6 +33,7 @@ started_fits c setting h below =
         pages = omega arith;
         tcap = omega arith;
         most_calls = h.most_calls;
+        most_epochs = h.most_epochs;
         made = omega arith;
       };
       active = tt;
@@ -58,6 +59,7 @@ left_fits own x h = record {
   tcap =
       h.tcap;
   most_calls = h.most_calls;
+  most_epochs = h.most_epochs;
   made = h.made;
 }
 

@@ -271,6 +271,8 @@ module _ (setup : Setting) (setting : IsSetting setup) (cores : ℕ → Core) (t
   enters_first (make_call (make.Tcap sched quality) r f u b) may built unspent =
       enters_name setup setting cores t stands c here (make_call (make.Tcap sched quality) r f u b) may r _ refl unspent
   enters_first Flush may built unspent = enters_flush setup setting cores t stands c here Flush may refl unspent
+  enters_first (make_call (make.Comp x p live) r f u b) may built unspent =
+      enters_name setup setting cores t stands c here (make_call (make.Comp x p live) r f u b) may r _ refl unspent
   enters_first (Tick n) may built unspent = enters_tick setup setting cores t stands c here (Tick n) may n refl unspent
   enters_first (Gate n u b) may built unspent = enters_name setup setting cores t stands c here (Gate n u b) may n _ refl unspent
   enters_first (Kill n) may built unspent = enters_name setup setting cores t stands c here (Kill n) may n _ refl unspent

@@ -42,11 +42,15 @@ use Rattle.stage_quiet.specs.declared.quiet.Quiet.TheVariants.{AtCore, AtFlush}
 use Rattle.stage_quiet.specs.Removal.{close_move}
 use Rattle.call_plans.specs.After.{Next, NextName, NextFree, NextHeld, NextOwn, NextNothing, next_of}
 use Rattle.call_acts.specs.declared.own.Own.{Own}
-use Rattle.call_acts.specs.declared.work.Act.TheVariants.{Fill, Remove, Retype, Make, Outside, Tick as tick_act, Flush, Kill, Untype, Map as map_act}
+use Rattle.call_acts.specs.declared.work.Act.TheVariants.{Fill, Remove, Retype, Make, Outside, Tick as tick_act, Flush, Kill, Untype, Map as map_act, MakeComp}
 use Rattle.call_acts.specs.declared.typings.Typing.{Typing}
 use Rattle.call_acts.specs.declared.typings.TypingAt.{TypingAt}
 use Rattle.call_acts.specs.declared.typings.TypingAt.TheVariants.{Load, Compare as type_compare}
 use Rattle.call_acts.specs.Typings.{typing_at}
+use Rattle.call_acts.specs.Comps.{comp_at}
+use Rattle.call_acts.specs.declared.comps.CompAt.{CompAt}
+use Rattle.call_acts.specs.declared.comps.CompAt.TheVariants as comp_stands
+use Rattle.call_acts.specs.declared.comps.CompMaking.{CompMaking}
 use Rattle.call_acts.specs.declared.kills.KillingAt.{KillingAt}
 use Rattle.call_acts.specs.declared.kills.KillingAt.TheVariants.{LoadComp, LoadLive, Close as kill_close, Draw as kill_draw}
 use Rattle.call_acts.specs.Kills.{killing_at}
@@ -161,6 +165,19 @@ module _ (setup : Setting) (setting : IsSetting setup) (t : Trace) (cores : ℕ 
   by_killing g core (kill_close life word) comp on = absurd (cc)
   by_killing g core (kill_draw life word) comp on = absurd (cc)
 
+  by_comp : (a : ActiveCall) (m : CompMaking) (at : CompAt)
+      → IsSpot setup t c a.plan a.found setup.cores m.fill.node m.fill.entry m.fill.word
+      → word_of (comp_at m at) ≡ EntryAt f i → reads (comp_at m at) ≡ true → Rests
+  by_comp a m comp_stands.Load spot on read = absurd (cc)
+  by_comp a m (comp_stands.Mark word) spot on read = absurd (cc)
+  by_comp a m (comp_stands.LoadLive word) spot on read = absurd (cc)
+  by_comp a m (comp_stands.Scan word last (AtCore x by at page)) spot on read = absurd (cc)
+  by_comp a m (comp_stands.Scan word last (AtFlush x at)) spot on read = absurd (cc)
+  by_comp a m (comp_stands.Close word last) spot on read = absurd (cc)
+  by_comp a m (comp_stands.Store word last entry) spot on read = absurd (false≢true read)
+  by_comp a m (comp_stands.Fill word last) spot on read = of_frame m.fill.node m.fill.entry on
+      (slot_relies setup setting t stands.legal c call is_open spot.target (record { node = m.fill.node; index = m.fill.entry }) spot.way)
+
   by_work : (table : ℕ) (a : ActiveCall) (work : Work) → KnowsWork setup t c table a work → word_of (work_move work) ≡ EntryAt f i
       → reads (work_move work) ≡ true → Rests
   by_work table a (Lookup look) has on read = by_next table (next_of a.plan a.found) look has.looks on
@@ -181,6 +198,7 @@ module _ (setup : Setting) (setting : IsSetting setup) (t : Trace) (cores : ℕ 
   by_work table a (Act (Flush core)) has on read = absurd (cc)
   by_work table a (Act (Kill m)) has on read = by_killing m.comp m.core m.at has.knows.comp on
   by_work table a (Act (Untype m)) has on read = absurd has.knows
+  by_work table a (Act (MakeComp m)) has on read = by_comp a m m.at has.knows.spot on read
 
   by_stage : (table : ℕ) (own : Own) (a : ActiveCall) (stage : Stage) → phase_at a.call stage ≡ Open call
       → KnowsAt setup t c table a stage

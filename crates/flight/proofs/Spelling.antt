@@ -9,6 +9,10 @@ use Rattle.stage_look.specs.declared.look.Look.TheVariants.{AtRoot, AtLeaf, AtEn
 use Rattle.stage_look.proofs.LookLemmas.{look_is_in}
 use Rattle.call_steps.specs.Fits.{TailFits, StageFits, CallFits}
 use Rattle.call_steps.specs.Cores.{move_in}
+use Rattle.call_acts.specs.Comps.{CompMakingFits, comp_at}
+use Rattle.call_acts.specs.declared.comps.CompAt.{CompAt}
+use Rattle.call_acts.specs.declared.comps.CompAt.TheVariants as comp_stands
+use Rattle.call_acts.specs.declared.comps.CompMaking.{CompMaking}
 use Rattle.call_acts.specs.declared.kills.KillingAt.{KillingAt}
 use Rattle.call_acts.specs.declared.kills.KillingAt.TheVariants.{LoadComp, LoadLive, Close as kill_close, Draw as kill_draw}
 use Rattle.call_acts.specs.Kills.{KillingAtFits, killing_at}
@@ -25,7 +29,7 @@ use Rattle.call_acts.specs.Untypings.{UntypingAtFits, untyping_at, release_at}
 use Rattle.word_map.specs.Word.{CountAt}
 use Rattle.call_acts.specs.declared.own.Own.{Own}
 use Rattle.call_acts.specs.declared.work.Act.{Act}
-use Rattle.call_acts.specs.declared.work.Act.TheVariants.{Fill, Remove, Retype, Make, Outside, Tick, Flush, Kill, Untype, Map as map_act}
+use Rattle.call_acts.specs.declared.work.Act.TheVariants.{Fill, Remove, Retype, Make, Outside, Tick, Flush, Kill, Untype, Map as map_act, MakeComp}
 use Rattle.spk_nums.specs.declared.kinds.FrameKind.{FrameKind}
 use Rattle.call_acts.specs.declared.typings.TypingAt.{TypingAt}
 use Rattle.call_acts.specs.declared.typings.TypingAt.TheVariants.{Load, Compare as type_compare}
@@ -39,7 +43,7 @@ use Rattle.call_acts.specs.Makings.{MakingAtFits, making_at}
 use Rattle.call_steps.proofs.StepsFit.{last_small}
 use Rattle.call_acts.specs.declared.work.Work.TheVariants.{Lookup, Read, Scan, Acquire, Act as act_work}
 use Rattle.call_acts.specs.declared.work.Tail.{Tail}
-use Rattle.call_acts.specs.declared.work.Tail.TheVariants.{Nothing, Quiesce, Unmark, StoreDead, StoreFlush, Release}
+use Rattle.call_acts.specs.declared.work.Tail.TheVariants.{Nothing, Quiesce, Unmark, StoreDead, StoreFlush, Release, StoreLive}
 use Rattle.call_acts.specs.Acts.{ActFits, act_move}
 use Rattle.call_steps.specs.Tails.{tail_move, is_ok}
 use Rattle.std.proofs.lemmas.List.Elements.{All-head}
@@ -103,6 +107,15 @@ killing_named f core (LoadLive life) = refl
 killing_named f core (kill_close life word) = refl
 killing_named f core (kill_draw life word) = refl
 
+comp_named : (m : CompMaking) (at : CompAt) → shared (word_of (comp_at m at)) ≡ word_of (comp_at m at)
+comp_named m comp_stands.Load = refl
+comp_named m (comp_stands.Mark word) = refl
+comp_named m (comp_stands.LoadLive word) = refl
+comp_named m (comp_stands.Scan word last q) = quiet_named q
+comp_named m (comp_stands.Close word last) = refl
+comp_named m (comp_stands.Store word last entry) = refl
+comp_named m (comp_stands.Fill word last) = refl
+
 -- a frame's counters are those of the cores
 no_other : (s : Shape) (n : ℕ) → n < counters_of s → n ≡ 0
 unfolding counters_of
@@ -141,6 +154,7 @@ act_named s (Tick charge) fits = charge_named charge
 act_named s (Flush core) fits = refl
 act_named s (Kill m) fits = killing_named m.comp m.core m.at
 act_named s (Untype m) fits = untyping_named s m.frame m.core m.at fits.at
+act_named s (MakeComp m) fits = comp_named m m.at
 
 -- a count's word is that of its core's counter
 pin_named : (pin : Pin) → shared (word_of (pin_move pin)) ≡ word_of (pin_move pin)
@@ -153,6 +167,7 @@ tail_named s r drawn (Quiesce close) counts fits = close_named close
 tail_named s r drawn (Unmark f word) counts fits = refl
 tail_named s r drawn (StoreDead life stamp) counts fits = refl
 tail_named s r drawn (StoreFlush core stamp) counts fits = refl
+tail_named s r drawn (StoreLive l live f word) counts fits = refl
 tail_named s r drawn Nothing [] fits = refl
 tail_named s r drawn Nothing (x ∷ xs) fits = refl
 tail_named s r drawn (Release release) [] fits = release_named s release.frame release.word release.thaw fits.thaw
@@ -213,6 +228,15 @@ release_in shape f word None below fits some = below
 release_in shape f word (Some x) below fits some =
     counter_in shape x.frame x.at fits.frame (let low = fits.at in let few = fits.words in omega (arith, low, few)) some
 
+comp_in : (shape : Shape) (m : CompMaking) (at : CompAt) → CompMakingFits shape (record m { at = at })
+    → IsIn shape (word_of (comp_at m at))
+comp_in shape m comp_stands.Load fits = fits.frame
+comp_in shape m (comp_stands.Mark word) fits = fits.frame
+comp_in shape m (comp_stands.LoadLive word) fits = fits.number
+comp_in shape m (comp_stands.Scan word last q) fits = quiet_is_in shape q fits.at.0
+comp_in shape m (comp_stands.Close word last) fits = fits.number
+comp_in shape m (comp_stands.Store word last entry) fits = (fits.frame, (let most = fits.at.1 in omega (arith, most)))
+comp_in shape m (comp_stands.Fill word last) fits = (fits.fill.node, fits.fill.entry)
 act_in : (shape : Shape) (act : Act) → ActFits shape act → IsIn shape (word_of (act_move act))
 act_in shape (Fill fill) fits = (fits.node, fits.entry)
 act_in shape (Remove close cap) fits = close_is_in shape close fits.0
@@ -224,6 +248,7 @@ act_in shape (Tick charge) fits = charge_is_in shape charge fits
 act_in shape (Flush core) fits = tt
 act_in shape (Kill m) fits = killing_in shape m.comp m.core m.at fits.comp fits.at
 act_in shape (Untype m) fits = untyping_in shape m.frame m.core m.at fits.frame fits.at
+act_in shape (MakeComp m) fits = comp_in shape m m.at fits
 
 tail_in : (shape : Shape) (r : Reply) (drawn : Option ℕ) (tail : Tail) (counts : List Acquired) → TailFits shape tail
     → AllFit shape counts → 0 < shape.cores
@@ -231,6 +256,7 @@ tail_in : (shape : Shape) (r : Reply) (drawn : Option ℕ) (tail : Tail) (counts
 tail_in shape r drawn (Quiesce close) counts fits fit some = close_is_in shape close fits
 tail_in shape r drawn (Unmark f word) counts fits fit some = fits
 tail_in shape r drawn (StoreDead life stamp) counts fits fit some = fits.0.0
+tail_in shape r drawn (StoreLive l live f word) counts fits fit some = fits.0
 tail_in shape r drawn (StoreFlush core stamp) counts fits fit some = fits
 tail_in shape r drawn Nothing [] fits fit some = tt
 tail_in shape r drawn Nothing (x ∷ xs) fits fit some =

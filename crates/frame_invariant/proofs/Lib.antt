@@ -4,3 +4,10 @@ pub mod MadeObjects
 pub mod MakeCalls
 pub mod Makes
 pub mod Typings
+pub mod CompCalls
+pub mod CompMarks
+pub mod LaterEvents
+pub mod CompNumbers
+pub mod CompStores
+pub mod MadeComps
+pub mod UnusedNumbers

@@ -112,7 +112,7 @@ stored_knows setup t c f object word n has small = by (nat_lt n (last_word objec
     }
 
 -- A call that makes an object loads and changes the word of its frame, and the words of a blank frame.
-made_looks : (call : Call) → changes_frames call ≡ true → IsTrue (looks_at_frames call)
+pub made_looks : (call : Call) → changes_frames call ≡ true → IsTrue (looks_at_frames call)
 made_looks (Map p v r f w) is = absurd (false≢true is)
 made_looks call is = is
 
@@ -128,7 +128,7 @@ makes_places (make_call what r f u b) [] m is = absurd is
 makes_places call ks m is = absurd is
 
 -- A frame that is no kernel frame, or has an object, is not blank.
-not_blank_by : (x : Frame) (o : Obj) → (frame_value x).object ≡ o → (o ≡ obj.Blank → ⊥) → is_blank x ≡ false
+pub not_blank_by : (x : Frame) (o : Obj) → (frame_value x).object ≡ o → (o ≡ obj.Blank → ⊥) → is_blank x ≡ false
 not_blank_by (Kernel Blank) o is other = absurd (other (sym is))
 not_blank_by (Kernel Table) o is other = refl
 not_blank_by (Kernel Leaf) o is other = refl
@@ -140,12 +140,12 @@ not_blank_by (Kernel (Tcap k)) o is other = refl
 not_blank_by Untyped o is other = refl
 not_blank_by User o is other = refl
 
-not_kernel_by : (x : Frame) (k : FrameKind) → (frame_value x).kind ≡ k → (k ≡ FrameKernel → ⊥) → is_blank x ≡ false
+pub not_kernel_by : (x : Frame) (k : FrameKind) → (frame_value x).kind ≡ k → (k ≡ FrameKernel → ⊥) → is_blank x ≡ false
 not_kernel_by Untyped k is other = refl
 not_kernel_by User k is other = refl
 not_kernel_by (Kernel object) k is other = absurd (other (sym is))
 
-marked_fits : (c : ℕ) → c < 8 → FrameFits (marked c)
+pub marked_fits : (c : ℕ) → c < 8 → FrameFits (marked c)
 marked_fits c small = (small, omega arith)
 
 module _ (setup : Setting) (setting : IsSetting setup) (cores : ℕ → Core) (t : Trace) (stands : Stands setup cores t) (c : ℕ)

@@ -11,3 +11,4 @@ pub mod CoreScans
 pub mod FlushScans
 pub mod ScanSteps
 pub mod Mappings
+pub mod CompMakes

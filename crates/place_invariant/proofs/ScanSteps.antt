@@ -11,7 +11,7 @@ use Rattle.stage_quiet.specs.declared.quiet.Quiet.{Quiet}
 use Rattle.stage_quiet.specs.declared.quiet.Quiet.TheVariants.{AtCore, AtFlush}
 use Rattle.stage_quiet.specs.Scan.{quiet_move, quiet_end, quiet_after}
 use Rattle.call_acts.specs.declared.work.Act.{Act as ActOf}
-use Rattle.call_acts.specs.declared.work.Act.TheVariants.{Fill as fill_act, Remove as remove_act, Retype as type_act, Make as make_act, Outside, Tick as tick_act, Flush as flush_act, Kill as kill_act, Untype as untype_act, Map as map_act}
+use Rattle.call_acts.specs.declared.work.Act.TheVariants.{Fill as fill_act, Remove as remove_act, Retype as type_act, Make as make_act, Outside, Tick as tick_act, Flush as flush_act, Kill as kill_act, Untype as untype_act, Map as map_act, MakeComp as comp_act}
 use Rattle.call_acts.specs.declared.work.Work.TheVariants.{Scan}
 use Rattle.call_acts.specs.Acts.{ActFits, stamp_of_act, stamp_shown}
 use Rattle.word_map.specs.Places.{Shape}
@@ -73,6 +73,24 @@ module _ (setup : Setting) (setting : IsSetting setup) (cores : ℕ → Core) (t
       has_read = knows.has_read;
       puts = knows.puts;
       user = knows.user;
+    };
+    outside = λ out. absurd (false≢true (sym out));
+  }
+  scans_place (comp_act m) is fits stamp names knows = record {
+    node = m.fill.node;
+    index = m.fill.entry;
+    word = m.fill.word;
+    small = fits.fill.entry;
+    thing = refl;
+    spot = knows.spot;
+    stamp = refl;
+    again = λ upto spot. record {
+      spot = spot;
+      makes = knows.makes;
+      core = knows.core;
+      epochs = knows.epochs;
+      cap = knows.cap;
+      at = knows.at;
     };
     outside = λ out. absurd (false≢true (sym out));
   }

@@ -357,12 +357,12 @@ fn the_first_line_that_is_not_built_is_told(rt: HostRuntime) -> Result<(), Fail>
             "core 1\nlook 0\n\ncore 0\nremove 1 20\nretype 0 8 untyped\n",
             11,
         ),
-        ("core 0\nmake comp 0 8 1 20 1 2 7\norder\n0\n", 7),
+        ("core 0\ndelegate 12 13 5\norder\n0\n", 7),
         (
             "core 0\nmake table 0 8 1 20\nmake leaf 0 8 1 20\nmake pages 0 8 1 20\nmake pleaf 0 8 1 20\nmake thread 0 8 1 20 3\nmake tcap 0 8 1 20 0 5\ntouch 1\n",
             13,
         ),
-        ("core 0\nmake leaf 0 8 1 20\nmake comp 0 8 1 21 1 2 7\n", 8),
+        ("core 0\nmake comp 0 8 1 21 1 2 7\ndelegate 12 13 5\n", 8),
         ("calls 4194304\nepochs 1\ncore 0\nret\n", 9),
     ];
     for (lines, line) in rows {

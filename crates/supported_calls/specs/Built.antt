@@ -12,7 +12,7 @@ IsTyping Untyped = ⊥
 IsTyping User = Unit {0}
 IsTyping Kernel = Unit {0}
 
--- a make is carried out of any object but a component
+-- a make is carried out of any object
 abbrev pub IsObjectMade : Make → Type 0
 IsObjectMade Table = Unit {0}
 IsObjectMade Leaf = Unit {0}
@@ -20,11 +20,11 @@ IsObjectMade Pages = Unit {0}
 IsObjectMade Pleaf = Unit {0}
 IsObjectMade (Thread comp) = Unit {0}
 IsObjectMade (Tcap sched quality) = Unit {0}
-IsObjectMade (Comp table pages live) = ⊥
+IsObjectMade (Comp table pages live) = Unit {0}
 
 -- the calls that the machine carries out today: `look`, `copy`, `remove`, `grow`, `shrink`, `map`, `unmap`, `retype` to user and to
 -- kernel, `make` of
--- any object but a component, `flush`, `tick`, `gate`, and `kill`
+-- any object, `flush`, `tick`, `gate`, and `kill`
 abbrev pub IsBuilt : Call → Type 0
 IsBuilt (Look a) = Unit {0}
 IsBuilt (Copy a t b) = Unit {0}

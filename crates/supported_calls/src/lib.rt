@@ -29,7 +29,8 @@ pub fn is_built(call: &Call) -> bool
                     | Make::Pages
                     | Make::Pleaf
                     | Make::Thread { .. }
-                    | Make::Tcap { .. },
+                    | Make::Tcap { .. }
+                    | Make::Comp { .. },
                 range: _,
                 frame: _,
                 table: _,

@@ -180,7 +180,7 @@ module _ (setup : Setting) (setting : IsSetting setup) (cores : ℕ → Core) (t
   left_own r charged owed = own_decided (own_changed (cores c).own (Ticks charged owed)) r
 
   same_core : (r : Reply) (charged owed : ℕ) → IsSameCore (cores c).own (left_own r charged owed)
-  same_core r charged owed = record { core = refl; layout = refl; limit = refl; exit = refl }
+  same_core r charged owed = record { core = refl; layout = refl; limit = refl; epochs = refl; exit = refl }
 
   -- A refusal leaves owed what is due.
   module _ (move : Move) (looks : OnlyLooks setup t c a.call move) (r : Reply)

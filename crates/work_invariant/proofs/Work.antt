@@ -8,7 +8,7 @@ use Rattle.stage_look.specs.Shown.{shown_in}
 use Rattle.stage_look.specs.Lookup.{look_move}
 use Rattle.stage_look.specs.declared.look.Look.{Look}
 use Rattle.stage_look.specs.declared.look.Look.TheVariants.{AtRoot, AtLeaf, AtEntry}
-use Rattle.call_acts.specs.declared.work.Act.TheVariants.{Fill as fill_act, Remove as remove_act, Retype as type_act, Make as make_act, Outside, Tick as tick_act, Flush as flush_act, Kill as kill_act, Untype as untype_act, Map as map_act}
+use Rattle.call_acts.specs.declared.work.Act.TheVariants.{Fill as fill_act, Remove as remove_act, Retype as type_act, Make as make_act, Outside, Tick as tick_act, Flush as flush_act, Kill as kill_act, Untype as untype_act, Map as map_act, MakeComp as comp_act}
 use Rattle.call_acts.specs.declared.work.Work.{Work}
 use Rattle.call_acts.specs.declared.work.Work.TheVariants.{Lookup, Read, Scan, Acquire, Act}
 use Rattle.call_steps.specs.declared.stages.Stage.TheVariants.{Undecided}
@@ -27,6 +27,7 @@ use Rattle.place_invariant.proofs.Mappings.{map_good}
 use Rattle.place_invariant.proofs.Removals.{remove_good}
 use Rattle.place_invariant.proofs.ScanSteps.{scan_good}
 use Rattle.frame_invariant.proofs.Typings.{typing_good}
+use Rattle.frame_invariant.proofs.MadeComps.{comp_good}
 use Rattle.frame_invariant.proofs.MadeObjects.{making_good}
 use Rattle.time_invariant.proofs.Ticks.{tick_good}
 use Rattle.live_invariant.proofs.Killed.{killing_good}
@@ -79,5 +80,7 @@ work_good setup setting cores t stands c here a active (Act (flush_act core)) is
 work_good setup setting cores t stands c here a active (Act (kill_act m)) is knows =
     killing_good setup setting cores t stands c here a active m.comp m.core m.at is knows
 work_good setup setting cores t stands c here a active (Act (untype_act m)) is knows = absurd knows.knows.knows
+work_good setup setting cores t stands c here a active (Act (comp_act m)) is knows =
+    comp_good setup setting cores t stands c here a active m is knows
 work_good setup setting cores t stands c here a active (Scan q act) is knows =
     scan_good setup setting cores t stands c here a active q act is knows
