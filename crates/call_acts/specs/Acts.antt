@@ -341,6 +341,7 @@ maps_word fill (Some v) = maps_frame fill v.kind v.mark
 abbrev pub comp_marks : CompMaking → ℕ → Bool → WorkStep
 comp_marks m word equal =
     if equal then Goes (next_work m.core 0 (comp_act (record m { at = comp_at_as.LoadLive word }))) else refuse Raced
+
 abbrev pub took_comp_at : CompMaking → CompAt → ℕ → WorkStep
 took_comp_at m comp_at_as.Load found = comp_meets m found (frame_of_word found)
 took_comp_at m (comp_at_as.Mark word) found = comp_marks m word (found == word)
@@ -349,8 +350,10 @@ took_comp_at m (comp_at_as.Scan word last q) found = number_scanned m word last 
 took_comp_at m (comp_at_as.Close word last) found = closes_number m word last (found == last.word)
 took_comp_at m (comp_at_as.Store word last entry) found = comp_goes m (comp_stored word last entry)
 took_comp_at m (comp_at_as.Fill word last) found = comp_published m word last (found == m.fill.word)
+
 abbrev pub took_comp : CompMaking → ℕ → WorkStep
 took_comp m found = took_comp_at m m.at found
+
 -- what an act takes from the word found
 abbrev pub took_act : Shape → Act → ℕ → WorkStep
 took_act s (fill_act fill) found = took_fill fill found
@@ -553,6 +556,7 @@ maps_at own _ frame w _ = refuse Raced
 -- a component is made in a frame of the range, and its capability put at the target
 abbrev pub comp_cap : ℕ → Capability
 comp_cap f = record { kind = kind.Comp; frame = f; arg = 0 }
+
 abbrev pub comp_making : Own → ℕ → Capability → Capability → ℕ → Found → Act
 comp_making own live table pages frame f = comp_act (record {
   frame = frame;
@@ -565,21 +569,26 @@ comp_making own live table pages frame f = comp_act (record {
   fill = record { node = f.node; entry = f.entry; word = f.word; cap = comp_cap frame };
   at = comp_at_as.Load;
 })
+
 abbrev pub comp_if : Bool → Own → ℕ → Capability → Capability → ℕ → Found → Act
 comp_if within own live table pages frame f =
     if within then comp_making own live table pages frame f else Outside f.node f.entry f.word
+
 abbrev pub comps_in : Own → ℕ → Capability → Capability → Capability → ℕ → Found → WorkStep
 comps_in own live range table pages frame f =
     scans own.core (quiet_scan (stamp_in f.value) own.core own.layout.cores false)
     (comp_if (has_frame (named range) frame && nat_lt frame own.layout.frames) own live table pages frame f)
+
 abbrev pub comps_at : Own → ℕ → Option Capability → Option Capability → Option Capability → ℕ → Option Found → WorkStep
 comps_at own live (Some range) (Some table) (Some pages) frame (Some f) = comps_in own live range table pages frame f
 comps_at own live _ _ _ frame _ = refuse Raced
+
 -- what a `make` does whose names have led to these
 abbrev pub made_begun : Own → Make → List Capability → ℕ → Option Found → WorkStep
 made_begun own (make.Comp table pages live) found frame target =
     comps_at own live (at_place found First) (at_place found Third) (at_place found Fourth) frame target
 made_begun own what found frame target = makes_at own (object_made what found) (at_place found First) frame target
+
 -- the component to which a name has led is killed; a capability of another kind names none
 abbrev pub kills_in : ℕ → Kind → ℕ → WorkStep
 kills_in core kind.Comp f = Goes (act_work (kill_act (record { comp = f; core = core; at = LoadComp })))

@@ -686,6 +686,7 @@ fn comp_due(making: &CompMaking, n: u8) -> Option<Due>
         _ => comp_due_at(making, n),
     }
 }
+
 #[inline]
 fn comp_due_at(making: &CompMaking, n: u8) -> Option<Due>
     ensures { result ≡ slice_get (comp_due_list making.now) n }

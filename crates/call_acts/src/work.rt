@@ -122,10 +122,15 @@ pub enum Tail {
         word: u64,
     },
     /// The word of a core's last flush, which this stamp has.
-    StoreFlush { core: CoreNo, stamp: Stamp },
+    StoreFlush {
+        core: CoreNo,
+        stamp: Stamp,
+    },
     /// The counters that the call has frozen, and then the word of their frame, which it has marked. These are stored after its counts
     /// are committed.
-    Release { release: Release },
+    Release {
+        release: Release,
+    },
 }
 
 /// What a step of the work of a call led to.

@@ -1,5 +1,5 @@
 -- Where the steps by which a component is made lead to fits its machine, and leaves fewer steps.
-use Rattle.std.proofs.Common.{◌≡◌, ℕ, ◌+◌, ◌-◌, ◌<◌, ◌≤◌, ◌==◌, nat_lt, Bool, true, false, if◌then◌else◌, length, Option, Some, None, refl, sym, subst, arith, slice_get}
+use Rattle.std.proofs.Common.{◌≡◌, ℕ, ◌+◌, ◌-◌, ◌<◌, ◌≤◌, ◌==◌, nat_lt, Bool, true, false, if◌then◌else◌, length, Option, Some, None, IfSome, refl, sym, subst, arith, slice_get}
 use Rattle.std.proofs.lemmas.Bool.{ltb-true}
 use Rattle.spk_nums.specs.declared.kinds.FrameKind.{FrameKind}
 use Rattle.spk_nums.specs.declared.kinds.FrameKind.TheVariants as frame_kind
@@ -15,7 +15,7 @@ use Rattle.frame_words.specs.declared.live_word.LiveWord.TheVariants as live
 use Rattle.stage_quiet.specs.Scan.{QuietFits, quiet_scan, quiet_after, quiet_end}
 use Rattle.stage_quiet.specs.declared.quiet.Quiet.{Quiet}
 use Rattle.call_acts.specs.Refusals.{refusal_of}
-use Rattle.call_acts.specs.Scans.{ScanFits, left_of_scan}
+use Rattle.call_acts.specs.Scans.{IsUnpaged, ScanFits, left_of_scan}
 use Rattle.call_acts.specs.WorkSteps.{refuse}
 use Rattle.call_acts.specs.Comps.{CompMakingFits, CompAtFits, comp_dues, comp_left, comp_undo, comp_goes, comp_refuses, comp_meets, comp_meets_object, comp_meets_blank, number_met, number_shown, takes_number, scans_number, number_scanned, closes_number, comp_published}
 use Rattle.call_acts.specs.Acts.{dues, next_work, comp_marks, took_comp_at}

@@ -262,10 +262,12 @@ comps_no own live None table pages f target = tt
 comps_no own live (Some range) None pages f target = tt
 comps_no own live (Some range) (Some table) None f target = tt
 comps_no own live (Some range) (Some table) (Some pages) f None = tt
+
 made_no : (own : Own) (what : Make) (found : List Capability) (f : ℕ) (target : Option Found) → NoAnswer (made_begun own what found f target)
 made_no own (make.Comp table pages live) found f target =
     comps_no own live (at_place found First) (at_place found Third) (at_place found Fourth) f target
 made_no own what found f target = makes_no own (object_made what found) (at_place found First) f target
+
 kill_no : (core : ℕ) (kind : Kind) (f : ℕ) → NoAnswer (kills_in core kind f)
 kill_no core kind.Comp f = tt
 kill_no core kind f = tt

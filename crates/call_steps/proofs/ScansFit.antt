@@ -7,7 +7,6 @@ use Rattle.word_map.specs.Places.{Shape}
 use Rattle.stage_quiet.specs.declared.quiet.Quiet.{Quiet}
 use Rattle.stage_quiet.specs.declared.quiet.Quiet.TheVariants.{AtCore, AtFlush}
 use Rattle.stage_quiet.specs.Scan.{QuietFits, first_other, next_other, core_scan, quiet_scan, quiet_refuses, scan_end, scan_after, quiet_end, quiet_after}
-use Rattle.call_steps.specs.Fits.{}
 use Rattle.call_acts.specs.Scans.{IsUnpaged, ScanFits, left_of_cores, left_of_scan}
 
 -- A scan of the other cores' words alone stays so.

@@ -223,6 +223,7 @@ three_fit s m zero frame table pages = frame
 three_fit s m (suc zero) frame table pages = table
 three_fit s m (suc (suc zero)) frame table pages = pages
 three_fit s m (suc (suc (suc n))) frame table pages = tt
+
 comp_fit : (s : Shape) (m : CompMaking) (at : CompAt) (n : ℕ) → m.frame < s.frames → m.table < s.frames → m.pages < s.frames
     → DueFits s (slice_get (comp_dues m at) n)
 comp_fit s m comp_at_as.Load zero frame table pages = tt
@@ -234,6 +235,7 @@ comp_fit s m (comp_at_as.Scan word last q) n frame table pages = three_fit s m n
 comp_fit s m (comp_at_as.Close word last) n frame table pages = three_fit s m n frame table pages
 comp_fit s m (comp_at_as.Store word last entry) n frame table pages = three_fit s m n frame table pages
 comp_fit s m (comp_at_as.Fill word last) n frame table pages = three_fit s m n frame table pages
+
 pub dues_fit : (s : Shape) (act : ActType) (n : ℕ) → ActFits s act → DueFits s (slice_get (dues act) n)
 dues_fit s (fill_act fill) n fits = cap_fit s fill.cap.kind fill.cap.frame fill.cap.arg (pos 1) n fits.cap
 dues_fit s (remove_act close cap) n fits = cap_fit s cap.kind cap.frame cap.arg (negsuc 0) n fits.1
@@ -620,10 +622,12 @@ table_below : (frames : ℕ) (kind : Kind) (frame arg : ℕ) → only Table kind
     → frame < frames
 table_below frames Range frame arg wanted names = absurd (cc)
 table_below frames kind frame arg wanted names = omega (arith, names)
+
 pages_below : (frames : ℕ) (kind : Kind) (frame arg : ℕ) → only Pages kind ≡ true → end_of_frames kind frame arg ≤ frames
     → frame < frames
 pages_below frames Range frame arg wanted names = absurd (cc)
 pages_below frames kind frame arg wanted names = omega (arith, names)
+
 pub object_named : (frames : ℕ) (call : Call) (found : List Capability) → FoundFits frames (plan_for call) found
     → ObjectNamed frames call found
 object_named frames (Grow t i l) [] leads = tt
