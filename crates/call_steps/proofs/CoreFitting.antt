@@ -64,6 +64,7 @@ changed_on own Empties h = record {
   pages = h.pages;
   tcap = h.tcap;
   most_calls = h.most_calls;
+  most_epochs = h.most_epochs;
   made = h.made;
 }
 

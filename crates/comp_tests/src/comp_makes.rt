@@ -30,9 +30,21 @@ struct Shown<'a> {
 fn tables(alloc: Global, shown: &Shown<'_>) -> Result<String, Fail> {
     let (table, pages, comp) = shown.refs;
     let start = format!(in alloc; "{TO_ENTRIES}{}{FROM_ENTRIES}", shown.entries)?;
-    let text = start.replace(alloc, "table refs 2", &format!(in alloc; "table refs {table}")?)?;
-    let text = text.replace(alloc, "pages refs 2", &format!(in alloc; "pages refs {pages}")?)?;
-    let text = text.replace(alloc, "comp refs 4", &format!(in alloc; "comp refs {comp}")?)?;
+    let text = start.replace(
+        alloc,
+        "table refs 2",
+        &format!(in alloc; "table refs {table}")?,
+    )?;
+    let text = text.replace(
+        alloc,
+        "pages refs 2",
+        &format!(in alloc; "pages refs {pages}")?,
+    )?;
+    let text = text.replace(
+        alloc,
+        "comp refs 4",
+        &format!(in alloc; "comp refs {comp}")?,
+    )?;
     let behind = format!(in alloc; "{}{}", shown.frames, shown.lives)?;
     let text = text.replace(alloc, "live 0 epoch 1 frame 3\n", &behind)?;
     Ok(text)
@@ -156,7 +168,8 @@ fn two_makes(alloc: Global, zero: usize) -> Result<String, Fail> {
 #[test]
 fn of_two_components_one_takes_the_number(rt: HostRuntime) -> Result<(), Fail> {
     let alloc = rt.alloc();
-    let before = "0.1 retype 0 8 kernel = ok\n0.2 retype 0 9 kernel = ok\n0.3 retype 0 10 kernel = ok\n0.4 make table 0 10 1 22 = ok\n0.5 retype 0 11 kernel = ok\n0.6 make pages 0 11 1 23 = ok\n";
+    let before =
+        "0.1 retype 0 8 kernel = ok\n0.2 retype 0 9 kernel = ok\n0.3 retype 0 10 kernel = ok\n0.4 make table 0 10 1 22 = ok\n0.5 retype 0 11 kernel = ok\n0.6 make pages 0 11 1 23 = ok\n";
     let zero_made = Shown {
         entries: "  20 comp 8\n  22 table 10\n  23 pages 11\n",
         frames: "frame 8 comp refs 2\n  fields 0 2 1 1\nframe 9 kernel refs 0\nframe 10 table refs 1\nframe 11 pages refs 1\n",
@@ -180,7 +193,8 @@ fn of_two_components_one_takes_the_number(rt: HostRuntime) -> Result<(), Fail> {
             _ => ((zero_call, "ok"), (one_call, "occupied"), &zero_made),
         };
         let replies = format!(in alloc;
-            "{before}{} = {}\n{} = {}\n", first.0, first.1, second.0, second.1
+            "{before}{} = {}\n{} = {}\n",
+            first.0, first.1, second.0, second.1
         )?;
         let lines = two_makes(alloc, zero)?;
         assert!(rt; ends(&rt, alloc, &lines, &replies, shown)?, "{zero}");

@@ -2,8 +2,8 @@
 #![tactic(auto)]
 
 #[cfg(test)]
-mod gates;
-#[cfg(test)]
 mod comp_makes;
+#[cfg(test)]
+mod gates;
 #[cfg(test)]
 mod kills;

@@ -438,6 +438,15 @@ module _ (setup : Setting) (setting : IsSetting setup) (t : Trace) (e : Step) (l
     comp = has_comp_on m.comp has.comp;
     at = killing_on m.comp m.at same.numbers has.comp has.at;
   }
+  act_on of plan caps upto (comp_act m) same has = record {
+    spot = spot_on plan caps upto m.fill.node m.fill.entry m.fill.word (same.entries m.fill.node m.fill.entry) has.spot;
+    makes = has.makes;
+    core = has.core;
+    epochs = has.epochs;
+    cap = has.cap;
+    at = making_comp_on m m.at same.frames same.numbers
+        (λ marked i. same.stored m.frame i (ap (λ b. b && m.frame == m.frame) marked ∙ eq-eqb m.frame m.frame refl)) has.at;
+  }
   act_on of plan caps upto (untype_act m) same has = absurd has
 
   scan_on : (a : ActiveCall) (at by upto flushes : ℕ) (page : Bool) (act : ActOf) → ReadsSame setup t e c act
@@ -450,15 +459,6 @@ module _ (setup : Setting) (setting : IsSetting setup) (t : Trace) (e : Step) (l
     past = carries.past at has.past;
     passed = λ d below other. carries.passed (scanned_for act) at d has.past (has.passed d below other);
     pages = has.pages;
-  }
-  act_on of plan caps upto (comp_act m) same has = record {
-    spot = spot_on plan caps upto m.fill.node m.fill.entry m.fill.word (same.entries m.fill.node m.fill.entry) has.spot;
-    makes = has.makes;
-    core = has.core;
-    epochs = has.epochs;
-    cap = has.cap;
-    at = making_comp_on m m.at same.frames same.numbers
-        (λ marked i. same.stored m.frame i (ap (λ b. b && m.frame == m.frame) marked ∙ eq-eqb m.frame m.frame refl)) has.at;
   }
 
   quiet_on : (a : ActiveCall) (q : Quiet) (act : ActOf) → ReadsSame setup t e c act

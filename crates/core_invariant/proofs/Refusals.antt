@@ -120,7 +120,7 @@ module _ (setup : Setting) (t : Trace) (c table n : ℕ) where
   act_ticks plan ks upto (type_act typing) has is = has.types
   act_ticks plan ks upto (make_act m) has is = has.makes
   act_ticks plan ks upto (map_act fill) has is = false≢true has.maps
-  act_ticks plan ks upto (Outside node entry word) has is = elim has.outside [ | inl h ↦ h | inr h ↦ h ]
+  act_ticks plan ks upto (Outside node entry word) has is = has.outside
   act_ticks plan ks upto (tick_act charge) has is = false≢true (sym is)
   act_ticks plan ks upto (flush_act by) has is = no_flush has.call_is
     where

@@ -336,8 +336,9 @@ OutsideComp (make_call (make.Comp x p live) r f u b) (range ∷ target ∷ table
 OutsideComp call ks = ⊥
 
 abbrev pub OutsideBy : Call → List Capability → Type 0
-OutsideBy call ks = OutsideObject call ks ⊎ OutsideComp (Map p v r f w) (pages ∷ range ∷ ks) = has_frame (found range) f ≡ false
-OutsideBy call ks
+OutsideBy (make_call what r f u b) ks = OutsideObject (make_call what r f u b) ks ⊎ OutsideComp (make_call what r f u b) ks
+OutsideBy (Map p v r f w) (pages ∷ range ∷ ks) = has_frame (found range) f ≡ false
+OutsideBy call ks = ⊥
 
 -- The frame's word as it was found: that of a blank kernel frame which no core has marked.
 abbrev pub blank_word : FrameWord
@@ -563,6 +564,7 @@ goes_on act = true
 abbrev pub scanned_for : ActOf → Thing
 scanned_for (fill_act fill) = PlaceOf fill.node fill.entry
 scanned_for (make_act m) = PlaceOf m.fill.node m.fill.entry
+scanned_for (comp_act m) = PlaceOf m.fill.node m.fill.entry
 scanned_for (map_act fill) = PlaceOf fill.node fill.entry
 scanned_for (Outside node entry word) = PlaceOf node entry
 scanned_for act = PlaceOf 0 0
@@ -698,6 +700,7 @@ pub record KnowsLive (setup : Setting) (t : Trace) (c : ℕ) (call : Call) (l li
   pub bare : live_mark (live_of_word live) ≡ None
   pub small : live < 2 ^ 64
   pub unmark : KnowsUnmark call f word
+
 -- What a call knows that has still this to store.
 abbrev pub KnowsTail : Setting → Trace → ℕ → Call → Tail → Type 0
 KnowsTail setup t c call Nothing = Unit {0}

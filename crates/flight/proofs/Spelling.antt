@@ -237,6 +237,7 @@ comp_in shape m (comp_stands.Scan word last q) fits = quiet_is_in shape q fits.a
 comp_in shape m (comp_stands.Close word last) fits = fits.number
 comp_in shape m (comp_stands.Store word last entry) fits = (fits.frame, (let most = fits.at.1 in omega (arith, most)))
 comp_in shape m (comp_stands.Fill word last) fits = (fits.fill.node, fits.fill.entry)
+
 act_in : (shape : Shape) (act : Act) → ActFits shape act → IsIn shape (word_of (act_move act))
 act_in shape (Fill fill) fits = (fits.node, fits.entry)
 act_in shape (Remove close cap) fits = close_is_in shape close fits.0

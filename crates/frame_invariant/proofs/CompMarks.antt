@@ -208,7 +208,7 @@ module _ (setup : Setting) (setting : IsSetting setup) (cores : ℕ → Core) (t
             (vacant_here setup setting cores t stands c here a active opens has.names node index m.fill.word knows.spot
             (calls.fits_in setup setting cores t stands c here a active m stage_is has).fill.entry
             (calls.leaf setup setting cores t stands c here a active m stage_is has)
-            (stands_alone setup setting cores t stands c here a active opens has.names node index m.fill.word knows.spot
+            (stands_alone setup t c node index m.fill.word knows.spot.own
             (LoadOf (FrameAt f)) reply.FrameKind alone)).vacant) false other
 
     -- it is blank

@@ -2,7 +2,7 @@
 -- and what refuses them.
 use Rattle.std.specs.Prelude.{if◌then◌else◌, List, ◌==◌, ◌||◌}
 use Rattle.std.proofs.Common.{◌≡◌, ◌≤◌, Bool, true, false, Option, Some, None, refl, ℕ, ◌<◌, ◌^◌, ◌==◌, arith, ◌≢◌, ◌+◌, sym, nat_lt, ◌&&◌, [], ◌∷◌, ◌++◌, ap, ◌∙◌, subst, IsTrue, inl, inr, map, ◌⊎◌, nat_le, if◌then◌else◌, List, ◌||◌}
-use Rattle.std.proofs.lemmas.Bool.{ltb-false, eq-eqb, leb-true, leb-false, ltb-true}
+use Rattle.std.proofs.lemmas.Bool.{false≢true, ltb-false, eq-eqb, leb-true, leb-false, ltb-true}
 use Rattle.spk_nums.specs.Setting.{Setting, IsSetting}
 use Rattle.spk_nums.specs.declared.kinds.Obj.TheVariants as obj
 use Rattle.spk_nums.specs.declared.replies.Reply.{Reply}
@@ -26,7 +26,7 @@ use Rattle.kernel_history.specs.Discipline.{looks_at_numbers}
 use Rattle.kernel_history.specs.Justified.{IsRemoved, IsDeadNumber}
 use Rattle.kernel_history.specs.Marking.{marked_by}
 use Rattle.kernel_history.specs.Marks.{live_mark}
-use Rattle.kernel_history.specs.Stamps.{stamp, exit_of}
+use Rattle.kernel_history.specs.Stamps.{stamp, exit_of, awaits_flushes, begins_at, ends_at}
 use Rattle.kernel_history.specs.Trace.{Trace, Open, phase, state_after, Step, last_left, own_read}
 use Rattle.call_plans.specs.GoesBy.{own_pages}
 use Rattle.plan_ways.proofs.Ways.{asked_left}
@@ -48,7 +48,7 @@ use Rattle.core_invariant.proofs.Counting as counting
 use Rattle.core_invariant.proofs.Loads.{step_to, OnlyLooks, loads_on, IsOfCall, inner, call_is, core_is, decides_with}
 use Rattle.core_invariant.proofs.Refusals.{GoodTook, ticks_at, not_spent, busy_leaving}
 use Rattle.core_invariant.specs.Holding.{holds_counts, settled_by, keeps}
-use Rattle.core_invariant.specs.Knows.{phase_at, due_of, KnowsUndecided, KnowsComp, KnowsCompAt, HasPassed, IsScanned, SaysBlank, MayTake, ScansNumber, KnowsUnmark}
+use Rattle.core_invariant.specs.Knows.{phase_at, due_of, KnowsUndecided, KnowsComp, KnowsCompAt, HasPassed, IsScanned, SaysBlank, MayTake, ScansNumber, KnowsUnmark, HasFlushed}
 use Rattle.core_invariant.specs.Stands.{holds_in, Stands, holds, held_by, holds_comp}
 use Rattle.core_invariant.specs.Words.{NumberIs}
 use Rattle.count_invariant.proofs.CompCounts.{IsCompCall, makes_comp_on, comp_changes, comp_argument, number_near}
@@ -66,7 +66,7 @@ use Rattle.stage_quiet.specs.declared.quiet.Quiet.{Quiet}
 use Rattle.stage_quiet.specs.declared.quiet.Quiet.TheVariants.{AtCore}
 use Rattle.stage_quiet.specs.Scan.{next_other, core_scan, flush_scan, core_refuses, scan_end, scan_after, quiet_next, quiet_end, quiet_after, quiet_scan}
 use Rattle.core_invariant.proofs.Sounds.{limits_of}
-use Rattle.place_invariant.proofs.Scans.{before_next, scan_begins, scan_none}
+use Rattle.place_invariant.proofs.Scans.{ScanBegins, AtCores, AtFlushes, before_next, scan_begins, scan_none}
 use Rattle.frame_words.specs.Live.{live_of_word}
 use Rattle.frame_words.specs.declared.live_word.LiveWord.{LiveWord}
 use Rattle.frame_words.specs.declared.live_word.LiveWord.TheVariants as live_word
@@ -76,6 +76,25 @@ use Rattle.call_acts.specs.declared.comps.LastEpoch.{LastEpoch}
 use Rattle.count_invariant.proofs.MakingCounts.{blank_left}
 use Rattle.place_invariant.proofs.Vacancy.{none_waits}
 use Rattle.frame_invariant.proofs.LaterEvents.{IsSpent, spent_at, spent_now}
+use Rattle.kernel_history.specs.Graces.{GraceIs}
+
+-- A liveness number waits for no flush.
+number_awaits : (setup : Setting) (t : Trace) (l : ℕ) → awaits_flushes setup t (NumberOf l) ≡ false
+number_awaits setup [] l = refl
+number_awaits setup (e ∷ t) l = by (begins_at setup t e (NumberOf l)) (ends_at t e (NumberOf l)) (number_awaits setup t l)
+  where
+    by : (begins ends : Bool) → awaits_flushes setup t (NumberOf l) ≡ false
+        → (if begins then false else (if ends then false else awaits_flushes setup t (NumberOf l))) ≡ false
+    by true ends before = refl
+    by false true before = refl
+    by false false before = before
+
+number_flushed : (setup : Setting) (t : Trace) (l x d : ℕ) → GraceIs setup t (NumberOf l) → HasFlushed setup t (NumberOf l) x d
+number_flushed setup t l x d grace same = by (((state_after setup t).grace (NumberOf l)).unflushed d) refl
+  where
+    by : (b : Bool) → ((state_after setup t).grace (NumberOf l)).unflushed d ≡ b → b ≡ false
+    by false is = refl
+    by true is = absurd (false≢true (sym (number_awaits setup t l) ∙ (grace.flushes d).awaited is))
 
 none_some : (d : ℕ) → None ≡ Some d → ⊥
 none_some d h = cc
@@ -206,7 +225,7 @@ module _ (setup : Setting) (setting : IsSetting setup) (cores : ℕ → Core) (t
       (vacant_here setup setting cores t stands c here a active opens has.names node index m.fill.word knows.spot
       (calls.fits_in setup setting cores t stands c here a active m stage_is has).fill.entry
       (calls.leaf setup setting cores t stands c here a active m stage_is has)
-      (stands_alone setup setting cores t stands c here a active opens has.names node index m.fill.word knows.spot move r alone)).vacant
+      (stands_alone setup t c node index m.fill.word knows.spot.own move r alone)).vacant
 
   module _ (move : Move) (looks : OnlyLooks setup t c a.call move) where
     -- the number is live
@@ -227,9 +246,11 @@ module _ (setup : Setting) (setting : IsSetting setup) (cores : ℕ → Core) (t
         → GoodTook setup cores t c move (landed a (comp_refuses m word refusal.EpochsSpent))
     spent_good spent lands =
         decides_with setup setting cores t stands c here a active move reply.EpochsSpent (Unmark m.frame word) a.found looks lands
-        (sym held_is) opens refl refl (λ x. refl) (λ x. refl) refl
-        (unspent, calls.may_refuse setup setting cores t stands c here a active m stage_is has reply.EpochsSpent
-        (inr (inr (inl (eq-eqb _ _ spent.last, refl))))) tt
+        (sym held_is) opens refl refl (λ x. refl) (λ x. refl) refl (
+          unspent,
+          calls.may_refuse setup setting cores t stands c here a active m stage_is has reply.EpochsSpent
+              (inr (inr (inl (eq-eqb _ _ spent.last, refl)))),
+        ) tt
         (λ is_alone. refused_first s c a.call reply.EpochsSpent unspent
         (calls.by_taken setup setting cores t stands c here a active m stage_is has (vacant_alone move reply.EpochsSpent is_alone) blank
         (Some reply.EpochsSpent)
@@ -281,10 +302,13 @@ module _ (setup : Setting) (setting : IsSetting setup) (cores : ℕ → Core) (t
         by : (b : Bool) → nat_lt last.epoch m.epochs ≡ b
             → GoodTook setup cores t c move (landed a (if b then comp_goes m (Close word last) else comp_refuses m word refusal.EpochsSpent))
         by true low = goes_good (Close word last) refl refl there
-            (λ carries. (says, record {
-              takes = record { may = (may carries).0; more = ltb-true last.epoch m.epochs low };
-              own = (may carries).1;
-            }))
+            (λ carries. (
+              says,
+              record {
+                takes = record { may = (may carries).0; more = ltb-true last.epoch m.epochs low };
+                own = (may carries).1;
+              },
+            ))
         by false high = spent_good (spent (let most = ltb-false last.epoch m.epochs high in let same = knows.epochs in omega (arith, most, same)))
 
   -- The load of the number's word.
@@ -344,6 +368,7 @@ module _ (setup : Setting) (setting : IsSetting setup) (cores : ℕ → Core) (t
       rises = (let q = since.same in omega (arith, q));
       was_removed = was_now (IsRemoved thing) setup t loads c dead_now;
       passed = λ k below other. absurd (none k below other);
+      flushed = λ k below. number_flushed setup t l x k (stands.graces thing);
     }
 
     scan_good : (o : Option Quiet) → quiet_scan x m.core setup.cores false ≡ o
@@ -351,22 +376,31 @@ module _ (setup : Setting) (setting : IsSetting setup) (cores : ℕ → Core) (t
     scan_good None is =
         takes_good (LoadOf (LiveAt l)) looking last there_apart (spent_now setup setting t stands.legal l d since.dead)
         (λ carries. (
-          subst (MayTake setup (loads ∷ t) c l d setup.cores) (sym shown)
-              (refl, scanned_then setup.cores (λ k below other. scan_none x m.core setup.cores since.drawn is k below
-              (λ same. other (same ∙ knows.core)))),
+          subst (MayTake setup (loads ∷ t) c l d setup.cores) (sym shown) (
+            refl,
+            scanned_then setup.cores (λ k below other. (scan_none x m.core setup.cores false since.drawn is).1 k below
+                (λ same. other (same ∙ knows.core))),
+          ),
           read_here,
         ))
-    scan_good (Some q) is =
-        let first = scan_begins x m.core setup.cores since.drawn q is in
-        subst (λ q. GoodTook setup cores t c (LoadOf (LiveAt l)) (landed a (comp_goes m (Scan word last q)))) (sym first.is)
-        (goes_good (LoadOf (LiveAt l)) looking (Scan word last (AtCore x m.core first.upto false)) refl refl there_apart
-        (λ carries. (says, record {
-          own = read_here;
-          says = shown;
-          core = knows.core;
-          was_dead = was_now (IsDeadIn l d) setup t loads c since.dead;
-          scanned = scanned_then first.upto (λ k below other. first.before k below (λ same. other (same ∙ knows.core)));
-        })))
+    scan_good (Some q) is = begins (scan_begins x m.core setup.cores false since.drawn q is)
+      where
+        begins : ScanBegins x m.core setup.cores false q
+            → GoodTook setup cores t c (LoadOf (LiveAt l)) (landed a (comp_goes m (Scan word last q)))
+        begins (AtFlushes page first others) = absurd (false≢true page)
+        begins (AtCores upto first before) =
+            subst (λ q. GoodTook setup cores t c (LoadOf (LiveAt l)) (landed a (comp_goes m (Scan word last q)))) (sym first)
+            (goes_good (LoadOf (LiveAt l)) looking (Scan word last (AtCore x m.core upto false)) refl refl there_apart
+            (λ carries. (
+              says,
+              record {
+                own = read_here;
+                says = shown;
+                core = knows.core;
+                was_dead = was_now (IsDeadIn l d) setup t loads c since.dead;
+                scanned = scanned_then upto (λ k below other. before k below (λ same. other (same ∙ knows.core)));
+              },
+            )))
 
     died_good : GoodTook setup cores t c (LoadOf (LiveAt l)) (landed a (scans_number m word last (quiet_scan x m.core m.cores false)))
     died_good = subst (λ (n : ℕ). GoodTook setup cores t c (LoadOf (LiveAt l)) (landed a (scans_number m word last
@@ -471,6 +505,7 @@ module _ (setup : Setting) (setting : IsSetting setup) (cores : ℕ → Core) (t
           | inl earlier ↦ scan.scanned.passed d earlier apart
           | inr same ↦ subst (HasPassed setup t thing x) (sym same) passed
         ];
+        flushed = λ d under. number_flushed setup t l x d (stands.graces thing);
       }
 
       carried : (upto : ℕ) → ((d : ℕ) → d < upto → d ≢ c → (d < at) ⊎ (d ≡ at)) → Carries setup t loaded c
@@ -481,8 +516,11 @@ module _ (setup : Setting) (setting : IsSetting setup) (cores : ℕ → Core) (t
 
       goes_on : GoodTook setup cores t c load (landed a (comp_goes m (Scan word last (AtCore x by (next_other by at) page))))
       goes_on = goes_good load core_looks (Scan word last (AtCore x by (next_other by at) page)) refl refl core_apart
-          (λ carries. (says, carried (next_other by at)
-          (λ d under apart. before_next c at d (subst (λ (n : ℕ). d < next_other n at) scan.core under) apart) carries))
+          (λ carries. (
+            says,
+            carried (next_other by at)
+                (λ d under apart. before_next c at d (subst (λ (n : ℕ). d < next_other n at) scan.core under) apart) carries,
+          ))
 
       ends : setup.cores ≤ next_other by at → GoodTook setup cores t c load (landed a (takes_number m word last))
       ends past_last = takes_good load core_looks last core_apart
@@ -503,7 +541,7 @@ module _ (setup : Setting) (setting : IsSetting setup) (cores : ℕ → Core) (t
         where
           by_next : (there : Bool) → nat_lt (next_other by at) setup.cores ≡ there → After (core_scan there x by (next_other by at) page)
           by_next true is = goes_on
-          by_next false is = subst (λ p. After (flush_scan p x)) (sym fits.1.1) (ends (ltb-false (next_other by at) setup.cores is))
+          by_next false is = subst (λ p. After (flush_scan p x)) (sym fits.2) (ends (ltb-false (next_other by at) setup.cores is))
 
     abbrev Judged : Option CoreWord → Type 0
     Judged o = GoodTook setup cores t c load (landed a (number_scanned m word last

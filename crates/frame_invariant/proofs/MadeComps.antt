@@ -661,12 +661,12 @@ module _ (setup : Setting) (setting : IsSetting setup) (cores : ℕ → Core) (t
         bare_now no_count (ap (λ l. l.cores) limits)
         (λ g none. (
           (let more = grows g in
-          let zero_times = times_none g (All-head (λ d. g ≢ d.frame) (due_by f 2) (due_by m.table 1 ∷ due_by m.pages 1 ∷ []) none)
-          (All-head (λ d. g ≢ d.frame) (due_by m.table 1) (due_by m.pages 1 ∷ []) (All-tail (λ d. g ≢ d.frame) (due_by f 2)
-          (due_by m.table 1 ∷ due_by m.pages 1 ∷ []) none))
-          (All-head (λ d. g ≢ d.frame) (due_by m.pages 1) [] (All-tail (λ d. g ≢ d.frame) (due_by m.table 1) (due_by m.pages 1 ∷ [])
-          (All-tail (λ d. g ≢ d.frame) (due_by f 2) (due_by m.table 1 ∷ due_by m.pages 1 ∷ []) none))) in
-          omega (arith, more, zero_times)),
+              let zero_times = times_none g (All-head (λ d. g ≢ d.frame) (due_by f 2) (due_by m.table 1 ∷ due_by m.pages 1 ∷ []) none)
+              (All-head (λ d. g ≢ d.frame) (due_by m.table 1) (due_by m.pages 1 ∷ []) (All-tail (λ d. g ≢ d.frame) (due_by f 2)
+              (due_by m.table 1 ∷ due_by m.pages 1 ∷ []) none))
+              (All-head (λ d. g ≢ d.frame) (due_by m.pages 1) [] (All-tail (λ d. g ≢ d.frame) (due_by m.table 1) (due_by m.pages 1 ∷ [])
+              (All-tail (λ d. g ≢ d.frame) (due_by f 2) (due_by m.table 1 ∷ due_by m.pages 1 ∷ []) none))) in
+              omega (arith, more, zero_times)),
           stamp_kept (FrameOf g),
         ))
         all_grow

@@ -256,7 +256,7 @@ module _ (setup : Setting) (setting : IsSetting setup) (cores : ℕ → Core) (t
       let of_call : IsOfCall setup t c a.call load = record { moves = refl; near = inl tt } in
       let marks = carry_marks setup cores t e after same_marks (reads_alike setup t e frames) refl refl stands.marks in
       decides_owning setup setting cores t stands c here a active load r own' stage
-      (record { core = refl; layout = refl; limit = refl; exit = refl })
+      (record { core = refl; layout = refl; limit = refl; epochs = refl; exit = refl })
       (last_small setup setting t stands.legal ClockAt)
       of_call lands opens refl
       (marks_own setup cores t e after (λ w there. same_marks w) stands.marks marks)
@@ -428,6 +428,7 @@ module _ (setup : Setting) (setting : IsSetting setup) (cores : ℕ → Core) (t
           number = is.number;
           shape = is.shape;
           limit = is.limit;
+          epochs = is.epochs;
           works = is.works;
           exit = is.exit ∙ sym (plain_exit t storing refl c);
           flushed = λ done. now_stored ∙ sym last_same;

@@ -139,7 +139,7 @@ fn two_cores_flush_in_every_order_of_their_steps(rt: HostRuntime) -> Result<(), 
         let mut order = String::new(alloc);
         let mut made = (0, 0);
         let mut first = 2;
-        for step in 0..10 {
+        for step in 0_u32..10 {
             let core = (ones >> step) & 1;
             let item = format!(in alloc; "{core} ")?;
             order.push_str(&item)?;

@@ -68,14 +68,17 @@ pub fn steps(alloc: Global, core: u8, number: usize) -> Result<String, Fail> {
     Ok(items)
 }
 
-/// The order of two cores that is this number's: bit by bit the core that steps next, where core 1 makes so many of the steps.
-pub fn order_of(number: u32, length: usize, ones: u32) -> Option<[u8; 12]> {
+/// The order of two cores that is this number's: bit by bit the core that steps next, where core 1 makes so many of the steps, of which
+/// there are at most 12.
+pub fn order_of(number: u32, length: u32, ones: u32) -> Option<[u8; 12]> {
     if number.count_ones() != ones {
         return None;
     }
     let mut order = [2; 12];
-    for at in 0..length {
-        order[at] = if number & (1u32 << at) == 0 { 0 } else { 1 };
+    for at in 0_u32..12 {
+        if at < length {
+            order[at as usize] = if (number >> at) & 1 == 1 { 1 } else { 0 };
+        }
     }
     Some(order)
 }

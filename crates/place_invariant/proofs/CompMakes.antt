@@ -97,9 +97,12 @@ comp_dues_apart s m blank table pages = (
       (λ same. not_table (sym blank ∙ ap s.frame same ∙ is_table (s.frame m.table) table))
       (All-cons (λ (y : Due). m.frame ≢ y.frame) (one m.pages) []
       (λ same. not_pages (sym blank ∙ ap s.frame same ∙ is_pages (s.frame m.pages) pages)) (All-nil (λ (y : Due). m.frame ≢ y.frame))),
-  (All-cons (λ (y : Due). m.table ≢ y.frame) (one m.pages) []
-      (λ same. apart (sym (is_table (s.frame m.table) table) ∙ ap s.frame same ∙ is_pages (s.frame m.pages) pages))
-      (All-nil (λ (y : Due). m.table ≢ y.frame)), (All-nil (λ (y : Due). m.pages ≢ y.frame), tt)),
+  (
+    All-cons (λ (y : Due). m.table ≢ y.frame) (one m.pages) []
+        (λ same. apart (sym (is_table (s.frame m.table) table) ∙ ap s.frame same ∙ is_pages (s.frame m.pages) pages))
+        (All-nil (λ (y : Due). m.table ≢ y.frame)),
+    (All-nil (λ (y : Due). m.pages ≢ y.frame), tt),
+  ),
 )
   where
     one : ℕ → Due

@@ -8,6 +8,7 @@ use Rattle.spk_nums.specs.declared.calls.Call.{Call}
 use Rattle.spk_nums.specs.declared.calls.Call.TheVariants.{Make as make_call, Map}
 use Rattle.spk_nums.specs.declared.calls.Make.{Make}
 use Rattle.spk_nums.specs.declared.calls.Make.TheVariants as make_of
+use Rattle.place_invariant.proofs.CompMakes.{IsCompMake, comp_make, comp_rest, new_comp}
 use Rattle.spk_nums.specs.declared.replies.Reply.{Reply}
 use Rattle.spk_nums.specs.declared.replies.Reply.TheVariants as reply
 use Rattle.entry_words.specs.EntryWord.{entry_of_word}
@@ -20,7 +21,7 @@ use Rattle.kernel_rules.specs.MemoryCalls.{not_user}
 use Rattle.core_invariant.proofs.Carries.{slot_relies}
 use Rattle.kernel_rules.specs.Rules.{Rule, Cause, Change, Vacant, Does, fills, RuleMay, Refused, Found, and_then, or_refuse, unless, first_of, first_cause, vacant, not_vacant, outcome}
 use Rattle.kernel_rules.specs.Relies.{is_node}
-use Rattle.kernel_rules.specs.CapabilityCalls.{has_frame, outside, not_blank, makes, not_taken, makes_comp}
+use Rattle.kernel_rules.specs.CapabilityCalls.{has_frame, outside, not_blank, not_taken, makes, makes_comp}
 use Rattle.kernel_rules.specs.CallRelation.{rule_of, change_of}
 use Rattle.kernel_history.specs.Alone.{IsAlone}
 use Rattle.kernel_history.specs.Trace.{Trace, Open, phase, state_after, last_left, own_read}
@@ -42,7 +43,6 @@ use Rattle.core_invariant.proofs.Sounds.{limits_of}
 use Rattle.count_invariant.proofs.Acquiring.{plan_leads, goes_by}
 use Rattle.look_invariant.proofs.Next.{Rest, ANameLeft, NoneLeft, rest_of, next_name}
 use Rattle.place_invariant.proofs.ObjectMakes.{new_object, readied, make_rest, IsObjectMake, object_make}
-use Rattle.place_invariant.proofs.CompMakes.{IsCompMake, comp_make, comp_rest, new_comp}
 use Rattle.place_invariant.proofs.Starts.{IsRefusedOutside}
 use Rattle.place_invariant.proofs.Vacancy.{in_leaf, IsVacant, vacant_by}
 
@@ -142,10 +142,39 @@ made_refusable s c call ks target is leads next =
     first_same : (k j : Capability) (ks js : List Capability) → k ∷ ks ≡ j ∷ js → k ≡ j
     first_same k j ks js h = cc
 
+-- So is a call that makes a component.
+comp_refusable : (s : State) (c : ℕ) (call : Call) (ks : List Capability) (target : Target) → OutsideComp call ks
+    → Leads (LeadsIn s c) (plan_for call).names [] ks → next_of (plan_for call) ks ≡ NextFree target → IsRefusable s c call ks target
+comp_refusable s c (make_call (make_of.Comp x p live) r f u b) (range ∷ second ∷ table ∷ pages ∷ []) target out leads next =
+    let call : Call = make_call (make_of.Comp x p live) r f u b in
+    let ks : List Capability = range ∷ second ∷ table ∷ pages ∷ [] in
+    let make : IsCompMake s c r f u b x p live ks = comp_make s c r f u b x p live ks leads (none_left_of (plan_for call) ks target next) in
+    record {
+      range = make.range;
+      frame = f;
+      causes = not_blank s f ∷ not_taken s live;
+      change = λ at. makes_comp s f (new_comp s make.table.frame make.pages.frame live) at;
+      rule = make.rule ∙ ap (λ to. comp_rest s make.range f make.table.frame make.pages.frame live to)
+          (target_in _ _ (sym make.next ∙ next));
+      is_outside = ap (λ (k : Capability). has_frame (found k) f) (first_same _ _ _ _ (sym make.found_is)) ∙ out;
+    }
+  where
+    first_same : (k j : Capability) (ks js : List Capability) → k ∷ ks ≡ j ∷ js → k ≡ j
+    first_same k j ks js h = cc
+comp_refusable s c (make_call (make_of.Comp x p live) r f u b) [] target out leads next = absurd out
+comp_refusable s c (make_call (make_of.Comp x p live) r f u b) (k ∷ []) target out leads next = absurd out
+comp_refusable s c (make_call (make_of.Comp x p live) r f u b) (k ∷ j ∷ []) target out leads next = absurd out
+comp_refusable s c (make_call (make_of.Comp x p live) r f u b) (k ∷ j ∷ i ∷ []) target out leads next = absurd out
+comp_refusable s c (make_call (make_of.Comp x p live) r f u b) (k ∷ j ∷ i ∷ h ∷ g ∷ ks) target out leads next = absurd out
+comp_refusable s c (make_call what r f u b) ks target out leads next = absurd out
+comp_refusable s c call ks target out leads next = absurd out
+
 refusable : (s : State) (c : ℕ) (call : Call) (ks : List Capability) (target : Target) → OutsideBy call ks
     → Leads (LeadsIn s c) (plan_for call).names [] ks → next_of (plan_for call) ks ≡ NextFree target → IsRefusable s c call ks target
-refusable s c (make_call what r f u b) ks target out leads next =
-    made_refusable s c (make_call what r f u b) ks target (outside_make what r f u b ks out) leads next
+refusable s c (make_call what r f u b) ks target out leads next = elim out [
+  | inl is ↦ made_refusable s c (make_call what r f u b) ks target (outside_make what r f u b ks is) leads next
+  | inr is ↦ comp_refusable s c (make_call what r f u b) ks target is leads next
+]
 refusable s c (Map p v r f w) (k ∷ j ∷ []) target out leads next =
     subst (IsRefusable s c (Map p v r f w) (k ∷ j ∷ [])) (target_in (Under (found k) v) target next) (record {
       range = j;
@@ -167,7 +196,7 @@ module _ (setup : Setting) (setting : IsSetting setup) (cores : ℕ → Core) (t
     (names : NamesAre setup t c (cores c).own.table a.plan a.found) (node index : ℕ) (target : Target)
     (next : next_of a.plan a.found ≡ NextFree target)
     (reaches : reached (state_after setup t) c target ≡ Some (record { node = node; index = index }))
-    (out : OutsideObject a.call a.found) (move : Move)
+    (out : OutsideBy a.call a.found) (move : Move)
     (vacant_alone : IsAlone t (step_to c None move (last_left setup t (word_of move)) (Some reply.OutOfRange) None)
     → IsVacant (state_after setup t) c node index) where
   abbrev s : State
@@ -199,7 +228,7 @@ module _ (setup : Setting) (setting : IsSetting setup) (cores : ℕ → Core) (t
       ∙ ap (λ b. unless (first_of (if not b then Some reply.OutOfRange else None) (first_cause s c is.causes))
       (is.change slot)) is.is_outside
 
-  refused_vacant : IsRefusedOutside setup t c a.call move
+  pub refused_vacant : IsRefusedOutside setup t c a.call move
   refused_vacant = record {
     may = left_may s c (own_pages s c) a.plan (rule_of s c a.call) a.found by_plan leads reply.OutOfRange
         (subst (λ x. RuleMay s c x reply.OutOfRange) (sym is.rule) (inr (inl (ap (λ b. not b) is.is_outside, refl))));
@@ -217,124 +246,6 @@ stands_alone setup t c node index word own move r alone = elim (cases_eq (last_l
       (record { others_out = alone.others_out; undisturbed = alone.undisturbed }) word own changed)
 ]
 
--- So is a call that makes a component.
-pub record IsOutsideComp (call : Call) (ks : List Capability) : Type 0 where
-  pub x : ℕ
-  pub p : ℕ
-  pub live : ℕ
-  pub name : ℕ
-  pub frame : ℕ
-  pub root : ℕ
-  pub slot : ℕ
-  pub range : Capability
-  pub rest : List Capability
-  pub call_is : call ≡ make_call (make_of.Comp x p live) name frame root slot
-  pub found_is : ks ≡ range ∷ rest
-  pub outside : has_frame (found range) frame ≡ false
-outside_comp : (call : Call) (ks : List Capability) → OutsideComp call ks → IsOutsideComp call ks
-outside_comp (make_call (make_of.Comp x p live) r f u b) (range ∷ second ∷ table ∷ pages ∷ []) is = record {
-  x = x;
-  p = p;
-  live = live;
-  name = r;
-  frame = f;
-  root = u;
-  slot = b;
-  range = range;
-  rest = second ∷ table ∷ pages ∷ [];
-  call_is = refl;
-  found_is = refl;
-  outside = is;
-}
-outside_comp (make_call (make_of.Comp x p live) r f u b) [] is = absurd is
-outside_comp (make_call (make_of.Comp x p live) r f u b) (k ∷ []) is = absurd is
-outside_comp (make_call (make_of.Comp x p live) r f u b) (k ∷ j ∷ []) is = absurd is
-outside_comp (make_call (make_of.Comp x p live) r f u b) (k ∷ j ∷ i ∷ []) is = absurd is
-outside_comp (make_call (make_of.Comp x p live) r f u b) (k ∷ j ∷ i ∷ h ∷ g ∷ ks) is = absurd is
-outside_comp (make_call what r f u b) ks is = absurd is
-outside_comp call ks is = absurd is
-module _ (setup : Setting) (setting : IsSetting setup) (cores : ℕ → Core) (t : Trace) (stands : Stands setup cores t) (c : ℕ)
-    (here : c < setup.cores)
-    (a : ActiveCall) (active : (cores c).active ≡ Some a) (opens : phase_at a.call a.stage ≡ Open a.call)
-    (names : NamesAre setup t c (cores c).own.table a.plan a.found) (node index : ℕ) (target : Target)
-    (next : next_of a.plan a.found ≡ NextFree target)
-    (reaches : reached (state_after setup t) c target ≡ Some (record { node = node; index = index }))
-    (out : OutsideComp a.call a.found) (move : Move)
-    (vacant_alone : (state_after setup t).frame node ≡ Kernel Leaf
-    → IsAlone t (step_to c None move (last_left setup t (word_of move)) (Some reply.OutOfRange) None)
-    → IsVacant (state_after setup t) c node index) where
-  abbrev st : State
-  st = state_after setup t
-  abbrev at_slot : Slot
-  at_slot = record { node = node; index = index }
-  opened_so : phase t c ≡ Open a.call
-  opened_so = (call_is setup setting cores t stands c here a active).phase ∙ opens
-  led : Leads (LeadsIn st c) a.plan.names [] a.found
-  led = plan_leads setup setting cores t stands c here a active names
-  goes : GoesBy (own_pages st c) a.plan (rule_of st c a.call)
-  goes = goes_by setup setting cores t stands c here a active names
-  of : IsOutsideComp a.call a.found
-  of = outside_comp a.call a.found out
-  planned : a.plan ≡ plan_for (make_call (make_of.Comp of.x of.p of.live) of.name of.frame of.root of.slot)
-  planned = (is_active setup setting cores t stands c here a active).plan ∙ ap plan_for of.call_is
-  makes_it : IsCompMake st c of.name of.frame of.root of.slot of.x of.p of.live a.found
-  makes_it = comp_make st c of.name of.frame of.root of.slot of.x of.p of.live a.found
-      (subst (λ (p : Plan). Leads (LeadsIn st c) p.names [] a.found) planned led)
-      (subst (λ (p : Plan). names_after p.names a.found ≡ []) planned (none_left_of a.plan a.found target next))
-  abbrev place : Target
-  place = Under (found makes_it.second) of.slot
-  place_is : place ≡ target
-  place_is = same _ _ (sym makes_it.next ∙ ap (λ p. next_of p a.found) (sym planned) ∙ next)
-    where
-      same : (p q : Target) → NextFree p ≡ NextFree q → p ≡ q
-      same p q h = cc
-  place_reached : reached st c place ≡ Some at_slot
-  place_reached = ap (reached st c) place_is ∙ reaches
-  of_leaf : st.frame node ≡ Kernel Leaf
-  of_leaf = in_leaf setup setting t stands.legal c a.call opened_so of.root of.slot makes_it.second at_slot makes_it.under place_reached
-  not_in : has_frame (found makes_it.range) of.frame ≡ false
-  not_in = ap (λ (k : Capability). has_frame (found k) of.frame) (first_same _ _ _ _ (sym makes_it.found_is ∙ of.found_is)) ∙ of.outside
-    where
-      first_same : (k j : Capability) (ks js : List Capability) → k ∷ ks ≡ j ∷ js → k ≡ j
-      first_same k j ks js h = cc
-  rest_is : rule_after (rule_of st c a.call) a.found
-      ≡ comp_rest st makes_it.range of.frame makes_it.table.frame makes_it.pages.frame of.live place
-  rest_is = ap (λ x. rule_after (rule_of st c x) a.found) of.call_is ∙ makes_it.rule
-  abbrev later : Option Reply
-  later = first_cause st c (not_blank st of.frame ∷ not_taken st of.live)
-  refused_so : IsAlone t (step_to c None move (last_left setup t (word_of move)) (Some reply.OutOfRange) None)
-      → change_of st c a.call ≡ Refused reply.OutOfRange
-  refused_so alone =
-      outcome_left st c (own_pages st c) a.plan (rule_of st c a.call) a.found goes led ∙ ap (outcome st c) rest_is
-      ∙ ap (λ x. and_then x λ at. unless (first_of (if not (has_frame (found makes_it.range) of.frame) then Some reply.OutOfRange else None)
-      later) (makes_comp st of.frame (new_comp st makes_it.table.frame makes_it.pages.frame of.live) at))
-      (vacant_slot st c place at_slot place_reached (vacant_alone of_leaf alone).vacant)
-      ∙ ap (λ b. unless (first_of (if not b then Some reply.OutOfRange else None) later)
-      (makes_comp st of.frame (new_comp st makes_it.table.frame makes_it.pages.frame of.live) at_slot)) not_in
-  comp_refused_vacant : IsRefusedOutside setup t c a.call move
-  comp_refused_vacant = record {
-    may = left_may st c (own_pages st c) a.plan (rule_of st c a.call) a.found goes led reply.OutOfRange
-        (subst (λ x. RuleMay st c x reply.OutOfRange) (sym rest_is) (inr (inl (ap (λ b. not b) not_in, refl))));
-    first = refused_so;
-  }
--- Whatever it makes.
-module _ (setup : Setting) (setting : IsSetting setup) (cores : ℕ → Core) (t : Trace) (stands : Stands setup cores t) (c : ℕ)
-    (here : c < setup.cores)
-    (a : ActiveCall) (active : (cores c).active ≡ Some a) (opens : phase_at a.call a.stage ≡ Open a.call)
-    (names : NamesAre setup t c (cores c).own.table a.plan a.found) (node index : ℕ) (target : Target)
-    (next : next_of a.plan a.found ≡ NextFree target)
-    (reaches : reached (state_after setup t) c target ≡ Some (record { node = node; index = index }))
-    (out : OutsideBy a.call a.found) (move : Move)
-    (vacant_alone : (state_after setup t).frame node ≡ Kernel Leaf
-    → IsAlone t (step_to c None move (last_left setup t (word_of move)) (Some reply.OutOfRange) None)
-    → IsVacant (state_after setup t) c node index) where
-  pub outside_vacant : IsRefusedOutside setup t c a.call move
-  outside_vacant = elim out [
-    | inl object ↦ refused_vacant setup setting cores t stands c here a active opens names node index target next reaches object move
-        vacant_alone
-    | inr comp ↦ comp_refused_vacant setup setting cores t stands c here a active opens names node index target next reaches comp move
-        vacant_alone
-  ]
 -- It is vacant where its word stands still that the call has read there, as it does if the call is alone.
 module _ (setup : Setting) (setting : IsSetting setup) (cores : ℕ → Core) (t : Trace) (stands : Stands setup cores t) (c : ℕ)
     (here : c < setup.cores)
@@ -368,5 +279,5 @@ module _ (setup : Setting) (setting : IsSetting setup) (cores : ℕ → Core) (t
 
   pub refused_outside : (index < 64) → OutsideBy a.call a.found → (move : Move) → IsRefusedOutside setup t c a.call move
   refused_outside small out move =
-      outside_vacant setup setting cores t stands c here a active names node index spot.target spot.next spot.way.reached out move
+      refused_vacant setup setting cores t stands c here a active names node index spot.target spot.next spot.way.reached out move
       (λ alone. vacant_node small in_node (stands_alone setup t c node index word spot.own move reply.OutOfRange alone))

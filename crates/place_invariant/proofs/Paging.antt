@@ -1,4 +1,6 @@
 -- Which places that a call fills are those of page tables.
+use Rattle.spk_nums.specs.declared.calls.Make.TheVariants as make
+use Rattle.place_invariant.proofs.CompMakes.{IsCompMake, comp_make}
 use Rattle.std.proofs.Common.{◌≡◌, ℕ, ◌&&◌, nat_le, if◌then◌else◌, Bool, true, false, List, [], ◌∷◌, Option, Some, None, refl, sym, ◌∙◌, ap, subst, IsTrue}
 use Rattle.std.proofs.lemmas.Bool.{false≢true}
 use Rattle.spk_nums.specs.Capability.{Capability}
@@ -109,6 +111,11 @@ module _ (setup : Setting) (setting : IsSetting setup) (t : Trace) (legal : IsLe
   paging_by (Map p v r f w) is built [] lead next = absurd (cc)
   paging_by (Map p v r f w) is built (k ∷ []) lead next = absurd (cc)
   paging_by (Map p v r f w) is built (k ∷ j ∷ h ∷ ks) lead next = absurd lead.1.1
+  paging_by (make_call (make.Comp x p live) r f u b) is built ks lead next =
+      let none = none_left_of (plan_for (make_call (make.Comp x p live) r f u b)) ks target next in
+      let made : IsCompMake s c r f u b x p live ks = comp_make s c r f u b x p live ks lead none in
+      ap is_paging (in_leaf setup setting t legal c (make_call (make.Comp x p live) r f u b) is u b made.second at made.under
+      (ap (reached s c) (target_in (Under (found made.second) b) target (sym made.next ∙ next)) ∙ reaches))
   paging_by (make_call what r f u b) is built ks lead next =
       let none = none_left_of (plan_for (make_call what r f u b)) ks target next in
       made_of what built r f u b ks none (PagingIs (make_call what r f u b) ks) (λ object of.

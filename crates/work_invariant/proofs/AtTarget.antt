@@ -138,7 +138,7 @@ module _ (own : Own) (plan : Plan) (read : Option ℕ) (c : ℕ) (own_core : own
           begins = map_within true has flags ∙ ap (λ b. map_scan (mapping_if b f w at)) (lt-ltb f own.layout.frames (below has));
           stamp = refl;
           starts = refl;
-          knows = λ setup t upto spot reads. record {
+          knows = λ setup t upto epochs spot reads. record {
             spot = spot;
             fits = (let low = below has in omega (arith, low, small), omega arith, flags);
             puts = ap (λ b. if b then Some (page_cap f w) else None) has;
@@ -152,7 +152,7 @@ module _ (own : Own) (plan : Plan) (read : Option ℕ) (c : ℕ) (own_core : own
           begins = map_within false has flags;
           stamp = refl;
           starts = refl;
-          knows = λ setup t upto spot reads. record { spot = spot; outside = has };
+          knows = λ setup t upto epochs spot reads. record { spot = spot; outside = has };
           outside = λ out. has;
         }
 
@@ -164,6 +164,7 @@ module _ (own : Own) (plan : Plan) (read : Option ℕ) (c : ℕ) (own_core : own
       none_some : None ≡ Some object → ⊥
       none_some h = cc
   object_begun what ks object is f = refl
+
   -- it makes an object
   module _ (what : Make) (r f u b : ℕ) (object : NewObject) (range : Capability) (rest : List Capability)
       (is : object_made what (range ∷ rest) ≡ Some object) where

@@ -67,7 +67,7 @@ use Rattle.core_invariant.specs.Knows.{due_of, ReadIs, ReadBefore, IsScanned, Ma
 use Rattle.count_invariant.proofs.Acquiring.{knows_next, next_holds, one_apart}
 use Rattle.place_invariant.proofs.Scans.{ScanBegins, AtCores, AtFlushes, scan_begins, scan_none, ShowsSince, since_is}
 use Rattle.place_invariant.proofs.Starts.{starts_good}
-use Rattle.place_invariant.proofs.Outside.{outside_vacant}
+use Rattle.place_invariant.proofs.Outside.{refused_vacant}
 use Rattle.place_invariant.proofs.Paging.{paging_by}
 use Rattle.place_invariant.proofs.Vacancy.{unpaged_flushed, vacant_by}
 use Rattle.stage_quiet.specs.declared.quiet.Quiet.{Quiet}
@@ -414,7 +414,7 @@ module _ (setup : Setting) (setting : IsSetting setup) (cores : ℕ → Core) (t
       starts_now may_then may =
           starts_good setup setting cores t stands c here a active opens held_is no_counts room has.names
           (LoadOf (EntryAt at.node at.index)) looks begun.act begun.starts (λ carries. knows_begun setup.cores may_then)
-          (λ out. outside_vacant setup setting cores t stands c here a active has.names at.node at.index target next_free
+          (λ out. refused_vacant setup setting cores t stands c here a active has.names at.node at.index target next_free
           arrives.reached (begun.outside out) (LoadOf (EntryAt at.node at.index))
           (λ alone. vacant_by setup t c at.node at.index
           (ap (λ l. l.cores) (limits_of setup t)) setup.frames (entry_of_word word) arrives.plain.says
