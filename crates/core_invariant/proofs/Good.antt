@@ -52,8 +52,9 @@ use Rattle.call_steps.specs.View.{Core}
 use Rattle.core_invariant.specs.Holding.{settled, MarkIs, Holding, keeps, holds_counts, settled_by}
 use Rattle.core_invariant.specs.Words.{WordIs}
 use Rattle.core_invariant.specs.Knows.{phase_at, CallIs, KnowsAt, WorksIn, CoreIs, blank_word, is_start, KnowsMakingAt, KnowsAct, KnowsWork}
-use Rattle.core_invariant.specs.Stands.{held_by, times_of, counted_in, SumIs, Stands, is_done, holds_making, holds_act, holds_work, holds_at, holds_in, holds}
+use Rattle.core_invariant.specs.Stands.{held_by, times_of, counted_in, SumIs, IsLent, Stands, is_done, holds_making, holds_act, holds_work, holds_at, holds_in, holds}
 use Rattle.core_invariant.proofs.Markers.{marker_inside}
+use Rattle.core_invariant.proofs.Lent.{lent_other}
 use Rattle.core_invariant.proofs.Carries.{undecided_on, counts_on, store_on, stores_in, stores_of, dead_on}
 
 -- A step changes a word of a blank frame only where its core has marked the frame.
@@ -161,7 +162,7 @@ blank_is x h = kernel_is x (ap (λ v. v.kind) (same _ _ h)) (ap (λ v. v.object)
     same v u h = cc
 
 -- A good step: it may follow, keeps its call's bound, answers in order where its call is alone, keeps the discipline and its call's
--- footprint, and leaves marks, words, time and its own core as they are to be.
+-- footprint, and leaves marks, words, what is kept without a mark, time and its own core as they are to be.
 pub record IsGood (setup : Setting) (cores : ℕ → Core) (t : Trace) (e : Step) (after : Core) : Type 0 where
   pub follows : MayFollow setup t e
   pub within : IsWithin setup.cores t e
@@ -172,6 +173,7 @@ pub record IsGood (setup : Setting) (cores : ℕ → Core) (t : Trace) (e : Step
   pub marks : (w : Word) (d : ℕ) → MarkIs setup (held_by (put cores e.core after)) (e ∷ t) w d
   pub words : (w : Word)
       → WordIs (state_after setup (e ∷ t)) (times_of setup (e ∷ t)) w (settled setup (held_by (put cores e.core after)) (e ∷ t) w)
+  pub lent : (f i v : ℕ) → (holds after).bare f i ≡ Some v → IsLent setup (e ∷ t) e.core f
   pub sums : (f : ℕ) → SumIs setup (held_by (put cores e.core after)) (e ∷ t) f
   pub draws : clock setup (e ∷ t) ≤ 1 + counted_in setup (state_after setup (e ∷ t))
   pub time : KeepsTime setup t e
@@ -291,6 +293,12 @@ module _ (setup : Setting) (setting : IsSetting setup) (cores : ℕ → Core) (t
     marked = marked_on setup t e good.disciplined.marks (λ call is w. bare call is
         (subst (λ o. MayEnter o (phase t e.core)) is good.follows.enters).0 w) stands.marked;
     words = good.words;
+    lent = λ d f i v is. elim (cases_eq d e.core) [
+      | inl own ↦ subst (λ (b : ℕ). IsLent setup (e ∷ t) b f) (sym own)
+          (good.lent f i v (sym (ap (λ k. (holds k).bare f i) (put_same cores e.core after d own)) ∙ is))
+      | inr other ↦ lent_other setup setting cores t stands e good.follows d f i v other
+          (sym (ap (λ k. (holds k).bare f i) (put_other cores e.core after d other)) ∙ is)
+    ];
     sums = good.sums;
     draws = good.draws;
     some_time = (let a = stands.some_time in let b = good.time.rises in omega arith);

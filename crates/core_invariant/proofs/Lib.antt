@@ -1,11 +1,13 @@
 pub mod Sounds
 pub mod Ranges
+pub mod Bare
 pub mod WordFrames
 pub mod Carries
 pub mod Markers
 pub mod Calm
 pub mod CountSums
 pub mod Sums
+pub mod Lent
 pub mod Good
 pub mod Loads
 pub mod Writes

@@ -39,7 +39,9 @@ use Rattle.core_invariant.specs.Knows.{phase_at, KnowsAt, Knows, IsCount, CallIs
 use Rattle.core_invariant.specs.Stands.{is_done, holds_at, holds_in, holds, held_by, times_of, counted_in, SumIs, Stands}
 use Rattle.core_invariant.proofs.WordFrames.{marks_own, settled_on, write_marks, write_words, ReadsAlike, reads_alike, StaysSaid, word_stays, carry_marks, carry_words}
 use Rattle.core_invariant.proofs.Sums.{sums_stay}
-use Rattle.core_invariant.specs.Holding.{nothing, count_of, holds_counts, settled}
+use Rattle.core_invariant.proofs.Bare.{counts_bare}
+use Rattle.core_invariant.proofs.Lent.{lent_on, lent_calm}
+use Rattle.core_invariant.specs.Holding.{nothing, count_of, holds_counts, settled, bare_value}
 use Rattle.stage_pins.specs.declared.held.Acquired.{Acquired}
 use Rattle.call_steps.specs.Fits.{CountsAt}
 use Rattle.std.proofs.lemmas.List.Elements.{All-nil}
@@ -113,6 +115,8 @@ module _ (setup : Setting) (setting : IsSetting setup) (cores : ℕ → Core) (t
         → Lands setup (core_at (cores c) made (next_at a found stage)) (word_of move)
         → phase_at a.call a.stage ≡ Open a.call → phase_at a.call stage ≡ Decided a.call r
         → ((w : Word) → (holds_at stage a.counts).marks w ≡ (holds_in (Some a)).marks w)
+        → ((f i : ℕ) → (holds_at stage a.counts).bare f i ≡ (holds_in (Some a)).bare f i)
+        → ((x : ℕ) → bare_value (held_by cores) (word_of move) x ≡ x)
         → (let e : Step = inner setup setting cores t stands c here a active move (Some r) None in
         ReadsAlike setup t e → BeginsNone setup t e → SparesBlanks setup t e
         → counted_in setup (state_after setup t) ≤ counted_in setup (state_after setup (e ∷ t))
@@ -126,12 +130,14 @@ module _ (setup : Setting) (setting : IsSetting setup) (cores : ℕ → Core) (t
         → (IsAlone t e → r ≡ alone (state_after setup t) c a.call)
         → Knows setup (e ∷ t) c (cores c).own.table (next_at a found stage)
         → IsGood setup cores t e (core_at (cores c) made (next_at a found stage)))
-    decides_writing move made r found stage was now small of_call lands opens closes same_held alike plain blanks rises works same new
+    decides_writing move made r found stage was now small of_call lands opens closes same_held same_bare unlent alike plain blanks rises works same new
         commits sums may first knows =
         let e : Step = inner setup setting cores t stands c here a active move (Some r) None in
         let after : Core = core_at (cores c) made (next_at a found stage) in
         let still : (w : Word) → (holds after).marks w ≡ (holds (cores c)).marks w =
         λ w. same_held w ∙ ap (λ o. (holds_in o).marks w) (sym active) in
+        let bares : (f i : ℕ) → (holds after).bare f i ≡ (holds (cores c)).bare f i =
+        λ f i. same_bare f i ∙ ap (λ o. (holds_in o).bare f i) (sym active) in
         let marks = carry_marks setup cores t e after still alike was now stands.marks in
         record {
           follows = record {
@@ -154,7 +160,9 @@ module _ (setup : Setting) (setting : IsSetting setup) (cores : ℕ → Core) (t
           near = inner_near setup setting cores t stands c here a active move (Some r) None of_call;
           blanks = blanks;
           marks = marks;
-          words = carry_words setup cores t e after still alike was now same new commits stands.words;
+          words = carry_words setup cores t e after still alike was now bares unlent same new commits stands.words;
+          lent = lent_on setup cores t stands e after (λ f i v is. sym (bares f i) ∙ is) (cores c).own made
+              (core_is setup setting cores t stands c here a active).works works;
           sums = sums;
           draws = (let d = stands.draws in let b = plain.same in let g = rises in omega arith);
           time = none_time setup t e plain;
@@ -171,6 +179,7 @@ module _ (setup : Setting) (setting : IsSetting setup) (cores : ℕ → Core) (t
         → Lands setup (core_at (cores c) made (next_at a found stage)) (word_of move)
         → phase_at a.call a.stage ≡ Open a.call → phase_at a.call stage ≡ Decided a.call r
         → holds_at stage a.counts ≡ holds_counts (is_done stage) a.counts
+        → ((x : ℕ) → bare_value (held_by cores) (word_of move) x ≡ x)
         → (let e : Step = inner setup setting cores t stands c here a active move (Some r) None in
         ReadsAlike setup t e → BeginsNone setup t e → SparesBlanks setup t e
         → counted_in setup (state_after setup t) ≤ counted_in setup (state_after setup (e ∷ t))
@@ -185,11 +194,13 @@ module _ (setup : Setting) (setting : IsSetting setup) (cores : ℕ → Core) (t
         → (IsAlone t e → r ≡ alone (state_after setup t) c a.call)
         → Knows setup (e ∷ t) c (cores c).own.table (next_at a found stage)
         → IsGood setup cores t e (core_at (cores c) made (next_at a found stage)))
-    writes_on move made r found stage was now small of_call lands opens closes bare_stage alike plain blanks rises works same new held
+    writes_on move made r found stage was now small of_call lands opens closes bare_stage unlent alike plain blanks rises works same new held
         commits sums may first knows =
         let e : Step = inner setup setting cores t stands c here a active move (Some r) None in
         decides_writing move made r found stage was now small of_call lands opens closes
         (λ w. ap (λ h. h.marks w) bare_stage ∙ same_marks (is_done stage) None a.counts w ∙ sym (ap (λ h. h.marks w) held))
+        (λ f i. ap (λ h. h.bare f i) bare_stage ∙ counts_bare (is_done stage) a.counts f i
+        ∙ sym (ap (λ h. h.bare f i) held ∙ counts_bare None a.counts f i)) unlent
         alike plain blanks rises works same new
         (λ w own. subst (λ h. WordIs (state_after setup (e ∷ t)) (times_of setup (e ∷ t)) w (h.stands w)) (sym bare_stage) (commits w own))
         sums may first knows
@@ -203,6 +214,7 @@ module _ (setup : Setting) (setting : IsSetting setup) (cores : ℕ → Core) (t
         → Lands setup (core_at (cores c) made (next_at a found stage)) (word_of move)
         → phase_at a.call a.stage ≡ Open a.call → phase_at a.call stage ≡ Decided a.call r
         → holds_at stage a.counts ≡ holds_counts (is_done stage) a.counts
+        → ((x : ℕ) → bare_value (held_by cores) (EntryAt node index) x ≡ x)
         → (let e : Step = inner setup setting cores t stands c here a active move (Some r) None in
         IsCalm (state_after setup t) (state_after setup (e ∷ t)) c → IsPlain setup t e → SparesBlanks setup t e
         → made ≡ ((state_after setup (e ∷ t)).core c).counted
@@ -217,13 +229,14 @@ module _ (setup : Setting) (setting : IsSetting setup) (cores : ℕ → Core) (t
         → (IsAlone t e → r ≡ alone (state_after setup t) c a.call)
         → Knows setup (e ∷ t) c (cores c).own.table (next_at a found stage)
         → IsGood setup cores t e (core_at (cores c) made (next_at a found stage)))
-    writes_entry move node index made r found stage at was now small of_call lands opens closes bare_stage calm plain blanks counts places
+    writes_entry move node index made r found stage at was now small of_call lands opens closes bare_stage unlent calm plain blanks counts places
         new
         held commits sums may first knows =
         let e : Step = inner setup setting cores t stands c here a active move (Some r) None in
         writes_on move made r found stage (ap (marked_by setup t) at ∙ was)
         (ap (λ w. mark_of (state_after setup t) w (left_of move (last_left setup t w))) at ∙ now)
         (subst (λ w. left_of move (last_left setup t w) < 2 ^ 64) (sym at) small) of_call lands opens closes bare_stage
+        (λ x. ap (λ w. bare_value (held_by cores) w x) at ∙ unlent x)
         (reads_alike setup t e calm.frame) (plain_begins setup t e plain) blanks (counted_rises setup (state_after setup t)
         (state_after setup (e ∷ t)) c calm)
         (inner_works setup setting cores t stands c here a active move (Some r) None made calm counts)
@@ -242,13 +255,14 @@ module _ (setup : Setting) (setting : IsSetting setup) (cores : ℕ → Core) (t
         → ((f b : ℕ) → CountAt f b ≢ word_of move)
         → Lands setup (core_at (cores c) (cores c).own.made (next_at a found stage)) (word_of move)
         → holds_at stage a.counts ≡ holds_in (Some a)
+        → ((x : ℕ) → bare_value (held_by cores) (word_of move) x ≡ x)
         → phase_at a.call a.stage ≡ phase_at a.call stage
         → (let e : Step = inner setup setting cores t stands c here a active move None None in
         WordIs (state_after setup t) (times_of setup t) (word_of move) (left_of move (last_left setup t (word_of move)))
         → SparesBlanks setup t e
         → (Carries setup t e c → Knows setup (e ∷ t) c (cores c).own.table (next_at a found stage))
         → IsGood setup cores t e (core_at (cores c) (cores c).own.made (next_at a found stage)))
-    stores_on move found stage was now small of_call flushes not_clock no_count lands same at new blanks knows =
+    stores_on move found stage was now small of_call flushes not_clock no_count lands same unlent at new blanks knows =
         let e : Step = inner setup setting cores t stands c here a active move None None in
         let after : Core = core_at (cores c) (cores c).own.made (next_at a found stage) in
         let still : holds after ≡ holds (cores c) = same ∙ ap holds_in (sym active) in
@@ -281,13 +295,15 @@ module _ (setup : Setting) (setting : IsSetting setup) (cores : ℕ → Core) (t
           near = inner_near setup setting cores t stands c here a active move None None of_call;
           blanks = blanks;
           marks = marks;
-          words = write_words setup cores t e after still (λ g. refl) was now
+          words = write_words setup cores t e after still (λ g. refl) was now unlent
               (λ v there. calm_words setup t e (calm_same (state_after setup t) c) plain v (λ g i h. refl)
               (λ d h. (refl, plain_exit t e refl d)))
               (word_stays (state_after setup t) (state_after setup (e ∷ t)) (times_of setup t) (times_of setup (e ∷ t)) (word_of move)
               (left_of move (last_left setup t (word_of move)))
               (calm_words setup t e (calm_same (state_after setup t) c) plain (word_of move) (λ g i h. refl)
               (λ d h. (refl, plain_exit t e refl d))) new) stands.words;
+          lent = lent_calm setup cores t stands e after (λ f i v is. sym (ap (λ h. h.bare f i) still) ∙ is)
+              (calm_same (state_after setup t) c);
           sums = sums_stay setup t e (held_by cores) (held_by (put cores c after))
               (λ f d. settled_on setup cores t e after still (λ g. refl) (CountAt f d)
               (last_left-there setup (CountAt f d) e t (no_count f d)))
@@ -343,7 +359,7 @@ module _ (setup : Setting) (setting : IsSetting setup) (cores : ℕ → Core) (t
           near = inner_near setup setting cores t stands c here a active (StoreOf (CoreAt c) (core_word false x)) None (Some r) own_word;
           blanks = spares_other setup t e (λ f i h. cc);
           marks = marks;
-          words = write_words setup cores t e after still calm.frame refl refl
+          words = write_words setup cores t e after still calm.frame refl refl (λ y. refl)
               (λ v there. calm_words setup t e calm plain v (λ g i h. refl)
               (λ d h. elim (cases_eq d c) [
                 | inl own ↦ absurd (there (h ∙ ap CoreAt own))
@@ -352,6 +368,7 @@ module _ (setup : Setting) (setting : IsSetting setup) (cores : ℕ → Core) (t
               (core_reads false x (omega arith) ∙ ap (λ b. Some (record { inside = b; stamp = x })) (sym inside)
               ∙ ap (λ (y : ℕ). Some (record { inside = ((state_after setup (e ∷ t)).core c).inside; stamp = y })) (sym out))
               stands.words;
+          lent = lent_calm setup cores t stands e after (λ f i v is. sym (ap (λ h. h.bare f i) still) ∙ is) calm;
           sums = sums_stay setup t e (held_by cores) (held_by (put cores c after))
               (λ f d. settled_on setup cores t e after still calm.frame (CountAt f d)
               (last_left-there setup (CountAt f d) e t (count_apart f d c)))
@@ -437,7 +454,7 @@ module _ (setup : Setting) (setting : IsSetting setup) (cores : ℕ → Core) (t
         near = record { call = call; is_of = refl; near = inl tt };
         blanks = spares_other setup t e (λ f i h. cc);
         marks = marks;
-        words = write_words setup cores t e after still calm.frame refl refl
+        words = write_words setup cores t e after still calm.frame refl refl (λ y. refl)
             (λ v there. calm_words setup t e calm plain v (λ g i h. places g i)
             (λ b h. elim (cases_eq b c) [
               | inl own ↦ absurd (there (h ∙ ap CoreAt own))
@@ -447,6 +464,7 @@ module _ (setup : Setting) (setting : IsSetting setup) (cores : ℕ → Core) (t
             (sym inside)
             ∙ ap (λ (y : ℕ). Some (record { inside = ((state_after setup (e ∷ t)).core c).inside; stamp = y })) (sym last))
             stands.words;
+        lent = lent_calm setup cores t stands e after (λ f i v is. sym (ap (λ h. h.bare f i) still) ∙ is) calm;
         sums = sums_stay setup t e (held_by cores) (held_by (put cores c after))
             (λ f d. settled_on setup cores t e after still calm.frame (CountAt f d)
             (last_left-there setup (CountAt f d) e t (count_apart f d c)))

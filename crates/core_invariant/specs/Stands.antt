@@ -5,12 +5,12 @@ use Rattle.call_acts.specs.declared.kills.KillingAt.{KillingAt}
 use Rattle.call_acts.specs.declared.kills.KillingAt.TheVariants.{LoadComp, LoadLive, Close as kill_close, Draw as kill_draw}
 use Rattle.frame_words.specs.Live.{word_of_live}
 use Rattle.frame_words.specs.declared.live_word.LiveWord.TheVariants.{Dead}
-use Rattle.std.specs.Prelude.{◌≡◌, ◌+◌, ◌<◌, ◌≤◌, ℕ, List, [], Option, Some, None}
+use Rattle.std.specs.Prelude.{◌≡◌, ◌+◌, ◌<◌, ◌≤◌, ℕ, List, [], length, Option, Some, None}
 use Rattle.spk_nums.specs.Setting.{Setting}
 use Rattle.frame_words.specs.Count.{count_of_word}
 use Rattle.frame_words.specs.declared.count_word.CountWord.{CountWord}
 use Rattle.word_map.specs.Word.{Word, CountAt, FrameAt, LiveAt}
-use Rattle.kernel_rules.specs.State.{Thing, FrameOf, State}
+use Rattle.kernel_rules.specs.State.{Thing, FrameOf, State, thread_of}
 use Rattle.kernel_rules.specs.References.{sum_below}
 use Rattle.kernel_history.specs.Trace.{Trace, Out, phase, calls_of, state_after}
 use Rattle.kernel_history.specs.Legal.{IsLegal}
@@ -129,6 +129,12 @@ pub record IsAway (core : Core) (t : Trace) (c : ℕ) : Type 0 where
 abbrev pub counted_in : Setting → State → ℕ
 counted_in setup s = sum_below (λ c. (s.core c).counted) setup.cores
 
+-- What a core keeps without a mark is a word of its current thread, which no other core may write.
+pub record IsLent (setup : Setting) (t : Trace) (d f : ℕ) : Type 0 where
+  pub core : d < setup.cores
+  pub thread : ((state_after setup t).core d).thread ≡ f
+  pub stack : 1 ≤ length (thread_of (state_after setup t) d).stack
+
 -- The cores stand for the trace.
 pub record Stands (setup : Setting) (cores : ℕ → Core) (t : Trace) : Type 0 where
   -- the trace is a legal history; its calls keep within their bounds, and are decided in order where they are alone; and its
@@ -143,6 +149,8 @@ pub record Stands (setup : Setting) (cores : ℕ → Core) (t : Trace) : Type 0 
   pub marks : (w : Word) (d : ℕ) → MarkIs setup (held_by cores) t w d
   pub marked : (w : Word) (d : ℕ) → marked_by setup t w ≡ Some d → HasMarked setup t w d
   pub words : (w : Word) → WordIs (state_after setup t) (times_of setup t) w (settled setup (held_by cores) t w)
+  -- a core keeps no word without a mark but those of its own thread
+  pub lent : (d f i v : ℕ) → (held_by cores d).bare f i ≡ Some v → IsLent setup t d f
   -- the settled counts of each frame sum to the references to it
   pub sums : (f : ℕ) → SumIs setup (held_by cores) t f
   -- a counted call draws at most one stamp; no core has left or flushed later than now; and grace periods go with stamps

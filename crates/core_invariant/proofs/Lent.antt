@@ -1,0 +1,122 @@
+-- Who keeps a word without a mark: only the core whose current thread has it. So no word has two keepers, and a word of another frame than
+-- a thread settles to itself where it carries no mark.
+use Rattle.std.proofs.Common.{◌≡◌, ◌≢◌, ◌<◌, ◌≤◌, ℕ, ◌∷◌, length, false, Option, Some, None, IsTrue, arith, refl, sym, ◌∙◌, ap, subst}
+use Rattle.std.proofs.lemmas.Bool.{false≢true}
+use Rattle.spk_nums.specs.Setting.{Setting, IsSetting}
+use Rattle.word_map.specs.Word.{EntryAt}
+use Rattle.spk_nums.specs.declared.kinds.Kind.TheVariants as kind
+use Rattle.kernel_rules.specs.Fitting.{fits}
+use Rattle.kernel_rules.specs.Relies.{is_node}
+use Rattle.kernel_rules.specs.State.{Frame, Kernel, Untyped, User, Blank, Table, Leaf, Pages, Pleaf, Comp, Thread, Tcap, thread_in, thread_of, put}
+use Rattle.kernel_history.specs.Trace.{Step, Trace, state_after}
+use Rattle.kernel_history.specs.Legal.{MayFollow}
+use Rattle.kernel_history.proofs.Stays.{own_stays_other}
+use Rattle.call_acts.specs.declared.own.Own.{Own}
+use Rattle.call_steps.specs.View.{Core}
+use Rattle.core_invariant.specs.Holding.{bare_value}
+use Rattle.core_invariant.specs.Knows.{WorksIn}
+use Rattle.core_invariant.specs.Stands.{holds, held_by, IsLent, Stands}
+use Rattle.core_invariant.proofs.Bare.{none_kept, core_bare}
+use Rattle.core_invariant.proofs.Calm.{IsCalm}
+
+none_some : (v : ℕ) → None ≡ Some v → ⊥
+none_some v h = cc
+
+-- A core keeps what it kept, where its thread stays.
+lent_same : (setup : Setting) (cores : ℕ → Core) (t : Trace) → Stands setup cores t → (e : Step) (after : Core)
+    → ((f i v : ℕ) → (holds after).bare f i ≡ Some v → (holds (cores e.core)).bare f i ≡ Some v)
+    → ((state_after setup (e ∷ t)).core e.core).thread ≡ ((state_after setup t).core e.core).thread
+    → length (thread_of (state_after setup (e ∷ t)) e.core).stack ≡ length (thread_of (state_after setup t) e.core).stack
+    → (f i v : ℕ) → (holds after).bare f i ≡ Some v → IsLent setup (e ∷ t) e.core f
+lent_same setup cores t stands e after none_new thread stack f i v is =
+    let l = stands.lent e.core f i v (none_new f i v is) in
+    record { core = l.core; thread = thread ∙ l.thread; stack = subst (λ (n : ℕ). 1 ≤ n) (sym stack) l.stack }
+
+-- It works where it did.
+pub lent_on : (setup : Setting) (cores : ℕ → Core) (t : Trace) → Stands setup cores t → (e : Step) (after : Core)
+    → ((f i v : ℕ) → (holds after).bare f i ≡ Some v → (holds (cores e.core)).bare f i ≡ Some v) → (own : Own) (made : ℕ)
+    → WorksIn own (state_after setup t) e.core → WorksIn (record own { made = made }) (state_after setup (e ∷ t)) e.core
+    → (f i v : ℕ) → (holds after).bare f i ≡ Some v → IsLent setup (e ∷ t) e.core f
+lent_on setup cores t stands e after none_new own made works works' =
+    lent_same setup cores t stands e after none_new (sym works'.thread ∙ works.thread) (sym works'.depth ∙ works.depth)
+
+-- The step is calm.
+pub lent_calm : (setup : Setting) (cores : ℕ → Core) (t : Trace) → Stands setup cores t → (e : Step) (after : Core)
+    → ((f i v : ℕ) → (holds after).bare f i ≡ Some v → (holds (cores e.core)).bare f i ≡ Some v)
+    → IsCalm (state_after setup t) (state_after setup (e ∷ t)) e.core
+    → (f i v : ℕ) → (holds after).bare f i ≡ Some v → IsLent setup (e ∷ t) e.core f
+lent_calm setup cores t stands e after none_new calm =
+    lent_same setup cores t stands e after none_new thread
+    (ap (λ (f : ℕ). length (thread_in ((state_after setup (e ∷ t)).frame f)).stack) thread
+    ∙ ap (λ x. length (thread_in x).stack) (calm.frame ((state_after setup t).core e.core).thread))
+  where
+    thread : ((state_after setup (e ∷ t)).core e.core).thread ≡ ((state_after setup t).core e.core).thread
+    thread = ap (λ k. k.thread) calm.own
+
+-- Another core keeps what it kept, and its own thread stays.
+pub lent_other : (setup : Setting) → IsSetting setup → (cores : ℕ → Core) (t : Trace) → Stands setup cores t → (e : Step)
+    → MayFollow setup t e → (d f i v : ℕ) → d ≢ e.core → (held_by cores d).bare f i ≡ Some v → IsLent setup (e ∷ t) d f
+lent_other setup setting cores t stands e follows d f i v other is =
+    let l = stands.lent d f i v is in
+    let stays = own_stays_other setup setting t stands.legal e follows d l.core other in
+    record {
+      core = l.core;
+      thread = ap (λ k. k.thread) stays.core ∙ l.thread;
+      stack = subst (λ k. 1 ≤ length k.stack) (sym stays.thread) l.stack;
+    }
+
+-- A thread's frame is none of a node, of a component, of a temporal capability or of a blank one.
+no_stack : (x : Frame) → fits kind.Thread x ≡ false → length (thread_in x).stack ≡ 0
+no_stack Untyped not = refl
+no_stack User not = refl
+no_stack (Kernel Blank) not = refl
+no_stack (Kernel Table) not = refl
+no_stack (Kernel Leaf) not = refl
+no_stack (Kernel Pages) not = refl
+no_stack (Kernel Pleaf) not = refl
+no_stack (Kernel (Comp k)) not = refl
+no_stack (Kernel (Thread k)) not = absurd (false≢true (sym not))
+no_stack (Kernel (Tcap q)) not = refl
+
+-- A word of a frame that is no thread is kept by no core without a mark, and settles to itself where it carries none.
+pub unlent : (setup : Setting) (cores : ℕ → Core) (t : Trace) → Stands setup cores t → (f : ℕ)
+    → fits kind.Thread ((state_after setup t).frame f) ≡ false → (i d : ℕ) → (held_by cores d).bare f i ≡ None
+unlent setup cores t stands f not i d = by ((held_by cores d).bare f i) refl
+  where
+    by : (o : Option ℕ) → (held_by cores d).bare f i ≡ o → (held_by cores d).bare f i ≡ None
+    by None is = is
+    by (Some v) is =
+        let l = stands.lent d f i v is in
+        let most : 1 ≤ length (thread_in ((state_after setup t).frame f)).stack =
+        subst (λ (g : ℕ). 1 ≤ length (thread_in ((state_after setup t).frame g)).stack) l.thread l.stack in
+        let none = no_stack ((state_after setup t).frame f) not in
+        absurd (omega (arith, most, none))
+
+pub unlent_value : (setup : Setting) (cores : ℕ → Core) (t : Trace) → Stands setup cores t → (f : ℕ)
+    → fits kind.Thread ((state_after setup t).frame f) ≡ false → (i x : ℕ) → bare_value (held_by cores) (EntryAt f i) x ≡ x
+unlent_value setup cores t stands f not i x = none_kept 8 (held_by cores) f i x (unlent setup cores t stands f not i)
+
+-- So it is after a step whose core keeps none of it.
+pub unlent_after : (setup : Setting) (cores : ℕ → Core) (t : Trace) → Stands setup cores t → (c : ℕ) (after : Core) (f i : ℕ)
+    → fits kind.Thread ((state_after setup t).frame f) ≡ false → (holds after).bare f i ≡ None → (x : ℕ)
+    → bare_value (held_by (put cores c after)) (EntryAt f i) x ≡ x
+unlent_after setup cores t stands c after f i not none x =
+    none_kept 8 (held_by (put cores c after)) f i x
+    (λ d. core_bare cores c after f i (none ∙ sym (unlent setup cores t stands f not i c)) d ∙ unlent setup cores t stands f not i d)
+
+pub node_no_thread : (x : Frame) → IsTrue (is_node x) → fits kind.Thread x ≡ false
+node_no_thread (Kernel Table) node = refl
+node_no_thread (Kernel Leaf) node = refl
+node_no_thread (Kernel Pages) node = refl
+node_no_thread (Kernel Pleaf) node = refl
+node_no_thread _ node = absurd (false≢true node)
+
+-- No word has two keepers: a thread runs on one core.
+pub one_keeper : (setup : Setting) → IsSetting setup → (cores : ℕ → Core) (t : Trace) → Stands setup cores t
+    → ((c d : ℕ) → c < setup.cores → d < setup.cores → ((state_after setup t).core c).thread ≡ ((state_after setup t).core d).thread
+    → c ≡ d)
+    → (f i c d v u : ℕ) → (held_by cores c).bare f i ≡ Some v → (held_by cores d).bare f i ≡ Some u → c ≡ d
+one_keeper setup setting cores t stands apart f i c d v u is is' =
+    let l = stands.lent c f i v is in
+    let m = stands.lent d f i u is' in
+    apart c d l.core m.core (l.thread ∙ sym m.thread)
