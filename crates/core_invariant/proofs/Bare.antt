@@ -45,6 +45,16 @@ same_value held held' (FlushAt c) x same = refl
 same_value held held' (LiveAt l) x same = refl
 same_value held held' ClockAt x same = refl
 
+-- Where no core keeps any, each settles to itself.
+pub none_value : (held : ℕ → Holding) (w : Word) (x : ℕ) → ((f i d : ℕ) → (held d).bare f i ≡ None) → bare_value held w x ≡ x
+none_value held (EntryAt f i) x none = none_kept 8 held f i x (none f i)
+none_value held (FrameAt f) x none = refl
+none_value held (CountAt f c) x none = refl
+none_value held (CoreAt c) x none = refl
+none_value held (FlushAt c) x none = refl
+none_value held (LiveAt l) x none = refl
+none_value held ClockAt x none = refl
+
 -- Counts are marked, so no word is kept without a mark beside them.
 pub counts_bare : (fate : Option (Option ℕ)) (xs : List Acquired) (f i : ℕ) → (holds_counts fate xs).bare f i ≡ None
 counts_bare fate [] f i = refl

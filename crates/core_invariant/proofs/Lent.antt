@@ -1,22 +1,25 @@
 -- Who keeps a word without a mark: only the core whose current thread has it. So no word has two keepers, and a word of another frame than
 -- a thread settles to itself where it carries no mark.
-use Rattle.std.proofs.Common.{◌≡◌, ◌≢◌, ◌<◌, ◌≤◌, ℕ, ◌∷◌, length, false, Option, Some, None, IsTrue, arith, refl, sym, ◌∙◌, ap, subst}
+use Rattle.std.proofs.Common.{◌≡◌, ◌≢◌, ◌≤◌, ◌<◌, ℕ, ◌∷◌, length, Bool, true, false, Option, Some, None, IsTrue, arith, refl, sym, ◌∙◌, ap, subst}
 use Rattle.std.proofs.lemmas.Bool.{false≢true}
 use Rattle.spk_nums.specs.Setting.{Setting, IsSetting}
 use Rattle.word_map.specs.Word.{EntryAt}
-use Rattle.spk_nums.specs.declared.kinds.Kind.TheVariants as kind
-use Rattle.kernel_rules.specs.Fitting.{fits}
 use Rattle.kernel_rules.specs.Relies.{is_node}
 use Rattle.kernel_rules.specs.State.{Frame, Kernel, Untyped, User, Blank, Table, Leaf, Pages, Pleaf, Comp, Thread, Tcap, thread_in, thread_of, put}
 use Rattle.kernel_history.specs.Trace.{Step, Trace, state_after}
 use Rattle.kernel_history.specs.Legal.{MayFollow}
+use Rattle.kernel_rules.proofs.Spares.{RunsOn}
+use Rattle.kernel_rules.proofs.SparesRuns.{runs_of}
+use Rattle.kernel_rules.proofs.SoundRuns.{limits_stay}
+use Rattle.kernel_history.specs.Events.{events_of}
+use Rattle.kernel_history.proofs.Events.{state_is, run_of}
 use Rattle.kernel_history.proofs.Stays.{own_stays_other}
 use Rattle.call_acts.specs.declared.own.Own.{Own}
 use Rattle.call_steps.specs.View.{Core}
 use Rattle.core_invariant.specs.Holding.{bare_value}
 use Rattle.core_invariant.specs.Knows.{WorksIn}
 use Rattle.core_invariant.specs.Stands.{holds, held_by, IsLent, Stands}
-use Rattle.core_invariant.proofs.Bare.{none_kept, core_bare}
+use Rattle.core_invariant.proofs.Bare.{none_kept, own_kept, core_bare}
 use Rattle.core_invariant.proofs.Calm.{IsCalm}
 
 none_some : (v : ℕ) → None ≡ Some v → ⊥
@@ -65,8 +68,13 @@ lent_other setup setting cores t stands e follows d f i v other is =
       stack = subst (λ k. 1 ≤ length k.stack) (sym stays.thread) l.stack;
     }
 
+-- Whether a frame has a thread.
+abbrev pub is_thread : Frame → Bool
+is_thread (Kernel (Thread k)) = true
+is_thread _ = false
+
 -- A thread's frame is none of a node, of a component, of a temporal capability or of a blank one.
-no_stack : (x : Frame) → fits kind.Thread x ≡ false → length (thread_in x).stack ≡ 0
+no_stack : (x : Frame) → is_thread x ≡ false → length (thread_in x).stack ≡ 0
 no_stack Untyped not = refl
 no_stack User not = refl
 no_stack (Kernel Blank) not = refl
@@ -80,7 +88,7 @@ no_stack (Kernel (Tcap q)) not = refl
 
 -- A word of a frame that is no thread is kept by no core without a mark, and settles to itself where it carries none.
 pub unlent : (setup : Setting) (cores : ℕ → Core) (t : Trace) → Stands setup cores t → (f : ℕ)
-    → fits kind.Thread ((state_after setup t).frame f) ≡ false → (i d : ℕ) → (held_by cores d).bare f i ≡ None
+    → is_thread ((state_after setup t).frame f) ≡ false → (i d : ℕ) → (held_by cores d).bare f i ≡ None
 unlent setup cores t stands f not i d = by ((held_by cores d).bare f i) refl
   where
     by : (o : Option ℕ) → (held_by cores d).bare f i ≡ o → (held_by cores d).bare f i ≡ None
@@ -93,18 +101,18 @@ unlent setup cores t stands f not i d = by ((held_by cores d).bare f i) refl
         absurd (omega (arith, most, none))
 
 pub unlent_value : (setup : Setting) (cores : ℕ → Core) (t : Trace) → Stands setup cores t → (f : ℕ)
-    → fits kind.Thread ((state_after setup t).frame f) ≡ false → (i x : ℕ) → bare_value (held_by cores) (EntryAt f i) x ≡ x
+    → is_thread ((state_after setup t).frame f) ≡ false → (i x : ℕ) → bare_value (held_by cores) (EntryAt f i) x ≡ x
 unlent_value setup cores t stands f not i x = none_kept 8 (held_by cores) f i x (unlent setup cores t stands f not i)
 
 -- So it is after a step whose core keeps none of it.
 pub unlent_after : (setup : Setting) (cores : ℕ → Core) (t : Trace) → Stands setup cores t → (c : ℕ) (after : Core) (f i : ℕ)
-    → fits kind.Thread ((state_after setup t).frame f) ≡ false → (holds after).bare f i ≡ None → (x : ℕ)
+    → is_thread ((state_after setup t).frame f) ≡ false → (holds after).bare f i ≡ None → (x : ℕ)
     → bare_value (held_by (put cores c after)) (EntryAt f i) x ≡ x
 unlent_after setup cores t stands c after f i not none x =
     none_kept 8 (held_by (put cores c after)) f i x
     (λ d. core_bare cores c after f i (none ∙ sym (unlent setup cores t stands f not i c)) d ∙ unlent setup cores t stands f not i d)
 
-pub node_no_thread : (x : Frame) → IsTrue (is_node x) → fits kind.Thread x ≡ false
+pub node_no_thread : (x : Frame) → IsTrue (is_node x) → is_thread x ≡ false
 node_no_thread (Kernel Table) node = refl
 node_no_thread (Kernel Leaf) node = refl
 node_no_thread (Kernel Pages) node = refl
@@ -112,11 +120,35 @@ node_no_thread (Kernel Pleaf) node = refl
 node_no_thread _ node = absurd (false≢true node)
 
 -- No word has two keepers: a thread runs on one core.
-pub one_keeper : (setup : Setting) → IsSetting setup → (cores : ℕ → Core) (t : Trace) → Stands setup cores t
-    → ((c d : ℕ) → c < setup.cores → d < setup.cores → ((state_after setup t).core c).thread ≡ ((state_after setup t).core d).thread
-    → c ≡ d)
-    → (f i c d v u : ℕ) → (held_by cores c).bare f i ≡ Some v → (held_by cores d).bare f i ≡ Some u → c ≡ d
-one_keeper setup setting cores t stands apart f i c d v u is is' =
-    let l = stands.lent c f i v is in
-    let m = stands.lent d f i u is' in
-    apart c d l.core m.core (l.thread ∙ sym m.thread)
+pub one_keeper : (setup : Setting) → IsSetting setup → (cores : ℕ → Core) (t : Trace) → Stands setup cores t → (f i c d v u : ℕ)
+    → (held_by cores c).bare f i ≡ Some v → (held_by cores d).bare f i ≡ Some u → c ≡ d
+one_keeper setup setting cores t stands f i c d v u is is' =
+    same_core c d (sym (runs c (stands.lent c f i v is)) ∙ runs d (stands.lent d f i u is'))
+  where
+    runs : (b : ℕ) → IsLent setup t b f → (thread_in ((state_after setup t).frame f)).runs_on ≡ Some b
+    runs b l = ap (λ (g : ℕ). (thread_in ((state_after setup t).frame g)).runs_on) (sym l.thread)
+        ∙ subst (λ s. RunsOn s b) (sym (state_is setup t))
+        (runs_of setup setting (events_of t) (run_of setup t stands.legal) b
+        (subst (λ (n : ℕ). b < n) (sym (ap (λ l. l.cores) (limits_stay setup (events_of t)))) l.core))
+
+    same_core : (x y : ℕ) → Some x ≡ Some y → x ≡ y
+    same_core x y h = cc
+
+-- So a word that a core keeps settles to what this has still to store there.
+pub own_value : (setup : Setting) → IsSetting setup → (cores : ℕ → Core) (t : Trace) → Stands setup cores t → (c f i v x : ℕ)
+    → (held_by cores c).bare f i ≡ Some v → bare_value (held_by cores) (EntryAt f i) x ≡ v
+own_value setup setting cores t stands c f i v x is =
+    own_kept 8 (held_by cores) f i x v c
+    (let below = (stands.lent c f i v is).core in let most = setting.most_cores in omega (arith, below, most)) is others
+  where
+    others : (b : ℕ) → b ≢ c → (held_by cores b).bare f i ≡ None
+    others b other = by ((held_by cores b).bare f i) refl
+      where
+        by : (o : Option ℕ) → (held_by cores b).bare f i ≡ o → (held_by cores b).bare f i ≡ None
+        by None none = none
+        by (Some u) some = absurd (other (one_keeper setup setting cores t stands f i b c u v some is))
+
+-- A core that keeps none.
+pub lent_none : (setup : Setting) (t : Trace) (c : ℕ) (after : Core) → ((f i : ℕ) → (holds after).bare f i ≡ None) → (f i v : ℕ)
+    → (holds after).bare f i ≡ Some v → IsLent setup t c f
+lent_none setup t c after none f i v is = absurd (none_some v (sym (none f i) ∙ is))
