@@ -1,8 +1,8 @@
 -- The acts of calls, and the counts that they change.
-use Rattle.std.specs.Prelude.{ℕ, ℤ, ◌<◌, ◌==◌, pos, negsuc, Bool, true, false, ◌&&◌, nat_lt, Option, Some, None, List, map, slice_get, if◌then◌else◌, [], ◌∷◌}
+use Rattle.std.specs.Prelude.{ℕ, ℤ, ◌<◌, ◌==◌, pos, negsuc, Bool, true, false, ◌&&◌, nat_lt, nat_le, Option, Some, None, List, map, slice_get, if◌then◌else◌, [], ◌∷◌}
 use Rattle.spk_nums.specs.Capability.{Capability}
 use Rattle.spk_nums.specs.declared.calls.Call.{Call}
-use Rattle.spk_nums.specs.declared.calls.Call.TheVariants.{Look, Copy, Remove, Shrink, Retype, Make as make_call, Unmap, Tick, Kill}
+use Rattle.spk_nums.specs.declared.calls.Call.TheVariants.{Look, Copy, Remove, Shrink, Retype, Make as make_call, Unmap, Tick, Kill, Call as call_gate, Ret}
 use Rattle.spk_nums.specs.declared.replies.Value.TheVariants.{Cap, Nothing as nothing}
 use Rattle.spk_nums.specs.declared.steps.StageEnd.{StageEnd}
 use Rattle.spk_nums.specs.declared.steps.StageEnd.TheVariants as ends
@@ -23,9 +23,9 @@ use Rattle.stage_look.specs.declared.look.Found.{Found}
 use Rattle.stage_pins.specs.declared.pin.Pin.TheVariants.{AtLoad}
 use Rattle.call_plans.specs.declared.plans.Nth.TheVariants.{First}
 use Rattle.call_plans.specs.Plans.{at_place}
-use Rattle.call_acts.specs.declared.refusals.Refusal.TheVariants.{Raced, OutOfRange, Busy, FrameKind as wrong_kind, Dead as is_dead}
+use Rattle.call_acts.specs.declared.refusals.Refusal.TheVariants.{Raced, OutOfRange, Busy, FrameKind as wrong_kind, Dead as is_dead, Deep, Bottom}
 use Rattle.call_acts.specs.declared.work.Act.{Act}
-use Rattle.call_acts.specs.declared.work.Act.TheVariants.{Fill as fill_act, Remove as remove_act, Retype as type_act, Make as make_act, Outside, Tick as tick_act, Kill as kill_act}
+use Rattle.call_acts.specs.declared.work.Act.TheVariants.{Fill as fill_act, Remove as remove_act, Retype as type_act, Make as make_act, Outside, Tick as tick_act, Kill as kill_act, Invoke as invoke_act, Return as return_act}
 use Rattle.call_acts.specs.declared.work.Due.{Due}
 use Rattle.call_acts.specs.declared.work.Work.{Work}
 use Rattle.call_acts.specs.declared.work.Work.TheVariants.{Scan, Acquire, Act as act_work}
@@ -49,6 +49,13 @@ use Rattle.call_acts.specs.Ticks.{charges, took_tick, is_charging, charge_left}
 use Rattle.call_acts.specs.declared.kills.Killing.{Killing}
 use Rattle.call_acts.specs.declared.kills.KillingAt.{KillingAt}
 use Rattle.call_acts.specs.declared.kills.KillingAt.TheVariants.{LoadComp, LoadLive, Close as kill_close, Draw as kill_draw}
+use Rattle.call_acts.specs.declared.invocations.Invoking.{Invoking}
+use Rattle.call_acts.specs.declared.invocations.InvokingAt.{InvokingAt}
+use Rattle.call_acts.specs.declared.invocations.InvokingAt.TheVariants as invoking
+use Rattle.call_acts.specs.declared.invocations.Returning.{Returning}
+use Rattle.call_acts.specs.declared.invocations.ReturningAt.{ReturningAt}
+use Rattle.call_acts.specs.declared.invocations.ReturningAt.TheVariants as returning
+use Rattle.call_acts.specs.Invocations.{InvokingFits, invoking_move, is_entering, invoking_left, frame_in, enters_live, ReturningFits, returning_move, is_leaving, returning_left, below_in, left_to}
 use Rattle.call_acts.specs.Kills.{KillingFits, killing_move, is_killing, killing_left}
 use Rattle.frame_words.specs.Comp.{comp_of_word}
 use Rattle.frame_words.specs.Live.{live_of_word}
@@ -77,6 +84,8 @@ ActFits s (make_act m) = MakingFits s m
 ActFits s (Outside node entry word) = (node < s.frames) × (entry < 64)
 ActFits s (tick_act charge) = ChargeFits s charge
 ActFits s (kill_act m) = KillingFits s m
+ActFits s (invoke_act m) = InvokingFits s m
+ActFits s (return_act m) = ReturningFits s m
 
 -- the stamp with which a removal that has drawn it goes on to its store
 abbrev pub drawn_by : Close → Option ℕ
@@ -101,6 +110,8 @@ act_move (make_act m) = making_move m
 act_move (Outside node entry word) = LoadOf (EntryAt node entry)
 act_move (tick_act charge) = charge_move charge
 act_move (kill_act m) = killing_move m
+act_move (invoke_act m) = invoking_move m
+act_move (return_act m) = returning_move m
 
 -- whether the next step of a removal draws its stamp
 abbrev pub is_draw : Close → Bool
@@ -117,6 +128,8 @@ act_ready (make_act m) = is_filling m.at
 act_ready (Outside node entry word) = false
 act_ready (tick_act charge) = is_charging charge
 act_ready (kill_act m) = is_killing m.at
+act_ready (invoke_act m) = is_entering m.at
+act_ready (return_act m) = is_leaving m.at
 
 -- the steps of a removal that are still to come
 abbrev pub close_left : Close → ℕ
@@ -133,6 +146,8 @@ act_left (make_act m) = making_left m.object m.at
 act_left (Outside node entry word) = 1
 act_left (tick_act charge) = charge_left charge
 act_left (kill_act m) = killing_left m.at
+act_left (invoke_act m) = invoking_left m.at
+act_left (return_act m) = returning_left m.at
 
 -- a look answers what its name has led to
 abbrev pub looked : Option Capability → WorkStep
@@ -157,6 +172,20 @@ killing_dues f (LoadLive life) = []
 killing_dues f (kill_close life word) = record { frame = f; change = negsuc 0 } ∷ []
 killing_dues f (kill_draw life word) = record { frame = f; change = negsuc 0 } ∷ []
 
+-- an entering changes the count of the component's frame, from when its words are loaded
+abbrev pub invoking_dues : ℕ → InvokingAt → List Due
+invoking_dues f invoking.LoadTable = []
+invoking_dues f (invoking.LoadPages table) = []
+invoking_dues f (invoking.LoadComp table pages) = []
+invoking_dues f (invoking.LoadLive table pages life) = record { frame = f; change = pos 1 } ∷ []
+
+-- a leaving changes the count of the top's frame, from when the words of the component below are loaded
+abbrev pub returning_dues : ℕ → ReturningAt → List Due
+returning_dues f returning.LoadBelow = []
+returning_dues f (returning.LoadTable comp) = []
+returning_dues f (returning.LoadPages comp table) = []
+returning_dues f (returning.Draw comp table pages) = record { frame = f; change = negsuc 0 } ∷ []
+
 -- the counts that an act changes, in the order in which they are acquired
 abbrev pub dues : Act → List Due
 dues (fill_act fill) = cap_dues fill.cap (pos 1)
@@ -166,6 +195,8 @@ dues (make_act m) = made_dues m.object m.frame m.at
 dues (Outside node entry word) = []
 dues (tick_act charge) = []
 dues (kill_act m) = killing_dues m.comp m.at
+dues (invoke_act m) = invoking_dues m.comp m.at
+dues (return_act m) = returning_dues m.top m.at
 
 -- a core acquires this count for an act next, or has acquired all and goes on to the act
 abbrev pub acquires : ℕ → Act → Option Due → Work
@@ -242,6 +273,51 @@ took_killing_at m (kill_draw life word) found = drawn_dead life (drawn_stamp fou
 abbrev pub took_killing : Killing → ℕ → WorkStep
 took_killing m found = took_killing_at m m.at found
 
+-- what an entering takes from its step
+abbrev pub meets_table : Invoking → Option ℕ → WorkStep
+meets_table m None = refuse Raced
+meets_table m (Some table) = Goes (act_work (invoke_act (record m { at = invoking.LoadPages table })))
+
+abbrev pub meets_pages : Invoking → ℕ → Option ℕ → WorkStep
+meets_pages m table None = refuse Raced
+meets_pages m table (Some pages) = Goes (act_work (invoke_act (record m { at = invoking.LoadComp table pages })))
+
+abbrev pub meets_gate : Invoking → ℕ → ℕ → Option CompWord → WorkStep
+meets_gate m table pages None = refuse Raced
+meets_gate m table pages (Some life) = Goes (next_work m.core 0 (invoke_act (record m { at = invoking.LoadLive table pages life })))
+
+abbrev pub took_invoking_at : Invoking → InvokingAt → ℕ → WorkStep
+took_invoking_at m invoking.LoadTable found = meets_table m (frame_in m.frames found)
+took_invoking_at m (invoking.LoadPages table) found = meets_pages m table (frame_in m.frames found)
+took_invoking_at m (invoking.LoadComp table pages) found = meets_gate m table pages (comp_of_word found)
+took_invoking_at m (invoking.LoadLive table pages life) found = enters_live m table pages (live_of_word found)
+
+abbrev pub took_invoking : Invoking → ℕ → WorkStep
+took_invoking m found = took_invoking_at m m.at found
+
+-- what a leaving takes from its step
+abbrev pub meets_below : Returning → Option ℕ → WorkStep
+meets_below m None = refuse Raced
+meets_below m (Some comp) = Goes (act_work (return_act (record m { at = returning.LoadTable comp })))
+
+abbrev pub meets_below_table : Returning → ℕ → Option ℕ → WorkStep
+meets_below_table m comp None = refuse Raced
+meets_below_table m comp (Some table) = Goes (act_work (return_act (record m { at = returning.LoadPages comp table })))
+
+abbrev pub meets_below_pages : Returning → ℕ → ℕ → Option ℕ → WorkStep
+meets_below_pages m comp table None = refuse Raced
+meets_below_pages m comp table (Some pages) =
+    Goes (next_work m.core 0 (return_act (record m { at = returning.Draw comp table pages })))
+
+abbrev pub took_returning_at : Returning → ReturningAt → ℕ → WorkStep
+took_returning_at m returning.LoadBelow found = meets_below m (below_in m.frames found)
+took_returning_at m (returning.LoadTable comp) found = meets_below_table m comp (frame_in m.frames found)
+took_returning_at m (returning.LoadPages comp table) found = meets_below_pages m comp table (frame_in m.frames found)
+took_returning_at m (returning.Draw comp table pages) found = left_to m comp table pages (drawn_stamp found)
+
+abbrev pub took_returning : Returning → ℕ → WorkStep
+took_returning m found = took_returning_at m m.at found
+
 -- what an act takes from the word found
 abbrev pub took_act : Act → ℕ → WorkStep
 took_act (fill_act fill) found = took_fill fill found
@@ -251,6 +327,8 @@ took_act (make_act m) found = took_making m found
 took_act (Outside node entry word) found = refuse OutOfRange
 took_act (tick_act charge) found = took_tick charge found
 took_act (kill_act m) found = took_killing m found
+took_act (invoke_act m) found = took_invoking m found
+took_act (return_act m) found = took_returning m found
 
 -- what a refused call has still to store where it acquires a count for an act
 abbrev pub undo : Act → Tail
@@ -261,6 +339,8 @@ undo (make_act m) = undo_at m.frame m.at
 undo (Outside node entry word) = Nothing
 undo (tick_act charge) = Nothing
 undo (kill_act m) = Nothing
+undo (invoke_act m) = Nothing
+undo (return_act m) = Nothing
 
 -- an act starts with its first count, where it is not out of range
 abbrev pub starts : ℕ → Act → WorkStep
@@ -330,6 +410,8 @@ stamp_of_act (make_act m) = stamp_shown (entry_of_word m.fill.word)
 stamp_of_act (Outside node entry word) = stamp_shown (entry_of_word word)
 stamp_of_act (tick_act charge) = 0
 stamp_of_act (kill_act m) = 0
+stamp_of_act (invoke_act m) = 0
+stamp_of_act (return_act m) = 0
 
 -- a frame is typed where it is in the range, which has none past the machine's
 abbrev pub types_if : Bool → ℕ → FrameKind → WorkStep
@@ -370,6 +452,44 @@ abbrev pub kills_at : Own → Option Capability → WorkStep
 kills_at own None = refuse Raced
 kills_at own (Some k) = kills_in own.core k.kind k.frame
 
+-- the component of a gate to which a name has led is entered, where the stack is not full; a capability of another kind is no gate
+abbrev pub invokes_if : Bool → Own → ℕ → ℕ → WorkStep
+invokes_if deep own f epoch =
+    if deep then refuse Deep
+    else Goes (act_work (invoke_act (record {
+      comp = f;
+      epoch = epoch;
+      thread = own.thread;
+      depth = own.depth;
+      core = own.core;
+      frames = own.layout.frames;
+      at = invoking.LoadTable;
+    })))
+
+abbrev pub invokes_in : Own → Kind → ℕ → ℕ → WorkStep
+invokes_in own kind.Gate f epoch = invokes_if (nat_le 16 own.depth) own f epoch
+invokes_in own _ f epoch = refuse Raced
+
+abbrev pub invokes_at : Own → Option Capability → WorkStep
+invokes_at own None = refuse Raced
+invokes_at own (Some k) = invokes_in own k.kind k.frame k.arg
+
+-- a core's component is left, where it is not the bottom of the stack
+abbrev pub returns_if : Bool → Own → WorkStep
+returns_if bottom own =
+    if bottom then refuse Bottom
+    else Goes (act_work (return_act (record {
+      top = own.comp;
+      thread = own.thread;
+      depth = own.depth;
+      core = own.core;
+      frames = own.layout.frames;
+      at = returning.LoadBelow;
+    })))
+
+abbrev pub returns_at : Own → WorkStep
+returns_at own = returns_if (nat_le own.depth 1) own
+
 -- what a call of a core does whose names have led to these and whose target, if it has one, was found
 abbrev pub act_begun : Own → Call → List Capability → Option Found → WorkStep
 act_begun own (Look a) found target = looked (at_place found First)
@@ -382,4 +502,6 @@ act_begun own (make_call what range frame table slot) found target =
     makes_at own (object_made what found) (at_place found First) frame target
 act_begun own (Tick n) found target = charges own n
 act_begun own (Kill k) found target = kills_at own (at_place found First)
+act_begun own (call_gate g) found target = invokes_at own (at_place found First)
+act_begun own Ret found target = returns_at own
 act_begun own _ found target = refuse Raced

@@ -45,6 +45,13 @@ pub struct Own {
 pub enum OwnChange {
     /// So many ticks were charged, which are spent, and so many are owed.
     Ticks { charged: u32, owed: u64 },
+    /// It works in this component, with this table and these pages, at this depth of its thread's stack.
+    Works {
+        comp: FrameNo,
+        table: FrameNo,
+        pages: FrameNo,
+        depth: u8,
+    },
 }
 
 impl Own {
@@ -57,6 +64,17 @@ impl Own {
             OwnChange::Ticks { charged, owed } => {
                 self.spent = self.spent.saturating_add(u64::from(*charged));
                 self.owed = *owed;
+            }
+            OwnChange::Works {
+                comp,
+                table,
+                pages,
+                depth,
+            } => {
+                self.comp = *comp;
+                self.table = *table;
+                self.pages = *pages;
+                self.depth = *depth;
             }
         }
     }

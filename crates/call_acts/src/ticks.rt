@@ -13,7 +13,7 @@ ghost use Rattle.stage_tcap.specs.Charging.{ChargeFits, charge_move, charge_end,
 ghost use Rattle.call_acts.specs.Ticks.{ticks_of, charged_in, owes, took_charge, took_tick, charges, is_charging};
 
 use crate::own::{Own, OwnChange};
-use crate::work::{Act, Work, WorkStep};
+use crate::work::{Act, Tail, Work, WorkStep};
 use spk_nums::{Reply, StageEnd, Value, WordOp};
 use stage_tcap::Charge;
 use word_map::Layout;
@@ -59,6 +59,8 @@ fn charge_took(due: u64, charge: Charge, end: &StageEnd<Value>) -> WorkStep
                 charged: charged_in(value),
                 owed: due.saturating_sub(u64::from(charged_in(value))),
             },
+            drawn: None,
+            tail: Tail::Nothing,
         },
         StageEnd::Refuse(reply) => owes(*reply, due),
     }
@@ -75,6 +77,8 @@ fn owes(reply: Reply, due: u64) -> WorkStep
             charged: 0,
             owed: due,
         },
+        drawn: None,
+        tail: Tail::Nothing,
     }
 }
 

@@ -1,6 +1,7 @@
 //! The work of a call between its entry and its decision, what a step of it leads to, and what a decision leaves to be stored.
 
 use crate::fills::Fill;
+use crate::invocations::{Invoking, Returning};
 use crate::kills::Killing;
 use crate::makings::Making;
 use crate::own::OwnChange;
@@ -12,6 +13,7 @@ use stage_look::Look;
 use stage_pins::{Acquired, Pin};
 use stage_quiet::{Close, Quiet};
 use stage_tcap::Charge;
+use stage_thread::{Pop, Push};
 
 /// What a call does after its look-ups, till it is decided.
 #[derive(Clone, Copy, PartialEq, Eq, Debug)]
@@ -46,6 +48,14 @@ pub enum Act {
     /// It kills a component.
     Kill {
         killing: Killing,
+    },
+    /// It enters a component through a gate.
+    Invoke {
+        invoking: Invoking,
+    },
+    /// It leaves its component.
+    Return {
+        returning: Returning,
     },
 }
 
@@ -84,6 +94,10 @@ pub enum Tail {
     Unmark { frame: FrameNo, word: u64 },
     /// The word of a liveness number that is dead since the stamp that was drawn.
     StoreDead { life: CompWord, stamp: Stamp },
+    /// The words of the core's thread, onto whose stack a component is pushed.
+    Push { push: Push },
+    /// The words of the core's thread, of whose stack the top is popped.
+    Pop { pop: Pop },
 }
 
 /// What a step of the work of a call led to.
@@ -109,9 +123,12 @@ pub enum WorkStep {
         drawn: Option<Stamp>,
         tail: Tail,
     },
-    /// The call is decided with this reply and nothing to store, and changes this of what its core has of its own.
+    /// The call is decided with this reply, has drawn this stamp or none and has this still to store beside its counts, and changes this of
+    /// what its core has of its own.
     Changes {
         reply: Reply,
         change: OwnChange,
+        drawn: Option<Stamp>,
+        tail: Tail,
     },
 }

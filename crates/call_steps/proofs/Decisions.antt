@@ -8,7 +8,7 @@ use Rattle.stage_pins.specs.declared.pin.Pin.{Pin}
 use Rattle.stage_pins.specs.declared.pin.Pinned.{Pinned}
 use Rattle.stage_pins.specs.declared.held.Acquired.{Acquired}
 use Rattle.stage_pins.specs.Acquire.{pin_after, pin_end}
-use Rattle.std.proofs.Common.{◌≡◌, ℕ, ℤ, ◌+◌, ◌==◌, ◌&&◌, Bool, true, false, List, [], ◌∷◌, length, Option, Some, None, refl, sym, ◌∙◌, ap, subst, arith, eqb-true}
+use Rattle.std.proofs.Common.{nat_le, ◌≡◌, ℕ, ℤ, ◌+◌, ◌==◌, ◌&&◌, Bool, true, false, List, [], ◌∷◌, length, Option, Some, None, refl, sym, ◌∙◌, ap, subst, arith, eqb-true}
 use Rattle.call_plans.specs.Plans.{pushed, at_place}
 use Rattle.spk_nums.specs.Capability.{Capability}
 use Rattle.spk_nums.specs.declared.kinds.FrameKind.{FrameKind}
@@ -16,7 +16,7 @@ use Rattle.spk_nums.specs.declared.kinds.FrameKind.TheVariants.{Untyped, User, K
 use Rattle.spk_nums.specs.declared.calls.Make.{Make}
 use Rattle.spk_nums.specs.declared.calls.Make.TheVariants as make
 use Rattle.spk_nums.specs.declared.calls.Call.{Call}
-use Rattle.spk_nums.specs.declared.calls.Call.TheVariants.{Look as look_call, Copy, Remove, Shrink, Unmap, Retype, Make as make_call, Tick, Kill}
+use Rattle.spk_nums.specs.declared.calls.Call.TheVariants.{Look as look_call, Copy, Remove, Shrink, Unmap, Retype, Make as make_call, Tick, Kill, Call as call_gate, Ret}
 use Rattle.spk_nums.specs.declared.replies.Reply.{Reply}
 use Rattle.entry_words.specs.declared.entry.Entry.{Entry}
 use Rattle.entry_words.specs.declared.entry.Entry.TheVariants as entry
@@ -55,13 +55,13 @@ use Rattle.call_acts.specs.declared.makings.MakingAt.{MakingAt}
 use Rattle.call_acts.specs.declared.makings.MakingAt.TheVariants.{Load as make_load, Mark, Store, Fill as fill_at}
 use Rattle.call_acts.specs.Makings.{is_filling}
 use Rattle.call_acts.specs.declared.work.Act.{Act as ActType}
-use Rattle.call_acts.specs.declared.work.Act.TheVariants.{Fill as fill_act, Remove as remove_act, Retype as type_act, Make as make_act, Outside, Tick as tick_act, Kill as kill_act}
+use Rattle.call_acts.specs.declared.work.Act.TheVariants.{Fill as fill_act, Remove as remove_act, Retype as type_act, Make as make_act, Outside, Tick as tick_act, Kill as kill_act, Invoke as invoke_act, Return as return_act}
 use Rattle.call_acts.specs.declared.work.Work.{Work}
 use Rattle.call_acts.specs.declared.work.Work.TheVariants.{Lookup, Scan, Acquire, Act}
 use Rattle.call_steps.specs.declared.stages.Stage.{Stage}
 use Rattle.call_steps.specs.declared.stages.Stage.TheVariants.{Enter, Undecided, Decided, Leave}
 use Rattle.call_acts.specs.declared.work.Tail.{Tail}
-use Rattle.call_acts.specs.declared.work.Tail.TheVariants.{Nothing, Quiesce, Unmark, StoreDead}
+use Rattle.call_acts.specs.declared.work.Tail.TheVariants.{Nothing, Quiesce, Unmark, StoreDead, Push as push_tail, Pop as pop_tail}
 use Rattle.call_steps.specs.declared.stages.ActiveCall.{ActiveCall}
 use Rattle.call_acts.specs.declared.work.WorkStep.{WorkStep}
 use Rattle.call_acts.specs.declared.work.WorkStep.TheVariants.{Goes, Acquires, Refuses as refuses_to, Answers, Changes as work_changes}
@@ -69,18 +69,27 @@ use Rattle.call_acts.specs.Refusals.{refusal_of}
 use Rattle.call_acts.proofs.Refusing.{refusal_refuses}
 use Rattle.call_acts.specs.Fills.{filled_if}
 use Rattle.call_acts.specs.WorkSteps.{refuse}
-use Rattle.call_acts.specs.Acts.{took_close, is_draw, took_act, act_ready, fills_with, removes_held, removes_at, act_begun, types_if, types_at, stamp_in, filling, starts, scans, makes_at, meets_object, meets_blank, meets_making, marks_if, published, took_making_at, kills_in, kills_at, meets_comp, meets_live, meets_number, meets_life, closes_if, took_killing_at}
+use Rattle.call_acts.specs.Acts.{took_close, is_draw, took_act, act_ready, fills_with, removes_held, removes_at, act_begun, types_if, types_at, stamp_in, filling, starts, scans, makes_at, meets_object, meets_blank, meets_making, marks_if, published, took_making_at, kills_in, kills_at, meets_comp, meets_live, meets_number, meets_life, closes_if, took_killing_at, invokes_if, invokes_in, invokes_at, returns_if, meets_table, meets_pages, meets_gate, took_invoking_at, meets_below, meets_below_table, meets_below_pages, took_returning_at}
 use Rattle.call_plans.specs.declared.plans.Nth.TheVariants.{First}
 use Rattle.frame_words.specs.declared.frame_word.FrameWord.{FrameWord}
 use Rattle.spk_nums.specs.declared.kinds.Kind.{Kind}
 use Rattle.spk_nums.specs.declared.kinds.Kind.TheVariants as kind
 use Rattle.frame_words.specs.declared.comp_word.CompWord.{CompWord}
+use Rattle.frame_words.specs.Comp.{comp_of_word}
+use Rattle.frame_words.specs.Live.{live_of_word}
 use Rattle.frame_words.specs.declared.live_word.LiveWord.{LiveWord}
 use Rattle.frame_words.specs.declared.live_word.LiveWord.TheVariants as live
 use Rattle.call_acts.specs.declared.kills.Killing.{Killing}
 use Rattle.call_acts.specs.declared.kills.KillingAt.{KillingAt}
 use Rattle.call_acts.specs.declared.kills.KillingAt.TheVariants.{LoadComp, LoadLive, Close as kill_close, Draw as kill_draw}
 use Rattle.call_acts.specs.Kills.{is_killing}
+use Rattle.call_acts.specs.declared.invocations.Invoking.{Invoking}
+use Rattle.call_acts.specs.declared.invocations.InvokingAt.{InvokingAt}
+use Rattle.call_acts.specs.declared.invocations.InvokingAt.TheVariants as invoking
+use Rattle.call_acts.specs.declared.invocations.Returning.{Returning}
+use Rattle.call_acts.specs.declared.invocations.ReturningAt.{ReturningAt}
+use Rattle.call_acts.specs.declared.invocations.ReturningAt.TheVariants as returning
+use Rattle.call_acts.specs.Invocations.{is_entering, frame_in, enters_if, enters_live, is_leaving, below_in}
 use Rattle.call_acts.specs.declared.typings.Typing.{Typing}
 use Rattle.call_acts.specs.declared.typings.TypingAt.{TypingAt}
 use Rattle.call_acts.specs.declared.typings.TypingAt.TheVariants.{Load, Compare as type_compare}
@@ -99,7 +108,7 @@ landed_turns a (Goes work) = refl
 landed_turns a (Acquires count work) = refl
 landed_turns a (refuses_to r tail) = (refl, refl)
 landed_turns a (Answers v drawn tail) = (refl, refl)
-landed_turns a (work_changes r change) = (refl, refl)
+landed_turns a (work_changes r change drawn tail) = (refl, refl)
 
 named_turns : (own : Own) (a : ActiveCall) (met : Met) → Turns None (named_one own a met)
 named_turns own a (Finds k) = landed_turns (found_more a (pushed a.found k)) _
@@ -135,6 +144,8 @@ tail_turns : (a : ActiveCall) (r : Reply) (drawn : Option ℕ) (tail : Tail) (co
 tail_turns a r drawn (Quiesce close) counts found = refl
 tail_turns a r drawn (Unmark f word) counts found = refl
 tail_turns a r drawn (StoreDead life stamp) counts found = refl
+tail_turns a r drawn (push_tail push) counts found = refl
+tail_turns a r drawn (pop_tail pop) counts found = refl
 tail_turns a r drawn Nothing [] found = refl
 tail_turns a r drawn Nothing (x ∷ xs) found = refl
 
@@ -153,14 +164,14 @@ NoAnswer (Goes work) = Unit {0}
 NoAnswer (Acquires count work) = Unit {0}
 NoAnswer (refuses_to r tail) = Unit {0}
 NoAnswer (Answers v drawn tail) = ⊥
-NoAnswer (work_changes r change) = IsRefusal r
+NoAnswer (work_changes r change drawn tail) = IsRefusal r
 
 landed_refuses : (a : ActiveCall) (step : WorkStep) → NoAnswer step → Refuses (landed a step)
 landed_refuses a (Goes work) none = tt
 landed_refuses a (Acquires count work) none = tt
 landed_refuses a (refuses_to r tail) none = refusal_refuses r
 landed_refuses a (Answers v drawn tail) none = absurd none
-landed_refuses a (work_changes r change) none = none
+landed_refuses a (work_changes r change drawn tail) none = none
 
 under_no : (within : Bool) (top n : ℕ) → NoAnswer (looks_under within top n)
 under_no true top n = tt
@@ -183,6 +194,8 @@ starts_no core (type_act typing) = tt
 starts_no core (make_act m) = tt
 starts_no core (tick_act charge) = tt
 starts_no core (kill_act m) = tt
+starts_no core (invoke_act m) = tt
+starts_no core (return_act m) = tt
 
 scans_no : (core : ℕ) (o : Option Quiet) (act : ActType) → NoAnswer (scans core o act)
 scans_no core None act = starts_no core act
@@ -226,6 +239,22 @@ kills_no : (own : Own) (comp : Option Capability) → NoAnswer (kills_at own com
 kills_no own None = tt
 kills_no own (Some k) = kill_no own.core k.kind k.frame
 
+enter_no : (deep : Bool) (own : Own) (f epoch : ℕ) → NoAnswer (invokes_if deep own f epoch)
+enter_no true own f epoch = tt
+enter_no false own f epoch = tt
+
+invoke_no : (own : Own) (kind : Kind) (f epoch : ℕ) → NoAnswer (invokes_in own kind f epoch)
+invoke_no own kind.Gate f epoch = enter_no (nat_le 16 own.depth) own f epoch
+invoke_no own kind f epoch = tt
+
+invokes_no : (own : Own) (gate : Option Capability) → NoAnswer (invokes_at own gate)
+invokes_no own None = tt
+invokes_no own (Some k) = invoke_no own k.kind k.frame k.arg
+
+return_no : (bottom : Bool) (own : Own) → NoAnswer (returns_if bottom own)
+return_no true own = tt
+return_no false own = tt
+
 act_no : (own : Own) (call : Call) (found : List Capability) (target : Option Found) → decides_at_name (plan_for call).decides ≡ false
     → NoAnswer (act_begun own call found target)
 act_no own (look_call a) found target not = absurd (cc)
@@ -237,6 +266,8 @@ act_no own (Retype r f k) found target not = types_no own (at_place found First)
 act_no own (make_call what range frame table slot) found target not =
     makes_no own (object_made what found) (at_place found First) frame target
 act_no own (Kill k) found target not = kills_no own (at_place found First)
+act_no own (call_gate g) found target not = invokes_no own (at_place found First)
+act_no own Ret found target not = return_no (nat_le own.depth 1) own
 act_no own call found target not = tt
 
 -- A call that is decided where its last name is found has one name, and no target.
@@ -452,6 +483,42 @@ killing_no m (LoadLive life) found not = live_no m life found _
 killing_no m (kill_close life word) found not = closes_no m life word _
 killing_no m (kill_draw life word) found not = absurd (cc)
 
+invoking_no : (m : Invoking) (at : InvokingAt) (found : ℕ) → is_entering at ≡ false → NoAnswer (took_invoking_at m at found)
+invoking_no m invoking.LoadTable found not = by (frame_in m.frames found)
+  where
+    by : (o : Option ℕ) → NoAnswer (meets_table m o)
+    by None = tt
+    by (Some table) = tt
+invoking_no m (invoking.LoadPages table) found not = by (frame_in m.frames found)
+  where
+    by : (o : Option ℕ) → NoAnswer (meets_pages m table o)
+    by None = tt
+    by (Some pages) = tt
+invoking_no m (invoking.LoadComp table pages) found not = by (comp_of_word found)
+  where
+    by : (o : Option CompWord) → NoAnswer (meets_gate m table pages o)
+    by None = tt
+    by (Some life) = tt
+invoking_no m (invoking.LoadLive table pages life) found not = absurd (cc)
+
+returning_no : (m : Returning) (at : ReturningAt) (found : ℕ) → is_leaving at ≡ false → NoAnswer (took_returning_at m at found)
+returning_no m returning.LoadBelow found not = by (below_in m.frames found)
+  where
+    by : (o : Option ℕ) → NoAnswer (meets_below m o)
+    by None = tt
+    by (Some comp) = tt
+returning_no m (returning.LoadTable comp) found not = by (frame_in m.frames found)
+  where
+    by : (o : Option ℕ) → NoAnswer (meets_below_table m comp o)
+    by None = tt
+    by (Some table) = tt
+returning_no m (returning.LoadPages comp table) found not = by (frame_in m.frames found)
+  where
+    by : (o : Option ℕ) → NoAnswer (meets_below_pages m comp table o)
+    by None = tt
+    by (Some pages) = tt
+returning_no m (returning.Draw comp table pages) found not = absurd (cc)
+
 act_unready : (act : ActType) (found : ℕ) → act_ready act ≡ false → NoAnswer (took_act act found)
 act_unready (fill_act fill) found not = absurd (cc)
 act_unready (remove_act close cap) found not = close_no cap close found not
@@ -460,6 +527,8 @@ act_unready (make_act m) found not = making_no m m.at found not
 act_unready (Outside node entry word) found not = tt
 act_unready (tick_act charge) found not = charge_no charge found not
 act_unready (kill_act m) found not = killing_no m m.at found not
+act_unready (invoke_act m) found not = invoking_no m m.at found not
+act_unready (return_act m) found not = returning_no m m.at found not
 
 -- a step of a scan answers nothing
 scan_refuses : (core : ℕ) (act : ActType) (a : ActiveCall) (q : Quiet) (end : StageEnd (Unit {0}))
@@ -524,14 +593,14 @@ IsOver (Goes work) = ⊥
 IsOver (Acquires count work) = ⊥
 IsOver (refuses_to r tail) = Unit {0}
 IsOver (Answers v drawn tail) = Unit {0}
-IsOver (work_changes r change) = Unit {0}
+IsOver (work_changes r change drawn tail) = Unit {0}
 
 landed_decides : (a : ActiveCall) (step : WorkStep) → IsOver step → IsDecision (landed a step)
 landed_decides a (Goes work) over = absurd over
 landed_decides a (Acquires count work) over = absurd over
 landed_decides a (refuses_to r tail) over = tt
 landed_decides a (Answers v drawn tail) over = tt
-landed_decides a (work_changes r change) over = tt
+landed_decides a (work_changes r change drawn tail) over = tt
 
 fill_decides : (a : ActiveCall) (equal : Bool) → IsDecision (landed a (filled_if equal))
 fill_decides a true = tt
@@ -573,6 +642,31 @@ killing_decides a m (LoadLive life) found ready = absurd (cc)
 killing_decides a m (kill_close life word) found ready = absurd (cc)
 killing_decides a m (kill_draw life word) found ready = tt
 
+invoking_decides : (a : ActiveCall) (m : Invoking) (at : InvokingAt) (found : ℕ) → is_entering at ≡ true
+    → IsDecision (landed a (took_invoking_at m at found))
+invoking_decides a m invoking.LoadTable found ready = absurd (cc)
+invoking_decides a m (invoking.LoadPages table) found ready = absurd (cc)
+invoking_decides a m (invoking.LoadComp table pages) found ready = absurd (cc)
+invoking_decides a m (invoking.LoadLive table pages life) found ready = by (live_of_word found)
+  where
+    lives : (same : Bool) → IsDecision (landed a (enters_if m table pages same))
+    lives true = tt
+    lives false = tt
+
+    by : (o : Option LiveWord) → IsDecision (landed a (enters_live m table pages o))
+    by None = tt
+    by (Some live.Free) = tt
+    by (Some (live.Live epoch f)) = lives (epoch == m.epoch)
+    by (Some (live.Closing epoch d)) = tt
+    by (Some (live.Dead epoch stamp)) = tt
+
+returning_decides : (a : ActiveCall) (m : Returning) (at : ReturningAt) (found : ℕ) → is_leaving at ≡ true
+    → IsDecision (landed a (took_returning_at m at found))
+returning_decides a m returning.LoadBelow found ready = absurd (cc)
+returning_decides a m (returning.LoadTable comp) found ready = absurd (cc)
+returning_decides a m (returning.LoadPages comp table) found ready = absurd (cc)
+returning_decides a m (returning.Draw comp table pages) found ready = tt
+
 act_decides : (a : ActiveCall) (act : ActType) (found : ℕ) → act_ready act ≡ true → IsDecision (landed a (took_act act found))
 act_decides a (fill_act fill) found ready = fill_decides a _
 act_decides a (remove_act (AtCompare node index word core) cap) found ready = absurd (cc)
@@ -583,6 +677,8 @@ act_decides a (make_act m) found ready = making_decides a m m.at found ready
 act_decides a (Outside node entry word) found ready = absurd (cc)
 act_decides a (tick_act charge) found ready = charge_decides a charge found ready
 act_decides a (kill_act m) found ready = killing_decides a m m.at found ready
+act_decides a (invoke_act m) found ready = invoking_decides a m m.at found ready
+act_decides a (return_act m) found ready = returning_decides a m m.at found ready
 
 begun_over : (own : Own) (call : Call) (k : Capability) → decides_at_name (plan_for call).decides ≡ true
     → IsOver (act_begun own call (k ∷ []) None)
@@ -603,6 +699,8 @@ begun_over own (make_call (make.Tcap sched quality) r f t b) k is = absurd (cc)
 begun_over own (make_call (make.Comp table pages live) r f t b) k is = absurd (cc)
 begun_over own (Tick n) k is = absurd (cc)
 begun_over own (Kill c) k is = absurd (cc)
+begun_over own (call_gate g) k is = absurd (cc)
+begun_over own Ret k is = absurd (cc)
 begun_over own call k is = tt
 
 zero_of : (found : List Capability) → (length found + 1 == 1) ≡ true → found ≡ []

@@ -82,11 +82,11 @@ use Rattle.call_acts.specs.Objects.{counts_of, last_word}
 use Rattle.call_acts.specs.Makings.{MakingFits, making_left, undo_at}
 use Rattle.call_steps.specs.Tails.{tail_left, took_tail, tail_counts}
 use Rattle.call_steps.specs.Fits.{TailFits, ScanFits, WorkFits, StageFits, IsWanted, FoundFits, HasRoom, CountsWait, CountsAt, looks_later, names_left, steps_later, left_of_look, left_of_scan, left_of_pin, work_left, left_at, left_of, IsActive, IsOwn}
-use Rattle.call_steps.proofs.StepsFit.{StepFits, starts_fit, few_dues, object_count, work_next, counts_next, first_named, act_fits}
+use Rattle.call_steps.proofs.StepsFit.{ChangeFits, StepFits, starts_fit, few_dues, object_count, work_next, counts_next, first_named, act_fits}
 use Rattle.call_acts.specs.declared.work.Act.{Act as ActType}
-use Rattle.call_acts.specs.declared.work.Act.TheVariants.{Fill as fill_act, Remove as remove_act, Retype as type_act, Make as make_act, Outside, Tick as tick_act, Kill as kill_act}
+use Rattle.call_acts.specs.declared.work.Act.TheVariants.{Fill as fill_act, Remove as remove_act, Retype as type_act, Make as make_act, Outside, Tick as tick_act, Kill as kill_act, Invoke as invoke_act, Return as return_act}
 use Rattle.call_acts.specs.declared.work.Tail.{Tail}
-use Rattle.call_acts.specs.declared.work.Tail.TheVariants.{Nothing, Quiesce, Unmark, StoreDead}
+use Rattle.call_acts.specs.declared.work.Tail.TheVariants.{Nothing, Quiesce, Unmark, StoreDead, Push, Pop}
 use Rattle.call_steps.specs.declared.stages.Stage.{Stage}
 use Rattle.call_steps.specs.declared.stages.Stage.TheVariants.{Enter, Undecided, Decided, Leave}
 use Rattle.call_steps.specs.declared.stages.ActiveCall.{ActiveCall}
@@ -102,6 +102,12 @@ use Rattle.call_acts.specs.Lookups.{met_name, met_free, met_held}
 use Rattle.call_steps.specs.Steps.{GoesOn, landed, found_more, next_by, took_enter, named_one, took_found, took_end, took_look, took_scan, took_count, took_work, went_with, is_spent, took_at, took}
 use Rattle.call_steps.proofs.LandsFit.{TookFits, Facts, names_object, next_fits, landed_fits}
 use Rattle.call_steps.proofs.KillsFit.{kill_fits}
+use Rattle.call_steps.proofs.InvocationsFit.{invoke_fits, return_fits}
+use Rattle.stage_thread.specs.Stacking.{PushFits, PopFits}
+use Rattle.stage_thread.specs.declared.stack.Push.{Push as PushType}
+use Rattle.stage_thread.specs.declared.stack.Push.TheVariants as push
+use Rattle.stage_thread.specs.declared.stack.Pop.{Pop as PopType}
+use Rattle.stage_thread.specs.declared.stack.Pop.TheVariants as pop
 
 -- a step of the work of a call that has acquired its counts, or acquires them
 module _ (own : Own) (a : ActiveCall) (facts : Facts own a) (room : own.made < own.limit) where
@@ -234,10 +240,11 @@ module _ (own : Own) (a : ActiveCall) (facts : Facts own a) (room : own.made < o
       by false = act_undone _ refusal.Raced (Unmark m.frame word) fits.frame (omega arith)
 
   -- the call is decided with nothing to store
-  act_changed : (left : ℕ) (r : Reply) (change : OwnChange) → 2 + length a.counts < left
-      → TookFits own left a (landed a (work_changes r change))
-  act_changed left r change some =
-      landed_fits own a a refl refl refl facts.found facts.acquired room 0 left (work_changes r change) tt (omega arith)
+  act_changed : (left : ℕ) (r : Reply) (change : OwnChange) → ChangeFits own.layout change → 2 + length a.counts < left
+      → TookFits own left a (landed a (work_changes r change None Nothing))
+  act_changed left r change fits some =
+      landed_fits own a a refl refl refl facts.found facts.acquired room 0 left (work_changes r change None Nothing)
+      (omega arith, tt, fits) (omega arith)
 
   -- where the load of a head with this mark leads
   marked_fits : (tcap ticks budget version : ℕ) (mark : Option ℕ) → tcap < own.layout.frames → version < 2 ^ 28 → length a.counts ≡ 0
@@ -247,19 +254,19 @@ module _ (own : Own) (a : ActiveCall) (facts : Facts own a) (room : own.made < o
       landed_fits own a a refl refl refl facts.found facts.acquired room 1 (2 + length a.counts + 2)
       (Goes (Act (tick_act (charge_compare tcap ticks budget version)))) ((fits, small), omega arith, waits) (omega arith)
   marked_fits tcap ticks budget version (Some d) fits small waits =
-      act_changed (2 + length a.counts + 2) (reply.Busy d) (Ticks 0 ticks) (omega arith)
+      act_changed (2 + length a.counts + 2) (reply.Busy d) (Ticks 0 ticks) tt (omega arith)
 
   head_fits : (tcap ticks word : ℕ) (o : Option HeadWord) → head_of_word word ≡ o → tcap < own.layout.frames → length a.counts ≡ 0
       → TookFits own (2 + length a.counts + 2) a (landed a (took_charge ticks (after_head tcap ticks o) (head_end o)))
-  head_fits tcap ticks word None is fits waits = act_changed (2 + length a.counts + 2) reply.Raced (Ticks 0 ticks) (omega arith)
+  head_fits tcap ticks word None is fits waits = act_changed (2 + length a.counts + 2) reply.Raced (Ticks 0 ticks) tt (omega arith)
   head_fits tcap ticks word (Some v) is fits waits =
       marked_fits tcap ticks v.budget v.version v.mark fits (spelling.spells word v is).0.2 waits
 
   charged_fits : (due charged : ℕ) (charge : Charge) (equal : Bool)
       → TookFits own (2 + length a.counts + 1) a (landed a (took_charge due charge (charged_end equal charged)))
   charged_fits due charged charge true =
-      act_changed (2 + length a.counts + 1) (reply.Ok (Amount charged)) (Ticks charged (due - charged)) (omega arith)
-  charged_fits due charged charge false = act_changed (2 + length a.counts + 1) reply.Raced (Ticks 0 due) (omega arith)
+      act_changed (2 + length a.counts + 1) (reply.Ok (Amount charged)) (Ticks charged (due - charged)) tt (omega arith)
+  charged_fits due charged charge false = act_changed (2 + length a.counts + 1) reply.Raced (Ticks 0 due) tt (omega arith)
 
   tick_fits : (charge : Charge) (word : ℕ) → ChargeFits own.layout charge → length a.counts ≡ 0
       → TookFits own (2 + length a.counts + charge_left charge) a (landed a (took_tick charge word))
@@ -276,6 +283,8 @@ module _ (own : Own) (a : ActiveCall) (facts : Facts own a) (room : own.made < o
   done_fits (Outside node entry word) found fits waits = act_refused _ refusal.OutOfRange (omega arith)
   done_fits (tick_act charge) found fits waits = tick_fits charge found fits waits
   done_fits (kill_act m) found fits waits = kill_fits own a facts room m m.at found fits waits
+  done_fits (invoke_act m) found fits waits = invoke_fits own a facts room m m.at found fits waits
+  done_fits (return_act m) found fits waits = return_fits own a facts room m m.at found fits waits
 
   undo_fits : (act : ActType) → ActFits own.layout act → TailFits own.layout (undo act) × (tail_left (undo act) ≤ act_left act)
   undo_fits (fill_act fill) fits = (tt, omega arith)
@@ -291,6 +300,8 @@ module _ (own : Own) (a : ActiveCall) (facts : Facts own a) (room : own.made < o
   undo_fits (Outside node entry word) fits = (tt, omega arith)
   undo_fits (tick_act charge) fits = (tt, omega arith)
   undo_fits (kill_act m) fits = (tt, omega arith)
+  undo_fits (invoke_act m) fits = (tt, omega arith)
+  undo_fits (return_act m) fits = (tt, omega arith)
 
   -- a scan goes on to the next core, or to the act
   scan_goes : (q : Quiet) (found : ℕ) → QuietFits own.layout q → ScanFits own.layout q → quiet_end own.layout.cores q found ≡ ends.Going
@@ -692,10 +703,10 @@ enter_fits own a false is facts none =
     (next_fits own a facts) (omega arith)
 
 tail_fits : (own : Own) (a : ActiveCall) (r : Reply) (drawn : Option ℕ) (tail : Tail) (counts : List Acquired) (found : ℕ) → Facts own a
-    → a.counts ≡ counts
+    → TailFits own.layout tail → a.counts ≡ counts
     → TookFits own (left_at own.layout.cores a (Decided r drawn tail)) a
     (GoesOn (went_with a (tail_counts tail counts) (took_tail r drawn tail counts found)))
-tail_fits own a r drawn (Quiesce close) counts found facts is = record {
+tail_fits own a r drawn (Quiesce close) counts found facts fits is = record {
   call = refl;
   plan = refl;
   found = facts.found;
@@ -708,7 +719,7 @@ tail_fits own a r drawn (Quiesce close) counts found facts is = record {
   steps = refl;
   fewer = let same : length a.counts ≡ length counts = ap length is in omega arith;
 }
-tail_fits own a r drawn (Unmark f word) counts found facts is = record {
+tail_fits own a r drawn (Unmark f word) counts found facts fits is = record {
   call = refl;
   plan = refl;
   found = facts.found;
@@ -721,7 +732,7 @@ tail_fits own a r drawn (Unmark f word) counts found facts is = record {
   steps = refl;
   fewer = let same : length a.counts ≡ length counts = ap length is in omega arith;
 }
-tail_fits own a r drawn (StoreDead life stamp) counts found facts is = record {
+tail_fits own a r drawn (StoreDead life stamp) counts found facts fits is = record {
   call = refl;
   plan = refl;
   found = facts.found;
@@ -734,7 +745,59 @@ tail_fits own a r drawn (StoreDead life stamp) counts found facts is = record {
   steps = refl;
   fewer = let same : length a.counts ≡ length counts = ap length is in omega arith;
 }
-tail_fits own a r drawn Nothing [] found facts is = record {
+tail_fits own a r drawn (Push (push.AtStack t core depth comp)) counts found facts fits is = record {
+  call = refl;
+  plan = refl;
+  found = facts.found;
+  first = tt;
+  stage = fits;
+  acquired = subst (AllFit own.layout) is facts.acquired;
+  counts = tt;
+  room = tt;
+  counted = facts.own_fits.made;
+  steps = refl;
+  fewer = let same : length a.counts ≡ length counts = ap length is in omega arith;
+}
+tail_fits own a r drawn (Push (push.AtThread t core depth)) counts found facts fits is = record {
+  call = refl;
+  plan = refl;
+  found = facts.found;
+  first = tt;
+  stage = tt;
+  acquired = subst (AllFit own.layout) is facts.acquired;
+  counts = tt;
+  room = tt;
+  counted = facts.own_fits.made;
+  steps = refl;
+  fewer = let same : length a.counts ≡ length counts = ap length is in omega arith;
+}
+tail_fits own a r drawn (Pop (pop.AtThread t core depth)) counts found facts fits is = record {
+  call = refl;
+  plan = refl;
+  found = facts.found;
+  first = tt;
+  stage = fits;
+  acquired = subst (AllFit own.layout) is facts.acquired;
+  counts = tt;
+  room = tt;
+  counted = facts.own_fits.made;
+  steps = refl;
+  fewer = let same : length a.counts ≡ length counts = ap length is in omega arith;
+}
+tail_fits own a r drawn (Pop (pop.AtStack t depth)) counts found facts fits is = record {
+  call = refl;
+  plan = refl;
+  found = facts.found;
+  first = tt;
+  stage = tt;
+  acquired = subst (AllFit own.layout) is facts.acquired;
+  counts = tt;
+  room = tt;
+  counted = facts.own_fits.made;
+  steps = refl;
+  fewer = let same : length a.counts ≡ length counts = ap length is in omega arith;
+}
+tail_fits own a r drawn Nothing [] found facts fits is = record {
   call = refl;
   plan = refl;
   found = facts.found;
@@ -747,7 +810,7 @@ tail_fits own a r drawn Nothing [] found facts is = record {
   steps = refl;
   fewer = omega arith;
 }
-tail_fits own a r drawn Nothing (x ∷ xs) found facts is = record {
+tail_fits own a r drawn Nothing (x ∷ xs) found facts fits is = record {
   call = refl;
   plan = refl;
   found = facts.found;
@@ -765,7 +828,7 @@ stage_fits : (own : Own) (a : ActiveCall) (stage : Stage) (found : ℕ) → Fact
     → HasRoom own.made own.limit stage → TookFits own (left_at own.layout.cores a stage) a (took_at own a stage found)
 stage_fits own a Enter found facts fits counts room = enter_fits own a _ refl facts counts
 stage_fits own a (Undecided work) found facts fits counts room = work_fits own a work found facts room fits counts
-stage_fits own a (Decided r drawn tail) found facts fits counts room = tail_fits own a r drawn tail a.counts found facts refl
+stage_fits own a (Decided r drawn tail) found facts fits counts room = tail_fits own a r drawn tail a.counts found facts fits refl
 stage_fits own a (Leave r stamp) found facts fits counts room = omega arith
 
 pub took_fits : (own : Own) (a : ActiveCall) (found : ℕ) → IsOwn own → IsActive own a

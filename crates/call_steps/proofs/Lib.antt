@@ -5,4 +5,5 @@ pub mod Fitting
 pub mod Begun
 pub mod Decisions
 pub mod KillsFit
+pub mod InvocationsFit
 pub mod CoreFitting

@@ -23,7 +23,7 @@ use Rattle.call_acts.specs.declared.work.Work.TheVariants.{Lookup, Scan, Acquire
 use Rattle.call_steps.specs.declared.stages.Stage.{Stage}
 use Rattle.call_steps.specs.declared.stages.Stage.TheVariants.{Enter, Undecided, Decided, Leave}
 use Rattle.call_acts.specs.declared.work.Tail.{Tail}
-use Rattle.call_acts.specs.declared.work.Tail.TheVariants.{Nothing, Quiesce, Unmark, StoreDead}
+use Rattle.call_acts.specs.declared.work.Tail.TheVariants.{Nothing, Quiesce, Unmark, StoreDead, Push, Pop}
 use Rattle.call_steps.specs.declared.stages.ActiveCall.{ActiveCall}
 use Rattle.stage_quiet.specs.declared.quiet.Quiet.{Quiet}
 use Rattle.stage_quiet.specs.declared.quiet.Quiet.TheVariants.{AtCore, AtFlush}
@@ -34,6 +34,7 @@ use Rattle.stage_pins.specs.declared.pin.Pin.TheVariants.{AtLoad, AtCompare}
 use Rattle.stage_pins.specs.declared.held.Acquired.{Acquired}
 use Rattle.stage_pins.specs.Acquire.{PinFits}
 use Rattle.stage_pins.specs.Held.{AllFit}
+use Rattle.stage_thread.specs.Stacking.{PushFits, PopFits}
 use Rattle.call_acts.specs.Acts.{ActFits, act_left, dues}
 use Rattle.call_steps.specs.Tails.{tail_left}
 use Rattle.call_steps.specs.View.{Core}
@@ -55,6 +56,8 @@ TailFits s Nothing = Unit {0}
 TailFits s (Quiesce close) = CloseFits s close
 TailFits s (Unmark f word) = f < s.frames
 TailFits s (StoreDead life stamp) = CompFits life × (1 ≤ stamp)
+TailFits s (Push push) = PushFits s push
+TailFits s (Pop pop) = PopFits s pop
 
 abbrev pub StageFits : Shape → Stage → Type 0
 StageFits s Enter = Unit {0}
@@ -168,11 +171,13 @@ abbrev pub CallFits : Own → Option ActiveCall → Type 0
 CallFits own None = Unit {0}
 CallFits own (Some a) = IsActive own a
 
--- what a core has of its own names frames of its machine, and it has counted no more calls than it may make
+-- what a core has of its own names frames of its machine, its thread's stack has 1 to 16 components, and it has counted no more calls than it may make
 pub record IsOwn (own : Own) : Type 0 where
   pub shape : IsShape own.layout
   pub core : own.core < own.layout.cores
   pub thread : own.thread < own.layout.frames
+  pub some_depth : 1 ≤ own.depth
+  pub most_depth : own.depth ≤ 16
   pub comp : own.comp < own.layout.frames
   pub table : own.table < own.layout.frames
   pub pages : own.pages < own.layout.frames

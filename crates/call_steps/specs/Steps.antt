@@ -30,7 +30,6 @@ use Rattle.call_plans.specs.After.{Next, NextName, NextFree, NextHeld, NextOwn, 
 use Rattle.call_acts.specs.declared.refusals.Refusal.TheVariants as refusal
 use Rattle.call_acts.specs.declared.own.Own.{Own}
 use Rattle.call_acts.specs.declared.own.OwnChange.{OwnChange}
-use Rattle.call_acts.specs.declared.work.Tail.TheVariants.{Nothing}
 use Rattle.call_acts.specs.declared.lookups.Met.{Met}
 use Rattle.call_acts.specs.declared.lookups.Met.TheVariants.{Finds, Refused}
 use Rattle.call_acts.specs.declared.work.Act.{Act as ActType}
@@ -95,7 +94,7 @@ landed a (Goes work) = GoesOn (went a (Undecided work))
 landed a (Acquires count work) = GoesOn (went_with a (count_pushed a.counts count) (Undecided work))
 landed a (Refuses r tail) = decided a (reply_of r) None tail
 landed a (Answers v drawn tail) = decided a (Ok v) drawn tail
-landed a (work_changes r change) = Changes r change (went a (Decided r None Nothing))
+landed a (work_changes r change drawn tail) = Changes r change (went a (Decided r drawn tail))
 
 -- its names have led to one capability more
 abbrev pub found_more : ActiveCall → List Capability → ActiveCall

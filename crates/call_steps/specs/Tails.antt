@@ -8,9 +8,14 @@ use Rattle.stage_quiet.specs.Removal.{close_move}
 use Rattle.stage_pins.specs.declared.held.Acquired.{Acquired}
 use Rattle.stage_pins.specs.Commit.{settle_move}
 use Rattle.stage_pins.specs.Held.{commit_of, rest_of}
+use Rattle.stage_thread.specs.Stacking.{push_move, pop_move}
+use Rattle.stage_thread.specs.declared.stack.Push.{Push}
+use Rattle.stage_thread.specs.declared.stack.Push.TheVariants as push
+use Rattle.stage_thread.specs.declared.stack.Pop.{Pop}
+use Rattle.stage_thread.specs.declared.stack.Pop.TheVariants as pop
 use Rattle.call_acts.specs.Kills.{dead_move}
 use Rattle.call_acts.specs.declared.work.Tail.{Tail}
-use Rattle.call_acts.specs.declared.work.Tail.TheVariants.{Nothing, Quiesce, Unmark, StoreDead}
+use Rattle.call_acts.specs.declared.work.Tail.TheVariants.{Nothing, Quiesce, Unmark, StoreDead, Push as push_tail, Pop as pop_tail}
 use Rattle.call_steps.specs.declared.stages.Stage.{Stage}
 use Rattle.call_steps.specs.declared.stages.Stage.TheVariants.{Decided, Leave}
 
@@ -19,11 +24,30 @@ abbrev pub is_ok : Reply → Bool
 is_ok (Ok v) = true
 is_ok _ = false
 
+-- what of a push and of a pop is to be stored after its next store, and how many stores these are with it
+abbrev pub pushed_on : Push → Tail
+pushed_on (push.AtStack t core depth comp) = push_tail (push.AtThread t core depth)
+pushed_on (push.AtThread t core depth) = Nothing
+
+abbrev pub popped_on : Pop → Tail
+popped_on (pop.AtThread t core depth) = pop_tail (pop.AtStack t depth)
+popped_on (pop.AtStack t depth) = Nothing
+
+abbrev pub push_left : Push → ℕ
+push_left (push.AtStack t core depth comp) = 2
+push_left (push.AtThread t core depth) = 1
+
+abbrev pub pop_left : Pop → ℕ
+pop_left (pop.AtThread t core depth) = 2
+pop_left (pop.AtStack t depth) = 1
+
 -- the next step of a decided call: its next store, then the commit of each count that it has acquired, then the load of the clock
 abbrev pub tail_move : Reply → Option ℕ → Tail → List Acquired → Move
 tail_move r drawn (Quiesce close) counts = close_move close
 tail_move r drawn (Unmark f word) counts = StoreOf (FrameAt f) word
 tail_move r drawn (StoreDead life stamp) counts = dead_move life stamp
+tail_move r drawn (push_tail push) counts = push_move push
+tail_move r drawn (pop_tail pop) counts = pop_move pop
 tail_move r drawn Nothing [] = LoadOf ClockAt
 tail_move r drawn Nothing (x ∷ xs) = settle_move (commit_of (is_ok r) drawn x)
 
@@ -39,6 +63,8 @@ abbrev pub took_tail : Reply → Option ℕ → Tail → List Acquired → ℕ �
 took_tail r drawn (Quiesce close) counts found = Decided r drawn Nothing
 took_tail r drawn (Unmark f word) counts found = Decided r drawn Nothing
 took_tail r drawn (StoreDead life stamp) counts found = Decided r drawn Nothing
+took_tail r drawn (push_tail push) counts found = Decided r drawn (pushed_on push)
+took_tail r drawn (pop_tail pop) counts found = Decided r drawn (popped_on pop)
 took_tail r drawn Nothing [] found = Leave r (stamp_of found)
 took_tail r drawn Nothing (x ∷ xs) found = Decided r drawn Nothing
 
@@ -46,6 +72,8 @@ abbrev pub tail_counts : Tail → List Acquired → List Acquired
 tail_counts (Quiesce close) xs = xs
 tail_counts (Unmark f word) xs = xs
 tail_counts (StoreDead life stamp) xs = xs
+tail_counts (push_tail push) xs = xs
+tail_counts (pop_tail pop) xs = xs
 tail_counts Nothing xs = rest_of xs
 
 -- how many stores are left beside the counts
@@ -54,3 +82,5 @@ tail_left Nothing = 0
 tail_left (Quiesce close) = 1
 tail_left (Unmark f word) = 1
 tail_left (StoreDead life stamp) = 1
+tail_left (push_tail push) = push_left push
+tail_left (pop_tail pop) = pop_left pop

@@ -34,6 +34,8 @@ mod steps;
 mod tails;
 #[cfg(test)]
 mod tests;
+#[cfg(test)]
+mod invoke_tests;
 
 pub use core_state::CoreState;
 pub use laws::{decides_once, ready_decides, unready_refuses};

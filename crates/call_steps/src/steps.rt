@@ -549,21 +549,33 @@ impl ActiveCall {
             WorkStep::Answers { value, drawn, tail } => {
                 self.decide(&Reply::Ok(*value), *drawn, tail)
             }
-            WorkStep::Changes { reply, change } => self.decide_changing(reply, change),
+            WorkStep::Changes {
+                reply,
+                change,
+                drawn,
+                tail,
+            } => self.decide_changing(reply, change, *drawn, tail),
         }
     }
 
-    // The call is decided with this reply, which changes this of what its core has of its own.
+    // The call is decided with this reply, has drawn this stamp or none and has this to store, and changes this of what its core has of its
+    // own.
     #[inline(never)]
-    fn decide_changing(&mut self, reply: &Reply, change: &OwnChange) -> Told
+    fn decide_changing(
+        &mut self,
+        reply: &Reply,
+        change: &OwnChange,
+        drawn: Option<Stamp>,
+        tail: &Tail,
+    ) -> Told
         requires { self.old.steps < 1000 }
-        ensures told { result ≡ told (Changes reply.now change.now (went self.old (Decided reply.now None Nothing))) }
-        ensures after { self.new ≡ went self.old (Decided reply.now None Nothing) }
+        ensures told { result ≡ told (Changes reply.now change.now (went self.old (Decided reply.now drawn tail.now))) }
+        ensures after { self.new ≡ went self.old (Decided reply.now drawn tail.now) }
     {
         self.go_on(Stage::Decided {
             reply: *reply,
-            drawn: None,
-            tail: Tail::Nothing,
+            drawn,
+            tail: *tail,
         });
         Told::Changed {
             reply: *reply,
@@ -597,5 +609,4 @@ impl ActiveCall {
     }
 }
 
-ghost use Rattle.call_acts.specs.declared.work.Tail.TheVariants.{Nothing};
 ghost use Rattle.call_steps.specs.declared.stages.Stage.TheVariants.{Decided};

@@ -53,7 +53,7 @@ use Rattle.stage_quiet.specs.declared.quiet.Quiet.TheVariants.{AtCore, AtFlush}
 use Rattle.stage_pins.specs.declared.pin.Pin.{Pin}
 use Rattle.stage_pins.specs.declared.pin.Pin.TheVariants.{AtLoad, AtCompare as pin_compare}
 use Rattle.call_acts.specs.declared.work.Act.{Act as ActOf}
-use Rattle.call_acts.specs.declared.work.Act.TheVariants.{Fill as fill_act, Remove as remove_act, Retype as type_act, Make as make_act, Outside, Tick as tick_act, Kill as kill_act}
+use Rattle.call_acts.specs.declared.work.Act.TheVariants.{Fill as fill_act, Remove as remove_act, Retype as type_act, Make as make_act, Outside, Tick as tick_act, Kill as kill_act, Invoke as invoke_act, Return as return_act}
 use Rattle.call_acts.specs.declared.work.Work.{Work}
 use Rattle.call_acts.specs.declared.work.Work.TheVariants.{Lookup, Scan, Acquire, Act}
 use Rattle.call_steps.specs.declared.stages.ActiveCall.{ActiveCall}
@@ -94,6 +94,8 @@ stores_in (make_act m) f = is_marked m.at && f == m.frame
 stores_in (Outside node entry word) f = false
 stores_in (tick_act charge) f = false
 stores_in (kill_act m) f = false
+stores_in (invoke_act m) f = false
+stores_in (return_act m) f = false
 
 abbrev pub stores_of : Work → ℕ → Bool
 stores_of (Lookup look) f = false
@@ -338,6 +340,8 @@ module _ (setup : Setting) (setting : IsSetting setup) (t : Trace) (e : Step) (l
     comp = has_comp_on m.comp has.comp;
     at = killing_on m.comp m.at same.numbers has.comp has.at;
   }
+  act_on of plan caps upto (invoke_act m) same has = has
+  act_on of plan caps upto (return_act m) same has = has
 
   quiet_on : (a : ActiveCall) (q : Quiet) (act : ActOf) → ReadsSame setup t e c act
       → KnowsQuiet setup t c a q act

@@ -8,7 +8,7 @@ use Rattle.call_acts.specs.declared.makings.MakingAt.TheVariants.{Load as making
 use Rattle.call_acts.specs.declared.makings.MakingAt.{MakingAt}
 use Rattle.call_acts.specs.declared.work.Work.TheVariants.{Lookup, Scan, Acquire, Act as act_work}
 use Rattle.call_acts.specs.declared.work.Work.{Work}
-use Rattle.call_acts.specs.declared.work.Act.TheVariants.{Fill as fill_act, Remove as remove_act, Retype as type_act, Make as make_act, Outside, Tick as tick_act, Kill as kill_act}
+use Rattle.call_acts.specs.declared.work.Act.TheVariants.{Fill as fill_act, Remove as remove_act, Retype as type_act, Make as make_act, Outside, Tick as tick_act, Kill as kill_act, Invoke as invoke_act, Return as return_act}
 use Rattle.call_acts.specs.declared.work.Act.{Act as ActOf}
 use Rattle.stage_quiet.specs.declared.quiet.Quiet.TheVariants.{AtCore, AtFlush}
 use Rattle.call_plans.specs.declared.plans.Plan.{Plan}
@@ -47,7 +47,7 @@ use Rattle.call_steps.specs.declared.stages.Stage.{Stage}
 use Rattle.call_steps.specs.declared.stages.Stage.TheVariants.{Enter, Undecided, Decided, Leave}
 use Rattle.call_steps.specs.declared.stages.ActiveCall.{ActiveCall}
 use Rattle.call_acts.specs.declared.own.Own.{Own}
-use Rattle.call_acts.specs.declared.work.Tail.TheVariants.{Nothing, Quiesce, Unmark, StoreDead}
+use Rattle.call_acts.specs.declared.work.Tail.TheVariants.{Nothing, Quiesce, Unmark, StoreDead, Push, Pop}
 use Rattle.call_steps.specs.View.{Core}
 use Rattle.core_invariant.specs.Holding.{settled, MarkIs, Holding, keeps, holds_counts, settled_by}
 use Rattle.core_invariant.specs.Words.{WordIs}
@@ -109,6 +109,8 @@ filled_act setup t c f call plan ks (type_act typing) h knows is = absurd (false
 filled_act setup t c f call plan ks (Outside node entry word) h knows is = absurd (false≢true is)
 filled_act setup t c f call plan ks (tick_act charge) h knows is = absurd (false≢true is)
 filled_act setup t c f call plan ks (kill_act m) h knows is = absurd (false≢true is)
+filled_act setup t c f call plan ks (invoke_act m) h knows is = absurd (false≢true is)
+filled_act setup t c f call plan ks (return_act m) h knows is = absurd (false≢true is)
 
 -- A scan is made before the frame is marked.
 scans_nothing : (act : ActOf) (f : ℕ) → is_start act ≡ true → stores_in act f ≡ false
@@ -123,6 +125,8 @@ scans_nothing (type_act typing) f starts = refl
 scans_nothing (Outside node entry word) f starts = refl
 scans_nothing (tick_act charge) f starts = refl
 scans_nothing (kill_act m) f starts = refl
+scans_nothing (invoke_act m) f starts = refl
+scans_nothing (return_act m) f starts = refl
 
 filled_work : (setup : Setting) (t : Trace) (c table f : ℕ) (a : ActiveCall) (work : Work) (h : Holding) → KnowsWork setup t c table a work
     → stores_of work f ≡ true → IsFilled (holds_work work h) f
@@ -236,6 +240,8 @@ module _ (setup : Setting) (setting : IsSetting setup) (cores : ℕ → Core) (t
   knows_other follows time blanks c table a other (Decided r drawn (Unmark f word)) held at has = has
   knows_other follows time blanks c table a other (Decided r drawn (StoreDead life stamp)) held at has =
       dead_on setup t e c a.call (λ own. absurd (other own)) life has
+  knows_other follows time blanks c table a other (Decided r drawn (Push push)) held at has = has
+  knows_other follows time blanks c table a other (Decided r drawn (Pop pop)) held at has = has
   knows_other follows time blanks c table a other (Decided r drawn (Quiesce close)) held at has =
       store_on setup t e c a.call (λ own. absurd (other own)) (λ f.
       (stays_in_other setup setting t stands.legal e follows c other (ap is_in at)).relies f) close has

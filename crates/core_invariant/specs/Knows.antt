@@ -57,6 +57,7 @@ use Rattle.call_acts.specs.declared.kills.Killing.{Killing}
 use Rattle.call_acts.specs.declared.kills.KillingAt.{KillingAt}
 use Rattle.call_acts.specs.declared.kills.KillingAt.TheVariants.{LoadComp, LoadLive, Close as kill_close, Draw as kill_draw}
 use Rattle.call_acts.specs.Kills.{is_killing}
+use Rattle.call_acts.specs.Invocations.{is_entering, is_leaving}
 use Rattle.call_acts.specs.declared.own.Own.{Own}
 use Rattle.call_acts.specs.declared.fills.Fill.{Fill}
 use Rattle.call_acts.specs.declared.typings.Typing.{Typing}
@@ -65,12 +66,12 @@ use Rattle.call_acts.specs.declared.typings.TypingAt.TheVariants.{Load, Compare 
 use Rattle.call_acts.specs.Typings.{is_typing}
 use Rattle.kernel_rules.specs.CapabilityCalls.{has_frame}
 use Rattle.call_acts.specs.declared.work.Act.{Act as ActOf}
-use Rattle.call_acts.specs.declared.work.Act.TheVariants.{Fill as fill_act, Remove as remove_act, Retype as type_act, Make as make_act, Outside, Tick as tick_act, Kill as kill_act}
+use Rattle.call_acts.specs.declared.work.Act.TheVariants.{Fill as fill_act, Remove as remove_act, Retype as type_act, Make as make_act, Outside, Tick as tick_act, Kill as kill_act, Invoke as invoke_act, Return as return_act}
 use Rattle.call_acts.specs.declared.work.Work.{Work}
 use Rattle.call_acts.specs.declared.work.Due.{Due}
 use Rattle.call_acts.specs.declared.work.Work.TheVariants.{Lookup, Scan, Acquire, Act}
 use Rattle.call_acts.specs.declared.work.Tail.{Tail}
-use Rattle.call_acts.specs.declared.work.Tail.TheVariants.{Nothing, Quiesce, Unmark, StoreDead}
+use Rattle.call_acts.specs.declared.work.Tail.TheVariants.{Nothing, Quiesce, Unmark, StoreDead, Push, Pop}
 use Rattle.call_steps.specs.declared.stages.Stage.{Stage}
 use Rattle.call_steps.specs.declared.stages.Stage.TheVariants.{Enter, Undecided, Decided, Leave}
 use Rattle.call_steps.specs.declared.stages.ActiveCall.{ActiveCall}
@@ -384,6 +385,8 @@ KnowsAct setup t c call plan found upto (make_act making) = KnowsMaking setup t 
 KnowsAct setup t c call plan found upto (Outside node entry word) = KnowsOutside setup t c call plan found upto node entry word
 KnowsAct setup t c call plan found upto (tick_act charge) = KnowsTick setup t c call charge
 KnowsAct setup t c call plan found upto (kill_act m) = KnowsKilling setup t c call found m
+KnowsAct setup t c call plan found upto (invoke_act m) = ⊥
+KnowsAct setup t c call plan found upto (return_act m) = ⊥
 
 -- An act is before its first step.
 abbrev pub is_first_of : Close → Bool
@@ -399,6 +402,8 @@ is_start (make_act making) = not (is_marked making.at)
 is_start (Outside node entry word) = true
 is_start (tick_act charge) = not (is_charging charge)
 is_start (kill_act m) = not (is_killing m.at)
+is_start (invoke_act m) = not (is_entering m.at)
+is_start (return_act m) = not (is_leaving m.at)
 
 -- Its counts may be acquired here: no entry and no liveness number is closed yet.
 abbrev pub is_counting : ActOf → Bool
@@ -507,6 +512,8 @@ KnowsTail setup t c call Nothing = Unit {0}
 KnowsTail setup t c call (Quiesce close) = KnowsStore setup t c call close
 KnowsTail setup t c call (Unmark f word) = KnowsUnmark call f word
 KnowsTail setup t c call (StoreDead life stamp) = KnowsDead setup t c call life
+KnowsTail setup t c call (Push push) = ⊥
+KnowsTail setup t c call (Pop pop) = ⊥
 
 -- What a call knows at its stage. One that has made no step is in no trace.
 abbrev pub KnowsAt : Setting → Trace → ℕ → ℕ → ActiveCall → Stage → Type 0

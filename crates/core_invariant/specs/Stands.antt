@@ -4,8 +4,15 @@ use Rattle.call_acts.specs.declared.makings.MakingAt.{MakingAt}
 use Rattle.call_acts.specs.declared.kills.KillingAt.{KillingAt}
 use Rattle.call_acts.specs.declared.kills.KillingAt.TheVariants.{LoadComp, LoadLive, Close as kill_close, Draw as kill_draw}
 use Rattle.frame_words.specs.Live.{word_of_live}
+use Rattle.tcap_words.specs.Stack.{word_of_stack}
+use Rattle.tcap_words.specs.Thread.{word_of_thread}
+use Rattle.tcap_words.specs.declared.thread_word.ThreadWord.TheVariants.{Running}
+use Rattle.stage_thread.specs.declared.stack.Push.{Push as PushOf}
+use Rattle.stage_thread.specs.declared.stack.Push.TheVariants as push
+use Rattle.stage_thread.specs.declared.stack.Pop.{Pop as PopOf}
+use Rattle.stage_thread.specs.declared.stack.Pop.TheVariants as pop
 use Rattle.frame_words.specs.declared.live_word.LiveWord.TheVariants.{Dead}
-use Rattle.std.specs.Prelude.{◌≡◌, ◌+◌, ◌<◌, ◌≤◌, ℕ, List, [], length, Option, Some, None}
+use Rattle.std.specs.Prelude.{◌≡◌, ◌+◌, ◌-◌, ◌<◌, ◌≤◌, ℕ, List, [], length, Option, Some, None}
 use Rattle.spk_nums.specs.Setting.{Setting}
 use Rattle.frame_words.specs.Count.{count_of_word}
 use Rattle.frame_words.specs.declared.count_word.CountWord.{CountWord}
@@ -28,13 +35,13 @@ use Rattle.spk_nums.specs.declared.replies.Reply.{Reply}
 use Rattle.spk_nums.specs.declared.replies.Reply.TheVariants.{Ok}
 use Rattle.stage_pins.specs.declared.held.Acquired.{Acquired}
 use Rattle.call_acts.specs.declared.work.Act.{Act}
-use Rattle.call_acts.specs.declared.work.Act.TheVariants.{Fill, Remove, Retype, Make, Outside, Tick, Kill}
+use Rattle.call_acts.specs.declared.work.Act.TheVariants.{Fill, Remove, Retype, Make, Outside, Tick, Kill, Invoke, Return}
 use Rattle.call_acts.specs.declared.work.Work.{Work}
 use Rattle.call_acts.specs.declared.work.Work.TheVariants.{Lookup, Scan, Acquire, Act as act_work}
 use Rattle.call_acts.specs.declared.work.Tail.{Tail}
-use Rattle.call_acts.specs.declared.work.Tail.TheVariants.{Nothing, Quiesce, Unmark, StoreDead}
+use Rattle.call_acts.specs.declared.work.Tail.TheVariants.{Nothing, Quiesce, Unmark, StoreDead, Push, Pop}
 use Rattle.call_steps.specs.View.{Core}
-use Rattle.core_invariant.specs.Holding.{Holding, nothing, holds_counts, holds_closed, holds_drawn, settled, MarkIs, keeps}
+use Rattle.core_invariant.specs.Holding.{Holding, nothing, holds_counts, holds_closed, holds_drawn, settled, MarkIs, keeps, keeps_bare}
 use Rattle.core_invariant.specs.Words.{Times, WordIs, CountsAre}
 use Rattle.core_invariant.specs.Knows.{CoreIs}
 
@@ -63,6 +70,17 @@ holds_killing (LoadLive life) h = h
 holds_killing (kill_close life word) h = h
 holds_killing (kill_draw life word) h = keeps (LiveAt life.number) word h
 
+-- The words of its thread's stack that a core has still to store are kept without a mark.
+abbrev pub holds_push : PushOf → Holding → Holding
+holds_push (push.AtStack f core depth comp) h =
+    keeps_bare f (depth + 1) (word_of_stack (record { 0 = Some comp })) (keeps_bare f 0 (word_of_thread (Running core (depth + 1))) h)
+holds_push (push.AtThread f core depth) h = keeps_bare f 0 (word_of_thread (Running core (depth + 1))) h
+
+abbrev pub holds_pop : PopOf → Holding → Holding
+holds_pop (pop.AtThread f core depth) h =
+    keeps_bare f 0 (word_of_thread (Running core (depth - 1))) (keeps_bare f depth (word_of_stack (record { 0 = None })) h)
+holds_pop (pop.AtStack f depth) h = keeps_bare f depth (word_of_stack (record { 0 = None })) h
+
 -- The word that a call has marked beside its counts, at an act and at a tail.
 abbrev pub holds_act : Act → Holding → Holding
 holds_act (Fill fill) h = h
@@ -72,12 +90,16 @@ holds_act (Make making) h = holds_making making.frame making.at h
 holds_act (Outside node entry word) h = h
 holds_act (Tick charge) h = h
 holds_act (Kill m) h = holds_killing m.at h
+holds_act (Invoke m) h = h
+holds_act (Return m) h = h
 
 abbrev pub holds_tail : Tail → Holding → Holding
 holds_tail Nothing h = h
 holds_tail (Quiesce close) h = holds_drawn close h
 holds_tail (Unmark f word) h = keeps (FrameAt f) word h
 holds_tail (StoreDead life stamp) h = keeps (LiveAt life.number) (word_of_live (Dead life.epoch stamp)) h
+holds_tail (Push push) h = holds_push push h
+holds_tail (Pop pop) h = holds_pop pop h
 
 abbrev pub holds_work : Work → Holding → Holding
 holds_work (Lookup look) h = h

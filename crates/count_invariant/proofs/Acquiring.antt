@@ -69,7 +69,7 @@ use Rattle.look_invariant.proofs.Findings.{found_named}
 use Rattle.call_acts.specs.declared.refusals.Refusal.TheVariants as refusal
 use Rattle.call_acts.specs.declared.work.Due.{Due}
 use Rattle.call_acts.specs.declared.work.Act.{Act as ActOf}
-use Rattle.call_acts.specs.declared.work.Act.TheVariants.{Fill as fill_act, Remove as remove_act, Retype as type_act, Make as make_act, Outside, Tick as tick_act, Kill as kill_act}
+use Rattle.call_acts.specs.declared.work.Act.TheVariants.{Fill as fill_act, Remove as remove_act, Retype as type_act, Make as make_act, Outside, Tick as tick_act, Kill as kill_act, Invoke as invoke_act, Return as return_act}
 use Rattle.call_acts.specs.declared.work.Tail.TheVariants.{Nothing}
 use Rattle.call_acts.specs.declared.work.Work.TheVariants.{Acquire}
 use Rattle.call_steps.specs.declared.stages.Stage.TheVariants.{Undecided, Decided}
@@ -187,6 +187,8 @@ undo_holds (kill_act m) h is = by m.at is
     by (LoadLive life) is = refl
     by (kill_close life word) is = refl
     by (kill_draw life word) is = absurd (false≢true is)
+undo_holds (invoke_act m) h is = refl
+undo_holds (return_act m) h is = refl
 
 acquires_holds : (core : ℕ) (act : ActOf) (o : Option Due) (h : Holding) → holds_work (acquires core act o) h ≡ holds_act act h
 acquires_holds core act None h = refl
@@ -221,6 +223,8 @@ act_count (kill_act m) h f d = by m.at
     by (LoadLive life) = (refl, refl)
     by (kill_close life word) = (refl, refl)
     by (kill_draw life word) = (refl, refl)
+act_count (invoke_act m) h f d = (refl, refl)
+act_count (return_act m) h f d = (refl, refl)
 
 keeps_over : (v w : Word) (x : ℕ) (h g : Holding) → (h.marks w ≡ g.marks w) × (h.stands w ≡ g.stands w)
     → ((keeps v x h).marks w ≡ (keeps v x g).marks w) × ((keeps v x h).stands w ≡ (keeps v x g).stands w)
@@ -254,6 +258,8 @@ act_over (kill_act m) h g w same = by m.at
     by (LoadLive life) = same
     by (kill_close life word) = same
     by (kill_draw life word) = keeps_over (LiveAt life.number) w word h g same
+act_over (invoke_act m) h g w same = same
+act_over (return_act m) h g w same = same
 
 -- No act keeps a word without a mark.
 act_bare : (act : ActOf) (h : Holding) (f i : ℕ) → (holds_act act h).bare f i ≡ h.bare f i
@@ -278,6 +284,8 @@ act_bare (kill_act m) h f i = by m.at
     by (LoadLive life) = refl
     by (kill_close life word) = refl
     by (kill_draw life word) = refl
+act_bare (invoke_act m) h f i = refl
+act_bare (return_act m) h f i = refl
 
 -- An act that changes a count charges no ticks.
 counts_plain : (act : ActOf) (before : List Due) (due : Due) (rest : List Due) → dues act ≡ before ++ due ∷ rest → ticks_in act ≡ false
@@ -288,6 +296,8 @@ counts_plain (make_act m) before due rest is = refl
 counts_plain (Outside node entry word) before due rest is = refl
 counts_plain (tick_act charge) before due rest is = absurd (no_due before due rest is)
 counts_plain (kill_act m) before due rest is = refl
+counts_plain (invoke_act m) before due rest is = refl
+counts_plain (return_act m) before due rest is = refl
 
 -- A call that fills its target changes references, and the frame that it names there is near it: a line a call.
 put_counts : (call : Call) → IsBuilt call → (ks : List Capability) (k : Capability) → put_by call ks ≡ Some k
@@ -742,6 +752,8 @@ acquire_good setup setting cores t stands c here a active pin change (Outside no
     absurd (no_due (map due_of a.counts) (record { frame = pin_frame pin; change = change }) has.knows.rest has.knows.due)
 acquire_good setup setting cores t stands c here a active pin change (tick_act charge) is has =
     absurd (no_due (map due_of a.counts) (record { frame = pin_frame pin; change = change }) has.knows.rest has.knows.due)
+acquire_good setup setting cores t stands c here a active pin change (invoke_act m) is has = absurd has.knows.knows
+acquire_good setup setting cores t stands c here a active pin change (return_act m) is has = absurd has.knows.knows
 acquire_good setup setting cores t stands c here a active pin change (kill_act m) is has =
     acquire_near setup setting cores t stands c here a active pin change (kill_act m) is has
     (kill_counts a.call a.found m.comp has.knows.knows.kills)

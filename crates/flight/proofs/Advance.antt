@@ -11,7 +11,7 @@ use Rattle.word_map.specs.Moves.{LoadOf, StoreOf, word_of, told_of}
 use Rattle.kernel_history.specs.Trace.{Step, Trace, last_left}
 use Rattle.kernel_history.specs.Stamps.{clock}
 use Rattle.kernel_history.proofs.Steps.{clock_seen-own}
-use Rattle.call_acts.specs.declared.work.Tail.TheVariants.{Nothing, Quiesce, Unmark, StoreDead}
+use Rattle.call_acts.specs.declared.work.Tail.TheVariants.{Nothing, Quiesce, Unmark, StoreDead, Push, Pop}
 use Rattle.call_steps.specs.declared.stages.Stage.{Stage}
 use Rattle.call_steps.specs.declared.stages.Stage.TheVariants.{Enter, Undecided, Decided, Leave}
 use Rattle.call_steps.specs.declared.stages.ActiveCall.{ActiveCall}
@@ -118,6 +118,8 @@ module _ (setup : Setting) (setting : IsSetting setup) (cores : ℕ → Core) (t
       unmark_good setup setting cores t stands c here a active r drawn f word at knows
   stage_good a (Decided r drawn (StoreDead life x)) active at knows =
       dead_good setup setting cores t stands c here a active r drawn life x at knows
+  stage_good a (Decided r drawn (Push push)) active at knows = absurd knows
+  stage_good a (Decided r drawn (Pop pop)) active at knows = absurd knows
   stage_good a (Leave r x) active at knows = leave_good a r x active at
 
   -- the step of a call

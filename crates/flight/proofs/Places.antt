@@ -42,7 +42,7 @@ use Rattle.stage_quiet.specs.declared.quiet.Quiet.TheVariants.{AtCore, AtFlush}
 use Rattle.stage_quiet.specs.Removal.{close_move}
 use Rattle.call_plans.specs.After.{Next, NextName, NextFree, NextHeld, NextOwn, NextNothing, next_of}
 use Rattle.call_acts.specs.declared.own.Own.{Own}
-use Rattle.call_acts.specs.declared.work.Act.TheVariants.{Fill, Remove, Retype, Make, Outside, Tick as tick_act, Kill}
+use Rattle.call_acts.specs.declared.work.Act.TheVariants.{Fill, Remove, Retype, Make, Outside, Tick as tick_act, Kill, Invoke, Return}
 use Rattle.call_acts.specs.declared.typings.Typing.{Typing}
 use Rattle.call_acts.specs.declared.typings.TypingAt.{TypingAt}
 use Rattle.call_acts.specs.declared.typings.TypingAt.TheVariants.{Load, Compare as type_compare}
@@ -177,6 +177,8 @@ module _ (setup : Setting) (setting : IsSetting setup) (t : Trace) (cores : ℕ 
   by_work table a (Act (Outside node entry word)) has on read = absurd (false≢true has.goes)
   by_work table a (Act (tick_act charge)) has on read = by_charge a.call charge has.knows.charges on
   by_work table a (Act (Kill m)) has on read = by_killing m.comp m.core m.at has.knows.comp on
+  by_work table a (Act (Invoke m)) has on read = absurd has.knows
+  by_work table a (Act (Return m)) has on read = absurd has.knows
 
   by_stage : (table : ℕ) (own : Own) (a : ActiveCall) (stage : Stage) → phase_at a.call stage ≡ Open call
       → KnowsAt setup t c table a stage

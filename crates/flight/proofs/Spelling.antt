@@ -14,7 +14,7 @@ use Rattle.call_acts.specs.declared.kills.KillingAt.TheVariants.{LoadComp, LoadL
 use Rattle.call_acts.specs.Kills.{KillingAtFits, killing_at}
 use Rattle.call_acts.specs.declared.own.Own.{Own}
 use Rattle.call_acts.specs.declared.work.Act.{Act}
-use Rattle.call_acts.specs.declared.work.Act.TheVariants.{Fill, Remove, Retype, Make, Outside, Tick, Kill}
+use Rattle.call_acts.specs.declared.work.Act.TheVariants.{Fill, Remove, Retype, Make, Outside, Tick, Kill, Invoke, Return}
 use Rattle.spk_nums.specs.declared.kinds.FrameKind.{FrameKind}
 use Rattle.call_acts.specs.declared.typings.TypingAt.{TypingAt}
 use Rattle.call_acts.specs.declared.typings.TypingAt.TheVariants.{Load, Compare as type_compare}
@@ -28,7 +28,7 @@ use Rattle.call_acts.specs.Makings.{MakingAtFits, making_at}
 use Rattle.call_steps.proofs.StepsFit.{last_small}
 use Rattle.call_acts.specs.declared.work.Work.TheVariants.{Lookup, Scan, Acquire, Act as act_work}
 use Rattle.call_acts.specs.declared.work.Tail.{Tail}
-use Rattle.call_acts.specs.declared.work.Tail.TheVariants.{Nothing, Quiesce, Unmark, StoreDead}
+use Rattle.call_acts.specs.declared.work.Tail.TheVariants.{Nothing, Quiesce, Unmark, StoreDead, Push, Pop}
 use Rattle.call_acts.specs.Acts.{ActFits, act_move}
 use Rattle.call_steps.specs.Tails.{tail_move, is_ok}
 use Rattle.std.proofs.lemmas.List.Elements.{All-head}
@@ -44,6 +44,17 @@ use Rattle.stage_tcap.specs.Charging.{charge_move}
 use Rattle.stage_tcap.specs.declared.charge.Charge.{Charge}
 use Rattle.stage_tcap.specs.declared.charge.Charge.TheVariants.{AtLoad as charge_load, AtCompare as charge_compare}
 use Rattle.stage_tcap.proofs.PairLemmas.{charge_is_in}
+use Rattle.stage_thread.specs.Stacking.{push_move, pop_move}
+use Rattle.stage_thread.proofs.ThreadLemmas.{push_is_in, pop_is_in}
+use Rattle.stage_thread.specs.declared.stack.Push.{Push as PushOf}
+use Rattle.stage_thread.specs.declared.stack.Push.TheVariants as push
+use Rattle.stage_thread.specs.declared.stack.Pop.{Pop as PopOf}
+use Rattle.stage_thread.specs.declared.stack.Pop.TheVariants as pop
+use Rattle.call_acts.specs.declared.invocations.InvokingAt.{InvokingAt}
+use Rattle.call_acts.specs.declared.invocations.InvokingAt.TheVariants as invoking
+use Rattle.call_acts.specs.declared.invocations.ReturningAt.{ReturningAt}
+use Rattle.call_acts.specs.declared.invocations.ReturningAt.TheVariants as returning
+use Rattle.call_acts.specs.Invocations.{InvokingAtFits, invoking_at, ReturningAtFits, returning_at}
 use Rattle.stage_quiet.specs.declared.close.Close.{Close}
 use Rattle.stage_quiet.specs.declared.close.Close.TheVariants.{AtCompare as close_compare, AtDraw, AtStore}
 use Rattle.stage_quiet.specs.declared.quiet.Quiet.{Quiet}
@@ -92,6 +103,18 @@ killing_named f core (LoadLive life) = refl
 killing_named f core (kill_close life word) = refl
 killing_named f core (kill_draw life word) = refl
 
+invoking_named : (f : ℕ) (at : InvokingAt) → shared (word_of (invoking_at f at)) ≡ word_of (invoking_at f at)
+invoking_named f invoking.LoadTable = refl
+invoking_named f (invoking.LoadPages table) = refl
+invoking_named f (invoking.LoadComp table pages) = refl
+invoking_named f (invoking.LoadLive table pages life) = refl
+
+returning_named : (thread depth : ℕ) (at : ReturningAt) → shared (word_of (returning_at thread depth at)) ≡ word_of (returning_at thread depth at)
+returning_named thread depth returning.LoadBelow = refl
+returning_named thread depth (returning.LoadTable comp) = refl
+returning_named thread depth (returning.LoadPages comp table) = refl
+returning_named thread depth (returning.Draw comp table pages) = refl
+
 act_named : (act : Act) → shared (word_of (act_move act)) ≡ word_of (act_move act)
 act_named (Fill fill) = refl
 act_named (Remove close cap) = close_named close
@@ -100,17 +123,29 @@ act_named (Make m) = making_named m.frame m.object m.core m.fill m.at
 act_named (Outside node entry word) = refl
 act_named (Tick charge) = charge_named charge
 act_named (Kill m) = killing_named m.comp m.core m.at
+act_named (Invoke m) = invoking_named m.comp m.at
+act_named (Return m) = returning_named m.thread m.depth m.at
 
 -- a count's word is that of its core's counter
 pin_named : (pin : Pin) → shared (word_of (pin_move pin)) ≡ word_of (pin_move pin)
 pin_named (AtLoad frame core) = refl
 pin_named (AtCompare frame core count stamp) = refl
 
+push_named : (x : PushOf) → shared (word_of (push_move x)) ≡ word_of (push_move x)
+push_named (push.AtStack t core depth comp) = refl
+push_named (push.AtThread t core depth) = refl
+
+pop_named : (x : PopOf) → shared (word_of (pop_move x)) ≡ word_of (pop_move x)
+pop_named (pop.AtThread t core depth) = refl
+pop_named (pop.AtStack t depth) = refl
+
 tail_named : (r : Reply) (drawn : Option ℕ) (tail : Tail) (counts : List Acquired)
     → shared (word_of (tail_move r drawn tail counts)) ≡ word_of (tail_move r drawn tail counts)
 tail_named r drawn (Quiesce close) counts = close_named close
 tail_named r drawn (Unmark f word) counts = refl
 tail_named r drawn (StoreDead life stamp) counts = refl
+tail_named r drawn (Push push) counts = push_named push
+tail_named r drawn (Pop pop) counts = pop_named pop
 tail_named r drawn Nothing [] = refl
 tail_named r drawn Nothing (x ∷ xs) = refl
 
@@ -143,6 +178,20 @@ killing_in shape f core (LoadLive life) below fits = fits.0
 killing_in shape f core (kill_close life word) below fits = fits.0
 killing_in shape f core (kill_draw life word) below fits = tt
 
+invoking_in : (shape : Shape) (f : ℕ) (at : InvokingAt) → f < shape.frames → InvokingAtFits shape at
+    → IsIn shape (word_of (invoking_at f at))
+invoking_in shape f invoking.LoadTable below fits = (below, omega arith)
+invoking_in shape f (invoking.LoadPages table) below fits = (below, omega arith)
+invoking_in shape f (invoking.LoadComp table pages) below fits = (below, omega arith)
+invoking_in shape f (invoking.LoadLive table pages life) below fits = fits.2.0
+
+returning_in : (shape : Shape) (thread depth : ℕ) (at : ReturningAt) → thread < shape.frames → depth ≤ 16 → ReturningAtFits shape at
+    → IsIn shape (word_of (returning_at thread depth at))
+returning_in shape thread depth returning.LoadBelow below most fits = (below, omega (arith, most))
+returning_in shape thread depth (returning.LoadTable comp) below most fits = (fits, omega arith)
+returning_in shape thread depth (returning.LoadPages comp table) below most fits = (fits.0, omega arith)
+returning_in shape thread depth (returning.Draw comp table pages) below most fits = tt
+
 act_in : (shape : Shape) (act : Act) → ActFits shape act → IsIn shape (word_of (act_move act))
 act_in shape (Fill fill) fits = (fits.node, fits.entry)
 act_in shape (Remove close cap) fits = close_is_in shape close fits.0
@@ -151,6 +200,8 @@ act_in shape (Make m) fits = making_in shape m.frame m.object m.core m.fill m.at
 act_in shape (Outside node entry word) fits = fits
 act_in shape (Tick charge) fits = charge_is_in shape charge fits
 act_in shape (Kill m) fits = killing_in shape m.comp m.core m.at fits.comp fits.at
+act_in shape (Invoke m) fits = invoking_in shape m.comp m.at fits.comp fits.at
+act_in shape (Return m) fits = returning_in shape m.thread m.depth m.at fits.thread fits.most_depth fits.at
 
 tail_in : (shape : Shape) (r : Reply) (drawn : Option ℕ) (tail : Tail) (counts : List Acquired) → TailFits shape tail
     → AllFit shape counts
@@ -158,6 +209,8 @@ tail_in : (shape : Shape) (r : Reply) (drawn : Option ℕ) (tail : Tail) (counts
 tail_in shape r drawn (Quiesce close) counts fits fit = close_is_in shape close fits
 tail_in shape r drawn (Unmark f word) counts fits fit = fits
 tail_in shape r drawn (StoreDead life stamp) counts fits fit = fits.0.0
+tail_in shape r drawn (Push push) counts fits fit = push_is_in shape push fits
+tail_in shape r drawn (Pop pop) counts fits fit = pop_is_in shape pop fits
 tail_in shape r drawn Nothing [] fits fit = tt
 tail_in shape r drawn Nothing (x ∷ xs) fits fit =
     settle_is_in shape (commit_of (is_ok r) drawn x) (commit_fits shape (is_ok r) drawn x (All-head (AcquiredFits shape) x xs fit))

@@ -38,7 +38,7 @@ use Rattle.call_plans.proofs.AfterNames.{Begins, left_begins, next_may}
 use Rattle.plan_ways.proofs.Ways.{asked_left}
 use Rattle.call_acts.specs.declared.refusals.Refusal.TheVariants as refusal
 use Rattle.call_acts.specs.declared.work.Act.{Act as ActOf}
-use Rattle.call_acts.specs.declared.work.Act.TheVariants.{Fill as fill_act, Remove as remove_act, Retype as type_act, Make as make_act, Outside, Tick as tick_act, Kill as kill_act}
+use Rattle.call_acts.specs.declared.work.Act.TheVariants.{Fill as fill_act, Remove as remove_act, Retype as type_act, Make as make_act, Outside, Tick as tick_act, Kill as kill_act, Invoke as invoke_act, Return as return_act}
 use Rattle.call_acts.specs.declared.work.Work.TheVariants.{Scan}
 use Rattle.call_steps.specs.declared.stages.Stage.TheVariants.{Undecided}
 use Rattle.call_steps.specs.declared.stages.ActiveCall.{ActiveCall}
@@ -326,6 +326,8 @@ scan_good setup setting cores t stands c here a active (AtCore x by at page) act
     by_act (type_act typing) is knows = absurd (none_scanned (type_act typing) is knows.knows.stamp)
     by_act (tick_act charge) is knows = absurd (none_scanned (tick_act charge) is knows.knows.stamp)
     by_act (kill_act m) is knows = absurd (none_scanned (kill_act m) is knows.knows.stamp)
+    by_act (invoke_act m) is knows = absurd (none_scanned (invoke_act m) is knows.knows.stamp)
+    by_act (return_act m) is knows = absurd (none_scanned (return_act m) is knows.knows.stamp)
     by_act (fill_act fill) is knows =
         core_good setup setting cores t stands c here a active x by at page (fill_act fill) fill.node fill.entry fill.word is knows
         (record {

@@ -1,4 +1,5 @@
 -- Where an act starts, after its look-ups or its scan: it acquires its first count or makes its first step, or its frame is out of range.
+use Rattle.call_steps.proofs.StepsFit.{invoking_one, returning_one}
 use Rattle.std.proofs.Common.{◌≡◌, ℕ, pos, negsuc, ◌<◌, ◌++◌, map, length, not, true, false, List, [], ◌∷◌, Some, None, refl, sym, ◌∙◌, ap, arith}
 use Rattle.std.proofs.lemmas.Bool.{false≢true}
 use Rattle.spk_nums.specs.Setting.{Setting, IsSetting}
@@ -21,10 +22,10 @@ use Rattle.call_acts.specs.Kills.{is_killing}
 use Rattle.call_acts.specs.declared.kills.KillingAt.{KillingAt}
 use Rattle.call_acts.specs.declared.kills.KillingAt.TheVariants.{LoadComp, LoadLive, Close as kill_close, Draw as kill_draw}
 use Rattle.call_acts.specs.declared.work.Act.{Act as ActOf}
-use Rattle.call_acts.specs.declared.work.Act.TheVariants.{Fill as fill_act, Remove as remove_act, Retype as type_act, Make as make_act, Outside, Tick as tick_act, Kill as kill_act}
+use Rattle.call_acts.specs.declared.work.Act.TheVariants.{Fill as fill_act, Remove as remove_act, Retype as type_act, Make as make_act, Outside, Tick as tick_act, Kill as kill_act, Invoke as invoke_act, Return as return_act}
 use Rattle.call_acts.specs.declared.work.WorkStep.TheVariants.{Goes}
 use Rattle.call_acts.specs.WorkSteps.{refuse}
-use Rattle.call_acts.specs.Acts.{dues, made_dues, next_work, starts, killing_dues}
+use Rattle.call_acts.specs.Acts.{dues, made_dues, next_work, starts, killing_dues, invoking_dues, returning_dues}
 use Rattle.call_steps.specs.declared.stages.Stage.{Stage}
 use Rattle.call_steps.specs.declared.stages.Stage.TheVariants.{Undecided}
 use Rattle.call_steps.specs.declared.stages.ActiveCall.{ActiveCall}
@@ -62,6 +63,8 @@ start_holds (kill_act m) h is = by m.at is
     by (LoadLive life) is = refl
     by (kill_close life word) is = refl
     by (kill_draw life word) is = absurd (false≢true is)
+start_holds (invoke_act m) h is = refl
+start_holds (return_act m) h is = refl
 
 start_counts : (act : ActOf) → is_start act ≡ true → is_counting act ≡ true
 start_counts (fill_act fill) is = refl
@@ -71,6 +74,8 @@ start_counts (make_act m) is = refl
 start_counts (Outside node entry word) is = refl
 start_counts (tick_act charge) is = refl
 start_counts (kill_act m) is = is
+start_counts (invoke_act m) is = refl
+start_counts (return_act m) is = refl
 
 -- Before its first step an act changes one count at most.
 start_apart : (act : ActOf) → is_start act ≡ true → AreDuesApart (dues act)
@@ -93,6 +98,8 @@ start_apart (kill_act m) is = by m.at
     by (LoadLive life) = tt
     by (kill_close life word) = one_apart (killing_dues m.comp (kill_close life word)) (omega arith)
     by (kill_draw life word) = one_apart (killing_dues m.comp (kill_draw life word)) (omega arith)
+start_apart (invoke_act m) is = one_apart (invoking_dues m.comp m.at) (invoking_one m.comp m.at)
+start_apart (return_act m) is = one_apart (returning_dues m.top m.at) (returning_one m.top m.at)
 
 -- A call whose frame is not in its range is refused so, and nothing before that refuses it.
 pub record IsRefusedOutside (setup : Setting) (t : Trace) (c : ℕ) (call : Call) (move : Move) : Type 0 where
@@ -147,3 +154,5 @@ module _ (setup : Setting) (setting : IsSetting setup) (cores : ℕ → Core) (t
   starts_good (Outside node entry word) is known refused = outside_good (refused refl)
   starts_good (tick_act charge) is known refused = goes_good (tick_act charge) is refl known
   starts_good (kill_act m) is known refused = goes_good (kill_act m) is refl known
+  starts_good (invoke_act m) is known refused = goes_good (invoke_act m) is refl known
+  starts_good (return_act m) is known refused = goes_good (return_act m) is refl known
