@@ -55,6 +55,19 @@ none_value held (FlushAt c) x none = refl
 none_value held (LiveAt l) x none = refl
 none_value held ClockAt x none = refl
 
+-- A word that no core keeps without a mark.
+abbrev pub IsNotKept : (ℕ → Holding) → Word → Type 0
+IsNotKept held w = (f i : ℕ) → w ≡ EntryAt f i → (d : ℕ) → (held d).bare f i ≡ None
+
+pub free_value : (held : ℕ → Holding) (w : Word) (x : ℕ) → IsNotKept held w → bare_value held w x ≡ x
+free_value held (EntryAt f i) x free = none_kept 8 held f i x (free f i refl)
+free_value held (FrameAt f) x free = refl
+free_value held (CountAt f c) x free = refl
+free_value held (CoreAt c) x free = refl
+free_value held (FlushAt c) x free = refl
+free_value held (LiveAt l) x free = refl
+free_value held ClockAt x free = refl
+
 -- Counts are marked, so no word is kept without a mark beside them.
 pub counts_bare : (fate : Option (Option ℕ)) (xs : List Acquired) (f i : ℕ) → (holds_counts fate xs).bare f i ≡ None
 counts_bare fate [] f i = refl
@@ -68,15 +81,12 @@ core_bare cores c after f i same d = elim (cases_eq d c) [
   | inr other ↦ ap (λ k. (holds k).bare f i) (put_other cores c after d other)
 ]
 
--- After a step its core keeps without a mark what it kept, but for the word of the step, which it may have given back.
+-- After a step its core keeps without a mark what it kept, but for the word of the step, which it has given back.
 pub record AsBefore (before after : Holding) (w : Word) : Type 0 where
   pub there : (f i : ℕ) → EntryAt f i ≢ w → after.bare f i ≡ before.bare f i
-  pub none_new : (f i v : ℕ) → after.bare f i ≡ Some v → before.bare f i ≡ Some v
-
-pub as_same : (before after : Holding) (w : Word) → ((f i : ℕ) → after.bare f i ≡ before.bare f i) → AsBefore before after w
-as_same before after w same = record { there = λ f i apart. same f i; none_new = λ f i v is. sym (same f i) ∙ is }
+  pub here : (f i : ℕ) → EntryAt f i ≡ w → after.bare f i ≡ None
 
 -- It keeps none, before and after.
 pub as_none : (before after : Holding) (w : Word) → ((f i : ℕ) → before.bare f i ≡ None) → ((f i : ℕ) → after.bare f i ≡ None)
     → AsBefore before after w
-as_none before after w none none' = as_same before after w (λ f i. none' f i ∙ sym (none f i))
+as_none before after w none none' = record { there = λ f i apart. none' f i ∙ sym (none f i); here = λ f i same. none' f i }

@@ -23,7 +23,7 @@ use Rattle.core_invariant.specs.Stands.{holds, held_by, Stands}
 use Rattle.core_invariant.proofs.WordFrames.{marks_own, hold_marks, hold_words, settled_stays}
 use Rattle.core_invariant.proofs.Sums.{sums_stay}
 use Rattle.core_invariant.proofs.Bare.{AsBefore}
-use Rattle.core_invariant.proofs.Lent.{lent_calm}
+use Rattle.core_invariant.proofs.Lent.{SparesLent, keeps_given, lent_calm}
 use Rattle.core_invariant.proofs.Calm.{calm_same, calm_words, IsPlain, plain_time, plain_exit, plain_flushed}
 use Rattle.core_invariant.proofs.Good.{IsGood, SparesBlanks}
 use Rattle.core_invariant.proofs.Loads.{Lands, IsOfCall, core_at, core_is, call_is, in_call, inner, inner_within, inner_disciplined, inner_near}
@@ -54,9 +54,9 @@ module _ (setup : Setting) (setting : IsSetting setup) (cores : ℕ → Core) (t
       → phase_at a.call a.stage ≡ phase_at next.call next.stage
       → (Carries setup t e c → Knows setup (e ∷ t) c (cores c).own.table next) → All (IsCount setup (e ∷ t) c next.call) next.counts
       → AreApart next.counts
-      → SparesBlanks setup t e
+      → SparesBlanks setup t e → SparesLent cores e
       → IsGood setup cores t e after
-  holds_on flushes not_clock one_more of_call lands small elsewhere bares now unowned settles same_phase knows counts apart blanks =
+  holds_on flushes not_clock one_more of_call lands small elsewhere bares now unowned settles same_phase knows counts apart blanks spares =
       let plain : IsPlain setup t e = record {
         begins = λ x. refl;
         ends = λ x. refl;
@@ -90,7 +90,8 @@ module _ (setup : Setting) (setting : IsSetting setup) (cores : ℕ → Core) (t
         words = hold_words setup cores t e after (λ g. refl) elsewhere bares now unowned settles
             (λ v. calm_words setup t e (calm_same (state_after setup t) c) plain v (λ g i h. refl) (λ b h. (refl, plain_exit t e refl b)))
             stands.words;
-        lent = lent_calm setup cores t stands e after bares.none_new (calm_same (state_after setup t) c);
+        lent = lent_calm setup cores t stands e after (keeps_given setup cores t e after bares) (calm_same (state_after setup t) c);
+        spares = spares;
         sums = sums_stay setup t e (held_by cores) (held_by (put cores c after))
             (λ g b. settled_stays setup cores t e after (λ g. refl) elsewhere bares now unowned settles (CountAt g b))
             (calm_same (state_after setup t) c) plain (λ g i. refl) stands.sums;

@@ -2,7 +2,7 @@
 use Rattle.std.proofs.Common.{◌≡◌, ◌≢◌, ℕ, ◌+◌, ◌%◌, ◌^◌, ◌<◌, ◌≤◌, true, false, if◌then◌else◌, ◌∷◌, Some, None, IsTrue, inl, arith, refl, sym, ◌∙◌, ap, subst}
 use Rattle.spk_nums.specs.Setting.{Setting, IsSetting}
 use Rattle.spk_nums.specs.declared.replies.Reply.{Reply}
-use Rattle.word_map.specs.Word.{Word, ClockAt}
+use Rattle.word_map.specs.Word.{Word, EntryAt, ClockAt}
 use Rattle.word_map.specs.Moves.{AddOf, Move}
 use Rattle.kernel_rules.specs.State.{put}
 use Rattle.kernel_rules.specs.Alone.{alone}
@@ -21,7 +21,7 @@ use Rattle.core_invariant.specs.Knows.{phase_at, Knows, WorksIn, CoreIs}
 use Rattle.core_invariant.specs.Stands.{holds, held_by, times_of, counted_in, SumIs, Stands}
 use Rattle.core_invariant.proofs.WordFrames.{ReadsAlike, StaysSaid, marks_own, carry_marks, carry_words}
 use Rattle.core_invariant.proofs.Calm.{plain_exit}
-use Rattle.core_invariant.proofs.Lent.{lent_on}
+use Rattle.core_invariant.proofs.Lent.{keeps_there, lent_on, lent_elsewhere}
 use Rattle.core_invariant.proofs.Carries.{counts_on}
 use Rattle.core_invariant.proofs.Good.{IsGood, spares_other}
 use Rattle.core_invariant.proofs.Writes.{clock_small}
@@ -91,7 +91,9 @@ module _ (setup : Setting) (setting : IsSetting setup) (cores : ℕ → Core) (t
         blanks = spares_other setup t e (λ f i h. cc);
         marks = marks;
         words = carry_words setup cores t e after still alike refl refl bares (λ x. refl) same tt held stands.words;
-        lent = lent_on setup cores t stands e after (λ f i v is. sym (bares f i) ∙ is) (cores c).own made is.works works;
+        lent = lent_on setup cores t stands e after (keeps_there setup cores t e after bares (λ f i h. absurd (no_entry_word f i h))) alike
+            (cores c).own made is.works works;
+        spares = lent_elsewhere cores e (λ f i h. cc);
         sums = sums;
         draws = (let d = stands.draws in let b = raised in let g = more in omega arith);
         time = record {
@@ -120,5 +122,8 @@ module _ (setup : Setting) (setting : IsSetting setup) (cores : ℕ → Core) (t
         };
       }
     where
+      no_entry_word : (f i : ℕ) → ClockAt ≡ EntryAt f i → ⊥
+      no_entry_word f i h = cc
+
       true_false : false ≡ true → ⊥
       true_false h = cc

@@ -54,7 +54,7 @@ use Rattle.core_invariant.specs.Words.{WordIs}
 use Rattle.core_invariant.specs.Knows.{phase_at, CallIs, KnowsAt, WorksIn, CoreIs, blank_word, is_start, KnowsMakingAt, KnowsAct, KnowsWork}
 use Rattle.core_invariant.specs.Stands.{held_by, times_of, counted_in, SumIs, IsLent, Stands, is_done, holds_making, holds_act, holds_work, holds_at, holds_in, holds}
 use Rattle.core_invariant.proofs.Markers.{marker_inside}
-use Rattle.core_invariant.proofs.Lent.{lent_other}
+use Rattle.core_invariant.proofs.Lent.{SparesLent, lent_other}
 use Rattle.core_invariant.proofs.Carries.{undecided_on, counts_on, store_on, stores_in, stores_of, dead_on}
 
 -- A step changes a word of a blank frame only where its core has marked the frame.
@@ -177,7 +177,8 @@ pub record IsGood (setup : Setting) (cores : ℕ → Core) (t : Trace) (e : Step
   pub marks : (w : Word) (d : ℕ) → MarkIs setup (held_by (put cores e.core after)) (e ∷ t) w d
   pub words : (w : Word)
       → WordIs (state_after setup (e ∷ t)) (times_of setup (e ∷ t)) w (settled setup (held_by (put cores e.core after)) (e ∷ t) w)
-  pub lent : (f i v : ℕ) → (holds after).bare f i ≡ Some v → IsLent setup (e ∷ t) e.core f
+  pub lent : (f i v : ℕ) → (holds after).bare f i ≡ Some v → IsLent setup (e ∷ t) e.core f i
+  pub spares : SparesLent cores e
   pub sums : (f : ℕ) → SumIs setup (held_by (put cores e.core after)) (e ∷ t) f
   pub draws : clock setup (e ∷ t) ≤ 1 + counted_in setup (state_after setup (e ∷ t))
   pub time : KeepsTime setup t e
@@ -300,9 +301,9 @@ module _ (setup : Setting) (setting : IsSetting setup) (cores : ℕ → Core) (t
         (subst (λ o. MayEnter o (phase t e.core)) is good.follows.enters).0 w) stands.marked;
     words = good.words;
     lent = λ d f i v is. elim (cases_eq d e.core) [
-      | inl own ↦ subst (λ (b : ℕ). IsLent setup (e ∷ t) b f) (sym own)
+      | inl own ↦ subst (λ (b : ℕ). IsLent setup (e ∷ t) b f i) (sym own)
           (good.lent f i v (sym (ap (λ k. (holds k).bare f i) (put_same cores e.core after d own)) ∙ is))
-      | inr other ↦ lent_other setup setting cores t stands e good.follows d f i v other
+      | inr other ↦ lent_other setup setting cores t stands e good.follows good.spares d f i v other
           (sym (ap (λ k. (holds k).bare f i) (put_other cores e.core after d other)) ∙ is)
     ];
     sums = good.sums;

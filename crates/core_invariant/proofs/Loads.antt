@@ -42,7 +42,7 @@ use Rattle.core_invariant.proofs.Sums.{sums_stay}
 use Rattle.core_invariant.proofs.Carries.{counts_on}
 use Rattle.core_invariant.specs.Holding.{holds_counts}
 use Rattle.core_invariant.proofs.Good.{IsGood, spares_kept}
-use Rattle.core_invariant.proofs.Lent.{lent_calm}
+use Rattle.core_invariant.proofs.Lent.{keeps_loads, lent_calm, lent_kept}
 use Rattle.core_invariant.proofs.Calm.{IsCalm, calm_same, calm_counted, calm_own, calm_words, counted_rises, IsPlain, plain_time, plain_exit, BeginsNone, plain_begins, none_flushed}
 
 -- A step of core c.
@@ -219,7 +219,10 @@ module _ (setup : Setting) (setting : IsSetting setup) (cores : ℕ → Core) (t
         words = load_words setup cores t e after still (λ g. refl) looks.kept
             (λ v. calm_words setup t e (calm_same (state_after setup t) c) plain v (λ g i h. refl) (λ d h. (refl, plain_exit t e refl d)))
             stands.words;
-        lent = lent_calm setup cores t stands e after (λ f i v is. sym (ap (λ h. h.bare f i) still) ∙ is) (calm_same (state_after setup t) c);
+        lent = lent_calm setup cores t stands e after
+            (keeps_loads setup cores t e after still (load_keeps setup cores t e after still (λ g. refl) looks.kept))
+            (calm_same (state_after setup t) c);
+        spares = lent_kept cores e looks.kept;
         sums = sums_stay setup t e (held_by cores) (held_by (put cores c after))
             (λ f d. settled_on setup cores t e after still (λ g. refl) (CountAt f d)
             (load_keeps setup cores t e after still (λ g. refl) looks.kept (CountAt f d)))
@@ -282,7 +285,9 @@ module _ (setup : Setting) (setting : IsSetting setup) (cores : ℕ → Core) (t
         words = load_words setup cores t e after still calm.frame looks.kept
             (λ v. calm_words setup t e calm plain v (λ g i h. ap (λ s. s.place g i) now)
             (λ d h. (decided-inside (Some r) (phase t c) (state_after setup t) c d, plain_exit t e refl d))) stands.words;
-        lent = lent_calm setup cores t stands e after (λ f i v is. sym (ap (λ h. h.bare f i) still) ∙ is) calm;
+        lent = lent_calm setup cores t stands e after
+            (keeps_loads setup cores t e after still (load_keeps setup cores t e after still calm.frame looks.kept)) calm;
+        spares = lent_kept cores e looks.kept;
         sums = sums_stay setup t e (held_by cores) (held_by (put cores c after))
             (λ f d. settled_on setup cores t e after still calm.frame (CountAt f d)
             (load_keeps setup cores t e after still calm.frame looks.kept (CountAt f d)))

@@ -23,6 +23,7 @@ use Rattle.core_invariant.specs.Stands.{holds, IsLent, held_by, times_of, counte
 use Rattle.core_invariant.proofs.Calm.{BeginsNone, none_time, none_flushed, plain_exit}
 use Rattle.core_invariant.proofs.Carries.{counts_on}
 use Rattle.core_invariant.proofs.Good.{IsGood, SparesBlanks}
+use Rattle.core_invariant.proofs.Lent.{SparesLent}
 use Rattle.core_invariant.proofs.Loads.{Lands, IsOfCall, next_at, core_is, call_is, in_call, inner, inner_within, inner_disciplined, inner_near}
 
 -- A core is where it was, on its machine.
@@ -51,13 +52,14 @@ module _ (setup : Setting) (setting : IsSetting setup) (cores : ℕ → Core) (t
       → ((w : Word) (d : ℕ) → MarkIs setup (held_by (put cores c changed_core)) (changing ∷ t) w d)
       → ((w : Word) → WordIs (state_after setup (changing ∷ t)) (times_of setup (changing ∷ t)) w
       (settled setup (held_by (put cores c changed_core)) (changing ∷ t) w))
-      → ((f i v : ℕ) → (holds changed_core).bare f i ≡ Some v → IsLent setup (changing ∷ t) c f)
+      → ((f i v : ℕ) → (holds changed_core).bare f i ≡ Some v → IsLent setup (changing ∷ t) c f i)
+      → SparesLent cores changing
       → ((f : ℕ) → SumIs setup (held_by (put cores c changed_core)) (changing ∷ t) f)
       → MayDecide setup t changing (Some r) (phase t c)
       → (IsAlone t changing → r ≡ alone (state_after setup t) c a.call)
       → Knows setup (changing ∷ t) c own.table (next_at a a.found stage)
       → IsGood setup cores t changing changed_core
-  decides_changing small of_call lands opens closes puts keeps none blanks rises works marks words lent sums may first knows =
+  decides_changing small of_call lands opens closes puts keeps none blanks rises works marks words lent spares sums may first knows =
       let now : CoreIs setup (cores c) t c = core_is setup setting cores t stands c here a active in
       let in_flight = call_is setup setting cores t stands c here a active in
       record {
@@ -80,6 +82,7 @@ module _ (setup : Setting) (setting : IsSetting setup) (cores : ℕ → Core) (t
         marks = marks;
         words = words;
         lent = lent;
+        spares = spares;
         sums = sums;
         draws = (let d = stands.draws in let b = none.same in let g = rises in omega arith);
         time = none_time setup t changing none;

@@ -39,9 +39,9 @@ use Rattle.core_invariant.specs.Knows.{phase_at, KnowsAt, Knows, IsCount, CallIs
 use Rattle.core_invariant.specs.Stands.{is_done, holds_at, holds_in, holds, held_by, times_of, counted_in, SumIs, Stands}
 use Rattle.core_invariant.proofs.WordFrames.{marks_own, settled_on, write_marks, write_words, ReadsAlike, reads_alike, StaysSaid, word_stays, carry_marks, carry_words}
 use Rattle.core_invariant.proofs.Sums.{sums_stay}
-use Rattle.core_invariant.proofs.Bare.{counts_bare}
-use Rattle.core_invariant.proofs.Lent.{lent_on, lent_calm}
-use Rattle.core_invariant.specs.Holding.{nothing, count_of, holds_counts, settled, bare_value}
+use Rattle.core_invariant.proofs.Bare.{IsNotKept, free_value, counts_bare}
+use Rattle.core_invariant.proofs.Lent.{keeps_there, lent_on, lent_calm, lent_free, lent_elsewhere}
+use Rattle.core_invariant.specs.Holding.{nothing, count_of, holds_counts, settled}
 use Rattle.stage_pins.specs.declared.held.Acquired.{Acquired}
 use Rattle.call_steps.specs.Fits.{CountsAt}
 use Rattle.std.proofs.lemmas.List.Elements.{All-nil}
@@ -93,7 +93,10 @@ core_small inside stamp small = spelling.small (record { inside = inside; stamp 
 none_some : (d : ℕ) → None ≡ Some d → ⊥
 none_some d h = cc
 
--- A count is no core's word.
+-- An entry is no core's word, and nor is a count.
+no_entry_word : (f i c : ℕ) → CoreAt c ≡ EntryAt f i → ⊥
+no_entry_word f i c h = cc
+
 count_apart : (f d c : ℕ) → CountAt f d ≢ CoreAt c
 count_apart f d c h = cc
 
@@ -116,7 +119,7 @@ module _ (setup : Setting) (setting : IsSetting setup) (cores : ℕ → Core) (t
         → phase_at a.call a.stage ≡ Open a.call → phase_at a.call stage ≡ Decided a.call r
         → ((w : Word) → (holds_at stage a.counts).marks w ≡ (holds_in (Some a)).marks w)
         → ((f i : ℕ) → (holds_at stage a.counts).bare f i ≡ (holds_in (Some a)).bare f i)
-        → ((x : ℕ) → bare_value (held_by cores) (word_of move) x ≡ x)
+        → IsNotKept (held_by cores) (word_of move)
         → (let e : Step = inner setup setting cores t stands c here a active move (Some r) None in
         ReadsAlike setup t e → BeginsNone setup t e → SparesBlanks setup t e
         → counted_in setup (state_after setup t) ≤ counted_in setup (state_after setup (e ∷ t))
@@ -160,9 +163,11 @@ module _ (setup : Setting) (setting : IsSetting setup) (cores : ℕ → Core) (t
           near = inner_near setup setting cores t stands c here a active move (Some r) None of_call;
           blanks = blanks;
           marks = marks;
-          words = carry_words setup cores t e after still alike was now bares unlent same new commits stands.words;
-          lent = lent_on setup cores t stands e after (λ f i v is. sym (bares f i) ∙ is) (cores c).own made
+          words = carry_words setup cores t e after still alike was now bares
+              (λ x. free_value (held_by cores) (word_of move) x unlent) same new commits stands.words;
+          lent = lent_on setup cores t stands e after (keeps_there setup cores t e after bares unlent) alike (cores c).own made
               (core_is setup setting cores t stands c here a active).works works;
+          spares = lent_free cores e unlent;
           sums = sums;
           draws = (let d = stands.draws in let b = plain.same in let g = rises in omega arith);
           time = none_time setup t e plain;
@@ -179,7 +184,7 @@ module _ (setup : Setting) (setting : IsSetting setup) (cores : ℕ → Core) (t
         → Lands setup (core_at (cores c) made (next_at a found stage)) (word_of move)
         → phase_at a.call a.stage ≡ Open a.call → phase_at a.call stage ≡ Decided a.call r
         → holds_at stage a.counts ≡ holds_counts (is_done stage) a.counts
-        → ((x : ℕ) → bare_value (held_by cores) (word_of move) x ≡ x)
+        → IsNotKept (held_by cores) (word_of move)
         → (let e : Step = inner setup setting cores t stands c here a active move (Some r) None in
         ReadsAlike setup t e → BeginsNone setup t e → SparesBlanks setup t e
         → counted_in setup (state_after setup t) ≤ counted_in setup (state_after setup (e ∷ t))
@@ -214,7 +219,7 @@ module _ (setup : Setting) (setting : IsSetting setup) (cores : ℕ → Core) (t
         → Lands setup (core_at (cores c) made (next_at a found stage)) (word_of move)
         → phase_at a.call a.stage ≡ Open a.call → phase_at a.call stage ≡ Decided a.call r
         → holds_at stage a.counts ≡ holds_counts (is_done stage) a.counts
-        → ((x : ℕ) → bare_value (held_by cores) (EntryAt node index) x ≡ x)
+        → IsNotKept (held_by cores) (EntryAt node index)
         → (let e : Step = inner setup setting cores t stands c here a active move (Some r) None in
         IsCalm (state_after setup t) (state_after setup (e ∷ t)) c → IsPlain setup t e → SparesBlanks setup t e
         → made ≡ ((state_after setup (e ∷ t)).core c).counted
@@ -236,7 +241,7 @@ module _ (setup : Setting) (setting : IsSetting setup) (cores : ℕ → Core) (t
         writes_on move made r found stage (ap (marked_by setup t) at ∙ was)
         (ap (λ w. mark_of (state_after setup t) w (left_of move (last_left setup t w))) at ∙ now)
         (subst (λ w. left_of move (last_left setup t w) < 2 ^ 64) (sym at) small) of_call lands opens closes bare_stage
-        (λ x. ap (λ w. bare_value (held_by cores) w x) at ∙ unlent x)
+        (subst (IsNotKept (held_by cores)) (sym at) unlent)
         (reads_alike setup t e calm.frame) (plain_begins setup t e plain) blanks (counted_rises setup (state_after setup t)
         (state_after setup (e ∷ t)) c calm)
         (inner_works setup setting cores t stands c here a active move (Some r) None made calm counts)
@@ -255,7 +260,7 @@ module _ (setup : Setting) (setting : IsSetting setup) (cores : ℕ → Core) (t
         → ((f b : ℕ) → CountAt f b ≢ word_of move)
         → Lands setup (core_at (cores c) (cores c).own.made (next_at a found stage)) (word_of move)
         → holds_at stage a.counts ≡ holds_in (Some a)
-        → ((x : ℕ) → bare_value (held_by cores) (word_of move) x ≡ x)
+        → IsNotKept (held_by cores) (word_of move)
         → phase_at a.call a.stage ≡ phase_at a.call stage
         → (let e : Step = inner setup setting cores t stands c here a active move None None in
         WordIs (state_after setup t) (times_of setup t) (word_of move) (left_of move (last_left setup t (word_of move)))
@@ -295,15 +300,17 @@ module _ (setup : Setting) (setting : IsSetting setup) (cores : ℕ → Core) (t
           near = inner_near setup setting cores t stands c here a active move None None of_call;
           blanks = blanks;
           marks = marks;
-          words = write_words setup cores t e after still (λ g. refl) was now unlent
+          words = write_words setup cores t e after still (λ g. refl) was now
+              (λ x. free_value (held_by cores) (word_of move) x unlent)
               (λ v there. calm_words setup t e (calm_same (state_after setup t) c) plain v (λ g i h. refl)
               (λ d h. (refl, plain_exit t e refl d)))
               (word_stays (state_after setup t) (state_after setup (e ∷ t)) (times_of setup t) (times_of setup (e ∷ t)) (word_of move)
               (left_of move (last_left setup t (word_of move)))
               (calm_words setup t e (calm_same (state_after setup t) c) plain (word_of move) (λ g i h. refl)
               (λ d h. (refl, plain_exit t e refl d))) new) stands.words;
-          lent = lent_calm setup cores t stands e after (λ f i v is. sym (ap (λ h. h.bare f i) still) ∙ is)
+          lent = lent_calm setup cores t stands e after (keeps_there setup cores t e after (λ f i. ap (λ h. h.bare f i) still) unlent)
               (calm_same (state_after setup t) c);
+          spares = lent_free cores e unlent;
           sums = sums_stay setup t e (held_by cores) (held_by (put cores c after))
               (λ f d. settled_on setup cores t e after still (λ g. refl) (CountAt f d)
               (last_left-there setup (CountAt f d) e t (no_count f d)))
@@ -368,7 +375,9 @@ module _ (setup : Setting) (setting : IsSetting setup) (cores : ℕ → Core) (t
               (core_reads false x (omega arith) ∙ ap (λ b. Some (record { inside = b; stamp = x })) (sym inside)
               ∙ ap (λ (y : ℕ). Some (record { inside = ((state_after setup (e ∷ t)).core c).inside; stamp = y })) (sym out))
               stands.words;
-          lent = lent_calm setup cores t stands e after (λ f i v is. sym (ap (λ h. h.bare f i) still) ∙ is) calm;
+          lent = lent_calm setup cores t stands e after
+              (keeps_there setup cores t e after (λ f i. ap (λ h. h.bare f i) still) (λ f i h. absurd (no_entry_word f i c h))) calm;
+          spares = lent_elsewhere cores e (λ f i h. cc);
           sums = sums_stay setup t e (held_by cores) (held_by (put cores c after))
               (λ f d. settled_on setup cores t e after still calm.frame (CountAt f d)
               (last_left-there setup (CountAt f d) e t (count_apart f d c)))
@@ -464,7 +473,9 @@ module _ (setup : Setting) (setting : IsSetting setup) (cores : ℕ → Core) (t
             (sym inside)
             ∙ ap (λ (y : ℕ). Some (record { inside = ((state_after setup (e ∷ t)).core c).inside; stamp = y })) (sym last))
             stands.words;
-        lent = lent_calm setup cores t stands e after (λ f i v is. sym (ap (λ h. h.bare f i) still) ∙ is) calm;
+        lent = lent_calm setup cores t stands e after
+            (keeps_there setup cores t e after (λ f i. ap (λ h. h.bare f i) still) (λ f i h. absurd (no_entry_word f i c h))) calm;
+        spares = lent_elsewhere cores e (λ f i h. cc);
         sums = sums_stay setup t e (held_by cores) (held_by (put cores c after))
             (λ f d. settled_on setup cores t e after still calm.frame (CountAt f d)
             (last_left-there setup (CountAt f d) e t (count_apart f d c)))

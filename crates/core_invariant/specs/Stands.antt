@@ -16,7 +16,7 @@ use Rattle.std.specs.Prelude.{◌≡◌, ◌+◌, ◌-◌, ◌<◌, ◌≤◌, �
 use Rattle.spk_nums.specs.Setting.{Setting}
 use Rattle.frame_words.specs.Count.{count_of_word}
 use Rattle.frame_words.specs.declared.count_word.CountWord.{CountWord}
-use Rattle.word_map.specs.Word.{Word, CountAt, FrameAt, LiveAt}
+use Rattle.word_map.specs.Word.{Word, EntryAt, CountAt, FrameAt, LiveAt}
 use Rattle.kernel_rules.specs.State.{Thing, FrameOf, State, thread_of}
 use Rattle.kernel_rules.specs.References.{sum_below}
 use Rattle.kernel_history.specs.Trace.{Trace, Out, phase, calls_of, state_after}
@@ -151,11 +151,13 @@ pub record IsAway (core : Core) (t : Trace) (c : ℕ) : Type 0 where
 abbrev pub counted_in : Setting → State → ℕ
 counted_in setup s = sum_below (λ c. (s.core c).counted) setup.cores
 
--- What a core keeps without a mark is a word of its current thread, which no other core may write.
-pub record IsLent (setup : Setting) (t : Trace) (d f : ℕ) : Type 0 where
+-- What a core keeps without a mark is a word of its current thread, which no other core steps on but to leave it as found; it carries no
+-- mark.
+pub record IsLent (setup : Setting) (t : Trace) (d f i : ℕ) : Type 0 where
   pub core : d < setup.cores
   pub thread : ((state_after setup t).core d).thread ≡ f
   pub stack : 1 ≤ length (thread_of (state_after setup t) d).stack
+  pub unmarked : marked_by setup t (EntryAt f i) ≡ None
 
 -- The cores stand for the trace.
 pub record Stands (setup : Setting) (cores : ℕ → Core) (t : Trace) : Type 0 where
@@ -172,7 +174,7 @@ pub record Stands (setup : Setting) (cores : ℕ → Core) (t : Trace) : Type 0 
   pub marked : (w : Word) (d : ℕ) → marked_by setup t w ≡ Some d → HasMarked setup t w d
   pub words : (w : Word) → WordIs (state_after setup t) (times_of setup t) w (settled setup (held_by cores) t w)
   -- a core keeps no word without a mark but those of its own thread
-  pub lent : (d f i v : ℕ) → (held_by cores d).bare f i ≡ Some v → IsLent setup t d f
+  pub lent : (d f i v : ℕ) → (held_by cores d).bare f i ≡ Some v → IsLent setup t d f i
   -- the settled counts of each frame sum to the references to it
   pub sums : (f : ℕ) → SumIs setup (held_by cores) t f
   -- a counted call draws at most one stamp; no core has left or flushed later than now; and grace periods go with stamps

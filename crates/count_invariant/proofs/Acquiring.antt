@@ -1,5 +1,6 @@
 -- A step by which a call acquires a count that its act changes is good: the count is held by another core, is lost to another core, or
 -- is acquired; and so is the step by which a decided call commits it.
+use Rattle.core_invariant.proofs.Lent.{lent_elsewhere}
 use Rattle.core_invariant.proofs.Bare.{as_none, counts_bare}
 use Rattle.entry_words.specs.declared.entry.Entry.TheVariants.{Held}
 use Rattle.entry_words.specs.EntryWord.{word_of_entry}
@@ -611,6 +612,7 @@ module _ (setup : Setting) (setting : IsSetting setup) (cores : ℕ → Core) (t
           }) (All-nil (IsCount setup (e ∷ t) c a.call))))
           (counters.more_apart a.counts x (call_is setup setting cores t stands c here a active).apart new)
           (spares_other setup t (inner setup setting cores t stands c here a active compare None None) (λ f i h. cc))
+          (lent_elsewhere cores (inner setup setting cores t stands c here a active compare None None) (λ f i h. cc))
 
       count_won : GoodTook setup cores t c compare (landed a (Acquires x (next_work (cores c).own.core (length a.counts + 1) act)))
       count_won = subst (λ (xs : List Acquired). GoodTook setup cores t c compare (GoesOn (more xs)))
@@ -823,4 +825,4 @@ module _ (setup : Setting) (setting : IsSetting setup) (cores : ℕ → Core) (t
       (λ carries. tt)
       (counts_on setup t e c a.call (λ own. refl) xs (All-tail (IsCount setup t c a.call) x xs known))
       apart.1
-      (spares_other setup t e (λ f i h. cc))
+      (spares_other setup t e (λ f i h. cc)) (lent_elsewhere cores e (λ f i h. cc))

@@ -1,7 +1,7 @@
 -- The decision of a call that makes an object: the compare of its target, where it is won, makes the frame that object, and puts its
 -- capability there.
 use Rattle.core_invariant.proofs.Bare.{counts_bare}
-use Rattle.core_invariant.proofs.Lent.{is_thread, unlent_value, node_no_thread}
+use Rattle.core_invariant.proofs.Lent.{is_thread, unlent_value, unlent_word, node_no_thread}
 use Rattle.std.specs.Prelude.{if◌then◌else◌, pos, All}
 use Rattle.std.proofs.Common.{◌≡◌, List, Bool, true, false, Some, None, refl, ℕ, ◌<◌, ◌^◌, ◌==◌, arith, ◌≢◌, ◌+◌, sym, ◌&&◌, [], ◌∷◌, ap, ◌∙◌, subst, ◌≤◌, IsTrue, ◌⊎◌, inl, inr, max, map, ◌+ℤ◌}
 use Rattle.std.proofs.lemmas.List.Elements.{All-nil, All-cons, All-head, All-tail}
@@ -581,7 +581,7 @@ module _ (setup : Setting) (setting : IsSetting setup) (cores : ℕ → Core) (t
         refl
         same_held
         (λ g i. counts_bare (Some None) a.counts g i ∙ sym (ap (λ h. h.bare g i) held ∙ counts_bare None a.counts g i))
-        (unlent_value setup cores t stands node (node_no_thread (s.frame node) in_node) index)
+        (unlent_word setup cores t stands node index (node_no_thread (s.frame node) in_node))
         alike begins_none (spares_node setup t e node index refl in_node) rises works stays
         (subst (WordIs s' (times_of setup (e ∷ t)) (EntryAt node index)) (sym leaves_it) word_now) commits sums_are
         (record { call = a.call; is_open = is_open; permitted = permitted; justified = gone })

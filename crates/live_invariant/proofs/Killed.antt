@@ -1,6 +1,7 @@
 -- A killing draws its stamp and is decided: the number is dead, its reference to the component's frame is released, and the grace periods
 -- of both begin at the stamp. And the store of the dead number's word is good.
 use Rattle.core_invariant.proofs.Bare.{as_none, counts_bare}
+use Rattle.core_invariant.proofs.Lent.{lent_elsewhere}
 use Rattle.std.specs.Prelude.{IsSome}
 use Rattle.std.specs.List.{list_any}
 use Rattle.std.proofs.Common.{◌≡◌, ◌≢◌, inl, inr, ℕ, pos, negsuc, ◌+ℤ◌, max, length, ◌+◌, ◌^◌, ◌<◌, ◌≤◌, ◌==◌, ◌||◌, Bool, true, false, if◌then◌else◌, List, [], ◌∷◌, Option, Some, None, IsTrue, arith, refl, sym, ◌∙◌, ap, subst}
@@ -549,4 +550,4 @@ module _ (setup : Setting) (setting : IsSetting setup) (cores : ℕ → Core) (t
       (λ carries. tt)
       (counts_on setup t e c a.call (λ own. refl) a.counts (call_is setup setting cores t stands c here a active).counts)
       (call_is setup setting cores t stands c here a active).apart
-      (spares_other setup t e (λ g i h. cc))
+      (spares_other setup t e (λ g i h. cc)) (lent_elsewhere cores e (λ g i h. cc))

@@ -1,7 +1,7 @@
 -- The steps of a killing before its draw are good: the loads of the component's word and of its number's word, and the compare that marks
 -- the number, which is lost to another core or holds it for the call.
 use Rattle.core_invariant.proofs.Bare.{as_none, counts_bare}
-use Rattle.core_invariant.proofs.Lent.{is_thread, unlent_value}
+use Rattle.core_invariant.proofs.Lent.{is_thread, unlent_value, lent_elsewhere}
 use Rattle.std.proofs.Common.{◌≡◌, ◌≢◌, inl, ℕ, ◌+◌, ◌++◌, ◌^◌, ◌<◌, ◌==◌, map, length, Bool, true, false, if◌then◌else◌, List, [], ◌∷◌, Option, Some, None, IsTrue, arith, refl, sym, ◌∙◌, ap, subst}
 use Rattle.std.proofs.lemmas.Bool.{eqb-true, eqb-false, eq-eqb, false≢true}
 use Rattle.spk_nums.specs.Setting.{Setting, IsSetting}
@@ -362,7 +362,7 @@ module _ (setup : Setting) (setting : IsSetting setup) (cores : ℕ → Core) (t
         })
         (counts_on setup t e c a.call (λ own. refl) a.counts (call_is setup setting cores t stands c here a active).counts)
         (call_is setup setting cores t stands c here a active).apart
-        (spares_other setup t e (λ g i h. cc))
+        (spares_other setup t e (λ g i h. cc)) (lent_elsewhere cores e (λ g i h. cc))
 
   pub close_good : GoodTook setup cores t c compare (landed a (closes_if closes life word (left_there == word)))
   close_good = by_test (left_there == word) refl

@@ -1,7 +1,7 @@
 -- The entry of a removal is closed and given back: the compare that marks it is lost to another core or holds it for the call, and the
 -- store of a decided removal leaves the quiescing entry for which it stood.
 use Rattle.core_invariant.proofs.Bare.{as_none, counts_bare}
-use Rattle.core_invariant.proofs.Lent.{unlent_value, unlent_after, node_no_thread}
+use Rattle.core_invariant.proofs.Lent.{unlent_value, unlent_word, unlent_after, node_no_thread, lent_free}
 use Rattle.core_invariant.proofs.Good.{spares_node}
 use Rattle.std.proofs.Common.{◌≡◌, ◌≢◌, inl, inr, ℕ, ◌^◌, ◌<◌, ◌==◌, ◌∷◌, [], Bool, true, false, List, Option, Some, None, arith, refl, sym, ◌∙◌, ap, subst, IsTrue, if◌then◌else◌}
 use Rattle.std.proofs.lemmas.Bool.{eqb-true, eqb-false, eq-eqb}
@@ -231,6 +231,7 @@ module _ (setup : Setting) (setting : IsSetting setup) (cores : ℕ → Core) (t
           (counts_on setup t e c a.call (λ own. refl) a.counts (call_is setup setting cores t stands c here a active).counts)
           (call_is setup setting cores t stands c here a active).apart
           (spares_node setup t e node index refl in_node)
+          (lent_free cores e (unlent_word setup cores t stands node index (node_no_thread (s.frame node) in_node)))
 
     pub close_good : GoodTook setup cores t c compare (landed a
         (took_close cap (close_at (was == word) node index word by) (close_compared (was == word))))
@@ -303,3 +304,4 @@ module _ (setup : Setting) (setting : IsSetting setup) (cores : ℕ → Core) (t
         (counts_on setup t e c a.call (λ own. refl) a.counts (call_is setup setting cores t stands c here a active).counts)
         (call_is setup setting cores t stands c here a active).apart
         (spares_node setup t e node index refl has.relies.node)
+        (lent_free cores e (unlent_word setup cores t stands node index (node_no_thread (s.frame node) has.relies.node)))

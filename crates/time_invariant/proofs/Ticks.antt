@@ -1,7 +1,7 @@
 -- The steps of a tick are good: the load of the head of its core's temporal capability, and the compare, which is lost to another core or
 -- charges the ticks that are due.
 use Rattle.core_invariant.proofs.Bare.{counts_bare}
-use Rattle.core_invariant.proofs.Lent.{is_thread, unlent_value, lent_none}
+use Rattle.core_invariant.proofs.Lent.{is_thread, unlent_value, unlent_word, lent_none, lent_kept, lent_free}
 use Rattle.std.specs.Prelude.{min, IsSome}
 use Rattle.std.proofs.lemmas.List.Elements.{All-nil}
 use Rattle.std.proofs.Common.{◌≡◌, ◌≢◌, inl, inr, ℕ, zero, suc, ◌||◌, map, ◌++◌, ◌+◌, ◌-◌, ◌*◌, ◌^◌, ◌<◌, ◌≤◌, ◌==◌, Bool, true, false, List, [], ◌∷◌, length, Option, Some, None, arith, refl, sym, ◌∙◌, ap, subst, if◌then◌else◌}
@@ -317,7 +317,7 @@ module _ (setup : Setting) (setting : IsSetting setup) (cores : ℕ → Core) (t
         (λ d m other. looks.kept)
         (plain_begins setup t e plain) (spares_kept setup t e looks.kept) rises works marks
         (load_words setup cores t e after still frames looks.kept same_words stands.words)
-        (lent_none setup (e ∷ t) c after (counts_bare (done_by r None) a.counts))
+        (lent_none setup (e ∷ t) c after (counts_bare (done_by r None) a.counts)) (lent_kept cores e looks.kept)
         (sums_keep setup t e (held_by cores) (held_by (put cores c after))
         (λ g d. settled_on setup cores t e after still frames (CountAt g d)
         (load_keeps setup cores t e after still frames looks.kept (CountAt g d)))
@@ -736,6 +736,7 @@ module _ (setup : Setting) (setting : IsSetting setup) (cores : ℕ → Core) (t
         (unlent_value setup cores t stands f (ap is_thread tcap.is) 0) stays_won now_says
         (λ w own. absurd (free_of w own)) stands.words)
         (lent_none setup (e_won ∷ t) c after_won (counts_bare (Some None) a.counts))
+        (lent_free cores e_won (unlent_word setup cores t stands f 0 (ap is_thread tcap.is)))
         (sums_keep setup t e_won (held_by cores) (held_by (put cores c after_won))
         (λ g d. others_settled setup cores t e_won after_won still_won alike_won unmarked bare_now (CountAt g d) (no_count g d)
         (free_of (CountAt g d)) refl)
