@@ -22,9 +22,7 @@ ghost use Rattle.kernel_rules.specs.Access.{found as named_by_cap};
 ghost use Rattle.kernel_rules.specs.CapabilityCalls.{has_frame};
 
 use crate::fills::Fill;
-use crate::invocations::{
-    Invoking, InvokingAt, Returning, ReturningAt, invokes_at, returns_at,
-};
+use crate::invocations::{Invoking, InvokingAt, Returning, ReturningAt, invokes_at, returns_at};
 use crate::kills::{Killing, KillingAt};
 use crate::makings::{Making, MakingAt};
 use crate::objects::{NewObject, object_cap, object_made};
@@ -210,7 +208,8 @@ fn cap_due(cap: &Cap, change: i32, n: u8) -> Option<Due>
 
 /// What a call of a core does whose names have led to these and whose target, if it has one, was found: a look answers at once, a
 /// copy begins to fill its target, a remove, a shrink and an unmap to remove what their target holds, a retype to type its frame,
-/// a make to make its object, a tick to charge its ticks, a call to enter its gate's component, a ret to leave its own. The core is one of the layout's at most 8.
+/// a make to make its object, a tick to charge its ticks, a call to enter its gate's component, a ret to leave its own. The
+/// core is one of the layout's at most 8.
 #[inline]
 pub fn begin_act(own: &Own, call: &Call, found: &Caps, target: &Option<Found>) -> WorkStep
     requires core { own.now.core < own.now.layout.cores }

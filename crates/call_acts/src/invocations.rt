@@ -8,8 +8,8 @@
 //! **Leaving.** The component below the top of the stack is loaded, and its table and its pages. The count of the top's frame is acquired,
 //! and a stamp is drawn, which decides: the reference to the top is released at the stamp. The top is still to be popped.
 //!
-//! **The stack.** The words of a running thread are stored by its core alone, so the core needs no mark in them. It knows its thread's depth
-//! and the component at the top, and loads neither.
+//! **The stack.** The words of a running thread are stored by its core alone, so the core needs no mark in them. It knows its thread's
+//! depth and the component at the top, and loads neither.
 
 ghost use Rattle.std.specs.Prelude.{◌≡◌, ◌<◌, ◌≤◌};
 ghost use Rattle.spk_nums.specs.WordSteps.{place_in};
@@ -35,9 +35,14 @@ pub enum InvokingAt {
     /// Before the load of the component's table.
     LoadTable,
     /// Before the load of its pages.
-    LoadPages { table: FrameNo },
+    LoadPages {
+        table: FrameNo,
+    },
     /// Before the load of its liveness number.
-    LoadComp { table: FrameNo, pages: FrameNo },
+    LoadComp {
+        table: FrameNo,
+        pages: FrameNo,
+    },
     /// Before the load of that number's word, which decides.
     LoadLive {
         table: FrameNo,
@@ -71,9 +76,14 @@ pub enum ReturningAt {
     /// Before the load of the component below the top.
     LoadBelow,
     /// Before the load of that component's table.
-    LoadTable { comp: FrameNo },
+    LoadTable {
+        comp: FrameNo,
+    },
     /// Before the load of its pages.
-    LoadPages { comp: FrameNo, table: FrameNo },
+    LoadPages {
+        comp: FrameNo,
+        table: FrameNo,
+    },
     /// Before the draw of the stamp.
     Draw {
         comp: FrameNo,

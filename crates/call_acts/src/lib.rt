@@ -31,12 +31,12 @@
 //! component lives. Then the count of the component's frame is acquired, the number's word is marked by a compare with the word found, and
 //! a stamp is drawn, which decides. The number's word is still to be stored: dead since the stamp.
 //!
-//! **Call.** The words of the gate's component are loaded: its table, its pages and its liveness number. The count of its frame is acquired,
-//! and the number's word is loaded, which decides: the component lives in the gate's epoch. The component is still to be pushed onto the
-//! stack of the core's thread. A stack of depth 16 is full, which is known where the gate is found.
+//! **Call.** The words of the gate's component are loaded: its table, its pages and its liveness number. The count of its frame is
+//! acquired, and the number's word is loaded, which decides: the component lives in the gate's epoch. The component is still to be pushed
+//! onto the stack of the core's thread. A stack of depth 16 is full, which is known where the gate is found.
 //!
-//! **Ret.** The component below the top of the stack is loaded, and its table and its pages. The count of the top's frame is acquired, and a
-//! stamp is drawn, which decides. The top is still to be popped. A stack of depth 1 has nothing below, which is known at the first step.
+//! **Ret.** The component below the top of the stack is loaded, and its table and its pages. The count of the top's frame is acquired, and
+//! a stamp is drawn, which decides. The top is still to be popped. A stack of depth 1 has nothing below, which is known at the first step.
 //!
 //! **Refusals.** A refusal decides at the first step by which it is known and every earlier cause is judged: of each name in
 //! written order `no-slot`, `empty` and `wrong-cap`, then of the target `no-slot` and `occupied`, then what the act asks:

@@ -44,7 +44,10 @@ pub struct Own {
 #[derive(Clone, Copy, PartialEq, Eq, Debug)]
 pub enum OwnChange {
     /// So many ticks were charged, which are spent, and so many are owed.
-    Ticks { charged: u32, owed: u64 },
+    Ticks {
+        charged: u32,
+        owed: u64,
+    },
     /// It works in this component, with this table and these pages, at this depth of its thread's stack.
     Works {
         comp: FrameNo,

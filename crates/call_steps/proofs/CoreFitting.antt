@@ -61,7 +61,6 @@ changed_on own (Ticks charged owed) h fits = record {
   most_calls = h.most_calls;
   made = h.made;
 }
-
 changed_on own (Works comp table pages depth) h fits = record {
   shape = h.shape;
   core = h.core;

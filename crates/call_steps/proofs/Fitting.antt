@@ -102,12 +102,7 @@ use Rattle.call_acts.specs.Lookups.{met_name, met_free, met_held}
 use Rattle.call_steps.specs.Steps.{GoesOn, landed, found_more, next_by, took_enter, named_one, took_found, took_end, took_look, took_scan, took_count, took_work, went_with, is_spent, took_at, took}
 use Rattle.call_steps.proofs.LandsFit.{TookFits, Facts, names_object, next_fits, landed_fits}
 use Rattle.call_steps.proofs.KillsFit.{kill_fits}
-use Rattle.call_steps.proofs.InvocationsFit.{invoke_fits, return_fits}
-use Rattle.stage_thread.specs.Stacking.{PushFits, PopFits}
-use Rattle.stage_thread.specs.declared.stack.Push.{Push as PushType}
-use Rattle.stage_thread.specs.declared.stack.Push.TheVariants as push
-use Rattle.stage_thread.specs.declared.stack.Pop.{Pop as PopType}
-use Rattle.stage_thread.specs.declared.stack.Pop.TheVariants as pop
+use Rattle.call_steps.proofs.InvocationsFit.{invoke_fits, return_fits, push_fits, pop_fits}
 
 -- a step of the work of a call that has acquired its counts, or acquires them
 module _ (own : Own) (a : ActiveCall) (facts : Facts own a) (room : own.made < own.limit) where
@@ -745,58 +740,8 @@ tail_fits own a r drawn (StoreDead life stamp) counts found facts fits is = reco
   steps = refl;
   fewer = let same : length a.counts ≡ length counts = ap length is in omega arith;
 }
-tail_fits own a r drawn (Push (push.AtStack t core depth comp)) counts found facts fits is = record {
-  call = refl;
-  plan = refl;
-  found = facts.found;
-  first = tt;
-  stage = fits;
-  acquired = subst (AllFit own.layout) is facts.acquired;
-  counts = tt;
-  room = tt;
-  counted = facts.own_fits.made;
-  steps = refl;
-  fewer = let same : length a.counts ≡ length counts = ap length is in omega arith;
-}
-tail_fits own a r drawn (Push (push.AtThread t core depth)) counts found facts fits is = record {
-  call = refl;
-  plan = refl;
-  found = facts.found;
-  first = tt;
-  stage = tt;
-  acquired = subst (AllFit own.layout) is facts.acquired;
-  counts = tt;
-  room = tt;
-  counted = facts.own_fits.made;
-  steps = refl;
-  fewer = let same : length a.counts ≡ length counts = ap length is in omega arith;
-}
-tail_fits own a r drawn (Pop (pop.AtThread t core depth)) counts found facts fits is = record {
-  call = refl;
-  plan = refl;
-  found = facts.found;
-  first = tt;
-  stage = fits;
-  acquired = subst (AllFit own.layout) is facts.acquired;
-  counts = tt;
-  room = tt;
-  counted = facts.own_fits.made;
-  steps = refl;
-  fewer = let same : length a.counts ≡ length counts = ap length is in omega arith;
-}
-tail_fits own a r drawn (Pop (pop.AtStack t depth)) counts found facts fits is = record {
-  call = refl;
-  plan = refl;
-  found = facts.found;
-  first = tt;
-  stage = tt;
-  acquired = subst (AllFit own.layout) is facts.acquired;
-  counts = tt;
-  room = tt;
-  counted = facts.own_fits.made;
-  steps = refl;
-  fewer = let same : length a.counts ≡ length counts = ap length is in omega arith;
-}
+tail_fits own a r drawn (Push x) counts found facts fits is = push_fits own a r drawn x counts facts fits is
+tail_fits own a r drawn (Pop x) counts found facts fits is = pop_fits own a r drawn x counts facts fits is
 tail_fits own a r drawn Nothing [] found facts fits is = record {
   call = refl;
   plan = refl;

@@ -1,5 +1,5 @@
 -- Where the steps of an entering and of a leaving lead to fits their machine, and leaves fewer steps.
-use Rattle.std.proofs.Common.{◌≡◌, ℕ, ◌+◌, ◌-◌, ◌==◌, ◌<◌, ◌≤◌, nat_lt, if◌then◌else◌, Bool, true, false, length, Option, Some, None, refl, sym, ◌∙◌, ap, subst, arith, slice_get}
+use Rattle.std.proofs.Common.{◌≡◌, ℕ, ◌+◌, ◌-◌, ◌==◌, ◌<◌, ◌≤◌, nat_lt, if◌then◌else◌, Bool, true, false, List, length, Option, Some, None, refl, sym, ◌∙◌, ap, subst, arith, slice_get}
 use Rattle.std.proofs.lemmas.Bool.{ltb-true}
 use Rattle.frame_words.specs.Comp.{comp_of_word}
 use Rattle.frame_words.specs.Live.{live_of_word}
@@ -10,6 +10,14 @@ use Rattle.frame_words.proofs.CompLemmas as comps
 use Rattle.tcap_words.specs.Stack.{stack_of_word}
 use Rattle.tcap_words.specs.declared.stack_word.StackWord.{StackWord}
 use Rattle.stage_quiet.specs.Clocks.{drawn_stamp}
+use Rattle.stage_pins.specs.declared.held.Acquired.{Acquired}
+use Rattle.stage_pins.specs.Held.{AllFit}
+use Rattle.stage_thread.specs.Stacking.{PushFits, PopFits}
+use Rattle.stage_thread.specs.declared.stack.Push.{Push as PushType}
+use Rattle.stage_thread.specs.declared.stack.Push.TheVariants as push
+use Rattle.stage_thread.specs.declared.stack.Pop.{Pop as PopType}
+use Rattle.stage_thread.specs.declared.stack.Pop.TheVariants as pop
+use Rattle.spk_nums.specs.declared.replies.Reply.{Reply}
 use Rattle.call_acts.specs.declared.refusals.Refusal.{Refusal}
 use Rattle.call_acts.specs.declared.refusals.Refusal.TheVariants as refusal
 use Rattle.call_acts.specs.declared.invocations.Invoking.{Invoking}
@@ -24,11 +32,14 @@ use Rattle.call_acts.specs.Acts.{dues, invoking_dues, returning_dues, next_work,
 use Rattle.call_acts.specs.declared.own.Own.{Own}
 use Rattle.call_acts.specs.declared.work.Act.{Act as ActType}
 use Rattle.call_acts.specs.declared.work.Act.TheVariants.{Invoke as invoke_act, Return as return_act}
+use Rattle.call_acts.specs.declared.work.Tail.TheVariants.{Push, Pop}
 use Rattle.call_acts.specs.declared.work.Work.TheVariants.{Act}
 use Rattle.call_acts.specs.declared.work.WorkStep.TheVariants.{Goes}
 use Rattle.call_steps.specs.declared.stages.ActiveCall.{ActiveCall}
-use Rattle.call_steps.specs.Steps.{landed}
-use Rattle.call_steps.specs.Fits.{steps_later, work_left}
+use Rattle.call_steps.specs.declared.stages.Stage.TheVariants.{Decided}
+use Rattle.call_steps.specs.Tails.{pushed_on, popped_on}
+use Rattle.call_steps.specs.Steps.{GoesOn, went_with, landed}
+use Rattle.call_steps.specs.Fits.{left_at, steps_later, work_left}
 use Rattle.call_steps.proofs.StepsFit.{work_next, counts_next}
 use Rattle.call_steps.proofs.LandsFit.{TookFits, Facts, landed_fits}
 
@@ -104,17 +115,23 @@ module _ (own : Own) (a : ActiveCall) (facts : Facts own a) (room : own.made < o
       by : (o : Option ℕ) → frame_in m.frames found ≡ o → TookFits own (2 + length a.counts + 9) a (landed a (meets_table m o))
       by None is = refused _ refusal.Raced (omega arith)
       by (Some table) is = landed_fits own a a refl refl refl facts.found facts.acquired room 8 _
-          (Goes (Act (invoke_act (record m { at = invoking.LoadPages table }))))
-          (enters_at own m invoking.LoadTable (invoking.LoadPages table) fits
-          (subst (λ (n : ℕ). table < n) fits.frames (frame_below m.frames found table is)), omega arith, waits) (omega arith)
+          (Goes (Act (invoke_act (record m { at = invoking.LoadPages table })))) (
+            enters_at own m invoking.LoadTable (invoking.LoadPages table) fits
+                (subst (λ (n : ℕ). table < n) fits.frames (frame_below m.frames found table is)),
+            omega arith,
+            waits,
+          ) (omega arith)
   invoke_fits m (invoking.LoadPages table) found fits waits = by (frame_in m.frames found) refl
     where
       by : (o : Option ℕ) → frame_in m.frames found ≡ o → TookFits own (2 + length a.counts + 8) a (landed a (meets_pages m table o))
       by None is = refused _ refusal.Raced (omega arith)
       by (Some pages) is = landed_fits own a a refl refl refl facts.found facts.acquired room 7 _
-          (Goes (Act (invoke_act (record m { at = invoking.LoadComp table pages }))))
-          (enters_at own m (invoking.LoadPages table) (invoking.LoadComp table pages) fits
-          (fits.at, subst (λ (n : ℕ). pages < n) fits.frames (frame_below m.frames found pages is)), omega arith, waits) (omega arith)
+          (Goes (Act (invoke_act (record m { at = invoking.LoadComp table pages })))) (
+            enters_at own m (invoking.LoadPages table) (invoking.LoadComp table pages) fits
+                (fits.at, subst (λ (n : ℕ). pages < n) fits.frames (frame_below m.frames found pages is)),
+            omega arith,
+            waits,
+          ) (omega arith)
   invoke_fits m (invoking.LoadComp table pages) found fits waits = by (comp_of_word found) refl
     where
       by : (o : Option CompWord) → comp_of_word found ≡ o → TookFits own (2 + length a.counts + 7) a (landed a (meets_gate m table pages o))
@@ -125,9 +142,11 @@ module _ (own : Own) (a : ActiveCall) (facts : Facts own a) (room : own.made < o
   invoke_fits m (invoking.LoadLive table pages life) found fits waits = by (live_of_word found)
     where
       lives : (same : Bool) → TookFits own (2 + length a.counts + 3) a (landed a (enters_if m table pages same))
-      lives true = landed_fits own a a refl refl refl facts.found facts.acquired room 2 _ (enters_if m table pages true)
-          (omega arith, (fits.thread, fits.some_depth, fits.most_depth),
-          (fits.comp, fits.at.0, fits.at.1, omega arith, (let most = fits.most_depth in omega (arith, most)))) (omega arith)
+      lives true = landed_fits own a a refl refl refl facts.found facts.acquired room 2 _ (enters_if m table pages true) (
+        omega arith,
+        (fits.thread, fits.some_depth, fits.most_depth),
+        (fits.comp, fits.at.0, fits.at.1, omega arith, (let most = fits.most_depth in omega (arith, most))),
+      ) (omega arith)
       lives false = refused _ refusal.Dead (omega arith)
 
       number : (v : LiveWord) → TookFits own (2 + length a.counts + 3) a (landed a (enters_number m table pages v))
@@ -148,17 +167,23 @@ module _ (own : Own) (a : ActiveCall) (facts : Facts own a) (room : own.made < o
       by : (o : Option ℕ) → below_in m.frames found ≡ o → TookFits own (2 + length a.counts + 9) a (landed a (meets_below m o))
       by None is = refused _ refusal.Raced (omega arith)
       by (Some comp) is = landed_fits own a a refl refl refl facts.found facts.acquired room 8 _
-          (Goes (Act (return_act (record m { at = returning.LoadTable comp }))))
-          (leaves_at own m returning.LoadBelow (returning.LoadTable comp) fits
-          (subst (λ (n : ℕ). comp < n) fits.frames (stack_below m.frames comp (stack_of_word found) is)), omega arith, waits) (omega arith)
+          (Goes (Act (return_act (record m { at = returning.LoadTable comp })))) (
+            leaves_at own m returning.LoadBelow (returning.LoadTable comp) fits
+                (subst (λ (n : ℕ). comp < n) fits.frames (stack_below m.frames comp (stack_of_word found) is)),
+            omega arith,
+            waits,
+          ) (omega arith)
   return_fits m (returning.LoadTable comp) found fits waits = by (frame_in m.frames found) refl
     where
       by : (o : Option ℕ) → frame_in m.frames found ≡ o → TookFits own (2 + length a.counts + 8) a (landed a (meets_below_table m comp o))
       by None is = refused _ refusal.Raced (omega arith)
       by (Some table) is = landed_fits own a a refl refl refl facts.found facts.acquired room 7 _
-          (Goes (Act (return_act (record m { at = returning.LoadPages comp table }))))
-          (leaves_at own m (returning.LoadTable comp) (returning.LoadPages comp table) fits
-          (fits.at, subst (λ (n : ℕ). table < n) fits.frames (frame_below m.frames found table is)), omega arith, waits) (omega arith)
+          (Goes (Act (return_act (record m { at = returning.LoadPages comp table })))) (
+            leaves_at own m (returning.LoadTable comp) (returning.LoadPages comp table) fits
+                (fits.at, subst (λ (n : ℕ). table < n) fits.frames (frame_below m.frames found table is)),
+            omega arith,
+            waits,
+          ) (omega arith)
   return_fits m (returning.LoadPages comp table) found fits waits = by (frame_in m.frames found) refl
     where
       by : (o : Option ℕ) → frame_in m.frames found ≡ o
@@ -168,7 +193,75 @@ module _ (own : Own) (a : ActiveCall) (facts : Facts own a) (room : own.made < o
           (leaves_at own m (returning.LoadPages comp table) (returning.Draw comp table pages) fits
           (fits.at.0, fits.at.1, subst (λ (n : ℕ). pages < n) fits.frames (frame_below m.frames found pages is))) refl refl waits
   return_fits m (returning.Draw comp table pages) found fits waits =
-      landed_fits own a a refl refl refl facts.found facts.acquired room 2 _ (left_to m comp table pages (drawn_stamp found))
-      (omega arith, (fits.thread, fits.some_depth, fits.most_depth),
-      (fits.at.0, fits.at.1, fits.at.2, (let some = fits.some_depth in omega (arith, some)),
-      (let most = fits.most_depth in omega (arith, most)))) (omega arith)
+      landed_fits own a a refl refl refl facts.found facts.acquired room 2 _ (left_to m comp table pages (drawn_stamp found)) (
+        omega arith,
+        (fits.thread, fits.some_depth, fits.most_depth),
+        (
+          fits.at.0,
+          fits.at.1,
+          fits.at.2,
+          (let some = fits.some_depth in omega (arith, some)),
+          (let most = fits.most_depth in omega (arith, most)),
+        ),
+      ) (omega arith)
+
+-- the stores of a push and of a pop
+pub push_fits : (own : Own) (a : ActiveCall) (r : Reply) (drawn : Option ℕ) (x : PushType) (counts : List Acquired) → Facts own a
+    → PushFits own.layout x → a.counts ≡ counts
+    → TookFits own (left_at own.layout.cores a (Decided r drawn (Push x))) a (GoesOn (went_with a counts (Decided r drawn (pushed_on x))))
+push_fits own a r drawn (push.AtStack t core depth comp) counts facts fits is = record {
+  call = refl;
+  plan = refl;
+  found = facts.found;
+  first = tt;
+  stage = fits;
+  acquired = subst (AllFit own.layout) is facts.acquired;
+  counts = tt;
+  room = tt;
+  counted = facts.own_fits.made;
+  steps = refl;
+  fewer = let same : length a.counts ≡ length counts = ap length is in omega arith;
+}
+push_fits own a r drawn (push.AtThread t core depth) counts facts fits is = record {
+  call = refl;
+  plan = refl;
+  found = facts.found;
+  first = tt;
+  stage = tt;
+  acquired = subst (AllFit own.layout) is facts.acquired;
+  counts = tt;
+  room = tt;
+  counted = facts.own_fits.made;
+  steps = refl;
+  fewer = let same : length a.counts ≡ length counts = ap length is in omega arith;
+}
+
+pub pop_fits : (own : Own) (a : ActiveCall) (r : Reply) (drawn : Option ℕ) (x : PopType) (counts : List Acquired) → Facts own a
+    → PopFits own.layout x → a.counts ≡ counts
+    → TookFits own (left_at own.layout.cores a (Decided r drawn (Pop x))) a (GoesOn (went_with a counts (Decided r drawn (popped_on x))))
+pop_fits own a r drawn (pop.AtThread t core depth) counts facts fits is = record {
+  call = refl;
+  plan = refl;
+  found = facts.found;
+  first = tt;
+  stage = fits;
+  acquired = subst (AllFit own.layout) is facts.acquired;
+  counts = tt;
+  room = tt;
+  counted = facts.own_fits.made;
+  steps = refl;
+  fewer = let same : length a.counts ≡ length counts = ap length is in omega arith;
+}
+pop_fits own a r drawn (pop.AtStack t depth) counts facts fits is = record {
+  call = refl;
+  plan = refl;
+  found = facts.found;
+  first = tt;
+  stage = tt;
+  acquired = subst (AllFit own.layout) is facts.acquired;
+  counts = tt;
+  room = tt;
+  counted = facts.own_fits.made;
+  steps = refl;
+  fewer = let same : length a.counts ≡ length counts = ap length is in omega arith;
+}

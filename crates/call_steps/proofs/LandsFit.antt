@@ -114,16 +114,19 @@ module _ (own : Own) (old a : ActiveCall) (call : a.call ≡ old.call) (plan : a
   }
   landed_fits most left (work_changes r change drawn tail) fits some =
       let few = fits.0 in
-      let one : calls_counted r ≤ 1 = counted_most r in (record {
-        call = call;
-        plan = plan;
-        found = found;
-        first = tt;
-        stage = fits.1;
-        acquired = acquired;
-        counts = tt;
-        room = tt;
-        counted = omega arith;
-        steps = ap (λ n. n + 1) steps;
-        fewer = omega arith;
-      }, fits.2)
+      let one : calls_counted r ≤ 1 = counted_most r in (
+        record {
+          call = call;
+          plan = plan;
+          found = found;
+          first = tt;
+          stage = fits.1;
+          acquired = acquired;
+          counts = tt;
+          room = tt;
+          counted = omega arith;
+          steps = ap (λ n. n + 1) steps;
+          fewer = omega arith;
+        },
+        fits.2,
+      )

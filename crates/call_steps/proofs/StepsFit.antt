@@ -513,16 +513,20 @@ invokes own later most kind.Gate f arg h names some = by (nat_le 16 own.depth) r
   where
     by : (deep : Bool) → nat_le 16 own.depth ≡ deep → StepFits own.layout [] later most (invokes_if deep own f arg)
     by true is = (omega arith, tt)
-    by false is = (record {
-      comp = omega arith;
-      thread = h.thread;
-      core = h.core;
-      some_depth = h.some_depth;
-      most_depth = (let less = leb-false 16 own.depth is in omega arith);
-      frames = refl;
-      few = h.shape.most_frames;
-      at = tt;
-    }, omega arith, refl)
+    by false is = (
+      record {
+        comp = omega arith;
+        thread = h.thread;
+        core = h.core;
+        some_depth = h.some_depth;
+        most_depth = (let less = leb-false 16 own.depth is in omega arith);
+        frames = refl;
+        few = h.shape.most_frames;
+        at = tt;
+      },
+      omega arith,
+      refl,
+    )
 invokes own later most kind.Comp f arg h names some = (omega arith, tt)
 invokes own later most kind.Range f arg h names some = (omega arith, tt)
 invokes own later most kind.Table f arg h names some = (omega arith, tt)
@@ -544,16 +548,20 @@ returned own later most h some = by (nat_le own.depth 1) refl
   where
     by : (bottom : Bool) → nat_le own.depth 1 ≡ bottom → StepFits own.layout [] later most (returns_if bottom own)
     by true is = (omega arith, tt)
-    by false is = (record {
-      top = h.comp;
-      thread = h.thread;
-      core = h.core;
-      some_depth = (let more = leb-false own.depth 1 is in omega arith);
-      most_depth = h.most_depth;
-      frames = refl;
-      few = h.shape.most_frames;
-      at = tt;
-    }, omega arith, refl)
+    by false is = (
+      record {
+        top = h.comp;
+        thread = h.thread;
+        core = h.core;
+        some_depth = (let more = leb-false own.depth 1 is in omega arith);
+        most_depth = h.most_depth;
+        frames = refl;
+        few = h.shape.most_frames;
+        at = tt;
+      },
+      omega arith,
+      refl,
+    )
 
 pub act_fits : (own : Own) (later : ℕ) (call : Call) (found : List Capability) (target : Option Found) → IsOwn own
     → IfSome (at_place found First) (CapNames own.layout.frames) → ObjectNamed own.layout.frames call found → InLimits call

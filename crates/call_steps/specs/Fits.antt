@@ -171,7 +171,8 @@ abbrev pub CallFits : Own → Option ActiveCall → Type 0
 CallFits own None = Unit {0}
 CallFits own (Some a) = IsActive own a
 
--- what a core has of its own names frames of its machine, its thread's stack has 1 to 16 components, and it has counted no more calls than it may make
+-- what a core has of its own names frames of its machine, its thread's stack has 1 to 16 components, and it has counted no more calls
+-- than it may make
 pub record IsOwn (own : Own) : Type 0 where
   pub shape : IsShape own.layout
   pub core : own.core < own.layout.cores

@@ -1,4 +1,5 @@
-//! An entering through a gate and a leaving, step by step over plain words: the steps, what the words found lead to, and what the core is told.
+//! An entering through a gate and a leaving, step by step over plain words: the steps, what the words found lead to, and what the
+//! core is told.
 
 ghost use Rattle.std.specs.Prelude.{◌≡◌, ◌<◌, ◌≤◌, [], ◌∷◌};
 ghost use Rattle.call_steps.specs.Fits.{StageFits};
@@ -8,14 +9,10 @@ ghost use Rattle.call_acts.specs.declared.invocations.InvokingAt.TheVariants.{Lo
 
 use crate::steps::stage_op;
 use crate::{ActiveCall, Stage, Told};
-use call_acts::{
-    Act, Invoking, InvokingAt, Own, OwnChange, Returning, ReturningAt, Tail, Work,
-};
+use call_acts::{Act, Invoking, InvokingAt, Own, OwnChange, Returning, ReturningAt, Tail, Work};
 use call_plans::{Caps, plan_of};
 use frame_words::CompWord;
-use spk_nums::{
-    Call, CapId, CoreNo, FrameNo, Reply, Stamp, Translations, Value, WordOp,
-};
+use spk_nums::{Call, CapId, CoreNo, FrameNo, Reply, Stamp, Translations, Value, WordOp};
 use stage_look::Look;
 use stage_pins::{AcquiredCounts, Pin};
 use stage_thread::{Pop, Push};
@@ -55,13 +52,7 @@ fn own_at(layout: Layout, depth: u8) -> Own
 }
 
 // The step that a call makes at this stage, what is told where it finds this word, and where the call then stands.
-fn step(
-    layout: &Layout,
-    depth: u8,
-    call: Call,
-    stage: Stage,
-    found: u64,
-) -> (WordOp, Told, Stage)
+fn step(layout: &Layout, depth: u8, call: Call, stage: Stage, found: u64) -> (WordOp, Told, Stage)
     requires fits { StageFits layout.now stage.now }
     requires cores { layout.now.cores ≤ 8 }
     requires some { 0 < layout.now.cores }
@@ -149,7 +140,9 @@ fn decided(drawn: Option<Stamp>, tail: Tail) -> Stage {
 }
 
 #[test]
-fn a_call_loads_the_component_and_acquires_its_count_before_it_looks_whether_it_lives(rt: HostRuntime) {
+fn a_call_loads_the_component_and_acquires_its_count_before_it_looks_whether_it_lives(
+    rt: HostRuntime,
+) {
     if let Some(layout) = Layout::new(1, 8) {
         let table = FrameNo::new(0);
         let pages = FrameNo::new(2);
@@ -157,7 +150,11 @@ fn a_call_loads_the_component_and_acquires_its_count_before_it_looks_whether_it_
         let at_comp = InvokingAt::LoadComp { table, pages };
         assert_eq!(rt;
             step(&layout, 1, call(), acts(invoke(InvokingAt::LoadTable)), 0),
-            (WordOp::Load { at: 384 }, Told::Going, acts(invoke(at_pages)))
+            (
+                WordOp::Load { at: 384 },
+                Told::Going,
+                acts(invoke(at_pages))
+            )
         );
         assert_eq!(rt;
             step(&layout, 1, call(), acts(invoke(at_pages)), 2),
@@ -182,7 +179,13 @@ fn a_call_loads_the_component_and_acquires_its_count_before_it_looks_whether_it_
         };
         assert_eq!(rt;
             step(&layout, 1, call(), acts(invoke(InvokingAt::LoadTable)), 8),
-            (WordOp::Load { at: 384 }, Told::Decided { reply: Reply::Raced }, refused)
+            (
+                WordOp::Load { at: 384 },
+                Told::Decided {
+                    reply: Reply::Raced
+                },
+                refused
+            )
         );
     }
 }
@@ -208,17 +211,41 @@ fn a_call_decides_at_the_word_of_the_liveness_number_and_pushes(rt: HostRuntime)
         };
         assert_eq!(rt;
             step(&layout, 1, call(), acts(invoke(at_live())), LIVES),
-            (WordOp::Load { at: 531 }, told, decided(None, Tail::Push { push }))
+            (
+                WordOp::Load { at: 531 },
+                told,
+                decided(None, Tail::Push { push })
+            )
         );
         // The component above the top, then the depth.
         let above = WordOp::Store { at: 258, word: 13 };
         assert_eq!(rt;
-            step(&layout, 2, call(), Stage::Decided { reply: Reply::Ok(Value::Nothing), drawn: None, tail: Tail::Push { push } }, 13),
+            step(
+                &layout,
+                2,
+                call(),
+                Stage::Decided {
+                    reply: Reply::Ok(Value::Nothing),
+                    drawn: None,
+                    tail: Tail::Push { push }
+                },
+                13
+            ),
             (above, Told::Going, decided(None, Tail::Push { push: then }))
         );
         let deeper = WordOp::Store { at: 256, word: 65 };
         assert_eq!(rt;
-            step(&layout, 2, call(), Stage::Decided { reply: Reply::Ok(Value::Nothing), drawn: None, tail: Tail::Push { push: then } }, 65),
+            step(
+                &layout,
+                2,
+                call(),
+                Stage::Decided {
+                    reply: Reply::Ok(Value::Nothing),
+                    drawn: None,
+                    tail: Tail::Push { push: then }
+                },
+                65
+            ),
             (deeper, Told::Going, decided(None, Tail::Nothing))
         );
         // Another epoch lives there, or none does.
@@ -230,7 +257,11 @@ fn a_call_decides_at_the_word_of_the_liveness_number_and_pushes(rt: HostRuntime)
             };
             assert_eq!(rt;
                 step(&layout, 1, call(), acts(invoke(at_live())), word),
-                (WordOp::Load { at: 531 }, Told::Decided { reply: Reply::Dead }, dead),
+                (
+                    WordOp::Load { at: 531 },
+                    Told::Decided { reply: Reply::Dead },
+                    dead
+                ),
                 "at {word:#x}"
             );
         }
@@ -245,7 +276,13 @@ fn a_ret_loads_the_component_below_draws_a_stamp_and_pops(rt: HostRuntime) {
         let at_pages = ReturningAt::LoadPages { comp, table };
         let at_draw = ReturningAt::Draw { comp, table, pages };
         assert_eq!(rt;
-            step(&layout, 2, Call::Ret, acts(leave(ReturningAt::LoadBelow)), 7),
+            step(
+                &layout,
+                2,
+                Call::Ret,
+                acts(leave(ReturningAt::LoadBelow)),
+                7
+            ),
             (WordOp::Load { at: 257 }, Told::Going, acts(leave(at_table)))
         );
         assert_eq!(rt;
@@ -280,16 +317,48 @@ fn a_ret_loads_the_component_below_draws_a_stamp_and_pops(rt: HostRuntime) {
         };
         assert_eq!(rt;
             step(&layout, 2, Call::Ret, acts(leave(at_draw)), 9),
-            (WordOp::Add { at: 594, by: 1 }, told, decided(stamp, Tail::Pop { pop }))
+            (
+                WordOp::Add { at: 594, by: 1 },
+                told,
+                decided(stamp, Tail::Pop { pop })
+            )
         );
         // The depth, then the place of what was the top.
         assert_eq!(rt;
-            step(&layout, 1, Call::Ret, Stage::Decided { reply: Reply::Ok(Value::Nothing), drawn: stamp, tail: Tail::Pop { pop } }, 33),
-            (WordOp::Store { at: 256, word: 33 }, Told::Going, decided(stamp, Tail::Pop { pop: then }))
+            step(
+                &layout,
+                1,
+                Call::Ret,
+                Stage::Decided {
+                    reply: Reply::Ok(Value::Nothing),
+                    drawn: stamp,
+                    tail: Tail::Pop { pop }
+                },
+                33
+            ),
+            (
+                WordOp::Store { at: 256, word: 33 },
+                Told::Going,
+                decided(stamp, Tail::Pop { pop: then })
+            )
         );
         assert_eq!(rt;
-            step(&layout, 1, Call::Ret, Stage::Decided { reply: Reply::Ok(Value::Nothing), drawn: stamp, tail: Tail::Pop { pop: then } }, 0),
-            (WordOp::Store { at: 258, word: 0 }, Told::Going, decided(stamp, Tail::Nothing))
+            step(
+                &layout,
+                1,
+                Call::Ret,
+                Stage::Decided {
+                    reply: Reply::Ok(Value::Nothing),
+                    drawn: stamp,
+                    tail: Tail::Pop { pop: then }
+                },
+                0
+            ),
+            (
+                WordOp::Store { at: 258, word: 0 },
+                Told::Going,
+                decided(stamp, Tail::Nothing)
+            )
         );
     }
 }
@@ -311,7 +380,16 @@ fn a_ret_at_the_bottom_is_refused_at_its_first_step(rt: HostRuntime) {
             drawn: None,
             tail: Tail::Nothing,
         };
-        assert_eq!(rt; enters_ret(&layout, 1), (enters, Told::Decided { reply: Reply::Bottom }, bottom));
+        assert_eq!(rt;
+            enters_ret(&layout, 1),
+            (
+                enters,
+                Told::Decided {
+                    reply: Reply::Bottom
+                },
+                bottom
+            )
+        );
         let at = enters_ret(&layout, 2);
         assert_eq!(rt; at.1, Told::Going);
     }
@@ -336,11 +414,19 @@ fn a_call_at_depth_16_is_refused_where_its_gate_is_found(rt: HostRuntime) {
         };
         assert_eq!(rt;
             step(&layout, 16, call(), looks, gate),
-            (WordOp::Load { at: 84 }, Told::Decided { reply: Reply::Deep }, deep)
+            (
+                WordOp::Load { at: 84 },
+                Told::Decided { reply: Reply::Deep },
+                deep
+            )
         );
         assert_eq!(rt;
             step(&layout, 1, call(), looks, gate),
-            (WordOp::Load { at: 84 }, Told::Going, acts(invoke(InvokingAt::LoadTable)))
+            (
+                WordOp::Load { at: 84 },
+                Told::Going,
+                acts(invoke(InvokingAt::LoadTable))
+            )
         );
     }
 }

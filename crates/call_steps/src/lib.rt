@@ -28,14 +28,14 @@
 #![tactic(auto)]
 
 mod core_state;
+#[cfg(test)]
+mod invoke_tests;
 mod laws;
 mod stages;
 mod steps;
 mod tails;
 #[cfg(test)]
 mod tests;
-#[cfg(test)]
-mod invoke_tests;
 
 pub use core_state::CoreState;
 pub use laws::{decides_once, ready_decides, unready_refuses};

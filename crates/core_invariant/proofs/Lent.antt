@@ -228,6 +228,14 @@ node_no_thread (Kernel Pages) node = refl
 node_no_thread (Kernel Pleaf) node = refl
 node_no_thread _ node = absurd (false≢true node)
 
+-- A core's thread runs on it.
+pub runs_on_own : (setup : Setting) → IsSetting setup → (cores : ℕ → Core) (t : Trace) → Stands setup cores t → (b : ℕ) → b < setup.cores
+    → (thread_in ((state_after setup t).frame ((state_after setup t).core b).thread)).runs_on ≡ Some b
+runs_on_own setup setting cores t stands b below =
+    subst (λ s. RunsOn s b) (sym (state_is setup t))
+    (runs_of setup setting (events_of t) (run_of setup t stands.legal) b
+    (subst (λ (n : ℕ). b < n) (sym (ap (λ l. l.cores) (limits_stay setup (events_of t)))) below))
+
 -- No word has two keepers: a thread runs on one core.
 pub one_keeper : (setup : Setting) → IsSetting setup → (cores : ℕ → Core) (t : Trace) → Stands setup cores t → (f i c d v u : ℕ)
     → (held_by cores c).bare f i ≡ Some v → (held_by cores d).bare f i ≡ Some u → c ≡ d
@@ -236,9 +244,7 @@ one_keeper setup setting cores t stands f i c d v u is is' =
   where
     runs : (b : ℕ) → IsLent setup t b f i → (thread_in ((state_after setup t).frame f)).runs_on ≡ Some b
     runs b l = ap (λ (g : ℕ). (thread_in ((state_after setup t).frame g)).runs_on) (sym l.thread)
-        ∙ subst (λ s. RunsOn s b) (sym (state_is setup t))
-        (runs_of setup setting (events_of t) (run_of setup t stands.legal) b
-        (subst (λ (n : ℕ). b < n) (sym (ap (λ l. l.cores) (limits_stay setup (events_of t)))) l.core))
+        ∙ runs_on_own setup setting cores t stands b l.core
 
     same_core : (x y : ℕ) → Some x ≡ Some y → x ≡ y
     same_core x y h = cc

@@ -16,3 +16,4 @@ pub mod Draws
 pub mod Places
 pub mod Refusals
 pub mod OwnChanges
+pub mod Keeping

@@ -133,7 +133,8 @@ module _ (setup : Setting) (setting : IsSetting setup) (cores : ℕ → Core) (t
         → (IsAlone t e → r ≡ alone (state_after setup t) c a.call)
         → Knows setup (e ∷ t) c (cores c).own.table (next_at a found stage)
         → IsGood setup cores t e (core_at (cores c) made (next_at a found stage)))
-    decides_writing move made r found stage was now small of_call lands opens closes same_held same_bare unlent alike plain blanks rises works same new
+    decides_writing move made r found stage was now small of_call lands opens closes same_held same_bare unlent alike plain blanks rises
+        works same new
         commits sums may first knows =
         let e : Step = inner setup setting cores t stands c here a active move (Some r) None in
         let after : Core = core_at (cores c) made (next_at a found stage) in
@@ -199,7 +200,8 @@ module _ (setup : Setting) (setting : IsSetting setup) (cores : ℕ → Core) (t
         → (IsAlone t e → r ≡ alone (state_after setup t) c a.call)
         → Knows setup (e ∷ t) c (cores c).own.table (next_at a found stage)
         → IsGood setup cores t e (core_at (cores c) made (next_at a found stage)))
-    writes_on move made r found stage was now small of_call lands opens closes bare_stage unlent alike plain blanks rises works same new held
+    writes_on move made r found stage was now small of_call lands opens closes bare_stage unlent alike plain blanks rises works same new
+        held
         commits sums may first knows =
         let e : Step = inner setup setting cores t stands c here a active move (Some r) None in
         decides_writing move made r found stage was now small of_call lands opens closes
@@ -234,7 +236,8 @@ module _ (setup : Setting) (setting : IsSetting setup) (cores : ℕ → Core) (t
         → (IsAlone t e → r ≡ alone (state_after setup t) c a.call)
         → Knows setup (e ∷ t) c (cores c).own.table (next_at a found stage)
         → IsGood setup cores t e (core_at (cores c) made (next_at a found stage)))
-    writes_entry move node index made r found stage at was now small of_call lands opens closes bare_stage unlent calm plain blanks counts places
+    writes_entry move node index made r found stage at was now small of_call lands opens closes bare_stage unlent calm plain blanks
+        counts places
         new
         held commits sums may first knows =
         let e : Step = inner setup setting cores t stands c here a active move (Some r) None in

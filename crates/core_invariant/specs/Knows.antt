@@ -41,7 +41,11 @@ use Rattle.kernel_history.specs.BootWords.{shape_of}
 use Rattle.kernel_history.specs.Trace.{Trace, Phase, Out, Open, phase, state_after, own_left, own_read, steps_in_call, WasAt, last_left}
 use Rattle.kernel_history.specs.Trace as history
 use Rattle.kernel_history.specs.Ways.{root_passed}
-use Rattle.kernel_history.specs.Discipline.{counts_references, changes_places, changes_frames, changes_numbers}
+use Rattle.kernel_history.specs.Discipline.{counts_references, changes_places, changes_frames, changes_numbers, changes_threads}
+use Rattle.stage_thread.specs.declared.stack.Push.{Push as PushOf}
+use Rattle.stage_thread.specs.declared.stack.Push.TheVariants as push
+use Rattle.stage_thread.specs.declared.stack.Pop.{Pop as PopOf}
+use Rattle.stage_thread.specs.declared.stack.Pop.TheVariants as pop
 use Rattle.kernel_history.specs.Footprint.{IsNearIn, is_one_of, frame_argument}
 use Rattle.kernel_history.specs.Justified.{HasReached, IsRemoved}
 use Rattle.kernel_history.specs.Stamps.{clock, stamp, exit_of, flush_of, flush_stored}
@@ -506,14 +510,33 @@ pub record KnowsDead (setup : Setting) (t : Trace) (c : ℕ) (call : Call) (life
   pub numbers : changes_numbers call ≡ true
   pub near : WasAt (IsNearIn c call (LiveAt life.number)) setup t c
 
+-- The stack of which words are still to be stored is that of the core's own thread, and the call is one that changes threads. Which thread
+-- that is, and that no other core stores there, is told by what the core keeps.
+pub record KnowsStack (c : ℕ) (call : Call) (by : ℕ) : Type 0 where
+  pub threads : changes_threads call ≡ true
+  pub core : by ≡ c
+
+pub record KnowsPlace (c : ℕ) (call : Call) (by comp : ℕ) : Type 0 where
+  pub stack : KnowsStack c call by
+  pub small : comp < 512
+
+abbrev pub KnowsPush : ℕ → Call → PushOf → Type 0
+KnowsPush c call (push.AtStack f core depth comp) = KnowsPlace c call core comp
+KnowsPush c call (push.AtThread f core depth) = KnowsStack c call core
+
+-- A pop goes from the depth to the place, by the call of the core alone.
+abbrev pub KnowsPop : ℕ → Call → PopOf → Type 0
+KnowsPop c call (pop.AtThread f core depth) = KnowsStack c call core
+KnowsPop c call (pop.AtStack f depth) = changes_threads call ≡ true
+
 -- What a call knows that has still this to store.
 abbrev pub KnowsTail : Setting → Trace → ℕ → Call → Tail → Type 0
 KnowsTail setup t c call Nothing = Unit {0}
 KnowsTail setup t c call (Quiesce close) = KnowsStore setup t c call close
 KnowsTail setup t c call (Unmark f word) = KnowsUnmark call f word
 KnowsTail setup t c call (StoreDead life stamp) = KnowsDead setup t c call life
-KnowsTail setup t c call (Push push) = ⊥
-KnowsTail setup t c call (Pop pop) = ⊥
+KnowsTail setup t c call (Push push) = KnowsPush c call push
+KnowsTail setup t c call (Pop pop) = KnowsPop c call pop
 
 -- What a call knows at its stage. One that has made no step is in no trace.
 abbrev pub KnowsAt : Setting → Trace → ℕ → ℕ → ActiveCall → Stage → Type 0

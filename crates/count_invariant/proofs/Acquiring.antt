@@ -1,7 +1,7 @@
 -- A step by which a call acquires a count that its act changes is good: the count is held by another core, is lost to another core, or
 -- is acquired; and so is the step by which a decided call commits it.
 use Rattle.core_invariant.proofs.Lent.{lent_elsewhere}
-use Rattle.core_invariant.proofs.Bare.{as_none, counts_bare}
+use Rattle.count_invariant.proofs.ActBares.{acquired_bares, committed_bares}
 use Rattle.entry_words.specs.declared.entry.Entry.TheVariants.{Held}
 use Rattle.entry_words.specs.EntryWord.{word_of_entry}
 use Rattle.call_acts.specs.Makings.{undo_at}
@@ -261,32 +261,6 @@ act_over (kill_act m) h g w same = by m.at
     by (kill_draw life word) = keeps_over (LiveAt life.number) w word h g same
 act_over (invoke_act m) h g w same = same
 act_over (return_act m) h g w same = same
-
--- No act keeps a word without a mark.
-act_bare : (act : ActOf) (h : Holding) (f i : ℕ) → (holds_act act h).bare f i ≡ h.bare f i
-act_bare (fill_act fill) h f i = refl
-act_bare (remove_act (close_compare node index word by) cap) h f i = refl
-act_bare (remove_act (AtDraw node index) cap) h f i = refl
-act_bare (remove_act (AtStore node index x) cap) h f i = refl
-act_bare (type_act typing) h f i = refl
-act_bare (make_act m) h f i = by m.at
-  where
-    by : (at : MakingAt) → (holds_making m.frame at h).bare f i ≡ h.bare f i
-    by making_load = refl
-    by (Mark word) = refl
-    by (Store word entry) = refl
-    by (making_fill word) = refl
-act_bare (Outside node entry word) h f i = refl
-act_bare (tick_act charge) h f i = refl
-act_bare (kill_act m) h f i = by m.at
-  where
-    by : (at : KillingAt) → (holds_killing at h).bare f i ≡ h.bare f i
-    by LoadComp = refl
-    by (LoadLive life) = refl
-    by (kill_close life word) = refl
-    by (kill_draw life word) = refl
-act_bare (invoke_act m) h f i = refl
-act_bare (return_act m) h f i = refl
 
 -- An act that changes a count charges no ticks.
 counts_plain : (act : ActOf) (before : List Due) (due : Due) (rest : List Due) → dues act ≡ before ++ due ∷ rest → ticks_in act ≡ false
@@ -574,10 +548,7 @@ module _ (setup : Setting) (setting : IsSetting setup) (cores : ℕ → Core) (t
             ap (λ h. h.stands w) after_is ∙ rest.1 ∙ sym
                 (ap (λ h. h.stands w) before),
           ))
-          (as_none (holds (cores c)) (holds after) at
-          (λ f i. ap (λ h. h.bare f i) (ap holds_in active ∙ held_is) ∙ act_bare act (holds_counts None a.counts) f i
-          ∙ counts_bare None a.counts f i)
-          (λ f i. ap (λ h. h.bare f i) after_is ∙ act_bare act (holds_counts None grown) f i ∙ counts_bare None grown f i))
+          (acquired_bares (holds (cores c)) (holds after) act a.counts grown at (ap holds_in active ∙ held_is) after_is)
           (ap (λ (n : ℕ). count_mark (count_of_word n)) leaves ∙ ap count_mark (counts.spelling.reads (acquired d count stamp) held_fits)
           ∙ ap (λ (e : ℕ). Some e) own_core ∙ sym (ap (λ b. if b then Some c else None)
           (ap (λ h. h.marks at) after_is ∙ (act_count act (holds_counts None grown) frame (counter_of d)).0
@@ -816,8 +787,7 @@ module _ (setup : Setting) (setting : IsSetting setup) (cores : ℕ → Core) (t
       (λ w there.
       let rest = counters.rest_elsewhere (done_by r drawn) x xs w there in
       (rest.0 ∙ sym (ap (λ h. h.marks w) holds_is), rest.1 ∙ sym (ap (λ h. h.stands w) holds_is)))
-      (as_none (holds (cores c)) (holds after) (count_of x)
-      (λ f i. ap (λ h. h.bare f i) holds_is ∙ counts_bare (done_by r drawn) (x ∷ xs) f i) (counts_bare (done_by r drawn) xs))
+      (committed_bares (holds (cores c)) (holds after) (done_by r drawn) (x ∷ xs) xs (count_of x) holds_is refl)
       (ap count_mark stored_says.says ∙ sym (ap (λ b. if b then Some c else None) bare))
       (λ b other is. other (sym (some_inj c b (sym own_mark ∙ is))))
       (ap (λ b. settled_by (if b then Some c else None) (held_by (put cores c after)) (count_of x) stored) bare ∙ sym settles)

@@ -1,3 +1,4 @@
+pub mod ActBares
 pub mod Acquiring
 pub mod CountChanges
 pub mod CapChanges

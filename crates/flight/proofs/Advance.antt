@@ -37,6 +37,7 @@ use Rattle.flight.proofs.CoreFits.{begun_fits, after_fits}
 use Rattle.flight.proofs.Spelling.{stage_word}
 use Rattle.place_invariant.proofs.Removals.{store_good}
 use Rattle.frame_invariant.proofs.Makes.{unmark_good}
+use Rattle.thread_invariant.proofs.Stacks.{push_good, pop_good}
 use Rattle.live_invariant.proofs.Killed.{dead_good}
 use Rattle.work_invariant.proofs.Work.{work_good}
 use Rattle.flight.proofs.Entries.{enter_good}
@@ -118,8 +119,8 @@ module _ (setup : Setting) (setting : IsSetting setup) (cores : ℕ → Core) (t
       unmark_good setup setting cores t stands c here a active r drawn f word at knows
   stage_good a (Decided r drawn (StoreDead life x)) active at knows =
       dead_good setup setting cores t stands c here a active r drawn life x at knows
-  stage_good a (Decided r drawn (Push push)) active at knows = absurd knows
-  stage_good a (Decided r drawn (Pop pop)) active at knows = absurd knows
+  stage_good a (Decided r drawn (Push push)) active at knows = push_good setup setting cores t stands c here a active r drawn push at knows
+  stage_good a (Decided r drawn (Pop pop)) active at knows = pop_good setup setting cores t stands c here a active r drawn pop at knows
   stage_good a (Leave r x) active at knows = leave_good a r x active at
 
   -- the step of a call

@@ -109,7 +109,8 @@ invoking_named f (invoking.LoadPages table) = refl
 invoking_named f (invoking.LoadComp table pages) = refl
 invoking_named f (invoking.LoadLive table pages life) = refl
 
-returning_named : (thread depth : ℕ) (at : ReturningAt) → shared (word_of (returning_at thread depth at)) ≡ word_of (returning_at thread depth at)
+returning_named : (thread depth : ℕ) (at : ReturningAt)
+    → shared (word_of (returning_at thread depth at)) ≡ word_of (returning_at thread depth at)
 returning_named thread depth returning.LoadBelow = refl
 returning_named thread depth (returning.LoadTable comp) = refl
 returning_named thread depth (returning.LoadPages comp table) = refl

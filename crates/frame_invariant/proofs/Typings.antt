@@ -577,7 +577,8 @@ module _ (setup : Setting) (setting : IsSetting setup) (cores : ℕ → Core) (t
       won lands = writes_on setup setting cores t stands c here a active compare made (reply.Ok Nothing) a.found
           (Decided (reply.Ok Nothing) None no_tail) unmarked bare_now
           (subst (λ (n : ℕ). n < 2 ^ 64) (sym leaves_it) (spelling.small (typed k) (typed_fits k)))
-          of_call lands opens refl refl (λ g i h. absurd (no_entry_word g i h)) alike (plain_begins setup t e plain) (spares_other setup t e (λ g i h. cc)) rises works stays
+          of_call lands opens refl refl (λ g i h. absurd (no_entry_word g i h))
+          alike (plain_begins setup t e plain) (spares_other setup t e (λ g i h. cc)) rises works stays
           (subst (WordIs s' (times_of setup (e ∷ t)) (FrameAt f)) (sym leaves_it) now_says)
           held_is (λ w own. absurd (free_of w own))
           (sums_keep setup t e (held_by cores) (held_by (put cores c after))
