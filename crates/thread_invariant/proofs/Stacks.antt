@@ -120,7 +120,7 @@ module _ (setup : Setting) (setting : IsSetting setup) (cores : ℕ → Core) (t
       (λ w. (refl, refl)) (λ w. (refl, refl))
       (given f 0 (word_of_thread (Running core (depth - 1))) h
       (one_more f 0 0 depth (word_of_stack (record { 0 = None })) (done_by r drawn) a.counts (λ none. omega (arith, none, some))))
-      (λ u. has)
+      (λ u. has.threads)
   pop_good (pop.AtStack f depth) is has =
       let fits = subst (StageFits (cores c).own.layout) is (is_active setup setting cores t stands c here a active).stage in
       let some = fits.1 in
