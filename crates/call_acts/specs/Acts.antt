@@ -2,7 +2,7 @@
 use Rattle.std.specs.Prelude.{ℕ, ℤ, ◌<◌, ◌==◌, pos, negsuc, Bool, true, false, ◌&&◌, nat_lt, nat_le, Option, Some, None, List, map, slice_get, if◌then◌else◌, [], ◌∷◌}
 use Rattle.spk_nums.specs.Capability.{Capability}
 use Rattle.spk_nums.specs.declared.calls.Call.{Call}
-use Rattle.spk_nums.specs.declared.calls.Call.TheVariants.{Look, Copy, Remove, Shrink, Retype, Make as make_call, Unmap, Tick, Gate, Kill, Grow, Flush, Map}
+use Rattle.spk_nums.specs.declared.calls.Call.TheVariants.{Look, Copy, Remove, Shrink, Retype, Make as make_call, Unmap, Tick, Gate, Kill, Grow, Flush, Map, Call as call_gate, Ret}
 use Rattle.spk_nums.specs.declared.calls.Make.{Make}
 use Rattle.spk_nums.specs.declared.calls.Make.TheVariants as make
 use Rattle.spk_nums.specs.declared.replies.Value.TheVariants.{Cap, Nothing as nothing}
@@ -25,9 +25,9 @@ use Rattle.stage_look.specs.declared.look.Found.{Found}
 use Rattle.stage_pins.specs.declared.pin.Pin.TheVariants.{AtLoad}
 use Rattle.call_plans.specs.declared.plans.Nth.TheVariants.{First, Second, Third, Fourth}
 use Rattle.call_plans.specs.Plans.{at_place}
-use Rattle.call_acts.specs.declared.refusals.Refusal.TheVariants.{Raced, OutOfRange, Busy, FrameKind as wrong_kind, Dead as is_dead}
+use Rattle.call_acts.specs.declared.refusals.Refusal.TheVariants.{Raced, OutOfRange, Busy, FrameKind as wrong_kind, Dead as is_dead, Deep, Bottom}
 use Rattle.call_acts.specs.declared.work.Act.{Act}
-use Rattle.call_acts.specs.declared.work.Act.TheVariants.{Fill as fill_act, Remove as remove_act, Retype as type_act, Make as make_act, Outside, Tick as tick_act, Flush as flush_act, Kill as kill_act, Untype as untype_act, Map as map_act, MakeComp as comp_act}
+use Rattle.call_acts.specs.declared.work.Act.TheVariants.{Fill as fill_act, Remove as remove_act, Retype as type_act, Make as make_act, Outside, Tick as tick_act, Flush as flush_act, Kill as kill_act, Untype as untype_act, Map as map_act, MakeComp as comp_act, Invoke as invoke_act, Return as return_act}
 use Rattle.call_acts.specs.declared.work.Due.{Due}
 use Rattle.call_acts.specs.declared.work.Work.{Work}
 use Rattle.call_acts.specs.declared.work.Work.TheVariants.{Scan, Acquire, Act as act_work}
@@ -59,6 +59,13 @@ use Rattle.call_acts.specs.Flushes.{flushes, took_flush}
 use Rattle.call_acts.specs.declared.kills.Killing.{Killing}
 use Rattle.call_acts.specs.declared.kills.KillingAt.{KillingAt}
 use Rattle.call_acts.specs.declared.kills.KillingAt.TheVariants.{LoadComp, LoadLive, Close as kill_close, Draw as kill_draw}
+use Rattle.call_acts.specs.declared.invocations.Invoking.{Invoking}
+use Rattle.call_acts.specs.declared.invocations.InvokingAt.{InvokingAt}
+use Rattle.call_acts.specs.declared.invocations.InvokingAt.TheVariants as invoking
+use Rattle.call_acts.specs.declared.invocations.Returning.{Returning}
+use Rattle.call_acts.specs.declared.invocations.ReturningAt.{ReturningAt}
+use Rattle.call_acts.specs.declared.invocations.ReturningAt.TheVariants as returning
+use Rattle.call_acts.specs.Invocations.{InvokingFits, invoking_move, is_entering, invoking_left, frame_in, enters_live, ReturningFits, returning_move, is_leaving, returning_left, below_in, left_to}
 use Rattle.call_acts.specs.Kills.{KillingFits, killing_move, is_killing, killing_left}
 use Rattle.call_acts.specs.declared.untypings.Untyping.{Untyping}
 use Rattle.call_acts.specs.declared.untypings.UntypingAt.{UntypingAt}
@@ -101,6 +108,8 @@ ActFits s (flush_act core) = core < s.cores
 ActFits s (kill_act m) = KillingFits s m
 ActFits s (untype_act m) = UntypingFits s m
 ActFits s (comp_act m) = CompMakingFits s m
+ActFits s (invoke_act m) = InvokingFits s m
+ActFits s (return_act m) = ReturningFits s m
 
 -- the stamp with which a removal that has drawn it goes on to its store
 abbrev pub drawn_by : Close → Option ℕ
@@ -129,6 +138,8 @@ act_move (flush_act core) = flush_move (flush_load core)
 act_move (kill_act m) = killing_move m
 act_move (untype_act m) = untyping_move m
 act_move (comp_act m) = comp_move m
+act_move (invoke_act m) = invoking_move m
+act_move (return_act m) = returning_move m
 
 -- whether the next step of a removal draws its stamp
 abbrev pub is_draw : Close → Bool
@@ -149,6 +160,8 @@ act_ready (flush_act core) = true
 act_ready (kill_act m) = is_killing m.at
 act_ready (untype_act m) = is_drawing m.at
 act_ready (comp_act m) = comp_filling m.at
+act_ready (invoke_act m) = is_entering m.at
+act_ready (return_act m) = is_leaving m.at
 
 -- the steps of a removal that are still to come
 abbrev pub close_left : Close → ℕ
@@ -169,6 +182,8 @@ act_left cores (flush_act core) = 2
 act_left cores (kill_act m) = killing_left m.at
 act_left cores (untype_act m) = untyping_left cores m.at
 act_left cores (comp_act m) = comp_left m.cores m.at
+act_left cores (invoke_act m) = invoking_left m.at
+act_left cores (return_act m) = returning_left m.at
 
 -- a look answers what its name has led to
 abbrev pub looked : Option Capability → WorkStep
@@ -193,6 +208,20 @@ killing_dues f (LoadLive life) = []
 killing_dues f (kill_close life word) = record { frame = f; change = negsuc 0 } ∷ []
 killing_dues f (kill_draw life word) = record { frame = f; change = negsuc 0 } ∷ []
 
+-- an entering changes the count of the component's frame, from when its words are loaded
+abbrev pub invoking_dues : ℕ → InvokingAt → List Due
+invoking_dues f invoking.LoadTable = []
+invoking_dues f (invoking.LoadPages table) = []
+invoking_dues f (invoking.LoadComp table pages) = []
+invoking_dues f (invoking.LoadLive table pages life) = record { frame = f; change = pos 1 } ∷ []
+
+-- a leaving changes the count of the top's frame, from when the words of the component below are loaded
+abbrev pub returning_dues : ℕ → ReturningAt → List Due
+returning_dues f returning.LoadBelow = []
+returning_dues f (returning.LoadTable comp) = []
+returning_dues f (returning.LoadPages comp table) = []
+returning_dues f (returning.Draw comp table pages) = record { frame = f; change = negsuc 0 } ∷ []
+
 -- the counts that an act changes, in the order in which they are acquired
 abbrev pub dues : Act → List Due
 dues (fill_act fill) = cap_dues fill.cap (pos 1)
@@ -206,6 +235,8 @@ dues (flush_act core) = []
 dues (kill_act m) = killing_dues m.comp m.at
 dues (untype_act m) = untyping_dues m.at
 dues (comp_act m) = comp_dues m m.at
+dues (invoke_act m) = invoking_dues m.comp m.at
+dues (return_act m) = returning_dues m.top m.at
 
 -- a core acquires this count for an act next, or has acquired all and goes on to the act
 abbrev pub acquires : ℕ → Act → Option Due → Work
@@ -354,6 +385,41 @@ took_comp_at m (comp_at_as.Fill word last) found = comp_published m word last (f
 abbrev pub took_comp : CompMaking → ℕ → WorkStep
 took_comp m found = took_comp_at m m.at found
 
+-- what an entering takes from its step
+abbrev pub meets_table : Invoking → Option ℕ → WorkStep
+meets_table m None = refuse Raced
+meets_table m (Some table) = Goes (act_work (invoke_act (record m { at = invoking.LoadPages table })))
+abbrev pub meets_pages : Invoking → ℕ → Option ℕ → WorkStep
+meets_pages m table None = refuse Raced
+meets_pages m table (Some pages) = Goes (act_work (invoke_act (record m { at = invoking.LoadComp table pages })))
+abbrev pub meets_gate : Invoking → ℕ → ℕ → Option CompWord → WorkStep
+meets_gate m table pages None = refuse Raced
+meets_gate m table pages (Some life) = Goes (next_work m.core 0 (invoke_act (record m { at = invoking.LoadLive table pages life })))
+abbrev pub took_invoking_at : Invoking → InvokingAt → ℕ → WorkStep
+took_invoking_at m invoking.LoadTable found = meets_table m (frame_in m.frames found)
+took_invoking_at m (invoking.LoadPages table) found = meets_pages m table (frame_in m.frames found)
+took_invoking_at m (invoking.LoadComp table pages) found = meets_gate m table pages (comp_of_word found)
+took_invoking_at m (invoking.LoadLive table pages life) found = enters_live m table pages (live_of_word found)
+abbrev pub took_invoking : Invoking → ℕ → WorkStep
+took_invoking m found = took_invoking_at m m.at found
+-- what a leaving takes from its step
+abbrev pub meets_below : Returning → Option ℕ → WorkStep
+meets_below m None = refuse Raced
+meets_below m (Some comp) = Goes (act_work (return_act (record m { at = returning.LoadTable comp })))
+abbrev pub meets_below_table : Returning → ℕ → Option ℕ → WorkStep
+meets_below_table m comp None = refuse Raced
+meets_below_table m comp (Some table) = Goes (act_work (return_act (record m { at = returning.LoadPages comp table })))
+abbrev pub meets_below_pages : Returning → ℕ → ℕ → Option ℕ → WorkStep
+meets_below_pages m comp table None = refuse Raced
+meets_below_pages m comp table (Some pages) =
+    Goes (next_work m.core 0 (return_act (record m { at = returning.Draw comp table pages })))
+abbrev pub took_returning_at : Returning → ReturningAt → ℕ → WorkStep
+took_returning_at m returning.LoadBelow found = meets_below m (below_in m.frames found)
+took_returning_at m (returning.LoadTable comp) found = meets_below_table m comp (frame_in m.frames found)
+took_returning_at m (returning.LoadPages comp table) found = meets_below_pages m comp table (frame_in m.frames found)
+took_returning_at m (returning.Draw comp table pages) found = left_to m comp table pages (drawn_stamp found)
+abbrev pub took_returning : Returning → ℕ → WorkStep
+took_returning m found = took_returning_at m m.at found
 -- what an act takes from the word found
 abbrev pub took_act : Shape → Act → ℕ → WorkStep
 took_act s (fill_act fill) found = took_fill fill found
@@ -367,6 +433,8 @@ took_act s (flush_act core) found = took_flush core found
 took_act s (kill_act m) found = took_killing m found
 took_act s (untype_act m) found = took_untyping s m found
 took_act s (comp_act m) found = took_comp m found
+took_act s (invoke_act m) found = took_invoking m found
+took_act s (return_act m) found = took_returning m found
 
 -- what a refused call has still to store where it acquires a count for an act
 abbrev pub undo : Act → Tail
@@ -381,6 +449,8 @@ undo (flush_act core) = Nothing
 undo (kill_act m) = Nothing
 undo (untype_act m) = untyping_undo m.frame m.at
 undo (comp_act m) = comp_undo m m.at
+undo (invoke_act m) = Nothing
+undo (return_act m) = Nothing
 
 -- an act starts with its first count, where it is not out of range
 abbrev pub starts : ℕ → Act → WorkStep
@@ -498,6 +568,8 @@ stamp_of_act (flush_act core) = 0
 stamp_of_act (kill_act m) = 0
 stamp_of_act (untype_act m) = 0
 stamp_of_act (comp_act m) = stamp_shown (entry_of_word m.fill.word)
+stamp_of_act (invoke_act m) = 0
+stamp_of_act (return_act m) = 0
 
 -- a frame is typed, or made untyped again, where it is in the range, which has none past the machine's
 abbrev pub typing_to : ℕ → ℕ → FrameKind → Act
@@ -598,6 +670,44 @@ abbrev pub kills_at : Own → Option Capability → WorkStep
 kills_at own None = refuse Raced
 kills_at own (Some k) = kills_in own.core k.kind k.frame
 
+-- the component of a gate to which a name has led is entered, where the stack is not full; a capability of another kind is no gate
+abbrev pub invokes_if : Bool → Own → ℕ → ℕ → WorkStep
+invokes_if deep own f epoch =
+    if deep then refuse Deep
+    else Goes (act_work (invoke_act (record {
+      comp = f;
+      epoch = epoch;
+      thread = own.thread;
+      depth = own.depth;
+      core = own.core;
+      frames = own.layout.frames;
+      at = invoking.LoadTable;
+    })))
+
+abbrev pub invokes_in : Own → Kind → ℕ → ℕ → WorkStep
+invokes_in own kind.Gate f epoch = invokes_if (nat_le 16 own.depth) own f epoch
+invokes_in own _ f epoch = refuse Raced
+
+abbrev pub invokes_at : Own → Option Capability → WorkStep
+invokes_at own None = refuse Raced
+invokes_at own (Some k) = invokes_in own k.kind k.frame k.arg
+
+-- a core's component is left, where it is not the bottom of the stack
+abbrev pub returns_if : Bool → Own → WorkStep
+returns_if bottom own =
+    if bottom then refuse Bottom
+    else Goes (act_work (return_act (record {
+      top = own.comp;
+      thread = own.thread;
+      depth = own.depth;
+      core = own.core;
+      frames = own.layout.frames;
+      at = returning.LoadBelow;
+    })))
+
+abbrev pub returns_at : Own → WorkStep
+returns_at own = returns_if (nat_le own.depth 1) own
+
 -- what a call of a core does whose names have led to these, which has read this, and whose target, if it has one, was found
 abbrev pub act_begun : Own → Call → List Capability → Option ℕ → Option Found → WorkStep
 act_begun own (Look a) found read target = looked (at_place found First)
@@ -613,4 +723,6 @@ act_begun own Flush found read target = flushes own.core
 act_begun own (Tick n) found read target = charges own n
 act_begun own (Gate c t b) found read target = fills_with own (put_by (Gate c t b) found read) false target
 act_begun own (Kill k) found read target = kills_at own (at_place found First)
+act_begun own (call_gate g) found read target = invokes_at own (at_place found First)
+act_begun own Ret found read target = returns_at own
 act_begun own _ found read target = refuse Raced

@@ -8,6 +8,7 @@ pub mod Objects
 pub mod Makings
 pub mod OwnChanges
 pub mod Ticks
+pub mod Invocations
 pub mod Acts
 pub mod Lookups
 pub mod Laws

@@ -2,7 +2,7 @@
 use Rattle.std.specs.Prelude.{ℕ, ◌+◌, ◌-◌, ◌^◌, min, []}
 use Rattle.call_acts.specs.declared.own.Own.{Own}
 use Rattle.call_acts.specs.declared.own.OwnChange.{OwnChange}
-use Rattle.call_acts.specs.declared.own.OwnChange.TheVariants.{Ticks, Empties}
+use Rattle.call_acts.specs.declared.own.OwnChange.TheVariants.{Ticks, Empties, Works}
 
 -- so many ticks more are spent; ticks past their field never come, and stay at the field's end
 abbrev pub spent_more : ℕ → ℕ → ℕ
@@ -11,3 +11,4 @@ spent_more spent charged = min (spent + charged) (2 ^ 64 - 1)
 abbrev pub own_changed : Own → OwnChange → Own
 own_changed own (Ticks charged owed) = record own { spent = spent_more own.spent charged; owed = owed }
 own_changed own Empties = record own { cached = [] }
+own_changed own (Works comp table pages depth) = record own { comp = comp; table = table; pages = pages; depth = depth }

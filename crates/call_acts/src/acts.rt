@@ -17,7 +17,7 @@ ghost use Rattle.word_map.specs.Places.{Shape, size_of};
 ghost use Rattle.word_map.specs.Moves.{op_of};
 ghost use Rattle.spk_nums.specs.WordSteps.{place_in};
 ghost use Rattle.call_acts.specs.WorkSteps.{refuse};
-ghost use Rattle.call_acts.specs.Acts.{gate_if, gate_to, frame_named, reads_of, ActFits, act_move, took_act, act_ready, looked, cap_dues, dues, acquires, next_work, filling, fills_at, fills_with, act_begun, drawn_by, took_close, is_draw, scans, stamp_in, removing, removes_held, removes_at, types_if, types_at, starts, undo, made_dues, makes_at, makes_in, killing_dues, kills_in, kills_at, link_to, is_pages, typing_to, maps_word, maps_frame, maps_in, maps_at, comp_if, comps_in, comps_at, made_begun};
+ghost use Rattle.call_acts.specs.Acts.{gate_if, gate_to, frame_named, reads_of, ActFits, act_move, took_act, act_ready, looked, cap_dues, dues, acquires, next_work, filling, fills_at, fills_with, act_begun, drawn_by, took_close, is_draw, scans, stamp_in, removing, removes_held, removes_at, types_if, types_at, starts, undo, made_dues, makes_at, makes_in, killing_dues, kills_in, kills_at, link_to, is_pages, typing_to, maps_word, maps_frame, maps_in, maps_at, comp_if, comps_in, comps_at, made_begun, invoking_dues, returning_dues};
 ghost use Rattle.call_acts.specs.Untypings.{untyping_dues, owned_dues};
 ghost use Rattle.call_acts.specs.Comps.{comp_dues, comp_due_list};
 ghost use Rattle.call_plans.specs.Plans.{at_place};
@@ -28,6 +28,7 @@ ghost use Rattle.kernel_rules.specs.CapabilityCalls.{has_frame};
 use crate::comps::{CompAt, CompMaking};
 use crate::fills::Fill;
 use crate::flushes::{flush_op, flush_took, flushes};
+use crate::invocations::{Invoking, InvokingAt, Returning, ReturningAt, invokes_at, returns_at};
 use crate::kills::{Killing, KillingAt};
 use crate::makings::{Making, MakingAt};
 use crate::objects::{NewObject, object_cap, object_made};
@@ -80,6 +81,8 @@ pub fn act_op(act: &Act, layout: &Layout) -> WordOp
         Act::Kill { killing } => killing.next(layout),
         Act::Untype { untyping } => untyping.next(layout),
         Act::MakeComp { making } => making.next(layout),
+        Act::Invoke { invoking } => invoking.next(layout),
+        Act::Return { returning } => returning.next(layout),
     }
 }
 
@@ -105,6 +108,8 @@ pub fn act_took(act: &Act, layout: &Layout, found: u64) -> WorkStep
         Act::Kill { killing } => killing.take(found),
         Act::Untype { untyping } => untyping.take(layout, found),
         Act::MakeComp { making } => making.take(layout, found),
+        Act::Invoke { invoking } => invoking.take(layout, found),
+        Act::Return { returning } => returning.take(layout, found),
     }
 }
 
@@ -161,6 +166,8 @@ pub fn act_ready(act: &Act) -> bool
         Act::Kill { killing } => killing.is_ready(),
         Act::Untype { untyping } => untyping.is_ready(),
         Act::MakeComp { making } => making.is_ready(),
+        Act::Invoke { invoking } => invoking.is_ready(),
+        Act::Return { returning } => returning.is_ready(),
     }
 }
 
@@ -207,6 +214,8 @@ fn due(act: &Act, n: u8) -> Option<Due>
         Act::Kill { killing } => killing_due(killing, n),
         Act::Untype { untyping } => untyping_due(untyping, n),
         Act::MakeComp { making } => comp_due(making, n),
+        Act::Invoke { invoking } => invoking_due(invoking, n),
+        Act::Return { returning } => returning_due(returning, n),
     }
 }
 
@@ -231,7 +240,8 @@ fn cap_due(cap: &Cap, change: i32, n: u8) -> Option<Due>
 /// What a call of a core does whose names have led to these, which has read this, and whose target, if it has one, was found: a look answers
 /// at once, a copy, a grow, a map and a gate begin to fill their target, a remove, a shrink and an unmap to remove what their target holds, a retype to
 /// type its frame,
-/// a make to make its object, a flush to drop its translations, a tick to charge its ticks. The core is one of the layout's at most 8.
+/// a make to make its object, a flush to drop its translations, a tick to charge its ticks, a call to enter its gate's component, a ret to leave its own. The
+/// core is one of the layout's at most 8.
 #[inline]
 pub fn begin_act(
     own: &Own,
@@ -274,6 +284,8 @@ pub fn begin_act(
         Call::Tick { n } => charges(own, *n),
         Call::Gate { .. } => fills_with(own, &gate_to(&found.get(Nth::First), read), false, target),
         Call::Kill { c: _ } => kills_at(own, &found.get(Nth::First)),
+        Call::Call { g: _ } => invokes_at(own, &found.get(Nth::First)),
+        Call::Ret => returns_at(own),
         _ => refuse(Refusal::Raced),
     }
 }
@@ -808,6 +820,40 @@ fn killing_due(killing: &Killing, n: u8) -> Option<Due>
         KillingAt::LoadLive { life: _ } => None,
         KillingAt::Close { life: _, word: _ } => one_due(killing.comp, -1, n),
         KillingAt::Draw { life: _, word: _ } => one_due(killing.comp, -1, n),
+    }
+}
+
+// The count of this number that an entering changes: that of the component's frame.
+#[inline]
+fn invoking_due(invoking: &Invoking, n: u8) -> Option<Due>
+    ensures { result ≡ slice_get (invoking_dues invoking.now.comp invoking.now.at) n }
+{
+    match invoking.at {
+        InvokingAt::LoadTable => None,
+        InvokingAt::LoadPages { table: _ } => None,
+        InvokingAt::LoadComp { table: _, pages: _ } => None,
+        InvokingAt::LoadLive {
+            table: _,
+            pages: _,
+            life: _,
+        } => one_due(invoking.comp, 1, n),
+    }
+}
+
+// The count of this number that a leaving changes: that of the top's frame.
+#[inline]
+fn returning_due(returning: &Returning, n: u8) -> Option<Due>
+    ensures { result ≡ slice_get (returning_dues returning.now.top returning.now.at) n }
+{
+    match returning.at {
+        ReturningAt::LoadBelow => None,
+        ReturningAt::LoadTable { comp: _ } => None,
+        ReturningAt::LoadPages { comp: _, table: _ } => None,
+        ReturningAt::Draw {
+            comp: _,
+            table: _,
+            pages: _,
+        } => one_due(returning.top, -1, n),
     }
 }
 

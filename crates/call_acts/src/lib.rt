@@ -56,6 +56,13 @@
 //! component lives. Then the count of the component's frame is acquired, the number's word is marked by a compare with the word found, and
 //! a stamp is drawn, which decides. The number's word is still to be stored: dead since the stamp.
 //!
+//! **Call.** The words of the gate's component are loaded: its table, its pages and its liveness number. The count of its frame is
+//! acquired, and the number's word is loaded, which decides: the component lives in the gate's epoch. The component is still to be pushed
+//! onto the stack of the core's thread. A stack of depth 16 is full, which is known where the gate is found.
+//!
+//! **Ret.** The component below the top of the stack is loaded, and its table and its pages. The count of the top's frame is acquired, and
+//! a stamp is drawn, which decides. The top is still to be popped. A stack of depth 1 has nothing below, which is known at the first step.
+//!
 //! **Refusals.** A refusal decides at the first step by which it is known and every earlier cause is judged: of each name in
 //! written order `no-slot`, `empty` and `wrong-cap`, then of the target `no-slot` and `occupied`, then what the act asks:
 //! `out-of-range` of a frame that is not in the range, and `frame-kind` of one that is not untyped, or for an object not blank; `dead` of a component that does
@@ -70,6 +77,7 @@ mod acts;
 mod comps;
 mod fills;
 mod flushes;
+mod invocations;
 mod kills;
 mod laws;
 mod lookups;
@@ -86,6 +94,7 @@ pub use acts::{act_op, act_ready, act_took, begin_act, next_work, reads_of, refu
 pub use comps::{CompAt, CompMaking, LastEpoch};
 pub use fills::Fill;
 pub use flushes::flushed_op;
+pub use invocations::{Invoking, InvokingAt, Returning, ReturningAt};
 pub use kills::{Killing, KillingAt, dead_op};
 pub use laws::refusals_are_replies;
 pub use lookups::{Met, frame_of, met_free, met_held, met_name};

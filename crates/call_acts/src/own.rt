@@ -46,7 +46,17 @@ pub struct Own {
 #[derive(Clone, Copy, PartialEq, Eq, Debug)]
 pub enum OwnChange {
     /// So many ticks were charged, which are spent, and so many are owed.
-    Ticks { charged: u32, owed: u64 },
+    Ticks {
+        charged: u32,
+        owed: u64,
+    },
+    /// It works in this component, with this table and these pages, at this depth of its thread's stack.
+    Works {
+        comp: FrameNo,
+        table: FrameNo,
+        pages: FrameNo,
+        depth: u8,
+    },
     /// Its cached translations were dropped.
     Empties,
 }
@@ -63,6 +73,17 @@ impl Own {
                 self.owed = *owed;
             }
             OwnChange::Empties => self.cached = Translations::empty(),
+            OwnChange::Works {
+                comp,
+                table,
+                pages,
+                depth,
+            } => {
+                self.comp = *comp;
+                self.table = *table;
+                self.pages = *pages;
+                self.depth = *depth;
+            }
         }
     }
 }

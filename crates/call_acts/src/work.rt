@@ -2,6 +2,7 @@
 
 use crate::comps::CompMaking;
 use crate::fills::Fill;
+use crate::invocations::{Invoking, Returning};
 use crate::kills::Killing;
 use crate::makings::Making;
 use crate::own::OwnChange;
@@ -14,6 +15,7 @@ use stage_look::Look;
 use stage_pins::{Acquired, Pin};
 use stage_quiet::{Close, Quiet};
 use stage_tcap::Charge;
+use stage_thread::{Pop, Push};
 
 /// What a call does after its look-ups, till it is decided.
 #[derive(Clone, Copy, PartialEq, Eq, Debug)]
@@ -64,6 +66,14 @@ pub enum Act {
     /// It makes a component in a blank kernel frame.
     MakeComp {
         making: CompMaking,
+    },
+    /// It enters a component through a gate.
+    Invoke {
+        invoking: Invoking,
+    },
+    /// It leaves its component.
+    Return {
+        returning: Returning,
     },
 }
 
@@ -131,6 +141,10 @@ pub enum Tail {
     Release {
         release: Release,
     },
+    /// The words of the core's thread, onto whose stack a component is pushed.
+    Push { push: Push },
+    /// The words of the core's thread, of whose stack the top is popped.
+    Pop { pop: Pop },
 }
 
 /// What a step of the work of a call led to.
@@ -156,10 +170,12 @@ pub enum WorkStep {
         drawn: Option<Stamp>,
         tail: Tail,
     },
-    /// The call is decided with this reply, has this still to store, and changes this of what its core has of its own.
+    /// The call is decided with this reply, has drawn this stamp or none and has this still to store beside its counts, and changes this of
+    /// what its core has of its own.
     Changes {
         reply: Reply,
         change: OwnChange,
+        drawn: Option<Stamp>,
         tail: Tail,
     },
 }

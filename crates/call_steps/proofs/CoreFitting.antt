@@ -9,13 +9,14 @@ use Rattle.kernel_rules.specs.Access.{found}
 use Rattle.call_plans.specs.PlanOf.{plan_for}
 use Rattle.call_acts.specs.declared.own.Own.{Own}
 use Rattle.call_acts.specs.declared.own.OwnChange.{OwnChange}
-use Rattle.call_acts.specs.declared.own.OwnChange.TheVariants.{Ticks, Empties}
+use Rattle.call_acts.specs.declared.own.OwnChange.TheVariants.{Ticks, Empties, Works}
 use Rattle.call_acts.specs.OwnChanges.{own_changed}
 use Rattle.call_steps.specs.Fits.{left_of, IsActive, CallFits, IsOwn, IsCore, left_for}
 use Rattle.call_steps.specs.declared.stages.ActiveCall.{ActiveCall}
 use Rattle.call_steps.specs.declared.stages.Told.TheVariants as told_as
 use Rattle.call_steps.specs.Steps.{GoesOn, Decides, took, told, call_after, Changes}
 use Rattle.call_steps.proofs.Landing.{told_goes, told_decides, told_changes}
+use Rattle.call_steps.proofs.StepsFit.{ChangeFits}
 use Rattle.call_steps.proofs.LandsFit.{IsNext, TookFits}
 use Rattle.call_steps.proofs.Fitting.{took_fits}
 
@@ -42,11 +43,13 @@ active_on own made old a active next = record {
 }
 
 -- What a decision changes beside leaves the core in its ranges.
-changed_on : (own : Own) (change : OwnChange) → IsOwn own → IsOwn (own_changed own change)
-changed_on own (Ticks charged owed) h = record {
+changed_on : (own : Own) (change : OwnChange) → IsOwn own → ChangeFits own.layout change → IsOwn (own_changed own change)
+changed_on own (Ticks charged owed) h fits = record {
   shape = h.shape;
   core = h.core;
   thread = h.thread;
+  some_depth = h.some_depth;
+  most_depth = h.most_depth;
   comp = h.comp;
   table = h.table;
   pages = h.pages;
@@ -55,10 +58,12 @@ changed_on own (Ticks charged owed) h = record {
   most_epochs = h.most_epochs;
   made = h.made;
 }
-changed_on own Empties h = record {
+changed_on own Empties h fits = record {
   shape = h.shape;
   core = h.core;
   thread = h.thread;
+  some_depth = h.some_depth;
+  most_depth = h.most_depth;
   comp = h.comp;
   table = h.table;
   pages = h.pages;
@@ -66,6 +71,20 @@ changed_on own Empties h = record {
   most_calls = h.most_calls;
   most_epochs = h.most_epochs;
   made = h.made;
+}
+changed_on own (Works comp table pages depth) h fits = record {
+  shape = h.shape;
+  core = h.core;
+  thread = h.thread;
+  some_depth = fits.3;
+  most_depth = fits.4;
+  comp = fits.0;
+  table = fits.1;
+  pages = fits.2;
+  tcap = h.tcap;
+  most_calls = h.most_calls;
+  made = h.made;
+  most_epochs = h.most_epochs;
 }
 
 own_on : (own : Own) (made : ℕ) → IsOwn own → made ≤ own.limit → IsOwn (record own { made = made })
@@ -73,6 +92,8 @@ own_on own made h counted = record {
   shape = h.shape;
   core = h.core;
   thread = h.thread;
+  some_depth = h.some_depth;
+  most_depth = h.most_depth;
   comp = h.comp;
   table = h.table;
   pages = h.pages;
@@ -126,11 +147,11 @@ changes_on own active a new r (Ticks charged owed) counted found h is decided ne
     let leads : TookFits own (left_of own.layout.cores a) a (Changes r change new) =
     subst (TookFits own (left_of own.layout.cores a) a) (told_changes a r change (took own a found) decided ∙ ap (Changes r change)
     (sym next)) (took_fits own a found h.own fits) in
-    let on : IsActive (record own { made = own.made + calls_counted r }) new = active_on own (own.made + calls_counted r) a new fits leads
+    let on : IsActive (record own { made = own.made + calls_counted r }) new = active_on own (own.made + calls_counted r) a new fits leads.0
     in (
       subst (λ n. IsCore (record { own = record (own_changed own change) { made = own.made + n }; active = Some new })) (sym count)
           (record {
-            own = own_on (own_changed own change) (own.made + calls_counted r) (changed_on own change h.own) leads.counted;
+            own = own_on (own_changed own change) (own.made + calls_counted r) (changed_on own change h.own leads.1) leads.0.counted;
             active = record {
               limits = on.limits;
               built = on.built;
@@ -144,7 +165,33 @@ changes_on own active a new r (Ticks charged owed) counted found h is decided ne
               steps = on.steps;
             };
           }),
-      subst (λ o. left_of own.layout.cores new < left_for own.layout.cores o) (sym is) leads.fewer,
+      subst (λ o. left_of own.layout.cores new < left_for own.layout.cores o) (sym is) leads.0.fewer,
+    )
+changes_on own active a new r (Works comp table pages depth) counted found h is decided next count =
+    let change : OwnChange = Works comp table pages depth in
+    let fits : IsActive own a = subst (CallFits own) is h.active in
+    let leads : TookFits own (left_of own.layout.cores a) a (Changes r change new) =
+    subst (TookFits own (left_of own.layout.cores a) a) (told_changes a r change (took own a found) decided ∙ ap (Changes r change)
+    (sym next)) (took_fits own a found h.own fits) in
+    let on : IsActive (record own { made = own.made + calls_counted r }) new = active_on own (own.made + calls_counted r) a new fits leads.0
+    in (
+      subst (λ n. IsCore (record { own = record (own_changed own change) { made = own.made + n }; active = Some new })) (sym count)
+          (record {
+            own = own_on (own_changed own change) (own.made + calls_counted r) (changed_on own change h.own leads.1) leads.0.counted;
+            active = record {
+              limits = on.limits;
+              built = on.built;
+              plan = on.plan;
+              found = on.found;
+              first = on.first;
+              stage = on.stage;
+              acquired = on.acquired;
+              counts = on.counts;
+              room = on.room;
+              steps = on.steps;
+            };
+          }),
+      subst (λ o. left_of own.layout.cores new < left_for own.layout.cores o) (sym is) leads.0.fewer,
     )
 changes_on own active a new r Empties counted found h is decided next count =
     let change : OwnChange = Empties in
@@ -176,6 +223,7 @@ changes_on own active a new r Empties counted found h is decided next count =
 layout_changed : (own : Own) (change : OwnChange) → (own_changed own change).layout ≡ own.layout
 layout_changed own (Ticks charged owed) = refl
 layout_changed own Empties = refl
+layout_changed own (Works comp table pages depth) = refl
 
 pub changes_to : (own own' : Own) (active : Option ActiveCall) (a new : ActiveCall) (r : Reply) (change : OwnChange) (counted found : ℕ)
     → IsCore (record { own = own; active = active }) → active ≡ Some a

@@ -8,7 +8,7 @@ use Rattle.stage_pins.specs.declared.pin.Pin.{Pin}
 use Rattle.stage_pins.specs.declared.pin.Pinned.{Pinned}
 use Rattle.stage_pins.specs.declared.held.Acquired.{Acquired}
 use Rattle.stage_pins.specs.Acquire.{pin_after, pin_end}
-use Rattle.std.proofs.Common.{◌≡◌, ℕ, ℤ, ◌+◌, ◌==◌, ◌&&◌, nat_lt, Bool, true, false, List, [], ◌∷◌, length, Option, Some, None, refl, sym, ◌∙◌, ap, subst, arith, eqb-true, if◌then◌else◌}
+use Rattle.std.proofs.Common.{◌≡◌, ℕ, ℤ, ◌+◌, ◌==◌, ◌&&◌, nat_lt, Bool, true, false, List, [], ◌∷◌, length, Option, Some, None, refl, sym, ◌∙◌, ap, subst, arith, eqb-true, if◌then◌else◌, nat_le}
 use Rattle.call_plans.specs.Plans.{pushed, at_place}
 use Rattle.spk_nums.specs.Capability.{Capability}
 use Rattle.spk_nums.specs.declared.kinds.PageFlags.{PageFlags}
@@ -17,7 +17,7 @@ use Rattle.spk_nums.specs.declared.kinds.FrameKind.TheVariants.{Untyped, User, K
 use Rattle.spk_nums.specs.declared.calls.Make.{Make}
 use Rattle.spk_nums.specs.declared.calls.Make.TheVariants as make
 use Rattle.spk_nums.specs.declared.calls.Call.{Call}
-use Rattle.spk_nums.specs.declared.calls.Call.TheVariants.{Look as look_call, Copy, Remove, Shrink, Unmap, Retype, Make as make_call, Tick, Gate, Kill, Grow, Flush, Map}
+use Rattle.spk_nums.specs.declared.calls.Call.TheVariants.{Look as look_call, Copy, Remove, Shrink, Unmap, Retype, Make as make_call, Tick, Gate, Kill, Grow, Flush, Map, Call as call_gate, Ret}
 use Rattle.spk_nums.specs.declared.replies.Reply.{Reply}
 use Rattle.entry_words.specs.declared.entry.Entry.{Entry}
 use Rattle.entry_words.specs.declared.entry.Entry.TheVariants as entry
@@ -56,13 +56,13 @@ use Rattle.call_acts.specs.declared.makings.MakingAt.{MakingAt}
 use Rattle.call_acts.specs.declared.makings.MakingAt.TheVariants.{Load as make_load, Mark, Store, Fill as fill_at}
 use Rattle.call_acts.specs.Makings.{is_filling}
 use Rattle.call_acts.specs.declared.work.Act.{Act as ActType}
-use Rattle.call_acts.specs.declared.work.Act.TheVariants.{Fill as fill_act, Remove as remove_act, Retype as type_act, Make as make_act, Outside, Tick as tick_act, Flush as flush_act, Kill as kill_act, Untype as untype_act, Map as map_act, MakeComp as comp_act}
+use Rattle.call_acts.specs.declared.work.Act.TheVariants.{Fill as fill_act, Remove as remove_act, Retype as type_act, Make as make_act, Outside, Tick as tick_act, Flush as flush_act, Kill as kill_act, Untype as untype_act, Map as map_act, MakeComp as comp_act, Invoke as invoke_act, Return as return_act}
 use Rattle.call_acts.specs.declared.work.Work.{Work}
 use Rattle.call_acts.specs.declared.work.Work.TheVariants.{Lookup, Read, Scan, Acquire, Act}
 use Rattle.call_steps.specs.declared.stages.Stage.{Stage}
 use Rattle.call_steps.specs.declared.stages.Stage.TheVariants.{Enter, Undecided, Decided, Leave}
 use Rattle.call_acts.specs.declared.work.Tail.{Tail}
-use Rattle.call_acts.specs.declared.work.Tail.TheVariants.{Nothing, Quiesce, Unmark, StoreDead, StoreFlush, Release, StoreLive}
+use Rattle.call_acts.specs.declared.work.Tail.TheVariants.{Nothing, Quiesce, Unmark, StoreDead, StoreFlush, Release, StoreLive, Push as push_tail, Pop as pop_tail}
 use Rattle.call_steps.specs.declared.stages.ActiveCall.{ActiveCall}
 use Rattle.call_acts.specs.declared.work.WorkStep.{WorkStep}
 use Rattle.call_acts.specs.declared.work.WorkStep.TheVariants.{Goes, Acquires, Refuses as refuses_to, Answers, Changes as work_changes}
@@ -70,7 +70,7 @@ use Rattle.call_acts.specs.Refusals.{refusal_of}
 use Rattle.call_acts.proofs.Refusing.{refusal_refuses}
 use Rattle.call_acts.specs.Fills.{filled_if}
 use Rattle.call_acts.specs.WorkSteps.{refuse}
-use Rattle.call_acts.specs.Acts.{took_close, is_draw, took_act, act_ready, reads_of, fills_with, removes_held, removes_at, act_begun, types_if, types_at, stamp_in, filling, starts, scans, makes_at, meets_object, meets_blank, meets_making, marks_if, published, took_making_at, kills_in, kills_at, meets_comp, meets_live, meets_number, meets_life, closes_if, took_killing_at, meets_untyped, meets_untyping, sweeps_if, took_sweep, took_untyping_at, maps_frame, maps_word, maps_if, maps_at, comps_at, made_begun, comp_marks, took_comp_at}
+use Rattle.call_acts.specs.Acts.{took_close, is_draw, took_act, act_ready, reads_of, fills_with, removes_held, removes_at, act_begun, types_if, types_at, stamp_in, filling, starts, scans, makes_at, meets_object, meets_blank, meets_making, marks_if, published, took_making_at, kills_in, kills_at, meets_comp, meets_live, meets_number, meets_life, closes_if, took_killing_at, meets_untyped, meets_untyping, sweeps_if, took_sweep, took_untyping_at, maps_frame, maps_word, maps_if, maps_at, comps_at, made_begun, comp_marks, took_comp_at, invokes_if, invokes_in, invokes_at, returns_if, meets_table, meets_pages, meets_gate, took_invoking_at, meets_below, meets_below_table, meets_below_pages, took_returning_at}
 use Rattle.call_plans.specs.declared.plans.Nth.TheVariants.{First, Second, Third, Fourth}
 use Rattle.call_acts.specs.declared.fills.Fill.{Fill}
 use Rattle.call_acts.specs.Comps.{comp_filling, comp_goes, comp_refuses, comp_meets, comp_meets_object, comp_meets_blank, number_met, number_shown, takes_number, scans_number, number_scanned, closes_number, comp_published}
@@ -83,6 +83,7 @@ use Rattle.frame_words.specs.declared.frame_word.FrameWord.{FrameWord}
 use Rattle.spk_nums.specs.declared.kinds.Kind.{Kind}
 use Rattle.spk_nums.specs.declared.kinds.Kind.TheVariants as kind
 use Rattle.frame_words.specs.declared.comp_word.CompWord.{CompWord}
+use Rattle.frame_words.specs.Comp.{comp_of_word}
 use Rattle.frame_words.specs.declared.live_word.LiveWord.{LiveWord}
 use Rattle.frame_words.specs.declared.live_word.LiveWord.TheVariants as live
 use Rattle.call_acts.specs.declared.kills.Killing.{Killing}
@@ -96,6 +97,13 @@ use Rattle.call_acts.specs.declared.untypings.Untyping.{Untyping}
 use Rattle.call_acts.specs.declared.untypings.UntypingAt.{UntypingAt}
 use Rattle.call_acts.specs.declared.untypings.UntypingAt.TheVariants as untype
 use Rattle.call_acts.specs.Untypings.{is_drawing}
+use Rattle.call_acts.specs.declared.invocations.Invoking.{Invoking}
+use Rattle.call_acts.specs.declared.invocations.InvokingAt.{InvokingAt}
+use Rattle.call_acts.specs.declared.invocations.InvokingAt.TheVariants as invoking
+use Rattle.call_acts.specs.declared.invocations.Returning.{Returning}
+use Rattle.call_acts.specs.declared.invocations.ReturningAt.{ReturningAt}
+use Rattle.call_acts.specs.declared.invocations.ReturningAt.TheVariants as returning
+use Rattle.call_acts.specs.Invocations.{is_entering, frame_in, enters_if, enters_live, is_leaving, below_in}
 use Rattle.call_acts.specs.declared.typings.Typing.{Typing}
 use Rattle.call_acts.specs.declared.typings.TypingAt.{TypingAt}
 use Rattle.call_acts.specs.declared.typings.TypingAt.TheVariants.{Load, Compare as type_compare}
@@ -114,7 +122,7 @@ landed_turns a (Goes work) = refl
 landed_turns a (Acquires count work) = refl
 landed_turns a (refuses_to r tail) = (refl, refl)
 landed_turns a (Answers v drawn tail) = (refl, refl)
-landed_turns a (work_changes r change tail) = (refl, refl)
+landed_turns a (work_changes r change drawn tail) = (refl, refl)
 
 named_turns : (own : Own) (a : ActiveCall) (met : Met) → Turns None (named_one own a met)
 named_turns own a (Finds k) = landed_turns (found_more a (pushed a.found k)) _
@@ -157,6 +165,8 @@ tail_turns a r drawn (Unmark f word) counts found = refl
 tail_turns a r drawn (StoreDead life stamp) counts found = refl
 tail_turns a r drawn (StoreFlush core stamp) counts found = refl
 tail_turns a r drawn (StoreLive l live f word) counts found = refl
+tail_turns a r drawn (push_tail push) counts found = refl
+tail_turns a r drawn (pop_tail pop) counts found = refl
 tail_turns a r drawn Nothing [] found = refl
 tail_turns a r drawn Nothing (x ∷ xs) found = refl
 tail_turns a r drawn (Release release) [] found = refl
@@ -177,14 +187,14 @@ NoAnswer (Goes work) = Unit {0}
 NoAnswer (Acquires count work) = Unit {0}
 NoAnswer (refuses_to r tail) = Unit {0}
 NoAnswer (Answers v drawn tail) = ⊥
-NoAnswer (work_changes r change tail) = IsRefusal r
+NoAnswer (work_changes r change drawn tail) = IsRefusal r
 
 landed_refuses : (a : ActiveCall) (step : WorkStep) → NoAnswer step → Refuses (landed a step)
 landed_refuses a (Goes work) none = tt
 landed_refuses a (Acquires count work) none = tt
 landed_refuses a (refuses_to r tail) none = refusal_refuses r
 landed_refuses a (Answers v drawn tail) none = absurd none
-landed_refuses a (work_changes r change tail) none = none
+landed_refuses a (work_changes r change drawn tail) none = none
 
 under_no : (within : Bool) (top n : ℕ) → NoAnswer (looks_under within top n)
 under_no true top n = tt
@@ -211,6 +221,8 @@ starts_no core (flush_act by) = tt
 starts_no core (kill_act m) = tt
 starts_no core (untype_act m) = tt
 starts_no core (comp_act m) = tt
+starts_no core (invoke_act m) = tt
+starts_no core (return_act m) = tt
 
 scans_no : (core : ℕ) (o : Option Quiet) (act : ActType) → NoAnswer (scans core o act)
 scans_no core None act = starts_no core act
@@ -276,6 +288,22 @@ kills_no : (own : Own) (comp : Option Capability) → NoAnswer (kills_at own com
 kills_no own None = tt
 kills_no own (Some k) = kill_no own.core k.kind k.frame
 
+enter_no : (deep : Bool) (own : Own) (f epoch : ℕ) → NoAnswer (invokes_if deep own f epoch)
+enter_no true own f epoch = tt
+enter_no false own f epoch = tt
+
+invoke_no : (own : Own) (kind : Kind) (f epoch : ℕ) → NoAnswer (invokes_in own kind f epoch)
+invoke_no own kind.Gate f epoch = enter_no (nat_le 16 own.depth) own f epoch
+invoke_no own kind f epoch = tt
+
+invokes_no : (own : Own) (gate : Option Capability) → NoAnswer (invokes_at own gate)
+invokes_no own None = tt
+invokes_no own (Some k) = invoke_no own k.kind k.frame k.arg
+
+return_no : (bottom : Bool) (own : Own) → NoAnswer (returns_if bottom own)
+return_no true own = tt
+return_no false own = tt
+
 act_no : (own : Own) (call : Call) (found : List Capability) (read : Option ℕ) (target : Option Found)
     → decides_at_name (plan_for call).decides ≡ false
     → NoAnswer (act_begun own call found read target)
@@ -290,6 +318,8 @@ act_no own (Retype r f k) found read target not = types_no own (at_place found F
 act_no own (make_call what range frame table slot) found read target not = made_no own what found frame target
 act_no own (Gate c t b) found read target not = fill_no own _ false target
 act_no own (Kill k) found read target not = kills_no own (at_place found First)
+act_no own (call_gate g) found read target not = invokes_no own (at_place found First)
+act_no own Ret found read target not = return_no (nat_le own.depth 1) own
 act_no own call found read target not = tt
 
 -- A call that is decided where its last name is found has one name, and no target.
@@ -325,7 +355,7 @@ read_no (Some f) (Goes work) none = none
 read_no (Some f) (Acquires count work) none = none
 read_no (Some f) (refuses_to r tail) none = none
 read_no (Some f) (Answers v drawn tail) none = none
-read_no (Some f) (work_changes r change tail) none = none
+read_no (Some f) (work_changes r change drawn tail) none = none
 
 -- what comes next of a call answers nothing, where no call with its plan is decided where its last name is found
 next_no : (own : Own) (call : Call) (found : List Capability) (next : Next) → decides_at_name (plan_for call).decides ≡ false
@@ -514,6 +544,42 @@ killing_no m (LoadLive life) found not = live_no m life found _
 killing_no m (kill_close life word) found not = closes_no m life word _
 killing_no m (kill_draw life word) found not = absurd (cc)
 
+invoking_no : (m : Invoking) (at : InvokingAt) (found : ℕ) → is_entering at ≡ false → NoAnswer (took_invoking_at m at found)
+invoking_no m invoking.LoadTable found not = by (frame_in m.frames found)
+  where
+    by : (o : Option ℕ) → NoAnswer (meets_table m o)
+    by None = tt
+    by (Some table) = tt
+invoking_no m (invoking.LoadPages table) found not = by (frame_in m.frames found)
+  where
+    by : (o : Option ℕ) → NoAnswer (meets_pages m table o)
+    by None = tt
+    by (Some pages) = tt
+invoking_no m (invoking.LoadComp table pages) found not = by (comp_of_word found)
+  where
+    by : (o : Option CompWord) → NoAnswer (meets_gate m table pages o)
+    by None = tt
+    by (Some life) = tt
+invoking_no m (invoking.LoadLive table pages life) found not = absurd (cc)
+
+returning_no : (m : Returning) (at : ReturningAt) (found : ℕ) → is_leaving at ≡ false → NoAnswer (took_returning_at m at found)
+returning_no m returning.LoadBelow found not = by (below_in m.frames found)
+  where
+    by : (o : Option ℕ) → NoAnswer (meets_below m o)
+    by None = tt
+    by (Some comp) = tt
+returning_no m (returning.LoadTable comp) found not = by (frame_in m.frames found)
+  where
+    by : (o : Option ℕ) → NoAnswer (meets_below_table m comp o)
+    by None = tt
+    by (Some table) = tt
+returning_no m (returning.LoadPages comp table) found not = by (frame_in m.frames found)
+  where
+    by : (o : Option ℕ) → NoAnswer (meets_below_pages m comp table o)
+    by None = tt
+    by (Some pages) = tt
+returning_no m (returning.Draw comp table pages) found not = absurd (cc)
+
 taking_no : (m : CompMaking) (word : ℕ) (last : LastEpoch) → NoAnswer (takes_number m word last)
 taking_no m word last = by (nat_lt last.epoch m.epochs)
   where
@@ -621,6 +687,8 @@ act_unready s (flush_act core) found not = absurd (cc)
 act_unready s (kill_act m) found not = killing_no m m.at found not
 act_unready s (untype_act m) found not = untyping_no s m m.at found not
 act_unready s (comp_act m) found not = comp_unready m m.at found not
+act_unready s (invoke_act m) found not = invoking_no m m.at found not
+act_unready s (return_act m) found not = returning_no m m.at found not
 
 -- a step of a scan answers nothing
 scan_refuses : (core : ℕ) (act : ActType) (a : ActiveCall) (q : Quiet) (end : StageEnd (Unit {0}))
@@ -690,14 +758,14 @@ IsOver (Goes work) = ⊥
 IsOver (Acquires count work) = ⊥
 IsOver (refuses_to r tail) = Unit {0}
 IsOver (Answers v drawn tail) = Unit {0}
-IsOver (work_changes r change tail) = Unit {0}
+IsOver (work_changes r change drawn tail) = Unit {0}
 
 landed_decides : (a : ActiveCall) (step : WorkStep) → IsOver step → IsDecision (landed a step)
 landed_decides a (Goes work) over = absurd over
 landed_decides a (Acquires count work) over = absurd over
 landed_decides a (refuses_to r tail) over = tt
 landed_decides a (Answers v drawn tail) over = tt
-landed_decides a (work_changes r change tail) over = tt
+landed_decides a (work_changes r change drawn tail) over = tt
 
 fill_decides : (a : ActiveCall) (equal : Bool) → IsDecision (landed a (filled_if equal))
 fill_decides a true = tt
@@ -739,6 +807,31 @@ killing_decides a m (LoadLive life) found ready = absurd (cc)
 killing_decides a m (kill_close life word) found ready = absurd (cc)
 killing_decides a m (kill_draw life word) found ready = tt
 
+invoking_decides : (a : ActiveCall) (m : Invoking) (at : InvokingAt) (found : ℕ) → is_entering at ≡ true
+    → IsDecision (landed a (took_invoking_at m at found))
+invoking_decides a m invoking.LoadTable found ready = absurd (cc)
+invoking_decides a m (invoking.LoadPages table) found ready = absurd (cc)
+invoking_decides a m (invoking.LoadComp table pages) found ready = absurd (cc)
+invoking_decides a m (invoking.LoadLive table pages life) found ready = by (live_of_word found)
+  where
+    lives : (same : Bool) → IsDecision (landed a (enters_if m table pages same))
+    lives true = tt
+    lives false = tt
+
+    by : (o : Option LiveWord) → IsDecision (landed a (enters_live m table pages o))
+    by None = tt
+    by (Some live.Free) = tt
+    by (Some (live.Live epoch f)) = lives (epoch == m.epoch)
+    by (Some (live.Closing epoch d)) = tt
+    by (Some (live.Dead epoch stamp)) = tt
+
+returning_decides : (a : ActiveCall) (m : Returning) (at : ReturningAt) (found : ℕ) → is_leaving at ≡ true
+    → IsDecision (landed a (took_returning_at m at found))
+returning_decides a m returning.LoadBelow found ready = absurd (cc)
+returning_decides a m (returning.LoadTable comp) found ready = absurd (cc)
+returning_decides a m (returning.LoadPages comp table) found ready = absurd (cc)
+returning_decides a m (returning.Draw comp table pages) found ready = tt
+
 component_decides : (a : ActiveCall) (m : CompMaking) (at : CompAt) (found : ℕ) → comp_filling at ≡ true
     → IsDecision (landed a (took_comp_at m at found))
 component_decides a m comp_at_as.Load found ready = absurd (cc)
@@ -775,6 +868,8 @@ act_decides s a (flush_act core) found ready = tt
 act_decides s a (kill_act m) found ready = killing_decides a m m.at found ready
 act_decides s a (untype_act m) found ready = untyping_decides s a m m.at found ready
 act_decides s a (comp_act m) found ready = component_decides a m m.at found ready
+act_decides s a (invoke_act m) found ready = invoking_decides a m m.at found ready
+act_decides s a (return_act m) found ready = returning_decides a m m.at found ready
 
 begun_over : (own : Own) (call : Call) (k : Capability) → decides_at_name (plan_for call).decides ≡ true
     → IsOver (act_begun own call (k ∷ []) None None)
@@ -799,6 +894,8 @@ begun_over own Flush k is = absurd (cc)
 begun_over own (Tick n) k is = absurd (cc)
 begun_over own (Gate c t b) k is = absurd (cc)
 begun_over own (Kill c) k is = absurd (cc)
+begun_over own (call_gate g) k is = absurd (cc)
+begun_over own Ret k is = absurd (cc)
 begun_over own call k is = tt
 
 zero_of : (found : List Capability) → (length found + 1 == 1) ≡ true → found ≡ []

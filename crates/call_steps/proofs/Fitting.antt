@@ -84,11 +84,11 @@ use Rattle.frame_words.specs.declared.comp_word.CompWord.{CompWord}
 use Rattle.call_steps.specs.Tails.{tail_left, took_tail, tail_counts}
 use Rattle.call_steps.specs.Fits.{TailFits, WorkFits, StageFits, IsWanted, FoundFits, HasRoom, CountsWait, CountsAt, looks_later, after_reading, acts_later, names_left, steps_later, left_of_look, left_of_pin, work_left, left_at, left_of, IsActive, IsOwn}
 use Rattle.call_acts.specs.Scans.{left_of_cores, ScanFits, left_of_scan}
-use Rattle.call_steps.proofs.StepsFit.{StepFits, starts_fit, few_dues, object_count, work_next, counts_next, first_named, act_fits}
+use Rattle.call_steps.proofs.StepsFit.{StepFits, starts_fit, few_dues, object_count, work_next, counts_next, first_named, act_fits, ChangeFits}
 use Rattle.call_acts.specs.declared.work.Act.{Act as ActType}
-use Rattle.call_acts.specs.declared.work.Act.TheVariants.{Fill as fill_act, Remove as remove_act, Retype as type_act, Make as make_act, Outside, Tick as tick_act, Flush as flush_act, Kill as kill_act, Untype as untype_act, Map as map_act, MakeComp as comp_act}
+use Rattle.call_acts.specs.declared.work.Act.TheVariants.{Fill as fill_act, Remove as remove_act, Retype as type_act, Make as make_act, Outside, Tick as tick_act, Flush as flush_act, Kill as kill_act, Untype as untype_act, Map as map_act, MakeComp as comp_act, Invoke as invoke_act, Return as return_act}
 use Rattle.call_acts.specs.declared.work.Tail.{Tail}
-use Rattle.call_acts.specs.declared.work.Tail.TheVariants.{Nothing, Quiesce, Unmark, StoreDead, StoreFlush, Release, StoreLive}
+use Rattle.call_acts.specs.declared.work.Tail.TheVariants.{Nothing, Quiesce, Unmark, StoreDead, StoreFlush, Release, StoreLive, Push, Pop}
 use Rattle.call_steps.specs.declared.stages.Stage.{Stage}
 use Rattle.call_steps.specs.declared.stages.Stage.TheVariants.{Enter, Undecided, Decided, Leave}
 use Rattle.call_steps.specs.declared.stages.ActiveCall.{ActiveCall}
@@ -107,6 +107,7 @@ use Rattle.call_steps.proofs.ScansFit.{scan_goes, scan_left}
 use Rattle.call_steps.proofs.KillsFit.{kill_fits}
 use Rattle.call_steps.proofs.UntypingsFit.{untype_fits, undone_fits, released_fits}
 use Rattle.call_steps.proofs.CompsFit.{comp_fits, comp_undone}
+use Rattle.call_steps.proofs.InvocationsFit.{invoke_fits, return_fits, push_fits, pop_fits}
 
 -- a step of the work of a call that has acquired its counts, or acquires them
 module _ (own : Own) (a : ActiveCall) (facts : Facts own a) (room : own.made < own.limit) where
@@ -239,11 +240,11 @@ module _ (own : Own) (a : ActiveCall) (facts : Facts own a) (room : own.made < o
       by false = act_undone _ refusal.Raced (Unmark m.frame word) fits.frame (omega arith)
 
   -- the call is decided with nothing to store
-  act_changed : (left : ℕ) (r : Reply) (change : OwnChange) → 2 + length a.counts < left
-      → TookFits own left a (landed a (work_changes r change Nothing))
-  act_changed left r change some =
-      landed_fits own a a refl refl refl facts.found facts.acquired room 0 left (work_changes r change Nothing) (omega arith, tt)
-      (omega arith)
+  act_changed : (left : ℕ) (r : Reply) (change : OwnChange) → ChangeFits own.layout change → 2 + length a.counts < left
+      → TookFits own left a (landed a (work_changes r change None Nothing))
+  act_changed left r change fits some =
+      landed_fits own a a refl refl refl facts.found facts.acquired room 0 left (work_changes r change None Nothing)
+      (omega arith, tt, fits) (omega arith)
 
   -- where the load of a head with this mark leads
   marked_fits : (tcap ticks budget version : ℕ) (mark : Option ℕ) → tcap < own.layout.frames → version < 2 ^ 28 → length a.counts ≡ 0
@@ -253,19 +254,19 @@ module _ (own : Own) (a : ActiveCall) (facts : Facts own a) (room : own.made < o
       landed_fits own a a refl refl refl facts.found facts.acquired room 1 (2 + length a.counts + 2)
       (Goes (Act (tick_act (charge_compare tcap ticks budget version)))) ((fits, small), omega arith, waits) (omega arith)
   marked_fits tcap ticks budget version (Some d) fits small waits =
-      act_changed (2 + length a.counts + 2) (reply.Busy d) (Ticks 0 ticks) (omega arith)
+      act_changed (2 + length a.counts + 2) (reply.Busy d) (Ticks 0 ticks) tt (omega arith)
 
   head_fits : (tcap ticks word : ℕ) (o : Option HeadWord) → head_of_word word ≡ o → tcap < own.layout.frames → length a.counts ≡ 0
       → TookFits own (2 + length a.counts + 2) a (landed a (took_charge ticks (after_head tcap ticks o) (head_end o)))
-  head_fits tcap ticks word None is fits waits = act_changed (2 + length a.counts + 2) reply.Raced (Ticks 0 ticks) (omega arith)
+  head_fits tcap ticks word None is fits waits = act_changed (2 + length a.counts + 2) reply.Raced (Ticks 0 ticks) tt (omega arith)
   head_fits tcap ticks word (Some v) is fits waits =
       marked_fits tcap ticks v.budget v.version v.mark fits (spelling.spells word v is).0.2 waits
 
   charged_fits : (due charged : ℕ) (charge : Charge) (equal : Bool)
       → TookFits own (2 + length a.counts + 1) a (landed a (took_charge due charge (charged_end equal charged)))
   charged_fits due charged charge true =
-      act_changed (2 + length a.counts + 1) (reply.Ok (Amount charged)) (Ticks charged (due - charged)) (omega arith)
-  charged_fits due charged charge false = act_changed (2 + length a.counts + 1) reply.Raced (Ticks 0 due) (omega arith)
+      act_changed (2 + length a.counts + 1) (reply.Ok (Amount charged)) (Ticks charged (due - charged)) tt (omega arith)
+  charged_fits due charged charge false = act_changed (2 + length a.counts + 1) reply.Raced (Ticks 0 due) tt (omega arith)
 
   tick_fits : (charge : Charge) (word : ℕ) → ChargeFits own.layout charge → length a.counts ≡ 0
       → TookFits own (2 + length a.counts + charge_left charge) a (landed a (took_tick charge word))
@@ -299,10 +300,12 @@ module _ (own : Own) (a : ActiveCall) (facts : Facts own a) (room : own.made < o
   done_fits (tick_act charge) found fits waits = tick_fits charge found fits waits
   done_fits (flush_act core) found fits waits =
       landed_fits own a a refl refl refl facts.found facts.acquired room 1 _
-      (work_changes (reply.Ok nothing) Empties (StoreFlush core (stamp_of_clock found))) (omega arith, fits) (omega arith)
+      (work_changes (reply.Ok nothing) Empties None (StoreFlush core (stamp_of_clock found))) (omega arith, fits, tt) (omega arith)
   done_fits (kill_act m) found fits waits = kill_fits own a facts room m m.at found fits waits
   done_fits (untype_act m) found fits waits = untype_fits own a facts room m m.at found fits waits
   done_fits (comp_act m) found fits waits = comp_fits own a facts room m m.at found fits waits
+  done_fits (invoke_act m) found fits waits = invoke_fits own a facts room m m.at found fits waits
+  done_fits (return_act m) found fits waits = return_fits own a facts room m m.at found fits waits
 
   undo_fits : (act : ActType) → ActFits own.layout act → TailFits own.layout (undo act) × (tail_left (undo act) ≤ act_left own.layout.cores act)
   undo_fits (fill_act fill) fits = (tt, omega arith)
@@ -320,6 +323,8 @@ module _ (own : Own) (a : ActiveCall) (facts : Facts own a) (room : own.made < o
   undo_fits (tick_act charge) fits = (tt, omega arith)
   undo_fits (flush_act core) fits = (tt, omega arith)
   undo_fits (kill_act m) fits = (tt, omega arith)
+  undo_fits (invoke_act m) fits = (tt, omega arith)
+  undo_fits (return_act m) fits = (tt, omega arith)
   undo_fits (untype_act m) fits = undone_fits own.layout m m.at facts.own_fits.shape fits
   undo_fits (comp_act m) fits = comp_undone own m m.at fits
 
@@ -720,6 +725,8 @@ tail_fits own a r drawn (StoreLive l live f word) counts found facts is fits = r
   steps = refl;
   fewer = let same : length a.counts ≡ length counts = ap length is in omega arith;
 }
+tail_fits own a r drawn (Push x) counts found facts is fits = push_fits own a r drawn x counts facts fits is
+tail_fits own a r drawn (Pop x) counts found facts is fits = pop_fits own a r drawn x counts facts fits is
 tail_fits own a r drawn Nothing [] found facts is fits = record {
   call = refl;
   plan = refl;

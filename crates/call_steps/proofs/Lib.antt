@@ -8,4 +8,5 @@ pub mod Decisions
 pub mod KillsFit
 pub mod UntypingsFit
 pub mod CompsFit
+pub mod InvocationsFit
 pub mod CoreFitting

@@ -1,6 +1,6 @@
 -- Where a step of a call's work leads to fits its machine, and how many steps it leaves at most.
 use Rattle.std.proofs.lemmas.Option.{slice_get_within}
-use Rattle.std.proofs.Common.{◌≡◌, ℕ, zero, suc, ℤ, pos, negsuc, ◌≢◌, nat_lt, if◌then◌else◌, ◌+◌, ◌*◌, ◌-◌, slice_get, ◌<◌, ◌≤◌, Bool, true, false, nat_le, IsTrue, ◌==◌, List, [], ◌∷◌, length, Option, Some, None, IfSome, IsSomeAnd, refl, sym, ap, subst, arith, ◌&&◌}
+use Rattle.std.proofs.Common.{leb-false, ◌≡◌, ℕ, zero, suc, ℤ, pos, negsuc, ◌≢◌, nat_lt, if◌then◌else◌, ◌+◌, ◌*◌, ◌-◌, slice_get, ◌<◌, ◌≤◌, Bool, true, false, nat_le, IsTrue, ◌==◌, List, [], ◌∷◌, length, Option, Some, None, IfSome, IsSomeAnd, refl, sym, ap, subst, arith, ◌&&◌}
 use Rattle.std.proofs.lemmas.Bool.{leb-true, ltb-true, ltb-false, eqb-true, eqb-false}
 use Rattle.stage_quiet.specs.declared.quiet.Quiet.{Quiet}
 use Rattle.stage_quiet.specs.Scan.{QuietFits, first_other, flush_scan, core_scan, quiet_scan}
@@ -11,7 +11,7 @@ use Rattle.spk_nums.specs.declared.kinds.Kind.{Kind}
 use Rattle.spk_nums.specs.declared.kinds.Kind.TheVariants.{Range, Table, Pages, Comp as KindComp}
 use Rattle.spk_nums.specs.declared.kinds.Kind.TheVariants as kind
 use Rattle.spk_nums.specs.declared.calls.Call.{Call}
-use Rattle.spk_nums.specs.declared.calls.Call.TheVariants.{Look as look_call, Copy, Remove, Shrink, Unmap, Retype, Make as make_call, Tick, Gate, Kill, Grow, Flush, Map}
+use Rattle.spk_nums.specs.declared.calls.Call.TheVariants.{Look as look_call, Copy, Remove, Shrink, Unmap, Retype, Make as make_call, Tick, Gate, Kill, Grow, Flush, Map, Call as call_gate, Ret}
 use Rattle.entry_words.specs.declared.entry.Entry.{Entry}
 use Rattle.entry_words.specs.declared.entry.Entry.TheVariants as entry
 use Rattle.word_map.specs.Places.{Shape}
@@ -48,13 +48,19 @@ use Rattle.call_acts.specs.declared.makings.MakingAt.TheVariants.{Load as make_l
 use Rattle.call_acts.specs.declared.kills.KillingAt.{KillingAt}
 use Rattle.call_acts.specs.declared.kills.KillingAt.TheVariants.{LoadComp, LoadLive, Close as kill_close, Draw as kill_draw}
 use Rattle.call_acts.specs.declared.own.Own.{Own}
+use Rattle.call_acts.specs.declared.own.OwnChange.{OwnChange}
+use Rattle.call_acts.specs.declared.own.OwnChange.TheVariants.{Ticks, Works, Empties}
+use Rattle.call_acts.specs.declared.invocations.InvokingAt.{InvokingAt}
+use Rattle.call_acts.specs.declared.invocations.InvokingAt.TheVariants as invoking
+use Rattle.call_acts.specs.declared.invocations.ReturningAt.{ReturningAt}
+use Rattle.call_acts.specs.declared.invocations.ReturningAt.TheVariants as returning
 use Rattle.call_acts.specs.declared.work.Act.{Act as ActType}
-use Rattle.call_acts.specs.declared.work.Act.TheVariants.{Fill as fill_act, Remove as remove_act, Retype as type_act, Make as make_act, Outside, Tick as tick_act, Kill as kill_act, Flush as flush_act, Untype as untype_act, Map as map_act, MakeComp as comp_act}
+use Rattle.call_acts.specs.declared.work.Act.TheVariants.{Fill as fill_act, Remove as remove_act, Retype as type_act, Make as make_act, Outside, Tick as tick_act, Kill as kill_act, Flush as flush_act, Untype as untype_act, Map as map_act, MakeComp as comp_act, Invoke as invoke_act, Return as return_act}
 use Rattle.call_acts.specs.declared.work.Work.TheVariants.{Lookup}
 use Rattle.call_acts.specs.declared.work.WorkStep.{WorkStep}
 use Rattle.call_acts.specs.declared.work.WorkStep.TheVariants.{Goes, Acquires, Refuses, Answers, Changes}
 use Rattle.call_acts.specs.declared.work.Due.{Due}
-use Rattle.call_acts.specs.Acts.{ActFits, act_left, looked, cap_dues, dues, acquires, scans, stamp_in, filling, fills_with, removing, removes_held, removes_at, types_if, types_at, gate_if, gate_to, frame_named, reads_of, made_dues, starts, making, making_if, makes_in, makes_at, act_begun, next_work, killing_dues, kills_in, kills_at, link_to, is_pages, page_cap, mapping, mapping_if, maps_if, maps_at, comp_making, comp_if, comps_in, comps_at, made_begun}
+use Rattle.call_acts.specs.Acts.{ActFits, act_left, looked, cap_dues, dues, acquires, scans, stamp_in, filling, fills_with, removing, removes_held, removes_at, types_if, types_at, gate_if, gate_to, frame_named, reads_of, made_dues, starts, making, making_if, makes_in, makes_at, act_begun, next_work, killing_dues, kills_in, kills_at, link_to, is_pages, page_cap, mapping, mapping_if, maps_if, maps_at, comp_making, comp_if, comps_in, comps_at, made_begun, invoking_dues, returning_dues, invokes_in, invokes_if, invokes_at, returns_if, returns_at}
 use Rattle.call_acts.specs.declared.untypings.UntypingAt.{UntypingAt}
 use Rattle.call_acts.specs.declared.untypings.UntypingAt.TheVariants as untype
 use Rattle.call_acts.specs.Untypings.{UntypingAtFits, released_dues, untyping_dues}
@@ -67,6 +73,12 @@ use Rattle.call_steps.specs.Tails.{tail_left}
 use Rattle.call_acts.specs.Lookups.{looks_under, looks_entry, looks_at, read_first, next_step}
 use Rattle.call_steps.specs.Fits.{WorkFits, TailFits, IsWanted, FoundFits, CountsWait, looks_later, after_reading, acts_later, work_left, IsOwn}
 
+-- what a decision changes of what its core has of its own is of the machine
+abbrev pub ChangeFits : Shape → OwnChange → Type 0
+ChangeFits s (Ticks charged owed) = Unit {0}
+ChangeFits s Empties = Unit {0}
+ChangeFits s (Works comp table pages depth) = (comp < s.frames) × (table < s.frames) × (pages < s.frames) × (1 ≤ depth) × (depth ≤ 16)
+
 -- where a step of the work leads to fits, where so many counts are acquired, and leaves at most so many steps before these are
 -- committed; it acquires none
 abbrev pub StepFits : Shape → List Acquired → ℕ → ℕ → WorkStep → Type 0
@@ -75,7 +87,7 @@ StepFits s counts later most (Goes work) =
 StepFits s counts later most (Acquires count work) = ⊥
 StepFits s counts later most (Refuses r tail) = (tail_left tail ≤ most) × TailFits s tail
 StepFits s counts later most (Answers v drawn tail) = (tail_left tail ≤ most) × TailFits s tail
-StepFits s counts later most (Changes r change tail) = (tail_left tail ≤ most) × TailFits s tail
+StepFits s counts later most (Changes r change drawn tail) = (tail_left tail ≤ most) × TailFits s tail × ChangeFits s change
 
 -- a capability has one count due at most
 pub cap_one : (kind : Kind) (frame arg : ℕ) (change : ℤ) → length (cap_dues (record { kind = kind; frame = frame; arg = arg }) change) ≤ 1
@@ -90,6 +102,18 @@ object_count NewPages f = refl
 object_count NewPleaf f = refl
 object_count (NewThread comp) f = refl
 object_count (NewTcap sched quality) f = refl
+
+pub invoking_one : (f : ℕ) (at : InvokingAt) → length (invoking_dues f at) ≤ 1
+invoking_one f invoking.LoadTable = omega arith
+invoking_one f (invoking.LoadPages table) = omega arith
+invoking_one f (invoking.LoadComp table pages) = omega arith
+invoking_one f (invoking.LoadLive table pages life) = omega arith
+
+pub returning_one : (f : ℕ) (at : ReturningAt) → length (returning_dues f at) ≤ 1
+returning_one f returning.LoadBelow = omega arith
+returning_one f (returning.LoadTable comp) = omega arith
+returning_one f (returning.LoadPages comp table) = omega arith
+returning_one f (returning.Draw comp table pages) = omega arith
 
 killing_one : (f : ℕ) (at : KillingAt) → length (killing_dues f at) ≤ 1
 killing_one f LoadComp = omega arith
@@ -153,6 +177,8 @@ few_dues (flush_act core) = omega arith
 few_dues (kill_act m) = let one = killing_one m.comp m.at in omega (arith, one)
 few_dues (untype_act m) = let two = untyped_few m.at in omega (arith, two)
 few_dues (comp_act m) = let few = comp_few m m.at in omega (arith, few)
+few_dues (invoke_act m) = let one = invoking_one m.comp m.at in omega (arith, one)
+few_dues (return_act m) = let one = returning_one m.top m.at in omega (arith, one)
 
 -- the counts that an act changes are of frames of the machine
 abbrev pub DueFits : Shape → Option Due → Type 0
@@ -236,6 +262,24 @@ comp_fit s m (comp_at_as.Close word last) n frame table pages = three_fit s m n 
 comp_fit s m (comp_at_as.Store word last entry) n frame table pages = three_fit s m n frame table pages
 comp_fit s m (comp_at_as.Fill word last) n frame table pages = three_fit s m n frame table pages
 
+invoking_fit : (s : Shape) (f : ℕ) (at : InvokingAt) (n : ℕ) → f < s.frames → DueFits s (slice_get (invoking_dues f at) n)
+invoking_fit s f invoking.LoadTable zero below = tt
+invoking_fit s f invoking.LoadTable (suc n) below = tt
+invoking_fit s f (invoking.LoadPages table) zero below = tt
+invoking_fit s f (invoking.LoadPages table) (suc n) below = tt
+invoking_fit s f (invoking.LoadComp table pages) zero below = tt
+invoking_fit s f (invoking.LoadComp table pages) (suc n) below = tt
+invoking_fit s f (invoking.LoadLive table pages life) zero below = below
+invoking_fit s f (invoking.LoadLive table pages life) (suc n) below = tt
+returning_fit : (s : Shape) (f : ℕ) (at : ReturningAt) (n : ℕ) → f < s.frames → DueFits s (slice_get (returning_dues f at) n)
+returning_fit s f returning.LoadBelow zero below = tt
+returning_fit s f returning.LoadBelow (suc n) below = tt
+returning_fit s f (returning.LoadTable comp) zero below = tt
+returning_fit s f (returning.LoadTable comp) (suc n) below = tt
+returning_fit s f (returning.LoadPages comp table) zero below = tt
+returning_fit s f (returning.LoadPages comp table) (suc n) below = tt
+returning_fit s f (returning.Draw comp table pages) zero below = below
+returning_fit s f (returning.Draw comp table pages) (suc n) below = tt
 pub dues_fit : (s : Shape) (act : ActType) (n : ℕ) → ActFits s act → DueFits s (slice_get (dues act) n)
 dues_fit s (fill_act fill) n fits = cap_fit s fill.cap.kind fill.cap.frame fill.cap.arg (pos 1) n fits.cap
 dues_fit s (remove_act close cap) n fits = cap_fit s cap.kind cap.frame cap.arg (negsuc 0) n fits.1
@@ -252,6 +296,8 @@ dues_fit s (flush_act core) (suc n) fits = tt
 dues_fit s (kill_act m) n fits = killing_fit s m.comp m.at n fits.comp
 dues_fit s (untype_act m) n fits = untyped_fit s m.at n fits.at
 dues_fit s (comp_act m) n fits = comp_fit s m m.at n fits.frame fits.table fits.pages
+dues_fit s (invoke_act m) n fits = invoking_fit s m.comp m.at n fits.comp
+dues_fit s (return_act m) n fits = returning_fit s m.top m.at n fits.top
 
 -- what a core does for an act of whose counts it has acquired so many
 pub work_next : (s : Shape) (later core n : ℕ) (act : ActType) (o : Option Due) → slice_get (dues act) n ≡ o → core < s.cores
@@ -378,6 +424,8 @@ starts_fit s later most core (flush_act by) here fits some = first_fits s later 
 starts_fit s later most core (kill_act m) here fits some = first_fits s later most core (kill_act m) here fits some
 starts_fit s later most core (untype_act m) here fits some = first_fits s later most core (untype_act m) here fits some
 starts_fit s later most core (comp_act m) here fits some = first_fits s later most core (comp_act m) here fits some
+starts_fit s later most core (invoke_act m) here fits some = first_fits s later most core (invoke_act m) here fits some
+starts_fit s later most core (return_act m) here fits some = first_fits s later most core (return_act m) here fits some
 
 pub scans_fit : (s : Shape) (later most core : ℕ) (act : ActType) (page : Bool) (o : Option Quiet) → core < s.cores → ActFits s act
     → ScanMay s page o
@@ -697,6 +745,64 @@ killed : (own : Own) (later most : ℕ) (k : Option Capability) → IsOwn own �
 killed own later most None h names some = (omega arith, tt)
 killed own later most (Some k) h names some = kills own.layout later most own.core k.kind k.frame k.arg h.core names some
 
+-- the acts that enter a component and leave it
+invokes : (own : Own) (later most : ℕ) (kind : Kind) (f arg : ℕ) → IsOwn own
+    → CapNames own.layout.frames (record { kind = kind; frame = f; arg = arg }) → 9 ≤ most
+    → StepFits own.layout [] later most (invokes_in own kind f arg)
+invokes own later most kind.Gate f arg h names some = by (nat_le 16 own.depth) refl
+  where
+    by : (deep : Bool) → nat_le 16 own.depth ≡ deep → StepFits own.layout [] later most (invokes_if deep own f arg)
+    by true is = (omega arith, tt)
+    by false is = (
+      record {
+        comp = omega arith;
+        thread = h.thread;
+        core = h.core;
+        some_depth = h.some_depth;
+        most_depth = (let less = leb-false 16 own.depth is in omega arith);
+        frames = refl;
+        few = h.shape.most_frames;
+        at = tt;
+      },
+      omega arith,
+      refl,
+    )
+invokes own later most kind.Comp f arg h names some = (omega arith, tt)
+invokes own later most kind.Range f arg h names some = (omega arith, tt)
+invokes own later most kind.Table f arg h names some = (omega arith, tt)
+invokes own later most kind.Leaf f arg h names some = (omega arith, tt)
+invokes own later most kind.Pages f arg h names some = (omega arith, tt)
+invokes own later most kind.Pleaf f arg h names some = (omega arith, tt)
+invokes own later most kind.Thread f arg h names some = (omega arith, tt)
+invokes own later most kind.Tcap f arg h names some = (omega arith, tt)
+invokes own later most kind.Link f arg h names some = (omega arith, tt)
+invokes own later most kind.Page f arg h names some = (omega arith, tt)
+
+invoked : (own : Own) (later most : ℕ) (k : Option Capability) → IsOwn own → IfSome k (CapNames own.layout.frames) → 9 ≤ most
+    → StepFits own.layout [] later most (invokes_at own k)
+invoked own later most None h names some = (omega arith, tt)
+invoked own later most (Some k) h names some = invokes own later most k.kind k.frame k.arg h names some
+
+returned : (own : Own) (later most : ℕ) → IsOwn own → 9 ≤ most → StepFits own.layout [] later most (returns_at own)
+returned own later most h some = by (nat_le own.depth 1) refl
+  where
+    by : (bottom : Bool) → nat_le own.depth 1 ≡ bottom → StepFits own.layout [] later most (returns_if bottom own)
+    by true is = (omega arith, tt)
+    by false is = (
+      record {
+        top = h.comp;
+        thread = h.thread;
+        core = h.core;
+        some_depth = (let more = leb-false own.depth 1 is in omega arith);
+        most_depth = h.most_depth;
+        frames = refl;
+        few = h.shape.most_frames;
+        at = tt;
+      },
+      omega arith,
+      refl,
+    )
+
 -- a gate leads to a frame of the machine
 gate_names : (frames : ℕ) (comp : Option Capability) (read : Option ℕ) → IfSome comp (λ k. k.frame < frames)
     → IfSome (gate_to comp read) (CapNames frames)
@@ -739,6 +845,8 @@ act_fits own later (Tick n) found read target h names objects limits fits = (h.t
 act_fits own later (Gate c t b) found read target h names objects limits fits =
     filled own later (3 + own.layout.cores) _ false target h (gate_names own.layout.frames (at_place found First) read objects) fits (omega arith)
 act_fits own later (Kill k) found read target h names objects limits fits = killed own later 8 (at_place found First) h names (omega arith)
+act_fits own later (call_gate g) found read target h names objects limits fits = invoked own later 9 (at_place found First) h names (omega arith)
+act_fits own later Ret found read target h names objects limits fits = returned own later 9 h (omega arith)
 act_fits own later call found read target h names objects limits fits = (omega arith, tt)
 
 -- the root of a target is a frame of the machine, where its name is found
@@ -802,7 +910,7 @@ more_steps s later most more (Goes work) few fits = (fits.0, (let left = fits.1 
 more_steps s later most more (Acquires count work) few fits = fits
 more_steps s later most more (Refuses r tail) few fits = ((let left = fits.0 in omega (arith, left, few)), fits.1)
 more_steps s later most more (Answers v drawn tail) few fits = ((let left = fits.0 in omega (arith, left, few)), fits.1)
-more_steps s later most more (Changes r change tail) few fits = ((let left = fits.0 in omega (arith, left, few)), fits.1)
+more_steps s later most more (Changes r change drawn tail) few fits = ((let left = fits.0 in omega (arith, left, few)), fits.1, fits.2)
 
 -- a step that begins a look-up, or refuses
 abbrev IsLook : WorkStep → Type 0
@@ -811,7 +919,7 @@ IsLook (Goes work) = ⊥
 IsLook (Acquires count work) = ⊥
 IsLook (Refuses r tail) = Unit {0}
 IsLook (Answers v drawn tail) = ⊥
-IsLook (Changes r change tail) = ⊥
+IsLook (Changes r change drawn tail) = ⊥
 
 under_looks : (within : Bool) (top n : ℕ) → IsLook (looks_under within top n)
 under_looks true top n = tt

@@ -25,7 +25,7 @@ use Rattle.call_acts.specs.declared.work.Work.TheVariants.{Lookup, Read, Scan, A
 use Rattle.call_steps.specs.declared.stages.Stage.{Stage}
 use Rattle.call_steps.specs.declared.stages.Stage.TheVariants.{Enter, Undecided, Decided, Leave}
 use Rattle.call_acts.specs.declared.work.Tail.{Tail}
-use Rattle.call_acts.specs.declared.work.Tail.TheVariants.{Nothing, Quiesce, Unmark, StoreDead, StoreFlush, Release, StoreLive}
+use Rattle.call_acts.specs.declared.work.Tail.TheVariants.{Nothing, Quiesce, Unmark, StoreDead, StoreFlush, Release, StoreLive, Push, Pop}
 use Rattle.call_acts.specs.Untypings.{ReleaseFits}
 use Rattle.call_steps.specs.declared.stages.ActiveCall.{ActiveCall}
 use Rattle.stage_quiet.specs.Scan.{QuietFits}
@@ -35,6 +35,7 @@ use Rattle.stage_pins.specs.declared.pin.Pin.TheVariants.{AtLoad, AtCompare}
 use Rattle.stage_pins.specs.declared.held.Acquired.{Acquired}
 use Rattle.stage_pins.specs.Acquire.{PinFits}
 use Rattle.stage_pins.specs.Held.{AllFit}
+use Rattle.stage_thread.specs.Stacking.{PushFits, PopFits}
 use Rattle.call_acts.specs.Acts.{ActFits, act_left, dues}
 use Rattle.call_acts.specs.Scans.{ScanFits, left_of_scan}
 use Rattle.call_steps.specs.Tails.{tail_left}
@@ -56,6 +57,8 @@ TailFits s (StoreDead life stamp) = CompFits life × (1 ≤ stamp)
 TailFits s (StoreFlush core stamp) = core < s.cores
 TailFits s (Release release) = ReleaseFits s release
 TailFits s (StoreLive l live f word) = (l < 64) × (f < s.frames)
+TailFits s (Push push) = PushFits s push
+TailFits s (Pop pop) = PopFits s pop
 
 abbrev pub StageFits : Shape → Stage → Type 0
 StageFits s Enter = Unit {0}
@@ -176,11 +179,14 @@ abbrev pub CallFits : Own → Option ActiveCall → Type 0
 CallFits own None = Unit {0}
 CallFits own (Some a) = IsActive own a
 
--- what a core has of its own names frames of its machine, and it has counted no more calls than it may make
+-- what a core has of its own names frames of its machine, its thread's stack has 1 to 16 components, and it has counted no more calls
+-- than it may make
 pub record IsOwn (own : Own) : Type 0 where
   pub shape : IsShape own.layout
   pub core : own.core < own.layout.cores
   pub thread : own.thread < own.layout.frames
+  pub some_depth : 1 ≤ own.depth
+  pub most_depth : own.depth ≤ 16
   pub comp : own.comp < own.layout.frames
   pub table : own.table < own.layout.frames
   pub pages : own.pages < own.layout.frames

@@ -28,6 +28,8 @@
 #![tactic(auto)]
 
 mod core_state;
+#[cfg(test)]
+mod invoke_tests;
 mod laws;
 mod stages;
 mod steps;

@@ -632,21 +632,29 @@ impl ActiveCall {
             WorkStep::Changes {
                 reply,
                 change,
+                drawn,
                 tail,
-            } => self.decide_changing(reply, change, tail),
+            } => self.decide_changing(reply, change, *drawn, tail),
         }
     }
 
-    // The call is decided with this reply and has this to store, and changes this of what its core has of its own.
+    // The call is decided with this reply, has drawn this stamp or none and has this to store, and changes this of what its core has of its
+    // own.
     #[inline(never)]
-    fn decide_changing(&mut self, reply: &Reply, change: &OwnChange, tail: &Tail) -> Told
+    fn decide_changing(
+        &mut self,
+        reply: &Reply,
+        change: &OwnChange,
+        drawn: Option<Stamp>,
+        tail: &Tail,
+    ) -> Told
         requires { self.old.steps < 1000 }
-        ensures told { result ≡ told (Changes reply.now change.now (went self.old (Decided reply.now None tail.now))) }
-        ensures after { self.new ≡ went self.old (Decided reply.now None tail.now) }
+        ensures told { result ≡ told (Changes reply.now change.now (went self.old (Decided reply.now drawn tail.now))) }
+        ensures after { self.new ≡ went self.old (Decided reply.now drawn tail.now) }
     {
         self.go_on(Stage::Decided {
             reply: *reply,
-            drawn: None,
+            drawn,
             tail: *tail,
         });
         Told::Changed {

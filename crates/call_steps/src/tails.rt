@@ -4,7 +4,7 @@ ghost use Rattle.std.specs.Prelude.{◌≡◌, ◌<◌};
 ghost use Rattle.word_map.specs.Places.{size_of};
 ghost use Rattle.word_map.specs.Moves.{op_of};
 ghost use Rattle.spk_nums.specs.WordSteps.{place_in};
-ghost use Rattle.call_steps.specs.Tails.{is_ok, tail_move, stamp_of, took_tail, commits};
+ghost use Rattle.call_steps.specs.Tails.{is_ok, tail_move, stamp_of, took_tail, commits, pushed_on, popped_on};
 ghost use Rattle.stage_pins.specs.Held.{AllFit};
 ghost use Rattle.call_steps.specs.Fits.{TailFits};
 
@@ -12,6 +12,7 @@ use crate::stages::Stage;
 use call_acts::{Tail, dead_op, flushed_op};
 use spk_nums::{Reply, Stamp, WordOp};
 use stage_pins::AcquiredCounts;
+use stage_thread::{Pop, Push};
 use word_map::Layout;
 
 /// The next step of a decided call that has acquired these counts: its next store, then the commit of its earliest count, then the
@@ -47,6 +48,8 @@ pub fn tail_op(
             at: layout.live_at(*number),
             word: *live,
         },
+        Tail::Push { push } => push.next(layout),
+        Tail::Pop { pop } => pop.next(layout),
         Tail::Nothing => match counts.first() {
             None => WordOp::Load {
                 at: layout.clock_at(),
@@ -120,6 +123,16 @@ pub fn took_tail(
                 word: *word,
             },
         },
+        Tail::Push { push } => Stage::Decided {
+            reply,
+            drawn,
+            tail: pushed_on(push),
+        },
+        Tail::Pop { pop } => Stage::Decided {
+            reply,
+            drawn,
+            tail: popped_on(pop),
+        },
         Tail::Nothing => match counts.first() {
             None => Stage::Leave {
                 reply,
@@ -143,6 +156,52 @@ pub fn took_tail(
                 tail: *tail,
             },
         },
+    }
+}
+
+// What of a push is to be stored after its next store.
+#[inline]
+fn pushed_on(push: &Push) -> Tail
+    ensures { result ≡ pushed_on push.now }
+{
+    match *push {
+        Push::AtStack {
+            thread,
+            core,
+            depth,
+            comp: _,
+        } => Tail::Push {
+            push: Push::AtThread {
+                thread,
+                core,
+                depth,
+            },
+        },
+        Push::AtThread {
+            thread: _,
+            core: _,
+            depth: _,
+        } => Tail::Nothing,
+    }
+}
+
+// What of a pop is to be stored after its next store.
+#[inline]
+fn popped_on(pop: &Pop) -> Tail
+    ensures { result ≡ popped_on pop.now }
+{
+    match *pop {
+        Pop::AtThread {
+            thread,
+            core: _,
+            depth,
+        } => Tail::Pop {
+            pop: Pop::AtStack { thread, depth },
+        },
+        Pop::AtStack {
+            thread: _,
+            depth: _,
+        } => Tail::Nothing,
     }
 }
 

@@ -61,7 +61,7 @@ use Rattle.stage_quiet.specs.declared.quiet.Quiet.TheVariants.{AtCore, AtFlush}
 use Rattle.stage_pins.specs.declared.pin.Pin.{Pin}
 use Rattle.stage_pins.specs.declared.pin.Pin.TheVariants.{AtLoad, AtCompare as pin_compare}
 use Rattle.call_acts.specs.declared.work.Act.{Act as ActOf}
-use Rattle.call_acts.specs.declared.work.Act.TheVariants.{Fill as fill_act, Remove as remove_act, Retype as type_act, Make as make_act, Outside, Tick as tick_act, Flush as flush_act, Kill as kill_act, Untype as untype_act, Map as map_act, MakeComp as comp_act}
+use Rattle.call_acts.specs.declared.work.Act.TheVariants.{Fill as fill_act, Remove as remove_act, Retype as type_act, Make as make_act, Outside, Tick as tick_act, Flush as flush_act, Kill as kill_act, Untype as untype_act, Map as map_act, MakeComp as comp_act, Invoke as invoke_act, Return as return_act}
 use Rattle.call_acts.specs.declared.work.Work.{Work}
 use Rattle.call_acts.specs.declared.work.Work.TheVariants.{Lookup, Read, Scan, Acquire, Act}
 use Rattle.call_acts.specs.Acts.{reads_of}
@@ -107,6 +107,8 @@ stores_in (flush_act by) f = false
 stores_in (kill_act m) f = false
 stores_in (untype_act m) f = false
 stores_in (comp_act m) f = comp_is_marked m.at && f == m.frame
+stores_in (invoke_act m) f = false
+stores_in (return_act m) f = false
 
 abbrev pub stores_of : Work → ℕ → Bool
 stores_of (Lookup look) f = false
@@ -460,6 +462,8 @@ module _ (setup : Setting) (setting : IsSetting setup) (t : Trace) (e : Step) (l
     passed = λ d below other. carries.passed (scanned_for act) at d has.past (has.passed d below other);
     pages = has.pages;
   }
+  act_on of plan caps upto (invoke_act m) same has = has
+  act_on of plan caps upto (return_act m) same has = has
 
   quiet_on : (a : ActiveCall) (q : Quiet) (act : ActOf) → ReadsSame setup t e c act
       → KnowsQuiet setup t c a q act

@@ -5,12 +5,12 @@ use Rattle.call_acts.specs.declared.kills.KillingAt.TheVariants.{LoadComp, LoadL
 use Rattle.call_acts.specs.declared.makings.MakingAt.{MakingAt}
 use Rattle.call_acts.specs.declared.makings.MakingAt.TheVariants.{Load, Mark, Store, Fill as making_fill}
 use Rattle.call_acts.specs.declared.work.Act.{Act as ActOf}
-use Rattle.call_acts.specs.declared.work.Act.TheVariants.{Fill, Remove, Retype, Make, Map, Outside, Tick, Flush, Kill, Untype, MakeComp}
+use Rattle.call_acts.specs.declared.work.Act.TheVariants.{Fill, Remove, Retype, Make, Map, Outside, Tick, Flush, Kill, Untype, MakeComp, Invoke, Return}
 use Rattle.call_acts.specs.declared.comps.CompMaking.{CompMaking}
 use Rattle.call_acts.specs.declared.comps.CompAt.{CompAt}
 use Rattle.call_acts.specs.declared.comps.CompAt.TheVariants as comp_at
 use Rattle.call_acts.specs.declared.work.Tail.{Tail}
-use Rattle.call_acts.specs.declared.work.Tail.TheVariants.{Nothing, Quiesce, Unmark, StoreDead, StoreFlush, StoreLive, Release}
+use Rattle.call_acts.specs.declared.work.Tail.TheVariants.{Nothing, Quiesce, Unmark, StoreDead, StoreFlush, StoreLive, Push, Pop, Release}
 use Rattle.call_acts.specs.declared.work.Work.{Work}
 use Rattle.call_acts.specs.declared.work.Work.TheVariants.{Lookup, Read, Scan, Acquire, Act as act_work}
 use Rattle.call_steps.specs.declared.stages.ActiveCall.{ActiveCall}
@@ -78,6 +78,8 @@ act_flush (Tick charge) h c = refl
 act_flush (Flush by) h c = refl
 act_flush (Kill m) h c = killing_flush m.at h c
 act_flush (Untype m) h c = refl
+act_flush (Invoke m) h c = refl
+act_flush (Return m) h c = refl
 act_flush (MakeComp m) h c = comp_flush m m.at h c
 
 work_flush : (work : Work) (h : Holding) (c : ℕ) → (holds_work work h).stands (FlushAt c) ≡ h.stands (FlushAt c)
@@ -93,6 +95,8 @@ tail_flush (Quiesce close) h c none = drawn_flush close h c
 tail_flush (Unmark f word) h c none = refl
 tail_flush (StoreDead life stamp) h c none = refl
 tail_flush (Release release) h c none = refl
+tail_flush (Push push) h c none = refl
+tail_flush (Pop pop) h c none = refl
 tail_flush (StoreLive l live f word) h c none = refl
 tail_flush (StoreFlush by stamp) h c none = absurd (false≢true (sym none))
 
@@ -114,6 +118,8 @@ some_flush setup t c table a (Decided r drawn (Quiesce close)) h knows is = absu
 some_flush setup t c table a (Decided r drawn (Unmark f word)) h knows is = absurd (false≢true is)
 some_flush setup t c table a (Decided r drawn (StoreDead life stamp)) h knows is = absurd (false≢true is)
 some_flush setup t c table a (Decided r drawn (Release release)) h knows is = absurd (false≢true is)
+some_flush setup t c table a (Decided r drawn (Push push)) h knows is = absurd (false≢true is)
+some_flush setup t c table a (Decided r drawn (Pop pop)) h knows is = absurd (false≢true is)
 some_flush setup t c table a (Decided r drawn (StoreLive l live f word)) h knows is = absurd (false≢true is)
 some_flush setup t c table a (Decided r drawn (StoreFlush by stamp)) h knows is =
     subst (λ (d : ℕ). 1 ≤ (holds_tail (StoreFlush by stamp) h).stands (FlushAt d)) knows.core

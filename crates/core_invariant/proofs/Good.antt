@@ -12,7 +12,7 @@ use Rattle.call_acts.specs.declared.makings.MakingAt.TheVariants.{Load as making
 use Rattle.call_acts.specs.declared.makings.MakingAt.{MakingAt}
 use Rattle.call_acts.specs.declared.work.Work.TheVariants.{Lookup, Read, Scan, Acquire, Act as act_work}
 use Rattle.call_acts.specs.declared.work.Work.{Work}
-use Rattle.call_acts.specs.declared.work.Act.TheVariants.{Fill as fill_act, Remove as remove_act, Retype as type_act, Make as make_act, Outside, Tick as tick_act, Flush as flush_act, Kill as kill_act, Untype as untype_act, Map as map_act, MakeComp as comp_act}
+use Rattle.call_acts.specs.declared.work.Act.TheVariants.{Fill as fill_act, Remove as remove_act, Retype as type_act, Make as make_act, Outside, Tick as tick_act, Flush as flush_act, Kill as kill_act, Untype as untype_act, Map as map_act, MakeComp as comp_act, Invoke as invoke_act, Return as return_act}
 use Rattle.call_acts.specs.declared.work.Act.{Act as ActOf}
 use Rattle.stage_quiet.specs.declared.quiet.Quiet.TheVariants.{AtCore, AtFlush}
 use Rattle.call_plans.specs.declared.plans.Plan.{Plan}
@@ -51,15 +51,16 @@ use Rattle.call_steps.specs.declared.stages.Stage.{Stage}
 use Rattle.call_steps.specs.declared.stages.Stage.TheVariants.{Enter, Undecided, Decided, Leave}
 use Rattle.call_steps.specs.declared.stages.ActiveCall.{ActiveCall}
 use Rattle.call_acts.specs.declared.own.Own.{Own}
-use Rattle.call_acts.specs.declared.work.Tail.TheVariants.{Nothing, Quiesce, Unmark, StoreDead, StoreFlush, Release, StoreLive}
+use Rattle.call_acts.specs.declared.work.Tail.TheVariants.{Nothing, Quiesce, Unmark, StoreDead, StoreFlush, Release, StoreLive, Push, Pop}
 use Rattle.call_steps.specs.View.{Core}
 use Rattle.core_invariant.proofs.Users.{users_stay}
 use Rattle.core_invariant.specs.Holding.{settled, MarkIs, Holding, keeps, holds_counts, settled_by}
 use Rattle.core_invariant.specs.Words.{WordIs}
 use Rattle.core_invariant.specs.Knows.{phase_at, CallIs, KnowsAt, WorksIn, CoreIs, blank_word, is_start, KnowsMakingAt, KnowsAct, KnowsWork, KnowsCompAt}
-use Rattle.core_invariant.specs.Stands.{held_by, times_of, counted_in, SumIs, Stands, is_done, holds_making, holds_act, holds_work, holds_at, holds_in, holds, holds_comp}
+use Rattle.core_invariant.specs.Stands.{held_by, times_of, counted_in, SumIs, Stands, is_done, holds_making, holds_act, holds_work, holds_at, holds_in, holds, holds_comp, IsLent}
 use Rattle.core_invariant.proofs.Markers.{marker_inside}
 use Rattle.core_invariant.proofs.Carries.{KeepsUsers, undecided_on, counts_on, store_on, stores_in, stores_of, dead_on, live_on}
+use Rattle.core_invariant.proofs.Lent.{SparesLent, lent_other}
 
 -- A step changes a word of a blank frame only where its core has marked the frame.
 abbrev pub SparesBlanks : Setting → Trace → Step → Type 0
@@ -132,6 +133,8 @@ filled_act setup t c f call plan ks (flush_act by) h knows is = absurd (false≢
 filled_act setup t c f call plan ks (kill_act m) h knows is = absurd (false≢true is)
 filled_act setup t c f call plan ks (untype_act m) h knows is = absurd knows
 filled_act setup t c f call plan ks (comp_act m) h knows is = filled_comp setup t c f m m.at h knows.at is
+filled_act setup t c f call plan ks (invoke_act m) h knows is = absurd (false≢true is)
+filled_act setup t c f call plan ks (return_act m) h knows is = absurd (false≢true is)
 
 -- A scan is made before the frame is marked.
 scans_nothing : (act : ActOf) (f : ℕ) → is_start act ≡ true → stores_in act f ≡ false
@@ -154,6 +157,8 @@ scans_nothing (comp_act m) f starts = by (comp_is_marked m.at) starts
     by : (b : Bool) → not b ≡ true → (b && f == m.frame) ≡ false
     by true h = absurd (false≢true h)
     by false h = refl
+scans_nothing (invoke_act m) f starts = refl
+scans_nothing (return_act m) f starts = refl
 
 filled_work : (setup : Setting) (t : Trace) (c table f : ℕ) (a : ActiveCall) (work : Work) (h : Holding) → KnowsWork setup t c table a work
     → stores_of work f ≡ true → IsFilled (holds_work work h) f
@@ -195,7 +200,7 @@ blank_is x h = kernel_is x (ap (λ v. v.kind) (same _ _ h)) (ap (λ v. v.object)
     same v u h = cc
 
 -- A good step: it may follow, keeps its call's bound, answers in order where its call is alone, keeps the discipline and its call's
--- footprint, and leaves marks, words, time and its own core as they are to be.
+-- footprint, and leaves marks, words, what is kept without a mark, time and its own core as they are to be.
 pub record IsGood (setup : Setting) (cores : ℕ → Core) (t : Trace) (e : Step) (after : Core) : Type 0 where
   pub follows : MayFollow setup t e
   pub within : IsWithin setup.cores t e
@@ -206,6 +211,8 @@ pub record IsGood (setup : Setting) (cores : ℕ → Core) (t : Trace) (e : Step
   pub marks : (w : Word) (d : ℕ) → MarkIs setup (held_by (put cores e.core after)) (e ∷ t) w d
   pub words : (w : Word)
       → WordIs (state_after setup (e ∷ t)) (times_of setup (e ∷ t)) w (settled setup (held_by (put cores e.core after)) (e ∷ t) w)
+  pub lent : (f i v : ℕ) → (holds after).bare f i ≡ Some v → IsLent setup (e ∷ t) e.core f i
+  pub spares : SparesLent cores e
   pub sums : (f : ℕ) → SumIs setup (held_by (put cores e.core after)) (e ∷ t) f
   pub draws : clock setup (e ∷ t) ≤ 1 + counted_in setup (state_after setup (e ∷ t))
   pub time : KeepsTime setup t e
@@ -279,6 +286,8 @@ module _ (setup : Setting) (setting : IsSetting setup) (cores : ℕ → Core) (t
   knows_other follows time blanks users c table a other (Decided r drawn (Release release)) held at has = absurd has
   knows_other follows time blanks users c table a other (Decided r drawn (StoreLive l live f word)) held at has =
       live_on setup t e c a.call (λ own. absurd (other own)) l live f word has
+  knows_other follows time blanks users c table a other (Decided r drawn (Push push)) held at has = has
+  knows_other follows time blanks users c table a other (Decided r drawn (Pop pop)) held at has = has
   knows_other follows time blanks users c table a other (Decided r drawn (Quiesce close)) held at has =
       store_on setup t e c a.call (λ own. absurd (other own)) (λ f.
       (stays_in_other setup setting t stands.legal e follows c other (ap is_in at)).relies f) close has
@@ -339,6 +348,12 @@ module _ (setup : Setting) (setting : IsSetting setup) (cores : ℕ → Core) (t
     marked = marked_on setup t e good.disciplined.marks (λ call is w. bare call is
         (subst (λ o. MayEnter o (phase t e.core)) is good.follows.enters).0 w) stands.marked;
     words = good.words;
+    lent = λ d f i v is. elim (cases_eq d e.core) [
+      | inl own ↦ subst (λ (b : ℕ). IsLent setup (e ∷ t) b f i) (sym own)
+          (good.lent f i v (sym (ap (λ k. (holds k).bare f i) (put_same cores e.core after d own)) ∙ is))
+      | inr other ↦ lent_other setup setting cores t stands e good.follows good.spares d f i v other
+          (sym (ap (λ k. (holds k).bare f i) (put_other cores e.core after d other)) ∙ is)
+    ];
     sums = good.sums;
     draws = good.draws;
     some_time = (let a = stands.some_time in let b = good.time.rises in omega arith);

@@ -1,5 +1,6 @@
 pub mod Sounds
 pub mod Ranges
+pub mod Bare
 pub mod WordFrames
 pub mod Carries
 pub mod Markers
@@ -7,6 +8,7 @@ pub mod Calm
 pub mod CountSums
 pub mod Sums
 pub mod Users
+pub mod Lent
 pub mod Good
 pub mod Flushing
 pub mod Loads
@@ -17,3 +19,4 @@ pub mod Places
 pub mod Refusals
 pub mod OwnChanges
 pub mod FlushWords
+pub mod Keeping

@@ -44,6 +44,7 @@ use Rattle.core_invariant.specs.Holding.{holds_counts}
 use Rattle.core_invariant.proofs.Flushing.{still_flushed, open_flushed}
 use Rattle.core_invariant.proofs.Good.{IsGood, spares_kept}
 use Rattle.core_invariant.proofs.Calm.{IsCalm, calm_same, calm_counted, calm_own, calm_words, counted_rises, stored_by, IsPlain, plain_time, plain_exit, BeginsNone, plain_begins, none_flushed}
+use Rattle.core_invariant.proofs.Lent.{keeps_loads, lent_calm, lent_kept}
 
 -- A step of core c.
 abbrev pub step_to : ℕ → Option Call → Move → ℕ → Option Reply → Option Reply → Step
@@ -240,6 +241,10 @@ module _ (setup : Setting) (setting : IsSetting setup) (cores : ℕ → Core) (t
         words = load_words setup cores t e after still (λ g. refl) looks.kept
             (λ v. calm_words setup t e (calm_same (state_after setup t) c) plain v (λ g i h. refl) (λ d h. (refl, plain_exit t e refl d)))
             stands.words;
+        lent = lent_calm setup cores t stands e after
+            (keeps_loads setup cores t e after still (load_keeps setup cores t e after still (λ g. refl) looks.kept))
+            (calm_same (state_after setup t) c);
+        spares = lent_kept cores e looks.kept;
         sums = sums_stay setup t e (held_by cores) (held_by (put cores c after))
             (λ f d. settled_on setup cores t e after still (λ g. refl) (CountAt f d)
             (load_keeps setup cores t e after still (λ g. refl) looks.kept (CountAt f d)))
@@ -312,6 +317,9 @@ module _ (setup : Setting) (setting : IsSetting setup) (cores : ℕ → Core) (t
         words = load_words setup cores t e after still calm.frame looks.kept
             (λ v. calm_words setup t e calm plain v (λ g i h. ap (λ s. s.place g i) now)
             (λ d h. (decided-inside (Some r) (phase t c) (state_after setup t) c d, plain_exit t e refl d))) stands.words;
+        lent = lent_calm setup cores t stands e after
+            (keeps_loads setup cores t e after still (load_keeps setup cores t e after still calm.frame looks.kept)) calm;
+        spares = lent_kept cores e looks.kept;
         sums = sums_stay setup t e (held_by cores) (held_by (put cores c after))
             (λ f d. settled_on setup cores t e after still calm.frame (CountAt f d)
             (load_keeps setup cores t e after still calm.frame looks.kept (CountAt f d)))

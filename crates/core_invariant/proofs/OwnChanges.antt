@@ -21,11 +21,12 @@ use Rattle.call_steps.specs.View.{Core}
 use Rattle.core_invariant.specs.Holding.{MarkIs, settled}
 use Rattle.core_invariant.specs.Words.{WordIs}
 use Rattle.core_invariant.specs.Knows.{phase_at, Knows, WorksIn, CoreIs, is_flushing, flushing_in}
-use Rattle.core_invariant.specs.Stands.{held_by, times_of, counted_in, SumIs, Stands}
+use Rattle.core_invariant.specs.Stands.{held_by, times_of, counted_in, SumIs, Stands, holds, IsLent}
 use Rattle.core_invariant.proofs.Calm.{BeginsNone, none_time, none_flushed, plain_exit}
 use Rattle.core_invariant.proofs.Carries.{counts_on}
 use Rattle.core_invariant.proofs.Flushing.{open_flushed}
 use Rattle.core_invariant.proofs.Good.{IsGood, SparesBlanks}
+use Rattle.core_invariant.proofs.Lent.{SparesLent}
 use Rattle.core_invariant.proofs.Loads.{Lands, IsOfCall, next_at, core_is, call_is, in_call, inner, inner_within, inner_disciplined, inner_near}
 
 -- A core is where it was, on its machine.
@@ -58,12 +59,14 @@ module _ (setup : Setting) (setting : IsSetting setup) (cores : ℕ → Core) (t
       → ((w : Word) (d : ℕ) → MarkIs setup (held_by (put cores c changed_core)) (changing ∷ t) w d)
       → ((w : Word) → WordIs (state_after setup (changing ∷ t)) (times_of setup (changing ∷ t)) w
       (settled setup (held_by (put cores c changed_core)) (changing ∷ t) w))
+      → ((f i v : ℕ) → (holds changed_core).bare f i ≡ Some v → IsLent setup (changing ∷ t) c f i)
+      → SparesLent cores changing
       → ((f : ℕ) → SumIs setup (held_by (put cores c changed_core)) (changing ∷ t) f)
       → MayDecide setup t changing (Some r) (phase t c)
       → (IsAlone t changing → r ≡ alone (state_after setup t) c a.call)
       → Knows setup (changing ∷ t) c own.table (next_at a a.found stage)
       → IsGood setup cores t changing changed_core
-  decides_owning small of_call lands opens closes puts keeps time same_clock flushed blanks rises works marks words sums may first knows =
+  decides_owning small of_call lands opens closes puts keeps time same_clock flushed blanks rises works marks words lent spares sums may first knows =
       let now : CoreIs setup (cores c) t c = core_is setup setting cores t stands c here a active in
       let in_flight = call_is setup setting cores t stands c here a active in
       record {
@@ -85,6 +88,8 @@ module _ (setup : Setting) (setting : IsSetting setup) (cores : ℕ → Core) (t
         blanks = blanks;
         marks = marks;
         words = words;
+        lent = lent;
+        spares = spares;
         sums = sums;
         draws = (let d = stands.draws in let b = same_clock in let g = rises in omega arith);
         time = time;

@@ -29,7 +29,7 @@ use Rattle.stage_look.specs.declared.look.Look.{Look as LookOf}
 use Rattle.stage_quiet.specs.declared.close.Close.TheVariants.{AtCompare, AtDraw, AtStore}
 use Rattle.stage_quiet.specs.declared.quiet.Quiet.TheVariants.{AtCore, AtFlush}
 use Rattle.call_acts.specs.declared.work.Act.{Act as ActOf}
-use Rattle.call_acts.specs.declared.work.Act.TheVariants.{Fill as fill_act, Remove as remove_act, Retype as type_act, Make as make_act, Outside, Tick as tick_act, Flush as flush_act, Kill as kill_act, Untype as untype_act, Map as map_act, MakeComp as comp_act}
+use Rattle.call_acts.specs.declared.work.Act.TheVariants.{Fill as fill_act, Remove as remove_act, Retype as type_act, Make as make_act, Outside, Tick as tick_act, Flush as flush_act, Kill as kill_act, Untype as untype_act, Map as map_act, MakeComp as comp_act, Invoke as invoke_act, Return as return_act}
 use Rattle.call_acts.specs.declared.work.Work.{Work}
 use Rattle.call_acts.specs.declared.work.Work.TheVariants.{Lookup, Read, Scan, Acquire, Act}
 use Rattle.call_steps.specs.View.{Core}
@@ -92,6 +92,8 @@ ticks_in (flush_act by) = false
 ticks_in (kill_act m) = false
 ticks_in (untype_act m) = false
 ticks_in (comp_act m) = false
+ticks_in (invoke_act m) = false
+ticks_in (return_act m) = false
 
 abbrev pub ticks_work : Work → Bool
 ticks_work (Lookup look) = false
@@ -129,6 +131,8 @@ module _ (setup : Setting) (t : Trace) (c table n : ℕ) where
   act_ticks plan ks upto (kill_act m) has is = has.kills
   act_ticks plan ks upto (untype_act m) has is = has
   act_ticks plan ks upto (comp_act m) has is = has.makes
+  act_ticks plan ks upto (invoke_act m) has is = has
+  act_ticks plan ks upto (return_act m) has is = has
 
   look_ticks : (ks : List Capability) (look : LookOf) → NamesAre setup t c table (plan_for (Tick n)) ks
       → LooksFor setup t c table (next_of (plan_for (Tick n)) ks) look → ⊥

@@ -15,9 +15,10 @@ use Rattle.kernel_history.proofs.Names.{cases_word}
 use Rattle.call_steps.specs.View.{Core}
 use Rattle.kernel_history.specs.Marking.{marked_by}
 use Rattle.kernel_history.specs.Discipline.{MarksOwn}
-use Rattle.core_invariant.specs.Holding.{Holding, settled_by, settled, MarkIs}
+use Rattle.core_invariant.specs.Holding.{Holding, bare_value, settled_by, settled, MarkIs}
 use Rattle.core_invariant.specs.Words.{Times, IsFrameWord, NumberIs, count_room, WordIs}
 use Rattle.core_invariant.proofs.Ranges.{within_more}
+use Rattle.core_invariant.proofs.Bare.{same_value, core_bare, AsBefore}
 use Rattle.core_invariant.specs.Stands.{holds, held_by, times_of}
 
 -- What is said of a word is as before, kind by kind.
@@ -128,7 +129,7 @@ module _ (setup : Setting) (cores : ℕ → Core) (t : Trace) (e : Step) (after 
       (mark_of (state_after setup t) w) same
 
   settled_held : (o : Option ℕ) (w : Word) (x : ℕ) → settled_by o held w x ≡ settled_by o (held_by cores) w x
-  settled_held None w x = refl
+  settled_held None w x = same_value (held_by cores) held w x (λ f i at d. ap (λ h. h.bare f i) (held_on d))
   settled_held (Some d) w x = ap (λ h. h.stands w) (held_on d)
 
   pub settled_on : (w : Word) → last_left setup (e ∷ t) w ≡ last_left setup t w
@@ -180,14 +181,18 @@ module _ (setup : Setting) (cores : ℕ → Core) (t : Trace) (e : Step) (after 
       | inr there ↦ mark_by w d (marked_on w (last_left-there setup w e t there)) (marks w d)
     ]
 
-    pub write_words : ((w : Word) → w ≢ word_of e.move
+    pub write_words : ((x : ℕ) → bare_value (held_by cores) (word_of e.move) x ≡ x)
+        → ((w : Word) → w ≢ word_of e.move
         → SameFor (state_after setup t) (state_after setup (e ∷ t)) (times_of setup t) (times_of setup (e ∷ t)) w)
         → WordIs (state_after setup (e ∷ t)) (times_of setup (e ∷ t)) (word_of e.move) (left_of e.move e.found)
         → ((w : Word) → WordIs (state_after setup t) (times_of setup t) w (settled setup (held_by cores) t w))
         → (w : Word) → WordIs (state_after setup (e ∷ t)) (times_of setup (e ∷ t)) w (settled setup held (e ∷ t) w)
-    write_words same new words w = elim (cases_word w (word_of e.move)) [
+    write_words free same new words w = elim (cases_word w (word_of e.move)) [
       | inl here ↦ subst (WordIs (state_after setup (e ∷ t)) (times_of setup (e ∷ t)) w)
-          (sym (ap (λ o. settled_by o held w (last_left setup (e ∷ t) w)) (here_mark w here) ∙ last_left-here setup w e t here))
+          (sym (ap (λ o. settled_by o held w (last_left setup (e ∷ t) w)) (here_mark w here)
+          ∙ settled_held None w (last_left setup (e ∷ t) w)
+          ∙ ap (λ v. bare_value (held_by cores) v (last_left setup (e ∷ t) w)) here ∙ free (last_left setup (e ∷ t) w)
+          ∙ last_left-here setup w e t here))
           (subst (λ v. WordIs (state_after setup (e ∷ t)) (times_of setup (e ∷ t)) v (left_of e.move e.found)) (sym here) new)
       | inr there ↦ subst (WordIs (state_after setup (e ∷ t)) (times_of setup (e ∷ t)) w)
           (sym (settled_on w (last_left-there setup w e t there)))
@@ -200,6 +205,7 @@ module _ (setup : Setting) (cores : ℕ → Core) (t : Trace) (e : Step) (after 
     (frames : (f : ℕ) → (state_after setup (e ∷ t)).frame f ≡ (state_after setup t).frame f)
     (elsewhere : (w : Word) → w ≢ word_of e.move → ((holds after).marks w ≡ (holds (cores e.core)).marks w) ×
     ((holds after).stands w ≡ (holds (cores e.core)).stands w))
+    (bares : AsBefore (holds (cores e.core)) (holds after) (word_of e.move))
     (now : mark_of (state_after setup t) (word_of e.move) (left_of e.move e.found) ≡
     (if (holds after).marks (word_of e.move) then Some e.core else None))
     (unowned : (d : ℕ) → d ≢ e.core → marked_by setup t (word_of e.move) ≡ Some d → ⊥)
@@ -234,7 +240,8 @@ module _ (setup : Setting) (cores : ℕ → Core) (t : Trace) (e : Step) (after 
   ]
 
   there_stands : (o : Option ℕ) (w : Word) (x : ℕ) → w ≢ word_of e.move → settled_by o holding w x ≡ settled_by o (held_by cores) w x
-  there_stands None w x there = refl
+  there_stands None w x there =
+      same_value (held_by cores) holding w x (λ f i at d. core_bare cores e.core after f i (bares.there f i (λ h. there (at ∙ h))) d)
   there_stands (Some d) w x there = elim (cases_eq d e.core) [
     | inl own ↦ ap (λ h. h.stands w) (holding_own d own) ∙ (elsewhere w there).1 ∙ ap (λ (c : ℕ). (held_by cores c).stands w) (sym own)
     | inr other ↦ ap (λ h. h.stands w) (holding_other d other)
@@ -331,14 +338,15 @@ module _ (setup : Setting) (cores : ℕ → Core) (t : Trace) (e : Step) (after 
 
   -- a word that the core does not hold stands for what it did, and one that it holds for what the core will store
   pub others_settled : (w : Word) → w ≢ word_of e.move → marked_by setup t w ≢ Some e.core
+      → bare_value carried w (last_left setup t w) ≡ bare_value (held_by cores) w (last_left setup t w)
       → settled setup carried (e ∷ t) w ≡ settled setup (held_by cores) t w
-  others_settled w there free =
+  others_settled w there free bares =
       ap (λ o. settled_by o carried w (last_left setup (e ∷ t) w)) (away_mark w there)
       ∙ ap (settled_by (marked_by setup t w) carried w) (last_left-there setup w e t there) ∙ by (marked_by setup t w) refl
     where
       by : (o : Option ℕ) → marked_by setup t w ≡ o
           → settled_by o carried w (last_left setup t w) ≡ settled_by o (held_by cores) w (last_left setup t w)
-      by None is = refl
+      by None is = bares
       by (Some d) is = elim (cases_eq d e.core) [
         | inl own ↦ absurd (free (is ∙ ap (λ (c : ℕ). Some c) own))
         | inr other ↦ ap (λ k. (holds k).stands w) (put_other cores e.core after d other)
@@ -350,22 +358,30 @@ module _ (setup : Setting) (cores : ℕ → Core) (t : Trace) (e : Step) (after 
       ap (λ o. settled_by o carried w (last_left setup (e ∷ t) w)) (away_mark w there ∙ own) ∙ ap (λ k. (holds k).stands w)
       (put_same cores e.core after e.core refl)
 
-  pub carry_words : ((w : Word) → w ≢ word_of e.move → marked_by setup t w ≢ Some e.core → StaysSaid setup cores t e w)
+  pub carry_words : ((f i : ℕ) → (holds after).bare f i ≡ (holds (cores e.core)).bare f i)
+      → ((x : ℕ) → bare_value (held_by cores) (word_of e.move) x ≡ x)
+      → ((w : Word) → w ≢ word_of e.move → marked_by setup t w ≢ Some e.core → StaysSaid setup cores t e w)
       → WordIs (state_after setup (e ∷ t)) (times_of setup (e ∷ t)) (word_of e.move) (left_of e.move e.found)
       → ((w : Word) → marked_by setup t w ≡ Some e.core
       → WordIs (state_after setup (e ∷ t)) (times_of setup (e ∷ t)) w ((holds after).stands w))
       → ((w : Word) → WordIs (state_after setup t) (times_of setup t) w (settled setup (held_by cores) t w))
       → (w : Word) → WordIs (state_after setup (e ∷ t)) (times_of setup (e ∷ t)) w (settled setup carried (e ∷ t) w)
-  carry_words same new own words w = elim (cases_word w (word_of e.move)) [
+  carry_words bares unlent same new own words w = elim (cases_word w (word_of e.move)) [
     | inl here ↦ subst (WordIs (state_after setup (e ∷ t)) (times_of setup (e ∷ t)) w)
-        (sym (ap (λ o. settled_by o carried w (last_left setup (e ∷ t) w)) (bare_here w here) ∙ last_left-here setup w e t here))
+        (sym (ap (λ o. settled_by o carried w (last_left setup (e ∷ t) w)) (bare_here w here) ∙ kept_value w (last_left setup (e ∷ t) w)
+        ∙ ap (λ v. bare_value (held_by cores) v (last_left setup (e ∷ t) w)) here ∙ unlent (last_left setup (e ∷ t) w)
+        ∙ last_left-here setup w e t here))
         (subst (λ v. WordIs (state_after setup (e ∷ t)) (times_of setup (e ∷ t)) v (left_of e.move e.found)) (sym here) new)
     | inr there ↦ by there (marked_by setup t w) refl
   ]
     where
+      kept_value : (v : Word) (x : ℕ) → bare_value carried v x ≡ bare_value (held_by cores) v x
+      kept_value v x = same_value (held_by cores) carried v x (λ f i at d. core_bare cores e.core after f i (bares f i) d)
+
       stays : w ≢ word_of e.move → marked_by setup t w ≢ Some e.core
           → WordIs (state_after setup (e ∷ t)) (times_of setup (e ∷ t)) w (settled setup carried (e ∷ t) w)
-      stays there free = subst (WordIs (state_after setup (e ∷ t)) (times_of setup (e ∷ t)) w) (sym (others_settled w there free))
+      stays there free = subst (WordIs (state_after setup (e ∷ t)) (times_of setup (e ∷ t)) w) (sym (others_settled w there free
+          (kept_value w (last_left setup t w))))
           (same w there free (words w))
 
       by : w ≢ word_of e.move → (o : Option ℕ) → marked_by setup t w ≡ o

@@ -39,6 +39,8 @@ use Rattle.core_invariant.specs.Knows.{phase_at, KnowsAt, Knows, IsCount, CallIs
 use Rattle.core_invariant.specs.Stands.{is_done, holds_at, holds_in, holds, held_by, times_of, counted_in, SumIs, Stands}
 use Rattle.core_invariant.proofs.WordFrames.{marks_own, settled_on, write_marks, write_words, ReadsAlike, reads_alike, StaysSaid, word_stays, carry_marks, carry_words}
 use Rattle.core_invariant.proofs.Sums.{sums_stay}
+use Rattle.core_invariant.proofs.Bare.{IsNotKept, free_value, counts_bare}
+use Rattle.core_invariant.proofs.Lent.{keeps_there, lent_on, lent_calm, lent_free, lent_elsewhere}
 use Rattle.core_invariant.specs.Holding.{nothing, count_of, holds_counts, settled}
 use Rattle.stage_pins.specs.declared.held.Acquired.{Acquired}
 use Rattle.call_steps.specs.Fits.{CountsAt}
@@ -92,7 +94,10 @@ core_small inside stamp small = spelling.small (record { inside = inside; stamp 
 none_some : (d : ℕ) → None ≡ Some d → ⊥
 none_some d h = cc
 
--- A count is no core's word.
+-- An entry is no core's word, and nor is a count.
+no_entry_word : (f i c : ℕ) → CoreAt c ≡ EntryAt f i → ⊥
+no_entry_word f i c h = cc
+
 count_apart : (f d c : ℕ) → CountAt f d ≢ CoreAt c
 count_apart f d c h = cc
 
@@ -114,6 +119,8 @@ module _ (setup : Setting) (setting : IsSetting setup) (cores : ℕ → Core) (t
         → Lands setup (core_at (cores c) made (next_at a found stage)) (word_of move)
         → phase_at a.call a.stage ≡ Open a.call → phase_at a.call stage ≡ Decided a.call r
         → ((w : Word) → (holds_at stage a.counts).marks w ≡ (holds_in (Some a)).marks w)
+        → ((f i : ℕ) → (holds_at stage a.counts).bare f i ≡ (holds_in (Some a)).bare f i)
+        → IsNotKept (held_by cores) (word_of move)
         → (let e : Step = inner setup setting cores t stands c here a active move (Some r) None in
         ReadsAlike setup t e → BeginsNone setup t e → SparesBlanks setup t e
         → counted_in setup (state_after setup t) ≤ counted_in setup (state_after setup (e ∷ t))
@@ -127,12 +134,15 @@ module _ (setup : Setting) (setting : IsSetting setup) (cores : ℕ → Core) (t
         → (IsAlone t e → r ≡ alone (state_after setup t) c a.call)
         → Knows setup (e ∷ t) c (cores c).own.table (next_at a found stage)
         → IsGood setup cores t e (core_at (cores c) made (next_at a found stage)))
-    decides_writing move made r found stage was now small of_call lands opens closes same_held alike plain blanks rises works same new
+    decides_writing move made r found stage was now small of_call lands opens closes same_held same_bare unlent alike plain blanks rises
+        works same new
         commits sums may first knows =
         let e : Step = inner setup setting cores t stands c here a active move (Some r) None in
         let after : Core = core_at (cores c) made (next_at a found stage) in
         let still : (w : Word) → (holds after).marks w ≡ (holds (cores c)).marks w =
         λ w. same_held w ∙ ap (λ o. (holds_in o).marks w) (sym active) in
+        let bares : (f i : ℕ) → (holds after).bare f i ≡ (holds (cores c)).bare f i =
+        λ f i. same_bare f i ∙ ap (λ o. (holds_in o).bare f i) (sym active) in
         let marks = carry_marks setup cores t e after still alike was now stands.marks in
         record {
           follows = record {
@@ -155,7 +165,11 @@ module _ (setup : Setting) (setting : IsSetting setup) (cores : ℕ → Core) (t
           near = inner_near setup setting cores t stands c here a active move (Some r) None of_call;
           blanks = blanks;
           marks = marks;
-          words = carry_words setup cores t e after still alike was now same new commits stands.words;
+          words = carry_words setup cores t e after still alike was now bares
+              (λ x. free_value (held_by cores) (word_of move) x unlent) same new commits stands.words;
+          lent = lent_on setup cores t stands e after (keeps_there setup cores t e after bares unlent) alike (cores c).own made
+              (core_is setup setting cores t stands c here a active).works works;
+          spares = lent_free cores e unlent;
           sums = sums;
           draws = (let d = stands.draws in let b = plain.same in let g = rises in omega arith);
           time = none_time setup t e plain;
@@ -173,6 +187,7 @@ module _ (setup : Setting) (setting : IsSetting setup) (cores : ℕ → Core) (t
         → Lands setup (core_at (cores c) made (next_at a found stage)) (word_of move)
         → phase_at a.call a.stage ≡ Open a.call → phase_at a.call stage ≡ Decided a.call r
         → holds_at stage a.counts ≡ holds_counts (is_done stage) a.counts
+        → IsNotKept (held_by cores) (word_of move)
         → (let e : Step = inner setup setting cores t stands c here a active move (Some r) None in
         ReadsAlike setup t e → BeginsNone setup t e → SparesBlanks setup t e
         → counted_in setup (state_after setup t) ≤ counted_in setup (state_after setup (e ∷ t))
@@ -187,11 +202,14 @@ module _ (setup : Setting) (setting : IsSetting setup) (cores : ℕ → Core) (t
         → (IsAlone t e → r ≡ alone (state_after setup t) c a.call)
         → Knows setup (e ∷ t) c (cores c).own.table (next_at a found stage)
         → IsGood setup cores t e (core_at (cores c) made (next_at a found stage)))
-    writes_on move made r found stage was now small of_call lands opens closes bare_stage alike plain blanks rises works same new held
+    writes_on move made r found stage was now small of_call lands opens closes bare_stage unlent alike plain blanks rises works same new
+        held
         commits sums may first knows =
         let e : Step = inner setup setting cores t stands c here a active move (Some r) None in
         decides_writing move made r found stage was now small of_call lands opens closes
         (λ w. ap (λ h. h.marks w) bare_stage ∙ same_marks (is_done stage) None a.counts w ∙ sym (ap (λ h. h.marks w) held))
+        (λ f i. ap (λ h. h.bare f i) bare_stage ∙ counts_bare (is_done stage) a.counts f i
+        ∙ sym (ap (λ h. h.bare f i) held ∙ counts_bare None a.counts f i)) unlent
         alike plain blanks rises works same new
         (λ w own. subst (λ h. WordIs (state_after setup (e ∷ t)) (times_of setup (e ∷ t)) w (h.stands w)) (sym bare_stage) (commits w own))
         sums may first knows
@@ -205,6 +223,7 @@ module _ (setup : Setting) (setting : IsSetting setup) (cores : ℕ → Core) (t
         → Lands setup (core_at (cores c) made (next_at a found stage)) (word_of move)
         → phase_at a.call a.stage ≡ Open a.call → phase_at a.call stage ≡ Decided a.call r
         → holds_at stage a.counts ≡ holds_counts (is_done stage) a.counts
+        → IsNotKept (held_by cores) (EntryAt node index)
         → (let e : Step = inner setup setting cores t stands c here a active move (Some r) None in
         IsCalm (state_after setup t) (state_after setup (e ∷ t)) c → IsPlain setup t e → SparesBlanks setup t e
         → made ≡ ((state_after setup (e ∷ t)).core c).counted
@@ -219,13 +238,15 @@ module _ (setup : Setting) (setting : IsSetting setup) (cores : ℕ → Core) (t
         → (IsAlone t e → r ≡ alone (state_after setup t) c a.call)
         → Knows setup (e ∷ t) c (cores c).own.table (next_at a found stage)
         → IsGood setup cores t e (core_at (cores c) made (next_at a found stage)))
-    writes_entry move node index made r found stage at was now small of_call lands opens closes bare_stage calm plain blanks counts places
+    writes_entry move node index made r found stage at was now small of_call lands opens closes bare_stage unlent calm plain blanks
+        counts places
         new
         held commits sums may first knows =
         let e : Step = inner setup setting cores t stands c here a active move (Some r) None in
         writes_on move made r found stage (ap (marked_by setup t) at ∙ was)
         (ap (λ w. mark_of (state_after setup t) w (left_of move (last_left setup t w))) at ∙ now)
         (subst (λ w. left_of move (last_left setup t w) < 2 ^ 64) (sym at) small) of_call lands opens closes bare_stage
+        (subst (IsNotKept (held_by cores)) (sym at) unlent)
         (reads_alike setup t e calm.frame) (plain_begins setup t e plain) blanks (counted_rises setup (state_after setup t)
         (state_after setup (e ∷ t)) c calm)
         (inner_works setup setting cores t stands c here a active move (Some r) None made calm counts)
@@ -244,13 +265,14 @@ module _ (setup : Setting) (setting : IsSetting setup) (cores : ℕ → Core) (t
         → ((f b : ℕ) → CountAt f b ≢ word_of move)
         → Lands setup (core_at (cores c) (cores c).own.made (next_at a found stage)) (word_of move)
         → holds_at stage a.counts ≡ holds_in (Some a)
+        → IsNotKept (held_by cores) (word_of move)
         → phase_at a.call a.stage ≡ phase_at a.call stage
         → (let e : Step = inner setup setting cores t stands c here a active move None None in
         WordIs (state_after setup t) (times_of setup t) (word_of move) (left_of move (last_left setup t (word_of move)))
         → SparesBlanks setup t e
         → (Carries setup t e c → Knows setup (e ∷ t) c (cores c).own.table (next_at a found stage))
         → IsGood setup cores t e (core_at (cores c) (cores c).own.made (next_at a found stage)))
-    stores_on move found stage was now small of_call flushes not_clock no_count lands same at new blanks knows =
+    stores_on move found stage was now small of_call flushes not_clock no_count lands same unlent at new blanks knows =
         let e : Step = inner setup setting cores t stands c here a active move None None in
         let after : Core = core_at (cores c) (cores c).own.made (next_at a found stage) in
         let still : holds after ≡ holds (cores c) = same ∙ ap holds_in (sym active) in
@@ -284,12 +306,16 @@ module _ (setup : Setting) (setting : IsSetting setup) (cores : ℕ → Core) (t
           blanks = blanks;
           marks = marks;
           words = write_words setup cores t e after still (λ g. refl) was now
+              (λ x. free_value (held_by cores) (word_of move) x unlent)
               (λ v there. calm_words setup t e (calm_same (state_after setup t) c) plain v (λ g i h. refl)
               (λ d h. (refl, plain_exit t e refl d)))
               (word_stays (state_after setup t) (state_after setup (e ∷ t)) (times_of setup t) (times_of setup (e ∷ t)) (word_of move)
               (left_of move (last_left setup t (word_of move)))
               (calm_words setup t e (calm_same (state_after setup t) c) plain (word_of move) (λ g i h. refl)
               (λ d h. (refl, plain_exit t e refl d))) new) stands.words;
+          lent = lent_calm setup cores t stands e after (keeps_there setup cores t e after (λ f i. ap (λ h. h.bare f i) still) unlent)
+              (calm_same (state_after setup t) c);
+          spares = lent_free cores e unlent;
           sums = sums_stay setup t e (held_by cores) (held_by (put cores c after))
               (λ f d. settled_on setup cores t e after still (λ g. refl) (CountAt f d)
               (last_left-there setup (CountAt f d) e t (no_count f d)))
@@ -347,7 +373,7 @@ module _ (setup : Setting) (setting : IsSetting setup) (cores : ℕ → Core) (t
           near = inner_near setup setting cores t stands c here a active (StoreOf (CoreAt c) (core_word false x)) None (Some r) own_word;
           blanks = spares_other setup t e (λ f i h. cc);
           marks = marks;
-          words = write_words setup cores t e after still calm.frame refl refl
+          words = write_words setup cores t e after still calm.frame refl refl (λ y. refl)
               (λ v there. calm_words setup t e calm plain v (λ g i h. refl)
               (λ d h. elim (cases_eq d c) [
                 | inl own ↦ absurd (there (h ∙ ap CoreAt own))
@@ -356,6 +382,9 @@ module _ (setup : Setting) (setting : IsSetting setup) (cores : ℕ → Core) (t
               (core_reads false x (omega arith) ∙ ap (λ b. Some (record { inside = b; stamp = x })) (sym inside)
               ∙ ap (λ (y : ℕ). Some (record { inside = ((state_after setup (e ∷ t)).core c).inside; stamp = y })) (sym out))
               stands.words;
+          lent = lent_calm setup cores t stands e after
+              (keeps_there setup cores t e after (λ f i. ap (λ h. h.bare f i) still) (λ f i h. absurd (no_entry_word f i c h))) calm;
+          spares = lent_elsewhere cores e (λ f i h. cc);
           sums = sums_stay setup t e (held_by cores) (held_by (put cores c after))
               (λ f d. settled_on setup cores t e after still calm.frame (CountAt f d)
               (last_left-there setup (CountAt f d) e t (count_apart f d c)))
@@ -448,7 +477,7 @@ module _ (setup : Setting) (setting : IsSetting setup) (cores : ℕ → Core) (t
         near = record { call = call; is_of = refl; near = inl tt };
         blanks = spares_other setup t e (λ f i h. cc);
         marks = marks;
-        words = write_words setup cores t e after still calm.frame refl refl
+        words = write_words setup cores t e after still calm.frame refl refl (λ y. refl)
             (λ v there. calm_words setup t e calm plain v (λ g i h. places g i)
             (λ b h. elim (cases_eq b c) [
               | inl own ↦ absurd (there (h ∙ ap CoreAt own))
@@ -458,6 +487,9 @@ module _ (setup : Setting) (setting : IsSetting setup) (cores : ℕ → Core) (t
             (sym inside)
             ∙ ap (λ (y : ℕ). Some (record { inside = ((state_after setup (e ∷ t)).core c).inside; stamp = y })) (sym last))
             stands.words;
+        lent = lent_calm setup cores t stands e after
+            (keeps_there setup cores t e after (λ f i. ap (λ h. h.bare f i) still) (λ f i h. absurd (no_entry_word f i c h))) calm;
+        spares = lent_elsewhere cores e (λ f i h. cc);
         sums = sums_stay setup t e (held_by cores) (held_by (put cores c after))
             (λ f d. settled_on setup cores t e after still calm.frame (CountAt f d)
             (last_left-there setup (CountAt f d) e t (count_apart f d c)))

@@ -50,7 +50,11 @@ use Rattle.kernel_history.specs.BootWords.{shape_of}
 use Rattle.kernel_history.specs.Trace.{Trace, Phase, Out, Open, phase, state_after, own_left, own_read, steps_in_call, WasAt, last_left}
 use Rattle.kernel_history.specs.Trace as history
 use Rattle.kernel_history.specs.Ways.{root_passed}
-use Rattle.kernel_history.specs.Discipline.{counts_references, changes_places, changes_frames, changes_numbers, stores_flush}
+use Rattle.kernel_history.specs.Discipline.{counts_references, changes_places, changes_frames, changes_numbers, stores_flush, changes_threads}
+use Rattle.stage_thread.specs.declared.stack.Push.{Push as PushOf}
+use Rattle.stage_thread.specs.declared.stack.Push.TheVariants as push
+use Rattle.stage_thread.specs.declared.stack.Pop.{Pop as PopOf}
+use Rattle.stage_thread.specs.declared.stack.Pop.TheVariants as pop
 use Rattle.kernel_history.specs.Footprint.{IsNearIn, is_one_of, frame_argument}
 use Rattle.kernel_history.specs.Justified.{HasReached, IsRemoved}
 use Rattle.kernel_history.specs.Stamps.{clock, stamp, exit_of, flush_of, flush_stored}
@@ -66,6 +70,7 @@ use Rattle.call_acts.specs.declared.kills.Killing.{Killing}
 use Rattle.call_acts.specs.declared.kills.KillingAt.{KillingAt}
 use Rattle.call_acts.specs.declared.kills.KillingAt.TheVariants.{LoadComp, LoadLive, Close as kill_close, Draw as kill_draw}
 use Rattle.call_acts.specs.Kills.{is_killing}
+use Rattle.call_acts.specs.Invocations.{is_entering, is_leaving}
 use Rattle.call_acts.specs.declared.own.Own.{Own}
 use Rattle.call_acts.specs.declared.fills.Fill.{Fill}
 use Rattle.call_acts.specs.declared.typings.Typing.{Typing}
@@ -74,12 +79,12 @@ use Rattle.call_acts.specs.declared.typings.TypingAt.TheVariants.{Load, Compare 
 use Rattle.call_acts.specs.Typings.{is_typing}
 use Rattle.kernel_rules.specs.CapabilityCalls.{has_frame}
 use Rattle.call_acts.specs.declared.work.Act.{Act as ActOf}
-use Rattle.call_acts.specs.declared.work.Act.TheVariants.{Fill as fill_act, Remove as remove_act, Retype as type_act, Make as make_act, Outside, Tick as tick_act, Flush as flush_act, Kill as kill_act, Untype as untype_act, Map as map_act, MakeComp as comp_act}
+use Rattle.call_acts.specs.declared.work.Act.TheVariants.{Fill as fill_act, Remove as remove_act, Retype as type_act, Make as make_act, Outside, Tick as tick_act, Flush as flush_act, Kill as kill_act, Untype as untype_act, Map as map_act, MakeComp as comp_act, Invoke as invoke_act, Return as return_act}
 use Rattle.call_acts.specs.declared.work.Work.{Work}
 use Rattle.call_acts.specs.declared.work.Due.{Due}
 use Rattle.call_acts.specs.declared.work.Work.TheVariants.{Lookup, Read, Scan, Acquire, Act}
 use Rattle.call_acts.specs.declared.work.Tail.{Tail}
-use Rattle.call_acts.specs.declared.work.Tail.TheVariants.{Nothing, Quiesce, Unmark, StoreDead, StoreFlush, Release, StoreLive}
+use Rattle.call_acts.specs.declared.work.Tail.TheVariants.{Nothing, Quiesce, Unmark, StoreDead, StoreFlush, Release, StoreLive, Push, Pop}
 use Rattle.call_steps.specs.declared.stages.Stage.{Stage}
 use Rattle.call_steps.specs.declared.stages.Stage.TheVariants.{Enter, Undecided, Decided, Leave}
 use Rattle.call_steps.specs.declared.stages.ActiveCall.{ActiveCall}
@@ -528,6 +533,8 @@ KnowsAct setup t c call plan found upto (flush_act by) = KnowsFlushing c call by
 KnowsAct setup t c call plan found upto (kill_act m) = KnowsKilling setup t c call found m
 KnowsAct setup t c call plan found upto (untype_act m) = ⊥
 KnowsAct setup t c call plan found upto (comp_act m) = KnowsComp setup t c call plan found upto m
+KnowsAct setup t c call plan found upto (invoke_act m) = ⊥
+KnowsAct setup t c call plan found upto (return_act m) = ⊥
 
 -- An act is before its first step.
 abbrev pub is_first_of : Close → Bool
@@ -547,6 +554,8 @@ is_start (flush_act by) = true
 is_start (kill_act m) = not (is_killing m.at)
 is_start (untype_act m) = false
 is_start (comp_act m) = not (comp_is_marked m.at)
+is_start (invoke_act m) = not (is_entering m.at)
+is_start (return_act m) = not (is_leaving m.at)
 
 -- Its counts may be acquired here: no entry and no liveness number is closed yet.
 abbrev pub is_counting : ActOf → Bool
@@ -701,6 +710,21 @@ pub record KnowsLive (setup : Setting) (t : Trace) (c : ℕ) (call : Call) (l li
   pub small : live < 2 ^ 64
   pub unmark : KnowsUnmark call f word
 
+-- The stack of which words are still to be stored is that of the core's own thread, and the call is one that changes threads. Which thread
+-- that is, and that no other core stores there, is told by what the core keeps.
+pub record KnowsStack (c : ℕ) (call : Call) (by : ℕ) : Type 0 where
+  pub threads : changes_threads call ≡ true
+  pub core : by ≡ c
+pub record KnowsPlace (c : ℕ) (call : Call) (by comp : ℕ) : Type 0 where
+  pub stack : KnowsStack c call by
+  pub small : comp < 512
+abbrev pub KnowsPush : ℕ → Call → PushOf → Type 0
+KnowsPush c call (push.AtStack f core depth comp) = KnowsPlace c call core comp
+KnowsPush c call (push.AtThread f core depth) = KnowsStack c call core
+-- A pop goes from the depth to the place, by the call of the core alone.
+abbrev pub KnowsPop : ℕ → Call → PopOf → Type 0
+KnowsPop c call (pop.AtThread f core depth) = KnowsStack c call core
+KnowsPop c call (pop.AtStack f depth) = changes_threads call ≡ true
 -- What a call knows that has still this to store.
 abbrev pub KnowsTail : Setting → Trace → ℕ → Call → Tail → Type 0
 KnowsTail setup t c call Nothing = Unit {0}
@@ -710,6 +734,8 @@ KnowsTail setup t c call (StoreDead life stamp) = KnowsDead setup t c call life
 KnowsTail setup t c call (StoreFlush by at) = KnowsFlush t c call by at
 KnowsTail setup t c call (Release release) = ⊥
 KnowsTail setup t c call (StoreLive l live f word) = KnowsLive setup t c call l live f word
+KnowsTail setup t c call (Push push) = KnowsPush c call push
+KnowsTail setup t c call (Pop pop) = KnowsPop c call pop
 
 -- What a call knows at its stage. One that has made no step is in no trace.
 abbrev pub KnowsAt : Setting → Trace → ℕ → ℕ → ActiveCall → Stage → Type 0
@@ -770,6 +796,8 @@ flushes_tail (Quiesce close) = false
 flushes_tail (Unmark f word) = false
 flushes_tail (StoreDead life stamp) = false
 flushes_tail (Release release) = false
+flushes_tail (Push push) = false
+flushes_tail (Pop pop) = false
 flushes_tail (StoreLive l live f word) = false
 flushes_tail (StoreFlush by at) = true
 

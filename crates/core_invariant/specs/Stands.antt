@@ -7,13 +7,20 @@ use Rattle.call_acts.specs.declared.comps.CompMaking.{CompMaking}
 use Rattle.call_acts.specs.declared.kills.KillingAt.{KillingAt}
 use Rattle.call_acts.specs.declared.kills.KillingAt.TheVariants.{LoadComp, LoadLive, Close as kill_close, Draw as kill_draw}
 use Rattle.frame_words.specs.Live.{word_of_live}
+use Rattle.tcap_words.specs.Stack.{word_of_stack}
+use Rattle.tcap_words.specs.Thread.{word_of_thread}
+use Rattle.tcap_words.specs.declared.thread_word.ThreadWord.TheVariants.{Running}
+use Rattle.stage_thread.specs.declared.stack.Push.{Push as PushOf}
+use Rattle.stage_thread.specs.declared.stack.Push.TheVariants as push
+use Rattle.stage_thread.specs.declared.stack.Pop.{Pop as PopOf}
+use Rattle.stage_thread.specs.declared.stack.Pop.TheVariants as pop
 use Rattle.frame_words.specs.declared.live_word.LiveWord.TheVariants.{Dead}
-use Rattle.std.specs.Prelude.{◌≡◌, ◌+◌, ◌<◌, ◌≤◌, ℕ, List, [], Option, Some, None}
+use Rattle.std.specs.Prelude.{◌≡◌, ◌+◌, ◌-◌, ◌<◌, ◌≤◌, ℕ, List, [], length, Option, Some, None}
 use Rattle.spk_nums.specs.Setting.{Setting}
 use Rattle.frame_words.specs.Count.{count_of_word}
 use Rattle.frame_words.specs.declared.count_word.CountWord.{CountWord}
-use Rattle.word_map.specs.Word.{Word, CountAt, FrameAt, FlushAt, LiveAt}
-use Rattle.kernel_rules.specs.State.{Thing, FrameOf, State}
+use Rattle.word_map.specs.Word.{Word, CountAt, FrameAt, FlushAt, LiveAt, EntryAt}
+use Rattle.kernel_rules.specs.State.{Thing, FrameOf, State, thread_of}
 use Rattle.kernel_rules.specs.References.{sum_below}
 use Rattle.kernel_history.specs.Trace.{Trace, Out, phase, calls_of, state_after}
 use Rattle.kernel_history.specs.Legal.{IsLegal}
@@ -31,13 +38,13 @@ use Rattle.spk_nums.specs.declared.replies.Reply.{Reply}
 use Rattle.spk_nums.specs.declared.replies.Reply.TheVariants.{Ok}
 use Rattle.stage_pins.specs.declared.held.Acquired.{Acquired}
 use Rattle.call_acts.specs.declared.work.Act.{Act}
-use Rattle.call_acts.specs.declared.work.Act.TheVariants.{Fill, Remove, Retype, Make, Outside, Tick, Flush, Kill, Untype, Map as map_act, MakeComp}
+use Rattle.call_acts.specs.declared.work.Act.TheVariants.{Fill, Remove, Retype, Make, Outside, Tick, Flush, Kill, Untype, Map as map_act, MakeComp, Invoke, Return}
 use Rattle.call_acts.specs.declared.work.Work.{Work}
 use Rattle.call_acts.specs.declared.work.Work.TheVariants.{Lookup, Read, Scan, Acquire, Act as act_work}
 use Rattle.call_acts.specs.declared.work.Tail.{Tail}
-use Rattle.call_acts.specs.declared.work.Tail.TheVariants.{Nothing, Quiesce, Unmark, StoreDead, StoreFlush, Release, StoreLive}
+use Rattle.call_acts.specs.declared.work.Tail.TheVariants.{Nothing, Quiesce, Unmark, StoreDead, StoreFlush, Release, StoreLive, Push, Pop}
 use Rattle.call_steps.specs.View.{Core}
-use Rattle.core_invariant.specs.Holding.{Holding, nothing, holds_counts, holds_closed, holds_drawn, settled, MarkIs, keeps, will_store}
+use Rattle.core_invariant.specs.Holding.{Holding, nothing, holds_counts, holds_closed, holds_drawn, settled, MarkIs, keeps, will_store, keeps_bare}
 use Rattle.core_invariant.specs.Words.{Times, WordIs, CountsAre}
 use Rattle.core_invariant.specs.Knows.{CoreIs}
 
@@ -66,6 +73,17 @@ holds_killing (LoadLive life) h = h
 holds_killing (kill_close life word) h = h
 holds_killing (kill_draw life word) h = keeps (LiveAt life.number) word h
 
+-- The words of its thread's stack that a core has still to store are kept without a mark.
+abbrev pub holds_push : PushOf → Holding → Holding
+holds_push (push.AtStack f core depth comp) h =
+    keeps_bare f (depth + 1) (word_of_stack (record { 0 = Some comp })) (keeps_bare f 0 (word_of_thread (Running core (depth + 1))) h)
+holds_push (push.AtThread f core depth) h = keeps_bare f 0 (word_of_thread (Running core (depth + 1))) h
+
+abbrev pub holds_pop : PopOf → Holding → Holding
+holds_pop (pop.AtThread f core depth) h =
+    keeps_bare f 0 (word_of_thread (Running core (depth - 1))) (keeps_bare f depth (word_of_stack (record { 0 = None })) h)
+holds_pop (pop.AtStack f depth) h = keeps_bare f depth (word_of_stack (record { 0 = None })) h
+
 -- The frame in which a call makes a component, and then the number that it takes: each stands for its word as it was found.
 abbrev pub holds_comp : CompMaking → CompAt → Holding → Holding
 holds_comp m comp_at.Load h = h
@@ -90,6 +108,8 @@ holds_act (Flush by) h = h
 holds_act (Kill m) h = holds_killing m.at h
 holds_act (Untype m) h = h
 holds_act (MakeComp m) h = holds_comp m m.at h
+holds_act (Invoke m) h = h
+holds_act (Return m) h = h
 
 abbrev pub holds_tail : Tail → Holding → Holding
 holds_tail Nothing h = h
@@ -99,6 +119,8 @@ holds_tail (StoreDead life stamp) h = keeps (LiveAt life.number) (word_of_live (
 holds_tail (StoreFlush by stamp) h = will_store (FlushAt by) stamp h
 holds_tail (Release release) h = h
 holds_tail (StoreLive l live f word) h = keeps (LiveAt l) live (keeps (FrameAt f) word h)
+holds_tail (Push push) h = holds_push push h
+holds_tail (Pop pop) h = holds_pop pop h
 
 abbrev pub holds_work : Work → Holding → Holding
 holds_work (Lookup look) h = h
@@ -151,6 +173,14 @@ pub record IsAway (core : Core) (t : Trace) (c : ℕ) : Type 0 where
 abbrev pub counted_in : Setting → State → ℕ
 counted_in setup s = sum_below (λ c. (s.core c).counted) setup.cores
 
+-- What a core keeps without a mark is a word of its current thread, which no other core steps on but to leave it as found; it carries no
+-- mark.
+pub record IsLent (setup : Setting) (t : Trace) (d f i : ℕ) : Type 0 where
+  pub core : d < setup.cores
+  pub thread : ((state_after setup t).core d).thread ≡ f
+  pub stack : 1 ≤ length (thread_of (state_after setup t) d).stack
+  pub unmarked : marked_by setup t (EntryAt f i) ≡ None
+
 -- The cores stand for the trace.
 pub record Stands (setup : Setting) (cores : ℕ → Core) (t : Trace) : Type 0 where
   -- the trace is a legal history; its calls keep within their bounds, and are decided in order where they are alone; and its
@@ -165,6 +195,8 @@ pub record Stands (setup : Setting) (cores : ℕ → Core) (t : Trace) : Type 0 
   pub marks : (w : Word) (d : ℕ) → MarkIs setup (held_by cores) t w d
   pub marked : (w : Word) (d : ℕ) → marked_by setup t w ≡ Some d → HasMarked setup t w d
   pub words : (w : Word) → WordIs (state_after setup t) (times_of setup t) w (settled setup (held_by cores) t w)
+  -- a core keeps no word without a mark but those of its own thread
+  pub lent : (d f i v : ℕ) → (held_by cores d).bare f i ≡ Some v → IsLent setup t d f i
   -- the settled counts of each frame sum to the references to it
   pub sums : (f : ℕ) → SumIs setup (held_by cores) t f
   -- a counted call draws at most one stamp; no core has left or flushed later than now; and grace periods go with stamps

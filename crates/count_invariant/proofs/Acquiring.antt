@@ -1,5 +1,7 @@
 -- A step by which a call acquires a count that its act changes is good: the count is held by another core, is lost to another core, or
 -- is acquired; and so is the step by which a decided call commits it.
+use Rattle.core_invariant.proofs.Lent.{lent_elsewhere}
+use Rattle.count_invariant.proofs.ActBares.{acquired_bares, committed_bares}
 use Rattle.entry_words.specs.declared.entry.Entry.TheVariants.{Held}
 use Rattle.entry_words.specs.EntryWord.{word_of_entry}
 use Rattle.call_acts.specs.Comps.{comp_undo, comp_meets_number}
@@ -71,7 +73,7 @@ use Rattle.look_invariant.proofs.Findings.{found_named}
 use Rattle.call_acts.specs.declared.refusals.Refusal.TheVariants as refusal
 use Rattle.call_acts.specs.declared.work.Due.{Due}
 use Rattle.call_acts.specs.declared.work.Act.{Act as ActOf}
-use Rattle.call_acts.specs.declared.work.Act.TheVariants.{Fill as fill_act, Remove as remove_act, Retype as type_act, Make as make_act, Outside, Tick as tick_act, Flush as flush_act, Kill as kill_act, Untype as untype_act, Map as map_act, MakeComp as comp_act}
+use Rattle.call_acts.specs.declared.work.Act.TheVariants.{Fill as fill_act, Remove as remove_act, Retype as type_act, Make as make_act, Outside, Tick as tick_act, Flush as flush_act, Kill as kill_act, Untype as untype_act, Map as map_act, MakeComp as comp_act, Invoke as invoke_act, Return as return_act}
 use Rattle.call_acts.specs.declared.work.Tail.TheVariants.{Nothing}
 use Rattle.call_acts.specs.declared.work.Work.TheVariants.{Acquire}
 use Rattle.call_steps.specs.declared.stages.Stage.TheVariants.{Undecided, Decided}
@@ -170,6 +172,8 @@ knows_next setup t c table a core act (d ∷ ds) own knows prefix apart n is sta
       starts = starts;
     })
 
+undo_holds (invoke_act m) h is = refl
+undo_holds (return_act m) h is = refl
 acquires_holds : (core : ℕ) (act : ActOf) (o : Option Due) (h : Holding) → holds_work (acquires core act o) h ≡ holds_act act h
 acquires_holds core act None h = refl
 acquires_holds core act (Some due) h = refl
@@ -177,6 +181,10 @@ acquires_holds core act (Some due) h = refl
 pub next_holds : (core n : ℕ) (act : ActOf) (h : Holding) → holds_work (next_work core n act) h ≡ holds_act act h
 next_holds core n act h = acquires_holds core act (slice_get (dues act) n) h
 
+act_count (invoke_act m) h f d = (refl, refl)
+act_count (return_act m) h f d = (refl, refl)
+act_over (invoke_act m) h g w same = same
+act_over (return_act m) h g w same = same
 -- An act that changes a count charges no ticks.
 counts_plain : (act : ActOf) (before : List Due) (due : Due) (rest : List Due) → dues act ≡ before ++ due ∷ rest → ticks_in act ≡ false
 counts_plain (fill_act fill) before due rest is = refl
@@ -188,6 +196,8 @@ counts_plain (Outside node entry word) before due rest is = refl
 counts_plain (tick_act charge) before due rest is = absurd (no_due before due rest is)
 counts_plain (flush_act core) before due rest is = refl
 counts_plain (kill_act m) before due rest is = refl
+counts_plain (invoke_act m) before due rest is = refl
+counts_plain (return_act m) before due rest is = refl
 counts_plain (comp_act m) before due rest is = refl
 counts_plain (untype_act m) before due rest is = refl
 
@@ -438,6 +448,7 @@ module _ (setup : Setting) (setting : IsSetting setup) (cores : ℕ → Core) (t
             ap (λ h. h.stands w) after_is ∙ rest.1 ∙ sym
                 (ap (λ h. h.stands w) before),
           ))
+          (acquired_bares (holds (cores c)) (holds after) act a.counts grown at (ap holds_in active ∙ held_is) after_is)
           (ap (λ (n : ℕ). count_mark (count_of_word n)) leaves ∙ ap count_mark (counts.spelling.reads (acquired d count stamp) held_fits)
           ∙ ap (λ (e : ℕ). Some e) own_core ∙ sym (ap (λ b. if b then Some c else None)
           (ap (λ h. h.marks at) after_is ∙ (act_count act (holds_counts None grown) frame (counter_of d)).0
@@ -472,6 +483,7 @@ module _ (setup : Setting) (setting : IsSetting setup) (cores : ℕ → Core) (t
           }) (All-nil (IsCount setup (e ∷ t) c a.call))))
           (counters.more_apart a.counts x (call_is setup setting cores t stands c here a active).apart new)
           (spares_other setup t (inner setup setting cores t stands c here a active compare None None) (λ f i h. cc))
+          (lent_elsewhere cores (inner setup setting cores t stands c here a active compare None None) (λ f i h. cc))
 
       count_won : GoodTook setup cores t c compare (landed a (Acquires x (next_work (cores c).own.core (length a.counts + 1) act)))
       count_won = subst (λ (xs : List Acquired). GoodTook setup cores t c compare (GoesOn (more xs)))
@@ -625,6 +637,8 @@ acquire_good setup setting cores t stands c here a active pin change (tick_act c
     absurd (no_due (map due_of a.counts) (record { frame = pin_frame pin; change = change }) has.knows.rest has.knows.due)
 acquire_good setup setting cores t stands c here a active pin change (flush_act core) is has =
     absurd (no_due (map due_of a.counts) (record { frame = pin_frame pin; change = change }) has.knows.rest has.knows.due)
+acquire_good setup setting cores t stands c here a active pin change (invoke_act m) is has = absurd has.knows.knows
+acquire_good setup setting cores t stands c here a active pin change (return_act m) is has = absurd has.knows.knows
 acquire_good setup setting cores t stands c here a active pin change (kill_act m) is has =
     acquire_near setup setting cores t stands c here a active pin change (kill_act m) is has
     (kill_counts a.call a.found m.comp has.knows.knows.kills)
@@ -698,10 +712,11 @@ module _ (setup : Setting) (setting : IsSetting setup) (cores : ℕ → Core) (t
       (λ w there.
       let rest = counters.rest_elsewhere (done_by r drawn) x xs w there in
       (rest.0 ∙ sym (ap (λ h. h.marks w) holds_is), rest.1 ∙ sym (ap (λ h. h.stands w) holds_is)))
+      (committed_bares (holds (cores c)) (holds after) (done_by r drawn) (x ∷ xs) xs (count_of x) holds_is refl)
       (ap count_mark stored_says.says ∙ sym (ap (λ b. if b then Some c else None) bare))
       (λ b other is. other (sym (some_inj c b (sym own_mark ∙ is))))
       (ap (λ b. settled_by (if b then Some c else None) (held_by (put cores c after)) (count_of x) stored) bare ∙ sym settles)
       (ap (phase_at a.call) stage_is) (λ carries. tt)
       (counts_on setup t e c a.call (λ own. refl) xs (All-tail (IsCount setup t c a.call) x xs known))
       apart.1
-      (spares_other setup t e (λ f i h. cc))
+      (spares_other setup t e (λ f i h. cc)) (lent_elsewhere cores e (λ f i h. cc))

@@ -195,7 +195,7 @@ module _ (setup : Setting) (setting : IsSetting setup) (cores : ℕ → Core) (t
   other_shown : (f d : ℕ) → ((holds_counts None a.counts).marks (CountAt f d) ≡ false) → shown' f d ≡ shown f d
   other_shown f d bare =
       ap count_of_word (others_settled setup cores t e after still alike was now (CountAt f d) (no_count f d)
-      (λ is. false≢true (sym bare ∙ own_word f d is)))
+      (λ is. false≢true (sym bare ∙ own_word f d is)) refl)
 
   all_known : All (IsCount setup t c a.call) a.counts
   all_known = (call_is setup setting cores t stands c here a active).counts

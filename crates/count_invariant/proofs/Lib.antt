@@ -1,4 +1,5 @@
 pub mod PutCounts
+pub mod ActBares
 pub mod Acquiring
 pub mod CountChanges
 pub mod CapChanges

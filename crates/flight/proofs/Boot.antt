@@ -1,4 +1,5 @@
 -- The start stands for no step.
+use Rattle.core_invariant.proofs.Bare.{none_value}
 use Rattle.std.proofs.Common.{◌≡◌, inl, inr, ℕ, zero, suc, ◌+◌, ◌<◌, ◌≤◌, ◌==◌, ◌*◌, ◌-◌, ◌∷◌, nat_lt, length, slice_get, Bool, true, false, [], Option, Some, None, arith, refl, sym, ◌∙◌, ap, subst, IsTrue, if◌then◌else◌, pos, ◌+ℤ◌, max}
 use Rattle.std.proofs.lemmas.Bool.{cases_lt, false≢true, lt-ltb, eqb-true}
 use Rattle.spk_nums.specs.Capability.{Capability}
@@ -300,7 +301,10 @@ boots setup setting = record {
   marked = λ w d h. absurd (none_some d (sym (boot_mark setup setting w) ∙ h));
   marks = λ w d. record { owned = λ h. absurd (none_some d (sym (boot_mark setup setting w) ∙ h)); kept = λ h. absurd (false≢true h) };
   words = λ w. subst (λ o. WordIs (start setup) (times_of setup []) w (settled_by o (held_by (boot_cores setup)) w (boot_word setup w)))
-      (sym (boot_mark setup setting w)) (boot_says setup setting w);
+      (sym (boot_mark setup setting w))
+      (subst (WordIs (start setup) (times_of setup []) w)
+      (sym (none_value (held_by (boot_cores setup)) w (boot_word setup w) (λ f i d. refl))) (boot_says setup setting w));
+  lent = λ d f i v h. absurd (none_some v h);
   sums = boot_sums setup setting;
   draws = omega arith;
   some_time = omega arith;

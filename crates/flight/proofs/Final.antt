@@ -1,4 +1,5 @@
 -- At each moment the words say what the state is; and where all cores are between calls, they represent it with the cores' ends.
+use Rattle.core_invariant.proofs.Bare.{none_value}
 use Rattle.std.proofs.Common.{◌≡◌, ◌≢◌, ◌⊎◌, inl, inr, ℕ, suc, ◌+◌, ◌<◌, true, false, List, [], ◌∷◌, slice_get, Option, Some, None, arith, refl, sym, ◌∙◌, ap, subst, IsTrue}
 use Rattle.std.proofs.lemmas.Bool.{cases_lt, false≢true, true≢false}
 use Rattle.std.proofs.lemmas.List.Elements.{All-nil, All-cons}
@@ -33,7 +34,7 @@ use Rattle.kernel_history.specs.Marking.{marked_by}
 use Rattle.core_invariant.specs.Holding.{settled_by, settled}
 use Rattle.core_invariant.specs.Words.{PlaceIs, IsFrameWord, SaysCount, count_room, NumberIs, WordIs}
 use Rattle.core_invariant.specs.Knows.{CallIs, WorksIn}
-use Rattle.core_invariant.specs.Stands.{held_by, times_of, count_shown, Stands as Invariant}
+use Rattle.core_invariant.specs.Stands.{holds_in, held_by, times_of, count_shown, Stands as Invariant}
 use Rattle.flight.specs.Theorems.{SaysWords, AreBetween, Represents, RepresentsCounts}
 use Rattle.core_invariant.proofs.CountSums.{sum_same}
 use Rattle.core_invariant.proofs.Sounds.{limits_of}
@@ -175,6 +176,13 @@ module _ (setup : Setting) (setting : IsSetting setup) (cores : ℕ → Core) (t
   -- each word stands for itself
   settled_is : (w : Word) → settled setup (held_by cores) t w ≡ last_left setup t w
   settled_is w = ap (λ o. settled_by o (held_by cores) w (last_left setup t w)) (unmarked w (marked_by setup t w) refl)
+      ∙ none_value (held_by cores) w (last_left setup t w) (λ f i d. ap (λ o. (holds_in o).bare f i) (idle d))
+    where
+      idle : (d : ℕ) → (cores d).active ≡ None
+      idle d = elim (cases_lt d setup.cores) [
+        | inl below ↦ between d below
+        | inr past ↦ (stands.away d past).idle
+      ]
 
   word_is : (w : Word) → WordIs (state_after setup t) (times_of setup t) w (last_left setup t w)
   word_is w = subst (WordIs (state_after setup t) (times_of setup t) w) (settled_is w) (stands.words w)

@@ -42,7 +42,7 @@ use Rattle.stage_quiet.specs.declared.quiet.Quiet.TheVariants.{AtCore, AtFlush}
 use Rattle.stage_quiet.specs.Removal.{close_move}
 use Rattle.call_plans.specs.After.{Next, NextName, NextFree, NextHeld, NextOwn, NextNothing, next_of}
 use Rattle.call_acts.specs.declared.own.Own.{Own}
-use Rattle.call_acts.specs.declared.work.Act.TheVariants.{Fill, Remove, Retype, Make, Outside, Tick as tick_act, Flush, Kill, Untype, Map as map_act, MakeComp}
+use Rattle.call_acts.specs.declared.work.Act.TheVariants.{Fill, Remove, Retype, Make, Outside, Tick as tick_act, Flush, Kill, Untype, Map as map_act, MakeComp, Invoke, Return}
 use Rattle.call_acts.specs.declared.typings.Typing.{Typing}
 use Rattle.call_acts.specs.declared.typings.TypingAt.{TypingAt}
 use Rattle.call_acts.specs.declared.typings.TypingAt.TheVariants.{Load, Compare as type_compare}
@@ -199,6 +199,8 @@ module _ (setup : Setting) (setting : IsSetting setup) (t : Trace) (cores : ℕ 
   by_work table a (Act (Kill m)) has on read = by_killing m.comp m.core m.at has.knows.comp on
   by_work table a (Act (Untype m)) has on read = absurd has.knows
   by_work table a (Act (MakeComp m)) has on read = by_comp a m m.at has.knows.spot on read
+  by_work table a (Act (Invoke m)) has on read = absurd has.knows
+  by_work table a (Act (Return m)) has on read = absurd has.knows
 
   by_stage : (table : ℕ) (own : Own) (a : ActiveCall) (stage : Stage) → phase_at a.call stage ≡ Open call
       → KnowsAt setup t c table a stage

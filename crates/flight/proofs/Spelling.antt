@@ -1,5 +1,5 @@
 -- The next step of a call is on a word of its machine, by the one name of the word's place.
-use Rattle.std.proofs.Common.{◌≡◌, ℕ, ◌<◌, Option, Some, None, IfSome, length, arith, refl, sym, ap}
+use Rattle.std.proofs.Common.{◌≡◌, ℕ, ◌<◌, Option, Some, None, IfSome, length, arith, refl, sym, ap, ◌≤◌}
 use Rattle.std.specs.Prelude.{IsSome, List, [], ◌∷◌}
 use Rattle.word_map.specs.Places.{Shape, IsIn, shared}
 use Rattle.word_map.specs.Moves.{word_of}
@@ -29,7 +29,7 @@ use Rattle.call_acts.specs.Untypings.{UntypingAtFits, untyping_at, release_at}
 use Rattle.word_map.specs.Word.{CountAt}
 use Rattle.call_acts.specs.declared.own.Own.{Own}
 use Rattle.call_acts.specs.declared.work.Act.{Act}
-use Rattle.call_acts.specs.declared.work.Act.TheVariants.{Fill, Remove, Retype, Make, Outside, Tick, Flush, Kill, Untype, Map as map_act, MakeComp}
+use Rattle.call_acts.specs.declared.work.Act.TheVariants.{Fill, Remove, Retype, Make, Outside, Tick, Flush, Kill, Untype, Map as map_act, MakeComp, Invoke, Return}
 use Rattle.spk_nums.specs.declared.kinds.FrameKind.{FrameKind}
 use Rattle.call_acts.specs.declared.typings.TypingAt.{TypingAt}
 use Rattle.call_acts.specs.declared.typings.TypingAt.TheVariants.{Load, Compare as type_compare}
@@ -43,7 +43,7 @@ use Rattle.call_acts.specs.Makings.{MakingAtFits, making_at}
 use Rattle.call_steps.proofs.StepsFit.{last_small}
 use Rattle.call_acts.specs.declared.work.Work.TheVariants.{Lookup, Read, Scan, Acquire, Act as act_work}
 use Rattle.call_acts.specs.declared.work.Tail.{Tail}
-use Rattle.call_acts.specs.declared.work.Tail.TheVariants.{Nothing, Quiesce, Unmark, StoreDead, StoreFlush, Release, StoreLive}
+use Rattle.call_acts.specs.declared.work.Tail.TheVariants.{Nothing, Quiesce, Unmark, StoreDead, StoreFlush, Release, StoreLive, Push, Pop}
 use Rattle.call_acts.specs.Acts.{ActFits, act_move}
 use Rattle.call_steps.specs.Tails.{tail_move, is_ok}
 use Rattle.std.proofs.lemmas.List.Elements.{All-head}
@@ -59,6 +59,17 @@ use Rattle.stage_tcap.specs.Charging.{charge_move}
 use Rattle.stage_tcap.specs.declared.charge.Charge.{Charge}
 use Rattle.stage_tcap.specs.declared.charge.Charge.TheVariants.{AtLoad as charge_load, AtCompare as charge_compare}
 use Rattle.stage_tcap.proofs.PairLemmas.{charge_is_in}
+use Rattle.stage_thread.specs.Stacking.{push_move, pop_move}
+use Rattle.stage_thread.proofs.ThreadLemmas.{push_is_in, pop_is_in}
+use Rattle.stage_thread.specs.declared.stack.Push.{Push as PushOf}
+use Rattle.stage_thread.specs.declared.stack.Push.TheVariants as push
+use Rattle.stage_thread.specs.declared.stack.Pop.{Pop as PopOf}
+use Rattle.stage_thread.specs.declared.stack.Pop.TheVariants as pop
+use Rattle.call_acts.specs.declared.invocations.InvokingAt.{InvokingAt}
+use Rattle.call_acts.specs.declared.invocations.InvokingAt.TheVariants as invoking
+use Rattle.call_acts.specs.declared.invocations.ReturningAt.{ReturningAt}
+use Rattle.call_acts.specs.declared.invocations.ReturningAt.TheVariants as returning
+use Rattle.call_acts.specs.Invocations.{InvokingAtFits, invoking_at, ReturningAtFits, returning_at}
 use Rattle.stage_quiet.specs.declared.close.Close.{Close}
 use Rattle.stage_quiet.specs.declared.close.Close.TheVariants.{AtCompare as close_compare, AtDraw, AtStore}
 use Rattle.stage_quiet.specs.declared.quiet.Quiet.{Quiet}
@@ -106,6 +117,19 @@ killing_named f core LoadComp = refl
 killing_named f core (LoadLive life) = refl
 killing_named f core (kill_close life word) = refl
 killing_named f core (kill_draw life word) = refl
+
+invoking_named : (f : ℕ) (at : InvokingAt) → shared (word_of (invoking_at f at)) ≡ word_of (invoking_at f at)
+invoking_named f invoking.LoadTable = refl
+invoking_named f (invoking.LoadPages table) = refl
+invoking_named f (invoking.LoadComp table pages) = refl
+invoking_named f (invoking.LoadLive table pages life) = refl
+
+returning_named : (thread depth : ℕ) (at : ReturningAt)
+    → shared (word_of (returning_at thread depth at)) ≡ word_of (returning_at thread depth at)
+returning_named thread depth returning.LoadBelow = refl
+returning_named thread depth (returning.LoadTable comp) = refl
+returning_named thread depth (returning.LoadPages comp table) = refl
+returning_named thread depth (returning.Draw comp table pages) = refl
 
 comp_named : (m : CompMaking) (at : CompAt) → shared (word_of (comp_at m at)) ≡ word_of (comp_at m at)
 comp_named m comp_stands.Load = refl
@@ -155,11 +179,21 @@ act_named s (Flush core) fits = refl
 act_named s (Kill m) fits = killing_named m.comp m.core m.at
 act_named s (Untype m) fits = untyping_named s m.frame m.core m.at fits.at
 act_named s (MakeComp m) fits = comp_named m m.at
+act_named s (Invoke m) fits = invoking_named m.comp m.at
+act_named s (Return m) fits = returning_named m.thread m.depth m.at
 
 -- a count's word is that of its core's counter
 pin_named : (pin : Pin) → shared (word_of (pin_move pin)) ≡ word_of (pin_move pin)
 pin_named (AtLoad frame core) = refl
 pin_named (AtCompare frame core count stamp) = refl
+
+push_named : (x : PushOf) → shared (word_of (push_move x)) ≡ word_of (push_move x)
+push_named (push.AtStack t core depth comp) = refl
+push_named (push.AtThread t core depth) = refl
+
+pop_named : (x : PopOf) → shared (word_of (pop_move x)) ≡ word_of (pop_move x)
+pop_named (pop.AtThread t core depth) = refl
+pop_named (pop.AtStack t depth) = refl
 
 tail_named : (s : Shape) (r : Reply) (drawn : Option ℕ) (tail : Tail) (counts : List Acquired) → TailFits s tail
     → shared (word_of (tail_move r drawn tail counts)) ≡ word_of (tail_move r drawn tail counts)
@@ -168,6 +202,8 @@ tail_named s r drawn (Unmark f word) counts fits = refl
 tail_named s r drawn (StoreDead life stamp) counts fits = refl
 tail_named s r drawn (StoreFlush core stamp) counts fits = refl
 tail_named s r drawn (StoreLive l live f word) counts fits = refl
+tail_named s r drawn (Push push) counts fits = push_named push
+tail_named s r drawn (Pop pop) counts fits = pop_named pop
 tail_named s r drawn Nothing [] fits = refl
 tail_named s r drawn Nothing (x ∷ xs) fits = refl
 tail_named s r drawn (Release release) [] fits = release_named s release.frame release.word release.thaw fits.thaw
@@ -238,6 +274,18 @@ comp_in shape m (comp_stands.Close word last) fits = fits.number
 comp_in shape m (comp_stands.Store word last entry) fits = (fits.frame, (let most = fits.at.1 in omega (arith, most)))
 comp_in shape m (comp_stands.Fill word last) fits = (fits.fill.node, fits.fill.entry)
 
+invoking_in : (shape : Shape) (f : ℕ) (at : InvokingAt) → f < shape.frames → InvokingAtFits shape at
+    → IsIn shape (word_of (invoking_at f at))
+invoking_in shape f invoking.LoadTable below fits = (below, omega arith)
+invoking_in shape f (invoking.LoadPages table) below fits = (below, omega arith)
+invoking_in shape f (invoking.LoadComp table pages) below fits = (below, omega arith)
+invoking_in shape f (invoking.LoadLive table pages life) below fits = fits.2.0
+returning_in : (shape : Shape) (thread depth : ℕ) (at : ReturningAt) → thread < shape.frames → depth ≤ 16 → ReturningAtFits shape at
+    → IsIn shape (word_of (returning_at thread depth at))
+returning_in shape thread depth returning.LoadBelow below most fits = (below, omega (arith, most))
+returning_in shape thread depth (returning.LoadTable comp) below most fits = (fits, omega arith)
+returning_in shape thread depth (returning.LoadPages comp table) below most fits = (fits.0, omega arith)
+returning_in shape thread depth (returning.Draw comp table pages) below most fits = tt
 act_in : (shape : Shape) (act : Act) → ActFits shape act → IsIn shape (word_of (act_move act))
 act_in shape (Fill fill) fits = (fits.node, fits.entry)
 act_in shape (Remove close cap) fits = close_is_in shape close fits.0
@@ -250,6 +298,8 @@ act_in shape (Flush core) fits = tt
 act_in shape (Kill m) fits = killing_in shape m.comp m.core m.at fits.comp fits.at
 act_in shape (Untype m) fits = untyping_in shape m.frame m.core m.at fits.frame fits.at
 act_in shape (MakeComp m) fits = comp_in shape m m.at fits
+act_in shape (Invoke m) fits = invoking_in shape m.comp m.at fits.comp fits.at
+act_in shape (Return m) fits = returning_in shape m.thread m.depth m.at fits.thread fits.most_depth fits.at
 
 tail_in : (shape : Shape) (r : Reply) (drawn : Option ℕ) (tail : Tail) (counts : List Acquired) → TailFits shape tail
     → AllFit shape counts → 0 < shape.cores
@@ -257,6 +307,8 @@ tail_in : (shape : Shape) (r : Reply) (drawn : Option ℕ) (tail : Tail) (counts
 tail_in shape r drawn (Quiesce close) counts fits fit some = close_is_in shape close fits
 tail_in shape r drawn (Unmark f word) counts fits fit some = fits
 tail_in shape r drawn (StoreDead life stamp) counts fits fit some = fits.0.0
+tail_in shape r drawn (Push push) counts fits fit some = push_is_in shape push fits
+tail_in shape r drawn (Pop pop) counts fits fit some = pop_is_in shape pop fits
 tail_in shape r drawn (StoreLive l live f word) counts fits fit some = fits.0
 tail_in shape r drawn (StoreFlush core stamp) counts fits fit some = fits
 tail_in shape r drawn Nothing [] fits fit some = tt

@@ -1,5 +1,6 @@
 -- The time of a machine is that of the sequential kernel, whose laws hold of each legal trace; and heads say it.
-use Rattle.std.proofs.Common.{◌+◌, ◌∙◌, ap, subst}
+use Rattle.core_invariant.proofs.Lent.{is_thread, unlent_value}
+use Rattle.std.proofs.Common.{ℕ, ◌+◌, ◌∙◌, ap, subst}
 use Rattle.spk_nums.specs.Setting.{Setting, IsSetting}
 use Rattle.tcap_words.specs.Head.{head_of_word}
 use Rattle.word_map.specs.Word.{EntryAt}
@@ -38,7 +39,9 @@ heads_say setup setting t made f q is unmarked = record { version = says.version
     stands = made_stands setup setting t made
 
     says : HeadIs q (head_of_word (last_left setup t (EntryAt f 0)))
-    says = subst (λ o. HeadIs q (head_of_word (settled_by o (held_by (cores_after setup t)) (EntryAt f 0) (last_left setup t (EntryAt f 0)))))
+    says = subst (λ (n : ℕ). HeadIs q (head_of_word n))
+        (unlent_value setup (cores_after setup t) t stands f (ap is_thread is) 0 (last_left setup t (EntryAt f 0)))
+        (subst (λ o. HeadIs q (head_of_word (settled_by o (held_by (cores_after setup t)) (EntryAt f 0) (last_left setup t (EntryAt f 0)))))
         unmarked
         (subst (λ x. IsFrameWord (state_after setup t).limits.frames x ((state_after setup t).place f 0) (stamp setup t (PlaceOf f 0)) 0
-        (settled setup (held_by (cores_after setup t)) t (EntryAt f 0))) is (stands.words (EntryAt f 0)))
+        (settled setup (held_by (cores_after setup t)) t (EntryAt f 0))) is (stands.words (EntryAt f 0))))

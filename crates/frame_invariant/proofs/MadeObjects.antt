@@ -1,5 +1,7 @@
 -- The decision of a call that makes an object: the compare of its target, where it is won, makes the frame that object, and puts its
 -- capability there.
+use Rattle.core_invariant.proofs.Bare.{counts_bare}
+use Rattle.core_invariant.proofs.Lent.{is_thread, unlent_value, unlent_word, node_no_thread}
 use Rattle.std.specs.Prelude.{if◌then◌else◌, pos, All}
 use Rattle.std.proofs.Common.{◌≡◌, List, Bool, true, false, Some, None, refl, ℕ, ◌<◌, ◌^◌, ◌==◌, arith, ◌≢◌, ◌+◌, sym, ◌&&◌, [], ◌∷◌, ap, ◌∙◌, subst, ◌≤◌, IsTrue, ◌⊎◌, inl, inr, max, map, ◌+ℤ◌}
 use Rattle.std.proofs.lemmas.List.Elements.{All-nil, All-cons, All-head, All-tail}
@@ -414,6 +416,7 @@ module _ (setup : Setting) (setting : IsSetting setup) (cores : ℕ → Core) (t
         settled_is : settled setup (held_by cores) t (EntryAt g i) ≡ last_left setup t (EntryAt f i)
         settled_is = ap (λ (h : ℕ). settled setup (held_by cores) t (EntryAt h i)) same
             ∙ ap (λ o. settled_by o (held_by cores) (EntryAt f i) (last_left setup t (EntryAt f i))) (no_mark i)
+            ∙ unlent_value setup cores t stands f (ap is_thread blank) i (last_left setup t (EntryAt f i))
 
     stays : (w : Word) → w ≢ EntryAt node index → marked_by setup t w ≢ Some c → StaysSaid setup cores t e w
     stays (EntryAt g i) there free = elim (cases_eq g f) [
@@ -576,7 +579,10 @@ module _ (setup : Setting) (setting : IsSetting setup) (cores : ℕ → Core) (t
     put_won lands = decides_writing setup setting cores t stands c here a active put_it count (reply.Ok Nothing) a.found stage
         unmarked.mark bare_now (subst (λ (n : ℕ). n < 2 ^ 64) (sym leaves_it) (entries.spelling.small (Held k) fits)) of_call lands opens
         refl
-        same_held alike begins_none (spares_node setup t e node index refl in_node) rises works stays
+        same_held
+        (λ g i. counts_bare (Some None) a.counts g i ∙ sym (ap (λ h. h.bare g i) held ∙ counts_bare None a.counts g i))
+        (unlent_word setup cores t stands node index (node_no_thread (s.frame node) in_node))
+        alike begins_none (spares_node setup t e node index refl in_node) rises works stays
         (subst (WordIs s' (times_of setup (e ∷ t)) (EntryAt node index)) (sym leaves_it) word_now) commits sums_are
         (record { call = a.call; is_open = is_open; permitted = permitted; justified = gone })
         (λ is_alone. ok_first s c a.call Nothing permitted)

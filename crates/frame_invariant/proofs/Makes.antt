@@ -1,5 +1,7 @@
 -- The steps by which a call makes a node, up to its decision: the load of the frame's word, the compare that marks it, the stores of its
 -- places, and a compare of the target that is lost; and the store that gives the frame's word back.
+use Rattle.core_invariant.proofs.Bare.{as_none, counts_bare}
+use Rattle.core_invariant.proofs.Lent.{is_thread, unlent_word, lent_elsewhere}
 use Rattle.std.specs.Prelude.{if◌then◌else◌, List}
 use Rattle.std.proofs.Common.{◌≡◌, ◌≤◌, Bool, true, false, cond, Option, Some, None, refl, ℕ, ◌<◌, ◌^◌, ◌==◌, arith, ◌≢◌, ◌+◌, sym, nat_lt, ◌&&◌, [], ◌∷◌, ◌++◌, length, ap, ◌∙◌, subst, IsTrue, inl, inr, not, is_some, map}
 use Rattle.std.proofs.lemmas.Bool.{lt-ltb, eqb-true, eqb-false, ltb-false, cases_eq, eq-eqb, false≢true}
@@ -394,6 +396,9 @@ module _ (setup : Setting) (setting : IsSetting setup) (cores : ℕ → Core) (t
               (same_word-other w (FrameAt f) there)
               ∙ sym (ap (λ h. h.stands w) held_before),
         ))
+        (as_none (holds (cores c)) (holds after) (FrameAt f)
+        (λ g i. ap (λ h. h.bare g i) held_before ∙ counts_bare None a.counts g i)
+        (λ g i. ap (λ h. h.bare g i) held_now ∙ counts_bare None a.counts g i))
         (ap (λ (n : ℕ). frame_mark (frame_of_word n)) leaves_it ∙ ap frame_mark (frames.spelling.reads (marked m.core) fits)
         ∙ ap (λ (n : ℕ). Some n) knows.core ∙ ap (λ b. if b then Some c else None) (sym marks_it))
         (λ b other is. none_some b (sym bare ∙ is))
@@ -413,7 +418,7 @@ module _ (setup : Setting) (setting : IsSetting setup) (cores : ℕ → Core) (t
         })
         (counts_on setup t e c a.call (λ own. refl) a.counts (call_is setup setting cores t stands c here a active).counts)
         (call_is setup setting cores t stands c here a active).apart
-        (spares_other setup t e (λ g i h. cc))
+        (spares_other setup t e (λ g i h. cc)) (lent_elsewhere cores e (λ g i h. cc))
       where
         no_counts : a.counts ≡ []
         no_counts = none_of a.counts (dues_at (Mark word) at_is)
@@ -501,7 +506,8 @@ module _ (setup : Setting) (setting : IsSetting setup) (cores : ℕ → Core) (t
         (word_small m.object n fits_in.object.pair (calls.small_names setup setting cores t stands c here a active m stage_is has))
         (record { moves = makes_in_blank a.call a.found m knows.makes (s.frame f) blank; near = inl near })
         (λ b. refl) (λ h. cc) (λ g b h. cc) lands
-        (stored_holds m.object f word n (holds_counts None a.counts) ∙ sym held_store) opens
+        (stored_holds m.object f word n (holds_counts None a.counts) ∙ sym held_store)
+        (unlent_word setup cores t stands f n (ap is_thread blank)) opens
         (subst (λ x. IsFrameWord s.limits.frames x (s.place f n) (stamp setup t (PlaceOf f n)) n new_word) (sym blank) tt)
         (λ g i at is_blank. inl (ap (λ (h : ℕ). marked_by setup t (FrameAt h)) (sym (same_frame g i at)) ∙ own_mark))
         (λ carries. record {
@@ -604,6 +610,8 @@ module _ (setup : Setting) (setting : IsSetting setup) (cores : ℕ → Core) (t
         sym (ap (λ h. h.marks w) was_held ∙ ap (λ b. if b then true else rest.marks w) (same_word-other w (FrameAt f) there)),
         sym (ap (λ h. h.stands w) was_held ∙ ap (λ b. if b then word else rest.stands w) (same_word-other w (FrameAt f) there)),
       ))
+      (as_none (holds (cores c)) (holds after) (FrameAt f)
+      (λ g i. ap (λ h. h.bare g i) was_held ∙ counts_bare (done_by r drawn) a.counts g i) (counts_bare (done_by r drawn) a.counts))
       (has.bare ∙ sym (ap (λ b. if b then Some c else None) (no_frame (done_by r drawn) a.counts f)))
       (λ b other is. other (sym (some_inj c b (sym its_mark ∙ is))))
       (ap (λ b. settled_by (if b then Some c else None) (held_by (put cores c after)) (FrameAt f) word)
@@ -612,4 +620,4 @@ module _ (setup : Setting) (setting : IsSetting setup) (cores : ℕ → Core) (t
       (λ carries. tt)
       (counts_on setup t e c a.call (λ own. refl) a.counts (call_is setup setting cores t stands c here a active).counts)
       (call_is setup setting cores t stands c here a active).apart
-      (spares_other setup t e (λ g i h. cc))
+      (spares_other setup t e (λ g i h. cc)) (lent_elsewhere cores e (λ g i h. cc))

@@ -570,15 +570,20 @@ module _ (setup : Setting) (setting : IsSetting setup) (cores : ℕ → Core) (t
                 (λ m d h. own_kept t e c refl refl _ (had.way.stepped m d h))),
           )
 
+      no_entry_word : (g i : ℕ) → FrameAt f ≡ EntryAt g i → ⊥
+      no_entry_word g i h = cc
+
       won : GoodTook setup cores t c compare (landed a (typed_if true))
       won lands = writes_on setup setting cores t stands c here a active compare made (reply.Ok Nothing) a.found
           (Decided (reply.Ok Nothing) None no_tail) unmarked bare_now
           (subst (λ (n : ℕ). n < 2 ^ 64) (sym leaves_it) (spelling.small (typed k) (typed_fits k)))
-          of_call lands opens refl refl alike (plain_begins setup t e plain) (spares_other setup t e (λ g i h. cc)) rises works stays
+          of_call lands opens refl refl (λ g i h. absurd (no_entry_word g i h))
+          alike (plain_begins setup t e plain) (spares_other setup t e (λ g i h. cc)) rises works stays
           (subst (WordIs s' (times_of setup (e ∷ t)) (FrameAt f)) (sym leaves_it) now_says)
           held_is (λ w own. absurd (free_of w own))
           (sums_keep setup t e (held_by cores) (held_by (put cores c after))
-          (λ g d. others_settled setup cores t e after still alike unmarked bare_now (CountAt g d) (no_count g d) (free_of (CountAt g d)))
+          (λ g d. others_settled setup cores t e after still alike unmarked bare_now (CountAt g d) (no_count g d) (free_of (CountAt g d))
+          refl)
           plain limits kept_refs stands.sums)
           (record { call = a.call; is_open = is_open; permitted = permitted; justified = gone })
           (λ is_alone. ok_first s c a.call Nothing permitted)

@@ -251,7 +251,7 @@ module _ (setup : Setting) (setting : IsSetting setup) (cores : ℕ → Core) (t
   alike f d = others_settled setup cores t e after same_marks (reads_alike setup t e frames) refl refl (CountAt f d) (λ h. cc)
       (free_of (CountAt f d))
 
-  flush_now : GoodTook setup cores t c load (landed a (work_changes r Empties (StoreFlush by now_at)))
+  flush_now : GoodTook setup cores t c load (landed a (work_changes r Empties None (StoreFlush by now_at)))
   flush_now lands =
       let of_call : IsOfCall setup t c a.call load = record { moves = refl; near = inl tt } in
       let marks = carry_marks setup cores t e after same_marks (reads_alike setup t e frames) refl refl stands.marks in
@@ -289,7 +289,7 @@ module _ (setup : Setting) (setting : IsSetting setup) (cores : ℕ → Core) (t
           (sym (ap (λ b. if b then reply.CallsSpent else r) (not_spent setup (cores c) t c (stands.each c here) unspent_room)))
 
   pub flush_good : GoodTook setup cores t c load (landed a (took_flush by now_at))
-  flush_good = subst (λ (x : ℕ). GoodTook setup cores t c load (landed a (work_changes r Empties (StoreFlush by x)))) (sym fits) flush_now
+  flush_good = subst (λ (x : ℕ). GoodTook setup cores t c load (landed a (work_changes r Empties None (StoreFlush by x)))) (sym fits) flush_now
     where
       fits : stamp_of_clock now_at ≡ now_at
       fits = let low = clock_small setup setting cores t stands in omega arith

@@ -1,5 +1,6 @@
 -- A removal draws its stamp and is decided: what its target held is removed, the reference is released, and the grace periods of both
 -- begin at the stamp.
+use Rattle.core_invariant.proofs.Bare.{counts_bare}
 use Rattle.std.proofs.Common.{◌≡◌, ◌≢◌, ◌⊎◌, inl, inr, ℕ, pos, negsuc, ◌+ℤ◌, max, length, ◌≤◌, ◌+◌, ◌^◌, ◌<◌, ◌==◌, ◌&&◌, ◌||◌, ◌∷◌, [], Bool, true, false, List, Option, Some, None, arith, refl, sym, ◌∙◌, ap, subst, IsTrue, if◌then◌else◌}
 use Rattle.std.specs.List.{list_any}
 use Rattle.std.proofs.Math.IntN.{pos-+ℤ-pos, +ℤ_assoc, +ℤ_invr, +ℤ_idr}
@@ -519,7 +520,10 @@ module _ (setup : Setting) (setting : IsSetting setup) (cores : ℕ → Core) (t
     draw_at : GoodTook setup cores t c (AddOf ClockAt 1) (landed a
         (Answers value.Nothing (Some now_at) (Quiesce (AtStore node index now_at))))
     draw_at lands = drawing.draws_on setup setting cores t stands c here a active r stage made
-        (removal_raises a.call has.knows.knows.removes) lands still opens refl alike
+        (removal_raises a.call has.knows.knows.removes) lands still
+        (λ f i. counts_bare (Some (Some now_at)) a.counts f i ∙ sym (ap (λ h. h.bare f i)
+        (ap holds_in active ∙ ap (λ stage. holds_at stage a.counts) stage_is) ∙ counts_bare None a.counts f i))
+        opens refl alike
         (counted_grows setup s s' c calm here one_more)
         (inner_works setup setting cores t stands c here a active (AddOf ClockAt 1) (Some r) None made calm counts_are)
         no_flush stays held_now

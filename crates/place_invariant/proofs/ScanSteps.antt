@@ -11,7 +11,7 @@ use Rattle.stage_quiet.specs.declared.quiet.Quiet.{Quiet}
 use Rattle.stage_quiet.specs.declared.quiet.Quiet.TheVariants.{AtCore, AtFlush}
 use Rattle.stage_quiet.specs.Scan.{quiet_move, quiet_end, quiet_after}
 use Rattle.call_acts.specs.declared.work.Act.{Act as ActOf}
-use Rattle.call_acts.specs.declared.work.Act.TheVariants.{Fill as fill_act, Remove as remove_act, Retype as type_act, Make as make_act, Outside, Tick as tick_act, Flush as flush_act, Kill as kill_act, Untype as untype_act, Map as map_act, MakeComp as comp_act}
+use Rattle.call_acts.specs.declared.work.Act.TheVariants.{Fill as fill_act, Remove as remove_act, Retype as type_act, Make as make_act, Outside, Tick as tick_act, Flush as flush_act, Kill as kill_act, Untype as untype_act, Map as map_act, MakeComp as comp_act, Invoke as invoke_act, Return as return_act}
 use Rattle.call_acts.specs.declared.work.Work.TheVariants.{Scan}
 use Rattle.call_acts.specs.Acts.{ActFits, stamp_of_act, stamp_shown}
 use Rattle.word_map.specs.Places.{Shape}
@@ -54,6 +54,8 @@ module _ (setup : Setting) (setting : IsSetting setup) (cores : ℕ → Core) (t
   scans_place (kill_act m) is fits stamp names knows = absurd (omega arith)
   scans_place (flush_act core) is fits stamp names knows = absurd (omega arith)
   scans_place (untype_act m) is fits stamp names knows = absurd knows
+  scans_place (invoke_act m) is fits stamp names knows = absurd knows
+  scans_place (return_act m) is fits stamp names knows = absurd knows
   scans_place (fill_act fill) is fits stamp names knows = record {
     node = fill.node;
     index = fill.entry;

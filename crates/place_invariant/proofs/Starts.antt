@@ -1,4 +1,5 @@
 -- Where an act starts, after its look-ups or its scan: it acquires its first count or makes its first step, or its frame is out of range.
+use Rattle.call_steps.proofs.StepsFit.{invoking_one, returning_one, cap_one}
 use Rattle.std.proofs.Common.{◌≡◌, ℕ, pos, negsuc, ◌<◌, ◌++◌, map, length, not, true, false, List, [], ◌∷◌, Some, None, refl, sym, ◌∙◌, ap, arith}
 use Rattle.std.proofs.lemmas.Bool.{false≢true}
 use Rattle.spk_nums.specs.Setting.{Setting, IsSetting}
@@ -24,16 +25,15 @@ use Rattle.call_acts.specs.Kills.{is_killing}
 use Rattle.call_acts.specs.declared.kills.KillingAt.{KillingAt}
 use Rattle.call_acts.specs.declared.kills.KillingAt.TheVariants.{LoadComp, LoadLive, Close as kill_close, Draw as kill_draw}
 use Rattle.call_acts.specs.declared.work.Act.{Act as ActOf}
-use Rattle.call_acts.specs.declared.work.Act.TheVariants.{Fill as fill_act, Remove as remove_act, Retype as type_act, Make as make_act, Outside, Tick as tick_act, Flush as flush_act, Kill as kill_act, Untype as untype_act, Map as map_act, MakeComp as comp_act}
+use Rattle.call_acts.specs.declared.work.Act.TheVariants.{Fill as fill_act, Remove as remove_act, Retype as type_act, Make as make_act, Outside, Tick as tick_act, Flush as flush_act, Kill as kill_act, Untype as untype_act, Map as map_act, MakeComp as comp_act, Invoke as invoke_act, Return as return_act}
 use Rattle.call_acts.specs.declared.work.WorkStep.TheVariants.{Goes}
 use Rattle.call_acts.specs.WorkSteps.{refuse}
-use Rattle.call_acts.specs.Acts.{dues, made_dues, next_work, starts, killing_dues}
+use Rattle.call_acts.specs.Acts.{dues, made_dues, next_work, starts, killing_dues, invoking_dues, returning_dues}
 use Rattle.call_steps.specs.declared.stages.Stage.{Stage}
 use Rattle.call_steps.specs.declared.stages.Stage.TheVariants.{Undecided}
 use Rattle.call_steps.specs.declared.stages.ActiveCall.{ActiveCall}
 use Rattle.call_steps.specs.Steps.{landed}
 use Rattle.call_steps.specs.View.{Core}
-use Rattle.call_steps.proofs.StepsFit.{cap_one}
 use Rattle.core_invariant.specs.Holding.{Holding, holds_counts}
 use Rattle.core_invariant.specs.Knows.{AreDuesApart, due_of, KnowsAct, NamesAre, is_start, is_counting, goes_on, phase_at}
 use Rattle.core_invariant.specs.Stands.{holds_act, holds_making, holds_in, Stands, holds_killing, holds_comp}
@@ -78,6 +78,8 @@ start_holds (comp_act m) h is = by m.at is
     by (comp_at.Close word last) is = absurd (false≢true is)
     by (comp_at.Store word last entry) is = absurd (false≢true is)
     by (comp_at.Fill word last) is = absurd (false≢true is)
+start_holds (invoke_act m) h is = refl
+start_holds (return_act m) h is = refl
 
 start_counts : (act : ActOf) → is_start act ≡ true → is_counting act ≡ true
 start_counts (fill_act fill) is = refl
@@ -100,6 +102,8 @@ start_counts (comp_act m) is = by m.at is
     by (comp_at.Close word last) is = absurd (false≢true is)
     by (comp_at.Store word last entry) is = absurd (false≢true is)
     by (comp_at.Fill word last) is = absurd (false≢true is)
+start_counts (invoke_act m) is = refl
+start_counts (return_act m) is = refl
 
 -- Before its first step an act changes one count at most.
 start_apart : (act : ActOf) → is_start act ≡ true → AreDuesApart (dues act)
@@ -135,6 +139,8 @@ start_apart (comp_act m) is = by m.at is
     by (comp_at.Close word last) is = absurd (false≢true is)
     by (comp_at.Store word last entry) is = absurd (false≢true is)
     by (comp_at.Fill word last) is = absurd (false≢true is)
+start_apart (invoke_act m) is = one_apart (invoking_dues m.comp m.at) (invoking_one m.comp m.at)
+start_apart (return_act m) is = one_apart (returning_dues m.top m.at) (returning_one m.top m.at)
 
 -- A call whose frame is not in its range is refused so, and nothing before that refuses it.
 pub record IsRefusedOutside (setup : Setting) (t : Trace) (c : ℕ) (call : Call) (move : Move) : Type 0 where
@@ -193,3 +199,5 @@ module _ (setup : Setting) (setting : IsSetting setup) (cores : ℕ → Core) (t
   starts_good (kill_act m) is known refused = goes_good (kill_act m) is refl known
   starts_good (untype_act m) is known refused = absurd (false≢true is)
   starts_good (comp_act m) is known refused = goes_good (comp_act m) is refl known
+  starts_good (invoke_act m) is known refused = goes_good (invoke_act m) is refl known
+  starts_good (return_act m) is known refused = goes_good (return_act m) is refl known

@@ -1,5 +1,7 @@
 -- The steps of a tick are good: the load of the head of its core's temporal capability, and the compare, which is lost to another core or
 -- charges the ticks that are due.
+use Rattle.core_invariant.proofs.Bare.{counts_bare}
+use Rattle.core_invariant.proofs.Lent.{is_thread, unlent_value, unlent_word, lent_none, lent_kept, lent_free}
 use Rattle.std.specs.Prelude.{min, IsSome}
 use Rattle.std.proofs.lemmas.List.Elements.{All-nil}
 use Rattle.std.proofs.Common.{◌≡◌, ◌≢◌, inl, inr, ℕ, zero, suc, ◌||◌, map, ◌++◌, ◌+◌, ◌-◌, ◌*◌, ◌^◌, ◌<◌, ◌≤◌, ◌==◌, Bool, true, false, List, [], ◌∷◌, length, Option, Some, None, arith, refl, sym, ◌∙◌, ap, subst, if◌then◌else◌}
@@ -66,7 +68,7 @@ use Rattle.call_steps.specs.View.{Core}
 use Rattle.core_invariant.specs.Holding.{holds_counts, settled_by, settled}
 use Rattle.core_invariant.specs.Words.{HeadIs, IsFrameWord, WordIs, count_room}
 use Rattle.core_invariant.specs.Knows.{due_of, charged_tcap, ChargesBy, HasHead, KnowsUndecided, WorksIn, phase_at}
-use Rattle.core_invariant.specs.Stands.{holds_at, holds_in, holds, held_by, times_of, counted_in, Stands}
+use Rattle.core_invariant.specs.Stands.{done_by, holds_at, holds_in, holds, held_by, times_of, counted_in, Stands}
 use Rattle.core_invariant.proofs.Calm.{IsPlain, plain_begins, plain_stamp, plain_flush, plain_exit}
 use Rattle.core_invariant.proofs.CountSums.{counted_refs}
 use Rattle.core_invariant.proofs.Good.{SparesBlanks, spares_kept}
@@ -152,9 +154,10 @@ module _ (setup : Setting) (setting : IsSetting setup) (cores : ℕ → Core) (t
 
   -- what the head's word shows, where no core has marked it
   head_says : marked_by setup t at ≡ None → HeadIs q (head_of_word was)
-  head_says unmarked = subst (λ o. HeadIs q (head_of_word (settled_by o (held_by cores) at was))) unmarked
+  head_says unmarked = subst (λ (n : ℕ). HeadIs q (head_of_word n)) (unlent_value setup cores t stands f (ap is_thread tcap.is) 0 was)
+      (subst (λ o. HeadIs q (head_of_word (settled_by o (held_by cores) at was))) unmarked
       (subst (λ x. IsFrameWord s.limits.frames x (s.place f 0) (stamp setup t (PlaceOf f 0)) 0 (settled setup (held_by cores) t at))
-      tcap.is (stands.words at))
+      tcap.is (stands.words at)))
 
   mark_is : (x : ℕ) → mark_of s at x ≡ head_mark (head_of_word x)
   mark_is x = ap (λ y. mark_in_frame y 0 x) tcap.is
@@ -314,6 +317,7 @@ module _ (setup : Setting) (setting : IsSetting setup) (cores : ℕ → Core) (t
         (λ d m other. looks.kept)
         (plain_begins setup t e plain) (spares_kept setup t e looks.kept) rises works marks
         (load_words setup cores t e after still frames looks.kept same_words stands.words)
+        (lent_none setup (e ∷ t) c after (counts_bare (done_by r None) a.counts)) (lent_kept cores e looks.kept)
         (sums_keep setup t e (held_by cores) (held_by (put cores c after))
         (λ g d. settled_on setup cores t e after still frames (CountAt g d)
         (load_keeps setup cores t e after still frames looks.kept (CountAt g d)))
@@ -726,11 +730,16 @@ module _ (setup : Setting) (setting : IsSetting setup) (cores : ℕ → Core) (t
         (marks_own setup cores t e_won after_won (λ w there. still_won w) stands.marks marks)
         (λ d m other. absurd (none_some d (sym unmarked ∙ m)))
         (plain_begins setup t e_won plain_won) spares rises_won works_won marks
-        (carry_words setup cores t e_won after_won still_won alike_won unmarked bare_now stays_won now_says
+        (carry_words setup cores t e_won after_won still_won alike_won unmarked bare_now
+        (λ g i. counts_bare (Some None) a.counts g i
+        ∙ sym (ap (λ h. h.bare g i) (ap holds_in active ∙ held_is) ∙ counts_bare None a.counts g i))
+        (unlent_value setup cores t stands f (ap is_thread tcap.is) 0) stays_won now_says
         (λ w own. absurd (free_of w own)) stands.words)
+        (lent_none setup (e_won ∷ t) c after_won (counts_bare (Some None) a.counts))
+        (lent_free cores e_won (unlent_word setup cores t stands f 0 (ap is_thread tcap.is)))
         (sums_keep setup t e_won (held_by cores) (held_by (put cores c after_won))
         (λ g d. others_settled setup cores t e_won after_won still_won alike_won unmarked bare_now (CountAt g d) (no_count g d)
-        (free_of (CountAt g d)))
+        (free_of (CountAt g d)) refl)
         plain_won limits_won refs_won stands.sums)
         (record { call = a.call; is_open = is_open; permitted = permitted_won; justified = reached_none })
         (λ is_alone. ok_first s c a.call (Amount charged) permitted_won)

@@ -8,7 +8,7 @@ use Rattle.stage_look.specs.Shown.{shown_in}
 use Rattle.stage_look.specs.Lookup.{look_move}
 use Rattle.stage_look.specs.declared.look.Look.{Look}
 use Rattle.stage_look.specs.declared.look.Look.TheVariants.{AtRoot, AtLeaf, AtEntry}
-use Rattle.call_acts.specs.declared.work.Act.TheVariants.{Fill as fill_act, Remove as remove_act, Retype as type_act, Make as make_act, Outside, Tick as tick_act, Flush as flush_act, Kill as kill_act, Untype as untype_act, Map as map_act, MakeComp as comp_act}
+use Rattle.call_acts.specs.declared.work.Act.TheVariants.{Fill as fill_act, Remove as remove_act, Retype as type_act, Make as make_act, Outside, Tick as tick_act, Flush as flush_act, Kill as kill_act, Untype as untype_act, Map as map_act, MakeComp as comp_act, Invoke as invoke_act, Return as return_act}
 use Rattle.call_acts.specs.declared.work.Work.{Work}
 use Rattle.call_acts.specs.declared.work.Work.TheVariants.{Lookup, Read, Scan, Acquire, Act}
 use Rattle.call_steps.specs.declared.stages.Stage.TheVariants.{Undecided}
@@ -77,6 +77,8 @@ work_good setup setting cores t stands c here a active (Act (tick_act charge)) i
     tick_good setup setting cores t stands c here a active charge is knows
 work_good setup setting cores t stands c here a active (Act (flush_act core)) is knows =
     flush_good setup setting cores t stands c here a active core is knows
+work_good setup setting cores t stands c here a active (Act (invoke_act m)) is knows = absurd knows.knows.knows
+work_good setup setting cores t stands c here a active (Act (return_act m)) is knows = absurd knows.knows.knows
 work_good setup setting cores t stands c here a active (Act (kill_act m)) is knows =
     killing_good setup setting cores t stands c here a active m.comp m.core m.at is knows
 work_good setup setting cores t stands c here a active (Act (untype_act m)) is knows = absurd knows.knows.knows
