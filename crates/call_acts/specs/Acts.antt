@@ -2,7 +2,7 @@
 use Rattle.std.specs.Prelude.{ℕ, ℤ, ◌<◌, ◌==◌, pos, negsuc, Bool, true, false, ◌&&◌, nat_lt, Option, Some, None, List, map, slice_get, if◌then◌else◌, [], ◌∷◌}
 use Rattle.spk_nums.specs.Capability.{Capability}
 use Rattle.spk_nums.specs.declared.calls.Call.{Call}
-use Rattle.spk_nums.specs.declared.calls.Call.TheVariants.{Look, Copy, Remove, Shrink, Retype, Make as make_call, Unmap, Flush, Tick, Kill}
+use Rattle.spk_nums.specs.declared.calls.Call.TheVariants.{Look, Copy, Remove, Shrink, Retype, Make as make_call, Unmap, Touch, Flush, Tick, Kill}
 use Rattle.spk_nums.specs.declared.replies.Value.TheVariants.{Cap, Nothing as nothing}
 use Rattle.spk_nums.specs.declared.steps.StageEnd.{StageEnd}
 use Rattle.spk_nums.specs.declared.steps.StageEnd.TheVariants as ends
@@ -25,7 +25,7 @@ use Rattle.call_plans.specs.declared.plans.Nth.TheVariants.{First}
 use Rattle.call_plans.specs.Plans.{at_place}
 use Rattle.call_acts.specs.declared.refusals.Refusal.TheVariants.{Raced, OutOfRange, Busy, FrameKind as wrong_kind, Dead as is_dead}
 use Rattle.call_acts.specs.declared.work.Act.{Act}
-use Rattle.call_acts.specs.declared.work.Act.TheVariants.{Fill as fill_act, Remove as remove_act, Retype as type_act, Make as make_act, Outside, Tick as tick_act, Flush as flush_act, Kill as kill_act}
+use Rattle.call_acts.specs.declared.work.Act.TheVariants.{Fill as fill_act, Remove as remove_act, Retype as type_act, Make as make_act, Outside, Tick as tick_act, Touch as touch_act, Flush as flush_act, Kill as kill_act}
 use Rattle.call_acts.specs.declared.work.Due.{Due}
 use Rattle.call_acts.specs.declared.work.Work.{Work}
 use Rattle.call_acts.specs.declared.work.Work.TheVariants.{Scan, Acquire, Act as act_work}
@@ -49,6 +49,8 @@ use Rattle.call_acts.specs.Ticks.{charges, took_tick, is_charging, charge_left}
 use Rattle.stage_quiet.specs.Flushing.{flush_move}
 use Rattle.stage_quiet.specs.declared.flush_mark.FlushMark.TheVariants.{AtLoad as flush_load}
 use Rattle.call_acts.specs.Flushes.{flushes, took_flush}
+use Rattle.stage_look.specs.Lookup.{look_move}
+use Rattle.call_acts.specs.Touches.{TouchFits, touches, took_touch, is_answering, touch_left}
 use Rattle.call_acts.specs.declared.kills.Killing.{Killing}
 use Rattle.call_acts.specs.declared.kills.KillingAt.{KillingAt}
 use Rattle.call_acts.specs.declared.kills.KillingAt.TheVariants.{LoadComp, LoadLive, Close as kill_close, Draw as kill_draw}
@@ -79,6 +81,7 @@ ActFits s (type_act typing) = TypingFits s typing
 ActFits s (make_act m) = MakingFits s m
 ActFits s (Outside node entry word) = (node < s.frames) × (entry < 64)
 ActFits s (tick_act charge) = ChargeFits s charge
+ActFits s (touch_act m) = TouchFits s m
 ActFits s (flush_act core) = core < s.cores
 ActFits s (kill_act m) = KillingFits s m
 
@@ -104,6 +107,7 @@ act_move (type_act typing) = typing_move typing
 act_move (make_act m) = making_move m
 act_move (Outside node entry word) = LoadOf (EntryAt node entry)
 act_move (tick_act charge) = charge_move charge
+act_move (touch_act m) = look_move m.look
 act_move (flush_act core) = flush_move (flush_load core)
 act_move (kill_act m) = killing_move m
 
@@ -121,6 +125,7 @@ act_ready (type_act typing) = is_typing typing.at
 act_ready (make_act m) = is_filling m.at
 act_ready (Outside node entry word) = false
 act_ready (tick_act charge) = is_charging charge
+act_ready (touch_act m) = is_answering m
 act_ready (flush_act core) = true
 act_ready (kill_act m) = is_killing m.at
 
@@ -138,6 +143,7 @@ act_left (type_act typing) = typing_left typing.at
 act_left (make_act m) = making_left m.object m.at
 act_left (Outside node entry word) = 1
 act_left (tick_act charge) = charge_left charge
+act_left (touch_act m) = touch_left m.look
 act_left (flush_act core) = 2
 act_left (kill_act m) = killing_left m.at
 
@@ -172,6 +178,7 @@ dues (type_act typing) = []
 dues (make_act m) = made_dues m.object m.frame m.at
 dues (Outside node entry word) = []
 dues (tick_act charge) = []
+dues (touch_act m) = []
 dues (flush_act core) = []
 dues (kill_act m) = killing_dues m.comp m.at
 
@@ -258,6 +265,7 @@ took_act (type_act typing) found = took_typing typing found
 took_act (make_act m) found = took_making m found
 took_act (Outside node entry word) found = refuse OutOfRange
 took_act (tick_act charge) found = took_tick charge found
+took_act (touch_act m) found = took_touch m found
 took_act (flush_act core) found = took_flush core found
 took_act (kill_act m) found = took_killing m found
 
@@ -269,6 +277,7 @@ undo (type_act typing) = Nothing
 undo (make_act m) = undo_at m.frame m.at
 undo (Outside node entry word) = Nothing
 undo (tick_act charge) = Nothing
+undo (touch_act m) = Nothing
 undo (flush_act core) = Nothing
 undo (kill_act m) = Nothing
 
@@ -339,6 +348,7 @@ stamp_of_act (type_act typing) = 0
 stamp_of_act (make_act m) = stamp_shown (entry_of_word m.fill.word)
 stamp_of_act (Outside node entry word) = stamp_shown (entry_of_word word)
 stamp_of_act (tick_act charge) = 0
+stamp_of_act (touch_act m) = 0
 stamp_of_act (flush_act core) = 0
 stamp_of_act (kill_act m) = 0
 
@@ -391,6 +401,7 @@ act_begun own (Unmap p v) found target = removes_at own.core target
 act_begun own (Retype r f k) found target = types_at own (at_place found First) f k
 act_begun own (make_call what range frame table slot) found target =
     makes_at own (object_made what found) (at_place found First) frame target
+act_begun own (Touch v) found target = touches own v
 act_begun own Flush found target = flushes own.core
 act_begun own (Tick n) found target = charges own n
 act_begun own (Kill k) found target = kills_at own (at_place found First)

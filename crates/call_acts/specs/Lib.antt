@@ -11,3 +11,4 @@ pub mod Lookups
 pub mod Laws
 pub mod Kills
 pub mod Flushes
+pub mod Touches

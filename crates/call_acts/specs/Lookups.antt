@@ -30,12 +30,12 @@ abbrev pub looks_at : place → WorkStep
 looks_at (Under table n) = looks_under (nat_le n 4095) table.frame n
 looks_at (InRoot table i) = looks_entry (nat_le i 63) table.frame i
 
--- what comes next of a core's call whose names have led to these; no call that looks up a page of its own is carried out today
+-- what comes next of a core's call whose names have led to these; a page of its own is looked up by its act
 abbrev pub next_step : Own → Call → List Capability → Next → WorkStep
 next_step own call found (NextName n wanted) = looks_under (nat_le n 4095) own.table n
 next_step own call found (NextFree target) = looks_at target
 next_step own call found (NextHeld target) = looks_at target
-next_step own call found (NextOwn v) = refuse Raced
+next_step own call found (NextOwn v) = act_begun own call found None
 next_step own call found NextNothing = act_begun own call found None
 
 -- what a name has led to that wants these kinds, where its place shows this entry

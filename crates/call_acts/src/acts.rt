@@ -29,6 +29,7 @@ use crate::objects::{NewObject, object_cap, object_made};
 use crate::own::Own;
 use crate::refusals::Refusal;
 use crate::ticks::{charges, is_charging, tick_op, tick_took};
+use crate::touches::touches;
 use crate::typings::{Typing, TypingAt};
 use crate::work::{Act, Due, Tail, Work, WorkStep};
 use call_plans::{Caps, Nth};
@@ -61,6 +62,7 @@ pub fn act_op(act: &Act, layout: &Layout) -> WordOp
             at: layout.entry_at(*node, *entry),
         },
         Act::Tick { charge } => tick_op(charge, layout),
+        Act::Touch { touching } => touching.next(layout),
         Act::Flush { core } => flush_op(*core, layout),
         Act::Kill { killing } => killing.next(layout),
     }
@@ -83,6 +85,7 @@ pub fn act_took(act: &Act, layout: &Layout, found: u64) -> WorkStep
         Act::Make { making } => making.take(found),
         Act::Outside { .. } => refuse(Refusal::OutOfRange),
         Act::Tick { charge } => tick_took(charge, layout, found),
+        Act::Touch { touching } => touching.take(layout, found),
         Act::Flush { core } => flush_took(*core, layout, found),
         Act::Kill { killing } => killing.take(found),
     }
@@ -136,6 +139,7 @@ pub fn act_ready(act: &Act) -> bool
         Act::Make { making } => making.is_ready(),
         Act::Outside { .. } => false,
         Act::Tick { charge } => is_charging(charge),
+        Act::Touch { touching } => touching.is_ready(),
         Act::Flush { core: _ } => true,
         Act::Kill { killing } => killing.is_ready(),
     }
@@ -179,6 +183,7 @@ fn due(act: &Act, n: u8) -> Option<Due>
         Act::Make { making } => made_due(making, n),
         Act::Outside { .. } => None,
         Act::Tick { charge: _ } => None,
+        Act::Touch { touching: _ } => None,
         Act::Flush { core: _ } => None,
         Act::Kill { killing } => killing_due(killing, n),
     }
@@ -230,6 +235,7 @@ pub fn begin_act(own: &Own, call: &Call, found: &Caps, target: &Option<Found>) -
             target,
         ),
         Call::Retype { r: _, f, k } => types_at(own, &found.get(Nth::First), *f, *k),
+        Call::Touch { v } => touches(own, *v),
         Call::Flush => flushes(own.core),
         Call::Tick { n } => charges(own, *n),
         Call::Kill { c: _ } => kills_at(own, &found.get(Nth::First)),

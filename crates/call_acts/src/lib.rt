@@ -55,6 +55,7 @@ mod objects;
 mod own;
 mod refusals;
 mod ticks;
+mod touches;
 mod typings;
 mod work;
 
@@ -68,5 +69,6 @@ pub use makings::{Making, MakingAt};
 pub use objects::NewObject;
 pub use own::{Own, OwnChange};
 pub use refusals::Refusal;
+pub use touches::Touching;
 pub use typings::{Typing, TypingAt};
 pub use work::{Act, Due, Tail, Work, WorkStep};

@@ -1,9 +1,10 @@
 //! What a core has of its own, beside its call, and what a decision changes of it.
 
 ghost use Rattle.std.specs.Prelude.{◌≡◌};
+ghost use Rattle.kernel_rules.specs.MemoryCalls.{caching};
 ghost use Rattle.call_acts.specs.OwnChanges.{own_changed};
 
-use spk_nums::{CoreNo, FrameNo, Stamp, Translations};
+use spk_nums::{CoreNo, FrameNo, Stamp, Translation, Translations};
 use word_map::Layout;
 
 /// What a core has of its own: where it works, and what it has counted. The step machine of a call reads it; a decision and a
@@ -47,6 +48,8 @@ pub enum OwnChange {
     Ticks { charged: u32, owed: u64 },
     /// Its cached translations were dropped.
     Empties,
+    /// This translation was found, and is cached where there is room.
+    Caches { item: Translation },
 }
 
 impl Own {
@@ -61,6 +64,15 @@ impl Own {
                 self.owed = *owed;
             }
             OwnChange::Empties => self.cached = Translations::empty(),
+            OwnChange::Caches { item } => cache(&mut self.cached, *item),
         }
     }
+}
+
+// The translations with one more, where there is room: they are 64 at most.
+#[inline]
+fn cache(cached: &mut Translations, item: Translation)
+    ensures { cached.new ≡ caching cached.old item }
+{
+    let _added = cached.add(item);
 }

@@ -5,6 +5,7 @@ use crate::kills::Killing;
 use crate::makings::Making;
 use crate::own::OwnChange;
 use crate::refusals::Refusal;
+use crate::touches::Touching;
 use crate::typings::Typing;
 use frame_words::CompWord;
 use spk_nums::{Cap, CoreNo, EntryNo, FrameNo, Reply, Stamp, Value};
@@ -42,6 +43,10 @@ pub enum Act {
     /// It charges ticks to the core's temporal capability.
     Tick {
         charge: Charge,
+    },
+    /// It touches a page.
+    Touch {
+        touching: Touching,
     },
     /// It drops the translations that this core, its own, has cached.
     Flush {

@@ -440,7 +440,7 @@ impl ActiveCall {
             Next::Name { name } => self.look_under(own.table, name.number.number()),
             Next::Free { spot } => self.look_at(spot),
             Next::Held { spot } => self.look_at(spot),
-            Next::Own { page: _ } => self.refused(Refusal::Raced),
+            Next::Own { page: _ } => self.begin_act(own),
             Next::Nothing => self.begin_act(own),
         }
     }

@@ -35,6 +35,7 @@ pub fn is_built(call: &Call) -> bool
                 slot: _
             }
             | Call::Unmap { .. }
+            | Call::Touch { .. }
             | Call::Flush
             | Call::Tick { .. }
             | Call::Kill { .. }
