@@ -2,7 +2,7 @@
 use Rattle.std.specs.Prelude.{ℕ, ℤ, ◌<◌, ◌==◌, pos, negsuc, Bool, true, false, ◌&&◌, nat_lt, Option, Some, None, List, map, slice_get, if◌then◌else◌, [], ◌∷◌}
 use Rattle.spk_nums.specs.Capability.{Capability}
 use Rattle.spk_nums.specs.declared.calls.Call.{Call}
-use Rattle.spk_nums.specs.declared.calls.Call.TheVariants.{Look, Copy, Remove, Shrink, Retype, Make as make_call, Unmap, Touch, Flush, Tick, Kill}
+use Rattle.spk_nums.specs.declared.calls.Call.TheVariants.{Look, Copy, Remove, Shrink, Retype, Make as make_call, Unmap, Flush, Tick, Kill}
 use Rattle.spk_nums.specs.declared.replies.Value.TheVariants.{Cap, Nothing as nothing}
 use Rattle.spk_nums.specs.declared.steps.StageEnd.{StageEnd}
 use Rattle.spk_nums.specs.declared.steps.StageEnd.TheVariants as ends
@@ -50,7 +50,7 @@ use Rattle.stage_quiet.specs.Flushing.{flush_move}
 use Rattle.stage_quiet.specs.declared.flush_mark.FlushMark.TheVariants.{AtLoad as flush_load}
 use Rattle.call_acts.specs.Flushes.{flushes, took_flush}
 use Rattle.stage_look.specs.Lookup.{look_move}
-use Rattle.call_acts.specs.Touches.{TouchFits, touches, took_touch, is_answering, touch_left}
+use Rattle.call_acts.specs.Touches.{TouchFits, took_touch, is_answering, touch_left}
 use Rattle.call_acts.specs.declared.kills.Killing.{Killing}
 use Rattle.call_acts.specs.declared.kills.KillingAt.{KillingAt}
 use Rattle.call_acts.specs.declared.kills.KillingAt.TheVariants.{LoadComp, LoadLive, Close as kill_close, Draw as kill_draw}
@@ -401,7 +401,6 @@ act_begun own (Unmap p v) found target = removes_at own.core target
 act_begun own (Retype r f k) found target = types_at own (at_place found First) f k
 act_begun own (make_call what range frame table slot) found target =
     makes_at own (object_made what found) (at_place found First) frame target
-act_begun own (Touch v) found target = touches own v
 act_begun own Flush found target = flushes own.core
 act_begun own (Tick n) found target = charges own n
 act_begun own (Kill k) found target = kills_at own (at_place found First)

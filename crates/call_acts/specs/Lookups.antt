@@ -18,6 +18,7 @@ use Rattle.call_acts.specs.declared.work.WorkStep.{WorkStep}
 use Rattle.call_acts.specs.declared.work.WorkStep.TheVariants.{Goes}
 use Rattle.call_acts.specs.WorkSteps.{refuse}
 use Rattle.call_acts.specs.Acts.{act_begun}
+use Rattle.call_acts.specs.Touches.{touches}
 
 -- a number, or a root entry, is looked up, if it is within its range
 abbrev pub looks_under : Bool → ℕ → ℕ → WorkStep
@@ -35,7 +36,7 @@ abbrev pub next_step : Own → Call → List Capability → Next → WorkStep
 next_step own call found (NextName n wanted) = looks_under (nat_le n 4095) own.table n
 next_step own call found (NextFree target) = looks_at target
 next_step own call found (NextHeld target) = looks_at target
-next_step own call found (NextOwn v) = act_begun own call found None
+next_step own call found (NextOwn v) = touches own v
 next_step own call found NextNothing = act_begun own call found None
 
 -- what a name has led to that wants these kinds, where its place shows this entry

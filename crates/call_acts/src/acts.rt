@@ -29,7 +29,6 @@ use crate::objects::{NewObject, object_cap, object_made};
 use crate::own::Own;
 use crate::refusals::Refusal;
 use crate::ticks::{charges, is_charging, tick_op, tick_took};
-use crate::touches::touches;
 use crate::typings::{Typing, TypingAt};
 use crate::work::{Act, Due, Tail, Work, WorkStep};
 use call_plans::{Caps, Nth};
@@ -235,7 +234,6 @@ pub fn begin_act(own: &Own, call: &Call, found: &Caps, target: &Option<Found>) -
             target,
         ),
         Call::Retype { r: _, f, k } => types_at(own, &found.get(Nth::First), *f, *k),
-        Call::Touch { v } => touches(own, *v),
         Call::Flush => flushes(own.core),
         Call::Tick { n } => charges(own, *n),
         Call::Kill { c: _ } => kills_at(own, &found.get(Nth::First)),

@@ -69,6 +69,6 @@ pub use makings::{Making, MakingAt};
 pub use objects::NewObject;
 pub use own::{Own, OwnChange};
 pub use refusals::Refusal;
-pub use touches::Touching;
+pub use touches::{Touching, touches};
 pub use typings::{Typing, TypingAt};
 pub use work::{Act, Due, Tail, Work, WorkStep};

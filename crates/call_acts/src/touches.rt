@@ -178,7 +178,7 @@ fn answers(item: &Translation) -> WorkStep
 
 /// A page of a core's own pages is touched; one past 4,095 has no slot.
 #[inline(never)]
-pub(crate) fn touches(own: &Own, page: PageNo) -> WorkStep
+pub fn touches(own: &Own, page: PageNo) -> WorkStep
     ensures { result ≡ touches own.now page }
 {
     let number = page.number();

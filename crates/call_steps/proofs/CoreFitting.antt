@@ -9,7 +9,7 @@ use Rattle.kernel_rules.specs.Access.{found}
 use Rattle.call_plans.specs.PlanOf.{plan_for}
 use Rattle.call_acts.specs.declared.own.Own.{Own}
 use Rattle.call_acts.specs.declared.own.OwnChange.{OwnChange}
-use Rattle.call_acts.specs.declared.own.OwnChange.TheVariants.{Ticks, Empties}
+use Rattle.call_acts.specs.declared.own.OwnChange.TheVariants.{Ticks, Empties, Caches}
 use Rattle.call_acts.specs.OwnChanges.{own_changed}
 use Rattle.call_steps.specs.Fits.{left_of, IsActive, CallFits, IsOwn, IsCore, left_for}
 use Rattle.call_steps.specs.declared.stages.ActiveCall.{ActiveCall}
@@ -55,6 +55,17 @@ changed_on own (Ticks charged owed) h = record {
   made = h.made;
 }
 changed_on own Empties h = record {
+  shape = h.shape;
+  core = h.core;
+  thread = h.thread;
+  comp = h.comp;
+  table = h.table;
+  pages = h.pages;
+  tcap = h.tcap;
+  most_calls = h.most_calls;
+  made = h.made;
+}
+changed_on own (Caches item) h = record {
   shape = h.shape;
   core = h.core;
   thread = h.thread;
@@ -169,10 +180,37 @@ changes_on own active a new r Empties counted found h is decided next count =
           }),
       subst (λ o. left_of own.layout.cores new < left_for own.layout.cores o) (sym is) leads.fewer,
     )
+changes_on own active a new r (Caches item) counted found h is decided next count =
+    let change : OwnChange = Caches item in
+    let fits : IsActive own a = subst (CallFits own) is h.active in
+    let leads : TookFits own (left_of own.layout.cores a) a (Changes r change new) =
+    subst (TookFits own (left_of own.layout.cores a) a) (told_changes a r change (took own a found) decided ∙ ap (Changes r change)
+    (sym next)) (took_fits own a found h.own fits) in
+    let on : IsActive (record own { made = own.made + calls_counted r }) new = active_on own (own.made + calls_counted r) a new fits leads
+    in (
+      subst (λ n. IsCore (record { own = record (own_changed own change) { made = own.made + n }; active = Some new })) (sym count)
+          (record {
+            own = own_on (own_changed own change) (own.made + calls_counted r) (changed_on own change h.own) leads.counted;
+            active = record {
+              limits = on.limits;
+              built = on.built;
+              plan = on.plan;
+              found = on.found;
+              first = on.first;
+              stage = on.stage;
+              acquired = on.acquired;
+              counts = on.counts;
+              room = on.room;
+              steps = on.steps;
+            };
+          }),
+      subst (λ o. left_of own.layout.cores new < left_for own.layout.cores o) (sym is) leads.fewer,
+    )
 
 layout_changed : (own : Own) (change : OwnChange) → (own_changed own change).layout ≡ own.layout
 layout_changed own (Ticks charged owed) = refl
 layout_changed own Empties = refl
+layout_changed own (Caches item) = refl
 
 pub changes_to : (own own' : Own) (active : Option ActiveCall) (a new : ActiveCall) (r : Reply) (change : OwnChange) (counted found : ℕ)
     → IsCore (record { own = own; active = active }) → active ≡ Some a

@@ -8,7 +8,7 @@ use Rattle.stage_pins.specs.declared.pin.Pin.{Pin}
 use Rattle.stage_pins.specs.declared.pin.Pinned.{Pinned}
 use Rattle.stage_pins.specs.declared.held.Acquired.{Acquired}
 use Rattle.stage_pins.specs.Acquire.{pin_after, pin_end}
-use Rattle.std.proofs.Common.{◌≡◌, ℕ, ℤ, ◌+◌, ◌==◌, ◌&&◌, Bool, true, false, List, [], ◌∷◌, length, Option, Some, None, refl, sym, ◌∙◌, ap, subst, arith, eqb-true}
+use Rattle.std.proofs.Common.{◌≡◌, ℕ, ℤ, ◌+◌, ◌==◌, ◌&&◌, ◌||◌, Bool, true, false, List, [], ◌∷◌, length, Option, Some, None, refl, sym, ◌∙◌, ap, subst, arith, eqb-true}
 use Rattle.call_plans.specs.Plans.{pushed, at_place}
 use Rattle.spk_nums.specs.Capability.{Capability}
 use Rattle.spk_nums.specs.declared.kinds.FrameKind.{FrameKind}
@@ -21,8 +21,8 @@ use Rattle.spk_nums.specs.declared.replies.Reply.{Reply}
 use Rattle.entry_words.specs.declared.entry.Entry.{Entry}
 use Rattle.entry_words.specs.declared.entry.Entry.TheVariants as entry
 use Rattle.kernel_rules.specs.Access.{found, Target as place, Under, InRoot}
-use Rattle.stage_look.specs.Shown.{is_link}
-use Rattle.stage_look.specs.Lookup.{end_by_link, root_end, place_end}
+use Rattle.stage_look.specs.Shown.{shown_in, is_link}
+use Rattle.stage_look.specs.Lookup.{look_end, look_after, end_by_link, root_end, place_end}
 use Rattle.stage_look.specs.declared.look.Look.{Look}
 use Rattle.stage_look.specs.declared.look.Look.TheVariants.{AtRoot, AtLeaf, AtEntry}
 use Rattle.stage_look.specs.declared.look.Found.{Found}
@@ -43,7 +43,7 @@ use Rattle.stage_tcap.specs.Heads.{head}
 use Rattle.tcap_words.specs.Head.{word_of_head, head_of_word}
 use Rattle.tcap_words.specs.declared.head_word.HeadWord.{HeadWord}
 use Rattle.kernel_rules.specs.Laws.{IsRefusal}
-use Rattle.std.specs.Prelude.{min}
+use Rattle.std.specs.Prelude.{min, nat_le, is_some}
 use Rattle.call_acts.specs.declared.lookups.Met.{Met}
 use Rattle.call_acts.specs.declared.lookups.Met.TheVariants.{Finds, Refused}
 use Rattle.spk_nums.specs.declared.kinds.Obj.{Obj}
@@ -55,7 +55,7 @@ use Rattle.call_acts.specs.declared.makings.MakingAt.{MakingAt}
 use Rattle.call_acts.specs.declared.makings.MakingAt.TheVariants.{Load as make_load, Mark, Store, Fill as fill_at}
 use Rattle.call_acts.specs.Makings.{is_filling}
 use Rattle.call_acts.specs.declared.work.Act.{Act as ActType}
-use Rattle.call_acts.specs.declared.work.Act.TheVariants.{Fill as fill_act, Remove as remove_act, Retype as type_act, Make as make_act, Outside, Tick as tick_act, Flush as flush_act, Kill as kill_act}
+use Rattle.call_acts.specs.declared.work.Act.TheVariants.{Fill as fill_act, Remove as remove_act, Retype as type_act, Make as make_act, Outside, Tick as tick_act, Touch as touch_act, Flush as flush_act, Kill as kill_act}
 use Rattle.call_acts.specs.declared.work.Work.{Work}
 use Rattle.call_acts.specs.declared.work.Work.TheVariants.{Lookup, Scan, Acquire, Act}
 use Rattle.call_steps.specs.declared.stages.Stage.{Stage}
@@ -86,6 +86,9 @@ use Rattle.call_acts.specs.declared.typings.TypingAt.{TypingAt}
 use Rattle.call_acts.specs.declared.typings.TypingAt.TheVariants.{Load, Compare as type_compare}
 use Rattle.call_acts.specs.Typings.{meets_frame, meets_word, typed_if, took_typing_at, is_typing}
 use Rattle.call_acts.specs.Lookups.{looks_under, looks_entry, looks_at, next_step, met_free, met_held}
+use Rattle.spk_nums.specs.declared.translations.Translation.{Translation}
+use Rattle.call_acts.specs.declared.touches.Touching.{Touching}
+use Rattle.call_acts.specs.Touches.{touches_if, touch_end, touched, is_at_page}
 use Rattle.call_steps.specs.Fits.{FoundFits, IsFirst, IsActive}
 use Rattle.call_steps.specs.Tails.{took_tail, tail_counts}
 use Rattle.call_plans.specs.After.{with_found, names_after, next_in, Next, NextName, NextFree, NextHeld, NextOwn, NextNothing, next_of}
@@ -183,6 +186,7 @@ starts_no core (remove_act close cap) = tt
 starts_no core (type_act typing) = tt
 starts_no core (make_act m) = tt
 starts_no core (tick_act charge) = tt
+starts_no core (touch_act m) = tt
 starts_no core (flush_act by) = tt
 starts_no core (kill_act m) = tt
 
@@ -267,13 +271,17 @@ one_name (Retype r f k) is = retype_one k r is
 one_name (make_call what r f t b) is = make_one what r t b is
 one_name call is = absurd (cc)
 
+touches_no : (own : Own) (v : ℕ) (within : Bool) → NoAnswer (touches_if within own v)
+touches_no own v true = tt
+touches_no own v false = tt
+
 -- what comes next of a call answers nothing, where no call with its plan is decided where its last name is found
 next_no : (own : Own) (call : Call) (found : List Capability) (next : Next) → decides_at_name (plan_for call).decides ≡ false
     → NoAnswer (next_step own call found next)
 next_no own call found (NextName n wanted) not = under_no _ own.table n
 next_no own call found (NextFree target) not = target_no target
 next_no own call found (NextHeld target) not = target_no target
-next_no own call found (NextOwn v) not = tt
+next_no own call found (NextOwn v) not = touches_no own v (nat_le v 4095)
 next_no own call found NextNothing not = act_no own call found None not
 
 module _ (own : Own) (a : ActiveCall) (not : decides_at_name (plan_for a.call).decides ≡ false) where
@@ -454,6 +462,28 @@ killing_no m (LoadLive life) found not = live_no m life found _
 killing_no m (kill_close life word) found not = closes_no m life word _
 killing_no m (kill_draw life word) found not = absurd (cc)
 
+touch_link_no : (m : Touching) (linked : Bool) (look : Look) → NoAnswer (touch_end m look (end_by_link linked))
+touch_link_no m true look = tt
+touch_link_no m false look = tt
+
+touch_root_no : (m : Touching) (look : Look) (shown : Option Entry) → NoAnswer (touch_end m look (root_end shown))
+touch_root_no m look None = tt
+touch_root_no m look (Some entry.Free) = tt
+touch_root_no m look (Some (entry.Held k)) = touch_link_no m _ look
+touch_root_no m look (Some (entry.Closing by)) = tt
+touch_root_no m look (Some (entry.Quiescing stamp)) = tt
+
+touched_no : (m : Touching) (found : ℕ) (cached : Option Translation) → (is_some cached || is_at_page m.look) ≡ false
+    → NoAnswer (touched m found cached)
+touched_no m found (Some item) not = absurd (cc)
+touched_no m found None not = by m.look not
+  where
+    by : (look : Look) → is_at_page look ≡ false
+        → NoAnswer (touch_end m (look_after look (shown_in m.frames found)) (look_end look found (shown_in m.frames found)))
+    by (AtRoot root number) not = touch_root_no m _ (shown_in m.frames found)
+    by (AtLeaf leaf number) not = absurd (cc)
+    by (AtEntry root index) not = absurd (cc)
+
 act_unready : (act : ActType) (found : ℕ) → act_ready act ≡ false → NoAnswer (took_act act found)
 act_unready (fill_act fill) found not = absurd (cc)
 act_unready (remove_act close cap) found not = close_no cap close found not
@@ -461,6 +491,7 @@ act_unready (type_act typing) found not = typing_no typing typing.at found not
 act_unready (make_act m) found not = making_no m m.at found not
 act_unready (Outside node entry word) found not = tt
 act_unready (tick_act charge) found not = charge_no charge found not
+act_unready (touch_act m) found not = touched_no m found m.cached not
 act_unready (flush_act core) found not = absurd (cc)
 act_unready (kill_act m) found not = killing_no m m.at found not
 
@@ -576,6 +607,25 @@ killing_decides a m (LoadLive life) found ready = absurd (cc)
 killing_decides a m (kill_close life word) found ready = absurd (cc)
 killing_decides a m (kill_draw life word) found ready = tt
 
+page_decides : (a : ActiveCall) (m : Touching) (look : Look) (node index word : ℕ) (shown : Option Entry)
+    → IsDecision (landed a (touch_end m look (place_end node index word shown)))
+page_decides a m look node index word None = tt
+page_decides a m look node index word (Some entry.Free) = tt
+page_decides a m look node index word (Some (entry.Held k)) = tt
+page_decides a m look node index word (Some (entry.Closing by)) = tt
+page_decides a m look node index word (Some (entry.Quiescing stamp)) = tt
+
+touched_decides : (a : ActiveCall) (m : Touching) (found : ℕ) (cached : Option Translation)
+    → (is_some cached || is_at_page m.look) ≡ true → IsDecision (landed a (touched m found cached))
+touched_decides a m found (Some item) ready = tt
+touched_decides a m found None ready = by m.look ready
+  where
+    by : (look : Look) → is_at_page look ≡ true → IsDecision
+        (landed a (touch_end m (look_after look (shown_in m.frames found)) (look_end look found (shown_in m.frames found))))
+    by (AtRoot root number) ready = absurd (cc)
+    by (AtLeaf leaf number) ready = page_decides a m _ _ _ found (shown_in m.frames found)
+    by (AtEntry root index) ready = page_decides a m _ _ _ found (shown_in m.frames found)
+
 act_decides : (a : ActiveCall) (act : ActType) (found : ℕ) → act_ready act ≡ true → IsDecision (landed a (took_act act found))
 act_decides a (fill_act fill) found ready = fill_decides a _
 act_decides a (remove_act (AtCompare node index word core) cap) found ready = absurd (cc)
@@ -585,6 +635,7 @@ act_decides a (type_act typing) found ready = typing_decides a typing typing.at 
 act_decides a (make_act m) found ready = making_decides a m m.at found ready
 act_decides a (Outside node entry word) found ready = absurd (cc)
 act_decides a (tick_act charge) found ready = charge_decides a charge found ready
+act_decides a (touch_act m) found ready = touched_decides a m found m.cached ready
 act_decides a (flush_act core) found ready = tt
 act_decides a (kill_act m) found ready = killing_decides a m m.at found ready
 

@@ -84,7 +84,7 @@ use Rattle.call_steps.specs.Tails.{tail_left, took_tail, tail_counts}
 use Rattle.call_steps.specs.Fits.{TailFits, ScanFits, WorkFits, StageFits, IsWanted, FoundFits, HasRoom, CountsWait, CountsAt, looks_later, names_left, steps_later, left_of_look, left_of_scan, left_of_pin, work_left, left_at, left_of, IsActive, IsOwn}
 use Rattle.call_steps.proofs.StepsFit.{StepFits, starts_fit, few_dues, object_count, work_next, counts_next, first_named, act_fits}
 use Rattle.call_acts.specs.declared.work.Act.{Act as ActType}
-use Rattle.call_acts.specs.declared.work.Act.TheVariants.{Fill as fill_act, Remove as remove_act, Retype as type_act, Make as make_act, Outside, Tick as tick_act, Flush as flush_act, Kill as kill_act}
+use Rattle.call_acts.specs.declared.work.Act.TheVariants.{Fill as fill_act, Remove as remove_act, Retype as type_act, Make as make_act, Outside, Tick as tick_act, Touch as touch_act, Flush as flush_act, Kill as kill_act}
 use Rattle.call_acts.specs.declared.work.Tail.{Tail}
 use Rattle.call_acts.specs.declared.work.Tail.TheVariants.{Nothing, Quiesce, Unmark, StoreDead, StoreFlush}
 use Rattle.call_steps.specs.declared.stages.Stage.{Stage}
@@ -102,6 +102,7 @@ use Rattle.call_acts.specs.Lookups.{met_name, met_free, met_held}
 use Rattle.call_steps.specs.Steps.{GoesOn, landed, found_more, next_by, took_enter, named_one, took_found, took_end, took_look, took_scan, took_count, took_work, went_with, is_spent, took_at, took}
 use Rattle.call_steps.proofs.LandsFit.{TookFits, Facts, names_object, next_fits, landed_fits}
 use Rattle.call_steps.proofs.KillsFit.{kill_fits}
+use Rattle.call_steps.proofs.TouchesFit.{touch_fits}
 
 -- a step of the work of a call that has acquired its counts, or acquires them
 module _ (own : Own) (a : ActiveCall) (facts : Facts own a) (room : own.made < own.limit) where
@@ -276,6 +277,7 @@ module _ (own : Own) (a : ActiveCall) (facts : Facts own a) (room : own.made < o
   done_fits (make_act m) found fits waits = make_fits m m.at found fits waits
   done_fits (Outside node entry word) found fits waits = act_refused _ refusal.OutOfRange (omega arith)
   done_fits (tick_act charge) found fits waits = tick_fits charge found fits waits
+  done_fits (touch_act m) found fits waits = touch_fits own a facts room waits m found fits
   done_fits (flush_act core) found fits waits =
       landed_fits own a a refl refl refl facts.found facts.acquired room 1 _
       (work_changes (reply.Ok nothing) Empties (StoreFlush core (stamp_of_clock found))) (omega arith, fits) (omega arith)
@@ -294,6 +296,7 @@ module _ (own : Own) (a : ActiveCall) (facts : Facts own a) (room : own.made < o
       by (fill_at word) = (fits.frame, omega arith)
   undo_fits (Outside node entry word) fits = (tt, omega arith)
   undo_fits (tick_act charge) fits = (tt, omega arith)
+  undo_fits (touch_act m) fits = (tt, omega arith)
   undo_fits (flush_act core) fits = (tt, omega arith)
   undo_fits (kill_act m) fits = (tt, omega arith)
 

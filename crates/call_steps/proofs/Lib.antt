@@ -1,6 +1,7 @@
 pub mod Landing
 pub mod StepsFit
 pub mod LandsFit
+pub mod TouchesFit
 pub mod Fitting
 pub mod Begun
 pub mod Decisions

@@ -49,10 +49,11 @@ use Rattle.call_acts.specs.declared.kills.KillingAt.{KillingAt}
 use Rattle.call_acts.specs.declared.kills.KillingAt.TheVariants.{LoadComp, LoadLive, Close as kill_close, Draw as kill_draw}
 use Rattle.call_acts.specs.declared.own.Own.{Own}
 use Rattle.call_acts.specs.declared.work.Act.{Act as ActType}
-use Rattle.call_acts.specs.declared.work.Act.TheVariants.{Fill as fill_act, Remove as remove_act, Retype as type_act, Make as make_act, Outside, Tick as tick_act, Flush as flush_act, Kill as kill_act}
+use Rattle.call_acts.specs.declared.work.Act.TheVariants.{Fill as fill_act, Remove as remove_act, Retype as type_act, Make as make_act, Outside, Tick as tick_act, Touch as touch_act, Flush as flush_act, Kill as kill_act}
 use Rattle.call_acts.specs.declared.work.WorkStep.{WorkStep}
 use Rattle.call_acts.specs.declared.work.WorkStep.TheVariants.{Goes, Acquires, Refuses, Answers, Changes}
 use Rattle.call_acts.specs.declared.work.Due.{Due}
+use Rattle.call_acts.specs.Touches.{touches_if}
 use Rattle.call_acts.specs.Acts.{ActFits, act_left, looked, cap_dues, dues, acquires, scans, stamp_in, filling, fills_with, removing, removes_held, removes_at, types_if, types_at, made_dues, starts, making, making_if, makes_in, makes_at, act_begun, next_work, killing_dues, kills_in, kills_at}
 use Rattle.call_steps.specs.Tails.{tail_left}
 use Rattle.call_acts.specs.Lookups.{looks_under, looks_entry, looks_at, next_step}
@@ -118,6 +119,7 @@ few_dues (type_act typing) = omega arith
 few_dues (make_act m) = made_few m.object m.frame m.at
 few_dues (Outside node entry word) = omega arith
 few_dues (tick_act charge) = omega arith
+few_dues (touch_act m) = omega arith
 few_dues (flush_act core) = omega arith
 few_dues (kill_act m) = let one = killing_one m.comp m.at in omega (arith, one)
 
@@ -173,6 +175,8 @@ dues_fit s (Outside node entry word) zero fits = tt
 dues_fit s (Outside node entry word) (suc n) fits = tt
 dues_fit s (tick_act charge) zero fits = tt
 dues_fit s (tick_act charge) (suc n) fits = tt
+dues_fit s (touch_act m) zero fits = tt
+dues_fit s (touch_act m) (suc n) fits = tt
 dues_fit s (flush_act core) zero fits = tt
 dues_fit s (flush_act core) (suc n) fits = tt
 dues_fit s (kill_act m) n fits = killing_fit s m.comp m.at n fits.comp
@@ -278,6 +282,7 @@ starts_fit s later most core (remove_act close cap) here fits some = first_fits 
 starts_fit s later most core (type_act typing) here fits some = first_fits s later most core (type_act typing) here fits some
 starts_fit s later most core (make_act m) here fits some = first_fits s later most core (make_act m) here fits some
 starts_fit s later most core (tick_act charge) here fits some = first_fits s later most core (tick_act charge) here fits some
+starts_fit s later most core (touch_act m) here fits some = first_fits s later most core (touch_act m) here fits some
 starts_fit s later most core (flush_act by) here fits some = first_fits s later most core (flush_act by) here fits some
 starts_fit s later most core (kill_act m) here fits some = first_fits s later most core (kill_act m) here fits some
 
@@ -319,6 +324,12 @@ removed s later most core (Some f) here fits some = removed_held s later most co
 pub look_done : (s : Shape) (later most : ℕ) (k : Option Capability) → StepFits s [] later most (looked k)
 look_done s later most None = (omega arith, tt)
 look_done s later most (Some k) = (omega arith, tt)
+
+-- the act that touches a page
+pub touched_fit : (own : Own) (later most v : ℕ) (within : Bool) → nat_le v 4095 ≡ within → IsOwn own → 2 ≤ most
+    → StepFits own.layout [] later most (touches_if within own v)
+touched_fit own later most v true is h some = (record { look = (h.pages, leb-true v 4095 is); all = refl }, some, refl)
+touched_fit own later most v false is h some = (omega arith, tt)
 
 -- the act that types a frame of a range
 pub types_fit : (s : Shape) (later most f : ℕ) (k : FrameKind) (within : Bool) → (within ≡ true → f < s.frames) → 2 ≤ most
@@ -531,4 +542,4 @@ next_case own call found [] (Free spot) h first objects limits roots =
     at_fits own.layout found spot _ (act_steps call own.layout.cores) (omega arith) (roots refl)
 next_case own call found [] (Held spot) h first objects limits roots =
     at_fits own.layout found spot _ (act_steps call own.layout.cores) (omega arith) (roots refl)
-next_case own call found [] (own_page v) h first objects limits roots = (omega arith, tt)
+next_case own call found [] (own_page v) h first objects limits roots = touched_fit own _ _ v (nat_le v 4095) refl h (omega arith)

@@ -14,6 +14,7 @@ ghost use Rattle.stage_quiet.specs.Scan.{quiet_after, quiet_end};
 ghost use Rattle.call_plans.specs.GoesBy.{place_of};
 ghost use Rattle.call_acts.specs.WorkSteps.{refuse};
 ghost use Rattle.call_acts.specs.Acts.{act_begun};
+ghost use Rattle.call_acts.specs.Touches.{touches};
 ghost use Rattle.call_acts.specs.Lookups.{looks_under, looks_entry, looks_at, met_free, met_held};
 ghost use Rattle.call_acts.specs.declared.work.WorkStep.TheVariants.{Goes};
 ghost use Rattle.call_acts.specs.declared.work.Work.TheVariants.{Lookup, Scan, Acquire};
@@ -22,11 +23,11 @@ use crate::stages::{ActiveCall, Stage, Told};
 use crate::tails::{tail_op, took_tail};
 use call_acts::{
     Act, Met, Own, OwnChange, Refusal, Tail, Work, WorkStep, act_op, act_ready, act_took,
-    begin_act, frame_of, met_free, met_held, met_name, next_work, refuse, starts, undo,
+    begin_act, frame_of, met_free, met_held, met_name, next_work, refuse, starts, touches, undo,
 };
 use call_plans::{Decides, Next, Spot};
 use frame_words::CoreWord;
-use spk_nums::{CapId, CoreNo, EntryNo, FrameNo, Reply, StageEnd, Stamp, WordOp};
+use spk_nums::{CapId, CoreNo, EntryNo, FrameNo, PageNo, Reply, StageEnd, Stamp, WordOp};
 use stage_look::{Found, Look};
 use stage_pins::{Acquired, AcquiredCounts, Pin, Pinned};
 use stage_quiet::Quiet;
@@ -440,7 +441,7 @@ impl ActiveCall {
             Next::Name { name } => self.look_under(own.table, name.number.number()),
             Next::Free { spot } => self.look_at(spot),
             Next::Held { spot } => self.look_at(spot),
-            Next::Own { page: _ } => self.begin_act(own),
+            Next::Own { page } => self.touch(own, page),
             Next::Nothing => self.begin_act(own),
         }
     }
@@ -455,6 +456,17 @@ impl ActiveCall {
         ensures after { self.new ≡ call_after self.old (landed self.old (act_begun own.now self.old.call self.old.found None)) }
     {
         let step = begin_act(own, &self.call, &self.found, &None);
+        self.land(&step)
+    }
+
+    // A page of the core's own pages is touched.
+    #[inline(never)]
+    fn touch(&mut self, own: &Own, page: PageNo) -> Told
+        requires { self.old.steps < 1000 }
+        ensures told { result ≡ told (landed self.old (touches own.now page)) }
+        ensures after { self.new ≡ call_after self.old (landed self.old (touches own.now page)) }
+    {
+        let step = touches(own, page);
         self.land(&step)
     }
 
