@@ -24,7 +24,8 @@ use Rattle.word_map.specs.Places.{counter_of}
 use Rattle.word_map.specs.Moves.{word_of}
 use Rattle.stage_look.specs.declared.look.Look.{Look}
 use Rattle.stage_look.specs.declared.look.Look.TheVariants.{AtRoot, AtLeaf, AtEntry}
-use Rattle.kernel_rules.specs.Access.{Slot, Named, found, Target, Under, InRoot, usable, linked, root_slot, reached}
+use Rattle.kernel_rules.specs.MemoryCalls.{translation_of}
+use Rattle.kernel_rules.specs.Access.{Slot, Named, root_at, found, Target, Under, InRoot, usable, linked, root_slot, reached}
 use Rattle.kernel_rules.proofs.Facts.{some_inj, none_some}
 use Rattle.kernel_rules.specs.Fitting.{fits}
 use Rattle.kernel_rules.specs.Relies.{is_fixed, Relies}
@@ -53,7 +54,7 @@ use Rattle.stage_quiet.specs.declared.quiet.Quiet.TheVariants.{AtCore, AtFlush}
 use Rattle.stage_pins.specs.declared.pin.Pin.{Pin}
 use Rattle.stage_pins.specs.declared.pin.Pin.TheVariants.{AtLoad, AtCompare as pin_compare}
 use Rattle.call_acts.specs.declared.work.Act.{Act as ActOf}
-use Rattle.call_acts.specs.declared.work.Act.TheVariants.{Fill as fill_act, Remove as remove_act, Retype as type_act, Make as make_act, Outside, Tick as tick_act, Flush as flush_act, Kill as kill_act}
+use Rattle.call_acts.specs.declared.work.Act.TheVariants.{Fill as fill_act, Remove as remove_act, Retype as type_act, Make as make_act, Outside, Tick as tick_act, Touch as touch_act, Flush as flush_act, Kill as kill_act}
 use Rattle.call_acts.specs.declared.work.Work.{Work}
 use Rattle.call_acts.specs.declared.work.Work.TheVariants.{Lookup, Scan, Acquire, Act}
 use Rattle.call_steps.specs.declared.stages.ActiveCall.{ActiveCall}
@@ -93,6 +94,7 @@ stores_in (type_act typing) f = false
 stores_in (make_act m) f = is_marked m.at && f == m.frame
 stores_in (Outside node entry word) f = false
 stores_in (tick_act charge) f = false
+stores_in (touch_act m) f = false
 stores_in (flush_act by) f = false
 stores_in (kill_act m) f = false
 
@@ -333,6 +335,14 @@ module _ (setup : Setting) (setting : IsSetting setup) (t : Trace) (e : Step) (l
   act_on of plan caps upto (Outside node entry word) same has =
       record { spot = spot_on plan caps upto node entry word (same.entries node entry) has.spot; outside = has.outside }
   act_on of plan caps upto (tick_act charge) same has = tick_on of charge same.entries has
+  act_on of plan caps upto (touch_act m) same has = record {
+    call_is = has.call_is;
+    root = has.root ∙ ap (λ k. k.pages) (sym carries.stays.comp);
+    all = has.all;
+    known = has.known ∙ ap (λ k. translation_of k.cached m.pages m.page) (sym carries.stays.core);
+    first = has.first;
+    looks = looks_on (Under (root_at m.pages) m.page) m.look has.looks;
+  }
   act_on of plan caps upto (flush_act by) same has = has
   act_on of plan caps upto (kill_act m) same has = record {
     kills = has.kills;

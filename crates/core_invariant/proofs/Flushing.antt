@@ -5,7 +5,7 @@ use Rattle.call_acts.specs.declared.kills.KillingAt.TheVariants.{LoadComp, LoadL
 use Rattle.call_acts.specs.declared.makings.MakingAt.{MakingAt}
 use Rattle.call_acts.specs.declared.makings.MakingAt.TheVariants.{Load, Mark, Store, Fill as making_fill}
 use Rattle.call_acts.specs.declared.work.Act.{Act as ActOf}
-use Rattle.call_acts.specs.declared.work.Act.TheVariants.{Fill, Remove, Retype, Make, Outside, Tick, Flush, Kill}
+use Rattle.call_acts.specs.declared.work.Act.TheVariants.{Fill, Remove, Retype, Make, Outside, Tick, Touch, Flush, Kill}
 use Rattle.call_acts.specs.declared.work.Tail.{Tail}
 use Rattle.call_acts.specs.declared.work.Tail.TheVariants.{Nothing, Quiesce, Unmark, StoreDead, StoreFlush}
 use Rattle.call_acts.specs.declared.work.Work.{Work}
@@ -61,6 +61,7 @@ act_flush (Retype typing) h c = refl
 act_flush (Make making) h c = making_flush making.frame making.at h c
 act_flush (Outside node entry word) h c = refl
 act_flush (Tick charge) h c = refl
+act_flush (Touch m) h c = refl
 act_flush (Flush by) h c = refl
 act_flush (Kill m) h c = killing_flush m.at h c
 

@@ -8,7 +8,7 @@ use Rattle.call_acts.specs.declared.makings.MakingAt.TheVariants.{Load as making
 use Rattle.call_acts.specs.declared.makings.MakingAt.{MakingAt}
 use Rattle.call_acts.specs.declared.work.Work.TheVariants.{Lookup, Scan, Acquire, Act as act_work}
 use Rattle.call_acts.specs.declared.work.Work.{Work}
-use Rattle.call_acts.specs.declared.work.Act.TheVariants.{Fill as fill_act, Remove as remove_act, Retype as type_act, Make as make_act, Outside, Tick as tick_act, Flush as flush_act, Kill as kill_act}
+use Rattle.call_acts.specs.declared.work.Act.TheVariants.{Fill as fill_act, Remove as remove_act, Retype as type_act, Make as make_act, Outside, Tick as tick_act, Touch as touch_act, Flush as flush_act, Kill as kill_act}
 use Rattle.call_acts.specs.declared.work.Act.{Act as ActOf}
 use Rattle.stage_quiet.specs.declared.quiet.Quiet.TheVariants.{AtCore, AtFlush}
 use Rattle.call_plans.specs.declared.plans.Plan.{Plan}
@@ -107,6 +107,7 @@ filled_act setup t c f call plan ks (remove_act close cap) h knows is = absurd (
 filled_act setup t c f call plan ks (type_act typing) h knows is = absurd (false≢true is)
 filled_act setup t c f call plan ks (Outside node entry word) h knows is = absurd (false≢true is)
 filled_act setup t c f call plan ks (tick_act charge) h knows is = absurd (false≢true is)
+filled_act setup t c f call plan ks (touch_act m) h knows is = absurd (false≢true is)
 filled_act setup t c f call plan ks (flush_act by) h knows is = absurd (false≢true is)
 filled_act setup t c f call plan ks (kill_act m) h knows is = absurd (false≢true is)
 
@@ -122,6 +123,7 @@ scans_nothing (remove_act close cap) f starts = refl
 scans_nothing (type_act typing) f starts = refl
 scans_nothing (Outside node entry word) f starts = refl
 scans_nothing (tick_act charge) f starts = refl
+scans_nothing (touch_act m) f starts = refl
 scans_nothing (flush_act by) f starts = refl
 scans_nothing (kill_act m) f starts = refl
 

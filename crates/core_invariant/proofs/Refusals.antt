@@ -5,7 +5,7 @@ use Rattle.std.proofs.lemmas.Bool.{false≢true, lt-leb}
 use Rattle.supported_calls.specs.Built.{IsBuilt}
 use Rattle.spk_nums.specs.Setting.{Setting, IsSetting}
 use Rattle.spk_nums.specs.declared.calls.Call.{Call}
-use Rattle.spk_nums.specs.declared.calls.Call.TheVariants.{Look, Copy, Remove, Shrink, Unmap, Retype, Make, Flush, Tick, Kill}
+use Rattle.spk_nums.specs.declared.calls.Call.TheVariants.{Look, Copy, Remove, Shrink, Unmap, Retype, Make, Touch, Flush, Tick, Kill}
 use Rattle.spk_nums.specs.declared.replies.Reply.{Reply}
 use Rattle.spk_nums.specs.declared.replies.Reply.TheVariants as reply
 use Rattle.word_map.specs.Moves.{Move, word_of}
@@ -28,7 +28,7 @@ use Rattle.stage_look.specs.declared.look.Look.{Look as LookOf}
 use Rattle.stage_quiet.specs.declared.close.Close.TheVariants.{AtCompare, AtDraw, AtStore}
 use Rattle.stage_quiet.specs.declared.quiet.Quiet.TheVariants.{AtCore, AtFlush}
 use Rattle.call_acts.specs.declared.work.Act.{Act as ActOf}
-use Rattle.call_acts.specs.declared.work.Act.TheVariants.{Fill as fill_act, Remove as remove_act, Retype as type_act, Make as make_act, Outside, Tick as tick_act, Flush as flush_act, Kill as kill_act}
+use Rattle.call_acts.specs.declared.work.Act.TheVariants.{Fill as fill_act, Remove as remove_act, Retype as type_act, Make as make_act, Outside, Tick as tick_act, Touch as touch_act, Flush as flush_act, Kill as kill_act}
 use Rattle.call_acts.specs.declared.work.Work.{Work}
 use Rattle.call_acts.specs.declared.work.Work.TheVariants.{Lookup, Scan, Acquire, Act}
 use Rattle.call_steps.specs.View.{Core}
@@ -70,6 +70,7 @@ built_owes s c (Shrink u i) built other = refl
 built_owes s c (Unmap p v) built other = refl
 built_owes s c (Retype r f k) built other = refl
 built_owes s c (Make what r f u b) built other = refl
+built_owes s c (Touch v) built other = refl
 built_owes s c Flush built other = refl
 built_owes s c (Tick n) built other = absurd (other n refl)
 built_owes s c (Kill k) built other = refl
@@ -83,6 +84,7 @@ ticks_in (type_act typing) = false
 ticks_in (make_act m) = false
 ticks_in (Outside node entry word) = false
 ticks_in (tick_act charge) = true
+ticks_in (touch_act m) = false
 ticks_in (flush_act by) = false
 ticks_in (kill_act m) = false
 
@@ -113,6 +115,10 @@ module _ (setup : Setting) (t : Trace) (c table n : ℕ) where
   act_ticks plan ks upto (make_act m) has is = has.makes
   act_ticks plan ks upto (Outside node entry word) has is = has.outside
   act_ticks plan ks upto (tick_act charge) has is = false≢true (sym is)
+  act_ticks plan ks upto (touch_act m) has is = no_touch m.page has.call_is
+    where
+      no_touch : (v : ℕ) → Tick n ≡ Touch v → ⊥
+      no_touch v h = cc
   act_ticks plan ks upto (flush_act by) has is = no_flush has.call_is
     where
       no_flush : Tick n ≡ Flush → ⊥
@@ -221,6 +227,13 @@ module _ (setup : Setting) (setting : IsSetting setup) (cores : ℕ → Core) (t
       decides_on setup setting cores t stands c here a active move reply.FrameKind a.found looks lands (still None refl) opens refl refl
       (λ x. refl) (λ x. refl) refl (unspent, may) tt
       (first_of reply.FrameKind first)
+
+  pub refuses_fault : RuleMay (state_after setup t) c (rule_of (state_after setup t) c a.call) reply.Fault
+      → IsFirstCause reply.Fault → RefusedWith reply.Fault
+  refuses_fault may first lands =
+      decides_on setup setting cores t stands c here a active move reply.Fault a.found looks lands (still None refl) opens refl refl
+      (λ x. refl) (λ x. refl) refl (unspent, may) tt
+      (first_of reply.Fault first)
 
   -- and owes no ticks, where it charges none
   owes_none : ticks_at a.stage ≡ false → owed_by (state_after setup t) c a.call ≡ state_after setup t

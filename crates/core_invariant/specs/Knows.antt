@@ -12,13 +12,13 @@ use Rattle.call_acts.specs.declared.makings.MakingAt.TheVariants.{Load as making
 use Rattle.call_acts.specs.declared.makings.MakingAt.{MakingAt}
 use Rattle.call_acts.specs.declared.makings.Making.{Making}
 use Rattle.call_acts.specs.declared.objects.NewObject.{NewObject}
-use Rattle.std.specs.Prelude.{◌≡◌, ◌≢◌, ◌<◌, ◌≤◌, ◌+◌, ◌++◌, ◌/◌, ℕ, ℤ, Bool, true, false, map, All, List, [], ◌∷◌, length, Option, Some, None, IsSome, IsTrue, not, ◌^◌}
+use Rattle.std.specs.Prelude.{◌≡◌, ◌≢◌, ◌<◌, ◌≤◌, ◌+◌, ◌++◌, ◌/◌, ℕ, ℤ, Bool, true, false, map, All, List, [], ◌∷◌, length, Option, Some, None, IsSome, IsTrue, is_some, not, ◌^◌}
 use Rattle.spk_nums.specs.Capability.{Capability}
 use Rattle.spk_nums.specs.Setting.{Setting}
 use Rattle.spk_nums.specs.declared.kinds.Kind.{Kind}
 use Rattle.spk_nums.specs.declared.kinds.Kind.TheVariants.{Comp as comp_kind}
 use Rattle.spk_nums.specs.declared.calls.Call.{Call}
-use Rattle.spk_nums.specs.declared.calls.Call.TheVariants.{Retype, Make as make_call, Flush, Tick, Kill}
+use Rattle.spk_nums.specs.declared.calls.Call.TheVariants.{Retype, Make as make_call, Touch, Flush, Tick, Kill}
 use Rattle.spk_nums.specs.declared.kinds.FrameKind.{FrameKind}
 use Rattle.spk_nums.specs.declared.kinds.FrameKind.TheVariants.{Untyped, Kernel as FrameKernel}
 use Rattle.frame_words.specs.Frame.{frame_of_word}
@@ -33,6 +33,9 @@ use Rattle.frame_words.specs.declared.live_word.LiveWord.TheVariants as live_wor
 use Rattle.word_map.specs.Word.{EntryAt, CountAt, FrameAt, LiveAt}
 use Rattle.word_map.specs.Places.{counter_of}
 use Rattle.kernel_rules.specs.State.{Thing, PlaceOf, State, first_of_stack, thread_of, comp_of, comp_in}
+use Rattle.kernel_rules.specs.MemoryCalls.{translation_of}
+use Rattle.call_acts.specs.declared.touches.Touching.{Touching}
+use Rattle.call_acts.specs.Touches.{is_at_page}
 use Rattle.kernel_rules.specs.Access.{Slot, Named, root_at, Target, Under, InRoot, usable, linked, root_slot, reached, found}
 use Rattle.kernel_rules.specs.Fitting.{fits}
 use Rattle.kernel_rules.specs.Relies.{IsGuarded, Relies}
@@ -65,7 +68,7 @@ use Rattle.call_acts.specs.declared.typings.TypingAt.TheVariants.{Load, Compare 
 use Rattle.call_acts.specs.Typings.{is_typing}
 use Rattle.kernel_rules.specs.CapabilityCalls.{has_frame}
 use Rattle.call_acts.specs.declared.work.Act.{Act as ActOf}
-use Rattle.call_acts.specs.declared.work.Act.TheVariants.{Fill as fill_act, Remove as remove_act, Retype as type_act, Make as make_act, Outside, Tick as tick_act, Flush as flush_act, Kill as kill_act}
+use Rattle.call_acts.specs.declared.work.Act.TheVariants.{Fill as fill_act, Remove as remove_act, Retype as type_act, Make as make_act, Outside, Tick as tick_act, Touch as touch_act, Flush as flush_act, Kill as kill_act}
 use Rattle.call_acts.specs.declared.work.Work.{Work}
 use Rattle.call_acts.specs.declared.work.Due.{Due}
 use Rattle.call_acts.specs.declared.work.Work.TheVariants.{Lookup, Scan, Acquire, Act}
@@ -375,6 +378,16 @@ pub record KnowsKilling (setup : Setting) (t : Trace) (c : ℕ) (call : Call) (k
   pub comp : HasComp (state_after setup t) c m.comp
   pub at : KnowsKillingAt setup t c m.comp m.at
 
+-- A touch is of a page of the core's own pages: what the core has cached of it is known, and its entry is looked up, unless the first
+-- load answers.
+pub record KnowsTouch (setup : Setting) (t : Trace) (c : ℕ) (call : Call) (m : Touching) : Type 0 where
+  pub call_is : call ≡ Touch m.page
+  pub root : m.pages ≡ (comp_of (state_after setup t) c).pages
+  pub all : m.frames ≡ setup.frames
+  pub known : m.cached ≡ translation_of ((state_after setup t).core c).cached m.pages m.page
+  pub first : is_some m.cached ≡ true → is_at_page m.look ≡ false
+  pub looks : LooksUp setup t c (Under (root_at m.pages) m.page) m.look
+
 -- A flush is of the translations of the core itself.
 pub record KnowsFlushing (c : ℕ) (call : Call) (by : ℕ) : Type 0 where
   pub call_is : call ≡ Flush
@@ -388,6 +401,7 @@ KnowsAct setup t c call plan found upto (type_act typing) = KnowsTyping t c call
 KnowsAct setup t c call plan found upto (make_act making) = KnowsMaking setup t c call plan found upto making
 KnowsAct setup t c call plan found upto (Outside node entry word) = KnowsOutside setup t c call plan found upto node entry word
 KnowsAct setup t c call plan found upto (tick_act charge) = KnowsTick setup t c call charge
+KnowsAct setup t c call plan found upto (touch_act m) = KnowsTouch setup t c call m
 KnowsAct setup t c call plan found upto (flush_act by) = KnowsFlushing c call by
 KnowsAct setup t c call plan found upto (kill_act m) = KnowsKilling setup t c call found m
 
@@ -404,6 +418,7 @@ is_start (type_act typing) = not (is_typing typing.at)
 is_start (make_act making) = not (is_marked making.at)
 is_start (Outside node entry word) = true
 is_start (tick_act charge) = not (is_charging charge)
+is_start (touch_act m) = true
 is_start (flush_act by) = true
 is_start (kill_act m) = not (is_killing m.at)
 

@@ -28,7 +28,7 @@ use Rattle.spk_nums.specs.declared.replies.Reply.{Reply}
 use Rattle.spk_nums.specs.declared.replies.Reply.TheVariants.{Ok}
 use Rattle.stage_pins.specs.declared.held.Acquired.{Acquired}
 use Rattle.call_acts.specs.declared.work.Act.{Act}
-use Rattle.call_acts.specs.declared.work.Act.TheVariants.{Fill, Remove, Retype, Make, Outside, Tick, Flush, Kill}
+use Rattle.call_acts.specs.declared.work.Act.TheVariants.{Fill, Remove, Retype, Make, Outside, Tick, Touch, Flush, Kill}
 use Rattle.call_acts.specs.declared.work.Work.{Work}
 use Rattle.call_acts.specs.declared.work.Work.TheVariants.{Lookup, Scan, Acquire, Act as act_work}
 use Rattle.call_acts.specs.declared.work.Tail.{Tail}
@@ -71,6 +71,7 @@ holds_act (Retype typing) h = h
 holds_act (Make making) h = holds_making making.frame making.at h
 holds_act (Outside node entry word) h = h
 holds_act (Tick charge) h = h
+holds_act (Touch m) h = h
 holds_act (Flush by) h = h
 holds_act (Kill m) h = holds_killing m.at h
 

@@ -15,7 +15,7 @@ use Rattle.std.proofs.lemmas.List.Elements.{All-nil, All-cons, All-head, All-tai
 use Rattle.spk_nums.specs.Setting.{Setting, IsSetting}
 use Rattle.spk_nums.specs.Capability.{Capability}
 use Rattle.spk_nums.specs.declared.calls.Call.{Call}
-use Rattle.spk_nums.specs.declared.calls.Call.TheVariants.{Look, Copy, Remove, Shrink, Unmap, Retype, Make as make_call, Flush, Tick, Kill}
+use Rattle.spk_nums.specs.declared.calls.Call.TheVariants.{Look, Copy, Remove, Shrink, Unmap, Retype, Make as make_call, Touch, Flush, Tick, Kill}
 use Rattle.spk_nums.specs.declared.replies.Reply.{Reply}
 use Rattle.spk_nums.specs.declared.replies.Reply.TheVariants as reply
 use Rattle.supported_calls.specs.Built.{IsBuilt}
@@ -68,7 +68,7 @@ use Rattle.look_invariant.proofs.Findings.{found_named}
 use Rattle.call_acts.specs.declared.refusals.Refusal.TheVariants as refusal
 use Rattle.call_acts.specs.declared.work.Due.{Due}
 use Rattle.call_acts.specs.declared.work.Act.{Act as ActOf}
-use Rattle.call_acts.specs.declared.work.Act.TheVariants.{Fill as fill_act, Remove as remove_act, Retype as type_act, Make as make_act, Outside, Tick as tick_act, Flush as flush_act, Kill as kill_act}
+use Rattle.call_acts.specs.declared.work.Act.TheVariants.{Fill as fill_act, Remove as remove_act, Retype as type_act, Make as make_act, Outside, Tick as tick_act, Touch as touch_act, Flush as flush_act, Kill as kill_act}
 use Rattle.call_acts.specs.declared.work.Tail.TheVariants.{Nothing}
 use Rattle.call_acts.specs.declared.work.Work.TheVariants.{Acquire}
 use Rattle.call_steps.specs.declared.stages.Stage.TheVariants.{Undecided, Decided}
@@ -179,6 +179,7 @@ undo_holds (make_act m) h is = by m.at
     by (making_fill word) = refl
 undo_holds (Outside node entry word) h is = refl
 undo_holds (tick_act charge) h is = refl
+undo_holds (touch_act m) h is = refl
 undo_holds (flush_act core) h is = refl
 undo_holds (kill_act m) h is = by m.at is
   where
@@ -213,6 +214,7 @@ act_count (make_act m) h f d = by m.at
     by (making_fill word) = (refl, refl)
 act_count (Outside node entry word) h f d = (refl, refl)
 act_count (tick_act charge) h f d = (refl, refl)
+act_count (touch_act m) h f d = (refl, refl)
 act_count (flush_act core) h f d = (refl, refl)
 act_count (kill_act m) h f d = by m.at
   where
@@ -247,6 +249,7 @@ act_over (make_act m) h g w same = by m.at
     by (making_fill word) = keeps_over (FrameAt m.frame) w word h g same
 act_over (Outside node entry word) h g w same = same
 act_over (tick_act charge) h g w same = same
+act_over (touch_act m) h g w same = same
 act_over (flush_act core) h g w same = same
 act_over (kill_act m) h g w same = by m.at
   where
@@ -265,6 +268,7 @@ counts_plain (type_act typing) before due rest is = refl
 counts_plain (make_act m) before due rest is = refl
 counts_plain (Outside node entry word) before due rest is = refl
 counts_plain (tick_act charge) before due rest is = absurd (no_due before due rest is)
+counts_plain (touch_act m) before due rest is = refl
 counts_plain (flush_act core) before due rest is = refl
 counts_plain (kill_act m) before due rest is = refl
 
@@ -278,6 +282,7 @@ put_counts (Shrink u i) built ks k puts = absurd (cc)
 put_counts (Unmap p v) built ks k puts = absurd (cc)
 put_counts (Retype r f j) built ks k puts = absurd (cc)
 put_counts (make_call what r f u b) built ks k puts = absurd (cc)
+put_counts (Touch v) built ks k puts = absurd (cc)
 put_counts Flush built ks k puts = absurd (cc)
 put_counts (Tick n) built ks k puts = absurd (cc)
 put_counts (Kill n) built ks k puts = absurd (cc)
@@ -293,6 +298,7 @@ put_near s c (Shrink u i) built ks k puts lead f names_it = absurd (cc)
 put_near s c (Unmap p v) built ks k puts lead f names_it = absurd (cc)
 put_near s c (Retype r g j) built ks k puts lead f names_it = absurd (cc)
 put_near s c (make_call what r g u b) built ks k puts lead f names_it = absurd (cc)
+put_near s c (Touch v) built ks k puts lead f names_it = absurd (cc)
 put_near s c Flush built ks k puts lead f names_it = absurd (cc)
 put_near s c (Tick n) built ks k puts lead f names_it = absurd (cc)
 put_near s c (Kill n) built ks k puts lead f names_it = absurd (cc)
@@ -718,6 +724,8 @@ acquire_good setup setting cores t stands c here a active pin change (make_act m
 acquire_good setup setting cores t stands c here a active pin change (Outside node entry word) is has =
     absurd (no_due (map due_of a.counts) (record { frame = pin_frame pin; change = change }) has.knows.rest has.knows.due)
 acquire_good setup setting cores t stands c here a active pin change (tick_act charge) is has =
+    absurd (no_due (map due_of a.counts) (record { frame = pin_frame pin; change = change }) has.knows.rest has.knows.due)
+acquire_good setup setting cores t stands c here a active pin change (touch_act m) is has =
     absurd (no_due (map due_of a.counts) (record { frame = pin_frame pin; change = change }) has.knows.rest has.knows.due)
 acquire_good setup setting cores t stands c here a active pin change (flush_act core) is has =
     absurd (no_due (map due_of a.counts) (record { frame = pin_frame pin; change = change }) has.knows.rest has.knows.due)

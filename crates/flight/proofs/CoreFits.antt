@@ -8,7 +8,7 @@ use Rattle.supported_calls.specs.Built.{IsBuilt}
 use Rattle.kernel_rules.specs.Laws.{calls_counted}
 use Rattle.call_acts.specs.declared.own.Own.{Own}
 use Rattle.call_acts.specs.declared.own.OwnChange.{OwnChange}
-use Rattle.call_acts.specs.declared.own.OwnChange.TheVariants.{Ticks, Empties}
+use Rattle.call_acts.specs.declared.own.OwnChange.TheVariants.{Ticks, Empties, Caches}
 use Rattle.spk_nums.specs.declared.replies.Reply.{Reply}
 use Rattle.call_steps.specs.declared.stages.ActiveCall.{ActiveCall}
 use Rattle.call_steps.specs.View.{Core}
@@ -66,6 +66,7 @@ further_changed : (own : Own) (a : ActiveCall) (r : Reply) (change : OwnChange) 
     → GoesFurther own a (core_after own (Changes r change new))
 further_changed own a r (Ticks charged owed) new fits fewer = record { fits = fits; fewer = fewer }
 further_changed own a r Empties new fits fewer = record { fits = fits; fewer = fewer }
+further_changed own a r (Caches item) new fits fewer = record { fits = fits; fewer = fewer }
 
 further : (own : Own) (a : ActiveCall) (found : ℕ) (k : Took) → took own a found ≡ k → IsCore (record { own = own; active = Some a })
     → GoesFurther own a (core_after own k)

@@ -14,7 +14,7 @@ use Rattle.call_acts.specs.declared.kills.KillingAt.TheVariants.{LoadComp, LoadL
 use Rattle.call_acts.specs.Kills.{KillingAtFits, killing_at}
 use Rattle.call_acts.specs.declared.own.Own.{Own}
 use Rattle.call_acts.specs.declared.work.Act.{Act}
-use Rattle.call_acts.specs.declared.work.Act.TheVariants.{Fill, Remove, Retype, Make, Outside, Tick, Flush, Kill}
+use Rattle.call_acts.specs.declared.work.Act.TheVariants.{Fill, Remove, Retype, Make, Outside, Tick, Touch, Flush, Kill}
 use Rattle.spk_nums.specs.declared.kinds.FrameKind.{FrameKind}
 use Rattle.call_acts.specs.declared.typings.TypingAt.{TypingAt}
 use Rattle.call_acts.specs.declared.typings.TypingAt.TheVariants.{Load, Compare as type_compare}
@@ -99,6 +99,7 @@ act_named (Retype typing) = typing_named typing.frame typing.kind typing.at
 act_named (Make m) = making_named m.frame m.object m.core m.fill m.at
 act_named (Outside node entry word) = refl
 act_named (Tick charge) = charge_named charge
+act_named (Touch m) = look_named m.look
 act_named (Flush core) = refl
 act_named (Kill m) = killing_named m.comp m.core m.at
 
@@ -152,6 +153,7 @@ act_in shape (Retype typing) fits = typing_in shape typing.frame typing.kind typ
 act_in shape (Make m) fits = making_in shape m.frame m.object m.core m.fill m.at fits.frame fits.fill fits.at
 act_in shape (Outside node entry word) fits = fits
 act_in shape (Tick charge) fits = charge_is_in shape charge fits
+act_in shape (Touch m) fits = look_is_in shape m.look fits.look
 act_in shape (Flush core) fits = tt
 act_in shape (Kill m) fits = killing_in shape m.comp m.core m.at fits.comp fits.at
 

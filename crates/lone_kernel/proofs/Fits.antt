@@ -11,7 +11,7 @@ use Rattle.kernel_history.specs.Trace.{decision_at}
 use Rattle.call_steps.specs.View.{Core}
 use Rattle.call_steps.specs.Fits.{IsCore, steps_left}
 use Rattle.call_acts.specs.declared.own.Own.{Own}
-use Rattle.call_acts.specs.declared.own.OwnChange.TheVariants.{Ticks, Empties}
+use Rattle.call_acts.specs.declared.own.OwnChange.TheVariants.{Ticks, Empties, Caches}
 use Rattle.call_steps.specs.Cores.{core_after, told_by, absorbed, told_of_step, absorbed_in, told_in}
 use Rattle.core_invariant.specs.Events.{decided_in}
 use Rattle.call_steps.specs.declared.stages.Absorbed.{Absorbed}
@@ -104,6 +104,7 @@ same_took own (Decides r g) = record { core = refl; layout = refl }
 same_took own (Returns r x) = record { core = refl; layout = refl }
 same_took own (Changes r (Ticks charged owed) g) = record { core = refl; layout = refl }
 same_took own (Changes r Empties g) = record { core = refl; layout = refl }
+same_took own (Changes r (Caches item) g) = record { core = refl; layout = refl }
 
 same_in : (own : Own) (o : Option ActiveCall) (found : ℕ) → IsTheSame own (absorbed_in own o found).own
 same_in own None found = record { core = refl; layout = refl }

@@ -7,7 +7,7 @@ use Rattle.spk_nums.specs.Capability.{Capability}
 use Rattle.spk_nums.specs.Setting.{Setting, IsSetting}
 use Rattle.spk_nums.specs.declared.kinds.Kind.TheVariants as kind
 use Rattle.spk_nums.specs.declared.calls.Call.{Call}
-use Rattle.spk_nums.specs.declared.calls.Call.TheVariants.{Look, Copy, Remove, Shrink, Unmap, Retype, Make as make_call, Flush, Tick, Kill}
+use Rattle.spk_nums.specs.declared.calls.Call.TheVariants.{Look, Copy, Remove, Shrink, Unmap, Retype, Make as make_call, Touch, Flush, Tick, Kill}
 use Rattle.spk_nums.specs.declared.kinds.Kind.{Kind}
 use Rattle.supported_calls.specs.Built.{IsBuilt}
 use Rattle.spk_nums.specs.declared.replies.Value.TheVariants.{Nothing}
@@ -470,6 +470,7 @@ puts_by s c target q (Shrink u i) built ks lead none next puts = absurd (cc)
 puts_by s c target q (Unmap p v) built ks lead none next puts = absurd (cc)
 puts_by s c target q (Retype r f k) built ks lead none next puts = absurd (cc)
 puts_by s c target q (make_call what r f u b) built ks lead none next puts = absurd (cc)
+puts_by s c target q (Touch v) built ks lead none next puts = absurd (cc)
 puts_by s c target q Flush built ks lead none next puts = absurd (cc)
 puts_by s c target q (Tick n) built ks lead none next puts = absurd (cc)
 puts_by s c target q (Kill n) built ks lead none next puts = absurd (cc)

@@ -38,7 +38,7 @@ use Rattle.call_plans.proofs.AfterNames.{Begins, left_begins, next_may}
 use Rattle.plan_ways.proofs.Ways.{asked_left}
 use Rattle.call_acts.specs.declared.refusals.Refusal.TheVariants as refusal
 use Rattle.call_acts.specs.declared.work.Act.{Act as ActOf}
-use Rattle.call_acts.specs.declared.work.Act.TheVariants.{Fill as fill_act, Remove as remove_act, Retype as type_act, Make as make_act, Outside, Tick as tick_act, Flush as flush_act, Kill as kill_act}
+use Rattle.call_acts.specs.declared.work.Act.TheVariants.{Fill as fill_act, Remove as remove_act, Retype as type_act, Make as make_act, Outside, Tick as tick_act, Touch as touch_act, Flush as flush_act, Kill as kill_act}
 use Rattle.call_acts.specs.declared.work.Work.TheVariants.{Scan}
 use Rattle.call_steps.specs.declared.stages.Stage.TheVariants.{Undecided}
 use Rattle.call_steps.specs.declared.stages.ActiveCall.{ActiveCall}
@@ -325,6 +325,7 @@ scan_good setup setting cores t stands c here a active (AtCore x by at page) act
     by_act (remove_act close cap) is knows = absurd (none_scanned (remove_act close cap) is knows.knows.stamp)
     by_act (type_act typing) is knows = absurd (none_scanned (type_act typing) is knows.knows.stamp)
     by_act (tick_act charge) is knows = absurd (none_scanned (tick_act charge) is knows.knows.stamp)
+    by_act (touch_act m) is knows = absurd (none_scanned (touch_act m) is knows.knows.stamp)
     by_act (flush_act core) is knows = absurd (none_scanned (flush_act core) is knows.knows.stamp)
     by_act (kill_act m) is knows = absurd (none_scanned (kill_act m) is knows.knows.stamp)
     by_act (fill_act fill) is knows =

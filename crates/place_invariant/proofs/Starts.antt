@@ -21,7 +21,7 @@ use Rattle.call_acts.specs.Kills.{is_killing}
 use Rattle.call_acts.specs.declared.kills.KillingAt.{KillingAt}
 use Rattle.call_acts.specs.declared.kills.KillingAt.TheVariants.{LoadComp, LoadLive, Close as kill_close, Draw as kill_draw}
 use Rattle.call_acts.specs.declared.work.Act.{Act as ActOf}
-use Rattle.call_acts.specs.declared.work.Act.TheVariants.{Fill as fill_act, Remove as remove_act, Retype as type_act, Make as make_act, Outside, Tick as tick_act, Flush as flush_act, Kill as kill_act}
+use Rattle.call_acts.specs.declared.work.Act.TheVariants.{Fill as fill_act, Remove as remove_act, Retype as type_act, Make as make_act, Outside, Tick as tick_act, Touch as touch_act, Flush as flush_act, Kill as kill_act}
 use Rattle.call_acts.specs.declared.work.WorkStep.TheVariants.{Goes}
 use Rattle.call_acts.specs.WorkSteps.{refuse}
 use Rattle.call_acts.specs.Acts.{dues, made_dues, next_work, starts, killing_dues}
@@ -55,6 +55,7 @@ start_holds (make_act m) h is = by m.at is
     by (making_fill word) is = absurd (false≢true is)
 start_holds (Outside node entry word) h is = refl
 start_holds (tick_act charge) h is = refl
+start_holds (touch_act m) h is = refl
 start_holds (flush_act core) h is = refl
 start_holds (kill_act m) h is = by m.at is
   where
@@ -71,6 +72,7 @@ start_counts (type_act typing) is = refl
 start_counts (make_act m) is = refl
 start_counts (Outside node entry word) is = refl
 start_counts (tick_act charge) is = refl
+start_counts (touch_act m) is = refl
 start_counts (flush_act core) is = refl
 start_counts (kill_act m) is = is
 
@@ -88,6 +90,7 @@ start_apart (make_act m) is = by m.at is
     by (making_fill word) is = absurd (false≢true is)
 start_apart (Outside node entry word) is = tt
 start_apart (tick_act charge) is = tt
+start_apart (touch_act m) is = tt
 start_apart (flush_act core) is = tt
 start_apart (kill_act m) is = by m.at
   where
@@ -149,5 +152,6 @@ module _ (setup : Setting) (setting : IsSetting setup) (cores : ℕ → Core) (t
   starts_good (make_act m) is known refused = goes_good (make_act m) is refl known
   starts_good (Outside node entry word) is known refused = outside_good (refused refl)
   starts_good (tick_act charge) is known refused = goes_good (tick_act charge) is refl known
+  starts_good (touch_act m) is known refused = goes_good (touch_act m) is refl known
   starts_good (flush_act core) is known refused = goes_good (flush_act core) is refl known
   starts_good (kill_act m) is known refused = goes_good (kill_act m) is refl known

@@ -9,7 +9,7 @@ use Rattle.spk_nums.specs.declared.kinds.FrameKind.TheVariants as frame_kind
 use Rattle.spk_nums.specs.declared.kinds.Kind.{Kind}
 use Rattle.spk_nums.specs.declared.kinds.Kind.TheVariants as kind
 use Rattle.spk_nums.specs.declared.calls.Call.{Call}
-use Rattle.spk_nums.specs.declared.calls.Call.TheVariants.{Look as look_call, Copy, Remove, Shrink, Unmap, Retype, Make as make_call, Flush, Tick, Kill}
+use Rattle.spk_nums.specs.declared.calls.Call.TheVariants.{Look as look_call, Copy, Remove, Shrink, Unmap, Retype, Make as make_call, Touch, Flush, Tick, Kill}
 use Rattle.spk_nums.specs.declared.calls.Make.{Make}
 use Rattle.spk_nums.specs.declared.calls.Make.TheVariants as make
 use Rattle.supported_calls.specs.Built.{IsBuilt, IsObjectMade}
@@ -219,6 +219,10 @@ begins_free own (make_call what r f u b) built spot to s plan ks c core none lea
     subst (λ ks. Begins own (make_call what r f u b) plan ks c at) (sym two.found_is)
     (begins_make own plan c core at what r f u b object two.range (two.table ∷ two.rest)
     (subst (λ ks. object_made what ks ≡ Some object) two.found_is is) (within r f two.range two.first)))
+begins_free own (Touch v) built spot to s plan ks c core none leads fits within at = absurd (not_target to)
+  where
+    not_target : own_page v ≡ Free spot → ⊥
+    not_target h = cc
 begins_free own Flush built spot to s plan ks c core none leads fits within at = absurd (not_target to)
   where
     not_target : Nowhere ≡ Free spot → ⊥

@@ -3,7 +3,7 @@ use Rattle.std.proofs.Common.{◌≡◌, ℕ, nat_le, nat_lt, ◌&&◌, Bool, tr
 use Rattle.std.proofs.lemmas.Bool.{leb-false, lt-ltb}
 use Rattle.spk_nums.specs.Capability.{Capability}
 use Rattle.spk_nums.specs.declared.calls.Call.{Call}
-use Rattle.spk_nums.specs.declared.calls.Call.TheVariants.{Look as look_call, Copy, Remove, Shrink, Unmap, Retype, Make as make_call, Flush, Tick, Kill}
+use Rattle.spk_nums.specs.declared.calls.Call.TheVariants.{Look as look_call, Copy, Remove, Shrink, Unmap, Retype, Make as make_call, Touch, Flush, Tick, Kill}
 use Rattle.spk_nums.specs.declared.calls.Make.{Make}
 use Rattle.spk_nums.specs.declared.calls.Make.TheVariants as make
 use Rattle.spk_nums.specs.declared.kinds.FrameKind.TheVariants as frame_kind
@@ -148,6 +148,10 @@ begins_removal own (Retype r f frame_kind.Kernel) built spot to ks = absurd (not
 begins_removal own (make_call what r f u b) built spot to ks = absurd (not_held (sym (make_target what r u b) ∙ to))
   where
     not_held : Free (spot_of.Under Second b) ≡ Held spot → ⊥
+    not_held h = cc
+begins_removal own (Touch v) built spot to ks = absurd (not_held to)
+  where
+    not_held : own_page v ≡ Held spot → ⊥
     not_held h = cc
 begins_removal own Flush built spot to ks = absurd (not_held to)
   where
