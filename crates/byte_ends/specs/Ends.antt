@@ -17,7 +17,7 @@ abbrev pub Takes : ℕ → Option (List ℕ) → Option (List ℕ) → List ℕ 
 Takes k None left' buf buf' = Unit {0}
 Takes k (Some left) left' buf buf' = Moves k left left' buf buf'
 
--- The piece stands behind what was held, where the sink tells what it holds.
+-- The piece stands after what was held, where the sink tells what it holds.
 abbrev pub Adds : List ℕ → Option (List ℕ) → Option (List ℕ) → Type 0
 Adds piece None held' = Unit {0}
 Adds piece (Some held) held' = held' ≡ Some (held ++ piece)

@@ -3,6 +3,8 @@
 //! Contracts see what a source has left and what a sink holds, where it tells that, and a count
 //! of faults that never falls. A read or a write that fails raises the count, and one that goes well
 //! leaves it as it was; a count that stands at its last value counts as risen.
+//!
+//! See docs/PROOF.md, 'From the bytes read to the bytes written'.
 #![tactic(auto)]
 
 ghost use Rattle.std.specs.Prelude.{◌≡◌, ℕ, ◌≤◌, List, [], length, take, Option, IfOk, OnOk, OnErr};

@@ -8,7 +8,7 @@ use spk_nums::Memory;
 use std::alloc::Global;
 use std::marker::Model;
 
-// Whether the call behind so many others is among those that fail.
+// Whether the call after so many others is among those that fail.
 fn is_bad(fails: &[u32], calls: u64) -> bool
     ensures { IsTrue result ↔ Contains fails.now (calls + 1) }
 {

@@ -2,7 +2,9 @@
 use Rattle.std.specs.Prelude.{ℕ, ℤ, ◌<◌, ◌==◌, pos, negsuc, Bool, true, false, ◌&&◌, nat_lt, nat_le, Option, Some, None, List, map, slice_get, if◌then◌else◌, [], ◌∷◌}
 use Rattle.spk_nums.specs.Capability.{Capability}
 use Rattle.spk_nums.specs.declared.calls.Call.{Call}
-use Rattle.spk_nums.specs.declared.calls.Call.TheVariants.{Look, Copy, Remove, Shrink, Retype, Make as make_call, Unmap, Tick, Gate, Kill, Grow, Flush, Map}
+use Rattle.spk_nums.specs.declared.calls.Call.TheVariants.{Look, Copy, Remove, Shrink, Retype, Make as make_call, Unmap, Tick, Gate, Kill, Grow, Flush, Map, Call as call_gate, Ret, Switch, Transfer, Delegate, Test}
+use Rattle.spk_nums.specs.declared.calls.Make.{Make}
+use Rattle.spk_nums.specs.declared.calls.Make.TheVariants as make
 use Rattle.spk_nums.specs.declared.replies.Value.TheVariants.{Cap, Nothing as nothing}
 use Rattle.spk_nums.specs.declared.steps.StageEnd.{StageEnd}
 use Rattle.spk_nums.specs.declared.steps.StageEnd.TheVariants as ends
@@ -14,18 +16,18 @@ use Rattle.stage_quiet.specs.declared.close.Close.{Close}
 use Rattle.stage_quiet.specs.declared.close.Close.TheVariants.{AtCompare as close_compare, AtDraw, AtStore}
 use Rattle.stage_quiet.specs.declared.quiet.Quiet.{Quiet}
 use Rattle.stage_quiet.specs.Removal.{CloseFits, close_move, close_end, close_after}
-use Rattle.stage_quiet.specs.Scan.{quiet_scan}
+use Rattle.stage_quiet.specs.Scan.{quiet_scan, quiet_after, quiet_end}
 use Rattle.call_acts.specs.declared.own.Own.{Own}
 use Rattle.kernel_rules.specs.References.{named_by}
 use Rattle.word_map.specs.Places.{Shape}
 use Rattle.word_map.specs.Moves.{Move, LoadOf}
 use Rattle.stage_look.specs.declared.look.Found.{Found}
 use Rattle.stage_pins.specs.declared.pin.Pin.TheVariants.{AtLoad}
-use Rattle.call_plans.specs.declared.plans.Nth.TheVariants.{First, Second}
+use Rattle.call_plans.specs.declared.plans.Nth.TheVariants.{First, Second, Third, Fourth}
 use Rattle.call_plans.specs.Plans.{at_place}
-use Rattle.call_acts.specs.declared.refusals.Refusal.TheVariants.{Raced, OutOfRange, Busy, FrameKind as wrong_kind, Dead as is_dead}
+use Rattle.call_acts.specs.declared.refusals.Refusal.TheVariants.{Raced, OutOfRange, Busy, FrameKind as wrong_kind, Dead as is_dead, Deep, Bottom}
 use Rattle.call_acts.specs.declared.work.Act.{Act}
-use Rattle.call_acts.specs.declared.work.Act.TheVariants.{Fill as fill_act, Remove as remove_act, Retype as type_act, Make as make_act, Outside, Tick as tick_act, Flush as flush_act, Kill as kill_act, Untype as untype_act, Map as map_act}
+use Rattle.call_acts.specs.declared.work.Act.TheVariants.{Fill as fill_act, Remove as remove_act, Retype as type_act, Make as make_act, Outside, Tick as tick_act, Flush as flush_act, Kill as kill_act, Untype as untype_act, Map as map_act, MakeComp as comp_act, Invoke as invoke_act, Return as return_act, Switch as switch_act, Touch as touch_act, Share as share_act}
 use Rattle.call_acts.specs.declared.work.Due.{Due}
 use Rattle.call_acts.specs.declared.work.Work.{Work}
 use Rattle.call_acts.specs.declared.work.Work.TheVariants.{Scan, Acquire, Act as act_work}
@@ -44,15 +46,38 @@ use Rattle.call_acts.specs.Objects.{object_cap, object_made, object_dues}
 use Rattle.call_acts.specs.declared.makings.MakingAt.{MakingAt}
 use Rattle.call_acts.specs.declared.makings.MakingAt.TheVariants.{Load as make_load, Mark, Store, Fill as fill_at}
 use Rattle.call_acts.specs.declared.makings.Making.{Making}
+use Rattle.call_acts.specs.declared.comps.CompMaking.{CompMaking}
+use Rattle.call_acts.specs.declared.comps.CompAt.{CompAt}
+use Rattle.call_acts.specs.declared.comps.CompAt.TheVariants as comp_at_as
+use Rattle.call_acts.specs.Comps.{CompMakingFits, comp_move, comp_dues, comp_undo, comp_filling, comp_left, comp_meets, number_met, number_scanned, closes_number, comp_goes, comp_stored, comp_published}
 use Rattle.call_acts.specs.Makings.{made, MakingFits, making_move, stored, undo_at, is_filling, making_left}
 use Rattle.stage_tcap.specs.Charging.{ChargeFits, charge_move}
 use Rattle.call_acts.specs.Ticks.{charges, took_tick, is_charging, charge_left}
+use Rattle.stage_tcap.specs.Pairs.{PairFits, pair_move}
+use Rattle.stage_tcap.specs.declared.pair.PairWork.TheVariants as share
+use Rattle.call_acts.specs.Shares.{took_share, is_sharing, share_left, shares_at}
 use Rattle.stage_quiet.specs.Flushing.{flush_move}
 use Rattle.stage_quiet.specs.declared.flush_mark.FlushMark.TheVariants.{AtLoad as flush_load}
 use Rattle.call_acts.specs.Flushes.{flushes, took_flush}
+use Rattle.stage_look.specs.Lookup.{look_move}
+use Rattle.call_acts.specs.Touches.{TouchFits, took_touch, is_answering, touch_left}
 use Rattle.call_acts.specs.declared.kills.Killing.{Killing}
 use Rattle.call_acts.specs.declared.kills.KillingAt.{KillingAt}
 use Rattle.call_acts.specs.declared.kills.KillingAt.TheVariants.{LoadComp, LoadLive, Close as kill_close, Draw as kill_draw}
+use Rattle.call_acts.specs.declared.invocations.Invoking.{Invoking}
+use Rattle.call_acts.specs.declared.invocations.InvokingAt.{InvokingAt}
+use Rattle.call_acts.specs.declared.invocations.InvokingAt.TheVariants as invoking
+use Rattle.call_acts.specs.declared.invocations.Returning.{Returning}
+use Rattle.call_acts.specs.declared.invocations.ReturningAt.{ReturningAt}
+use Rattle.call_acts.specs.declared.invocations.ReturningAt.TheVariants as returning
+use Rattle.call_acts.specs.Invocations.{InvokingFits, invoking_move, is_entering, invoking_left, frame_in, enters_live, ReturningFits, returning_move, is_leaving, returning_left, below_in, left_to}
+use Rattle.call_acts.specs.declared.switches.Switching.{Switching}
+use Rattle.call_acts.specs.declared.switches.SwitchAt.{SwitchAt}
+use Rattle.call_acts.specs.declared.switches.SwitchAt.TheVariants as switch_at
+use Rattle.call_acts.specs.Switches.{SwitchingFits, switching_move, switching_dues, is_switching, switching_left, switching_undo, gives_back, switch_goes, took_claim, switch_table, switched}
+use Rattle.stage_thread.specs.Claiming.{claim_after, claim_end}
+use Rattle.stage_thread.specs.declared.claim.Claim.TheVariants as claim
+use Rattle.stage_thread.specs.declared.claim.Claimed.{Claimed}
 use Rattle.call_acts.specs.Kills.{KillingFits, killing_move, is_killing, killing_left}
 use Rattle.call_acts.specs.declared.untypings.Untyping.{Untyping}
 use Rattle.call_acts.specs.declared.untypings.UntypingAt.{UntypingAt}
@@ -81,6 +106,8 @@ use Rattle.word_map.specs.Word.{EntryAt, FrameAt}
 use Rattle.kernel_rules.specs.Access.{found as named, only}
 use Rattle.kernel_rules.specs.Start.{plain_cap}
 use Rattle.kernel_rules.specs.CapabilityCalls.{has_frame}
+pub use Rattle.call_acts.specs.Dues.{cap_dues, made_dues, killing_dues, invoking_dues, returning_dues, dues, acquires, next_work}
+pub use Rattle.call_acts.specs.Taking.{meets_object, meets_kernel, meets_blank, meets_making, marks_if, published, took_making_at, took_making, meets_comp, meets_life, meets_number, meets_live, closes_if, drawn_dead, took_killing_at, took_killing, meets_untyped, meets_untyping, sweep_from, sweeps_if, took_sweep, drawn_untyped, took_untyping_at, took_untyping, maps_kind, maps_frame, maps_word, comp_marks, took_comp_at, took_comp, meets_table, meets_pages, meets_gate, took_invoking_at, took_invoking, meets_below, meets_below_table, meets_below_pages, took_returning_at, took_returning, switch_pages, took_switching_at, took_switching}
 
 -- what an act names is of the machine
 abbrev pub ActFits : Shape → Act → Type 0
@@ -91,9 +118,15 @@ ActFits s (make_act m) = MakingFits s m
 ActFits s (map_act fill) = FillFits s fill × (fill.cap.frame < s.frames)
 ActFits s (Outside node entry word) = (node < s.frames) × (entry < 64)
 ActFits s (tick_act charge) = ChargeFits s charge
+ActFits s (touch_act m) = TouchFits s m
 ActFits s (flush_act core) = core < s.cores
 ActFits s (kill_act m) = KillingFits s m
 ActFits s (untype_act m) = UntypingFits s m
+ActFits s (comp_act m) = CompMakingFits s m
+ActFits s (invoke_act m) = InvokingFits s m
+ActFits s (return_act m) = ReturningFits s m
+ActFits s (switch_act m) = SwitchingFits s m
+ActFits s (share_act p) = PairFits s p
 
 -- the stamp with which a removal that has drawn it goes on to its store
 abbrev pub drawn_by : Close → Option ℕ
@@ -118,9 +151,15 @@ act_move (make_act m) = making_move m
 act_move (map_act fill) = LoadOf (FrameAt fill.cap.frame)
 act_move (Outside node entry word) = LoadOf (EntryAt node entry)
 act_move (tick_act charge) = charge_move charge
+act_move (touch_act m) = look_move m.look
 act_move (flush_act core) = flush_move (flush_load core)
 act_move (kill_act m) = killing_move m
 act_move (untype_act m) = untyping_move m
+act_move (comp_act m) = comp_move m
+act_move (invoke_act m) = invoking_move m
+act_move (return_act m) = returning_move m
+act_move (switch_act m) = switching_move m
+act_move (share_act p) = pair_move p
 
 -- whether the next step of a removal draws its stamp
 abbrev pub is_draw : Close → Bool
@@ -137,9 +176,15 @@ act_ready (make_act m) = is_filling m.at
 act_ready (map_act fill) = false
 act_ready (Outside node entry word) = false
 act_ready (tick_act charge) = is_charging charge
+act_ready (touch_act m) = is_answering m
 act_ready (flush_act core) = true
 act_ready (kill_act m) = is_killing m.at
 act_ready (untype_act m) = is_drawing m.at
+act_ready (comp_act m) = comp_filling m.at
+act_ready (invoke_act m) = is_entering m.at
+act_ready (return_act m) = is_leaving m.at
+act_ready (switch_act m) = is_switching m.at
+act_ready (share_act p) = is_sharing p.at
 
 -- the steps of a removal that are still to come
 abbrev pub close_left : Close → ℕ
@@ -156,175 +201,20 @@ act_left cores (make_act m) = making_left m.object m.at
 act_left cores (map_act fill) = 2
 act_left cores (Outside node entry word) = 1
 act_left cores (tick_act charge) = charge_left charge
+act_left cores (touch_act m) = touch_left m.look
 act_left cores (flush_act core) = 2
 act_left cores (kill_act m) = killing_left m.at
 act_left cores (untype_act m) = untyping_left cores m.at
+act_left cores (comp_act m) = comp_left m.cores m.at
+act_left cores (invoke_act m) = invoking_left m.at
+act_left cores (return_act m) = returning_left m.at
+act_left cores (switch_act m) = switching_left m.at
+act_left cores (share_act p) = share_left p.what p.at
 
 -- a look answers what its name has led to
 abbrev pub looked : Option Capability → WorkStep
 looked None = refuse Raced
 looked (Some k) = Answers (Cap k) None Nothing
-
--- the counts that change where a capability is put: that of the frame that it names; a range names none
-abbrev pub cap_dues : Capability → ℤ → List Due
-cap_dues k change = map (λ f. record { frame = f; change = change }) (named_by k.kind k.frame)
-
--- a making changes the counts of its object, from when the frame is marked
-abbrev pub made_dues : NewObject → ℕ → MakingAt → List Due
-made_dues object f make_load = []
-made_dues object f (Mark word) = []
-made_dues object f (Store word entry) = object_dues object f
-made_dues object f (fill_at word) = object_dues object f
-
--- a killing changes the count of the component's frame, from when its number's word is loaded
-abbrev pub killing_dues : ℕ → KillingAt → List Due
-killing_dues f LoadComp = []
-killing_dues f (LoadLive life) = []
-killing_dues f (kill_close life word) = record { frame = f; change = negsuc 0 } ∷ []
-killing_dues f (kill_draw life word) = record { frame = f; change = negsuc 0 } ∷ []
-
--- the counts that an act changes, in the order in which they are acquired
-abbrev pub dues : Act → List Due
-dues (fill_act fill) = cap_dues fill.cap (pos 1)
-dues (remove_act close cap) = cap_dues cap (negsuc 0)
-dues (type_act typing) = []
-dues (make_act m) = made_dues m.object m.frame m.at
-dues (map_act fill) = cap_dues fill.cap (pos 1)
-dues (Outside node entry word) = []
-dues (tick_act charge) = []
-dues (flush_act core) = []
-dues (kill_act m) = killing_dues m.comp m.at
-dues (untype_act m) = untyping_dues m.at
-
--- a core acquires this count for an act next, or has acquired all and goes on to the act
-abbrev pub acquires : ℕ → Act → Option Due → Work
-acquires core act None = act_work act
-acquires core act (Some due) = Acquire (AtLoad due.frame core) due.change act
-
--- what a core does for an act of whose counts it has acquired so many
-abbrev pub next_work : ℕ → ℕ → Act → Work
-next_work core n act = acquires core act (slice_get (dues act) n)
-
--- what a making takes from its step
-abbrev pub meets_object : Making → ℕ → Obj → WorkStep
-meets_object m word Blank = Goes (act_work (make_act (record m { at = Mark word })))
-meets_object m word _ = refuse wrong_kind
-
-abbrev pub meets_kernel : Making → ℕ → FrameKind → Obj → WorkStep
-meets_kernel m word Kernel o = meets_object m word o
-meets_kernel m word _ o = refuse wrong_kind
-
-abbrev pub meets_blank : Making → ℕ → FrameKind → Obj → Option ℕ → WorkStep
-meets_blank m word k o None = meets_kernel m word k o
-meets_blank m word k o (Some d) = refuse (Busy d)
-
-abbrev pub meets_making : Making → ℕ → Option FrameWord → WorkStep
-meets_making m word None = refuse Raced
-meets_making m word (Some v) = meets_blank m word v.kind v.object v.mark
-
-abbrev pub marks_if : Making → ℕ → Bool → WorkStep
-marks_if m word equal = if equal then Goes (next_work m.core 0 (make_act (record m { at = Store word 0 }))) else refuse Raced
-
-abbrev pub published : Making → ℕ → Bool → WorkStep
-published m word equal =
-    if equal then Answers nothing None (Unmark m.frame (word_of_frame (made m.object))) else Refuses Raced (Unmark m.frame word)
-
-abbrev pub took_making_at : Making → MakingAt → ℕ → WorkStep
-took_making_at m make_load found = meets_making m found (frame_of_word found)
-took_making_at m (Mark word) found = marks_if m word (found == word)
-took_making_at m (Store word entry) found = Goes (act_work (make_act (record m { at = stored m.object word entry })))
-took_making_at m (fill_at word) found = published m word (found == m.fill.word)
-
-abbrev pub took_making : Making → ℕ → WorkStep
-took_making m found = took_making_at m m.at found
-
--- what a killing takes from its step
-abbrev pub meets_comp : Killing → Option CompWord → WorkStep
-meets_comp m None = refuse Raced
-meets_comp m (Some life) = Goes (act_work (kill_act (record m { at = LoadLive life })))
-
-abbrev pub meets_life : Killing → CompWord → ℕ → Bool → WorkStep
-meets_life m life word lives = if lives then Goes (next_work m.core 0 (kill_act (record m { at = kill_close life word }))) else refuse
-    is_dead
-
-abbrev pub meets_number : Killing → CompWord → ℕ → LiveWord → WorkStep
-meets_number m life word live.Free = refuse is_dead
-meets_number m life word (live.Live epoch f) = meets_life m life word (epoch == life.epoch)
-meets_number m life word (live.Closing epoch by) = refuse (Busy by)
-meets_number m life word (live.Dead epoch stamp) = refuse is_dead
-
-abbrev pub meets_live : Killing → CompWord → ℕ → Option LiveWord → WorkStep
-meets_live m life word None = refuse Raced
-meets_live m life word (Some shown) = meets_number m life word shown
-
-abbrev pub closes_if : Killing → CompWord → ℕ → Bool → WorkStep
-closes_if m life word equal = if equal then Goes (act_work (kill_act (record m { at = kill_draw life word }))) else refuse Raced
-
-abbrev pub drawn_dead : CompWord → ℕ → WorkStep
-drawn_dead life stamp = Answers nothing (Some stamp) (StoreDead life stamp)
-
-abbrev pub took_killing_at : Killing → KillingAt → ℕ → WorkStep
-took_killing_at m LoadComp found = meets_comp m (comp_of_word found)
-took_killing_at m (LoadLive life) found = meets_live m life found (live_of_word found)
-took_killing_at m (kill_close life word) found = closes_if m life word (found == word)
-took_killing_at m (kill_draw life word) found = drawn_dead life (drawn_stamp found)
-
-abbrev pub took_killing : Killing → ℕ → WorkStep
-took_killing m found = took_killing_at m m.at found
-
--- what an untyping takes from its step
-abbrev pub meets_untyped : Untyping → ℕ → FrameWord → FrameKind → Option ℕ → WorkStep
-meets_untyped m word v Untyped None = refuse wrong_kind
-meets_untyped m word v User None = Goes (act_work (untype_act (record m { at = untype_mark word v })))
-meets_untyped m word v Kernel None = Goes (act_work (untype_act (record m { at = untype_mark word v })))
-meets_untyped m word v k (Some d) = refuse (Busy d)
-
-abbrev pub meets_untyping : Untyping → ℕ → Option FrameWord → WorkStep
-meets_untyping m word None = refuse Raced
-meets_untyping m word (Some v) = meets_untyped m word v v.kind v.mark
-
--- the sweep of a frame that is this begins with its first counter
-abbrev pub sweep_from : ℕ → FrameWord → ℕ → Sweep
-sweep_from f v core =
-    record { frame = f; word = v; core = core; kept = []; owned = record { first = None; second = None }; at = sweep.Load }
-
-abbrev pub sweeps_if : Untyping → ℕ → FrameWord → Bool → WorkStep
-sweeps_if m word v equal =
-    if equal then Goes (act_work (untype_act (record m { at = untype_sweep word (sweep_from m.frame v m.core) }))) else refuse Raced
-
--- a sweep that is refused leaves the counters that it has frozen, and the frame's word, to be stored as they were found
-abbrev pub took_sweep : Untyping → ℕ → Sweep → StageEnd Swept → WorkStep
-took_sweep m word w ends.Going = Goes (act_work (untype_act (record m { at = untype_sweep word w })))
-took_sweep m word w (ends.Decided r) = Refuses (refusal_of r) (release_tail (release_of m.frame word (swept_of w) false))
-took_sweep m word w (ends.Done swept) = Goes (next_work m.core 0 (untype_act (record m { at = untype_draw word swept })))
-took_sweep m word w (ends.Refuse r) = Refuses (refusal_of r) (release_tail (release_of m.frame word (swept_of w) false))
-
--- it is carried out: its counters are to be cleared, and the frame to be untyped
-abbrev pub drawn_untyped : ℕ → Swept → ℕ → WorkStep
-drawn_untyped f swept stamp = Answers nothing (Some stamp) (release_tail (release_of f (word_of_frame (typed Untyped)) swept true))
-
-abbrev pub took_untyping_at : Shape → Untyping → UntypingAt → ℕ → WorkStep
-took_untyping_at s m untype_load found = meets_untyping m found (frame_of_word found)
-took_untyping_at s m (untype_mark word v) found = sweeps_if m word v (found == word)
-took_untyping_at s m (untype_sweep word w) found = took_sweep m word (sweep_after s w found) (sweep_end s w found)
-took_untyping_at s m (untype_draw word w) found = drawn_untyped m.frame w (drawn_stamp found)
-
-abbrev pub took_untyping : Shape → Untyping → ℕ → WorkStep
-took_untyping s m found = took_untyping_at s m m.at found
-
--- what the load of a frame's word leads to that is to be mapped: a frame that a core has marked is busy, and one that is no user frame is
--- of another kind
-abbrev pub maps_kind : Fill → FrameKind → WorkStep
-maps_kind fill User = Goes (act_work (fill_act fill))
-maps_kind fill _ = refuse wrong_kind
-
-abbrev pub maps_frame : Fill → FrameKind → Option ℕ → WorkStep
-maps_frame fill k None = maps_kind fill k
-maps_frame fill k (Some d) = refuse (Busy d)
-
-abbrev pub maps_word : Fill → Option FrameWord → WorkStep
-maps_word fill None = refuse Raced
-maps_word fill (Some v) = maps_frame fill v.kind v.mark
 
 -- what an act takes from the word found
 abbrev pub took_act : Shape → Act → ℕ → WorkStep
@@ -335,9 +225,15 @@ took_act s (make_act m) found = took_making m found
 took_act s (map_act fill) found = maps_word fill (frame_of_word found)
 took_act s (Outside node entry word) found = refuse OutOfRange
 took_act s (tick_act charge) found = took_tick charge found
+took_act s (touch_act m) found = took_touch m found
 took_act s (flush_act core) found = took_flush core found
 took_act s (kill_act m) found = took_killing m found
 took_act s (untype_act m) found = took_untyping s m found
+took_act s (comp_act m) found = took_comp m found
+took_act s (invoke_act m) found = took_invoking m found
+took_act s (return_act m) found = took_returning m found
+took_act s (switch_act m) found = took_switching m found
+took_act s (share_act p) found = took_share p found
 
 -- what a refused call has still to store where it acquires a count for an act
 abbrev pub undo : Act → Tail
@@ -348,9 +244,15 @@ undo (make_act m) = undo_at m.frame m.at
 undo (map_act fill) = Nothing
 undo (Outside node entry word) = Nothing
 undo (tick_act charge) = Nothing
+undo (touch_act m) = Nothing
 undo (flush_act core) = Nothing
 undo (kill_act m) = Nothing
 undo (untype_act m) = untyping_undo m.frame m.at
+undo (comp_act m) = comp_undo m m.at
+undo (invoke_act m) = Nothing
+undo (return_act m) = Nothing
+undo (switch_act m) = switching_undo m.at
+undo (share_act p) = Nothing
 
 -- an act starts with its first count, where it is not out of range
 abbrev pub starts : ℕ → Act → WorkStep
@@ -464,9 +366,15 @@ stamp_of_act (make_act m) = stamp_shown (entry_of_word m.fill.word)
 stamp_of_act (map_act fill) = stamp_shown (entry_of_word fill.word)
 stamp_of_act (Outside node entry word) = stamp_shown (entry_of_word word)
 stamp_of_act (tick_act charge) = 0
+stamp_of_act (touch_act m) = 0
 stamp_of_act (flush_act core) = 0
 stamp_of_act (kill_act m) = 0
 stamp_of_act (untype_act m) = 0
+stamp_of_act (comp_act m) = stamp_shown (entry_of_word m.fill.word)
+stamp_of_act (invoke_act m) = 0
+stamp_of_act (return_act m) = 0
+stamp_of_act (switch_act m) = 0
+stamp_of_act (share_act p) = 0
 
 -- a frame is typed, or made untyped again, where it is in the range, which has none past the machine's
 abbrev pub typing_to : ℕ → ℕ → FrameKind → Act
@@ -522,6 +430,42 @@ abbrev pub maps_at : Own → Option Capability → ℕ → PageFlags → Option 
 maps_at own (Some range) frame w (Some f) = maps_if (nat_lt w.0 4) own range frame w f
 maps_at own _ frame w _ = refuse Raced
 
+-- a component is made in a frame of the range, and its capability put at the target
+abbrev pub comp_cap : ℕ → Capability
+comp_cap f = record { kind = kind.Comp; frame = f; arg = 0 }
+
+abbrev pub comp_making : Own → ℕ → Capability → Capability → ℕ → Found → Act
+comp_making own live table pages frame f = comp_act (record {
+  frame = frame;
+  table = table.frame;
+  pages = pages.frame;
+  number = live;
+  core = own.core;
+  cores = own.layout.cores;
+  epochs = own.epochs;
+  fill = record { node = f.node; entry = f.entry; word = f.word; cap = comp_cap frame };
+  at = comp_at_as.Load;
+})
+
+abbrev pub comp_if : Bool → Own → ℕ → Capability → Capability → ℕ → Found → Act
+comp_if within own live table pages frame f =
+    if within then comp_making own live table pages frame f else Outside f.node f.entry f.word
+
+abbrev pub comps_in : Own → ℕ → Capability → Capability → Capability → ℕ → Found → WorkStep
+comps_in own live range table pages frame f =
+    scans own.core (quiet_scan (stamp_in f.value) own.core own.layout.cores false)
+    (comp_if (has_frame (named range) frame && nat_lt frame own.layout.frames) own live table pages frame f)
+
+abbrev pub comps_at : Own → ℕ → Option Capability → Option Capability → Option Capability → ℕ → Option Found → WorkStep
+comps_at own live (Some range) (Some table) (Some pages) frame (Some f) = comps_in own live range table pages frame f
+comps_at own live _ _ _ frame _ = refuse Raced
+
+-- what a `make` does whose names have led to these
+abbrev pub made_begun : Own → Make → List Capability → ℕ → Option Found → WorkStep
+made_begun own (make.Comp table pages live) found frame target =
+    comps_at own live (at_place found First) (at_place found Third) (at_place found Fourth) frame target
+made_begun own what found frame target = makes_at own (object_made what found) (at_place found First) frame target
+
 -- the component to which a name has led is killed; a capability of another kind names none
 abbrev pub kills_in : ℕ → Kind → ℕ → WorkStep
 kills_in core kind.Comp f = Goes (act_work (kill_act (record { comp = f; core = core; at = LoadComp })))
@@ -530,6 +474,60 @@ kills_in core _ f = refuse Raced
 abbrev pub kills_at : Own → Option Capability → WorkStep
 kills_at own None = refuse Raced
 kills_at own (Some k) = kills_in own.core k.kind k.frame
+
+-- the component of a gate to which a name has led is entered, where the stack is not full; a capability of another kind is no gate
+abbrev pub invokes_if : Bool → Own → ℕ → ℕ → WorkStep
+invokes_if deep own f epoch =
+    if deep then refuse Deep
+    else Goes (act_work (invoke_act (record {
+      comp = f;
+      epoch = epoch;
+      thread = own.thread;
+      depth = own.depth;
+      core = own.core;
+      frames = own.layout.frames;
+      at = invoking.LoadTable;
+    })))
+
+abbrev pub invokes_in : Own → Kind → ℕ → ℕ → WorkStep
+invokes_in own kind.Gate f epoch = invokes_if (nat_le 16 own.depth) own f epoch
+invokes_in own _ f epoch = refuse Raced
+
+abbrev pub invokes_at : Own → Option Capability → WorkStep
+invokes_at own None = refuse Raced
+invokes_at own (Some k) = invokes_in own k.kind k.frame k.arg
+
+-- a core's component is left, where it is not the bottom of the stack
+abbrev pub returns_if : Bool → Own → WorkStep
+returns_if bottom own =
+    if bottom then refuse Bottom
+    else Goes (act_work (return_act (record {
+      top = own.comp;
+      thread = own.thread;
+      depth = own.depth;
+      core = own.core;
+      frames = own.layout.frames;
+      at = returning.LoadBelow;
+    })))
+
+abbrev pub returns_at : Own → WorkStep
+returns_at own = returns_if (nat_le own.depth 1) own
+
+-- the core switches to the thread and the temporal capability to which names have led
+abbrev pub switching : Own → ℕ → ℕ → Switching
+switching own f q = record {
+  core = own.core;
+  frames = own.layout.frames;
+  tcap = q;
+  old = own.thread;
+  old_depth = own.depth;
+  old_tcap = own.tcap;
+  at = switch_at.Claim (claim.AtLoad f own.core);
+}
+
+abbrev pub switches_at : Own → Option Capability → Option Capability → WorkStep
+switches_at own (Some thread) (Some tcap) = Goes (act_work (switch_act (switching own thread.frame tcap.frame)))
+switches_at own _ _ = refuse Raced
 
 -- what a call of a core does whose names have led to these, which has read this, and whose target, if it has one, was found
 abbrev pub act_begun : Own → Call → List Capability → Option ℕ → Option Found → WorkStep
@@ -541,10 +539,15 @@ act_begun own (Remove t b) found read target = removes_at own.core target
 act_begun own (Shrink t i) found read target = removes_at own.core target
 act_begun own (Unmap p v) found read target = removes_at own.core target
 act_begun own (Retype r f k) found read target = types_at own (at_place found First) f k
-act_begun own (make_call what range frame table slot) found read target =
-    makes_at own (object_made what found) (at_place found First) frame target
+act_begun own (make_call what range frame table slot) found read target = made_begun own what found frame target
 act_begun own Flush found read target = flushes own.core
 act_begun own (Tick n) found read target = charges own n
 act_begun own (Gate c t b) found read target = fills_with own (put_by (Gate c t b) found read) false target
 act_begun own (Kill k) found read target = kills_at own (at_place found First)
+act_begun own (call_gate g) found read target = invokes_at own (at_place found First)
+act_begun own Ret found read target = returns_at own
+act_begun own (Switch h q) found read target = switches_at own (at_place found First) (at_place found Second)
+act_begun own (Transfer a b m) found read target = shares_at own.core (share.Transfer m) (at_place found First) (at_place found Second)
+act_begun own (Delegate a b m) found read target = shares_at own.core (share.Delegate m) (at_place found First) (at_place found Second)
+act_begun own (Test a b) found read target = shares_at own.core share.Test (at_place found First) (at_place found Second)
 act_begun own _ found read target = refuse Raced

@@ -1,5 +1,5 @@
 -- The act that drops the translations which its core has cached.
-use Rattle.std.specs.Prelude.{ℕ}
+use Rattle.std.specs.Prelude.{None, ℕ}
 use Rattle.spk_nums.specs.declared.replies.Reply.TheVariants.{Ok}
 use Rattle.spk_nums.specs.declared.replies.Value.TheVariants.{Nothing as nothing}
 use Rattle.stage_quiet.specs.Flushing.{flush_after}
@@ -21,7 +21,7 @@ flushes core = Goes (Act (flush_act core))
 -- the load of the clock decides: the core has no translation from then on, and the stamp of its last flush is still to be stored
 abbrev pub flushed_to : FlushMark → WorkStep
 flushed_to (AtLoad core) = refuse Raced
-flushed_to (AtStore core stamp) = Changes (Ok nothing) Empties (StoreFlush core stamp)
+flushed_to (AtStore core stamp) = Changes (Ok nothing) Empties None (StoreFlush core stamp)
 
 abbrev pub took_flush : ℕ → ℕ → WorkStep
 took_flush core found = flushed_to (flush_after (AtLoad core) found)

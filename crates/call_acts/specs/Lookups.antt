@@ -18,6 +18,7 @@ use Rattle.call_acts.specs.declared.work.WorkStep.{WorkStep}
 use Rattle.call_acts.specs.declared.work.WorkStep.TheVariants.{Goes}
 use Rattle.call_acts.specs.WorkSteps.{refuse}
 use Rattle.call_acts.specs.Acts.{act_begun, reads_of}
+use Rattle.call_acts.specs.Touches.{touches}
 
 -- a number, or a root entry, is looked up, if it is within its range
 abbrev pub looks_under : Bool → ℕ → ℕ → WorkStep
@@ -36,12 +37,12 @@ read_first None step = step
 read_first (Some comp) (Goes (Lookup look)) = Goes (Read comp look)
 read_first (Some comp) step = step
 
--- what comes next of a core's call whose names have led to these; no call that looks up a page of its own is carried out today
+-- what comes next of a core's call whose names have led to these; a page of its own is looked up by its act
 abbrev pub next_step : Own → Call → List Capability → Next → WorkStep
 next_step own call found (NextName n wanted) = looks_under (nat_le n 4095) own.table n
 next_step own call found (NextFree target) = read_first (reads_of call found) (looks_at target)
 next_step own call found (NextHeld target) = looks_at target
-next_step own call found (NextOwn v) = refuse Raced
+next_step own call found (NextOwn v) = touches own v
 next_step own call found NextNothing = act_begun own call found None None
 
 -- what a name has led to that wants these kinds, where its place shows this entry

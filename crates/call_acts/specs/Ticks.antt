@@ -1,5 +1,5 @@
 -- The act that charges ticks to the core's temporal capability.
-use Rattle.std.specs.Prelude.{ℕ, ◌+◌, ◌-◌, ◌^◌, min, Bool, true, false}
+use Rattle.std.specs.Prelude.{ℕ, ◌+◌, ◌-◌, ◌^◌, min, Bool, true, false, None}
 use Rattle.spk_nums.specs.declared.replies.Reply.{Reply}
 use Rattle.spk_nums.specs.declared.replies.Reply.TheVariants.{Ok}
 use Rattle.spk_nums.specs.declared.replies.Value.{Value}
@@ -37,13 +37,13 @@ charged_in _ = 0
 
 -- the call is decided with this reply, and all ticks that are due stay owed
 abbrev pub owes : Reply → ℕ → WorkStep
-owes r due = Changes r (Ticks 0 due) Nothing
+owes r due = Changes r (Ticks 0 due) None Nothing
 
 -- what a tick of so many ticks takes from its step, after which it stands here: it goes on, is refused, or has charged so many of them
 abbrev pub took_charge : ℕ → Charge → StageEnd Value → WorkStep
 took_charge due charge ends.Going = Goes (Act (tick_act charge))
 took_charge due charge (ends.Decided r) = owes r due
-took_charge due charge (ends.Done v) = Changes (Ok v) (Ticks (charged_in v) (due - charged_in v)) Nothing
+took_charge due charge (ends.Done v) = Changes (Ok v) (Ticks (charged_in v) (due - charged_in v)) None Nothing
 took_charge due charge (ends.Refuse r) = owes r due
 
 abbrev pub took_tick : Charge → ℕ → WorkStep

@@ -12,38 +12,46 @@
 //! A call that is new here adds a line to each function: where its act begins, which counts that changes, its next step, what it
 //! takes, and whether that step decides.
 
-ghost use Rattle.std.specs.Prelude.{◌≡◌, ◌<◌, ◌≤◌, ◌&&◌, nat_lt, slice_get, None, [], ◌∷◌};
-ghost use Rattle.word_map.specs.Places.{Shape, size_of};
+ghost use Rattle.std.specs.Prelude.{◌≡◌, ◌<◌, ◌≤◌, ◌&&◌, nat_lt, None};
+ghost use Rattle.word_map.specs.Places.{size_of};
 ghost use Rattle.word_map.specs.Moves.{op_of};
 ghost use Rattle.spk_nums.specs.WordSteps.{place_in};
 ghost use Rattle.call_acts.specs.WorkSteps.{refuse};
-ghost use Rattle.call_acts.specs.Acts.{gate_if, gate_to, frame_named, reads_of, ActFits, act_move, took_act, act_ready, looked, cap_dues, dues, acquires, next_work, filling, fills_at, fills_with, act_begun, drawn_by, took_close, is_draw, scans, stamp_in, removing, removes_held, removes_at, types_if, types_at, starts, undo, made_dues, makes_at, makes_in, killing_dues, kills_in, kills_at, link_to, is_pages, typing_to, maps_word, maps_frame, maps_in, maps_at};
-ghost use Rattle.call_acts.specs.Untypings.{untyping_dues, owned_dues};
+ghost use Rattle.call_acts.specs.Acts.{gate_to, frame_named, reads_of, ActFits, act_move, took_act, act_ready, looked, acquires, next_work, fills_at, fills_with, act_begun, drawn_by, took_close, scans, stamp_in, removes_held, removes_at, types_if, types_at, starts, undo, makes_at, makes_in, kills_in, kills_at, link_to, is_pages, typing_to, maps_word, maps_frame, maps_in, maps_at, comps_in, comps_at, made_begun};
+ghost use Rattle.call_plans.specs.Plans.{at_place};
+ghost use Rattle.call_plans.specs.declared.plans.Nth.TheVariants.{First, Second, Third, Fourth};
+ghost use Rattle.call_acts.specs.Shares.{shares_at};
 ghost use Rattle.kernel_rules.specs.Access.{found as named_by_cap};
 ghost use Rattle.kernel_rules.specs.CapabilityCalls.{has_frame};
 
+use crate::comps::{CompAt, CompMaking};
+use crate::counts::next_work;
 use crate::fills::Fill;
 use crate::flushes::{flush_op, flush_took, flushes};
+use crate::invocations::{invokes_at, returns_at};
 use crate::kills::{Killing, KillingAt};
 use crate::makings::{Making, MakingAt};
 use crate::objects::{NewObject, object_cap, object_made};
 use crate::own::Own;
 use crate::refusals::Refusal;
+use crate::shares::{is_sharing, share_op, share_took, shares_at};
+use crate::switches::switches_at;
 use crate::ticks::{charges, is_charging, tick_op, tick_took};
 use crate::typings::{Typing, TypingAt};
 use crate::untypings::{Untyping, UntypingAt};
-use crate::work::{Act, Due, Tail, Work, WorkStep};
+use crate::work::{Act, Tail, Work, WorkStep};
 use call_plans::{Caps, Nth};
 use entry_words::Entry;
 use frame_words::FrameWord;
 use spk_nums::{
-    Call, Cap, CoreNo, FrameArg, FrameKind, FrameNo, Kind, PageFlags, StageEnd, Stamp, Value,
+    Call, Cap, CoreNo, FrameArg, FrameKind, FrameNo, Kind, Make, PageFlags, StageEnd, Stamp, Value,
     WordOp,
 };
 use stage_look::Found;
 use stage_pins::Pin;
 use stage_quiet::{Close, Quiet};
 use stage_sweep::Owned;
+use stage_tcap::PairWork;
 use word_map::Layout;
 
 /// The next step of an act. What it names is of the layout's machine.
@@ -72,9 +80,15 @@ pub fn act_op(act: &Act, layout: &Layout) -> WordOp
             at: layout.entry_at(*node, *entry),
         },
         Act::Tick { charge } => tick_op(charge, layout),
+        Act::Touch { touching } => touching.next(layout),
         Act::Flush { core } => flush_op(*core, layout),
         Act::Kill { killing } => killing.next(layout),
         Act::Untype { untyping } => untyping.next(layout),
+        Act::MakeComp { making } => making.next(layout),
+        Act::Invoke { invoking } => invoking.next(layout),
+        Act::Return { returning } => returning.next(layout),
+        Act::Switch { switching } => switching.next(layout),
+        Act::Share { pair } => share_op(pair, layout),
     }
 }
 
@@ -96,9 +110,15 @@ pub fn act_took(act: &Act, layout: &Layout, found: u64) -> WorkStep
         Act::Map { fill } => maps_word(fill, FrameWord::unpack(found)),
         Act::Outside { .. } => refuse(Refusal::OutOfRange),
         Act::Tick { charge } => tick_took(charge, layout, found),
+        Act::Touch { touching } => touching.take(layout, found),
         Act::Flush { core } => flush_took(*core, layout, found),
         Act::Kill { killing } => killing.take(found),
         Act::Untype { untyping } => untyping.take(layout, found),
+        Act::MakeComp { making } => making.take(layout, found),
+        Act::Invoke { invoking } => invoking.take(layout, found),
+        Act::Return { returning } => returning.take(layout, found),
+        Act::Switch { switching } => switching.take(layout, found),
+        Act::Share { pair } => share_took(pair, layout, found),
     }
 }
 
@@ -151,9 +171,15 @@ pub fn act_ready(act: &Act) -> bool
         Act::Map { fill: _ } => false,
         Act::Outside { .. } => false,
         Act::Tick { charge } => is_charging(charge),
+        Act::Touch { touching } => touching.is_ready(),
         Act::Flush { core: _ } => true,
         Act::Kill { killing } => killing.is_ready(),
         Act::Untype { untyping } => untyping.is_ready(),
+        Act::MakeComp { making } => making.is_ready(),
+        Act::Invoke { invoking } => invoking.is_ready(),
+        Act::Return { returning } => returning.is_ready(),
+        Act::Switch { switching } => switching.is_ready(),
+        Act::Share { pair } => is_sharing(pair),
     }
 }
 
@@ -168,62 +194,11 @@ pub fn refuse(refusal: Refusal) -> WorkStep
     }
 }
 
-/// What a core does for an act of whose counts it has acquired so many: it acquires the next, or goes on to the act.
-#[inline]
-pub fn next_work(core: CoreNo, n: u8, act: &Act) -> Work
-    ensures { result ≡ next_work core n act.now }
-{
-    match due(act, n) {
-        None => Work::Act { act: *act },
-        Some(due) => Work::Acquire {
-            pin: Pin::new(due.frame, core),
-            change: due.change,
-            act: *act,
-        },
-    }
-}
-
-// The count of this number that an act changes, if it changes so many.
-#[inline]
-fn due(act: &Act, n: u8) -> Option<Due>
-    ensures { result ≡ slice_get (dues act.now) n }
-{
-    match act {
-        Act::Fill { fill } => cap_due(&fill.cap, 1, n),
-        Act::Remove { close: _, cap } => cap_due(cap, -1, n),
-        Act::Retype { typing: _ } => None,
-        Act::Make { making } => made_due(making, n),
-        Act::Map { fill } => cap_due(&fill.cap, 1, n),
-        Act::Outside { .. } => None,
-        Act::Tick { charge: _ } => None,
-        Act::Flush { core: _ } => None,
-        Act::Kill { killing } => killing_due(killing, n),
-        Act::Untype { untyping } => untyping_due(untyping, n),
-    }
-}
-
-// The count of this number that changes by so many where a capability is put: that of the frame that it names. A range names none.
-#[inline]
-fn cap_due(cap: &Cap, change: i32, n: u8) -> Option<Due>
-    ensures { result ≡ slice_get (cap_dues cap.now change) n }
-{
-    if cap.kind() == Kind::Range {
-        return None;
-    }
-    if n == 0 {
-        Some(Due {
-            frame: cap.frame(),
-            change,
-        })
-    } else {
-        None
-    }
-}
-
 /// What a call of a core does whose names have led to these, which has read this, and whose target, if it has one, was found: a look answers
 /// at once, a copy, a grow, a map and a gate begin to fill their target, a remove, a shrink and an unmap to remove what their target holds, a retype to
 /// type its frame,
-/// a make to make its object, a flush to drop its translations, a tick to charge its ticks. The core is one of the layout's at most 8.
+/// a make to make its object, a flush to drop its translations, a tick to charge its ticks, a call to enter its gate's component, a ret to leave its own. The
+/// core is one of the layout's at most 8.
 #[inline]
 pub fn begin_act(
     own: &Own,
@@ -260,20 +235,35 @@ pub fn begin_act(
             frame,
             table: _,
             slot: _,
-        } => makes_at(
-            own,
-            object_made(what, found),
-            &found.get(Nth::First),
-            *frame,
-            target,
-        ),
+        } => made_begun(own, what, found, *frame, target),
         Call::Retype { r: _, f, k } => types_at(own, &found.get(Nth::First), *f, *k),
         Call::Flush => flushes(own.core),
         Call::Tick { n } => charges(own, *n),
         Call::Gate { .. } => fills_with(own, &gate_to(&found.get(Nth::First), read), false, target),
         Call::Kill { c: _ } => kills_at(own, &found.get(Nth::First)),
+        Call::Call { g: _ } => invokes_at(own, &found.get(Nth::First)),
+        Call::Ret => returns_at(own),
+        Call::Switch { h: _, q: _ } => {
+            switches_at(own, &found.get(Nth::First), &found.get(Nth::Second))
+        }
+        Call::Transfer { a: _, b: _, m } => shares(own, PairWork::Transfer(*m), found),
+        Call::Delegate { a: _, b: _, m } => shares(own, PairWork::Delegate(*m), found),
+        Call::Test { a: _, b: _ } => shares(own, PairWork::Test, found),
         _ => refuse(Refusal::Raced),
     }
+}
+
+// A call on two temporal capabilities begins, to which its names have led.
+#[inline]
+fn shares(own: &Own, what: PairWork, found: &Caps) -> WorkStep
+    ensures { result ≡ shares_at own.now.core what (at_place found.now First) (at_place found.now Second) }
+{
+    shares_at(
+        own.core,
+        what,
+        &found.get(Nth::First),
+        &found.get(Nth::Second),
+    )
 }
 
 // The gate to a component whose word has been read in this epoch; an epoch of 0 is none.
@@ -432,20 +422,9 @@ pub fn undo(act: &Act) -> Tail
     match act {
         Act::Make { making } => making.undo(),
         Act::Untype { untyping } => untyping.undo(),
+        Act::MakeComp { making } => making.undo(),
+        Act::Switch { switching } => switching.undo(),
         _ => Tail::Nothing,
-    }
-}
-
-// The count of this number that a making changes.
-#[inline]
-fn made_due(making: &Making, n: u8) -> Option<Due>
-    ensures { result ≡ slice_get (made_dues making.now.object making.now.frame making.now.at) n }
-{
-    match making.at {
-        MakingAt::Load => None,
-        MakingAt::Mark { word: _ } => None,
-        MakingAt::Store { word: _, entry: _ } => making.object.due(making.frame, n),
-        MakingAt::Fill { word: _ } => making.object.due(making.frame, n),
     }
 }
 
@@ -582,6 +561,97 @@ fn maps_in(own: &Own, range: &Cap, frame: FrameArg, flags: PageFlags, target: &F
     scans(own.core, quiet, &act)
 }
 
+// What a `make` does whose names have led to these.
+#[inline]
+fn made_begun(
+    own: &Own,
+    what: &Make,
+    found: &Caps,
+    frame: FrameArg,
+    target: &Option<Found>,
+) -> WorkStep
+    requires core { own.now.core < own.now.layout.cores }
+    requires cores { own.now.layout.cores ≤ 8 }
+    ensures { result ≡ made_begun own.now what.now found.now frame target.now }
+{
+    match what {
+        Make::Comp {
+            table: _,
+            pages: _,
+            live,
+        } => comps_at(own, *live, found, frame, target),
+        _ => makes_at(
+            own,
+            object_made(what, found),
+            &found.get(Nth::First),
+            frame,
+            target,
+        ),
+    }
+}
+// A component is made in a frame of the range to which the first name has led, with the table and the pages of the third and the fourth.
+#[inline]
+fn comps_at(own: &Own, live: u8, found: &Caps, frame: FrameArg, target: &Option<Found>) -> WorkStep
+    requires core { own.now.core < own.now.layout.cores }
+    requires cores { own.now.layout.cores ≤ 8 }
+    ensures { result ≡ comps_at own.now live (at_place found.now First) (at_place found.now Third) (at_place found.now Fourth) frame target.now }
+{
+    let range = found.get(Nth::First);
+    let table = found.get(Nth::Third);
+    let pages = found.get(Nth::Fourth);
+    match (range, table, pages, target) {
+        (Some(range), Some(table), Some(pages), Some(target)) => {
+            comps_in(own, live, &range, &table, &pages, frame, target)
+        }
+        _ => refuse(Refusal::Raced),
+    }
+}
+// A component with this table and these pages is made in a frame, where the range has it, after a scan where the target is quiescing.
+#[inline]
+fn comps_in(
+    own: &Own,
+    live: u8,
+    range: &Cap,
+    table: &Cap,
+    pages: &Cap,
+    frame: FrameArg,
+    target: &Found,
+) -> WorkStep
+    requires core { own.now.core < own.now.layout.cores }
+    requires cores { own.now.layout.cores ≤ 8 }
+    ensures { result ≡ comps_in own.now live range.now table.now pages.now frame target.now }
+{
+    let act = if has_frame(range, frame) && frame.number() < own.layout.frames() {
+        let frame = FrameNo::new(frame.number());
+        Act::MakeComp {
+            making: CompMaking {
+                frame,
+                table: table.frame(),
+                pages: pages.frame(),
+                number: live,
+                core: own.core,
+                cores: own.layout.cores(),
+                epochs: own.epochs,
+                fill: Fill {
+                    node: target.node,
+                    entry: target.entry,
+                    word: target.word,
+                    cap: Cap::new(Kind::Comp, frame, 0),
+                },
+                at: CompAt::Load,
+            },
+        }
+    } else {
+        Act::Outside {
+            node: target.node,
+            entry: target.entry,
+            word: target.word,
+        }
+    };
+    let quiet = Quiet::entry(stamp_in(&target.value), own.core, own.layout.cores());
+    scans(own.core, quiet, &act)
+}
+
 // What the target holds is removed.
 #[inline]
 fn removes_at(core: CoreNo, target: &Option<Found>) -> WorkStep
@@ -668,61 +738,6 @@ fn has_frame(range: &Cap, frame: FrameArg) -> bool
     let first = u32::from(range.frame().number());
     let number = u32::from(frame.number());
     first <= number && number < first + range.arg()
-}
-
-// The count of this number that a killing changes: that of the component's frame.
-#[inline]
-fn killing_due(killing: &Killing, n: u8) -> Option<Due>
-    ensures { result ≡ slice_get (killing_dues killing.now.comp killing.now.at) n }
-{
-    match killing.at {
-        KillingAt::LoadComp => None,
-        KillingAt::LoadLive { life: _ } => None,
-        KillingAt::Close { life: _, word: _ } => one_due(killing.comp, -1, n),
-        KillingAt::Draw { life: _, word: _ } => one_due(killing.comp, -1, n),
-    }
-}
-
-// The count of this number where only that of one frame changes, by so many.
-#[inline]
-fn one_due(frame: FrameNo, change: i32, n: u8) -> Option<Due>
-    ensures { result ≡ slice_get (record { frame = frame; change = change } ∷ []) n }
-{
-    if n == 0 {
-        Some(Due { frame, change })
-    } else {
-        None
-    }
-}
-
-// The count of this number that an untyping changes.
-#[inline]
-fn untyping_due(untyping: &Untyping, n: u8) -> Option<Due>
-    ensures { result ≡ slice_get (untyping_dues untyping.now.at) n }
-{
-    match &untyping.at {
-        UntypingAt::Draw { word: _, swept } => owned_due(&swept.owned, n),
-        _ => None,
-    }
-}
-
-// The count of this number that changes where the references are released that an object has itself.
-#[inline]
-fn owned_due(owned: &Owned, n: u8) -> Option<Due>
-    ensures { result ≡ slice_get (owned_dues owned.now) n }
-{
-    match (owned.first, owned.second) {
-        (None, None) => None,
-        (None, Some(second)) => one_due(second, -1, n),
-        (Some(first), None) => one_due(first, -1, n),
-        (Some(first), Some(second)) => {
-            if n == 0 {
-                one_due(first, -1, 0)
-            } else {
-                one_due(second, -1, n - 1)
-            }
-        }
-    }
 }
 
 // The component to which a name has led is killed.

@@ -53,6 +53,7 @@ fn flushed_to(mark: &FlushMark) -> WorkStep
         FlushMark::AtStore { core, stamp } => WorkStep::Changes {
             reply: Reply::Ok(Value::Nothing),
             change: OwnChange::Empties,
+            drawn: None,
             tail: Tail::StoreFlush {
                 core: *core,
                 stamp: *stamp,

@@ -19,7 +19,8 @@ ghost use Rattle.word_map.specs.Moves.{op_of};
 ghost use Rattle.call_acts.specs.Kills.{KillingFits, killing_move, is_killing, dead_move};
 ghost use Rattle.call_acts.specs.Acts.{meets_comp, meets_live, meets_number, meets_life, took_killing, drawn_dead};
 
-use crate::acts::{next_work, refuse};
+use crate::acts::refuse;
+use crate::counts::next_work;
 use crate::refusals::Refusal;
 use crate::work::{Act, Tail, Work, WorkStep};
 use frame_words::{CompWord, LiveWord};
@@ -190,7 +191,7 @@ fn drawn_dead(life: CompWord, stamp: Stamp) -> WorkStep
 
 // The word of a number that a core is closing.
 #[inline]
-fn closing_word(epoch: u16, core: CoreNo) -> u64
+pub(crate) fn closing_word(epoch: u16, core: CoreNo) -> u64
     ensures { result ≡ word_of_live (Closing epoch core) }
 {
     let _number = core.number();

@@ -29,17 +29,27 @@
 //! one and that no core has marked it. Then its counters are frozen and summed, the cores are scanned that may still use it, and its object
 //! is looked at. The counts are acquired of what the object itself refers to, and a stamp is drawn, which decides. After these counts
 //! are committed the frozen counters are stored, and then the frame's word: cleared and untyped, or, where the call is refused after the
-//! mark, all as they were found. No call is carried out with it today.
+//! mark, all as they were found.
 //!
 //! **Make an object.** The frame's word is loaded, and compared with the word found, which says that the frame is a blank kernel frame
 //! and that no core has marked it; the compare marks it. Then the counts are acquired that the object changes: that of the frame, and
 //! of a thread that of its component. Its words are stored, and the target's entry is compared with the word that this call has loaded
 //! there; this compare decides. The frame's word is still to be stored: that of the object, or the word found, where the call is
-//! refused after the mark. A target that is quiescing is scanned for before the frame's word is loaded. A component is not made today.
+//! refused after the mark. A target that is quiescing is scanned for before the frame's word is loaded.
+//!
+//! **Make a component.** So is a component made, with these steps between the counts and its words: the word of its liveness number is
+//! loaded, a number that is dead is scanned for since its stamp, and its word is marked by a compare with the word found. After the
+//! decision the number's word is stored, live in its next epoch, and then the frame's; a refused call stores as it was found each of the
+//! two that it has marked.
 //!
 //! **Tick.** The head of the core's temporal capability is loaded, and compared with the head found, which no core has marked: with the
 //! ticks asked for and those owed less, or with no budget where it has fewer; the compare decides. What is not charged stays owed,
 //! also where the call is refused.
+//!
+//! **Transfer, delegate, test.** The head of the first temporal capability is loaded and marked by a compare, and its list is read; then
+//! the head of the second is loaded and its list is read. The step that finds the second head as it was decides: a compare that puts
+//! the ticks in it or marks it, or a load. The heads and the list that are to change are still to be stored, or the first head as it was
+//! found.
 //!
 //! **Gate.** The component's word is loaded before the target is looked up, and names the epoch that the gate carries. Then the target
 //! is filled, as by a copy; the count is that of the component's frame.
@@ -51,19 +61,36 @@
 //! component lives. Then the count of the component's frame is acquired, the number's word is marked by a compare with the word found, and
 //! a stamp is drawn, which decides. The number's word is still to be stored: dead since the stamp.
 //!
+//! **Call.** The words of the gate's component are loaded: its table, its pages and its liveness number. The count of its frame is
+//! acquired, and the number's word is loaded, which decides: the component lives in the gate's epoch. The component is still to be pushed
+//! onto the stack of the core's thread. A stack of depth 16 is full, which is known where the gate is found.
+//!
+//! **Ret.** The component below the top of the stack is loaded, and its table and its pages. The count of the top's frame is acquired, and
+//! a stamp is drawn, which decides. The top is still to be popped. A stack of depth 1 has nothing below, which is known at the first step.
+//!
+//! **Switch.** The thread's word is loaded, and claimed by a compare with the idle word found; then the component at the top of its stack is
+//! loaded, with its table and its pages. The counts are acquired of both threads, and of both temporal capabilities where they differ. The
+//! word of the core's own thread is stored as claimed, and a stamp is drawn, which decides. Both threads' words are still to be stored:
+//! running, and idle. A call that is refused after the claim has the thread's word still to store, idle as it was.
+//!
 //! **Refusals.** A refusal decides at the first step by which it is known and every earlier cause is judged: of each name in
 //! written order `no-slot`, `empty` and `wrong-cap`, then of the target `no-slot` and `occupied`, then what the act asks:
 //! `out-of-range` of a frame that is not in the range, and `frame-kind` of one that is not untyped, or for an object not blank; `dead` of a component that does
-//! not live. A lost
+//! not live, and of the number of one that is made `occupied`, `quiescing` and `epochs-spent`; `running` of a thread that runs. A lost
 //! compare is `raced`.
 //!
 //! **A call more** adds a line to each function of `acts`: where its act begins, which counts it changes, the act's next step, what
 //! it takes, whether that step decides.
+//!
+//! See docs/FORMATS.md, 'Steps of calls', and docs/CLAIMS.md, 'Steps of calls'.
 #![tactic(auto)]
 
 mod acts;
+mod comps;
+mod counts;
 mod fills;
 mod flushes;
+mod invocations;
 mod kills;
 mod laws;
 mod lookups;
@@ -71,14 +98,20 @@ mod makings;
 mod objects;
 mod own;
 mod refusals;
+mod shares;
+mod switches;
 mod ticks;
+mod touches;
 mod typings;
 mod untypings;
 mod work;
 
-pub use acts::{act_op, act_ready, act_took, begin_act, next_work, reads_of, refuse, starts, undo};
+pub use acts::{act_op, act_ready, act_took, begin_act, reads_of, refuse, starts, undo};
+pub use comps::{CompAt, CompMaking, LastEpoch};
+pub use counts::next_work;
 pub use fills::Fill;
 pub use flushes::flushed_op;
+pub use invocations::{Invoking, InvokingAt, Returning, ReturningAt};
 pub use kills::{Killing, KillingAt, dead_op};
 pub use laws::refusals_are_replies;
 pub use lookups::{Met, frame_of, met_free, met_held, met_name};
@@ -86,6 +119,9 @@ pub use makings::{Making, MakingAt};
 pub use objects::NewObject;
 pub use own::{Own, OwnChange};
 pub use refusals::Refusal;
+pub use shares::{shared_more, shared_op};
+pub use switches::{SwitchAt, Switching, idle_op, running_op};
+pub use touches::{Touching, begin_touch};
 pub use typings::{Typing, TypingAt};
 pub use untypings::{Release, Untyping, UntypingAt};
 pub use work::{Act, Due, Tail, Work, WorkStep};

@@ -17,7 +17,8 @@ ghost use Rattle.word_map.specs.Moves.{op_of};
 ghost use Rattle.call_acts.specs.Makings.{MakingFits, marked, made, making_move, undo_at, is_filling, stored};
 ghost use Rattle.call_acts.specs.Acts.{meets_blank, meets_making, took_making, published};
 
-use crate::acts::{next_work, refuse};
+use crate::acts::refuse;
+use crate::counts::next_work;
 use crate::fills::Fill;
 use crate::objects::NewObject;
 use crate::refusals::Refusal;
@@ -216,7 +217,7 @@ fn stored(object: NewObject, word: u64, entry: EntryNo) -> MakingAt
 
 // The word of a blank kernel frame that a core has marked.
 #[inline]
-fn marked_word(core: CoreNo) -> u64
+pub(crate) fn marked_word(core: CoreNo) -> u64
     ensures { result ≡ word_of_frame (marked core) }
 {
     let _number = core.number();

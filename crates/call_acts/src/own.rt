@@ -1,9 +1,10 @@
 //! What a core has of its own, beside its call, and what a decision changes of it.
 
 ghost use Rattle.std.specs.Prelude.{◌≡◌};
+ghost use Rattle.kernel_rules.specs.MemoryCalls.{caching};
 ghost use Rattle.call_acts.specs.OwnChanges.{own_changed};
 
-use spk_nums::{CoreNo, FrameNo, Stamp, Translations};
+use spk_nums::{CoreNo, FrameNo, Stamp, Translation, Translations};
 use word_map::Layout;
 
 /// What a core has of its own: where it works, and what it has counted. The step machine of a call reads it; a decision and a
@@ -18,6 +19,8 @@ pub struct Own {
     pub table: FrameNo,
     /// The most calls that it may make.
     pub limit: u32,
+    /// The most epochs that a liveness number has.
+    pub epochs: u16,
     /// The calls that it has made, those answered `calls-spent` excepted.
     pub made: u32,
     /// The clock that its last exit loaded.
@@ -44,9 +47,32 @@ pub struct Own {
 #[derive(Clone, Copy, PartialEq, Eq, Debug)]
 pub enum OwnChange {
     /// So many ticks were charged, which are spent, and so many are owed.
-    Ticks { charged: u32, owed: u64 },
+    Ticks {
+        charged: u32,
+        owed: u64,
+    },
+    /// It works in this component, with this table and these pages, at this depth of its thread's stack.
+    Works {
+        comp: FrameNo,
+        table: FrameNo,
+        pages: FrameNo,
+        depth: u8,
+    },
     /// Its cached translations were dropped.
     Empties,
+    /// It runs this thread at this depth of its stack, in this component with this table and these pages, with this temporal capability.
+    Switches {
+        thread: FrameNo,
+        depth: u8,
+        comp: FrameNo,
+        table: FrameNo,
+        pages: FrameNo,
+        tcap: FrameNo,
+    },
+    /// This translation was found, and is cached where there is room.
+    Caches {
+        item: Translation,
+    },
 }
 
 impl Own {
@@ -61,6 +87,41 @@ impl Own {
                 self.owed = *owed;
             }
             OwnChange::Empties => self.cached = Translations::empty(),
+            OwnChange::Works {
+                comp,
+                table,
+                pages,
+                depth,
+            } => {
+                self.comp = *comp;
+                self.table = *table;
+                self.pages = *pages;
+                self.depth = *depth;
+            }
+            OwnChange::Switches {
+                thread,
+                depth,
+                comp,
+                table,
+                pages,
+                tcap,
+            } => {
+                self.thread = *thread;
+                self.depth = *depth;
+                self.comp = *comp;
+                self.table = *table;
+                self.pages = *pages;
+                self.tcap = *tcap;
+            }
+            OwnChange::Caches { item } => cache(&mut self.cached, *item),
         }
     }
+}
+
+// The translations with one more, where there is room: they are 64 at most.
+#[inline]
+fn cache(cached: &mut Translations, item: Translation)
+    ensures { cached.new ≡ caching cached.old item }
+{
+    let _added = cached.add(item);
 }

@@ -59,6 +59,7 @@ fn charge_took(due: u64, charge: Charge, end: &StageEnd<Value>) -> WorkStep
                 charged: charged_in(value),
                 owed: due.saturating_sub(u64::from(charged_in(value))),
             },
+            drawn: None,
             tail: Tail::Nothing,
         },
         StageEnd::Refuse(reply) => owes(*reply, due),
@@ -76,6 +77,7 @@ fn owes(reply: Reply, due: u64) -> WorkStep
             charged: 0,
             owed: due,
         },
+        drawn: None,
         tail: Tail::Nothing,
     }
 }

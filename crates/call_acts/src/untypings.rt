@@ -26,7 +26,8 @@ ghost use Rattle.spk_nums.specs.declared.kinds.FrameKind.TheVariants.{Untyped};
 ghost use Rattle.stage_sweep.specs.Freeze.{swept_of};
 ghost use Rattle.call_acts.specs.declared.work.WorkStep.TheVariants.{Refuses};
 
-use crate::acts::{next_work, refuse};
+use crate::acts::refuse;
+use crate::counts::next_work;
 use crate::refusals::Refusal;
 use crate::work::{Act, Tail, Work, WorkStep};
 use frame_words::FrameWord;

@@ -1,10 +1,14 @@
 //! The work of a call between its entry and its decision, what a step of it leads to, and what a decision leaves to be stored.
 
+use crate::comps::CompMaking;
 use crate::fills::Fill;
+use crate::invocations::{Invoking, Returning};
 use crate::kills::Killing;
 use crate::makings::Making;
 use crate::own::OwnChange;
 use crate::refusals::Refusal;
+use crate::switches::Switching;
+use crate::touches::Touching;
 use crate::typings::Typing;
 use crate::untypings::{Release, Untyping};
 use frame_words::CompWord;
@@ -12,7 +16,8 @@ use spk_nums::{Cap, CoreNo, EntryNo, FrameNo, Reply, Stamp, Value};
 use stage_look::Look;
 use stage_pins::{Acquired, Pin};
 use stage_quiet::{Close, Quiet};
-use stage_tcap::Charge;
+use stage_tcap::{Charge, Pair};
+use stage_thread::{Pop, Push};
 
 /// What a call does after its look-ups, till it is decided.
 #[derive(Clone, Copy, PartialEq, Eq, Debug)]
@@ -48,6 +53,10 @@ pub enum Act {
     Tick {
         charge: Charge,
     },
+    /// It touches a page.
+    Touch {
+        touching: Touching,
+    },
     /// It drops the translations that this core, its own, has cached.
     Flush {
         core: CoreNo,
@@ -59,6 +68,26 @@ pub enum Act {
     /// It makes a user frame or a kernel frame untyped again.
     Untype {
         untyping: Untyping,
+    },
+    /// It makes a component in a blank kernel frame.
+    MakeComp {
+        making: CompMaking,
+    },
+    /// It enters a component through a gate.
+    Invoke {
+        invoking: Invoking,
+    },
+    /// It leaves its component.
+    Return {
+        returning: Returning,
+    },
+    /// It goes on as another thread, with a temporal capability.
+    Switch {
+        switching: Switching,
+    },
+    /// It moves ticks from one temporal capability to another, or tells which preempts.
+    Share {
+        pair: Pair,
     },
 }
 
@@ -94,17 +123,64 @@ pub enum Tail {
     /// Nothing.
     Nothing,
     /// The entry that quiesces since the stamp that was drawn.
-    Quiesce { close: Close },
+    Quiesce {
+        close: Close,
+    },
     /// The word of a frame that the call has marked: with its object where the call is carried out, and as it was found where it is
     /// refused.
-    Unmark { frame: FrameNo, word: u64 },
+    Unmark {
+        frame: FrameNo,
+        word: u64,
+    },
     /// The word of a liveness number that is dead since the stamp that was drawn.
-    StoreDead { life: CompWord, stamp: Stamp },
+    StoreDead {
+        life: CompWord,
+        stamp: Stamp,
+    },
+    /// The word of a liveness number that the call has marked, and then that of a frame: live and with its component where the call is
+    /// carried out, and both as they were found where it is refused.
+    StoreLive {
+        number: u8,
+        live: u64,
+        frame: FrameNo,
+        word: u64,
+    },
     /// The word of a core's last flush, which this stamp has.
-    StoreFlush { core: CoreNo, stamp: Stamp },
+    StoreFlush {
+        core: CoreNo,
+        stamp: Stamp,
+    },
     /// The counters that the call has frozen, and then the word of their frame, which it has marked. These are stored after its counts
     /// are committed.
-    Release { release: Release },
+    Release {
+        release: Release,
+    },
+    /// The words of the core's thread, onto whose stack a component is pushed.
+    Push {
+        push: Push,
+    },
+    /// The words of the core's thread, of whose stack the top is popped.
+    Pop {
+        pop: Pop,
+    },
+    /// The word of the thread as which the core goes on, running, and then that of the thread that it has left, idle.
+    StoreRunning {
+        thread: FrameNo,
+        core: CoreNo,
+        depth: u8,
+        old: FrameNo,
+        old_depth: u8,
+    },
+    /// The word of a thread that the call has claimed, idle.
+    StoreIdle {
+        thread: FrameNo,
+        depth: u8,
+    },
+    /// The words of two temporal capabilities, of which the first is marked: list B, head B and head A of a delegation that is carried
+    /// out, and else head A alone.
+    Share {
+        pair: Pair,
+    },
 }
 
 /// What a step of the work of a call led to.
@@ -130,10 +206,12 @@ pub enum WorkStep {
         drawn: Option<Stamp>,
         tail: Tail,
     },
-    /// The call is decided with this reply, has this still to store, and changes this of what its core has of its own.
+    /// The call is decided with this reply, has drawn this stamp or none and has this still to store beside its counts, and changes this of
+    /// what its core has of its own.
     Changes {
         reply: Reply,
         change: OwnChange,
+        drawn: Option<Stamp>,
         tail: Tail,
     },
 }

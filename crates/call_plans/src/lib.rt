@@ -9,6 +9,8 @@
 //! lead to. So what is left of a rule after some names have been found is told by what is left of the plan.
 //!
 //! **Steps.** A call makes at most three steps for its entry and exit, those of the plan's look-ups, and those of its act.
+//!
+//! See docs/FORMATS.md, 'Steps of calls', and docs/PROOF.md, 'The invariant of the step machine'.
 #![tactic(auto)]
 
 mod bounds;

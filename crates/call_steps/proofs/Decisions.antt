@@ -8,7 +8,7 @@ use Rattle.stage_pins.specs.declared.pin.Pin.{Pin}
 use Rattle.stage_pins.specs.declared.pin.Pinned.{Pinned}
 use Rattle.stage_pins.specs.declared.held.Acquired.{Acquired}
 use Rattle.stage_pins.specs.Acquire.{pin_after, pin_end}
-use Rattle.std.proofs.Common.{◌≡◌, ℕ, ℤ, ◌+◌, ◌==◌, ◌&&◌, nat_lt, Bool, true, false, List, [], ◌∷◌, length, Option, Some, None, refl, sym, ◌∙◌, ap, subst, arith, eqb-true}
+use Rattle.std.proofs.Common.{◌≡◌, ℕ, ℤ, ◌+◌, ◌==◌, ◌&&◌, nat_lt, Bool, true, false, List, [], ◌∷◌, length, Option, Some, None, refl, sym, ◌∙◌, ap, subst, arith, eqb-true, if◌then◌else◌, nat_le, ◌||◌}
 use Rattle.call_plans.specs.Plans.{pushed, at_place}
 use Rattle.spk_nums.specs.Capability.{Capability}
 use Rattle.spk_nums.specs.declared.kinds.PageFlags.{PageFlags}
@@ -17,13 +17,13 @@ use Rattle.spk_nums.specs.declared.kinds.FrameKind.TheVariants.{Untyped, User, K
 use Rattle.spk_nums.specs.declared.calls.Make.{Make}
 use Rattle.spk_nums.specs.declared.calls.Make.TheVariants as make
 use Rattle.spk_nums.specs.declared.calls.Call.{Call}
-use Rattle.spk_nums.specs.declared.calls.Call.TheVariants.{Look as look_call, Copy, Remove, Shrink, Unmap, Retype, Make as make_call, Tick, Gate, Kill, Grow, Flush, Map}
+use Rattle.spk_nums.specs.declared.calls.Call.TheVariants.{Look as look_call, Copy, Remove, Shrink, Unmap, Retype, Make as make_call, Tick, Gate, Kill, Grow, Flush, Map, Call as call_gate, Ret, Switch, Transfer, Delegate, Test}
 use Rattle.spk_nums.specs.declared.replies.Reply.{Reply}
 use Rattle.entry_words.specs.declared.entry.Entry.{Entry}
 use Rattle.entry_words.specs.declared.entry.Entry.TheVariants as entry
 use Rattle.kernel_rules.specs.Access.{found, Target as place, Under, InRoot}
-use Rattle.stage_look.specs.Shown.{is_link}
-use Rattle.stage_look.specs.Lookup.{end_by_link, root_end, place_end}
+use Rattle.stage_look.specs.Shown.{shown_in, is_link}
+use Rattle.stage_look.specs.Lookup.{look_end, look_after, end_by_link, root_end, place_end}
 use Rattle.stage_look.specs.declared.look.Look.{Look}
 use Rattle.stage_look.specs.declared.look.Look.TheVariants.{AtRoot, AtLeaf, AtEntry}
 use Rattle.stage_look.specs.declared.look.Found.{Found}
@@ -44,7 +44,7 @@ use Rattle.stage_tcap.specs.Heads.{head}
 use Rattle.tcap_words.specs.Head.{word_of_head, head_of_word}
 use Rattle.tcap_words.specs.declared.head_word.HeadWord.{HeadWord}
 use Rattle.kernel_rules.specs.Laws.{IsRefusal}
-use Rattle.std.specs.Prelude.{min}
+use Rattle.std.specs.Prelude.{min, nat_le, is_some}
 use Rattle.call_acts.specs.declared.lookups.Met.{Met}
 use Rattle.call_acts.specs.declared.lookups.Met.TheVariants.{Finds, Refused}
 use Rattle.spk_nums.specs.declared.kinds.Obj.{Obj}
@@ -56,13 +56,13 @@ use Rattle.call_acts.specs.declared.makings.MakingAt.{MakingAt}
 use Rattle.call_acts.specs.declared.makings.MakingAt.TheVariants.{Load as make_load, Mark, Store, Fill as fill_at}
 use Rattle.call_acts.specs.Makings.{is_filling}
 use Rattle.call_acts.specs.declared.work.Act.{Act as ActType}
-use Rattle.call_acts.specs.declared.work.Act.TheVariants.{Fill as fill_act, Remove as remove_act, Retype as type_act, Make as make_act, Outside, Tick as tick_act, Flush as flush_act, Kill as kill_act, Untype as untype_act, Map as map_act}
+use Rattle.call_acts.specs.declared.work.Act.TheVariants.{Fill as fill_act, Remove as remove_act, Retype as type_act, Make as make_act, Outside, Tick as tick_act, Flush as flush_act, Kill as kill_act, Untype as untype_act, Map as map_act, MakeComp as comp_act, Invoke as invoke_act, Return as return_act, Switch as switch_act, Touch as touch_act, Share as share_act}
 use Rattle.call_acts.specs.declared.work.Work.{Work}
 use Rattle.call_acts.specs.declared.work.Work.TheVariants.{Lookup, Read, Scan, Acquire, Act}
 use Rattle.call_steps.specs.declared.stages.Stage.{Stage}
 use Rattle.call_steps.specs.declared.stages.Stage.TheVariants.{Enter, Undecided, Decided, Leave}
 use Rattle.call_acts.specs.declared.work.Tail.{Tail}
-use Rattle.call_acts.specs.declared.work.Tail.TheVariants.{Nothing, Quiesce, Unmark, StoreDead, StoreFlush, Release}
+use Rattle.call_acts.specs.declared.work.Tail.TheVariants.{Nothing, Quiesce, Unmark, StoreDead, StoreFlush, Release, StoreLive, Push as push_tail, Pop as pop_tail, StoreRunning, StoreIdle, Share}
 use Rattle.call_steps.specs.declared.stages.ActiveCall.{ActiveCall}
 use Rattle.call_acts.specs.declared.work.WorkStep.{WorkStep}
 use Rattle.call_acts.specs.declared.work.WorkStep.TheVariants.{Goes, Acquires, Refuses as refuses_to, Answers, Changes as work_changes}
@@ -70,13 +70,20 @@ use Rattle.call_acts.specs.Refusals.{refusal_of}
 use Rattle.call_acts.proofs.Refusing.{refusal_refuses}
 use Rattle.call_acts.specs.Fills.{filled_if}
 use Rattle.call_acts.specs.WorkSteps.{refuse}
-use Rattle.call_acts.specs.Acts.{took_close, is_draw, took_act, act_ready, reads_of, fills_with, removes_held, removes_at, act_begun, types_if, types_at, stamp_in, filling, starts, scans, makes_at, meets_object, meets_blank, meets_making, marks_if, published, took_making_at, kills_in, kills_at, meets_comp, meets_live, meets_number, meets_life, closes_if, took_killing_at, meets_untyped, meets_untyping, sweeps_if, took_sweep, took_untyping_at, maps_frame, maps_word, maps_if, maps_at}
-use Rattle.call_plans.specs.declared.plans.Nth.TheVariants.{First, Second}
+use Rattle.call_acts.specs.Acts.{took_close, is_draw, took_act, act_ready, reads_of, fills_with, removes_held, removes_at, act_begun, types_if, types_at, stamp_in, filling, starts, scans, makes_at, meets_object, meets_blank, meets_making, marks_if, published, took_making_at, kills_in, kills_at, meets_comp, meets_live, meets_number, meets_life, closes_if, took_killing_at, meets_untyped, meets_untyping, sweeps_if, took_sweep, took_untyping_at, maps_frame, maps_word, maps_if, maps_at, comps_at, made_begun, comp_marks, took_comp_at, invokes_if, invokes_in, invokes_at, returns_if, meets_table, meets_pages, meets_gate, took_invoking_at, meets_below, meets_below_table, meets_below_pages, took_returning_at, switches_at, switch_pages, took_switching_at}
+use Rattle.call_plans.specs.declared.plans.Nth.TheVariants.{First, Second, Third, Fourth}
 use Rattle.call_acts.specs.declared.fills.Fill.{Fill}
+use Rattle.call_acts.specs.Comps.{comp_filling, comp_goes, comp_refuses, comp_meets, comp_meets_object, comp_meets_blank, number_met, number_shown, takes_number, scans_number, number_scanned, closes_number, comp_published}
+use Rattle.frame_words.specs.Live.{live_of_word}
+use Rattle.call_acts.specs.declared.comps.CompAt.{CompAt}
+use Rattle.call_acts.specs.declared.comps.CompAt.TheVariants as comp_at_as
+use Rattle.call_acts.specs.declared.comps.CompMaking.{CompMaking}
+use Rattle.call_acts.specs.declared.comps.LastEpoch.{LastEpoch}
 use Rattle.frame_words.specs.declared.frame_word.FrameWord.{FrameWord}
 use Rattle.spk_nums.specs.declared.kinds.Kind.{Kind}
 use Rattle.spk_nums.specs.declared.kinds.Kind.TheVariants as kind
 use Rattle.frame_words.specs.declared.comp_word.CompWord.{CompWord}
+use Rattle.frame_words.specs.Comp.{comp_of_word}
 use Rattle.frame_words.specs.declared.live_word.LiveWord.{LiveWord}
 use Rattle.frame_words.specs.declared.live_word.LiveWord.TheVariants as live
 use Rattle.call_acts.specs.declared.kills.Killing.{Killing}
@@ -90,16 +97,38 @@ use Rattle.call_acts.specs.declared.untypings.Untyping.{Untyping}
 use Rattle.call_acts.specs.declared.untypings.UntypingAt.{UntypingAt}
 use Rattle.call_acts.specs.declared.untypings.UntypingAt.TheVariants as untype
 use Rattle.call_acts.specs.Untypings.{is_drawing}
+use Rattle.call_acts.specs.declared.invocations.Invoking.{Invoking}
+use Rattle.call_acts.specs.declared.invocations.InvokingAt.{InvokingAt}
+use Rattle.call_acts.specs.declared.invocations.InvokingAt.TheVariants as invoking
+use Rattle.call_acts.specs.declared.invocations.Returning.{Returning}
+use Rattle.call_acts.specs.declared.invocations.ReturningAt.{ReturningAt}
+use Rattle.call_acts.specs.declared.invocations.ReturningAt.TheVariants as returning
+use Rattle.call_acts.specs.Invocations.{is_entering, frame_in, enters_if, enters_live, is_leaving, below_in}
+use Rattle.call_acts.specs.declared.switches.Switching.{Switching}
+use Rattle.call_acts.specs.declared.switches.SwitchAt.{SwitchAt}
+use Rattle.call_acts.specs.declared.switches.SwitchAt.TheVariants as switch_at
+use Rattle.call_acts.specs.Switches.{is_switching, took_claim, switch_table}
+use Rattle.stage_thread.specs.Claiming.{claim_after, claim_end}
+use Rattle.stage_thread.specs.declared.claim.Claim.{Claim as ClaimOf}
+use Rattle.stage_thread.specs.declared.claim.Claimed.{Claimed}
 use Rattle.call_acts.specs.declared.typings.Typing.{Typing}
 use Rattle.call_acts.specs.declared.typings.TypingAt.{TypingAt}
 use Rattle.call_acts.specs.declared.typings.TypingAt.TheVariants.{Load, Compare as type_compare}
 use Rattle.call_acts.specs.Typings.{meets_frame, meets_word, typed_if, took_typing_at, is_typing}
 use Rattle.call_acts.specs.Lookups.{looks_under, looks_entry, looks_at, read_first, next_step, met_free, met_held}
+use Rattle.spk_nums.specs.declared.translations.Translation.{Translation}
+use Rattle.call_acts.specs.declared.touches.Touching.{Touching}
+use Rattle.call_acts.specs.Touches.{touches_if, touch_end, touched, is_at_page}
 use Rattle.call_steps.specs.Fits.{FoundFits, IsFirst, IsActive}
 use Rattle.call_steps.specs.Tails.{took_tail, tail_counts}
 use Rattle.call_plans.specs.After.{with_found, names_after, next_in, Next, NextName, NextFree, NextHeld, NextOwn, NextNothing, next_of}
 use Rattle.call_steps.specs.Steps.{GoesOn, landed, next_by, found_more, took_enter, named_one, read_more, took_read, took_found, took_end, took_look, took_scan, took_count, gives_up, took_work, went_with, took_at, is_last, decides_at_name, is_last_name, work_ready, ready_at}
+use Rattle.stage_tcap.specs.declared.pair.PairWork.TheVariants as share
+use Rattle.call_steps.proofs.Answering.{NoAnswer, IsOver}
+use Rattle.call_steps.proofs.ShareDecisions.{shares_no, share_unready, share_over}
 use Rattle.call_steps.specs.Laws.{reply_at, Turns, DecidesOnce, Refuses, UnreadyRefuses, IsDecision, ReadyDecides}
+use Rattle.call_steps.proofs.Unready.{act_unready}
+use Rattle.call_steps.proofs.Beginning.{under_no, target_no, starts_no, act_no}
 
 -- a call is decided once
 
@@ -108,7 +137,7 @@ landed_turns a (Goes work) = refl
 landed_turns a (Acquires count work) = refl
 landed_turns a (refuses_to r tail) = (refl, refl)
 landed_turns a (Answers v drawn tail) = (refl, refl)
-landed_turns a (work_changes r change tail) = (refl, refl)
+landed_turns a (work_changes r change drawn tail) = (refl, refl)
 
 named_turns : (own : Own) (a : ActiveCall) (met : Met) → Turns None (named_one own a met)
 named_turns own a (Finds k) = landed_turns (found_more a (pushed a.found k)) _
@@ -150,6 +179,12 @@ tail_turns a r drawn (Quiesce close) counts found = refl
 tail_turns a r drawn (Unmark f word) counts found = refl
 tail_turns a r drawn (StoreDead life stamp) counts found = refl
 tail_turns a r drawn (StoreFlush core stamp) counts found = refl
+tail_turns a r drawn (StoreLive l live f word) counts found = refl
+tail_turns a r drawn (push_tail push) counts found = refl
+tail_turns a r drawn (pop_tail pop) counts found = refl
+tail_turns a r drawn (StoreRunning f core depth old old_depth) counts found = refl
+tail_turns a r drawn (StoreIdle f depth) counts found = refl
+tail_turns a r drawn (Share p) counts found = refl
 tail_turns a r drawn Nothing [] found = refl
 tail_turns a r drawn Nothing (x ∷ xs) found = refl
 tail_turns a r drawn (Release release) [] found = refl
@@ -164,113 +199,12 @@ stage_turns own a (Leave r stamp) found = refl
 pub decides_once : DecidesOnce
 decides_once own a found = stage_turns own a a.stage found
 
--- A step of the work that carries nothing out.
-abbrev NoAnswer : WorkStep → Type 0
-NoAnswer (Goes work) = Unit {0}
-NoAnswer (Acquires count work) = Unit {0}
-NoAnswer (refuses_to r tail) = Unit {0}
-NoAnswer (Answers v drawn tail) = ⊥
-NoAnswer (work_changes r change tail) = IsRefusal r
-
 landed_refuses : (a : ActiveCall) (step : WorkStep) → NoAnswer step → Refuses (landed a step)
 landed_refuses a (Goes work) none = tt
 landed_refuses a (Acquires count work) none = tt
 landed_refuses a (refuses_to r tail) none = refusal_refuses r
 landed_refuses a (Answers v drawn tail) none = absurd none
-landed_refuses a (work_changes r change tail) none = none
-
-under_no : (within : Bool) (top n : ℕ) → NoAnswer (looks_under within top n)
-under_no true top n = tt
-under_no false top n = tt
-
-entry_no : (within : Bool) (top i : ℕ) → NoAnswer (looks_entry within top i)
-entry_no true top i = tt
-entry_no false top i = tt
-
-target_no : (target : place) → NoAnswer (looks_at target)
-target_no (Under table n) = under_no _ table.frame n
-target_no (InRoot table i) = entry_no _ table.frame i
-
--- The act of a call that is not decided where its last name is found answers nothing when it begins.
-starts_no : (core : ℕ) (act : ActType) → NoAnswer (starts core act)
-starts_no core (Outside node entry word) = tt
-starts_no core (fill_act fill) = tt
-starts_no core (remove_act close cap) = tt
-starts_no core (type_act typing) = tt
-starts_no core (make_act m) = tt
-starts_no core (map_act fill) = tt
-starts_no core (tick_act charge) = tt
-starts_no core (flush_act by) = tt
-starts_no core (kill_act m) = tt
-starts_no core (untype_act m) = tt
-
-scans_no : (core : ℕ) (o : Option Quiet) (act : ActType) → NoAnswer (scans core o act)
-scans_no core None act = starts_no core act
-scans_no core (Some q) act = tt
-
-fill_no : (own : Own) (k : Option Capability) (page : Bool) (target : Option Found) → NoAnswer (fills_with own k page target)
-fill_no own None page target = tt
-fill_no own (Some k) page None = tt
-fill_no own (Some k) page (Some f) = scans_no own.core (quiet_scan (stamp_in f.value) own.core own.layout.cores page) (filling k f)
-
-held_no : (core : ℕ) (f : Found) (value : Entry) → NoAnswer (removes_held core f value)
-held_no core f entry.Free = tt
-held_no core f (entry.Held k) = tt
-held_no core f (entry.Closing by) = tt
-held_no core f (entry.Quiescing stamp) = tt
-
-remove_no : (core : ℕ) (target : Option Found) → NoAnswer (removes_at core target)
-remove_no core None = tt
-remove_no core (Some f) = held_no core f f.value
-
-type_no : (within : Bool) (core f : ℕ) (k : FrameKind) → NoAnswer (types_if within core f k)
-type_no true core f k = tt
-type_no false core f k = tt
-
-types_no : (own : Own) (range : Option Capability) (f : ℕ) (k : FrameKind) → NoAnswer (types_at own range f k)
-types_no own None f k = tt
-types_no own (Some range) f k = type_no _ own.core f k
-
-makes_no : (own : Own) (object : Option NewObject) (range : Option Capability) (f : ℕ) (target : Option Found)
-    → NoAnswer (makes_at own object range f target)
-makes_no own (Some object) (Some range) f (Some target) = scans_no own.core _ _
-makes_no own None range f target = tt
-makes_no own (Some object) None f target = tt
-makes_no own (Some object) (Some range) f None = tt
-
-maps_no : (own : Own) (range : Option Capability) (f : ℕ) (w : PageFlags) (target : Option Found) → NoAnswer (maps_at own range f w target)
-maps_no own None f w target = tt
-maps_no own (Some range) f w None = tt
-maps_no own (Some range) f w (Some at) = by (nat_lt w.0 4)
-  where
-    by : (flags : Bool) → NoAnswer (maps_if flags own range f w at)
-    by true = scans_no own.core _ _
-    by false = tt
-
-kill_no : (core : ℕ) (kind : Kind) (f : ℕ) → NoAnswer (kills_in core kind f)
-kill_no core kind.Comp f = tt
-kill_no core kind f = tt
-
-kills_no : (own : Own) (comp : Option Capability) → NoAnswer (kills_at own comp)
-kills_no own None = tt
-kills_no own (Some k) = kill_no own.core k.kind k.frame
-
-act_no : (own : Own) (call : Call) (found : List Capability) (read : Option ℕ) (target : Option Found)
-    → decides_at_name (plan_for call).decides ≡ false
-    → NoAnswer (act_begun own call found read target)
-act_no own (look_call a) found read target not = absurd (cc)
-act_no own (Copy a t b) found read target not = fill_no own _ false target
-act_no own (Grow t i l) found read target not = fill_no own _ _ target
-act_no own (Map p v r f w) found read target not = maps_no own (at_place found Second) f w target
-act_no own (Remove t b) found read target not = remove_no own.core target
-act_no own (Shrink t i) found read target not = remove_no own.core target
-act_no own (Unmap p v) found read target not = remove_no own.core target
-act_no own (Retype r f k) found read target not = types_no own (at_place found First) f k
-act_no own (make_call what range frame table slot) found read target not =
-    makes_no own (object_made what found) (at_place found First) frame target
-act_no own (Gate c t b) found read target not = fill_no own _ false target
-act_no own (Kill k) found read target not = kills_no own (at_place found First)
-act_no own call found read target not = tt
+landed_refuses a (work_changes r change drawn tail) none = none
 
 -- A call that is decided where its last name is found has one name, and no target.
 record OneName (plan : Plan) : Type 0 where
@@ -305,7 +239,11 @@ read_no (Some f) (Goes work) none = none
 read_no (Some f) (Acquires count work) none = none
 read_no (Some f) (refuses_to r tail) none = none
 read_no (Some f) (Answers v drawn tail) none = none
-read_no (Some f) (work_changes r change tail) none = none
+read_no (Some f) (work_changes r change drawn tail) none = none
+
+touches_no : (own : Own) (v : ℕ) (within : Bool) → NoAnswer (touches_if within own v)
+touches_no own v true = tt
+touches_no own v false = tt
 
 -- what comes next of a call answers nothing, where no call with its plan is decided where its last name is found
 next_no : (own : Own) (call : Call) (found : List Capability) (next : Next) → decides_at_name (plan_for call).decides ≡ false
@@ -313,7 +251,7 @@ next_no : (own : Own) (call : Call) (found : List Capability) (next : Next) → 
 next_no own call found (NextName n wanted) not = under_no _ own.table n
 next_no own call found (NextFree target) not = read_no (reads_of call found) _ (target_no target)
 next_no own call found (NextHeld target) not = target_no target
-next_no own call found (NextOwn v) not = tt
+next_no own call found (NextOwn v) not = touches_no own v (nat_le v 4095)
 next_no own call found NextNothing not = act_no own call found None None not
 
 module _ (own : Own) (a : ActiveCall) (not : decides_at_name (plan_for a.call).decides ≡ false) where
@@ -405,143 +343,6 @@ last_not true true is last = is
 last_not true false is last = cc
 last_not false c is last = refl
 
--- a step of an act that is not ready answers nothing
-compare_no : (cap : Capability) (close : Close) (same : Bool) → NoAnswer (took_close cap close (close_compared same))
-compare_no cap close true = tt
-compare_no cap close false = tt
-
-close_no : (cap : Capability) (close : Close) (found : ℕ) → is_draw close ≡ false
-    → NoAnswer (took_close cap (close_after close found) (close_end close found))
-close_no cap (AtCompare node index word core) found not = compare_no cap _ (found == word)
-close_no cap (AtDraw node index) found not = absurd (cc)
-close_no cap (AtStore node index stamp) found not = tt
-
-kind_no : (y : Typing) (word : ℕ) (k : FrameKind) (mark : Option ℕ) → NoAnswer (meets_frame y word k mark)
-kind_no y word k (Some d) = tt
-kind_no y word Untyped None = tt
-kind_no y word User None = tt
-kind_no y word Kernel None = tt
-
-word_no : (y : Typing) (word : ℕ) (o : Option FrameWord) → NoAnswer (meets_word y word o)
-word_no y word None = tt
-word_no y word (Some v) = kind_no y word v.kind v.mark
-
-typing_no : (y : Typing) (at : TypingAt) (found : ℕ) → is_typing at ≡ false → NoAnswer (took_typing_at y at found)
-typing_no y Load found not = word_no y found _
-typing_no y (type_compare word) found not = absurd (cc)
-
-object_no : (m : Making) (word : ℕ) (o : Obj) → NoAnswer (meets_object m word o)
-object_no m word Blank = tt
-object_no m word o = tt
-
-blank_no : (m : Making) (word : ℕ) (k : FrameKind) (o : Obj) (mark : Option ℕ) → NoAnswer (meets_blank m word k o mark)
-blank_no m word k o (Some d) = tt
-blank_no m word Untyped o None = tt
-blank_no m word User o None = tt
-blank_no m word Kernel o None = object_no m word o
-
-met_no : (m : Making) (word : ℕ) (o : Option FrameWord) → NoAnswer (meets_making m word o)
-met_no m word None = tt
-met_no m word (Some v) = blank_no m word v.kind v.object v.mark
-
-marks_no : (m : Making) (word : ℕ) (equal : Bool) → NoAnswer (marks_if m word equal)
-marks_no m word true = tt
-marks_no m word false = tt
-
-making_no : (m : Making) (at : MakingAt) (found : ℕ) → is_filling at ≡ false → NoAnswer (took_making_at m at found)
-making_no m make_load found not = met_no m found _
-making_no m (Mark word) found not = marks_no m word _
-making_no m (Store word entry) found not = tt
-making_no m (fill_at word) found not = absurd (cc)
-
-head_no : (charge : Charge) (due : ℕ) (o : Option HeadWord) → NoAnswer (took_charge due charge (head_end o))
-head_no charge due None = tt
-head_no charge due (Some v) = by v.mark
-  where
-    by : (mark : Option ℕ) → NoAnswer (took_charge due charge (end_by_mark mark))
-    by None = tt
-    by (Some d) = tt
-
-charge_no : (charge : Charge) (found : ℕ) → is_charging charge ≡ false → NoAnswer (took_tick charge found)
-charge_no (charge_load tcap ticks) found not = head_no _ ticks (head_of_word found)
-charge_no (charge_compare tcap ticks budget version) found not = absurd (cc)
-
-lives_no : (m : Killing) (life : CompWord) (word : ℕ) (lives : Bool) → NoAnswer (meets_life m life word lives)
-lives_no m life word true = tt
-lives_no m life word false = tt
-
-number_no : (m : Killing) (life : CompWord) (word : ℕ) (v : LiveWord) → NoAnswer (meets_number m life word v)
-number_no m life word live.Free = tt
-number_no m life word (live.Live epoch f) = lives_no m life word _
-number_no m life word (live.Closing epoch by) = tt
-number_no m life word (live.Dead epoch stamp) = tt
-
-live_no : (m : Killing) (life : CompWord) (word : ℕ) (o : Option LiveWord) → NoAnswer (meets_live m life word o)
-live_no m life word None = tt
-live_no m life word (Some v) = number_no m life word v
-
-comp_no : (m : Killing) (o : Option CompWord) → NoAnswer (meets_comp m o)
-comp_no m None = tt
-comp_no m (Some life) = tt
-
-closes_no : (m : Killing) (life : CompWord) (word : ℕ) (equal : Bool) → NoAnswer (closes_if m life word equal)
-closes_no m life word true = tt
-closes_no m life word false = tt
-
-killing_no : (m : Killing) (at : KillingAt) (found : ℕ) → is_killing at ≡ false → NoAnswer (took_killing_at m at found)
-killing_no m LoadComp found not = comp_no m _
-killing_no m (LoadLive life) found not = live_no m life found _
-killing_no m (kill_close life word) found not = closes_no m life word _
-killing_no m (kill_draw life word) found not = absurd (cc)
-
-untyped_no : (m : Untyping) (word : ℕ) (v : FrameWord) (k : FrameKind) (mark : Option ℕ) → NoAnswer (meets_untyped m word v k mark)
-untyped_no m word v k (Some d) = tt
-untyped_no m word v Untyped None = tt
-untyped_no m word v User None = tt
-untyped_no m word v Kernel None = tt
-
-untyping_met : (m : Untyping) (word : ℕ) (o : Option FrameWord) → NoAnswer (meets_untyping m word o)
-untyping_met m word None = tt
-untyping_met m word (Some v) = untyped_no m word v v.kind v.mark
-
-sweeps_no : (m : Untyping) (word : ℕ) (v : FrameWord) (equal : Bool) → NoAnswer (sweeps_if m word v equal)
-sweeps_no m word v true = tt
-sweeps_no m word v false = tt
-
-sweep_no : (m : Untyping) (word : ℕ) (w : Sweep) (end : StageEnd Swept) → NoAnswer (took_sweep m word w end)
-sweep_no m word w ends.Going = tt
-sweep_no m word w (ends.Decided r) = tt
-sweep_no m word w (ends.Done swept) = tt
-sweep_no m word w (ends.Refuse r) = tt
-
-untyping_no : (s : Shape) (m : Untyping) (at : UntypingAt) (found : ℕ) → is_drawing at ≡ false
-    → NoAnswer (took_untyping_at s m at found)
-untyping_no s m untype.Load found not = untyping_met m found _
-untyping_no s m (untype.Mark word v) found not = sweeps_no m word v _
-untyping_no s m (untype.Sweep word w) found not = sweep_no m word _ _
-untyping_no s m (untype.Draw word w) found not = absurd (cc)
-
-map_kind_no : (fill : Fill) (k : FrameKind) (mark : Option ℕ) → NoAnswer (maps_frame fill k mark)
-map_kind_no fill k (Some d) = tt
-map_kind_no fill User None = tt
-map_kind_no fill k None = tt
-
-map_no : (fill : Fill) (o : Option FrameWord) → NoAnswer (maps_word fill o)
-map_no fill None = tt
-map_no fill (Some v) = map_kind_no fill v.kind v.mark
-
-act_unready : (s : Shape) (act : ActType) (found : ℕ) → act_ready act ≡ false → NoAnswer (took_act s act found)
-act_unready s (fill_act fill) found not = absurd (cc)
-act_unready s (remove_act close cap) found not = close_no cap close found not
-act_unready s (type_act typing) found not = typing_no typing typing.at found not
-act_unready s (make_act m) found not = making_no m m.at found not
-act_unready s (map_act fill) found not = map_no fill _
-act_unready s (Outside node entry word) found not = tt
-act_unready s (tick_act charge) found not = charge_no charge found not
-act_unready s (flush_act core) found not = absurd (cc)
-act_unready s (kill_act m) found not = killing_no m m.at found not
-act_unready s (untype_act m) found not = untyping_no s m m.at found not
-
 -- a step of a scan answers nothing
 scan_refuses : (core : ℕ) (act : ActType) (a : ActiveCall) (q : Quiet) (end : StageEnd (Unit {0}))
     → Refuses (landed a (took_scan core act q end))
@@ -604,20 +405,12 @@ unready_refuses own a found active not = stage_refuses own a a.stage found activ
 
 -- a call that is ready is decided by its next step
 
--- A step with which the work is over.
-abbrev IsOver : WorkStep → Type 0
-IsOver (Goes work) = ⊥
-IsOver (Acquires count work) = ⊥
-IsOver (refuses_to r tail) = Unit {0}
-IsOver (Answers v drawn tail) = Unit {0}
-IsOver (work_changes r change tail) = Unit {0}
-
 landed_decides : (a : ActiveCall) (step : WorkStep) → IsOver step → IsDecision (landed a step)
 landed_decides a (Goes work) over = absurd over
 landed_decides a (Acquires count work) over = absurd over
 landed_decides a (refuses_to r tail) over = tt
 landed_decides a (Answers v drawn tail) over = tt
-landed_decides a (work_changes r change tail) over = tt
+landed_decides a (work_changes r change drawn tail) over = tt
 
 fill_decides : (a : ActiveCall) (equal : Bool) → IsDecision (landed a (filled_if equal))
 fill_decides a true = tt
@@ -659,12 +452,78 @@ killing_decides a m (LoadLive life) found ready = absurd (cc)
 killing_decides a m (kill_close life word) found ready = absurd (cc)
 killing_decides a m (kill_draw life word) found ready = tt
 
+invoking_decides : (a : ActiveCall) (m : Invoking) (at : InvokingAt) (found : ℕ) → is_entering at ≡ true
+    → IsDecision (landed a (took_invoking_at m at found))
+invoking_decides a m invoking.LoadTable found ready = absurd (cc)
+invoking_decides a m (invoking.LoadPages table) found ready = absurd (cc)
+invoking_decides a m (invoking.LoadComp table pages) found ready = absurd (cc)
+invoking_decides a m (invoking.LoadLive table pages life) found ready = by (live_of_word found)
+  where
+    lives : (same : Bool) → IsDecision (landed a (enters_if m table pages same))
+    lives true = tt
+    lives false = tt
+
+    by : (o : Option LiveWord) → IsDecision (landed a (enters_live m table pages o))
+    by None = tt
+    by (Some live.Free) = tt
+    by (Some (live.Live epoch f)) = lives (epoch == m.epoch)
+    by (Some (live.Closing epoch d)) = tt
+    by (Some (live.Dead epoch stamp)) = tt
+
+returning_decides : (a : ActiveCall) (m : Returning) (at : ReturningAt) (found : ℕ) → is_leaving at ≡ true
+    → IsDecision (landed a (took_returning_at m at found))
+returning_decides a m returning.LoadBelow found ready = absurd (cc)
+returning_decides a m (returning.LoadTable comp) found ready = absurd (cc)
+returning_decides a m (returning.LoadPages comp table) found ready = absurd (cc)
+returning_decides a m (returning.Draw comp table pages) found ready = tt
+
+switching_decides : (a : ActiveCall) (m : Switching) (at : SwitchAt) (found : ℕ) → is_switching at ≡ true
+    → IsDecision (landed a (took_switching_at m at found))
+switching_decides a m (switch_at.Claim claim) found ready = absurd (cc)
+switching_decides a m (switch_at.LoadTable to) found ready = absurd (cc)
+switching_decides a m (switch_at.LoadPages to table) found ready = absurd (cc)
+switching_decides a m (switch_at.Leave to table pages) found ready = absurd (cc)
+switching_decides a m (switch_at.Draw to table pages) found ready = tt
+
+component_decides : (a : ActiveCall) (m : CompMaking) (at : CompAt) (found : ℕ) → comp_filling at ≡ true
+    → IsDecision (landed a (took_comp_at m at found))
+component_decides a m comp_at_as.Load found ready = absurd (cc)
+component_decides a m (comp_at_as.Mark word) found ready = absurd (cc)
+component_decides a m (comp_at_as.LoadLive word) found ready = absurd (cc)
+component_decides a m (comp_at_as.Scan word last q) found ready = absurd (cc)
+component_decides a m (comp_at_as.Close word last) found ready = absurd (cc)
+component_decides a m (comp_at_as.Store word last entry) found ready = absurd (cc)
+component_decides a m (comp_at_as.Fill word last) found ready = by (found == m.fill.word)
+  where
+    by : (equal : Bool) → IsDecision (landed a (comp_published m word last equal))
+    by true = tt
+    by false = tt
+
 untyping_decides : (s : Shape) (a : ActiveCall) (m : Untyping) (at : UntypingAt) (found : ℕ) → is_drawing at ≡ true
     → IsDecision (landed a (took_untyping_at s m at found))
 untyping_decides s a m untype.Load found ready = absurd (cc)
 untyping_decides s a m (untype.Mark word v) found ready = absurd (cc)
 untyping_decides s a m (untype.Sweep word w) found ready = absurd (cc)
 untyping_decides s a m (untype.Draw word w) found ready = tt
+
+page_decides : (a : ActiveCall) (m : Touching) (look : Look) (node index word : ℕ) (shown : Option Entry)
+    → IsDecision (landed a (touch_end m look (place_end node index word shown)))
+page_decides a m look node index word None = tt
+page_decides a m look node index word (Some entry.Free) = tt
+page_decides a m look node index word (Some (entry.Held k)) = tt
+page_decides a m look node index word (Some (entry.Closing by)) = tt
+page_decides a m look node index word (Some (entry.Quiescing stamp)) = tt
+
+touched_decides : (a : ActiveCall) (m : Touching) (found : ℕ) (cached : Option Translation)
+    → (is_some cached || is_at_page m.look) ≡ true → IsDecision (landed a (touched m found cached))
+touched_decides a m found (Some item) ready = tt
+touched_decides a m found None ready = by m.look ready
+  where
+    by : (look : Look) → is_at_page look ≡ true → IsDecision
+        (landed a (touch_end m (look_after look (shown_in m.frames found)) (look_end look found (shown_in m.frames found))))
+    by (AtRoot root number) ready = absurd (cc)
+    by (AtLeaf leaf number) ready = page_decides a m _ _ _ found (shown_in m.frames found)
+    by (AtEntry root index) ready = page_decides a m _ _ _ found (shown_in m.frames found)
 
 act_decides : (s : Shape) (a : ActiveCall) (act : ActType) (found : ℕ) → act_ready act ≡ true
     → IsDecision (landed a (took_act s act found))
@@ -677,9 +536,15 @@ act_decides s a (make_act m) found ready = making_decides a m m.at found ready
 act_decides s a (map_act fill) found ready = absurd (cc)
 act_decides s a (Outside node entry word) found ready = absurd (cc)
 act_decides s a (tick_act charge) found ready = charge_decides a charge found ready
+act_decides s a (touch_act m) found ready = touched_decides a m found m.cached ready
 act_decides s a (flush_act core) found ready = tt
 act_decides s a (kill_act m) found ready = killing_decides a m m.at found ready
 act_decides s a (untype_act m) found ready = untyping_decides s a m m.at found ready
+act_decides s a (comp_act m) found ready = component_decides a m m.at found ready
+act_decides s a (invoke_act m) found ready = invoking_decides a m m.at found ready
+act_decides s a (return_act m) found ready = returning_decides a m m.at found ready
+act_decides s a (switch_act m) found ready = switching_decides a m m.at found ready
+act_decides s a (share_act p) found ready = landed_decides a _ (share_over p p.at found ready)
 
 begun_over : (own : Own) (call : Call) (k : Capability) → decides_at_name (plan_for call).decides ≡ true
     → IsOver (act_begun own call (k ∷ []) None None)
@@ -704,6 +569,12 @@ begun_over own Flush k is = absurd (cc)
 begun_over own (Tick n) k is = absurd (cc)
 begun_over own (Gate c t b) k is = absurd (cc)
 begun_over own (Kill c) k is = absurd (cc)
+begun_over own (call_gate g) k is = absurd (cc)
+begun_over own Ret k is = absurd (cc)
+begun_over own (Switch h q) k is = absurd (cc)
+begun_over own (Transfer a b m) k is = absurd (cc)
+begun_over own (Delegate a b m) k is = absurd (cc)
+begun_over own (Test a b) k is = absurd (cc)
 begun_over own call k is = tt
 
 zero_of : (found : List Capability) → (length found + 1 == 1) ≡ true → found ≡ []

@@ -3,16 +3,15 @@ use Rattle.std.proofs.lemmas.List.Elements.{All-nil, All-cons, All-tail, All-app
 use Rattle.frame_words.specs.Count.{word_of_count, count_of_word}
 use Rattle.stage_pins.specs.Counts.{unheld}
 use Rattle.stage_pins.proofs.PinLemmas.{after_fits}
-use Rattle.std.proofs.Common.{◌≡◌, ℕ, suc, ℤ, ◌≢◌, nat_lt, if◌then◌else◌, ◌+◌, ◌*◌, ◌-◌, ◌++◌, slice_get, ◌%◌, ◌<◌, ◌≤◌, Bool, true, false, ◌==◌, List, [], ◌∷◌, length, length-append, lt-ltb, Option, Some, None, IfSome, refl, sym, ◌∙◌, ap, subst, arith, negsuc}
-use Rattle.std.proofs.lemmas.Bool.{leb-false, ltb-true, ltb-false, eqb-true, eqb-false}
+use Rattle.std.proofs.Common.{◌≡◌, ℕ, suc, ℤ, nat_lt, if◌then◌else◌, ◌+◌, ◌*◌, ◌-◌, ◌++◌, slice_get, ◌%◌, ◌<◌, ◌≤◌, Bool, true, false, ◌==◌, List, [], ◌∷◌, length, length-append, lt-ltb, Option, Some, None, IfSome, refl, sym, ◌∙◌, ap, subst, arith, negsuc}
+use Rattle.std.proofs.lemmas.Bool.{leb-false, ltb-true}
 use Rattle.spk_nums.specs.declared.replies.Value.TheVariants.{Nothing as nothing, Amount}
 use Rattle.stage_quiet.specs.Clocks.{drawn_stamp, stamp_of_clock}
 use Rattle.stage_quiet.specs.declared.close.Close.{Close}
 use Rattle.stage_quiet.specs.declared.close.Close.TheVariants.{AtCompare as close_compare, AtDraw, AtStore}
 use Rattle.stage_quiet.specs.declared.quiet.Quiet.{Quiet}
-use Rattle.stage_quiet.specs.declared.quiet.Quiet.TheVariants.{AtCore, AtFlush}
 use Rattle.stage_quiet.specs.Removal.{CloseFits, close_compared, close_at, close_end, close_after}
-use Rattle.stage_quiet.specs.Scan.{QuietFits, next_other, core_scan, quiet_refuses, scan_end, scan_after, quiet_end, quiet_after}
+use Rattle.stage_quiet.specs.Scan.{QuietFits, quiet_end, quiet_after}
 use Rattle.stage_pins.specs.declared.pin.Pin.{Pin}
 use Rattle.stage_pins.specs.declared.pin.Pin.TheVariants.{AtLoad, AtCompare}
 use Rattle.stage_pins.specs.declared.pin.Pinned.{Pinned}
@@ -83,12 +82,14 @@ use Rattle.call_acts.specs.Makings.{MakingFits, making_left, undo_at}
 use Rattle.frame_words.specs.Comp.{comp_of_word}
 use Rattle.frame_words.specs.declared.comp_word.CompWord.{CompWord}
 use Rattle.call_steps.specs.Tails.{tail_left, took_tail, tail_counts}
-use Rattle.call_steps.specs.Fits.{TailFits, ScanFits, WorkFits, StageFits, IsWanted, FoundFits, HasRoom, CountsWait, CountsAt, looks_later, after_reading, acts_later, names_left, steps_later, left_of_look, left_of_scan, left_of_pin, work_left, left_at, left_of, IsActive, IsOwn, left_of_cores}
-use Rattle.call_steps.proofs.StepsFit.{StepFits, starts_fit, few_dues, object_count, work_next, counts_next, first_named, act_fits}
+use Rattle.call_steps.specs.Fits.{TailFits, WorkFits, StageFits, IsWanted, FoundFits, HasRoom, CountsWait, CountsAt, looks_later, after_reading, acts_later, names_left, steps_later, left_of_look, left_of_pin, work_left, left_at, left_of, IsActive, IsOwn}
+use Rattle.call_acts.specs.Scans.{left_of_cores, ScanFits, left_of_scan}
+use Rattle.call_steps.proofs.StepsFit.{starts_fit, first_named, act_fits}
+use Rattle.call_steps.proofs.DuesFit.{StepFits, few_dues, object_count, work_next, counts_next, ChangeFits}
 use Rattle.call_acts.specs.declared.work.Act.{Act as ActType}
-use Rattle.call_acts.specs.declared.work.Act.TheVariants.{Fill as fill_act, Remove as remove_act, Retype as type_act, Make as make_act, Outside, Tick as tick_act, Flush as flush_act, Kill as kill_act, Untype as untype_act, Map as map_act}
+use Rattle.call_acts.specs.declared.work.Act.TheVariants.{Fill as fill_act, Remove as remove_act, Retype as type_act, Make as make_act, Outside, Tick as tick_act, Flush as flush_act, Kill as kill_act, Untype as untype_act, Map as map_act, MakeComp as comp_act, Invoke as invoke_act, Return as return_act, Switch as switch_act, Touch as touch_act, Share as share_act}
 use Rattle.call_acts.specs.declared.work.Tail.{Tail}
-use Rattle.call_acts.specs.declared.work.Tail.TheVariants.{Nothing, Quiesce, Unmark, StoreDead, StoreFlush, Release}
+use Rattle.call_acts.specs.declared.work.Tail.TheVariants.{Nothing, Quiesce, Unmark, StoreDead, StoreFlush, Release, StoreLive, Push, Pop, StoreRunning, StoreIdle, Share}
 use Rattle.call_steps.specs.declared.stages.Stage.{Stage}
 use Rattle.call_steps.specs.declared.stages.Stage.TheVariants.{Enter, Undecided, Decided, Leave}
 use Rattle.call_steps.specs.declared.stages.ActiveCall.{ActiveCall}
@@ -106,6 +107,12 @@ use Rattle.call_steps.proofs.LandsFit.{TookFits, Facts, names_object, next_fits,
 use Rattle.call_steps.proofs.ScansFit.{scan_goes, scan_left}
 use Rattle.call_steps.proofs.KillsFit.{kill_fits}
 use Rattle.call_steps.proofs.UntypingsFit.{untype_fits, undone_fits, released_fits}
+use Rattle.call_steps.proofs.CompsFit.{comp_fits, comp_undone}
+use Rattle.call_steps.proofs.SwitchesFit.{switch_fits, switching_undone}
+use Rattle.call_steps.proofs.InvocationsFit.{invoke_fits, return_fits, push_fits, pop_fits}
+use Rattle.call_steps.proofs.TouchesFit.{touch_fits}
+use Rattle.call_steps.proofs.SharesFit.{share_fits, shared_fits}
+use Rattle.call_steps.proofs.LookingFits.{refused_fits, works_fits, look_fits}
 
 -- a step of the work of a call that has acquired its counts, or acquires them
 module _ (own : Own) (a : ActiveCall) (facts : Facts own a) (room : own.made < own.limit) where
@@ -238,11 +245,11 @@ module _ (own : Own) (a : ActiveCall) (facts : Facts own a) (room : own.made < o
       by false = act_undone _ refusal.Raced (Unmark m.frame word) fits.frame (omega arith)
 
   -- the call is decided with nothing to store
-  act_changed : (left : ℕ) (r : Reply) (change : OwnChange) → 2 + length a.counts < left
-      → TookFits own left a (landed a (work_changes r change Nothing))
-  act_changed left r change some =
-      landed_fits own a a refl refl refl facts.found facts.acquired room 0 left (work_changes r change Nothing) (omega arith, tt)
-      (omega arith)
+  act_changed : (left : ℕ) (r : Reply) (change : OwnChange) → ChangeFits own.layout change → 2 + length a.counts < left
+      → TookFits own left a (landed a (work_changes r change None Nothing))
+  act_changed left r change fits some =
+      landed_fits own a a refl refl refl facts.found facts.acquired room 0 left (work_changes r change None Nothing)
+      (omega arith, tt, fits) (omega arith)
 
   -- where the load of a head with this mark leads
   marked_fits : (tcap ticks budget version : ℕ) (mark : Option ℕ) → tcap < own.layout.frames → version < 2 ^ 28 → length a.counts ≡ 0
@@ -252,19 +259,19 @@ module _ (own : Own) (a : ActiveCall) (facts : Facts own a) (room : own.made < o
       landed_fits own a a refl refl refl facts.found facts.acquired room 1 (2 + length a.counts + 2)
       (Goes (Act (tick_act (charge_compare tcap ticks budget version)))) ((fits, small), omega arith, waits) (omega arith)
   marked_fits tcap ticks budget version (Some d) fits small waits =
-      act_changed (2 + length a.counts + 2) (reply.Busy d) (Ticks 0 ticks) (omega arith)
+      act_changed (2 + length a.counts + 2) (reply.Busy d) (Ticks 0 ticks) tt (omega arith)
 
   head_fits : (tcap ticks word : ℕ) (o : Option HeadWord) → head_of_word word ≡ o → tcap < own.layout.frames → length a.counts ≡ 0
       → TookFits own (2 + length a.counts + 2) a (landed a (took_charge ticks (after_head tcap ticks o) (head_end o)))
-  head_fits tcap ticks word None is fits waits = act_changed (2 + length a.counts + 2) reply.Raced (Ticks 0 ticks) (omega arith)
+  head_fits tcap ticks word None is fits waits = act_changed (2 + length a.counts + 2) reply.Raced (Ticks 0 ticks) tt (omega arith)
   head_fits tcap ticks word (Some v) is fits waits =
       marked_fits tcap ticks v.budget v.version v.mark fits (spelling.spells word v is).0.2 waits
 
   charged_fits : (due charged : ℕ) (charge : Charge) (equal : Bool)
       → TookFits own (2 + length a.counts + 1) a (landed a (took_charge due charge (charged_end equal charged)))
   charged_fits due charged charge true =
-      act_changed (2 + length a.counts + 1) (reply.Ok (Amount charged)) (Ticks charged (due - charged)) (omega arith)
-  charged_fits due charged charge false = act_changed (2 + length a.counts + 1) reply.Raced (Ticks 0 due) (omega arith)
+      act_changed (2 + length a.counts + 1) (reply.Ok (Amount charged)) (Ticks charged (due - charged)) tt (omega arith)
+  charged_fits due charged charge false = act_changed (2 + length a.counts + 1) reply.Raced (Ticks 0 due) tt (omega arith)
 
   tick_fits : (charge : Charge) (word : ℕ) → ChargeFits own.layout charge → length a.counts ≡ 0
       → TookFits own (2 + length a.counts + charge_left charge) a (landed a (took_tick charge word))
@@ -296,11 +303,17 @@ module _ (own : Own) (a : ActiveCall) (facts : Facts own a) (room : own.made < o
       met (Some v) = by v.kind v.mark
   done_fits (Outside node entry word) found fits waits = act_refused _ refusal.OutOfRange (omega arith)
   done_fits (tick_act charge) found fits waits = tick_fits charge found fits waits
+  done_fits (touch_act m) found fits waits = touch_fits own a facts room waits m found fits
   done_fits (flush_act core) found fits waits =
       landed_fits own a a refl refl refl facts.found facts.acquired room 1 _
-      (work_changes (reply.Ok nothing) Empties (StoreFlush core (stamp_of_clock found))) (omega arith, fits) (omega arith)
+      (work_changes (reply.Ok nothing) Empties None (StoreFlush core (stamp_of_clock found))) (omega arith, fits, tt) (omega arith)
   done_fits (kill_act m) found fits waits = kill_fits own a facts room m m.at found fits waits
   done_fits (untype_act m) found fits waits = untype_fits own a facts room m m.at found fits waits
+  done_fits (comp_act m) found fits waits = comp_fits own a facts room m m.at found fits waits
+  done_fits (invoke_act m) found fits waits = invoke_fits own a facts room m m.at found fits waits
+  done_fits (return_act m) found fits waits = return_fits own a facts room m m.at found fits waits
+  done_fits (switch_act m) found fits waits = switch_fits own a facts room m m.at found fits waits
+  done_fits (share_act p) found fits waits = share_fits own a facts room waits p p.at found fits
 
   undo_fits : (act : ActType) → ActFits own.layout act → TailFits own.layout (undo act) × (tail_left (undo act) ≤ act_left own.layout.cores act)
   undo_fits (fill_act fill) fits = (tt, omega arith)
@@ -316,9 +329,15 @@ module _ (own : Own) (a : ActiveCall) (facts : Facts own a) (room : own.made < o
   undo_fits (map_act fill) fits = (tt, omega arith)
   undo_fits (Outside node entry word) fits = (tt, omega arith)
   undo_fits (tick_act charge) fits = (tt, omega arith)
+  undo_fits (touch_act m) fits = (tt, omega arith)
   undo_fits (flush_act core) fits = (tt, omega arith)
   undo_fits (kill_act m) fits = (tt, omega arith)
+  undo_fits (invoke_act m) fits = (tt, omega arith)
+  undo_fits (return_act m) fits = (tt, omega arith)
+  undo_fits (switch_act m) fits = switching_undone own m m.at fits
   undo_fits (untype_act m) fits = undone_fits own.layout m m.at facts.own_fits.shape fits
+  undo_fits (comp_act m) fits = comp_undone own m m.at fits
+  undo_fits (share_act p) fits = (tt, omega arith)
 
   scan_end_fits : (left : ℕ) (act : ActType) (q : Quiet) (end : StageEnd (Unit {0})) → a.counts ≡ [] → ActFits own.layout act
       → (end ≡ ends.Going → QuietFits own.layout q × ScanFits own.layout q ×
@@ -459,152 +478,6 @@ module _ (own : Own) (a : ActiveCall) (facts : Facts own a) (room : own.made < o
       some_pin (AtLoad frame core) = omega arith
       some_pin (AtCompare frame core count stamp) = omega arith
 
-module _ (own : Own) (a : ActiveCall) (facts : Facts own a) (none : a.counts ≡ []) (room : own.made < own.limit) where
-  -- a refusal, and any step of the work
-  no_counts : length a.counts ≡ 0
-  no_counts = ap length none
-
-  refused_fits : (left : ℕ) (r : Refusal) → 2 < left → TookFits own left a (landed a (refuse r))
-  refused_fits left r some = let zero = no_counts in act_refused own a facts room left r (omega arith)
-
-  works_fits : (most left : ℕ) (step : WorkStep) → StepFits own.layout [] (steps_later own.layout.cores a) most step → 2 + most < left
-      → TookFits own left a (landed a step)
-  works_fits most left step fits some =
-      let zero = no_counts in
-      landed_fits own a a refl refl refl facts.found facts.acquired room most left step
-      (subst (λ (xs : List Acquired). StepFits own.layout xs (steps_later own.layout.cores a) most step) (sym none) fits) (omega arith)
-
-  -- one name more has led to a capability
-  more_fits : (name : Name) (rest : List Name) (k : Capability) → names_left a ≡ name ∷ rest
-      → IsWanted own.layout.frames name.number (wants (with_found [] a.found) name.wanted) k
-      → FoundFits own.layout.frames a.plan (pushed a.found k)
-  more_fits name rest k is wanted =
-      let few : length a.found < 4 =
-      let counted : length a.found + length (names_left a) ≡ length a.plan.names =
-      count_led (IsWanted own.layout.frames) a.plan.names [] a.found facts.found in
-      let most : length a.plan.names ≤ 4 = subst (λ (p : Plan). length p.names ≤ 4) (sym facts.plan) (few_names a.call) in
-      let one : length (names_left a) ≡ suc (length rest) = ap length is in
-      omega arith in
-      subst (λ ks. FoundFits own.layout.frames a.plan ks) (sym (pushed_one a.found k few))
-      (one_more (IsWanted own.layout.frames) a.plan.names a.plan.target [] a.found k facts.found
-      (subst (λ names. NextBy (IsWanted own.layout.frames) (next_in (with_found [] a.found) names a.plan.target) k) (sym is) wanted))
-
-  left_more : (name : Name) (rest : List Name) (k : Capability) → names_left a ≡ name ∷ rest
-      → names_left (found_more a (pushed a.found k)) ≡ rest
-  left_more name rest k is =
-      let few : length a.found < 4 =
-      let counted : length a.found + length (names_left a) ≡ length a.plan.names =
-      count_led (IsWanted own.layout.frames) a.plan.names [] a.found facts.found in
-      let most : length a.plan.names ≤ 4 = subst (λ (p : Plan). length p.names ≤ 4) (sym facts.plan) (few_names a.call) in
-      let one : length (names_left a) ≡ suc (length rest) = ap length is in
-      omega arith in
-      ap (names_after a.plan.names) (pushed_one a.found k few) ∙ after_more a.plan.names rest name a.found k is
-
-  one_fits : (left : ℕ) (name : Name) (rest : List Name) (k : Capability) → names_left a ≡ name ∷ rest
-      → IsWanted own.layout.frames name.number (wants (with_found [] a.found) name.wanted) k
-      → 2 + (look_steps rest a.plan.target + act_steps a.call own.layout.cores) < left → TookFits own left a (named_one own a (Finds k))
-  one_fits left name rest k is wanted some =
-      let more = found_more a (pushed a.found k) in
-      let fits = more_fits name rest k is wanted in
-      let zero = no_counts in
-      landed_fits own a more refl refl refl fits facts.acquired room
-      (look_steps (names_left more) a.plan.target + act_steps a.call own.layout.cores) left (next_by own more)
-      (subst (λ (xs : List Acquired). StepFits own.layout xs (steps_later own.layout.cores more)
-      (look_steps (names_left more) a.plan.target + act_steps a.call own.layout.cores) (next_by own more)) (sym none)
-      (next_fits own more (record {
-        own_fits = facts.own_fits;
-        plan = facts.plan;
-        found = fits;
-        acquired = facts.acquired;
-        limits = facts.limits;
-      })))
-      (subst (λ (names : List Name). 2 + length a.counts + (look_steps names a.plan.target + act_steps a.call own.layout.cores) < left)
-      (sym (left_more name rest k is)) (omega arith))
-
-  met_if : (left : ℕ) (name : Name) (rest : List Name) (k : Capability) (wanted : Bool)
-      → wanted ≡ wants (with_found [] a.found) name.wanted k.kind → names_left a ≡ name ∷ rest
-      → CapNames own.layout.frames k → 2 + (look_steps rest a.plan.target + act_steps a.call own.layout.cores) < left
-      → TookFits own left a (named_one own a (if wanted then Finds k else Refused refusal.WrongCap))
-  met_if left name rest k true wanted is names some = one_fits left name rest k is (sym wanted, names) some
-  met_if left name rest k false wanted is names some = refused_fits left refusal.WrongCap (omega arith)
-
-  met_fits : (left : ℕ) (name : Name) (rest : List Name) (value : Entry) → names_left a ≡ name ∷ rest → EntryNames own.layout.frames value
-      → 2 + (look_steps rest a.plan.target + act_steps a.call own.layout.cores) < left
-      → TookFits own left a (named_one own a (met_name (wants (with_found [] a.found) name.wanted) value))
-  met_fits left name rest entry.Free is names some = refused_fits left refusal.Empty (omega arith)
-  met_fits left name rest (entry.Held k) is names some = met_if left name rest k _ refl is names some
-  met_fits left name rest (entry.Closing by) is names some = refused_fits left (refusal.Busy by) (omega arith)
-  met_fits left name rest (entry.Quiescing stamp) is names some = refused_fits left refusal.Empty (omega arith)
-
-  first_is : IfSome (at_place a.found First) (CapNames own.layout.frames)
-  first_is = first_named own.layout.frames a.plan.names [] a.found facts.found
-
-  acts_on : (left : ℕ) (read : Option ℕ) (f : Found) → PlaceFits own.layout f → 2 + after_reading a.call own.layout.cores < left
-      → TookFits own left a (landed a (act_begun own a.call a.found read (Some f)))
-  acts_on left read f fits some =
-      works_fits (after_reading a.call own.layout.cores) left _ (act_fits own _ a.call a.found read (Some f) facts.own_fits first_is
-      (names_object own a facts) facts.limits fits) some
-
-  free_fits : (left : ℕ) (f : Found) (value : Entry) → PlaceFits own.layout f → 2 + after_reading a.call own.layout.cores < left
-      → TookFits own left a (landed a (met_free own a.call a.found a.read f value))
-  free_fits left f entry.Free fits some = acts_on left a.read f fits some
-  free_fits left f (entry.Held k) fits some = refused_fits left refusal.Occupied (omega arith)
-  free_fits left f (entry.Closing by) fits some = refused_fits left (refusal.Busy by) (omega arith)
-  free_fits left f (entry.Quiescing stamp) fits some = acts_on left a.read f fits some
-
-  held_fits : (left : ℕ) (f : Found) (value : Entry) → PlaceFits own.layout f → 2 + after_reading a.call own.layout.cores < left
-      → TookFits own left a (landed a (met_held own a.call a.found f value))
-  held_fits left f entry.Free fits some = refused_fits left refusal.Empty (omega arith)
-  held_fits left f (entry.Held k) fits some = acts_on left None f fits some
-  held_fits left f (entry.Closing by) fits some = refused_fits left (refusal.Busy by) (omega arith)
-  held_fits left f (entry.Quiescing stamp) fits some = refused_fits left refusal.Empty (omega arith)
-
-  -- the place that was looked for is found
-  found_case : (left : ℕ) (names : List Name) (target : Target) (f : Found) → names_left a ≡ names → a.plan.target ≡ target
-      → PlaceFits own.layout f
-      → 2 + (looks_later names target + acts_later names a.call own.layout.cores) < left
-      → TookFits own left a (took_found own a (next_in (with_found [] a.found) names target) f)
-  found_case left (name ∷ rest) target f is to fits some =
-      met_fits left name rest f.value is fits.names (subst (λ (t : Target). 2 + (look_steps rest t + act_steps a.call own.layout.cores) <
-      left) (sym to) some)
-  found_case left [] Nowhere f is to fits some = refused_fits left refusal.Raced (omega arith)
-  found_case left [] (Free spot) f is to fits some = free_fits left f f.value fits (omega arith)
-  found_case left [] (Held spot) f is to fits some = held_fits left f f.value fits (omega arith)
-  found_case left [] (own_page v) f is to fits some = refused_fits left refusal.Raced (omega arith)
-
-  place_fits : (left : ℕ) (look : Look) (node index word : ℕ) (shown : Option Entry) → IfSome shown (EntryNames own.layout.frames)
-      → node < own.layout.frames → index < 64
-      → 2 + steps_later own.layout.cores a < left → TookFits own left a (took_end own a look (place_end node index word shown))
-  place_fits left look node index word None names below small some = refused_fits left (refusal_of reply.Raced) (omega arith)
-  place_fits left look node index word (Some entry.Free) names below small some =
-      found_case left (names_left a) a.plan.target _ refl refl (record { node = below; entry = small; names = tt }) some
-  place_fits left look node index word (Some (entry.Held k)) names below small some =
-      found_case left (names_left a) a.plan.target _ refl refl (record { node = below; entry = small; names = names }) some
-  place_fits left look node index word (Some (entry.Closing by)) names below small some =
-      refused_fits left (refusal_of (reply.Busy by)) (omega arith)
-  place_fits left look node index word (Some (entry.Quiescing stamp)) names below small some =
-      found_case left (names_left a) a.plan.target _ refl refl (record { node = below; entry = small; names = tt }) some
-
-  link_fits : (left : ℕ) (linked : Bool) (top number : ℕ) (k : Capability) → linked ≡ is_link k.kind → CapNames own.layout.frames k
-      → 3 + steps_later own.layout.cores a < left
-      → TookFits own left a (took_end own a (after_link linked top number k.frame) (end_by_link linked))
-  link_fits left true top number k is names some =
-      works_fits (1 + steps_later own.layout.cores a) left (Goes (Lookup (AtLeaf k.frame number)))
-      (leaf_below own.layout.frames k.kind k.frame k.arg (sym is) names, omega arith, refl) (omega arith)
-  link_fits left false top number k is names some = refused_fits left (refusal_of reply.NoSlot) (omega arith)
-
-  look_fits : (look : Look) (word : ℕ) (shown : Option Entry) → LookFits own.layout look → IfSome shown (EntryNames own.layout.frames)
-      → TookFits own (2 + 0 + (left_of_look look + steps_later own.layout.cores a)) a (took_look own a look word shown)
-  look_fits (AtRoot top number) word None look names = refused_fits _ (refusal_of reply.Raced) (omega arith)
-  look_fits (AtRoot top number) word (Some entry.Free) look names = refused_fits _ (refusal_of reply.NoSlot) (omega arith)
-  look_fits (AtRoot top number) word (Some (entry.Held k)) look names = link_fits _ _ top number k refl names (omega arith)
-  look_fits (AtRoot top number) word (Some (entry.Closing by)) look names = refused_fits _ (refusal_of (reply.Busy by)) (omega arith)
-  look_fits (AtRoot top number) word (Some (entry.Quiescing stamp)) look names = refused_fits _ (refusal_of reply.NoSlot) (omega arith)
-  look_fits (AtLeaf leaf number) word shown look names =
-      place_fits _ (AtLeaf leaf number) leaf (number % 64) word shown names look (omega arith) (omega arith)
-  look_fits (AtEntry top index) word shown look names =
-      place_fits _ (AtEntry top index) top index word shown names look.0 look.1 (omega arith)
-
 -- the component's word is loaded, and the target is looked up next
 read_fits : (own : Own) (a : ActiveCall) (look : Look) (o : Option CompWord) → Facts own a → own.made < own.limit
     → LookFits own.layout look → a.counts ≡ []
@@ -704,6 +577,47 @@ tail_fits own a r drawn (StoreFlush core stamp) counts found facts is fits = rec
   steps = refl;
   fewer = let same : length a.counts ≡ length counts = ap length is in omega arith;
 }
+tail_fits own a r drawn (StoreLive l live f word) counts found facts is fits = record {
+  call = refl;
+  plan = refl;
+  found = facts.found;
+  first = tt;
+  stage = fits.1;
+  acquired = subst (AllFit own.layout) is facts.acquired;
+  counts = tt;
+  room = tt;
+  counted = facts.own_fits.made;
+  steps = refl;
+  fewer = let same : length a.counts ≡ length counts = ap length is in omega arith;
+}
+tail_fits own a r drawn (Push x) counts found facts is fits = push_fits own a r drawn x counts facts fits is
+tail_fits own a r drawn (Pop x) counts found facts is fits = pop_fits own a r drawn x counts facts fits is
+tail_fits own a r drawn (StoreRunning f core depth old old_depth) counts found facts is fits = record {
+  call = refl;
+  plan = refl;
+  found = facts.found;
+  first = tt;
+  stage = (fits.2, fits.3);
+  acquired = subst (AllFit own.layout) is facts.acquired;
+  counts = tt;
+  room = tt;
+  counted = facts.own_fits.made;
+  steps = refl;
+  fewer = let same : length a.counts ≡ length counts = ap length is in omega arith;
+}
+tail_fits own a r drawn (StoreIdle f depth) counts found facts is fits = record {
+  call = refl;
+  plan = refl;
+  found = facts.found;
+  first = tt;
+  stage = tt;
+  acquired = subst (AllFit own.layout) is facts.acquired;
+  counts = tt;
+  room = tt;
+  counted = facts.own_fits.made;
+  steps = refl;
+  fewer = let same : length a.counts ≡ length counts = ap length is in omega arith;
+}
 tail_fits own a r drawn Nothing [] found facts is fits = record {
   call = refl;
   plan = refl;
@@ -731,6 +645,7 @@ tail_fits own a r drawn Nothing (x ∷ xs) found facts is fits = record {
   fewer = let one : length a.counts ≡ suc (length xs) = ap length is in omega arith;
 }
 tail_fits own a r drawn (Release x) counts found facts is fits = released_fits own a r drawn x counts found facts is fits
+tail_fits own a r drawn (Share p) counts found facts is fits = shared_fits own a r drawn p counts found facts is fits
 
 stage_fits : (own : Own) (a : ActiveCall) (stage : Stage) (found : ℕ) → Facts own a → StageFits own.layout stage → CountsAt a.counts stage
     → HasRoom own.made own.limit stage → TookFits own (left_at own.layout.cores a stage) a (took_at own a stage found)

@@ -23,7 +23,7 @@ use Rattle.call_acts.specs.declared.work.WorkStep.TheVariants.{Goes}
 use Rattle.call_steps.specs.declared.stages.ActiveCall.{ActiveCall}
 use Rattle.call_steps.specs.Steps.{landed}
 use Rattle.call_steps.specs.Fits.{steps_later, work_left}
-use Rattle.call_steps.proofs.StepsFit.{work_next, counts_next}
+use Rattle.call_steps.proofs.DuesFit.{work_next, counts_next}
 use Rattle.call_steps.proofs.LandsFit.{TookFits, Facts, landed_fits}
 
 -- a killing that stands elsewhere fits where that does

@@ -14,7 +14,7 @@ same_call old a (Goes work) = refl
 same_call old a (Acquires count work) = refl
 same_call old a (Refuses r tail) = refl
 same_call old a (Answers v drawn tail) = refl
-same_call old a (work_changes r change tail) = refl
+same_call old a (work_changes r change drawn tail) = refl
 
 -- what was told of a step says what it led to
 pub told_goes : (old : ActiveCall) (k : Took) → told_as.Going ≡ told k → k ≡ GoesOn (call_after old k)

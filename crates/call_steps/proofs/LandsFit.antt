@@ -17,7 +17,9 @@ use Rattle.call_acts.specs.declared.work.WorkStep.TheVariants.{Goes, Acquires, R
 use Rattle.call_acts.specs.Refusals.{reply_of}
 use Rattle.call_steps.specs.Steps.{Took, GoesOn, Decides, Returns, Changes, landed, next_by}
 use Rattle.call_steps.specs.Fits.{StageFits, FoundFits, HasRoom, IsFirst, CountsAt, names_left, steps_later, left_of, IsOwn}
-use Rattle.call_steps.proofs.StepsFit.{StepFits, ObjectNamed, object_named, first_named, target_below, next_case}
+use Rattle.call_steps.proofs.StepsFit.{first_named, target_below, next_case}
+use Rattle.call_steps.proofs.DuesFit.{ChangeFits, StepFits}
+use Rattle.call_steps.proofs.NamedFit.{ObjectNamed, object_named}
 
 -- What a step of a call led to fits its core, and leaves fewer steps than these; so many calls are then counted.
 pub record IsNext (own : Own) (made left : ℕ) (old a : ActiveCall) : Type 0 where
@@ -37,7 +39,7 @@ abbrev pub TookFits : Own → ℕ → ActiveCall → Took → Type 0
 TookFits own left old (GoesOn a) = IsNext own own.made left old a
 TookFits own left old (Decides r a) = IsNext own (own.made + calls_counted r) left old a
 TookFits own left old (Returns r stamp) = 0 < left
-TookFits own left old (Changes r change a) = IsNext own (own.made + calls_counted r) left old a
+TookFits own left old (Changes r change a) = IsNext own (own.made + calls_counted r) left old a × ChangeFits own.layout change
 
 -- a decision counts one call at most
 pub counted_most : (r : Reply) → calls_counted r ≤ 1
@@ -112,18 +114,21 @@ module _ (own : Own) (old a : ActiveCall) (call : a.call ≡ old.call) (plan : a
     steps = ap (λ n. n + 1) steps;
     fewer = let few = fits.0 in omega arith;
   }
-  landed_fits most left (work_changes r change tail) fits some =
+  landed_fits most left (work_changes r change drawn tail) fits some =
       let few = fits.0 in
-      let one : calls_counted r ≤ 1 = counted_most r in record {
-        call = call;
-        plan = plan;
-        found = found;
-        first = tt;
-        stage = fits.1;
-        acquired = acquired;
-        counts = tt;
-        room = tt;
-        counted = omega arith;
-        steps = ap (λ n. n + 1) steps;
-        fewer = omega arith;
-      }
+      let one : calls_counted r ≤ 1 = counted_most r in (
+        record {
+          call = call;
+          plan = plan;
+          found = found;
+          first = tt;
+          stage = fits.1;
+          acquired = acquired;
+          counts = tt;
+          room = tt;
+          counted = omega arith;
+          steps = ap (λ n. n + 1) steps;
+          fewer = omega arith;
+        },
+        fits.2,
+      )

@@ -1,13 +1,40 @@
 -- A scan goes on within its machine, and leaves fewer words to be loaded.
-use Rattle.std.proofs.Common.{◌≡◌, ℕ, ◌≢◌, nat_lt, if◌then◌else◌, ◌+◌, ◌-◌, ◌<◌, ◌≤◌, ◌==◌, Bool, true, false, Option, Some, None, refl, sym, ap, subst, arith}
+use Rattle.std.proofs.Common.{◌≡◌, ℕ, ◌≢◌, nat_lt, if◌then◌else◌, ◌+◌, ◌-◌, ◌<◌, ◌≤◌, ◌==◌, Bool, true, false, Option, Some, None, IfSome, refl, sym, ap, subst, arith}
 use Rattle.std.proofs.lemmas.Bool.{ltb-true, ltb-false, eqb-true, eqb-false}
 use Rattle.spk_nums.specs.declared.replies.Reply.{Reply}
 use Rattle.spk_nums.specs.declared.steps.StageEnd.TheVariants as ends
 use Rattle.word_map.specs.Places.{Shape}
 use Rattle.stage_quiet.specs.declared.quiet.Quiet.{Quiet}
 use Rattle.stage_quiet.specs.declared.quiet.Quiet.TheVariants.{AtCore, AtFlush}
-use Rattle.stage_quiet.specs.Scan.{QuietFits, next_other, core_scan, quiet_refuses, scan_end, scan_after, quiet_end, quiet_after}
-use Rattle.call_steps.specs.Fits.{ScanFits, left_of_cores, left_of_scan}
+use Rattle.stage_quiet.specs.Scan.{QuietFits, first_other, next_other, core_scan, quiet_scan, quiet_refuses, scan_end, scan_after, quiet_end, quiet_after}
+use Rattle.call_acts.specs.Scans.{IsUnpaged, ScanFits, left_of_cores, left_of_scan}
+
+-- A scan of the other cores' words alone stays so.
+unpaged_scan : (there : Bool) (stamp core at : ℕ) → IfSome (core_scan there stamp core at false) IsUnpaged
+unpaged_scan true stamp core at = refl
+unpaged_scan false stamp core at = tt
+
+pub scan_unpaged : (stamp core cores : ℕ) → IfSome (quiet_scan stamp core cores false) IsUnpaged
+scan_unpaged stamp core cores = by (stamp == 0)
+  where
+    by : (none : Bool) → IfSome (if none then None else core_scan (nat_lt (first_other core) cores) stamp core (first_other core) false)
+        IsUnpaged
+    by true = tt
+    by false = unpaged_scan (nat_lt (first_other core) cores) stamp core (first_other core)
+
+pub still_unpaged : (cores : ℕ) (q : Quiet) (found : ℕ) → IsUnpaged q → quiet_end cores q found ≡ ends.Going
+    → IsUnpaged (quiet_after cores q found)
+still_unpaged cores (AtFlush stamp at) found alone is = absurd alone
+still_unpaged cores (AtCore stamp core at page) found alone is =
+    by (quiet_refuses (AtCore stamp core at page) found) (nat_lt (next_other core at) cores) page alone is
+  where
+    by : (refused : Option Reply) (there page : Bool) → page ≡ false
+        → scan_end refused (core_scan there stamp core (next_other core at) page) ≡ ends.Going
+        → IsUnpaged (scan_after (AtCore stamp core at page) refused (core_scan there stamp core (next_other core at) page))
+    by (Some r) there page alone is = absurd (cc)
+    by None true page alone is = alone
+    by None false true alone is = absurd (cc)
+    by None false false alone is = absurd (cc)
 
 module _ (s : Shape) where
   -- a scan goes on to the next core, to the flush words, or to the act

@@ -1,6 +1,6 @@
 -- Where a step of a call's work leads to fits its machine, and how many steps it leaves at most.
 use Rattle.std.proofs.lemmas.Option.{slice_get_within}
-use Rattle.std.proofs.Common.{◌≡◌, ℕ, zero, suc, ℤ, pos, negsuc, ◌≢◌, nat_lt, if◌then◌else◌, ◌+◌, ◌*◌, ◌-◌, slice_get, ◌<◌, ◌≤◌, Bool, true, false, nat_le, IsTrue, ◌==◌, List, [], ◌∷◌, length, Option, Some, None, IfSome, IsSomeAnd, refl, sym, ap, subst, arith, ◌&&◌}
+use Rattle.std.proofs.Common.{leb-false, ◌≡◌, ℕ, zero, suc, ℤ, pos, negsuc, ◌≢◌, nat_lt, if◌then◌else◌, ◌+◌, ◌*◌, ◌-◌, slice_get, ◌<◌, ◌≤◌, Bool, true, false, nat_le, IsTrue, ◌==◌, List, [], ◌∷◌, length, Option, Some, None, IfSome, IsSomeAnd, refl, sym, ap, subst, arith, ◌&&◌}
 use Rattle.std.proofs.lemmas.Bool.{leb-true, ltb-true, ltb-false, eqb-true, eqb-false}
 use Rattle.stage_quiet.specs.declared.quiet.Quiet.{Quiet}
 use Rattle.stage_quiet.specs.Scan.{QuietFits, first_other, flush_scan, core_scan, quiet_scan}
@@ -11,7 +11,7 @@ use Rattle.spk_nums.specs.declared.kinds.Kind.{Kind}
 use Rattle.spk_nums.specs.declared.kinds.Kind.TheVariants.{Range, Table, Pages, Comp as KindComp}
 use Rattle.spk_nums.specs.declared.kinds.Kind.TheVariants as kind
 use Rattle.spk_nums.specs.declared.calls.Call.{Call}
-use Rattle.spk_nums.specs.declared.calls.Call.TheVariants.{Look as look_call, Copy, Remove, Shrink, Unmap, Retype, Make as make_call, Tick, Gate, Kill, Grow, Flush, Map}
+use Rattle.spk_nums.specs.declared.calls.Call.TheVariants.{Look as look_call, Copy, Remove, Shrink, Unmap, Retype, Make as make_call, Tick, Gate, Kill, Grow, Flush, Map, Call as call_gate, Ret, Switch, Transfer, Delegate, Test}
 use Rattle.entry_words.specs.declared.entry.Entry.{Entry}
 use Rattle.entry_words.specs.declared.entry.Entry.TheVariants as entry
 use Rattle.word_map.specs.Places.{Shape}
@@ -19,7 +19,7 @@ use Rattle.kernel_rules.specs.Access.{Named, found, only, root, Target as place,
 use Rattle.stage_look.specs.Shown.{end_of_frames, CapNames, EntryNames}
 use Rattle.stage_look.specs.Lookup.{FoundFits as PlaceFits}
 use Rattle.stage_look.specs.declared.look.Found.{Found}
-use Rattle.call_plans.specs.declared.plans.Nth.TheVariants.{First, Second, Third}
+use Rattle.call_plans.specs.declared.plans.Nth.TheVariants.{First, Second, Third, Fourth}
 use Rattle.call_plans.specs.declared.plans.Name.{Name}
 use Rattle.call_plans.specs.declared.plans.Spot.{Spot}
 use Rattle.call_plans.specs.declared.plans.Spot.TheVariants.{Under, InRoot}
@@ -48,196 +48,42 @@ use Rattle.call_acts.specs.declared.makings.MakingAt.TheVariants.{Load as make_l
 use Rattle.call_acts.specs.declared.kills.KillingAt.{KillingAt}
 use Rattle.call_acts.specs.declared.kills.KillingAt.TheVariants.{LoadComp, LoadLive, Close as kill_close, Draw as kill_draw}
 use Rattle.call_acts.specs.declared.own.Own.{Own}
+use Rattle.call_acts.specs.declared.own.OwnChange.{OwnChange}
+use Rattle.call_acts.specs.declared.own.OwnChange.TheVariants.{Ticks, Works, Empties, Switches, Caches}
+use Rattle.call_acts.specs.declared.invocations.InvokingAt.{InvokingAt}
+use Rattle.call_acts.specs.declared.invocations.InvokingAt.TheVariants as invoking
+use Rattle.call_acts.specs.declared.invocations.ReturningAt.{ReturningAt}
+use Rattle.call_acts.specs.declared.invocations.ReturningAt.TheVariants as returning
 use Rattle.call_acts.specs.declared.work.Act.{Act as ActType}
-use Rattle.call_acts.specs.declared.work.Act.TheVariants.{Fill as fill_act, Remove as remove_act, Retype as type_act, Make as make_act, Outside, Tick as tick_act, Kill as kill_act, Flush as flush_act, Untype as untype_act, Map as map_act}
+use Rattle.call_acts.specs.declared.work.Act.TheVariants.{Fill as fill_act, Remove as remove_act, Retype as type_act, Make as make_act, Outside, Tick as tick_act, Kill as kill_act, Flush as flush_act, Untype as untype_act, Map as map_act, MakeComp as comp_act, Invoke as invoke_act, Return as return_act, Switch as switch_act, Touch as touch_act, Share as share_act}
 use Rattle.call_acts.specs.declared.work.Work.TheVariants.{Lookup}
 use Rattle.call_acts.specs.declared.work.WorkStep.{WorkStep}
 use Rattle.call_acts.specs.declared.work.WorkStep.TheVariants.{Goes, Acquires, Refuses, Answers, Changes}
 use Rattle.call_acts.specs.declared.work.Due.{Due}
-use Rattle.call_acts.specs.Acts.{ActFits, act_left, looked, cap_dues, dues, acquires, scans, stamp_in, filling, fills_with, removing, removes_held, removes_at, types_if, types_at, gate_if, gate_to, frame_named, reads_of, made_dues, starts, making, making_if, makes_in, makes_at, act_begun, next_work, killing_dues, kills_in, kills_at, link_to, is_pages, page_cap, mapping, mapping_if, maps_if, maps_at}
+use Rattle.call_acts.specs.Acts.{ActFits, act_left, looked, cap_dues, dues, acquires, scans, stamp_in, filling, fills_with, removing, removes_held, removes_at, types_if, types_at, gate_if, gate_to, frame_named, reads_of, made_dues, starts, making, making_if, makes_in, makes_at, act_begun, next_work, killing_dues, kills_in, kills_at, link_to, is_pages, page_cap, mapping, mapping_if, maps_if, maps_at, comp_making, comp_if, comps_in, comps_at, made_begun, invoking_dues, returning_dues, invokes_in, invokes_if, invokes_at, returns_if, returns_at, switches_at}
 use Rattle.call_acts.specs.declared.untypings.UntypingAt.{UntypingAt}
 use Rattle.call_acts.specs.declared.untypings.UntypingAt.TheVariants as untype
 use Rattle.call_acts.specs.Untypings.{UntypingAtFits, released_dues, untyping_dues}
+use Rattle.call_acts.specs.Comps.{comp_dues}
+use Rattle.call_acts.specs.declared.switches.Switching.{Switching}
+use Rattle.call_acts.specs.declared.switches.SwitchAt.{SwitchAt}
+use Rattle.call_acts.specs.declared.switches.SwitchAt.TheVariants as switch_at
+use Rattle.call_acts.specs.Switches.{SwitchAtFits, SwitchingFits, tcap_dues, switch_due_list, switching_dues}
+use Rattle.stage_thread.specs.declared.claim.Claimed.{Claimed}
+use Rattle.stage_tcap.specs.declared.pair.PairAt.TheVariants.{LoadA}
+use Rattle.stage_tcap.specs.declared.pair.PairWork.{PairWork}
+use Rattle.stage_tcap.specs.declared.pair.PairWork.TheVariants as share
+use Rattle.call_acts.specs.Shares.{share_left, shares_if, shares_at}
+use Rattle.call_acts.specs.Scans.{ScanFits, left_of_scan, left_of_cores}
+use Rattle.call_acts.specs.declared.comps.CompAt.{CompAt}
+use Rattle.call_acts.specs.declared.comps.CompAt.TheVariants as comp_at_as
+use Rattle.call_acts.specs.declared.comps.CompMaking.{CompMaking}
+use Rattle.call_acts.specs.Touches.{touches_if}
 use Rattle.call_steps.specs.Tails.{tail_left}
 use Rattle.call_acts.specs.Lookups.{looks_under, looks_entry, looks_at, read_first, next_step}
-use Rattle.call_steps.specs.Fits.{ScanFits, WorkFits, TailFits, IsWanted, FoundFits, CountsWait, looks_later, after_reading, acts_later, left_of_scan, work_left, IsOwn, left_of_cores}
-
--- where a step of the work leads to fits, where so many counts are acquired, and leaves at most so many steps before these are
--- committed; it acquires none
-abbrev pub StepFits : Shape → List Acquired → ℕ → ℕ → WorkStep → Type 0
-StepFits s counts later most (Goes work) =
-    WorkFits s work × (work_left s.cores later (length counts) work ≤ most) × CountsWait counts work
-StepFits s counts later most (Acquires count work) = ⊥
-StepFits s counts later most (Refuses r tail) = (tail_left tail ≤ most) × TailFits s tail
-StepFits s counts later most (Answers v drawn tail) = (tail_left tail ≤ most) × TailFits s tail
-StepFits s counts later most (Changes r change tail) = (tail_left tail ≤ most) × TailFits s tail
-
--- a capability has one count due at most
-pub cap_one : (kind : Kind) (frame arg : ℕ) (change : ℤ) → length (cap_dues (record { kind = kind; frame = frame; arg = arg }) change) ≤ 1
-cap_one Range frame arg change = omega arith
-cap_one kind frame arg change = omega arith
-
--- an object has so many due
-pub object_count : (object : NewObject) (f : ℕ) → length (object_dues object f) ≡ counts_of object
-object_count NewTable f = refl
-object_count NewLeaf f = refl
-object_count NewPages f = refl
-object_count NewPleaf f = refl
-object_count (NewThread comp) f = refl
-object_count (NewTcap sched quality) f = refl
-
-killing_one : (f : ℕ) (at : KillingAt) → length (killing_dues f at) ≤ 1
-killing_one f LoadComp = omega arith
-killing_one f (LoadLive life) = omega arith
-killing_one f (kill_close life word) = omega arith
-killing_one f (kill_draw life word) = omega arith
-
-counts_few : (object : NewObject) → counts_of object ≤ 4
-counts_few NewTable = omega arith
-counts_few NewLeaf = omega arith
-counts_few NewPages = omega arith
-counts_few NewPleaf = omega arith
-counts_few (NewThread comp) = omega arith
-counts_few (NewTcap sched quality) = omega arith
-
-made_few : (object : NewObject) (f : ℕ) (at : MakingAt) → length (made_dues object f at) ≤ 4
-made_few object f make_load = omega arith
-made_few object f (Mark word) = omega arith
-made_few object f (Store word entry) = let many = object_count object f in let few = counts_few object in omega (arith, many, few)
-made_few object f (fill_at word) = let many = object_count object f in let few = counts_few object in omega (arith, many, few)
-
-pub last_small : (object : NewObject) → last_word object < 64
-last_small NewTable = omega arith
-last_small NewLeaf = omega arith
-last_small NewPages = omega arith
-last_small NewPleaf = omega arith
-last_small (NewThread comp) = omega arith
-last_small (NewTcap sched quality) = omega arith
-
-released_few : (f g : Option ℕ) → length (released_dues f g) ≤ 2
-released_few None None = omega arith
-released_few None (Some g) = omega arith
-released_few (Some f) None = omega arith
-released_few (Some f) (Some g) = omega arith
-
-untyped_few : (at : UntypingAt) → length (untyping_dues at) ≤ 2
-untyped_few untype.Load = omega arith
-untyped_few (untype.Mark word v) = omega arith
-untyped_few (untype.Sweep word w) = omega arith
-untyped_few (untype.Draw word w) = released_few w.owned.first w.owned.second
-
--- an act changes four counts at most
-pub few_dues : (act : ActType) → length (dues act) ≤ 4
-few_dues (fill_act fill) = let one = cap_one fill.cap.kind fill.cap.frame fill.cap.arg (pos 1) in omega (arith, one)
-few_dues (remove_act close cap) = let one = cap_one cap.kind cap.frame cap.arg (negsuc 0) in omega (arith, one)
-few_dues (type_act typing) = omega arith
-few_dues (make_act m) = made_few m.object m.frame m.at
-few_dues (map_act fill) = let one = cap_one fill.cap.kind fill.cap.frame fill.cap.arg (pos 1) in omega (arith, one)
-few_dues (Outside node entry word) = omega arith
-few_dues (tick_act charge) = omega arith
-few_dues (flush_act core) = omega arith
-few_dues (kill_act m) = let one = killing_one m.comp m.at in omega (arith, one)
-few_dues (untype_act m) = let two = untyped_few m.at in omega (arith, two)
-
--- the counts that an act changes are of frames of the machine
-abbrev pub DueFits : Shape → Option Due → Type 0
-DueFits s None = Unit {0}
-DueFits s (Some due) = due.frame < s.frames
-
-pub cap_fit : (s : Shape) (kind : Kind) (frame arg : ℕ) (change : ℤ) (n : ℕ)
-    → CapNames s.frames (record { kind = kind; frame = frame; arg = arg })
-    → DueFits s (slice_get (cap_dues (record { kind = kind; frame = frame; arg = arg }) change) n)
-cap_fit s Range frame arg change n names = tt
-cap_fit s kind frame arg change zero names = omega arith
-cap_fit s kind frame arg change (suc n) names = tt
-
-object_fit : (s : Shape) (object : NewObject) (f n : ℕ) → f < s.frames → NamesFit s.frames object
-    → DueFits s (slice_get (object_dues object f) n)
-object_fit s object f zero below names = below
-object_fit s NewTable f (suc n) below names = tt
-object_fit s NewLeaf f (suc n) below names = tt
-object_fit s NewPages f (suc n) below names = tt
-object_fit s NewPleaf f (suc n) below names = tt
-object_fit s (NewThread comp) f (suc zero) below names = names
-object_fit s (NewThread comp) f (suc (suc n)) below names = tt
-object_fit s (NewTcap sched quality) f (suc n) below names = tt
-
-made_fit : (s : Shape) (object : NewObject) (f : ℕ) (at : MakingAt) (n : ℕ) → f < s.frames → NamesFit s.frames object
-    → DueFits s (slice_get (made_dues object f at) n)
-made_fit s object f make_load zero below names = tt
-made_fit s object f make_load (suc n) below names = tt
-made_fit s object f (Mark word) zero below names = tt
-made_fit s object f (Mark word) (suc n) below names = tt
-made_fit s object f (Store word entry) n below names = object_fit s object f n below names
-made_fit s object f (fill_at word) n below names = object_fit s object f n below names
-
-killing_fit : (s : Shape) (f : ℕ) (at : KillingAt) (n : ℕ) → f < s.frames → DueFits s (slice_get (killing_dues f at) n)
-killing_fit s f LoadComp zero below = tt
-killing_fit s f LoadComp (suc n) below = tt
-killing_fit s f (LoadLive life) zero below = tt
-killing_fit s f (LoadLive life) (suc n) below = tt
-killing_fit s f (kill_close life word) zero below = below
-killing_fit s f (kill_close life word) (suc n) below = tt
-killing_fit s f (kill_draw life word) zero below = below
-killing_fit s f (kill_draw life word) (suc n) below = tt
-
-released_fit : (s : Shape) (f g : Option ℕ) (n : ℕ) → IfSome f (λ x. x < s.frames) → IfSome g (λ x. x < s.frames)
-    → DueFits s (slice_get (released_dues f g) n)
-released_fit s None None zero first second = tt
-released_fit s None None (suc n) first second = tt
-released_fit s None (Some g) zero first second = second
-released_fit s None (Some g) (suc n) first second = tt
-released_fit s (Some f) None zero first second = first
-released_fit s (Some f) None (suc n) first second = tt
-released_fit s (Some f) (Some g) zero first second = first
-released_fit s (Some f) (Some g) (suc zero) first second = second
-released_fit s (Some f) (Some g) (suc (suc n)) first second = tt
-
-untyped_fit : (s : Shape) (at : UntypingAt) (n : ℕ) → UntypingAtFits s at → DueFits s (slice_get (untyping_dues at) n)
-untyped_fit s untype.Load zero fits = tt
-untyped_fit s untype.Load (suc n) fits = tt
-untyped_fit s (untype.Mark word v) zero fits = tt
-untyped_fit s (untype.Mark word v) (suc n) fits = tt
-untyped_fit s (untype.Sweep word w) zero fits = tt
-untyped_fit s (untype.Sweep word w) (suc n) fits = tt
-untyped_fit s (untype.Draw word w) n fits = released_fit s w.owned.first w.owned.second n fits.owned.first fits.owned.second
-
-pub dues_fit : (s : Shape) (act : ActType) (n : ℕ) → ActFits s act → DueFits s (slice_get (dues act) n)
-dues_fit s (fill_act fill) n fits = cap_fit s fill.cap.kind fill.cap.frame fill.cap.arg (pos 1) n fits.cap
-dues_fit s (remove_act close cap) n fits = cap_fit s cap.kind cap.frame cap.arg (negsuc 0) n fits.1
-dues_fit s (type_act typing) zero fits = tt
-dues_fit s (type_act typing) (suc n) fits = tt
-dues_fit s (make_act m) n fits = made_fit s m.object m.frame m.at n fits.frame fits.object.names
-dues_fit s (map_act fill) n fits = cap_fit s fill.cap.kind fill.cap.frame fill.cap.arg (pos 1) n fits.0.cap
-dues_fit s (Outside node entry word) zero fits = tt
-dues_fit s (Outside node entry word) (suc n) fits = tt
-dues_fit s (tick_act charge) zero fits = tt
-dues_fit s (tick_act charge) (suc n) fits = tt
-dues_fit s (flush_act core) zero fits = tt
-dues_fit s (flush_act core) (suc n) fits = tt
-dues_fit s (kill_act m) n fits = killing_fit s m.comp m.at n fits.comp
-dues_fit s (untype_act m) n fits = untyped_fit s m.at n fits.at
-
--- what a core does for an act of whose counts it has acquired so many
-pub work_next : (s : Shape) (later core n : ℕ) (act : ActType) (o : Option Due) → slice_get (dues act) n ≡ o → core < s.cores
-    → ActFits s act
-    → WorkFits s (acquires core act o) × (work_left s.cores later n (acquires core act o) ≤ 3 * (length (dues act) - n) + act_left s.cores act)
-work_next s later core n act None is here fits = (fits, omega arith)
-work_next s later core n act (Some due) is here fits =
-    let some : n < length (dues act) = slice_get_within (dues act) n due is in
-    (((subst (DueFits s) is (dues_fit s act n fits), here), fits), omega arith)
-
-past_none : (xs : List Due) (i : ℕ) → slice_get xs i ≡ None → length xs ≤ i
-past_none [] i h = omega arith
-past_none (x ∷ xs) zero h = absurd (cc)
-past_none (x ∷ xs) (suc i) h = let more = past_none xs i h in omega arith
-
-pub counts_next : (core n : ℕ) (counts : List Acquired) (act : ActType) (o : Option Due) → slice_get (dues act) n ≡ o → n ≡ length counts
-    → n ≤ length (dues act) → CountsWait counts (acquires core act o)
-counts_next core n counts act None is same most =
-    let past : length (dues act) ≤ n = past_none (dues act) n is in
-    omega arith
-counts_next core n counts act (Some due) is same most = subst (λ (m : ℕ). m < length (dues act)) same (slice_get_within (dues act) n due is)
+use Rattle.call_steps.specs.Fits.{WorkFits, TailFits, IsWanted, FoundFits, CountsWait, looks_later, after_reading, acts_later, work_left, IsOwn}
+use Rattle.call_steps.proofs.NamedFit.{TwoNamed, ObjectNamed}
+use Rattle.call_steps.proofs.DuesFit.{StepFits, cap_one, work_next, counts_next}
 
 -- what the first name has led to names frames of the machine
 pub first_named : (frames : ℕ) (names : List Name) (caps : List Named) (ks : List Capability) → Leads (IsWanted frames) names caps ks
@@ -339,9 +185,15 @@ starts_fit s later most core (type_act typing) here fits some = first_fits s lat
 starts_fit s later most core (make_act m) here fits some = first_fits s later most core (make_act m) here fits some
 starts_fit s later most core (map_act fill) here fits some = first_fits s later most core (map_act fill) here fits some
 starts_fit s later most core (tick_act charge) here fits some = first_fits s later most core (tick_act charge) here fits some
+starts_fit s later most core (touch_act m) here fits some = first_fits s later most core (touch_act m) here fits some
 starts_fit s later most core (flush_act by) here fits some = first_fits s later most core (flush_act by) here fits some
 starts_fit s later most core (kill_act m) here fits some = first_fits s later most core (kill_act m) here fits some
 starts_fit s later most core (untype_act m) here fits some = first_fits s later most core (untype_act m) here fits some
+starts_fit s later most core (share_act p) here fits some = first_fits s later most core (share_act p) here fits some
+starts_fit s later most core (comp_act m) here fits some = first_fits s later most core (comp_act m) here fits some
+starts_fit s later most core (invoke_act m) here fits some = first_fits s later most core (invoke_act m) here fits some
+starts_fit s later most core (return_act m) here fits some = first_fits s later most core (return_act m) here fits some
+starts_fit s later most core (switch_act m) here fits some = first_fits s later most core (switch_act m) here fits some
 
 pub scans_fit : (s : Shape) (later most core : ℕ) (act : ActType) (page : Bool) (o : Option Quiet) → core < s.cores → ActFits s act
     → ScanMay s page o
@@ -389,6 +241,12 @@ removed s later most core (Some f) here fits some = removed_held s later most co
 pub look_done : (s : Shape) (later most : ℕ) (k : Option Capability) → StepFits s [] later most (looked k)
 look_done s later most None = (omega arith, tt)
 look_done s later most (Some k) = (omega arith, tt)
+
+-- the act that touches a page
+pub touched_fit : (own : Own) (later most v : ℕ) (within : Bool) → nat_le v 4095 ≡ within → IsOwn own → 2 ≤ most
+    → StepFits own.layout [] later most (touches_if within own v)
+touched_fit own later most v true is h some = (record { look = (h.pages, leb-true v 4095 is); all = refl }, some, refl)
+touched_fit own later most v false is h some = (omega arith, tt)
 
 -- the act that types a frame of a range, or makes it untyped again
 pub types_fit : (s : Shape) (later core f : ℕ) (k : FrameKind) (within : Bool) → (within ≡ true → f < s.frames) → core < s.cores
@@ -509,40 +367,55 @@ maps own later (Some range) f w (Some at) h fits = by_flags (nat_lt w.0 4)
     by_flags true = by (has_frame (found range) f && nat_lt f own.layout.frames) refl
     by_flags false = (omega arith, tt)
 
--- the name of a thread's component has led to a frame of the machine, and so has that of a leaf
-abbrev pub ObjectNamed : ℕ → Call → List Capability → Type 0
-ObjectNamed frames (Grow t i l) found = IfSome (at_place found Second) (λ k. k.frame < frames)
-ObjectNamed frames (make_call (make.Thread comp) r f t b) found = IfSome (at_place found Third) (λ k. k.frame < frames)
-ObjectNamed frames (Gate c t b) found = IfSome (at_place found First) (λ k. k.frame < frames)
-ObjectNamed frames call found = Unit {0}
+-- the act that makes a component, where the range has its frame
+comps : (own : Own) (later live : ℕ) (range table pages : Capability) (f : ℕ) (target : Found) → IsOwn own → live < 64
+    → table.frame < own.layout.frames → pages.frame < own.layout.frames → PlaceFits own.layout target
+    → StepFits own.layout [] later (17 + 2 * own.layout.cores) (comps_in own live range table pages f target)
+comps own later live range table pages f target h small root_fits pages_fit fits = by (frame_in own range f) refl
+  where
+    both : (x y : Bool) → (x && y) ≡ true → y ≡ true
+    both true y is = is
+    both false y is = cc
 
-comp_below : (frames : ℕ) (kind : Kind) (frame arg : ℕ) → only KindComp kind ≡ true → end_of_frames kind frame arg ≤ frames
-    → frame < frames
-comp_below frames Range frame arg wanted names = absurd (cc)
-comp_below frames kind frame arg wanted names = omega (arith, names)
+    by : (within : Bool) → frame_in own range f ≡ within
+        → StepFits own.layout [] later (17 + 2 * own.layout.cores)
+        (scans own.core (quiet_scan (stamp_in target.value) own.core own.layout.cores false)
+        (comp_if within own live table pages f target))
+    by true is =
+        let many = h.shape.some_core in
+        let below : f < own.layout.frames = ltb-true f own.layout.frames (both (has_frame (found range) f) (nat_lt f own.layout.frames) is)
+        in
+        scans_fit own.layout later (17 + 2 * own.layout.cores) own.core (comp_making own live table pages f target) false
+        (quiet_scan (stamp_in target.value) own.core own.layout.cores false) h.core
+        (record {
+          frame = below;
+          table = root_fits;
+          pages = pages_fit;
+          number = small;
+          core = h.core;
+          cores = refl;
+          few = h.shape.most_cores;
+          epochs = h.most_epochs;
+          fill = record { node = fits.node; entry = fits.entry; cap = omega (arith, below) };
+          at = tt;
+        })
+        (scan_may own.layout (stamp_in target.value) own.core false h.core) (omega (arith, many))
+    by false is =
+        let many = h.shape.some_core in
+        scans_fit own.layout later (17 + 2 * own.layout.cores) own.core (Outside target.node target.entry target.word) false
+        (quiet_scan (stamp_in target.value) own.core own.layout.cores false) h.core (fits.node, fits.entry)
+        (scan_may own.layout (stamp_in target.value) own.core false h.core) (omega (arith, many))
 
-no_range : (root : Kind) → only (leaf_of root) Range ≡ true → ⊥
-no_range Table wanted = cc
-no_range root wanted = cc
-
-leaf_below : (frames : ℕ) (root kind : Kind) (frame arg : ℕ) → only (leaf_of root) kind ≡ true → end_of_frames kind frame arg ≤ frames
-    → frame < frames
-leaf_below frames root Range frame arg wanted names = absurd (no_range root wanted)
-leaf_below frames root kind frame arg wanted names = omega (arith, names)
-
-pub object_named : (frames : ℕ) (call : Call) (found : List Capability) → FoundFits frames (plan_for call) found
-    → ObjectNamed frames call found
-object_named frames (Grow t i l) [] leads = tt
-object_named frames (Grow t i l) (k ∷ []) leads = tt
-object_named frames (Grow t i l) (k ∷ j ∷ ks) leads = leaf_below frames k.kind j.kind j.frame j.arg leads.1.0.0 leads.1.0.1
-object_named frames (make_call (make.Thread comp) r f t b) [] leads = tt
-object_named frames (make_call (make.Thread comp) r f t b) (k ∷ []) leads = tt
-object_named frames (make_call (make.Thread comp) r f t b) (k ∷ j ∷ []) leads = tt
-object_named frames (make_call (make.Thread comp) r f t b) (k ∷ j ∷ i ∷ ks) leads =
-    comp_below frames i.kind i.frame i.arg leads.1.1.0.0 leads.1.1.0.1
-object_named frames (Gate c t b) [] leads = tt
-object_named frames (Gate c t b) (k ∷ ks) leads = comp_below frames k.kind k.frame k.arg leads.0.0 leads.0.1
-object_named frames call found leads = tt
+comp_at : (own : Own) (later live : ℕ) (range table pages : Option Capability) (f : ℕ) (target : Option Found) → IsOwn own → live < 64
+    → IfSome table (λ k. k.frame < own.layout.frames) → IfSome pages (λ k. k.frame < own.layout.frames)
+    → IfSome target (PlaceFits own.layout)
+    → StepFits own.layout [] later (17 + 2 * own.layout.cores) (comps_at own live range table pages f target)
+comp_at own later live (Some range) (Some table) (Some pages) f (Some target) h small root_fits pages_fit fits =
+    comps own later live range table pages f target h small root_fits pages_fit fits
+comp_at own later live None table pages f target h small root_fits pages_fit fits = (omega arith, tt)
+comp_at own later live (Some range) None pages f target h small root_fits pages_fit fits = (omega arith, tt)
+comp_at own later live (Some range) (Some table) None f target h small root_fits pages_fit fits = (omega arith, tt)
+comp_at own later live (Some range) (Some table) (Some pages) f None h small root_fits pages_fit fits = (omega arith, tt)
 
 made_fits : (s : Shape) (what : Make) (r f t b : ℕ) (found : List Capability) (cores : ℕ) → MakeInLimits what
     → ObjectNamed s.frames (make_call what r f t b) found
@@ -559,6 +432,16 @@ made_fits s (make.Thread comp) r f t b found cores limits named = by (at_place f
     by (Some k) below = (record { pair = tt; names = below }, omega arith)
 made_fits s (make.Tcap sched quality) r f t b found cores limits named = (record { pair = limits; names = tt }, omega arith)
 made_fits s (make.Comp table pages live) r f t b found cores limits named = tt
+
+-- the act of a make
+begun_made : (own : Own) (later : ℕ) (what : Make) (r f t b : ℕ) (found : List Capability) (target : Option Found) → IsOwn own
+    → ObjectNamed own.layout.frames (make_call what r f t b) found → MakeInLimits what → IfSome target (PlaceFits own.layout)
+    → StepFits own.layout [] later (make_steps what own.layout.cores) (made_begun own what found f target)
+begun_made own later (make.Comp table pages live) r f t b found target h named limits fits =
+    comp_at own later live (at_place found First) (at_place found Third) (at_place found Fourth) f target h limits named.0 named.1 fits
+begun_made own later what r f t b found target h named limits fits =
+    made_at own later (make_steps what own.layout.cores) (object_made what found) (at_place found First) f target h fits
+    (made_fits own.layout what r f t b found own.layout.cores limits named)
 
 -- the act that kills a component
 kills : (s : Shape) (later most core : ℕ) (kind : Kind) (f arg : ℕ) → core < s.cores
@@ -580,6 +463,84 @@ killed : (own : Own) (later most : ℕ) (k : Option Capability) → IsOwn own �
 killed own later most None h names some = (omega arith, tt)
 killed own later most (Some k) h names some = kills own.layout later most own.core k.kind k.frame k.arg h.core names some
 
+-- the acts that enter a component and leave it
+invokes : (own : Own) (later most : ℕ) (kind : Kind) (f arg : ℕ) → IsOwn own
+    → CapNames own.layout.frames (record { kind = kind; frame = f; arg = arg }) → 9 ≤ most
+    → StepFits own.layout [] later most (invokes_in own kind f arg)
+invokes own later most kind.Gate f arg h names some = by (nat_le 16 own.depth) refl
+  where
+    by : (deep : Bool) → nat_le 16 own.depth ≡ deep → StepFits own.layout [] later most (invokes_if deep own f arg)
+    by true is = (omega arith, tt)
+    by false is = (
+      record {
+        comp = omega arith;
+        thread = h.thread;
+        core = h.core;
+        some_depth = h.some_depth;
+        most_depth = (let less = leb-false 16 own.depth is in omega arith);
+        frames = refl;
+        few = h.shape.most_frames;
+        at = tt;
+      },
+      omega arith,
+      refl,
+    )
+invokes own later most kind.Comp f arg h names some = (omega arith, tt)
+invokes own later most kind.Range f arg h names some = (omega arith, tt)
+invokes own later most kind.Table f arg h names some = (omega arith, tt)
+invokes own later most kind.Leaf f arg h names some = (omega arith, tt)
+invokes own later most kind.Pages f arg h names some = (omega arith, tt)
+invokes own later most kind.Pleaf f arg h names some = (omega arith, tt)
+invokes own later most kind.Thread f arg h names some = (omega arith, tt)
+invokes own later most kind.Tcap f arg h names some = (omega arith, tt)
+invokes own later most kind.Link f arg h names some = (omega arith, tt)
+invokes own later most kind.Page f arg h names some = (omega arith, tt)
+
+invoked : (own : Own) (later most : ℕ) (k : Option Capability) → IsOwn own → IfSome k (CapNames own.layout.frames) → 9 ≤ most
+    → StepFits own.layout [] later most (invokes_at own k)
+invoked own later most None h names some = (omega arith, tt)
+invoked own later most (Some k) h names some = invokes own later most k.kind k.frame k.arg h names some
+
+returned : (own : Own) (later most : ℕ) → IsOwn own → 9 ≤ most → StepFits own.layout [] later most (returns_at own)
+returned own later most h some = by (nat_le own.depth 1) refl
+  where
+    by : (bottom : Bool) → nat_le own.depth 1 ≡ bottom → StepFits own.layout [] later most (returns_if bottom own)
+    by true is = (omega arith, tt)
+    by false is = (
+      record {
+        top = h.comp;
+        thread = h.thread;
+        core = h.core;
+        some_depth = (let more = leb-false own.depth 1 is in omega arith);
+        most_depth = h.most_depth;
+        frames = refl;
+        few = h.shape.most_frames;
+        at = tt;
+      },
+      omega arith,
+      refl,
+    )
+
+-- the act that goes on as another thread
+switched : (own : Own) (later : ℕ) (h q : Option Capability) → IsOwn own → IfSome h (λ k. k.frame < own.layout.frames)
+    → IfSome q (λ k. k.frame < own.layout.frames) → StepFits own.layout [] later 21 (switches_at own h q)
+switched own later None q fits thread tcap = (omega arith, tt)
+switched own later (Some h) None fits thread tcap = (omega arith, tt)
+switched own later (Some h) (Some q) fits thread tcap = (
+  record {
+    core = fits.core;
+    frames = refl;
+    few = fits.shape.most_frames;
+    tcap = tcap;
+    old = fits.thread;
+    old_depth = (fits.some_depth, fits.most_depth);
+    old_tcap = fits.tcap;
+    at = thread;
+  },
+  omega arith,
+  refl,
+)
+
 -- a gate leads to a frame of the machine
 gate_names : (frames : ℕ) (comp : Option Capability) (read : Option ℕ) → IfSome comp (λ k. k.frame < frames)
     → IfSome (gate_to comp read) (CapNames frames)
@@ -594,6 +555,26 @@ gate_names frames (Some k) (Some epoch) below = by (nat_le 1 epoch)
 link_names : (frames : ℕ) (leaf : Option Capability) → IfSome leaf (λ k. k.frame < frames) → IfSome (link_to leaf) (CapNames frames)
 link_names frames None below = tt
 link_names frames (Some leaf) below = omega (arith, below)
+
+-- the act on two temporal capabilities
+shares : (s : Shape) (later most core : ℕ) (what : PairWork) (f g : ℕ) (same : Bool) → f < s.frames → g < s.frames
+    → share_left what LoadA ≤ most → StepFits s [] later most (shares_if same core what f g)
+shares s later most core what f g true first second some = (omega arith, tt)
+shares s later most core what f g false first second some = (
+  record { a = first; b = second; head_a = omega arith; head_b = omega arith; at = tt },
+  some,
+  refl,
+)
+
+shared : (s : Shape) (later most core : ℕ) (what : PairWork) (found : List Capability) → TwoNamed s.frames found
+    → share_left what LoadA ≤ most → StepFits s [] later most (shares_at core what (at_place found First) (at_place found Second))
+shared s later most core what found named some = by (at_place found First) (at_place found Second) named.0 named.1
+  where
+    by : (a b : Option Capability) → IfSome a (λ k. k.frame < s.frames) → IfSome b (λ k. k.frame < s.frames)
+        → StepFits s [] later most (shares_at core what a b)
+    by (Some a) (Some b) first second = shares s later most core what a.frame b.frame (a.frame == b.frame) first second some
+    by None b first second = (omega arith, tt)
+    by (Some a) None first second = (omega arith, tt)
 
 pub act_fits : (own : Own) (later : ℕ) (call : Call) (found : List Capability) (read : Option ℕ) (target : Option Found) → IsOwn own
     → IfSome (at_place found First) (CapNames own.layout.frames) → ObjectNamed own.layout.frames call found → InLimits call
@@ -616,13 +597,22 @@ act_fits own later (Unmap p v) found read target h names objects limits fits =
 act_fits own later (Retype r f k) found read target h names objects limits fits =
     types own later (at_place found First) f k h.core
 act_fits own later (make_call what range frame table slot) found read target h names objects limits fits =
-    made_at own later (make_steps what own.layout.cores) (object_made what found) (at_place found First) frame target h fits
-    (made_fits own.layout what range frame table slot found own.layout.cores limits objects)
+    begun_made own later what range frame table slot found target h objects limits fits
 act_fits own later Flush found read target h names objects limits fits = (h.core, omega arith, refl)
 act_fits own later (Tick n) found read target h names objects limits fits = (h.tcap, omega arith, refl)
 act_fits own later (Gate c t b) found read target h names objects limits fits =
     filled own later (3 + own.layout.cores) _ false target h (gate_names own.layout.frames (at_place found First) read objects) fits (omega arith)
 act_fits own later (Kill k) found read target h names objects limits fits = killed own later 8 (at_place found First) h names (omega arith)
+act_fits own later (call_gate g) found read target h names objects limits fits = invoked own later 9 (at_place found First) h names (omega arith)
+act_fits own later Ret found read target h names objects limits fits = returned own later 9 h (omega arith)
+act_fits own later (Switch t q) found read target h names objects limits fits =
+    switched own later (at_place found First) (at_place found Second) h objects.0 objects.1
+act_fits own later (Transfer a b m) found read target h names objects limits fits =
+    shared own.layout later 21 own.core (share.Transfer m) found objects (omega arith)
+act_fits own later (Delegate a b m) found read target h names objects limits fits =
+    shared own.layout later 30 own.core (share.Delegate m) found objects (omega arith)
+act_fits own later (Test a b) found read target h names objects limits fits =
+    shared own.layout later 21 own.core share.Test found objects (omega arith)
 act_fits own later call found read target h names objects limits fits = (omega arith, tt)
 
 -- the root of a target is a frame of the machine, where its name is found
@@ -686,7 +676,7 @@ more_steps s later most more (Goes work) few fits = (fits.0, (let left = fits.1 
 more_steps s later most more (Acquires count work) few fits = fits
 more_steps s later most more (Refuses r tail) few fits = ((let left = fits.0 in omega (arith, left, few)), fits.1)
 more_steps s later most more (Answers v drawn tail) few fits = ((let left = fits.0 in omega (arith, left, few)), fits.1)
-more_steps s later most more (Changes r change tail) few fits = ((let left = fits.0 in omega (arith, left, few)), fits.1)
+more_steps s later most more (Changes r change drawn tail) few fits = ((let left = fits.0 in omega (arith, left, few)), fits.1, fits.2)
 
 -- a step that begins a look-up, or refuses
 abbrev IsLook : WorkStep → Type 0
@@ -695,7 +685,7 @@ IsLook (Goes work) = ⊥
 IsLook (Acquires count work) = ⊥
 IsLook (Refuses r tail) = Unit {0}
 IsLook (Answers v drawn tail) = ⊥
-IsLook (Changes r change tail) = ⊥
+IsLook (Changes r change drawn tail) = ⊥
 
 under_looks : (within : Bool) (top n : ℕ) → IsLook (looks_under within top n)
 under_looks true top n = tt
@@ -746,4 +736,5 @@ next_case own call found [] (Free spot) h first objects limits roots = by (reads
 next_case own call found [] (Held spot) h first objects limits roots =
     let most = after_most call own.layout.cores in
     at_fits own.layout found spot _ (act_steps call own.layout.cores) (omega (arith, most)) (roots refl)
-next_case own call found [] (own_page v) h first objects limits roots = (omega arith, tt)
+next_case own call found [] (own_page v) h first objects limits roots =
+    touched_fit own _ _ v (nat_le v 4095) refl h (omega arith)

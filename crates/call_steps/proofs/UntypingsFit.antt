@@ -58,7 +58,7 @@ use Rattle.call_steps.specs.declared.stages.Stage.TheVariants.{Decided}
 use Rattle.call_steps.specs.Steps.{GoesOn, landed, went_with}
 use Rattle.call_steps.specs.Tails.{took_tail, tail_counts, tail_left}
 use Rattle.call_steps.specs.Fits.{TailFits, steps_later, work_left, left_at}
-use Rattle.call_steps.proofs.StepsFit.{work_next, counts_next}
+use Rattle.call_steps.proofs.DuesFit.{work_next, counts_next}
 use Rattle.call_steps.proofs.LandsFit.{TookFits, Facts, landed_fits}
 
 -- the words of an object, with the counts that it releases, are few

@@ -25,6 +25,7 @@ started c setting = record {
     layout = record { cores = setting.cores; frames = setting.frames };
     table = 0;
     limit = setting.calls;
+    epochs = setting.epochs;
     made = 0;
     exit = 0;
     thread = 4 + c;

@@ -1,5 +1,5 @@
 -- What holds of a core at every moment: its numbers are in range, and its call keeps within its bound of steps.
-use Rattle.std.specs.Prelude.{ℕ, ◌+◌, ◌*◌, ◌-◌, ◌<◌, ◌≤◌, ◌≡◌, Bool, nat_lt, if◌then◌else◌, IsTrue, List, [], ◌∷◌, length, Option, Some, None}
+use Rattle.std.specs.Prelude.{ℕ, ◌+◌, ◌*◌, ◌-◌, ◌<◌, ◌≤◌, ◌≡◌, Bool, IsTrue, List, [], ◌∷◌, length, Option, Some, None, ◌^◌}
 use Rattle.spk_nums.specs.Bounds.{bound_of}
 use Rattle.spk_nums.specs.CallLimits.{InLimits}
 use Rattle.spk_nums.specs.Capability.{Capability}
@@ -25,11 +25,10 @@ use Rattle.call_acts.specs.declared.work.Work.TheVariants.{Lookup, Read, Scan, A
 use Rattle.call_steps.specs.declared.stages.Stage.{Stage}
 use Rattle.call_steps.specs.declared.stages.Stage.TheVariants.{Enter, Undecided, Decided, Leave}
 use Rattle.call_acts.specs.declared.work.Tail.{Tail}
-use Rattle.call_acts.specs.declared.work.Tail.TheVariants.{Nothing, Quiesce, Unmark, StoreDead, StoreFlush, Release}
+use Rattle.call_acts.specs.declared.work.Tail.TheVariants.{Nothing, Quiesce, Unmark, StoreDead, StoreFlush, Release, StoreLive, Push, Pop, StoreRunning, StoreIdle, Share}
 use Rattle.call_acts.specs.Untypings.{ReleaseFits}
+use Rattle.call_acts.specs.Shares.{SharedFits}
 use Rattle.call_steps.specs.declared.stages.ActiveCall.{ActiveCall}
-use Rattle.stage_quiet.specs.declared.quiet.Quiet.{Quiet}
-use Rattle.stage_quiet.specs.declared.quiet.Quiet.TheVariants.{AtCore, AtFlush}
 use Rattle.stage_quiet.specs.Scan.{QuietFits}
 use Rattle.stage_quiet.specs.Removal.{CloseFits}
 use Rattle.stage_pins.specs.declared.pin.Pin.{Pin}
@@ -37,14 +36,12 @@ use Rattle.stage_pins.specs.declared.pin.Pin.TheVariants.{AtLoad, AtCompare}
 use Rattle.stage_pins.specs.declared.held.Acquired.{Acquired}
 use Rattle.stage_pins.specs.Acquire.{PinFits}
 use Rattle.stage_pins.specs.Held.{AllFit}
+use Rattle.stage_thread.specs.Stacking.{PushFits, PopFits}
+use Rattle.tcap_words.specs.Thread.{DepthFits}
 use Rattle.call_acts.specs.Acts.{ActFits, act_left, dues}
+use Rattle.call_acts.specs.Scans.{ScanFits, left_of_scan}
 use Rattle.call_steps.specs.Tails.{tail_left}
 use Rattle.call_steps.specs.View.{Core}
-
--- a scan is of the other cores' words, from the first on, and for a place of a page table then of all flush words
-abbrev pub ScanFits : Shape → Quiet → Type 0
-ScanFits s (AtCore stamp core at page) = (core < s.cores) × (1 ≤ stamp)
-ScanFits s (AtFlush stamp at) = 1 ≤ stamp
 
 -- a stage names frames of the machine alone
 abbrev pub WorkFits : Shape → Work → Type 0
@@ -61,6 +58,12 @@ TailFits s (Unmark f word) = f < s.frames
 TailFits s (StoreDead life stamp) = CompFits life × (1 ≤ stamp)
 TailFits s (StoreFlush core stamp) = core < s.cores
 TailFits s (Release release) = ReleaseFits s release
+TailFits s (StoreLive l live f word) = (l < 64) × (f < s.frames)
+TailFits s (Push push) = PushFits s push
+TailFits s (Pop pop) = PopFits s pop
+TailFits s (StoreRunning f core depth old old_depth) = (f < s.frames) × DepthFits depth × (old < s.frames) × DepthFits old_depth
+TailFits s (StoreIdle f depth) = (f < s.frames) × DepthFits depth
+TailFits s (Share p) = SharedFits s p
 
 abbrev pub StageFits : Shape → Stage → Type 0
 StageFits s Enter = Unit {0}
@@ -122,14 +125,6 @@ abbrev pub left_of_pin : Pin → ℕ
 left_of_pin (AtLoad frame core) = 2
 left_of_pin (AtCompare frame core count stamp) = 1
 
--- the loads of a scan that are still to come: of the other cores' words, from this on, and of flush words
-abbrev pub left_of_cores : ℕ → ℕ → ℕ → ℕ
-left_of_cores cores core at = if nat_lt at core then cores - at - 1 else cores - at
-
-abbrev pub left_of_scan : ℕ → Quiet → ℕ
-left_of_scan cores (AtCore stamp core at page) = left_of_cores cores core at + (if page then cores else 0)
-left_of_scan cores (AtFlush stamp at) = cores - at
-
 -- the most steps of the work that are still to come, where so many come after its look-up and so many counts are acquired: each
 -- count that is still to be acquired takes two steps, and one for its commit
 abbrev pub work_left : ℕ → ℕ → ℕ → Work → ℕ
@@ -189,16 +184,20 @@ abbrev pub CallFits : Own → Option ActiveCall → Type 0
 CallFits own None = Unit {0}
 CallFits own (Some a) = IsActive own a
 
--- what a core has of its own names frames of its machine, and it has counted no more calls than it may make
+-- what a core has of its own names frames of its machine, its thread's stack has 1 to 16 components, and it has counted no more calls
+-- than it may make
 pub record IsOwn (own : Own) : Type 0 where
   pub shape : IsShape own.layout
   pub core : own.core < own.layout.cores
   pub thread : own.thread < own.layout.frames
+  pub some_depth : 1 ≤ own.depth
+  pub most_depth : own.depth ≤ 16
   pub comp : own.comp < own.layout.frames
   pub table : own.table < own.layout.frames
   pub pages : own.pages < own.layout.frames
   pub tcap : own.tcap < own.layout.frames
   pub most_calls : own.limit ≤ 4194304
+  pub most_epochs : own.epochs < 2 ^ 16
   pub made : own.made ≤ own.limit
 
 pub record IsCore (c : Core) : Type 0 where

@@ -97,7 +97,7 @@ landed a (Goes work) = GoesOn (went a (Undecided work))
 landed a (Acquires count work) = GoesOn (went_with a (count_pushed a.counts count) (Undecided work))
 landed a (Refuses r tail) = decided a (reply_of r) None tail
 landed a (Answers v drawn tail) = decided a (Ok v) drawn tail
-landed a (work_changes r change tail) = Changes r change (went a (Decided r None tail))
+landed a (work_changes r change drawn tail) = Changes r change (went a (Decided r drawn tail))
 
 -- its names have led to one capability more
 abbrev pub found_more : ActiveCall → List Capability → ActiveCall

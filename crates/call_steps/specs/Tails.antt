@@ -2,7 +2,7 @@
 use Rattle.std.specs.Prelude.{ℕ, ◌-◌, ◌^◌, Bool, true, false, nat_lt, Option, List, [], ◌∷◌, if◌then◌else◌}
 use Rattle.spk_nums.specs.declared.replies.Reply.{Reply}
 use Rattle.spk_nums.specs.declared.replies.Reply.TheVariants.{Ok}
-use Rattle.word_map.specs.Word.{ClockAt, FrameAt}
+use Rattle.word_map.specs.Word.{ClockAt, FrameAt, LiveAt}
 use Rattle.word_map.specs.Moves.{Move, LoadOf, StoreOf}
 use Rattle.stage_quiet.specs.Removal.{close_move}
 use Rattle.stage_quiet.specs.Flushing.{flush_move}
@@ -10,10 +10,18 @@ use Rattle.stage_quiet.specs.declared.flush_mark.FlushMark.TheVariants.{AtStore}
 use Rattle.stage_pins.specs.declared.held.Acquired.{Acquired}
 use Rattle.stage_pins.specs.Commit.{settle_move}
 use Rattle.stage_pins.specs.Held.{commit_of, rest_of}
+use Rattle.stage_thread.specs.Stacking.{push_move, pop_move}
+use Rattle.stage_thread.specs.declared.stack.Push.{Push}
+use Rattle.stage_thread.specs.declared.stack.Push.TheVariants as push
+use Rattle.stage_thread.specs.declared.stack.Pop.{Pop}
+use Rattle.stage_thread.specs.declared.stack.Pop.TheVariants as pop
 use Rattle.call_acts.specs.Kills.{dead_move}
+use Rattle.call_acts.specs.Switches.{running_move, idle_move}
 use Rattle.call_acts.specs.declared.work.Tail.{Tail}
-use Rattle.call_acts.specs.declared.work.Tail.TheVariants.{Nothing, Quiesce, Unmark, StoreDead, StoreFlush, Release}
+use Rattle.call_acts.specs.declared.work.Tail.TheVariants.{Nothing, Quiesce, Unmark, StoreDead, StoreFlush, Release, StoreLive, Push as push_tail, Pop as pop_tail, StoreRunning, StoreIdle, Share}
 use Rattle.call_acts.specs.Untypings.{release_move, release_after, release_left}
+use Rattle.stage_tcap.specs.Pairs.{pair_move}
+use Rattle.call_acts.specs.Shares.{after_share, share_left}
 use Rattle.call_steps.specs.declared.stages.Stage.{Stage}
 use Rattle.call_steps.specs.declared.stages.Stage.TheVariants.{Decided, Leave}
 
@@ -22,6 +30,23 @@ abbrev pub is_ok : Reply → Bool
 is_ok (Ok v) = true
 is_ok _ = false
 
+-- what of a push and of a pop is to be stored after its next store, and how many stores these are with it
+abbrev pub pushed_on : Push → Tail
+pushed_on (push.AtStack t core depth comp) = push_tail (push.AtThread t core depth)
+pushed_on (push.AtThread t core depth) = Nothing
+
+abbrev pub popped_on : Pop → Tail
+popped_on (pop.AtThread t core depth) = pop_tail (pop.AtStack t depth)
+popped_on (pop.AtStack t depth) = Nothing
+
+abbrev pub push_left : Push → ℕ
+push_left (push.AtStack t core depth comp) = 2
+push_left (push.AtThread t core depth) = 1
+
+abbrev pub pop_left : Pop → ℕ
+pop_left (pop.AtThread t core depth) = 2
+pop_left (pop.AtStack t depth) = 1
+
 -- the next step of a decided call: its next store, then the commit of each count that it has acquired, then the load of the clock;
 -- counters that it has frozen, and their frame's word, are stored after the commits
 abbrev pub tail_move : Reply → Option ℕ → Tail → List Acquired → Move
@@ -29,6 +54,12 @@ tail_move r drawn (Quiesce close) counts = close_move close
 tail_move r drawn (Unmark f word) counts = StoreOf (FrameAt f) word
 tail_move r drawn (StoreDead life stamp) counts = dead_move life stamp
 tail_move r drawn (StoreFlush core stamp) counts = flush_move (AtStore core stamp)
+tail_move r drawn (StoreLive l live f word) counts = StoreOf (LiveAt l) live
+tail_move r drawn (push_tail push) counts = push_move push
+tail_move r drawn (pop_tail pop) counts = pop_move pop
+tail_move r drawn (StoreRunning f core depth old old_depth) counts = running_move f core depth
+tail_move r drawn (StoreIdle f depth) counts = idle_move f depth
+tail_move r drawn (Share p) counts = pair_move p
 tail_move r drawn Nothing [] = LoadOf ClockAt
 tail_move r drawn Nothing (x ∷ xs) = settle_move (commit_of (is_ok r) drawn x)
 tail_move r drawn (Release release) [] = release_move release
@@ -47,6 +78,12 @@ took_tail r drawn (Quiesce close) counts found = Decided r drawn Nothing
 took_tail r drawn (Unmark f word) counts found = Decided r drawn Nothing
 took_tail r drawn (StoreDead life stamp) counts found = Decided r drawn Nothing
 took_tail r drawn (StoreFlush core stamp) counts found = Decided r drawn Nothing
+took_tail r drawn (StoreLive l live f word) counts found = Decided r drawn (Unmark f word)
+took_tail r drawn (push_tail push) counts found = Decided r drawn (pushed_on push)
+took_tail r drawn (pop_tail pop) counts found = Decided r drawn (popped_on pop)
+took_tail r drawn (StoreRunning f core depth old old_depth) counts found = Decided r drawn (StoreIdle old old_depth)
+took_tail r drawn (StoreIdle f depth) counts found = Decided r drawn Nothing
+took_tail r drawn (Share p) counts found = Decided r drawn (after_share p found)
 took_tail r drawn Nothing [] found = Leave r (stamp_of found)
 took_tail r drawn Nothing (x ∷ xs) found = Decided r drawn Nothing
 took_tail r drawn (Release release) [] found = Decided r drawn (release_after release)
@@ -58,6 +95,12 @@ commits (Quiesce close) = false
 commits (Unmark f word) = false
 commits (StoreDead life stamp) = false
 commits (StoreFlush core stamp) = false
+commits (push_tail push) = false
+commits (pop_tail pop) = false
+commits (StoreRunning f core depth old old_depth) = false
+commits (StoreIdle f depth) = false
+commits (StoreLive l live f word) = false
+commits (Share p) = false
 commits Nothing = true
 commits (Release release) = true
 
@@ -66,6 +109,12 @@ tail_counts (Quiesce close) xs = xs
 tail_counts (Unmark f word) xs = xs
 tail_counts (StoreDead life stamp) xs = xs
 tail_counts (StoreFlush core stamp) xs = xs
+tail_counts (StoreLive l live f word) xs = xs
+tail_counts (push_tail push) xs = xs
+tail_counts (pop_tail pop) xs = xs
+tail_counts (StoreRunning f core depth old old_depth) xs = xs
+tail_counts (StoreIdle f depth) xs = xs
+tail_counts (Share p) xs = xs
 tail_counts Nothing xs = rest_of xs
 tail_counts (Release release) xs = rest_of xs
 
@@ -77,3 +126,9 @@ tail_left (Unmark f word) = 1
 tail_left (StoreDead life stamp) = 1
 tail_left (StoreFlush core stamp) = 1
 tail_left (Release release) = release_left release
+tail_left (StoreLive l live f word) = 2
+tail_left (push_tail push) = push_left push
+tail_left (pop_tail pop) = pop_left pop
+tail_left (StoreRunning f core depth old old_depth) = 2
+tail_left (StoreIdle f depth) = 1
+tail_left (Share p) = share_left p.what p.at

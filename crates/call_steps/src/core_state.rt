@@ -64,6 +64,7 @@ impl CoreState {
                 layout,
                 table: FrameNo::new(0),
                 limit: setup.calls(),
+                epochs: setup.epochs(),
                 made: 0,
                 exit: Stamp::new(0),
                 thread: FrameNo::new(4 + number),
@@ -209,8 +210,8 @@ impl CoreState {
 
 #[cfg(test)]
 impl CoreState {
-    /// A core that is inside a call which is about to load the word of a frame that it makes untyped. No call is carried out with this
-    /// act today, so it stands in one of a larger bound. The machine has at most 2 cores.
+    /// A core that is inside a call which is about to load the word of a frame that it makes untyped. The call has a larger bound than a
+    /// retype. The machine has at most 2 cores.
     pub(crate) fn untyping(core: CoreNo, setup: &Setup, frame: FrameNo) -> CoreState
         requires core { core < setup.now.cores }
         requires cores { setup.now.cores ≤ 2 }

@@ -25,12 +25,18 @@
 //! range of a stamp stays at the range's end.
 //!
 //! **A call more** is a call more of `call_acts`; here it adds to the tail, if it has something to store.
+//!
+//! See docs/FORMATS.md, 'Steps of calls', and docs/PROOF.md, 'The invariant of the step machine'.
 #![tactic(auto)]
 
 mod core_state;
+#[cfg(test)]
+mod invoke_tests;
 mod laws;
 mod stages;
 mod steps;
+#[cfg(test)]
+mod switch_tests;
 mod tails;
 #[cfg(test)]
 mod tests;

@@ -15,6 +15,7 @@ ghost use Rattle.call_plans.specs.GoesBy.{place_of};
 ghost use Rattle.call_acts.specs.WorkSteps.{refuse};
 ghost use Rattle.call_acts.specs.Acts.{act_begun, reads_of};
 ghost use Rattle.call_acts.specs.Lookups.{read_first, looks_under, looks_entry, looks_at, met_free, met_held};
+ghost use Rattle.call_acts.specs.Touches.{touches};
 ghost use Rattle.call_acts.specs.declared.work.WorkStep.TheVariants.{Goes};
 ghost use Rattle.call_acts.specs.declared.work.Work.TheVariants.{Lookup, Read, Scan, Acquire};
 
@@ -22,11 +23,12 @@ use crate::stages::{ActiveCall, Stage, Told};
 use crate::tails::{commits, tail_op, took_tail};
 use call_acts::{
     Act, Met, Own, OwnChange, Refusal, Tail, Work, WorkStep, act_op, act_ready, act_took,
-    begin_act, frame_of, met_free, met_held, met_name, next_work, reads_of, refuse, starts, undo,
+    begin_act, begin_touch, frame_of, met_free, met_held, met_name, next_work, reads_of, refuse,
+    starts, undo,
 };
 use call_plans::{Decides, Next, Spot};
 use frame_words::{CompWord, CoreWord};
-use spk_nums::{CapId, CoreNo, EntryNo, FrameNo, Reply, StageEnd, Stamp, WordOp};
+use spk_nums::{CapId, CoreNo, EntryNo, FrameNo, PageNo, Reply, StageEnd, Stamp, WordOp};
 use stage_look::{Found, Look};
 use stage_pins::{Acquired, AcquiredCounts, Pin, Pinned};
 use stage_quiet::Quiet;
@@ -450,7 +452,7 @@ impl ActiveCall {
             Next::Name { name } => self.look_under(own.table, name.number.number()),
             Next::Free { spot } => self.look_free(spot),
             Next::Held { spot } => self.look_at(spot),
-            Next::Own { page: _ } => self.refused(Refusal::Raced),
+            Next::Own { page } => self.touch(own, page),
             Next::Nothing => self.begin_act(own),
         }
     }
@@ -535,6 +537,17 @@ impl ActiveCall {
         ensures after { self.new ≡ call_after self.old (landed self.old (act_begun own.now self.old.call self.old.found None None)) }
     {
         let step = begin_act(own, &self.call, &self.found, None, &None);
+        self.land(&step)
+    }
+
+    // A page of the core's own pages is touched.
+    #[inline(never)]
+    fn touch(&mut self, own: &Own, page: PageNo) -> Told
+        requires { self.old.steps < 1000 }
+        ensures told { result ≡ told (landed self.old (touches own.now page)) }
+        ensures after { self.new ≡ call_after self.old (landed self.old (touches own.now page)) }
+    {
+        let step = begin_touch(own, page);
         self.land(&step)
     }
 
@@ -632,21 +645,29 @@ impl ActiveCall {
             WorkStep::Changes {
                 reply,
                 change,
+                drawn,
                 tail,
-            } => self.decide_changing(reply, change, tail),
+            } => self.decide_changing(reply, change, *drawn, tail),
         }
     }
 
-    // The call is decided with this reply and has this to store, and changes this of what its core has of its own.
+    // The call is decided with this reply, has drawn this stamp or none and has this to store, and changes this of what its core has of its
+    // own.
     #[inline(never)]
-    fn decide_changing(&mut self, reply: &Reply, change: &OwnChange, tail: &Tail) -> Told
+    fn decide_changing(
+        &mut self,
+        reply: &Reply,
+        change: &OwnChange,
+        drawn: Option<Stamp>,
+        tail: &Tail,
+    ) -> Told
         requires { self.old.steps < 1000 }
-        ensures told { result ≡ told (Changes reply.now change.now (went self.old (Decided reply.now None tail.now))) }
-        ensures after { self.new ≡ went self.old (Decided reply.now None tail.now) }
+        ensures told { result ≡ told (Changes reply.now change.now (went self.old (Decided reply.now drawn tail.now))) }
+        ensures after { self.new ≡ went self.old (Decided reply.now drawn tail.now) }
     {
         self.go_on(Stage::Decided {
             reply: *reply,
-            drawn: None,
+            drawn,
             tail: *tail,
         });
         Told::Changed {

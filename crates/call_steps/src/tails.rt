@@ -4,14 +4,15 @@ ghost use Rattle.std.specs.Prelude.{◌≡◌, ◌<◌};
 ghost use Rattle.word_map.specs.Places.{size_of};
 ghost use Rattle.word_map.specs.Moves.{op_of};
 ghost use Rattle.spk_nums.specs.WordSteps.{place_in};
-ghost use Rattle.call_steps.specs.Tails.{is_ok, tail_move, stamp_of, took_tail, commits};
+ghost use Rattle.call_steps.specs.Tails.{is_ok, tail_move, stamp_of, took_tail, commits, pushed_on, popped_on};
 ghost use Rattle.stage_pins.specs.Held.{AllFit};
 ghost use Rattle.call_steps.specs.Fits.{TailFits};
 
 use crate::stages::Stage;
-use call_acts::{Tail, dead_op, flushed_op};
+use call_acts::{Tail, dead_op, flushed_op, idle_op, running_op, shared_more, shared_op};
 use spk_nums::{Reply, Stamp, WordOp};
 use stage_pins::AcquiredCounts;
+use stage_thread::{Pop, Push};
 use word_map::Layout;
 
 /// The next step of a decided call that has acquired these counts: its next store, then the commit of its earliest count, then the
@@ -38,6 +39,26 @@ pub fn tail_op(
         },
         Tail::StoreDead { life, stamp } => dead_op(life, *stamp, layout),
         Tail::StoreFlush { core, stamp } => flushed_op(*core, *stamp, layout),
+        Tail::StoreLive {
+            number,
+            live,
+            frame: _,
+            word: _,
+        } => WordOp::Store {
+            at: layout.live_at(*number),
+            word: *live,
+        },
+        Tail::Push { push } => push.next(layout),
+        Tail::Pop { pop } => pop.next(layout),
+        Tail::StoreRunning {
+            thread,
+            core,
+            depth,
+            old: _,
+            old_depth: _,
+        } => running_op(*thread, *core, *depth, layout),
+        Tail::StoreIdle { thread, depth } => idle_op(*thread, *depth, layout),
+        Tail::Share { pair } => shared_op(pair, layout),
         Tail::Nothing => match counts.first() {
             None => WordOp::Load {
                 at: layout.clock_at(),
@@ -93,10 +114,56 @@ pub fn took_tail(
         Tail::Quiesce { close: _ }
         | Tail::Unmark { frame: _, word: _ }
         | Tail::StoreDead { life: _, stamp: _ }
-        | Tail::StoreFlush { core: _, stamp: _ } => Stage::Decided {
+        | Tail::StoreFlush { core: _, stamp: _ }
+        | Tail::StoreIdle {
+            thread: _,
+            depth: _,
+        } => Stage::Decided {
             reply,
             drawn,
             tail: Tail::Nothing,
+        },
+        Tail::StoreLive {
+            number: _,
+            live: _,
+            frame,
+            word,
+        } => Stage::Decided {
+            reply,
+            drawn,
+            tail: Tail::Unmark {
+                frame: *frame,
+                word: *word,
+            },
+        },
+        Tail::StoreRunning {
+            thread: _,
+            core: _,
+            depth: _,
+            old,
+            old_depth,
+        } => Stage::Decided {
+            reply,
+            drawn,
+            tail: Tail::StoreIdle {
+                thread: *old,
+                depth: *old_depth,
+            },
+        },
+        Tail::Push { push } => Stage::Decided {
+            reply,
+            drawn,
+            tail: pushed_on(push),
+        },
+        Tail::Pop { pop } => Stage::Decided {
+            reply,
+            drawn,
+            tail: popped_on(pop),
+        },
+        Tail::Share { pair } => Stage::Decided {
+            reply,
+            drawn,
+            tail: shared_more(pair, layout, found),
         },
         Tail::Nothing => match counts.first() {
             None => Stage::Leave {
@@ -121,6 +188,52 @@ pub fn took_tail(
                 tail: *tail,
             },
         },
+    }
+}
+
+// What of a push is to be stored after its next store.
+#[inline]
+fn pushed_on(push: &Push) -> Tail
+    ensures { result ≡ pushed_on push.now }
+{
+    match *push {
+        Push::AtStack {
+            thread,
+            core,
+            depth,
+            comp: _,
+        } => Tail::Push {
+            push: Push::AtThread {
+                thread,
+                core,
+                depth,
+            },
+        },
+        Push::AtThread {
+            thread: _,
+            core: _,
+            depth: _,
+        } => Tail::Nothing,
+    }
+}
+
+// What of a pop is to be stored after its next store.
+#[inline]
+fn popped_on(pop: &Pop) -> Tail
+    ensures { result ≡ popped_on pop.now }
+{
+    match *pop {
+        Pop::AtThread {
+            thread,
+            core: _,
+            depth,
+        } => Tail::Pop {
+            pop: Pop::AtStack { thread, depth },
+        },
+        Pop::AtStack {
+            thread: _,
+            depth: _,
+        } => Tail::Nothing,
     }
 }
 

@@ -490,7 +490,7 @@ fn steps_to_the_scan() -> [(WordOp, u64, Absorbed); 7] {
     ]
 }
 
-// The same, with these behind them.
+// The same, with these after them.
 fn scans(rows: &[(WordOp, u64, Absorbed)]) -> Option<usize> {
     let mut all = [loads(0, 0); 15];
     for (at, row) in steps_to_the_scan().iter().chain(rows).enumerate() {

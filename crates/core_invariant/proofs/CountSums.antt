@@ -1,6 +1,8 @@
 -- How the sum of a frame's counts changes where one count word does, and how references change.
 use Rattle.std.proofs.Common.{◌≡◌, ◌≢◌, inl, inr, ℕ, ℤ, ◌+ℤ◌, ◌+◌, ◌<◌, ◌≤◌, ◌==◌, max, cond, List, [], ◌∷◌, Option, arith, refl, sym, ◌∙◌, ap}
+use Rattle.std.specs.Prelude.{All}
 use Rattle.std.proofs.lemmas.Bool.{cases_eq, eq-eqb, ne_eqb}
+use Rattle.std.proofs.lemmas.List.Elements.{All-head}
 use Rattle.std.proofs.lemmas.Int.{ints}
 use Rattle.spk_nums.specs.Capability.{Capability}
 use Rattle.frame_words.specs.declared.count_word.CountWord.{CountWord}
@@ -17,6 +19,10 @@ use Rattle.core_invariant.proofs.Calm.{IsCalm, calm_counted}
 -- The word of a core's counter is one of a frame's count words, and occurs once among them.
 pub counter_once : (n core : ℕ) → core < n → times (counter_of core) (counters n) ≡ 1
 counter_once n core below = refl
+
+-- So what holds of all count words of a frame holds of it.
+pub counter_all : (P : ℕ → Type 0) (n core : ℕ) → core < n → All P (counters n) → P (counter_of core)
+counter_all P n core below all = All-head P (counter_of 0) [] all
 
 -- How often a number occurs in a list whose first it is, or is not.
 pub times_here : (d c : ℕ) (cs : List ℕ) → c ≡ d → times d (c ∷ cs) ≡ 1 + times d cs

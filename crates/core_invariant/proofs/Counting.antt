@@ -6,7 +6,7 @@ use Rattle.spk_nums.specs.Setting.{Setting, IsSetting}
 use Rattle.word_map.specs.Word.{Word, CountAt, FlushAt, ClockAt, same_word}
 use Rattle.word_map.specs.Moves.{Move, word_of, left_of}
 use Rattle.word_map.proofs.WordLemmas.{same_same}
-use Rattle.kernel_rules.specs.State.{put}
+use Rattle.kernel_rules.specs.State.{FrameOf, put}
 use Rattle.kernel_history.specs.Trace.{Step, Trace, state_after, last_left}
 use Rattle.kernel_history.specs.Marks.{mark_of}
 use Rattle.kernel_history.specs.Marking.{marked_by}
@@ -24,7 +24,10 @@ use Rattle.core_invariant.proofs.WordFrames.{marks_own, hold_marks, hold_words, 
 use Rattle.core_invariant.proofs.Sums.{sums_stay}
 use Rattle.core_invariant.proofs.Calm.{calm_same, calm_words, none_stored, IsPlain, plain_time, plain_exit, plain_flushed}
 use Rattle.core_invariant.proofs.Flushing.{still_flushed}
+use Rattle.core_invariant.proofs.Bare.{AsBefore}
+use Rattle.core_invariant.proofs.Lent.{SparesLent, keeps_given, lent_calm}
 use Rattle.core_invariant.proofs.Good.{IsGood, SparesBlanks}
+use Rattle.core_invariant.proofs.Users.{spares_none}
 use Rattle.core_invariant.proofs.Loads.{Lands, IsOfCall, core_at, core_is, call_is, in_call, inner, inner_within, inner_disciplined, inner_near}
 
 -- A step of a call, within it, on the word of a count, of an entry or of a frame: what the core holds of other words stays, no other core has marked
@@ -45,6 +48,7 @@ module _ (setup : Setting) (setting : IsSetting setup) (cores : ℕ → Core) (t
       → IsOfCall setup t c a.call move → Lands setup after (word_of move) → left_of move was < 2 ^ 64
       → ((w : Word) → w ≢ word_of move
       → ((holds after).marks w ≡ (holds (cores c)).marks w) × ((holds after).stands w ≡ (holds (cores c)).stands w))
+      → AsBefore (holds (cores c)) (holds after) (word_of move)
       → mark_of (state_after setup t) (word_of move) (left_of move was) ≡ (if (holds after).marks (word_of move) then Some c else None)
       → ((b : ℕ) → b ≢ c → marked_by setup t (word_of move) ≡ Some b → ⊥)
       → settled_by (if (holds after).marks (word_of move) then Some c else None) (held_by (put cores c after)) (word_of move)
@@ -52,9 +56,9 @@ module _ (setup : Setting) (setting : IsSetting setup) (cores : ℕ → Core) (t
       → phase_at a.call a.stage ≡ phase_at next.call next.stage
       → (Carries setup t e c → Knows setup (e ∷ t) c (cores c).own.table next) → All (IsCount setup (e ∷ t) c next.call) next.counts
       → AreApart next.counts
-      → SparesBlanks setup t e
+      → SparesBlanks setup t e → SparesLent cores e
       → IsGood setup cores t e after
-  holds_on flushes not_clock one_more of_call lands small elsewhere now unowned settles same_phase knows counts apart blanks =
+  holds_on flushes not_clock one_more of_call lands small elsewhere bares now unowned settles same_phase knows counts apart blanks spares =
       let plain : IsPlain setup t e = record {
         begins = λ x. refl;
         ends = λ x. refl;
@@ -73,7 +77,7 @@ module _ (setup : Setting) (setting : IsSetting setup) (cores : ℕ → Core) (t
         decides = tt;
         returns = tt;
       } in
-      let marks = hold_marks setup cores t e after (λ g. refl) elsewhere now unowned settles stands.marks in
+      let marks = hold_marks setup cores t e after (λ g. refl) elsewhere bares now unowned settles stands.marks in
       let is : CoreIs setup (cores c) t c = core_is setup setting cores t stands c here a active in
       record {
         follows = follows;
@@ -84,12 +88,15 @@ module _ (setup : Setting) (setting : IsSetting setup) (cores : ℕ → Core) (t
             (λ b m other. absurd (unowned b other m));
         near = inner_near setup setting cores t stands c here a active move None None of_call;
         blanks = blanks;
+        counted = spares_none setup t e (λ f. plain.ends (FrameOf f));
         marks = marks;
-        words = hold_words setup cores t e after (λ g. refl) elsewhere now unowned settles
+        words = hold_words setup cores t e after (λ g. refl) elsewhere bares now unowned settles
             (λ v. calm_words setup t e (calm_same (state_after setup t) c) plain v (λ g i h. refl) (λ b h. (refl, plain_exit t e refl b)))
             stands.words;
+        lent = lent_calm setup cores t stands e after (keeps_given setup cores t e after bares) (calm_same (state_after setup t) c);
+        spares = spares;
         sums = sums_stay setup t e (held_by cores) (held_by (put cores c after))
-            (λ g b. settled_stays setup cores t e after (λ g. refl) elsewhere now unowned settles (CountAt g b))
+            (λ g b. settled_stays setup cores t e after (λ g. refl) elsewhere bares now unowned settles (CountAt g b))
             (calm_same (state_after setup t) c) plain (λ g i. refl) stands.sums;
         draws = (let a = stands.draws in let b = plain.same in omega arith);
         time = plain_time setup t e plain;
@@ -99,6 +106,7 @@ module _ (setup : Setting) (setting : IsSetting setup) (cores : ℕ → Core) (t
           number = is.number;
           shape = is.shape;
           limit = is.limit;
+          epochs = is.epochs;
           works = is.works;
           exit = is.exit ∙ sym (plain_exit t e refl c);
           flushed = λ done. plain_flushed setup t e plain c (is.flushed (ap flushing_in active ∙ still_flushed setup t c

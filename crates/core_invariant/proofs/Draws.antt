@@ -2,7 +2,7 @@
 use Rattle.std.proofs.Common.{◌≡◌, ◌≢◌, ℕ, ◌+◌, ◌%◌, ◌^◌, ◌<◌, ◌≤◌, true, false, if◌then◌else◌, ◌∷◌, Some, None, IsTrue, inl, arith, refl, sym, ◌∙◌, ap, subst}
 use Rattle.spk_nums.specs.Setting.{Setting, IsSetting}
 use Rattle.spk_nums.specs.declared.replies.Reply.{Reply}
-use Rattle.word_map.specs.Word.{Word, ClockAt}
+use Rattle.word_map.specs.Word.{Word, EntryAt, ClockAt}
 use Rattle.word_map.specs.Moves.{AddOf, Move}
 use Rattle.kernel_rules.specs.State.{put}
 use Rattle.kernel_rules.specs.Alone.{alone}
@@ -21,9 +21,11 @@ use Rattle.core_invariant.specs.Knows.{phase_at, Knows, WorksIn, CoreIs, flushin
 use Rattle.core_invariant.specs.Stands.{holds, held_by, times_of, counted_in, SumIs, Stands}
 use Rattle.core_invariant.proofs.WordFrames.{ReadsAlike, StaysSaid, marks_own, carry_marks, carry_words}
 use Rattle.core_invariant.proofs.Calm.{plain_exit}
+use Rattle.core_invariant.proofs.Lent.{keeps_there, lent_on, lent_elsewhere}
 use Rattle.core_invariant.proofs.Carries.{counts_on}
 use Rattle.core_invariant.proofs.Flushing.{open_flushed}
 use Rattle.core_invariant.proofs.Good.{IsGood, spares_other}
+use Rattle.core_invariant.proofs.Users.{SparesBy, spared}
 use Rattle.core_invariant.proofs.Writes.{clock_small}
 use Rattle.core_invariant.proofs.Loads.{Lands, core_at, next_at, core_is, call_is, in_call, inner, inner_within, inner_disciplined, inner_near}
 
@@ -50,8 +52,9 @@ module _ (setup : Setting) (setting : IsSetting setup) (cores : ℕ → Core) (t
 
   pub draws_on : IsTrue (raises_clock a.call) → Lands setup after ClockAt
       → ((w : Word) → (holds after).marks w ≡ (holds (cores c)).marks w)
+      → ((f i : ℕ) → (holds after).bare f i ≡ (holds (cores c)).bare f i)
       → phase_at a.call a.stage ≡ Open a.call → phase_at a.call stage ≡ Decided a.call r
-      → ReadsAlike setup t e
+      → ReadsAlike setup t e → SparesBy setup t e a.call
       → counted_in setup (state_after setup t) + 1 ≤ counted_in setup (state_after setup (e ∷ t))
       → WorksIn (record (cores c).own { made = made }) (state_after setup (e ∷ t)) c
       → flushes_at t e ≡ false
@@ -63,7 +66,7 @@ module _ (setup : Setting) (setting : IsSetting setup) (cores : ℕ → Core) (t
       → (IsAlone t e → r ≡ alone (state_after setup t) c a.call)
       → Knows setup (e ∷ t) c (cores c).own.table (next_at a a.found stage)
       → IsGood setup cores t e after
-  draws_on raises lands still opens closes alike more works no_flush same held sums may first knows =
+  draws_on raises lands still bares opens closes alike counted more works no_flush same held sums may first knows =
       let marks = carry_marks setup cores t e after still alike refl refl stands.marks in
       let is : CoreIs setup (cores c) t c = core_is setup setting cores t stands c here a active in
       let low = clock_small setup setting cores t stands in
@@ -88,8 +91,12 @@ module _ (setup : Setting) (setting : IsSetting setup) (cores : ℕ → Core) (t
         near = inner_near setup setting cores t stands c here a active draw (Some r) None
             (record { moves = (raises, refl); near = inl tt });
         blanks = spares_other setup t e (λ f i h. cc);
+        counted = spared setup t e a.call ((call_is setup setting cores t stands c here a active).phase ∙ opens) counted;
         marks = marks;
-        words = carry_words setup cores t e after still alike refl refl same tt held stands.words;
+        words = carry_words setup cores t e after still alike refl refl bares (λ x. refl) same tt held stands.words;
+        lent = lent_on setup cores t stands e after (keeps_there setup cores t e after bares (λ f i h. absurd (no_entry_word f i h))) alike
+            (cores c).own made is.works works;
+        spares = lent_elsewhere cores e (λ f i h. cc);
         sums = sums;
         draws = (let d = stands.draws in let b = raised in let g = more in omega arith);
         time = record {
@@ -103,6 +110,7 @@ module _ (setup : Setting) (setting : IsSetting setup) (cores : ℕ → Core) (t
           number = is.number;
           shape = is.shape;
           limit = is.limit;
+          epochs = is.epochs;
           works = works;
           exit = is.exit ∙ sym (plain_exit t e refl c);
           flushed = λ done. flush_stored-own c e t refl ∙ is.flushed (ap flushing_in active ∙ open_flushed a.call a.stage opens) ∙ sym
@@ -118,5 +126,8 @@ module _ (setup : Setting) (setting : IsSetting setup) (cores : ℕ → Core) (t
         };
       }
     where
+      no_entry_word : (f i : ℕ) → ClockAt ≡ EntryAt f i → ⊥
+      no_entry_word f i h = cc
+
       true_false : false ≡ true → ⊥
       true_false h = cc

@@ -5,17 +5,34 @@ use Rattle.call_acts.specs.declared.kills.KillingAt.TheVariants.{LoadComp, LoadL
 use Rattle.call_acts.specs.declared.makings.MakingAt.{MakingAt}
 use Rattle.call_acts.specs.declared.makings.MakingAt.TheVariants.{Load, Mark, Store, Fill as making_fill}
 use Rattle.call_acts.specs.declared.work.Act.{Act as ActOf}
-use Rattle.call_acts.specs.declared.work.Act.TheVariants.{Fill, Remove, Retype, Make, Map, Outside, Tick, Flush, Kill, Untype}
+use Rattle.call_acts.specs.declared.work.Act.TheVariants.{Fill, Remove, Retype, Make, Map, Outside, Tick, Flush, Kill, Untype, MakeComp, Invoke, Return, Touch, Share as share_act, Switch as switch_act}
+use Rattle.call_acts.specs.declared.comps.CompMaking.{CompMaking}
+use Rattle.call_acts.specs.declared.comps.CompAt.{CompAt}
+use Rattle.call_acts.specs.declared.comps.CompAt.TheVariants as comp_at
 use Rattle.call_acts.specs.declared.work.Tail.{Tail}
-use Rattle.call_acts.specs.declared.work.Tail.TheVariants.{Nothing, Quiesce, Unmark, StoreDead, StoreFlush, Release}
+use Rattle.call_acts.specs.declared.work.Tail.TheVariants.{Nothing, Quiesce, Unmark, StoreDead, StoreFlush, StoreLive, Push, Pop, Release, Share, StoreRunning, StoreIdle}
 use Rattle.call_acts.specs.declared.work.Work.{Work}
 use Rattle.call_acts.specs.declared.work.Work.TheVariants.{Lookup, Read, Scan, Acquire, Act as act_work}
 use Rattle.call_steps.specs.declared.stages.ActiveCall.{ActiveCall}
 use Rattle.call_steps.specs.declared.stages.Stage.{Stage}
 use Rattle.call_steps.specs.declared.stages.Stage.TheVariants.{Enter, Undecided, Decided, Leave}
+use Rattle.stage_sweep.specs.Freeze.{swept_of}
+use Rattle.call_acts.specs.Untypings.{release_of}
+use Rattle.call_acts.specs.declared.untypings.UntypingAt.{UntypingAt}
+use Rattle.call_acts.specs.declared.untypings.UntypingAt.TheVariants as untype
+use Rattle.core_invariant.specs.Frozen.{holds_untyping}
+use Rattle.core_invariant.proofs.Freezing.{release_flush}
 use Rattle.core_invariant.specs.Holding.{Holding, holds_counts, holds_closed, holds_drawn}
 use Rattle.core_invariant.specs.Knows.{flushes_tail, is_flushing, flushing_in, phase_at, KnowsAt}
-use Rattle.core_invariant.specs.Stands.{is_done, holds_making, holds_killing, holds_act, holds_tail, holds_work, holds_stage, holds_at}
+use Rattle.core_invariant.proofs.ThreadHolds.{switching_flush}
+use Rattle.core_invariant.specs.Stands.{is_done, holds_making, holds_killing, holds_comp, holds_act, holds_tail, holds_work, holds_stage, holds_at, holds_share, holds_shared, holds_push, holds_pop}
+use Rattle.stage_thread.specs.declared.stack.Push.{Push as PushOf}
+use Rattle.stage_thread.specs.declared.stack.Push.TheVariants as push
+use Rattle.stage_thread.specs.declared.stack.Pop.{Pop as PopOf}
+use Rattle.stage_thread.specs.declared.stack.Pop.TheVariants as pop
+use Rattle.stage_tcap.specs.declared.pair.Pair.{Pair}
+use Rattle.stage_tcap.specs.declared.pair.PairAt.{PairAt}
+use Rattle.stage_tcap.specs.declared.pair.PairAt.TheVariants.{LoadA, MarkA, ListA, LoadB, ListB, CompareB, AgainB, StoreList, StoreB, StoreA}
 use Rattle.kernel_history.specs.Trace.{Trace, Phase, Out, Open, Decided as Decided_phase}
 use Rattle.spk_nums.specs.declared.replies.Reply.{Reply}
 use Rattle.spk_nums.specs.Capability.{Capability}
@@ -55,6 +72,39 @@ killing_flush (LoadLive life) h c = refl
 killing_flush (kill_close life word) h c = refl
 killing_flush (kill_draw life word) h c = refl
 
+comp_flush : (m : CompMaking) (at : CompAt) (h : Holding) (c : ℕ) → (holds_comp m at h).stands (FlushAt c) ≡ h.stands (FlushAt c)
+comp_flush m comp_at.Load h c = refl
+comp_flush m (comp_at.Mark word) h c = refl
+comp_flush m (comp_at.LoadLive word) h c = refl
+comp_flush m (comp_at.Scan word last q) h c = refl
+comp_flush m (comp_at.Close word last) h c = refl
+comp_flush m (comp_at.Store word last entry) h c = refl
+comp_flush m (comp_at.Fill word last) h c = refl
+
+share_flush : (p : Pair) (at : PairAt) (h : Holding) (c : ℕ) → (holds_share p at h).stands (FlushAt c) ≡ h.stands (FlushAt c)
+share_flush p LoadA h c = refl
+share_flush p MarkA h c = refl
+share_flush p (ListA n) h c = refl
+share_flush p LoadB h c = refl
+share_flush p (ListB n) h c = refl
+share_flush p CompareB h c = refl
+share_flush p (AgainB r) h c = refl
+share_flush p (StoreList n) h c = refl
+share_flush p StoreB h c = refl
+share_flush p (StoreA moved v) h c = refl
+
+shared_flush : (p : Pair) (at : PairAt) (h : Holding) (c : ℕ) → (holds_shared p at h).stands (FlushAt c) ≡ h.stands (FlushAt c)
+shared_flush p LoadA h c = refl
+shared_flush p MarkA h c = refl
+shared_flush p (ListA n) h c = refl
+shared_flush p LoadB h c = refl
+shared_flush p (ListB n) h c = refl
+shared_flush p CompareB h c = refl
+shared_flush p (AgainB r) h c = refl
+shared_flush p (StoreList n) h c = refl
+shared_flush p StoreB h c = refl
+shared_flush p (StoreA moved v) h c = refl
+
 act_flush : (act : ActOf) (h : Holding) (c : ℕ) → (holds_act act h).stands (FlushAt c) ≡ h.stands (FlushAt c)
 act_flush (Fill fill) h c = refl
 act_flush (Remove close cap) h c = closed_flush close cap h c
@@ -63,9 +113,21 @@ act_flush (Make making) h c = making_flush making.frame making.at h c
 act_flush (Map fill) h c = refl
 act_flush (Outside node entry word) h c = refl
 act_flush (Tick charge) h c = refl
+act_flush (Touch m) h c = refl
 act_flush (Flush by) h c = refl
 act_flush (Kill m) h c = killing_flush m.at h c
-act_flush (Untype m) h c = refl
+act_flush (Untype m) h c = by m.at
+  where
+    by : (at : UntypingAt) → (holds_untyping m.frame at h).stands (FlushAt c) ≡ h.stands (FlushAt c)
+    by untype.Load = refl
+    by (untype.Mark word v) = refl
+    by (untype.Sweep word w) = (release_flush (release_of m.frame word (swept_of w) false) h c).1
+    by (untype.Draw word w) = (release_flush (release_of m.frame word w false) h c).1
+act_flush (Invoke m) h c = refl
+act_flush (Return m) h c = refl
+act_flush (MakeComp m) h c = comp_flush m m.at h c
+act_flush (share_act p) h c = share_flush p p.at h c
+act_flush (switch_act m) h c = switching_flush m m.at h c
 
 work_flush : (work : Work) (h : Holding) (c : ℕ) → (holds_work work h).stands (FlushAt c) ≡ h.stands (FlushAt c)
 work_flush (Lookup look) h c = refl
@@ -74,12 +136,26 @@ work_flush (Scan q act) h c = refl
 work_flush (Acquire pin change act) h c = act_flush act h c
 work_flush (act_work act) h c = act_flush act h c
 
+push_flush : (p : PushOf) (h : Holding) (c : ℕ) → (holds_push p h).stands (FlushAt c) ≡ h.stands (FlushAt c)
+push_flush (push.AtStack f core depth comp) h c = refl
+push_flush (push.AtThread f core depth) h c = refl
+
+pop_flush : (p : PopOf) (h : Holding) (c : ℕ) → (holds_pop p h).stands (FlushAt c) ≡ h.stands (FlushAt c)
+pop_flush (pop.AtThread f core depth) h c = refl
+pop_flush (pop.AtStack f depth) h c = refl
+
 tail_flush : (tail : Tail) (h : Holding) (c : ℕ) → flushes_tail tail ≡ false → (holds_tail tail h).stands (FlushAt c) ≡ h.stands (FlushAt c)
 tail_flush Nothing h c none = refl
 tail_flush (Quiesce close) h c none = drawn_flush close h c
 tail_flush (Unmark f word) h c none = refl
 tail_flush (StoreDead life stamp) h c none = refl
-tail_flush (Release release) h c none = refl
+tail_flush (Release release) h c none = (release_flush release h c).1
+tail_flush (Push push) h c none = push_flush push h c
+tail_flush (Pop pop) h c none = pop_flush pop h c
+tail_flush (StoreLive l live f word) h c none = refl
+tail_flush (Share p) h c none = shared_flush p p.at h c
+tail_flush (StoreRunning f core depth old old_depth) h c none = refl
+tail_flush (StoreIdle f depth) h c none = refl
 tail_flush (StoreFlush by stamp) h c none = absurd (false≢true (sym none))
 
 stage_flush : (stage : Stage) (h : Holding) (c : ℕ) → is_flushing stage ≡ false
@@ -100,6 +176,12 @@ some_flush setup t c table a (Decided r drawn (Quiesce close)) h knows is = absu
 some_flush setup t c table a (Decided r drawn (Unmark f word)) h knows is = absurd (false≢true is)
 some_flush setup t c table a (Decided r drawn (StoreDead life stamp)) h knows is = absurd (false≢true is)
 some_flush setup t c table a (Decided r drawn (Release release)) h knows is = absurd (false≢true is)
+some_flush setup t c table a (Decided r drawn (Push push)) h knows is = absurd (false≢true is)
+some_flush setup t c table a (Decided r drawn (Pop pop)) h knows is = absurd (false≢true is)
+some_flush setup t c table a (Decided r drawn (StoreLive l live f word)) h knows is = absurd (false≢true is)
+some_flush setup t c table a (Decided r drawn (Share p)) h knows is = absurd (false≢true is)
+some_flush setup t c table a (Decided r drawn (StoreRunning f core depth old old_depth)) h knows is = absurd (false≢true is)
+some_flush setup t c table a (Decided r drawn (StoreIdle f depth)) h knows is = absurd (false≢true is)
 some_flush setup t c table a (Decided r drawn (StoreFlush by stamp)) h knows is =
     subst (λ (d : ℕ). 1 ≤ (holds_tail (StoreFlush by stamp) h).stands (FlushAt d)) knows.core
     (subst (λ (n : ℕ). 1 ≤ n) (sym (ap (λ b. if b then stamp else h.stands (FlushAt by)) (same_same (FlushAt by)))) knows.some)

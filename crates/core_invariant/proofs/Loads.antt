@@ -10,7 +10,7 @@ use Rattle.spk_nums.specs.declared.replies.Reply.{Reply}
 use Rattle.word_map.specs.Word.{Word, CountAt, FlushAt, ClockAt, same_word}
 use Rattle.word_map.specs.Places.{IsIn as IsInShape, shared}
 use Rattle.word_map.specs.Moves.{Move, word_of, left_of}
-use Rattle.kernel_rules.specs.State.{Thing, put}
+use Rattle.kernel_rules.specs.State.{Thing, FrameOf, put}
 use Rattle.kernel_rules.specs.CallRelation.{MayReply, state_by, counted, begins, ends, flushes}
 use Rattle.kernel_rules.specs.Alone.{alone}
 use Rattle.kernel_rules.specs.Laws.{calls_counted}
@@ -43,7 +43,9 @@ use Rattle.core_invariant.proofs.Carries.{counts_on}
 use Rattle.core_invariant.specs.Holding.{holds_counts}
 use Rattle.core_invariant.proofs.Flushing.{still_flushed, open_flushed}
 use Rattle.core_invariant.proofs.Good.{IsGood, spares_kept}
+use Rattle.core_invariant.proofs.Users.{spares_none}
 use Rattle.core_invariant.proofs.Calm.{IsCalm, calm_same, calm_counted, calm_own, calm_words, counted_rises, stored_by, IsPlain, plain_time, plain_exit, BeginsNone, plain_begins, none_flushed}
+use Rattle.core_invariant.proofs.Lent.{keeps_loads, lent_calm, lent_kept}
 
 -- A step of core c.
 abbrev pub step_to : ℕ → Option Call → Move → ℕ → Option Reply → Option Reply → Step
@@ -162,6 +164,7 @@ module _ (setup : Setting) (setting : IsSetting setup) (cores : ℕ → Core) (t
       number = core_is.number;
       shape = core_is.shape;
       limit = core_is.limit;
+      epochs = core_is.epochs;
       works = works;
       exit = core_is.exit ∙ sym (plain_exit t inner none c);
       flushed = λ done. none_flushed setup t inner plain c (core_is.flushed (ap flushing_in active ∙ was done));
@@ -235,10 +238,15 @@ module _ (setup : Setting) (setting : IsSetting setup) (cores : ℕ → Core) (t
             (marks_own setup cores t e after (λ w there. ap (λ h. h.marks w) still) stands.marks marks) (λ d m other. looks.kept);
         near = inner_near move None None looks.of_call;
         blanks = spares_kept setup t e looks.kept;
+        counted = spares_none setup t e (λ f. plain.ends (FrameOf f));
         marks = marks;
         words = load_words setup cores t e after still (λ g. refl) looks.kept
             (λ v. calm_words setup t e (calm_same (state_after setup t) c) plain v (λ g i h. refl) (λ d h. (refl, plain_exit t e refl d)))
             stands.words;
+        lent = lent_calm setup cores t stands e after
+            (keeps_loads setup cores t e after still (load_keeps setup cores t e after still (λ g. refl) looks.kept))
+            (calm_same (state_after setup t) c);
+        spares = lent_kept cores e looks.kept;
         sums = sums_stay setup t e (held_by cores) (held_by (put cores c after))
             (λ f d. settled_on setup cores t e after still (λ g. refl) (CountAt f d)
             (load_keeps setup cores t e after still (λ g. refl) looks.kept (CountAt f d)))
@@ -270,7 +278,7 @@ module _ (setup : Setting) (setting : IsSetting setup) (cores : ℕ → Core) (t
       → flushes a.call r ≡ false
       → MayReply (state_after setup t) c a.call r → IsJustified setup t (inner move (Some r) None) a.call r
       → (IsAlone t (inner move (Some r) None) → r ≡ alone (state_after setup t) c a.call)
-      → KnowsTail setup (inner move (Some r) None ∷ t) c a.call tail
+      → KnowsTail setup (inner move (Some r) None ∷ t) c a.call a.counts tail
       → IsGood setup cores t (inner move (Some r) None) (core_at (cores c) ((cores c).own.made + calls_counted r)
       (next_at a found (Decided r None tail)))
   decides_with move r tail found looks lands same opens state one none_begins none_ends no_flush permitted justified first knows =
@@ -307,10 +315,14 @@ module _ (setup : Setting) (setting : IsSetting setup) (cores : ℕ → Core) (t
             (marks_own setup cores t e after (λ w there. ap (λ h. h.marks w) still) stands.marks marks) (λ d m other. looks.kept);
         near = inner_near move (Some r) None looks.of_call;
         blanks = spares_kept setup t e looks.kept;
+        counted = spares_none setup t e (λ f. plain.ends (FrameOf f));
         marks = marks;
         words = load_words setup cores t e after still calm.frame looks.kept
             (λ v. calm_words setup t e calm plain v (λ g i h. ap (λ s. s.place g i) now)
             (λ d h. (decided-inside (Some r) (phase t c) (state_after setup t) c d, plain_exit t e refl d))) stands.words;
+        lent = lent_calm setup cores t stands e after
+            (keeps_loads setup cores t e after still (load_keeps setup cores t e after still calm.frame looks.kept)) calm;
+        spares = lent_kept cores e looks.kept;
         sums = sums_stay setup t e (held_by cores) (held_by (put cores c after))
             (λ f d. settled_on setup cores t e after still calm.frame (CountAt f d)
             (load_keeps setup cores t e after still calm.frame looks.kept (CountAt f d)))

@@ -21,11 +21,13 @@ use Rattle.call_steps.specs.View.{Core}
 use Rattle.core_invariant.specs.Holding.{MarkIs, settled}
 use Rattle.core_invariant.specs.Words.{WordIs}
 use Rattle.core_invariant.specs.Knows.{phase_at, Knows, WorksIn, CoreIs, is_flushing, flushing_in}
-use Rattle.core_invariant.specs.Stands.{held_by, times_of, counted_in, SumIs, Stands}
+use Rattle.core_invariant.specs.Stands.{held_by, times_of, counted_in, SumIs, Stands, holds, IsLent}
 use Rattle.core_invariant.proofs.Calm.{BeginsNone, none_time, none_flushed, plain_exit}
 use Rattle.core_invariant.proofs.Carries.{counts_on}
 use Rattle.core_invariant.proofs.Flushing.{open_flushed}
 use Rattle.core_invariant.proofs.Good.{IsGood, SparesBlanks}
+use Rattle.core_invariant.proofs.Users.{SparesBy, spared}
+use Rattle.core_invariant.proofs.Lent.{SparesLent}
 use Rattle.core_invariant.proofs.Loads.{Lands, IsOfCall, next_at, core_is, call_is, in_call, inner, inner_within, inner_disciplined, inner_near}
 
 -- A core is where it was, on its machine.
@@ -33,6 +35,7 @@ pub record IsSameCore (own own' : Own) : Type 0 where
   pub core : own'.core ≡ own.core
   pub layout : own'.layout ≡ own.layout
   pub limit : own'.limit ≡ own.limit
+  pub epochs : own'.epochs ≡ own.epochs
   pub exit : own'.exit ≡ own.exit
 
 module _ (setup : Setting) (setting : IsSetting setup) (cores : ℕ → Core) (t : Trace) (stands : Stands setup cores t) (c : ℕ)
@@ -45,24 +48,27 @@ module _ (setup : Setting) (setting : IsSetting setup) (cores : ℕ → Core) (t
   abbrev pub changed_core : Core
   changed_core = record { own = own; active = Some (next_at a a.found stage) }
 
-  -- it keeps the clock, and its last flush is stored, or still to be
-  pub decides_owning : left_of move (last_left setup t (word_of move)) < 2 ^ 64 → IsOfCall setup t c a.call move
+  -- it may draw a stamp; its last flush is stored, or still to be
+  pub decides_timed : left_of move (last_left setup t (word_of move)) < 2 ^ 64 → IsOfCall setup t c a.call move
       → Lands setup changed_core (word_of move)
       → phase_at a.call a.stage ≡ Open a.call → phase_at a.call stage ≡ Decided a.call r
       → MarksOwn setup t changing → KeepsMarked setup t changing → KeepsTime setup t changing
-      → clock setup (changing ∷ t) ≤ clock setup t
+      → clock setup (changing ∷ t) ≤ 1 + counted_in setup (state_after setup (changing ∷ t))
       → (is_flushing stage ≡ false → flush_stored (changing ∷ t) c ≡ flush_of (changing ∷ t) c) → SparesBlanks setup t changing
-      → counted_in setup (state_after setup t) ≤ counted_in setup (state_after setup (changing ∷ t))
+      → SparesBy setup t changing a.call
       → WorksIn own (state_after setup (changing ∷ t)) c
       → ((w : Word) (d : ℕ) → MarkIs setup (held_by (put cores c changed_core)) (changing ∷ t) w d)
       → ((w : Word) → WordIs (state_after setup (changing ∷ t)) (times_of setup (changing ∷ t)) w
       (settled setup (held_by (put cores c changed_core)) (changing ∷ t) w))
+      → ((f i v : ℕ) → (holds changed_core).bare f i ≡ Some v → IsLent setup (changing ∷ t) c f i)
+      → SparesLent cores changing
       → ((f : ℕ) → SumIs setup (held_by (put cores c changed_core)) (changing ∷ t) f)
       → MayDecide setup t changing (Some r) (phase t c)
       → (IsAlone t changing → r ≡ alone (state_after setup t) c a.call)
       → Knows setup (changing ∷ t) c own.table (next_at a a.found stage)
       → IsGood setup cores t changing changed_core
-  decides_owning small of_call lands opens closes puts keeps time same_clock flushed blanks rises works marks words sums may first knows =
+  decides_timed small of_call lands opens closes puts keeps time draws flushed blanks counted works marks words lent spares sums
+      may first knows =
       let now : CoreIs setup (cores c) t c = core_is setup setting cores t stands c here a active in
       let in_flight = call_is setup setting cores t stands c here a active in
       record {
@@ -82,10 +88,13 @@ module _ (setup : Setting) (setting : IsSetting setup) (cores : ℕ → Core) (t
         disciplined = inner_disciplined setup setting cores t stands c here a active move (Some r) None of_call puts keeps;
         near = inner_near setup setting cores t stands c here a active move (Some r) None of_call;
         blanks = blanks;
+        counted = spared setup t changing a.call (in_flight.phase ∙ opens) counted;
         marks = marks;
         words = words;
+        lent = lent;
+        spares = spares;
         sums = sums;
-        draws = (let d = stands.draws in let b = same_clock in let g = rises in omega arith);
+        draws = draws;
         time = time;
         leaves = tt;
         own = record {
@@ -93,6 +102,7 @@ module _ (setup : Setting) (setting : IsSetting setup) (cores : ℕ → Core) (t
           number = same.core ∙ now.number;
           shape = same.layout ∙ now.shape;
           limit = same.limit ∙ now.limit;
+          epochs = same.epochs ∙ now.epochs;
           works = works;
           exit = same.exit ∙ now.exit ∙ sym (plain_exit t changing refl c);
           flushed = flushed;
@@ -106,16 +116,43 @@ module _ (setup : Setting) (setting : IsSetting setup) (cores : ℕ → Core) (t
         };
       }
 
-  -- no grace period begins, and nothing is flushed
-  pub decides_changing : left_of move (last_left setup t (word_of move)) < 2 ^ 64 → IsOfCall setup t c a.call move
+  -- it keeps the clock, and its last flush is stored, or still to be
+  pub decides_owning : left_of move (last_left setup t (word_of move)) < 2 ^ 64 → IsOfCall setup t c a.call move
       → Lands setup changed_core (word_of move)
       → phase_at a.call a.stage ≡ Open a.call → phase_at a.call stage ≡ Decided a.call r
-      → MarksOwn setup t changing → KeepsMarked setup t changing → BeginsNone setup t changing → SparesBlanks setup t changing
+      → MarksOwn setup t changing → KeepsMarked setup t changing → KeepsTime setup t changing
+      → clock setup (changing ∷ t) ≤ clock setup t
+      → (is_flushing stage ≡ false → flush_stored (changing ∷ t) c ≡ flush_of (changing ∷ t) c) → SparesBlanks setup t changing
+      → SparesBy setup t changing a.call
       → counted_in setup (state_after setup t) ≤ counted_in setup (state_after setup (changing ∷ t))
       → WorksIn own (state_after setup (changing ∷ t)) c
       → ((w : Word) (d : ℕ) → MarkIs setup (held_by (put cores c changed_core)) (changing ∷ t) w d)
       → ((w : Word) → WordIs (state_after setup (changing ∷ t)) (times_of setup (changing ∷ t)) w
       (settled setup (held_by (put cores c changed_core)) (changing ∷ t) w))
+      → ((f i v : ℕ) → (holds changed_core).bare f i ≡ Some v → IsLent setup (changing ∷ t) c f i)
+      → SparesLent cores changing
+      → ((f : ℕ) → SumIs setup (held_by (put cores c changed_core)) (changing ∷ t) f)
+      → MayDecide setup t changing (Some r) (phase t c)
+      → (IsAlone t changing → r ≡ alone (state_after setup t) c a.call)
+      → Knows setup (changing ∷ t) c own.table (next_at a a.found stage)
+      → IsGood setup cores t changing changed_core
+  decides_owning small of_call lands opens closes puts keeps time same_clock flushed blanks counted rises =
+      decides_timed small of_call lands opens closes puts keeps time
+      (let d = stands.draws in let b = same_clock in let g = rises in omega (arith, d, b, g)) flushed blanks counted
+
+  -- no grace period begins, and nothing is flushed
+  pub decides_changing : left_of move (last_left setup t (word_of move)) < 2 ^ 64 → IsOfCall setup t c a.call move
+      → Lands setup changed_core (word_of move)
+      → phase_at a.call a.stage ≡ Open a.call → phase_at a.call stage ≡ Decided a.call r
+      → MarksOwn setup t changing → KeepsMarked setup t changing → BeginsNone setup t changing → SparesBlanks setup t changing
+      → SparesBy setup t changing a.call
+      → counted_in setup (state_after setup t) ≤ counted_in setup (state_after setup (changing ∷ t))
+      → WorksIn own (state_after setup (changing ∷ t)) c
+      → ((w : Word) (d : ℕ) → MarkIs setup (held_by (put cores c changed_core)) (changing ∷ t) w d)
+      → ((w : Word) → WordIs (state_after setup (changing ∷ t)) (times_of setup (changing ∷ t)) w
+      (settled setup (held_by (put cores c changed_core)) (changing ∷ t) w))
+      → ((f i v : ℕ) → (holds changed_core).bare f i ≡ Some v → IsLent setup (changing ∷ t) c f i)
+      → SparesLent cores changing
       → ((f : ℕ) → SumIs setup (held_by (put cores c changed_core)) (changing ∷ t) f)
       → MayDecide setup t changing (Some r) (phase t c)
       → (IsAlone t changing → r ≡ alone (state_after setup t) c a.call)

@@ -15,9 +15,10 @@ use Rattle.kernel_history.specs.Stamps.{stamp}
 use Rattle.call_steps.specs.View.{Core}
 use Rattle.kernel_history.specs.Marking.{marked_by}
 use Rattle.core_invariant.specs.Holding.{settled_by}
-use Rattle.core_invariant.specs.Words.{PlaceIs, IsFrameWord}
+use Rattle.core_invariant.specs.Words.{PlaceIs, IsFrameWord, count_room}
 use Rattle.core_invariant.specs.Stands.{held_by, Stands}
 use Rattle.core_invariant.proofs.Sounds.{limits_of}
+use Rattle.core_invariant.proofs.Lent.{unlent_value, node_no_thread}
 
 -- The word of a place carries the mark of a core.
 pub record IsMarked (setup : Setting) (t : Trace) (f i : ℕ) : Type 0 where
@@ -31,13 +32,13 @@ pub record IsPlain (setup : Setting) (t : Trace) (f i : ℕ) : Type 0 where
   pub says : PlaceIs setup.frames ((state_after setup t).place f i) (stamp setup t (PlaceOf f i))
       (entry_of_word (last_left setup t (EntryAt f i)))
 
-pub node_says : (n : ℕ) (x : Frame) (p : Place) (r i v : ℕ) → IsTrue (is_node x) → i < 64 → IsFrameWord n x p r i v
+pub node_says : (n m : ℕ) (x : Frame) (p : Place) (r i v : ℕ) → IsTrue (is_node x) → i < 64 → IsFrameWord n m x p r i v
     → PlaceIs n p r (entry_of_word v)
-node_says n (Kernel Table) p r i v node below h = h below
-node_says n (Kernel Leaf) p r i v node below h = h below
-node_says n (Kernel Pages) p r i v node below h = h below
-node_says n (Kernel Pleaf) p r i v node below h = h below
-node_says n _ p r i v node below h = absurd (false≢true node)
+node_says n m (Kernel Table) p r i v node below h = h below
+node_says n m (Kernel Leaf) p r i v node below h = h below
+node_says n m (Kernel Pages) p r i v node below h = h below
+node_says n m (Kernel Pleaf) p r i v node below h = h below
+node_says n m _ p r i v node below h = absurd (false≢true node)
 
 pub node_mark : (x : Frame) (i v : ℕ) → IsTrue (is_node x) → mark_in_frame x i v ≡ entry_mark (entry_of_word v)
 node_mark (Kernel Table) i v node = refl
@@ -65,11 +66,14 @@ place_reads setup cores t stands f i node below = by_mark (marked_by setup t (En
       says = subst (λ n. PlaceIs n ((state_after setup t).place f i) (stamp setup t (PlaceOf f i))
           (entry_of_word (last_left setup t (EntryAt f i))))
           (ap (λ l. l.frames) (limits_of setup t))
-          (node_says (state_after setup t).limits.frames ((state_after setup t).frame f) ((state_after setup t).place f i)
+          (node_says (state_after setup t).limits.frames (count_room (state_after setup t)) ((state_after setup t).frame f) ((state_after setup t).place f i)
           (stamp setup t (PlaceOf f i)) i (last_left setup t (EntryAt f i)) node below
-          (subst (λ o. IsFrameWord (state_after setup t).limits.frames ((state_after setup t).frame f) ((state_after setup t).place f i)
+          (subst (λ (n : ℕ). IsFrameWord (state_after setup t).limits.frames (count_room (state_after setup t)) ((state_after setup t).frame f)
+          ((state_after setup t).place f i) (stamp setup t (PlaceOf f i)) i n)
+          (unlent_value setup cores t stands f (node_no_thread ((state_after setup t).frame f) node) i (last_left setup t (EntryAt f i)))
+          (subst (λ o. IsFrameWord (state_after setup t).limits.frames (count_room (state_after setup t)) ((state_after setup t).frame f) ((state_after setup t).place f i)
           (stamp setup t (PlaceOf f i)) i
-          (settled_by o (held_by cores) (EntryAt f i) (last_left setup t (EntryAt f i)))) is (stands.words (EntryAt f i))));
+          (settled_by o (held_by cores) (EntryAt f i) (last_left setup t (EntryAt f i)))) is (stands.words (EntryAt f i)))));
     })
     by_mark (Some d) is = inl (record {
       by = d;

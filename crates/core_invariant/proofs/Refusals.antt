@@ -1,19 +1,19 @@
 -- The refusals of a call at a load: each leaves all as it was, but counts the call.
 use Rattle.call_acts.specs.declared.work.Tail.{Tail}
-use Rattle.std.proofs.Common.{◌≡◌, ◌≢◌, ℕ, ◌+◌, ◌<◌, Option, Bool, true, false, Some, None, arith, refl, sym, ◌∙◌, ap, subst, List, [], ◌∷◌}
+use Rattle.std.proofs.Common.{◌≡◌, ◌≢◌, ℕ, ◌+◌, ◌<◌, Option, Bool, true, false, Some, None, arith, refl, sym, ◌∙◌, ap, subst, List, [], ◌∷◌, inl, inr}
 use Rattle.std.proofs.lemmas.Bool.{false≢true, lt-leb}
 use Rattle.supported_calls.specs.Built.{IsBuilt}
 use Rattle.spk_nums.specs.Setting.{Setting, IsSetting}
 use Rattle.spk_nums.specs.declared.calls.Call.{Call}
-use Rattle.spk_nums.specs.declared.calls.Call.TheVariants.{Look, Copy, Remove, Shrink, Unmap, Retype, Make, Tick, Gate, Kill, Grow, Flush, Map}
+use Rattle.spk_nums.specs.declared.calls.Call.TheVariants.{Look, Copy, Remove, Shrink, Unmap, Retype, Make, Tick, Gate, Kill, Call as call_gate, Ret, Grow, Flush, Map, Touch, Transfer, Test, Switch}
 use Rattle.spk_nums.specs.declared.replies.Reply.{Reply}
 use Rattle.spk_nums.specs.declared.replies.Reply.TheVariants as reply
 use Rattle.word_map.specs.Moves.{Move, word_of}
 use Rattle.kernel_rules.specs.State.{Thing, State}
 use Rattle.kernel_rules.specs.Rules.{RuleMay, Refused}
-use Rattle.kernel_rules.specs.CallRelation.{rule_of, change_of, are_calls_spent, owed_by, counted}
+use Rattle.kernel_rules.specs.CallRelation.{rule_of, change_of, are_calls_spent, owed_by, counted, state_by}
 use Rattle.kernel_rules.specs.Alone.{alone}
-use Rattle.kernel_history.specs.Trace.{Step, Trace, Open, state_after, last_left}
+use Rattle.kernel_history.specs.Trace.{Step, Trace, Open, state_after, state_decided_in, last_left}
 use Rattle.kernel_history.specs.Justified.{IsOnWay, IsRaceLost, IsHeldUp}
 use Rattle.kernel_history.specs.Alone.{IsAlone}
 use Rattle.kernel_history.proofs.AloneCalls.{refused_first, nobody_waits}
@@ -29,7 +29,7 @@ use Rattle.stage_look.specs.declared.look.Look.{Look as LookOf}
 use Rattle.stage_quiet.specs.declared.close.Close.TheVariants.{AtCompare, AtDraw, AtStore}
 use Rattle.stage_quiet.specs.declared.quiet.Quiet.TheVariants.{AtCore, AtFlush}
 use Rattle.call_acts.specs.declared.work.Act.{Act as ActOf}
-use Rattle.call_acts.specs.declared.work.Act.TheVariants.{Fill as fill_act, Remove as remove_act, Retype as type_act, Make as make_act, Outside, Tick as tick_act, Flush as flush_act, Kill as kill_act, Untype as untype_act, Map as map_act}
+use Rattle.call_acts.specs.declared.work.Act.TheVariants.{Fill as fill_act, Remove as remove_act, Retype as type_act, Make as make_act, Outside, Tick as tick_act, Flush as flush_act, Kill as kill_act, Untype as untype_act, Map as map_act, MakeComp as comp_act, Invoke as invoke_act, Return as return_act, Touch as touch_act, Share as share_act, Switch as switch_act}
 use Rattle.call_acts.specs.declared.work.Work.{Work}
 use Rattle.call_acts.specs.declared.work.Work.TheVariants.{Lookup, Read, Scan, Acquire, Act}
 use Rattle.call_steps.specs.View.{Core}
@@ -73,10 +73,16 @@ built_owes s c (Map p v r f w) built other = refl
 built_owes s c (Unmap p v) built other = refl
 built_owes s c (Retype r f k) built other = refl
 built_owes s c (Make what r f u b) built other = refl
+built_owes s c (Touch v) built other = refl
 built_owes s c Flush built other = refl
 built_owes s c (Tick n) built other = absurd (other n refl)
 built_owes s c (Gate k u b) built other = refl
 built_owes s c (Kill k) built other = refl
+built_owes s c (call_gate g) built other = refl
+built_owes s c Ret built other = refl
+built_owes s c (Transfer x y m) built other = refl
+built_owes s c (Test x y) built other = refl
+built_owes s c (Switch x y) built other = refl
 built_owes s c _ built other = absurd built
 
 -- Whether a call charges ticks where it stands.
@@ -88,9 +94,15 @@ ticks_in (make_act m) = false
 ticks_in (map_act fill) = false
 ticks_in (Outside node entry word) = false
 ticks_in (tick_act charge) = true
+ticks_in (touch_act m) = false
 ticks_in (flush_act by) = false
 ticks_in (kill_act m) = false
 ticks_in (untype_act m) = false
+ticks_in (comp_act m) = false
+ticks_in (invoke_act m) = false
+ticks_in (return_act m) = false
+ticks_in (share_act p) = false
+ticks_in (switch_act m) = false
 
 abbrev pub ticks_work : Work → Bool
 ticks_work (Lookup look) = false
@@ -121,12 +133,24 @@ module _ (setup : Setting) (t : Trace) (c table n : ℕ) where
   act_ticks plan ks upto (map_act fill) has is = false≢true has.maps
   act_ticks plan ks upto (Outside node entry word) has is = has.outside
   act_ticks plan ks upto (tick_act charge) has is = false≢true (sym is)
+  act_ticks plan ks upto (touch_act m) has is = no_touch m.page has.call_is
+    where
+      no_touch : (v : ℕ) → Tick n ≡ Touch v → ⊥
+      no_touch v h = cc
   act_ticks plan ks upto (flush_act by) has is = no_flush has.call_is
     where
       no_flush : Tick n ≡ Flush → ⊥
       no_flush h = cc
   act_ticks plan ks upto (kill_act m) has is = has.kills
-  act_ticks plan ks upto (untype_act m) has is = has
+  act_ticks plan ks upto (untype_act m) has is = has.untypes
+  act_ticks plan ks upto (comp_act m) has is = has.makes
+  act_ticks plan ks upto (invoke_act m) has is = has.invokes
+  act_ticks plan ks upto (return_act m) has is = no_return has.call_is
+    where
+      no_return : Tick n ≡ Ret → ⊥
+      no_return h = cc
+  act_ticks plan ks upto (share_act p) has is = has.shares
+  act_ticks plan ks upto (switch_act m) has is = has.switches
 
   look_ticks : (ks : List Capability) (look : LookOf) → NamesAre setup t c table (plan_for (Tick n)) ks
       → LooksFor setup t c table (next_of (plan_for (Tick n)) ks) look → ⊥
@@ -236,6 +260,13 @@ module _ (setup : Setting) (setting : IsSetting setup) (cores : ℕ → Core) (t
       (λ x. refl) (λ x. refl) refl (unspent, may) tt
       (first_of reply.FrameKind first)
 
+  pub refuses_fault : RuleMay (state_after setup t) c (rule_of (state_after setup t) c a.call) reply.Fault
+      → IsFirstCause reply.Fault → RefusedWith reply.Fault
+  refuses_fault may first lands =
+      decides_on setup setting cores t stands c here a active move reply.Fault a.found looks lands (still None refl) opens refl refl
+      (λ x. refl) (λ x. refl) refl (unspent, may) tt
+      (first_of reply.Fault first)
+
   -- and owes no ticks, where it charges none
   owes_none : ticks_at a.stage ≡ false → owed_by (state_after setup t) c a.call ≡ state_after setup t
   owes_none plain = built_owes (state_after setup t) c a.call (is_active setup setting cores t stands c here a active).built
@@ -248,6 +279,13 @@ module _ (setup : Setting) (setting : IsSetting setup) (cores : ℕ → Core) (t
       decides_on setup setting cores t stands c here a active move reply.Dead a.found looks lands (still None refl) opens refl refl
       (λ x. refl) (λ x. refl) refl (unspent, may) tt
       (first_of reply.Dead first)
+
+  pub refuses_running : (d : ℕ) → RuleMay (state_after setup t) c (rule_of (state_after setup t) c a.call) (reply.Running d)
+      → IsFirstCause (reply.Running d) → RefusedWith (reply.Running d)
+  refuses_running d may first lands =
+      decides_on setup setting cores t stands c here a active move (reply.Running d) a.found looks lands (still None refl) opens refl refl
+      (λ x. refl) (λ x. refl) refl (unspent, may) tt
+      (first_of (reply.Running d) first)
 
   -- a word that has changed since the call's last step on it
   pub refuses_raced : ticks_at a.stage ≡ false → IsRaceLost t (inner setup setting cores t stands c here a active move (Some reply.Raced) None) (state_after setup t)
@@ -280,12 +318,18 @@ module _ (setup : Setting) (setting : IsSetting setup) (cores : ℕ → Core) (t
         on_way = on_way;
       }
 
--- Refusals that leave something to be stored.
+-- A step that refuses: the core's own, which enters no call, and which counts the call and changes nothing else.
+pub record IsRefusing (setup : Setting) (t : Trace) (c : ℕ) (e : Step) : Type 0 where
+  pub own : c ≡ e.core
+  pub entry : e.enters ≡ None
+  pub state : state_after setup (e ∷ t) ≡ counted (state_after setup t) c
+
+-- Refusals that leave something to be stored, of which this is known at such a step.
 module _ (setup : Setting) (setting : IsSetting setup) (cores : ℕ → Core) (t : Trace) (stands : Stands setup cores t) (c : ℕ)
     (here : c < setup.cores)
     (a : ActiveCall) (active : (cores c).active ≡ Some a) (opens : phase_at a.call a.stage ≡ Open a.call) (tail : Tail)
     (same : holds_tail tail (holds_counts None a.counts) ≡ holds_in (Some a))
-    (left : (e : Step) → KnowsTail setup (e ∷ t) c a.call tail)
+    (left : (e : Step) → IsRefusing setup t c e → KnowsTail setup (e ∷ t) c a.call a.counts tail)
     (room : (cores c).own.made < (cores c).own.limit) (move : Move) (looks : OnlyLooks setup t c a.call move) where
   unspent_here : are_calls_spent (state_after setup t) c ≡ false
   unspent_here = not_spent setup (cores c) t c (core_is setup setting cores t stands c here a active) room
@@ -301,25 +345,36 @@ module _ (setup : Setting) (setting : IsSetting setup) (cores : ℕ → Core) (t
       (λ n of. stage_ticks setup t c (cores c).own.table n a a.stage of (is_active setup setting cores t stands c here a active).plan
       (call_is setup setting cores t stands c here a active).knows opens plain)
 
-  pub raced_leaving : ticks_at a.stage ≡ false → IsRaceLost t (inner setup setting cores t stands c here a active move (Some reply.Raced) None) (state_after setup t)
+  refusing : (r : Reply) → state_by (state_after setup t) c a.call r ≡ counted (state_after setup t) c
+      → IsRefusing setup t c (inner setup setting cores t stands c here a active move (Some r) None)
+  refusing r state = record {
+    own = refl;
+    entry = refl;
+    state = ap (λ p. state_decided_in p r (state_after setup t) c)
+        ((call_is setup setting cores t stands c here a active).phase ∙ opens) ∙ state;
+  }
+
+  pub raced_knowing : ticks_at a.stage ≡ false → IsRaceLost t (inner setup setting cores t stands c here a active move (Some reply.Raced) None) (state_after setup t)
       (rule_of (state_after setup t) c a.call) → RefusedLeaving reply.Raced
-  raced_leaving plain lost lands =
+  raced_knowing plain lost lands =
       decides_with setup setting cores t stands c here a active move reply.Raced tail a.found looks lands same opens
       (ap (λ s. counted s c) (owes_not plain))
       refl (λ x. refl) (λ x. refl) refl (unspent_here, tt) lost
       (λ is_alone. absurd (not_changed setup t (inner setup setting cores t stands c here a active move (Some reply.Raced) None) refl
       is_alone lost.own lost.has_read lost.changed))
-      (left (inner setup setting cores t stands c here a active move (Some reply.Raced) None))
+      (left (inner setup setting cores t stands c here a active move (Some reply.Raced) None)
+      (refusing reply.Raced (ap (λ s. counted s c) (owes_not plain))))
 
-  pub busy_leaving : ticks_at a.stage ≡ false → (d : ℕ) → (holds_in (Some a)).marks (word_of move) ≡ false → marked_by setup t (word_of move) ≡ Some d
+  pub busy_knowing : ticks_at a.stage ≡ false → (d : ℕ) → (holds_in (Some a)).marks (word_of move) ≡ false → marked_by setup t (word_of move) ≡ Some d
       → IsOnWay (state_after setup t) c (rule_of (state_after setup t) c a.call) (word_of move) → RefusedLeaving (reply.Busy d)
-  busy_leaving plain d bare mark on_way lands =
+  busy_knowing plain d bare mark on_way lands =
       decides_with setup setting cores t stands c here a active move (reply.Busy d) tail a.found looks lands same opens
       (ap (λ s. counted s c) (owes_not plain))
       refl (λ x. refl) (λ x. refl) refl (unspent_here, tt) blocked
       (λ is_alone. absurd (not_inside setup t (inner setup setting cores t stands c here a active move (Some (reply.Busy d)) None) refl
       is_alone d blocked.other blocked.is_inside))
-      (left (inner setup setting cores t stands c here a active move (Some (reply.Busy d)) None))
+      (left (inner setup setting cores t stands c here a active move (Some (reply.Busy d)) None)
+      (refusing (reply.Busy d) (ap (λ s. counted s c) (owes_not plain))))
     where
       blocked : IsHeldUp setup t (inner setup setting cores t stands c here a active move (Some (reply.Busy d)) None)
           (state_after setup t) (rule_of (state_after setup t) c a.call) d
@@ -331,3 +386,22 @@ module _ (setup : Setting) (setting : IsSetting setup) (cores : ℕ → Core) (t
         has_marked = stands.marked (word_of move) d mark;
         on_way = on_way;
       }
+
+-- The same, where this is known at each step.
+module _ (setup : Setting) (setting : IsSetting setup) (cores : ℕ → Core) (t : Trace) (stands : Stands setup cores t) (c : ℕ)
+    (here : c < setup.cores)
+    (a : ActiveCall) (active : (cores c).active ≡ Some a) (opens : phase_at a.call a.stage ≡ Open a.call) (tail : Tail)
+    (same : holds_tail tail (holds_counts None a.counts) ≡ holds_in (Some a))
+    (left : (e : Step) → KnowsTail setup (e ∷ t) c a.call a.counts tail)
+    (room : (cores c).own.made < (cores c).own.limit) (move : Move) (looks : OnlyLooks setup t c a.call move) where
+  pub raced_leaving : ticks_at a.stage ≡ false → IsRaceLost t (inner setup setting cores t stands c here a active move (Some reply.Raced) None) (state_after setup t)
+      (rule_of (state_after setup t) c a.call)
+      → RefusedLeaving setup setting cores t stands c here a active opens tail same (λ e is. left e) room move looks reply.Raced
+  raced_leaving plain lost lands =
+      raced_knowing setup setting cores t stands c here a active opens tail same (λ e is. left e) room move looks plain lost lands
+
+  pub busy_leaving : ticks_at a.stage ≡ false → (d : ℕ) → (holds_in (Some a)).marks (word_of move) ≡ false → marked_by setup t (word_of move) ≡ Some d
+      → IsOnWay (state_after setup t) c (rule_of (state_after setup t) c a.call) (word_of move)
+      → RefusedLeaving setup setting cores t stands c here a active opens tail same (λ e is. left e) room move looks (reply.Busy d)
+  busy_leaving plain d bare mark on_way lands =
+      busy_knowing setup setting cores t stands c here a active opens tail same (λ e is. left e) room move looks plain d bare mark on_way lands

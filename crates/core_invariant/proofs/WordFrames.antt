@@ -1,10 +1,10 @@
 -- What is said of a word stays where the step leaves the word, and what is said of it, as they were; of every kind of word at once.
-use Rattle.std.proofs.Common.{◌≡◌, ◌≢◌, ◌≤◌, inl, inr, ℕ, Bool, true, false, if◌then◌else◌, ◌∷◌, Option, Some, None, refl, sym, ◌∙◌, ap, subst}
+use Rattle.std.proofs.Common.{◌≡◌, ◌≢◌, ◌≤◌, inl, inr, ℕ, zero, suc, arith, Bool, true, false, if◌then◌else◌, ◌∷◌, Option, Some, None, refl, sym, ◌∙◌, ap, subst}
 use Rattle.std.proofs.lemmas.Bool.{cases_eq}
 use Rattle.spk_nums.specs.Setting.{Setting}
 use Rattle.word_map.specs.Word.{Word, EntryAt, FrameAt, CountAt, CoreAt, FlushAt, LiveAt, ClockAt}
 use Rattle.word_map.specs.Moves.{word_of, left_of}
-use Rattle.kernel_rules.specs.State.{Place, Frame, Liveness, PlaceOf, NumberOf, State, put}
+use Rattle.kernel_rules.specs.State.{Place, TcapFields, Object, Blank, Table, Leaf, Pages, Pleaf, Comp, Thread, Tcap, Frame, Untyped, User, Kernel, Liveness, PlaceOf, NumberOf, State, put}
 use Rattle.kernel_rules.proofs.Within.{put_same, put_other}
 use Rattle.frame_words.specs.Live.{live_of_word}
 use Rattle.kernel_history.specs.ObjectWords.{frame_value}
@@ -15,9 +15,10 @@ use Rattle.kernel_history.proofs.Names.{cases_word}
 use Rattle.call_steps.specs.View.{Core}
 use Rattle.kernel_history.specs.Marking.{marked_by}
 use Rattle.kernel_history.specs.Discipline.{MarksOwn}
-use Rattle.core_invariant.specs.Holding.{Holding, settled_by, settled, MarkIs}
-use Rattle.core_invariant.specs.Words.{Times, IsFrameWord, NumberIs, count_room, WordIs}
+use Rattle.core_invariant.specs.Holding.{Holding, bare_value, settled_by, settled, MarkIs}
+use Rattle.core_invariant.specs.Words.{Times, IsTcapWord, IsObjectWord, IsFrameWord, NumberIs, count_room, WordIs}
 use Rattle.core_invariant.proofs.Ranges.{within_more}
+use Rattle.core_invariant.proofs.Bare.{same_value, core_bare, AsBefore}
 use Rattle.core_invariant.specs.Stands.{holds, held_by, times_of}
 
 -- What is said of a word is as before, kind by kind.
@@ -26,6 +27,7 @@ pub record SameEntry (s s' : State) (m m' : Times) (f i : ℕ) : Type 0 where
   pub frame : s'.frame f ≡ s.frame f
   pub place : s'.place f i ≡ s.place f i
   pub stamp : m'.stamp (PlaceOf f i) ≡ m.stamp (PlaceOf f i)
+  pub room : count_room s ≤ count_room s'
 
 pub record SameCore (s s' : State) (m m' : Times) (c : ℕ) : Type 0 where
   pub inside : (s'.core c).inside ≡ (s.core c).inside
@@ -44,20 +46,41 @@ SameFor s s' m m' (FlushAt c) = m'.flush c ≡ m.flush c
 SameFor s s' m m' (LiveAt l) = SameNumber s s' m m' l
 SameFor s s' m m' ClockAt = Unit {0}
 
-entry_same : {n n' : ℕ} {a a' : Frame} {p p' : Place} {r r' : ℕ} (i x : ℕ) → n' ≡ n → a' ≡ a → p' ≡ p → r' ≡ r → IsFrameWord n a p r i x
-    → IsFrameWord n' a' p' r' i x
-entry_same {n} {n'} {a} {a'} {p} {p'} {r} {r'} i x ns fs ps rs h =
-    subst (λ y. IsFrameWord n' a' p' y i x) (sym rs)
-    (subst (λ y. IsFrameWord n' a' y r i x) (sym ps)
-    (subst (λ y. IsFrameWord n' y p r i x) (sym fs)
-    (subst (λ y. IsFrameWord y a p r i x) (sym ns) h)))
+-- where there is more room, what was said is said still
+tcap_more : (q : TcapFields) (m m' i x : ℕ) → m ≤ m' → IsTcapWord q m i x → IsTcapWord q m' i x
+tcap_more q m m' zero x more h = record { version = h.version; says = h.says; within = (let a = h.within in omega arith); most = h.most }
+tcap_more q m m' (suc j) x more h = h
+
+object_more : (n m m' : ℕ) (a : Object) (p : Place) (r i x : ℕ) → m ≤ m' → IsObjectWord n m a p r i x → IsObjectWord n m' a p r i x
+object_more n m m' Blank p r i x more h = h
+object_more n m m' Table p r i x more h = h
+object_more n m m' Leaf p r i x more h = h
+object_more n m m' Pages p r i x more h = h
+object_more n m m' Pleaf p r i x more h = h
+object_more n m m' (Comp k) p r i x more h = h
+object_more n m m' (Thread u) p r i x more h = h
+object_more n m m' (Tcap q) p r i x more h = tcap_more q m m' i x more h
+
+pub entry_more : (n m m' : ℕ) (a : Frame) (p : Place) (r i x : ℕ) → m ≤ m' → IsFrameWord n m a p r i x → IsFrameWord n m' a p r i x
+entry_more n m m' Untyped p r i x more h = h
+entry_more n m m' User p r i x more h = h
+entry_more n m m' (Kernel object) p r i x more h = object_more n m m' object p r i x more h
+
+entry_same : {n n' m m' : ℕ} {a a' : Frame} {p p' : Place} {r r' : ℕ} (i x : ℕ) → n' ≡ n → m ≤ m' → a' ≡ a → p' ≡ p → r' ≡ r
+    → IsFrameWord n m a p r i x
+    → IsFrameWord n' m' a' p' r' i x
+entry_same {n} {n'} {m} {m'} {a} {a'} {p} {p'} {r} {r'} i x ns more fs ps rs h =
+    subst (λ y. IsFrameWord n' m' a' p' y i x) (sym rs)
+    (subst (λ y. IsFrameWord n' m' a' y r i x) (sym ps)
+    (subst (λ y. IsFrameWord n' m' y p r i x) (sym fs)
+    (subst (λ y. IsFrameWord y m' a p r i x) (sym ns) (entry_more n m m' a p r i x more h))))
 
 number_same : {a a' : Liveness} {r r' : ℕ} (x : ℕ) → a' ≡ a → r' ≡ r → NumberIs a r (live_of_word x) → NumberIs a' r' (live_of_word x)
 number_same {a} {a'} {r} {r'} x ns rs h =
     subst (λ y. NumberIs a' y (live_of_word x)) (sym rs) (subst (λ y. NumberIs y r (live_of_word x)) (sym ns) h)
 
 pub word_stays : (s s' : State) (m m' : Times) (w : Word) (x : ℕ) → SameFor s s' m m' w → WordIs s m w x → WordIs s' m' w x
-word_stays s s' m m' (EntryAt f i) x same h = entry_same i x same.frames same.frame same.place same.stamp h
+word_stays s s' m m' (EntryAt f i) x same h = entry_same i x same.frames same.room same.frame same.place same.stamp h
 word_stays s s' m m' (FrameAt f) x same h = h ∙ ap (λ y. Some (frame_value y)) (sym same)
 word_stays s s' m m' (CountAt f c) x same h =
     record { count = h.count; stamp = h.stamp; says = h.says; within = within_more h.count (count_room s) (count_room s') same h.within }
@@ -128,7 +151,7 @@ module _ (setup : Setting) (cores : ℕ → Core) (t : Trace) (e : Step) (after 
       (mark_of (state_after setup t) w) same
 
   settled_held : (o : Option ℕ) (w : Word) (x : ℕ) → settled_by o held w x ≡ settled_by o (held_by cores) w x
-  settled_held None w x = refl
+  settled_held None w x = same_value (held_by cores) held w x (λ f i at d. ap (λ h. h.bare f i) (held_on d))
   settled_held (Some d) w x = ap (λ h. h.stands w) (held_on d)
 
   pub settled_on : (w : Word) → last_left setup (e ∷ t) w ≡ last_left setup t w
@@ -180,14 +203,18 @@ module _ (setup : Setting) (cores : ℕ → Core) (t : Trace) (e : Step) (after 
       | inr there ↦ mark_by w d (marked_on w (last_left-there setup w e t there)) (marks w d)
     ]
 
-    pub write_words : ((w : Word) → w ≢ word_of e.move
+    pub write_words : ((x : ℕ) → bare_value (held_by cores) (word_of e.move) x ≡ x)
+        → ((w : Word) → w ≢ word_of e.move
         → SameFor (state_after setup t) (state_after setup (e ∷ t)) (times_of setup t) (times_of setup (e ∷ t)) w)
         → WordIs (state_after setup (e ∷ t)) (times_of setup (e ∷ t)) (word_of e.move) (left_of e.move e.found)
         → ((w : Word) → WordIs (state_after setup t) (times_of setup t) w (settled setup (held_by cores) t w))
         → (w : Word) → WordIs (state_after setup (e ∷ t)) (times_of setup (e ∷ t)) w (settled setup held (e ∷ t) w)
-    write_words same new words w = elim (cases_word w (word_of e.move)) [
+    write_words free same new words w = elim (cases_word w (word_of e.move)) [
       | inl here ↦ subst (WordIs (state_after setup (e ∷ t)) (times_of setup (e ∷ t)) w)
-          (sym (ap (λ o. settled_by o held w (last_left setup (e ∷ t) w)) (here_mark w here) ∙ last_left-here setup w e t here))
+          (sym (ap (λ o. settled_by o held w (last_left setup (e ∷ t) w)) (here_mark w here)
+          ∙ settled_held None w (last_left setup (e ∷ t) w)
+          ∙ ap (λ v. bare_value (held_by cores) v (last_left setup (e ∷ t) w)) here ∙ free (last_left setup (e ∷ t) w)
+          ∙ last_left-here setup w e t here))
           (subst (λ v. WordIs (state_after setup (e ∷ t)) (times_of setup (e ∷ t)) v (left_of e.move e.found)) (sym here) new)
       | inr there ↦ subst (WordIs (state_after setup (e ∷ t)) (times_of setup (e ∷ t)) w)
           (sym (settled_on w (last_left-there setup w e t there)))
@@ -200,6 +227,7 @@ module _ (setup : Setting) (cores : ℕ → Core) (t : Trace) (e : Step) (after 
     (frames : (f : ℕ) → (state_after setup (e ∷ t)).frame f ≡ (state_after setup t).frame f)
     (elsewhere : (w : Word) → w ≢ word_of e.move → ((holds after).marks w ≡ (holds (cores e.core)).marks w) ×
     ((holds after).stands w ≡ (holds (cores e.core)).stands w))
+    (bares : AsBefore (holds (cores e.core)) (holds after) (word_of e.move))
     (now : mark_of (state_after setup t) (word_of e.move) (left_of e.move e.found) ≡
     (if (holds after).marks (word_of e.move) then Some e.core else None))
     (unowned : (d : ℕ) → d ≢ e.core → marked_by setup t (word_of e.move) ≡ Some d → ⊥)
@@ -234,7 +262,8 @@ module _ (setup : Setting) (cores : ℕ → Core) (t : Trace) (e : Step) (after 
   ]
 
   there_stands : (o : Option ℕ) (w : Word) (x : ℕ) → w ≢ word_of e.move → settled_by o holding w x ≡ settled_by o (held_by cores) w x
-  there_stands None w x there = refl
+  there_stands None w x there =
+      same_value (held_by cores) holding w x (λ f i at d. core_bare cores e.core after f i (bares.there f i (λ h. there (at ∙ h))) d)
   there_stands (Some d) w x there = elim (cases_eq d e.core) [
     | inl own ↦ ap (λ h. h.stands w) (holding_own d own) ∙ (elsewhere w there).1 ∙ ap (λ (c : ℕ). (held_by cores c).stands w) (sym own)
     | inr other ↦ ap (λ h. h.stands w) (holding_other d other)
@@ -331,14 +360,15 @@ module _ (setup : Setting) (cores : ℕ → Core) (t : Trace) (e : Step) (after 
 
   -- a word that the core does not hold stands for what it did, and one that it holds for what the core will store
   pub others_settled : (w : Word) → w ≢ word_of e.move → marked_by setup t w ≢ Some e.core
+      → bare_value carried w (last_left setup t w) ≡ bare_value (held_by cores) w (last_left setup t w)
       → settled setup carried (e ∷ t) w ≡ settled setup (held_by cores) t w
-  others_settled w there free =
+  others_settled w there free bares =
       ap (λ o. settled_by o carried w (last_left setup (e ∷ t) w)) (away_mark w there)
       ∙ ap (settled_by (marked_by setup t w) carried w) (last_left-there setup w e t there) ∙ by (marked_by setup t w) refl
     where
       by : (o : Option ℕ) → marked_by setup t w ≡ o
           → settled_by o carried w (last_left setup t w) ≡ settled_by o (held_by cores) w (last_left setup t w)
-      by None is = refl
+      by None is = bares
       by (Some d) is = elim (cases_eq d e.core) [
         | inl own ↦ absurd (free (is ∙ ap (λ (c : ℕ). Some c) own))
         | inr other ↦ ap (λ k. (holds k).stands w) (put_other cores e.core after d other)
@@ -350,22 +380,30 @@ module _ (setup : Setting) (cores : ℕ → Core) (t : Trace) (e : Step) (after 
       ap (λ o. settled_by o carried w (last_left setup (e ∷ t) w)) (away_mark w there ∙ own) ∙ ap (λ k. (holds k).stands w)
       (put_same cores e.core after e.core refl)
 
-  pub carry_words : ((w : Word) → w ≢ word_of e.move → marked_by setup t w ≢ Some e.core → StaysSaid setup cores t e w)
+  pub carry_words : ((f i : ℕ) → (holds after).bare f i ≡ (holds (cores e.core)).bare f i)
+      → ((x : ℕ) → bare_value (held_by cores) (word_of e.move) x ≡ x)
+      → ((w : Word) → w ≢ word_of e.move → marked_by setup t w ≢ Some e.core → StaysSaid setup cores t e w)
       → WordIs (state_after setup (e ∷ t)) (times_of setup (e ∷ t)) (word_of e.move) (left_of e.move e.found)
       → ((w : Word) → marked_by setup t w ≡ Some e.core
       → WordIs (state_after setup (e ∷ t)) (times_of setup (e ∷ t)) w ((holds after).stands w))
       → ((w : Word) → WordIs (state_after setup t) (times_of setup t) w (settled setup (held_by cores) t w))
       → (w : Word) → WordIs (state_after setup (e ∷ t)) (times_of setup (e ∷ t)) w (settled setup carried (e ∷ t) w)
-  carry_words same new own words w = elim (cases_word w (word_of e.move)) [
+  carry_words bares unlent same new own words w = elim (cases_word w (word_of e.move)) [
     | inl here ↦ subst (WordIs (state_after setup (e ∷ t)) (times_of setup (e ∷ t)) w)
-        (sym (ap (λ o. settled_by o carried w (last_left setup (e ∷ t) w)) (bare_here w here) ∙ last_left-here setup w e t here))
+        (sym (ap (λ o. settled_by o carried w (last_left setup (e ∷ t) w)) (bare_here w here) ∙ kept_value w (last_left setup (e ∷ t) w)
+        ∙ ap (λ v. bare_value (held_by cores) v (last_left setup (e ∷ t) w)) here ∙ unlent (last_left setup (e ∷ t) w)
+        ∙ last_left-here setup w e t here))
         (subst (λ v. WordIs (state_after setup (e ∷ t)) (times_of setup (e ∷ t)) v (left_of e.move e.found)) (sym here) new)
     | inr there ↦ by there (marked_by setup t w) refl
   ]
     where
+      kept_value : (v : Word) (x : ℕ) → bare_value carried v x ≡ bare_value (held_by cores) v x
+      kept_value v x = same_value (held_by cores) carried v x (λ f i at d. core_bare cores e.core after f i (bares f i) d)
+
       stays : w ≢ word_of e.move → marked_by setup t w ≢ Some e.core
           → WordIs (state_after setup (e ∷ t)) (times_of setup (e ∷ t)) w (settled setup carried (e ∷ t) w)
-      stays there free = subst (WordIs (state_after setup (e ∷ t)) (times_of setup (e ∷ t)) w) (sym (others_settled w there free))
+      stays there free = subst (WordIs (state_after setup (e ∷ t)) (times_of setup (e ∷ t)) w) (sym (others_settled w there free
+          (kept_value w (last_left setup t w))))
           (same w there free (words w))
 
       by : w ≢ word_of e.move → (o : Option ℕ) → marked_by setup t w ≡ o

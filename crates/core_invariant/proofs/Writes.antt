@@ -13,7 +13,7 @@ use Rattle.frame_words.specs.Core.{core_of_word}
 use Rattle.frame_words.proofs.CoreLemmas.{spelling}
 use Rattle.word_map.specs.Word.{Word, EntryAt, CountAt, CoreAt, same_word, FlushAt, ClockAt}
 use Rattle.word_map.specs.Moves.{Move, StoreOf, word_of, left_of}
-use Rattle.kernel_rules.specs.State.{put}
+use Rattle.kernel_rules.specs.State.{FrameOf, put}
 use Rattle.kernel_rules.specs.References.{sum_below}
 use Rattle.kernel_rules.specs.GracePeriods.{returned}
 use Rattle.kernel_rules.specs.Alone.{alone}
@@ -39,12 +39,15 @@ use Rattle.core_invariant.specs.Knows.{phase_at, KnowsAt, Knows, IsCount, CallIs
 use Rattle.core_invariant.specs.Stands.{is_done, holds_at, holds_in, holds, held_by, times_of, counted_in, SumIs, Stands}
 use Rattle.core_invariant.proofs.WordFrames.{marks_own, settled_on, write_marks, write_words, ReadsAlike, reads_alike, StaysSaid, word_stays, carry_marks, carry_words}
 use Rattle.core_invariant.proofs.Sums.{sums_stay}
+use Rattle.core_invariant.proofs.Bare.{IsNotKept, free_value, counts_bare}
+use Rattle.core_invariant.proofs.Lent.{keeps_there, lent_on, lent_calm, lent_free, lent_elsewhere}
 use Rattle.core_invariant.specs.Holding.{nothing, count_of, holds_counts, settled}
 use Rattle.stage_pins.specs.declared.held.Acquired.{Acquired}
 use Rattle.call_steps.specs.Fits.{CountsAt}
 use Rattle.std.proofs.lemmas.List.Elements.{All-nil}
 use Rattle.core_invariant.proofs.Flushing.{still_flushed, open_flushed}
 use Rattle.core_invariant.proofs.Good.{IsGood, SparesBlanks, spares_other}
+use Rattle.core_invariant.proofs.Users.{SparesBy, spared, spares_none}
 use Rattle.core_invariant.proofs.Calm.{IsCalm, calm_returned, calm_own, calm_words, counted_rises, none_stored, IsPlain, plain_time, plain_exit, plain_flushed, BeginsNone, plain_begins, none_time, calm_same}
 use Rattle.core_invariant.proofs.Loads.{Lands, IsOfCall, step_to, next_at, core_at, some_left, core_is, call_is, in_call, inner, inner_within, inner_disciplined, inner_near, inner_works, inner_own, is_active}
 
@@ -71,15 +74,19 @@ clock_small setup setting cores t stands =
     let few = setting.most_cores in
     omega arith
 
--- So few calls leave room in each count's field.
-pub room_small : (setup : Setting) → IsSetting setup → (cores : ℕ → Core) (t : Trace) → Stands setup cores t
-    → count_room (state_after setup t) < 2 ^ 28
-room_small setup setting cores t stands =
-    subst (λ (n : ℕ). 16 + 4 * sum_below (λ c. ((state_after setup t).core c).counted) n < 2 ^ 28)
+-- So few calls leave room in each count's field, and in that of each version.
+pub room_left : (setup : Setting) → IsSetting setup → (cores : ℕ → Core) (t : Trace) → Stands setup cores t
+    → count_room (state_after setup t) + 1 < 2 ^ 28
+room_left setup setting cores t stands =
+    subst (λ (n : ℕ). 16 + 4 * sum_below (λ c. ((state_after setup t).core c).counted) n + 1 < 2 ^ 28)
     (sym (ap (λ l. l.cores) (limits_of setup t)))
     (let most = sum_most (λ c. ((state_after setup t).core c).counted) setup.cores (made_most setup cores t stands) in
     let few = setting.most_cores in
     omega arith)
+
+pub room_small : (setup : Setting) → IsSetting setup → (cores : ℕ → Core) (t : Trace) → Stands setup cores t
+    → count_room (state_after setup t) < 2 ^ 28
+room_small setup setting cores t stands = let more = room_left setup setting cores t stands in omega arith
 
 -- The word of a core reads as what was stored.
 pub core_reads : (inside : Bool) (stamp : ℕ) → stamp < 2 ^ 28
@@ -92,7 +99,10 @@ core_small inside stamp small = spelling.small (record { inside = inside; stamp 
 none_some : (d : ℕ) → None ≡ Some d → ⊥
 none_some d h = cc
 
--- A count is no core's word.
+-- An entry is no core's word, and nor is a count.
+no_entry_word : (f i c : ℕ) → CoreAt c ≡ EntryAt f i → ⊥
+no_entry_word f i c h = cc
+
 count_apart : (f d c : ℕ) → CountAt f d ≢ CoreAt c
 count_apart f d c h = cc
 
@@ -114,8 +124,10 @@ module _ (setup : Setting) (setting : IsSetting setup) (cores : ℕ → Core) (t
         → Lands setup (core_at (cores c) made (next_at a found stage)) (word_of move)
         → phase_at a.call a.stage ≡ Open a.call → phase_at a.call stage ≡ Decided a.call r
         → ((w : Word) → (holds_at stage a.counts).marks w ≡ (holds_in (Some a)).marks w)
+        → ((f i : ℕ) → (holds_at stage a.counts).bare f i ≡ (holds_in (Some a)).bare f i)
+        → IsNotKept (held_by cores) (word_of move)
         → (let e : Step = inner setup setting cores t stands c here a active move (Some r) None in
-        ReadsAlike setup t e → BeginsNone setup t e → SparesBlanks setup t e
+        ReadsAlike setup t e → BeginsNone setup t e → SparesBlanks setup t e → SparesBy setup t e a.call
         → counted_in setup (state_after setup t) ≤ counted_in setup (state_after setup (e ∷ t))
         → WorksIn (record (cores c).own { made = made }) (state_after setup (e ∷ t)) c
         → ((w : Word) → w ≢ word_of move → marked_by setup t w ≢ Some c → StaysSaid setup cores t e w)
@@ -127,12 +139,15 @@ module _ (setup : Setting) (setting : IsSetting setup) (cores : ℕ → Core) (t
         → (IsAlone t e → r ≡ alone (state_after setup t) c a.call)
         → Knows setup (e ∷ t) c (cores c).own.table (next_at a found stage)
         → IsGood setup cores t e (core_at (cores c) made (next_at a found stage)))
-    decides_writing move made r found stage was now small of_call lands opens closes same_held alike plain blanks rises works same new
-        commits sums may first knows =
+    decides_writing move made r found stage was now small of_call lands opens closes same_held same_bare unlent alike plain blanks counted rises
+        works same
+        new commits sums may first knows =
         let e : Step = inner setup setting cores t stands c here a active move (Some r) None in
         let after : Core = core_at (cores c) made (next_at a found stage) in
         let still : (w : Word) → (holds after).marks w ≡ (holds (cores c)).marks w =
         λ w. same_held w ∙ ap (λ o. (holds_in o).marks w) (sym active) in
+        let bares : (f i : ℕ) → (holds after).bare f i ≡ (holds (cores c)).bare f i =
+        λ f i. same_bare f i ∙ ap (λ o. (holds_in o).bare f i) (sym active) in
         let marks = carry_marks setup cores t e after still alike was now stands.marks in
         record {
           follows = record {
@@ -154,8 +169,13 @@ module _ (setup : Setting) (setting : IsSetting setup) (cores : ℕ → Core) (t
               (λ d m other. absurd (none_some d (sym was ∙ m)));
           near = inner_near setup setting cores t stands c here a active move (Some r) None of_call;
           blanks = blanks;
+          counted = spared setup t e a.call ((call_is setup setting cores t stands c here a active).phase ∙ opens) counted;
           marks = marks;
-          words = carry_words setup cores t e after still alike was now same new commits stands.words;
+          words = carry_words setup cores t e after still alike was now bares
+              (λ x. free_value (held_by cores) (word_of move) x unlent) same new commits stands.words;
+          lent = lent_on setup cores t stands e after (keeps_there setup cores t e after bares unlent) alike (cores c).own made
+              (core_is setup setting cores t stands c here a active).works works;
+          spares = lent_free cores e unlent;
           sums = sums;
           draws = (let d = stands.draws in let b = plain.same in let g = rises in omega arith);
           time = none_time setup t e plain;
@@ -173,8 +193,9 @@ module _ (setup : Setting) (setting : IsSetting setup) (cores : ℕ → Core) (t
         → Lands setup (core_at (cores c) made (next_at a found stage)) (word_of move)
         → phase_at a.call a.stage ≡ Open a.call → phase_at a.call stage ≡ Decided a.call r
         → holds_at stage a.counts ≡ holds_counts (is_done stage) a.counts
+        → IsNotKept (held_by cores) (word_of move)
         → (let e : Step = inner setup setting cores t stands c here a active move (Some r) None in
-        ReadsAlike setup t e → BeginsNone setup t e → SparesBlanks setup t e
+        ReadsAlike setup t e → BeginsNone setup t e → SparesBlanks setup t e → SparesBy setup t e a.call
         → counted_in setup (state_after setup t) ≤ counted_in setup (state_after setup (e ∷ t))
         → WorksIn (record (cores c).own { made = made }) (state_after setup (e ∷ t)) c
         → ((w : Word) → w ≢ word_of move → marked_by setup t w ≢ Some c → StaysSaid setup cores t e w)
@@ -187,12 +208,15 @@ module _ (setup : Setting) (setting : IsSetting setup) (cores : ℕ → Core) (t
         → (IsAlone t e → r ≡ alone (state_after setup t) c a.call)
         → Knows setup (e ∷ t) c (cores c).own.table (next_at a found stage)
         → IsGood setup cores t e (core_at (cores c) made (next_at a found stage)))
-    writes_on move made r found stage was now small of_call lands opens closes bare_stage alike plain blanks rises works same new held
+    writes_on move made r found stage was now small of_call lands opens closes bare_stage unlent alike plain blanks counted rises works same new
+        held
         commits sums may first knows =
         let e : Step = inner setup setting cores t stands c here a active move (Some r) None in
         decides_writing move made r found stage was now small of_call lands opens closes
         (λ w. ap (λ h. h.marks w) bare_stage ∙ same_marks (is_done stage) None a.counts w ∙ sym (ap (λ h. h.marks w) held))
-        alike plain blanks rises works same new
+        (λ f i. ap (λ h. h.bare f i) bare_stage ∙ counts_bare (is_done stage) a.counts f i
+        ∙ sym (ap (λ h. h.bare f i) held ∙ counts_bare None a.counts f i)) unlent
+        alike plain blanks counted rises works same new
         (λ w own. subst (λ h. WordIs (state_after setup (e ∷ t)) (times_of setup (e ∷ t)) w (h.stands w)) (sym bare_stage) (commits w own))
         sums may first knows
 
@@ -205,6 +229,7 @@ module _ (setup : Setting) (setting : IsSetting setup) (cores : ℕ → Core) (t
         → Lands setup (core_at (cores c) made (next_at a found stage)) (word_of move)
         → phase_at a.call a.stage ≡ Open a.call → phase_at a.call stage ≡ Decided a.call r
         → holds_at stage a.counts ≡ holds_counts (is_done stage) a.counts
+        → IsNotKept (held_by cores) (EntryAt node index)
         → (let e : Step = inner setup setting cores t stands c here a active move (Some r) None in
         IsCalm (state_after setup t) (state_after setup (e ∷ t)) c → IsPlain setup t e → SparesBlanks setup t e
         → made ≡ ((state_after setup (e ∷ t)).core c).counted
@@ -219,14 +244,16 @@ module _ (setup : Setting) (setting : IsSetting setup) (cores : ℕ → Core) (t
         → (IsAlone t e → r ≡ alone (state_after setup t) c a.call)
         → Knows setup (e ∷ t) c (cores c).own.table (next_at a found stage)
         → IsGood setup cores t e (core_at (cores c) made (next_at a found stage)))
-    writes_entry move node index made r found stage at was now small of_call lands opens closes bare_stage calm plain blanks counts places
+    writes_entry move node index made r found stage at was now small of_call lands opens closes bare_stage unlent calm plain blanks
+        counts places
         new
         held commits sums may first knows =
         let e : Step = inner setup setting cores t stands c here a active move (Some r) None in
         writes_on move made r found stage (ap (marked_by setup t) at ∙ was)
         (ap (λ w. mark_of (state_after setup t) w (left_of move (last_left setup t w))) at ∙ now)
         (subst (λ w. left_of move (last_left setup t w) < 2 ^ 64) (sym at) small) of_call lands opens closes bare_stage
-        (reads_alike setup t e calm.frame) (plain_begins setup t e plain) blanks (counted_rises setup (state_after setup t)
+        (subst (IsNotKept (held_by cores)) (sym at) unlent)
+        (reads_alike setup t e calm.frame) (plain_begins setup t e plain) blanks (inr (spares_none setup t e (λ f. plain.ends (FrameOf f)))) (counted_rises setup (state_after setup t)
         (state_after setup (e ∷ t)) c calm)
         (inner_works setup setting cores t stands c here a active move (Some r) None made calm counts)
         (λ v there free. word_stays (state_after setup t) (state_after setup (e ∷ t)) (times_of setup t) (times_of setup (e ∷ t)) v
@@ -244,13 +271,14 @@ module _ (setup : Setting) (setting : IsSetting setup) (cores : ℕ → Core) (t
         → ((f b : ℕ) → CountAt f b ≢ word_of move)
         → Lands setup (core_at (cores c) (cores c).own.made (next_at a found stage)) (word_of move)
         → holds_at stage a.counts ≡ holds_in (Some a)
+        → IsNotKept (held_by cores) (word_of move)
         → phase_at a.call a.stage ≡ phase_at a.call stage
         → (let e : Step = inner setup setting cores t stands c here a active move None None in
         WordIs (state_after setup t) (times_of setup t) (word_of move) (left_of move (last_left setup t (word_of move)))
         → SparesBlanks setup t e
         → (Carries setup t e c → Knows setup (e ∷ t) c (cores c).own.table (next_at a found stage))
         → IsGood setup cores t e (core_at (cores c) (cores c).own.made (next_at a found stage)))
-    stores_on move found stage was now small of_call flushes not_clock no_count lands same at new blanks knows =
+    stores_on move found stage was now small of_call flushes not_clock no_count lands same unlent at new blanks knows =
         let e : Step = inner setup setting cores t stands c here a active move None None in
         let after : Core = core_at (cores c) (cores c).own.made (next_at a found stage) in
         let still : holds after ≡ holds (cores c) = same ∙ ap holds_in (sym active) in
@@ -282,14 +310,19 @@ module _ (setup : Setting) (setting : IsSetting setup) (cores : ℕ → Core) (t
               (λ d m other. absurd (none_some d (sym was ∙ m)));
           near = inner_near setup setting cores t stands c here a active move None None of_call;
           blanks = blanks;
+          counted = spares_none setup t e (λ f. plain.ends (FrameOf f));
           marks = marks;
           words = write_words setup cores t e after still (λ g. refl) was now
+              (λ x. free_value (held_by cores) (word_of move) x unlent)
               (λ v there. calm_words setup t e (calm_same (state_after setup t) c) plain v (λ g i h. refl)
               (λ d h. (refl, plain_exit t e refl d)))
               (word_stays (state_after setup t) (state_after setup (e ∷ t)) (times_of setup t) (times_of setup (e ∷ t)) (word_of move)
               (left_of move (last_left setup t (word_of move)))
               (calm_words setup t e (calm_same (state_after setup t) c) plain (word_of move) (λ g i h. refl)
               (λ d h. (refl, plain_exit t e refl d))) new) stands.words;
+          lent = lent_calm setup cores t stands e after (keeps_there setup cores t e after (λ f i. ap (λ h. h.bare f i) still) unlent)
+              (calm_same (state_after setup t) c);
+          spares = lent_free cores e unlent;
           sums = sums_stay setup t e (held_by cores) (held_by (put cores c after))
               (λ f d. settled_on setup cores t e after still (λ g. refl) (CountAt f d)
               (last_left-there setup (CountAt f d) e t (no_count f d)))
@@ -346,8 +379,9 @@ module _ (setup : Setting) (setting : IsSetting setup) (cores : ℕ → Core) (t
               (λ d m other. absurd (none_some d m));
           near = inner_near setup setting cores t stands c here a active (StoreOf (CoreAt c) (core_word false x)) None (Some r) own_word;
           blanks = spares_other setup t e (λ f i h. cc);
+          counted = spares_none setup t e (λ f. plain.ends (FrameOf f));
           marks = marks;
-          words = write_words setup cores t e after still calm.frame refl refl
+          words = write_words setup cores t e after still calm.frame refl refl (λ y. refl)
               (λ v there. calm_words setup t e calm plain v (λ g i h. refl)
               (λ d h. elim (cases_eq d c) [
                 | inl own ↦ absurd (there (h ∙ ap CoreAt own))
@@ -356,6 +390,9 @@ module _ (setup : Setting) (setting : IsSetting setup) (cores : ℕ → Core) (t
               (core_reads false x (omega arith) ∙ ap (λ b. Some (record { inside = b; stamp = x })) (sym inside)
               ∙ ap (λ (y : ℕ). Some (record { inside = ((state_after setup (e ∷ t)).core c).inside; stamp = y })) (sym out))
               stands.words;
+          lent = lent_calm setup cores t stands e after
+              (keeps_there setup cores t e after (λ f i. ap (λ h. h.bare f i) still) (λ f i h. absurd (no_entry_word f i c h))) calm;
+          spares = lent_elsewhere cores e (λ f i h. cc);
           sums = sums_stay setup t e (held_by cores) (held_by (put cores c after))
               (λ f d. settled_on setup cores t e after still calm.frame (CountAt f d)
               (last_left-there setup (CountAt f d) e t (count_apart f d c)))
@@ -375,6 +412,7 @@ module _ (setup : Setting) (setting : IsSetting setup) (cores : ℕ → Core) (t
             number = now.number;
             shape = now.shape;
             limit = now.limit;
+            epochs = now.epochs;
             works = calm_own (state_after setup t) (state_after setup (e ∷ t)) c (cores c).own after.own calm
                 (ap (λ (m : ℕ). record after.own { made = m }) (counts now)) now.works;
             exit = sym out;
@@ -446,8 +484,9 @@ module _ (setup : Setting) (setting : IsSetting setup) (cores : ℕ → Core) (t
         };
         near = record { call = call; is_of = refl; near = inl tt };
         blanks = spares_other setup t e (λ f i h. cc);
+        counted = spares_none setup t e (λ f. plain.ends (FrameOf f));
         marks = marks;
-        words = write_words setup cores t e after still calm.frame refl refl
+        words = write_words setup cores t e after still calm.frame refl refl (λ y. refl)
             (λ v there. calm_words setup t e calm plain v (λ g i h. places g i)
             (λ b h. elim (cases_eq b c) [
               | inl own ↦ absurd (there (h ∙ ap CoreAt own))
@@ -457,6 +496,9 @@ module _ (setup : Setting) (setting : IsSetting setup) (cores : ℕ → Core) (t
             (sym inside)
             ∙ ap (λ (y : ℕ). Some (record { inside = ((state_after setup (e ∷ t)).core c).inside; stamp = y })) (sym last))
             stands.words;
+        lent = lent_calm setup cores t stands e after
+            (keeps_there setup cores t e after (λ f i. ap (λ h. h.bare f i) still) (λ f i h. absurd (no_entry_word f i c h))) calm;
+        spares = lent_elsewhere cores e (λ f i h. cc);
         sums = sums_stay setup t e (held_by cores) (held_by (put cores c after))
             (λ f d. settled_on setup cores t e after still calm.frame (CountAt f d)
             (last_left-there setup (CountAt f d) e t (count_apart f d c)))
@@ -470,6 +512,7 @@ module _ (setup : Setting) (setting : IsSetting setup) (cores : ℕ → Core) (t
           number = now.number;
           shape = now.shape;
           limit = now.limit;
+          epochs = now.epochs;
           works = calm_own (state_after setup t) (state_after setup (e ∷ t)) c (cores c).own after.own calm
               (ap (λ (m : ℕ). record (cores c).own { made = m }) counts) now.works;
           exit = sym last;

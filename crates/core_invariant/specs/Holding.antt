@@ -1,10 +1,11 @@
 -- What cores hold of the words. A core's mark keeps a word for it until it gives the word back; what the word will then be is
 -- its settled value, and all that is said of words is said of settled ones. So a step that only marks a word, or gives it
--- back, changes nothing that is said.
-use Rattle.std.specs.Prelude.{◌≡◌, ℕ, Bool, true, false, List, [], ◌∷◌, Option, Some, None, if◌then◌else◌}
+-- back, changes nothing that is said. A core may also keep a word that carries no mark, where it alone may store it: this settles to what
+-- the core has still to store there.
+use Rattle.std.specs.Prelude.{◌≡◌, ℕ, zero, suc, Bool, true, false, List, [], ◌∷◌, Option, Some, None, if◌then◌else◌, ◌==◌, ◌&&◌}
 use Rattle.spk_nums.specs.Setting.{Setting}
 use Rattle.frame_words.specs.Count.{word_of_count}
-use Rattle.word_map.specs.Word.{Word, EntryAt, CountAt, same_word}
+use Rattle.word_map.specs.Word.{Word, EntryAt, FrameAt, CountAt, CoreAt, FlushAt, LiveAt, ClockAt, same_word}
 use Rattle.word_map.specs.Places.{counter_of}
 use Rattle.spk_nums.specs.Capability.{Capability}
 use Rattle.entry_words.specs.EntryWord.{word_of_entry}
@@ -17,23 +18,37 @@ use Rattle.stage_pins.specs.Held.{commit_of}
 use Rattle.kernel_history.specs.Marking.{marked_by}
 use Rattle.kernel_history.specs.Trace.{Trace, last_left}
 
--- What a core holds: the words that carry its mark, and the unmarked word that each of these stands for. A word that carries no mark,
--- and is still to be stored, stands for what will be.
+-- What a core holds: the words that carry its mark, and the unmarked word that each of these stands for; a word that carries no mark,
+-- and is still to be stored, stands for what will be; and the words of frames that it keeps without a mark, each with the value that it
+-- settles to.
 pub record Holding : Type 0 where
   pub marks : Word → Bool
   pub stands : Word → ℕ
+  pub bare : ℕ → ℕ → Option ℕ
 
 -- No word is held.
 abbrev pub nothing : Holding
-nothing = record { marks = λ w. false; stands = λ w. 0 }
+nothing = record { marks = λ w. false; stands = λ w. 0; bare = λ f i. None }
 
 -- One word more is held, and stands for this.
 abbrev pub keeps : Word → ℕ → Holding → Holding
-keeps w x h = record { marks = λ u. if same_word u w then true else h.marks u; stands = λ u. if same_word u w then x else h.stands u }
+keeps w x h = record {
+  marks = λ u. if same_word u w then true else h.marks u;
+  stands = λ u. if same_word u w then x else h.stands u;
+  bare = h.bare;
+}
+
+-- One word more is kept without a mark, word i of frame f, and settles to this.
+abbrev pub keeps_bare : ℕ → ℕ → ℕ → Holding → Holding
+keeps_bare f i x h = record {
+  marks = h.marks;
+  stands = h.stands;
+  bare = λ g j. if g == f && j == i then Some x else h.bare g j;
+}
 
 -- One word more is still to be stored, without a mark.
 abbrev pub will_store : Word → ℕ → Holding → Holding
-will_store w x h = record { marks = h.marks; stands = λ u. if same_word u w then x else h.stands u }
+will_store w x h = record { marks = h.marks; stands = λ u. if same_word u w then x else h.stands u; bare = h.bare }
 
 -- The word of a count that a call has acquired.
 abbrev pub count_of : Acquired → Word
@@ -66,9 +81,28 @@ abbrev pub AreApart : List Acquired → Type 0
 AreApart [] = Unit {0}
 AreApart (x ∷ xs) = ((holds_counts None xs).marks (count_of x) ≡ false) × AreApart xs
 
--- A word as it will be when the core that has marked it gives it back.
+-- A word as it will be when the core that keeps it without a mark has stored it, among the cores below n; else as it is.
+abbrev pub kept_or : Option ℕ → ℕ → ℕ
+kept_or None x = x
+kept_or (Some v) x = v
+
+unfoldable pub kept_below : ℕ → (ℕ → Holding) → ℕ → ℕ → ℕ → ℕ
+kept_below zero held f i x = x
+kept_below (suc n) held f i x = kept_or ((held n).bare f i) (kept_below n held f i x)
+
+-- There are at most 8 cores, and none but words of frames are kept without a mark.
+abbrev pub bare_value : (ℕ → Holding) → Word → ℕ → ℕ
+bare_value held (EntryAt f i) x = kept_below 8 held f i x
+bare_value held (FrameAt f) x = x
+bare_value held (CountAt f c) x = x
+bare_value held (CoreAt c) x = x
+bare_value held (FlushAt c) x = x
+bare_value held (LiveAt l) x = x
+bare_value held ClockAt x = x
+
+-- A word as it will be when the core that keeps it gives it back.
 abbrev pub settled_by : Option ℕ → (ℕ → Holding) → Word → ℕ → ℕ
-settled_by None held w x = x
+settled_by None held w x = bare_value held w x
 settled_by (Some d) held w x = (held d).stands w
 
 -- The settled value of a word, where the cores hold this.

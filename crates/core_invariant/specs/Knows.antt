@@ -4,21 +4,30 @@ use Rattle.stage_tcap.specs.declared.charge.Charge.TheVariants.{AtLoad as charge
 use Rattle.stage_tcap.specs.Heads.{head}
 use Rattle.tcap_words.specs.Head.{HeadFits, word_of_head}
 use Rattle.call_acts.specs.Ticks.{ticks_due, ticks_of, is_charging}
-use Rattle.kernel_history.specs.Marks.{frame_mark}
+use Rattle.kernel_history.specs.Marking.{marked_by}
+use Rattle.kernel_history.specs.Marks.{frame_mark, live_mark}
 use Rattle.spk_nums.specs.declared.kinds.Obj.TheVariants.{Blank}
 use Rattle.call_acts.specs.Objects.{object_cap, object_made, object_word, last_word}
+use Rattle.spk_nums.specs.declared.calls.Make.TheVariants as make
+use Rattle.frame_words.specs.declared.live_word.LiveWord.{LiveWord}
+use Rattle.call_acts.specs.Acts.{comp_cap, dues, put_by, reads_of, removes_by, stamp_of_act, fills_page}
+use Rattle.call_acts.specs.Comps.{comp_is_marked, comp_meets_number, comp_word_at}
+use Rattle.call_acts.specs.declared.comps.CompAt.{CompAt}
+use Rattle.call_acts.specs.declared.comps.CompAt.TheVariants as comp_at
+use Rattle.call_acts.specs.declared.comps.CompMaking.{CompMaking}
+use Rattle.call_acts.specs.declared.comps.LastEpoch.{LastEpoch}
 use Rattle.call_acts.specs.Makings.{is_marked}
 use Rattle.call_acts.specs.declared.makings.MakingAt.TheVariants.{Load as making_load, Mark, Store, Fill as making_fill}
 use Rattle.call_acts.specs.declared.makings.MakingAt.{MakingAt}
 use Rattle.call_acts.specs.declared.makings.Making.{Making}
 use Rattle.call_acts.specs.declared.objects.NewObject.{NewObject}
-use Rattle.std.specs.Prelude.{◌≡◌, ◌≢◌, ◌<◌, ◌≤◌, ◌+◌, ◌++◌, ◌/◌, ℕ, ℤ, Bool, true, false, map, All, List, [], ◌∷◌, length, Option, Some, None, IsSome, IsTrue, not, ◌^◌}
+use Rattle.std.specs.Prelude.{◌≡◌, ◌≢◌, ◌<◌, ◌≤◌, ◌+◌, ◌++◌, ◌/◌, ℕ, ℤ, Bool, true, false, map, All, List, [], ◌∷◌, length, Option, Some, None, IsSome, IsTrue, not, ◌^◌, ◌⊎◌, is_some}
 use Rattle.spk_nums.specs.Capability.{Capability}
 use Rattle.spk_nums.specs.Setting.{Setting}
 use Rattle.spk_nums.specs.declared.kinds.Kind.{Kind}
 use Rattle.spk_nums.specs.declared.kinds.Kind.TheVariants.{Comp as comp_kind}
 use Rattle.spk_nums.specs.declared.calls.Call.{Call}
-use Rattle.spk_nums.specs.declared.calls.Call.TheVariants.{Retype, Make as make_call, Flush, Tick, Kill, Map}
+use Rattle.spk_nums.specs.declared.calls.Call.TheVariants.{Retype, Make as make_call, Flush, Tick, Kill, Map, Touch}
 use Rattle.spk_nums.specs.declared.kinds.FrameKind.{FrameKind}
 use Rattle.spk_nums.specs.declared.kinds.FrameKind.TheVariants.{Untyped, Kernel as FrameKernel}
 use Rattle.frame_words.specs.Frame.{frame_of_word}
@@ -33,7 +42,10 @@ use Rattle.frame_words.specs.declared.comp_word.CompWord.{CompWord}
 use Rattle.frame_words.specs.declared.live_word.LiveWord.TheVariants as live_word
 use Rattle.word_map.specs.Word.{EntryAt, CountAt, FrameAt, LiveAt}
 use Rattle.word_map.specs.Places.{counter_of}
-use Rattle.kernel_rules.specs.State.{User, Thing, PlaceOf, State, first_of_stack, thread_of, comp_of, comp_in}
+use Rattle.kernel_rules.specs.State.{User, Thing, PlaceOf, State, first_of_stack, thread_of, comp_of, comp_in, NumberOf, Dead}
+use Rattle.kernel_rules.specs.MemoryCalls.{translation_of}
+use Rattle.call_acts.specs.declared.touches.Touching.{Touching}
+use Rattle.call_acts.specs.Touches.{is_at_page}
 use Rattle.kernel_rules.specs.Access.{Slot, Named, root_at, Target, Under, InRoot, usable, linked, root_slot, reached, found}
 use Rattle.kernel_rules.specs.Fitting.{fits}
 use Rattle.kernel_rules.specs.Relies.{IsGuarded, Relies}
@@ -42,7 +54,11 @@ use Rattle.kernel_history.specs.BootWords.{shape_of}
 use Rattle.kernel_history.specs.Trace.{Trace, Phase, Out, Open, phase, state_after, own_left, own_read, steps_in_call, WasAt, last_left}
 use Rattle.kernel_history.specs.Trace as history
 use Rattle.kernel_history.specs.Ways.{root_passed}
-use Rattle.kernel_history.specs.Discipline.{counts_references, changes_places, changes_frames, changes_numbers, stores_flush}
+use Rattle.kernel_history.specs.Discipline.{counts_references, changes_places, changes_frames, changes_numbers, stores_flush, changes_threads}
+use Rattle.stage_thread.specs.declared.stack.Push.{Push as PushOf}
+use Rattle.stage_thread.specs.declared.stack.Push.TheVariants as push
+use Rattle.stage_thread.specs.declared.stack.Pop.{Pop as PopOf}
+use Rattle.stage_thread.specs.declared.stack.Pop.TheVariants as pop
 use Rattle.kernel_history.specs.Footprint.{IsNearIn, is_one_of, frame_argument}
 use Rattle.kernel_history.specs.Justified.{HasReached, IsRemoved}
 use Rattle.kernel_history.specs.Stamps.{clock, stamp, exit_of, flush_of, flush_stored}
@@ -58,6 +74,8 @@ use Rattle.call_acts.specs.declared.kills.Killing.{Killing}
 use Rattle.call_acts.specs.declared.kills.KillingAt.{KillingAt}
 use Rattle.call_acts.specs.declared.kills.KillingAt.TheVariants.{LoadComp, LoadLive, Close as kill_close, Draw as kill_draw}
 use Rattle.call_acts.specs.Kills.{is_killing}
+use Rattle.call_acts.specs.Invocations.{is_entering, is_leaving}
+use Rattle.call_acts.specs.Switches.{is_switching}
 use Rattle.call_acts.specs.declared.own.Own.{Own}
 use Rattle.call_acts.specs.declared.fills.Fill.{Fill}
 use Rattle.call_acts.specs.declared.typings.Typing.{Typing}
@@ -66,12 +84,12 @@ use Rattle.call_acts.specs.declared.typings.TypingAt.TheVariants.{Load, Compare 
 use Rattle.call_acts.specs.Typings.{is_typing}
 use Rattle.kernel_rules.specs.CapabilityCalls.{has_frame}
 use Rattle.call_acts.specs.declared.work.Act.{Act as ActOf}
-use Rattle.call_acts.specs.declared.work.Act.TheVariants.{Fill as fill_act, Remove as remove_act, Retype as type_act, Make as make_act, Outside, Tick as tick_act, Flush as flush_act, Kill as kill_act, Untype as untype_act, Map as map_act}
+use Rattle.call_acts.specs.declared.work.Act.TheVariants.{Fill as fill_act, Remove as remove_act, Retype as type_act, Make as make_act, Outside, Tick as tick_act, Flush as flush_act, Kill as kill_act, Untype as untype_act, Map as map_act, MakeComp as comp_act, Invoke as invoke_act, Return as return_act, Touch as touch_act, Share as share_act, Switch as switch_act}
 use Rattle.call_acts.specs.declared.work.Work.{Work}
 use Rattle.call_acts.specs.declared.work.Due.{Due}
 use Rattle.call_acts.specs.declared.work.Work.TheVariants.{Lookup, Read, Scan, Acquire, Act}
 use Rattle.call_acts.specs.declared.work.Tail.{Tail}
-use Rattle.call_acts.specs.declared.work.Tail.TheVariants.{Nothing, Quiesce, Unmark, StoreDead, StoreFlush, Release}
+use Rattle.call_acts.specs.declared.work.Tail.TheVariants.{Nothing, Quiesce, Unmark, StoreDead, StoreFlush, Release, StoreLive, Push, Pop, Share, StoreRunning, StoreIdle}
 use Rattle.call_steps.specs.declared.stages.Stage.{Stage}
 use Rattle.call_steps.specs.declared.stages.Stage.TheVariants.{Enter, Undecided, Decided, Leave}
 use Rattle.call_steps.specs.declared.stages.ActiveCall.{ActiveCall}
@@ -79,355 +97,19 @@ use Rattle.stage_quiet.specs.declared.close.Close.{Close}
 use Rattle.stage_quiet.specs.declared.close.Close.TheVariants.{AtCompare as close_compare, AtDraw, AtStore}
 use Rattle.stage_quiet.specs.declared.quiet.Quiet.{Quiet}
 use Rattle.stage_quiet.specs.declared.quiet.Quiet.TheVariants.{AtCore, AtFlush}
-use Rattle.call_acts.specs.Acts.{dues, put_by, reads_of, removes_by, stamp_of_act, fills_page}
 use Rattle.call_steps.specs.View.{Core}
 use Rattle.call_steps.specs.Fits.{IsCore}
+use Rattle.call_acts.specs.Untypings.{is_drawing}
+use Rattle.core_invariant.specs.Shares.{KnowsShare, KnowsShared}
 use Rattle.core_invariant.specs.Holding.{count_of, holds_counts, AreApart}
-
--- The frame of the root of a target.
-abbrev pub root_frame : Target → ℕ
-root_frame (Under table n) = table.frame
-root_frame (InRoot table i) = table.frame
-
--- Core c relies on the root of a target: it is a node, which no other core may retype.
-abbrev pub ReliesOn : Setting → Trace → ℕ → Target → Type 0
-ReliesOn setup t c target = Relies (state_after setup t) c (root_frame target)
-
--- Core c reaches this slot by the target, and its call has stepped on the entries of the way.
-pub record IsReached (setup : Setting) (t : Trace) (c : ℕ) (target : Target) (at : Slot) : Type 0 where
-  pub relies : ReliesOn setup t c target
-  pub reached : reached (state_after setup t) c target ≡ Some at
-  pub stepped : HasReached t c (root_passed target ++ at ∷ [])
-
--- Core c reaches a slot by the target, and may use this capability there, of a wanted kind.
-pub record HasFound (setup : Setting) (t : Trace) (c : ℕ) (target : Target) (wanted : Kind → Bool) (k : Capability) : Type 0 where
-  pub at : Slot
-  pub way : IsReached setup t c target at
-  pub usable : usable (state_after setup t) c at ≡ Some k
-  pub kind : wanted k.kind ≡ true
-  pub fits : EntryFits (entry.Held k)
-
--- A look-up of a number is before the root entry that it chooses.
-pub record IsAtRoot (table : Named) (n root number : ℕ) : Type 0 where
-  pub found : table.found ≡ true
-  pub frame : table.frame ≡ root
-  pub same : n ≡ number
-  pub within : n ≤ 4095
-
--- It is before the leaf entry: the call has stepped on the root entry, by whose link core c may go on to the leaf.
-pub record IsAtLeaf (setup : Setting) (t : Trace) (c : ℕ) (table : Named) (n leaf number : ℕ) : Type 0 where
-  pub found : table.found ≡ true
-  pub same : n ≡ number
-  pub within : n ≤ 4095
-  pub link : linked (usable (state_after setup t) c (root_slot table.frame n)) ≡ Some leaf
-  pub stepped : IsSome (own_left t c (EntryAt table.frame (n / 64)))
-
--- It is before the root entry that is itself the target.
-pub record IsAtEntry (table : Named) (i root index : ℕ) : Type 0 where
-  pub found : table.found ≡ true
-  pub frame : table.frame ≡ root
-  pub same : i ≡ index
-  pub within : i ≤ 63
-
--- A look-up of a target stands here.
-abbrev pub LookIs : Setting → Trace → ℕ → Target → Look → Type 0
-LookIs setup t c (Under table n) (AtRoot root number) = IsAtRoot table n root number
-LookIs setup t c (Under table n) (AtLeaf leaf number) = IsAtLeaf setup t c table n leaf number
-LookIs setup t c (Under table n) (AtEntry root index) = ⊥
-LookIs setup t c (InRoot table i) (AtRoot root number) = ⊥
-LookIs setup t c (InRoot table i) (AtLeaf leaf number) = ⊥
-LookIs setup t c (InRoot table i) (AtEntry root index) = IsAtEntry table i root index
-
--- Core c looks up the target.
-pub record LooksUp (setup : Setting) (t : Trace) (c : ℕ) (target : Target) (look : Look) : Type 0 where
-  pub relies : ReliesOn setup t c target
-  pub at : LookIs setup t c target look
-
--- The target of an own name of a core whose component has this table.
-abbrev pub own_in : ℕ → ℕ → Target
-own_in table n = Under (root_at table) n
-
--- The names of a call have led to these capabilities, in a component with this table.
-abbrev pub NamesAre : Setting → Trace → ℕ → ℕ → Plan → List Capability → Type 0
-NamesAre setup t c table plan found = Leads (λ n wanted k. HasFound setup t c (own_in table n) wanted k) plan.names [] found
-
--- What is to be looked up next is being looked up.
-abbrev pub LooksFor : Setting → Trace → ℕ → ℕ → Next → Look → Type 0
-LooksFor setup t c table (NextName n wanted) look = LooksUp setup t c (own_in table n) look
-LooksFor setup t c table (NextFree target) look = LooksUp setup t c target look
-LooksFor setup t c table (NextHeld target) look = LooksUp setup t c target look
-LooksFor setup t c table (NextOwn v) look = ⊥
-LooksFor setup t c table NextNothing look = ⊥
-
--- Core d has passed the grace period that began at this stamp: while the stamp is the thing's, d does not wait.
-abbrev pub HasPassed : Setting → Trace → Thing → ℕ → ℕ → Type 0
-HasPassed setup t x at d = stamp setup t x ≡ at → ((state_after setup t).grace x).waits d ≡ false
-
--- Core d has flushed since this stamp: while the stamp is the thing's, no grace period of it waits for a flush of d.
-abbrev pub HasFlushed : Setting → Trace → Thing → ℕ → ℕ → Type 0
-HasFlushed setup t x at d = stamp setup t x ≡ at → ((state_after setup t).grace x).unflushed d ≡ false
-
--- A thing was removed at a moment of core c's call, at a stamp that is past and no later than its last; and the cores below `upto`
--- have passed the grace period that began at that stamp, but for c, and have flushed since.
-pub record IsScanned (setup : Setting) (t : Trace) (c : ℕ) (x : Thing) (at upto : ℕ) : Type 0 where
-  pub some : 1 ≤ at
-  pub past : at < clock setup t
-  pub rises : at ≤ stamp setup t x
-  pub was_removed : WasAt (IsRemoved x) setup t c
-  pub passed : (d : ℕ) → d < upto → d ≢ c → HasPassed setup t x at d
-  pub flushed : (d : ℕ) → d < upto → HasFlushed setup t x at d
-
--- A word that a call may fill says that its place is free, or quiescing and scanned so far.
-abbrev pub MayFill : Setting → Trace → ℕ → Thing → ℕ → Option Entry → Type 0
-MayFill setup t c x upto None = ⊥
-MayFill setup t c x upto (Some entry.Free) = Unit {0}
-MayFill setup t c x upto (Some (entry.Held k)) = ⊥
-MayFill setup t c x upto (Some (entry.Closing by)) = ⊥
-MayFill setup t c x upto (Some (entry.Quiescing at)) = IsScanned setup t c x at upto
-
--- The slot of a target that is to be free is reached, and the call's last step on its entry has read this word there, which it may fill.
-pub record IsSpot (setup : Setting) (t : Trace) (c : ℕ) (plan : Plan) (ks : List Capability) (upto node index word : ℕ) : Type 0 where
-  pub target : Target
-  pub next : next_of plan ks ≡ NextFree target
-  pub way : IsReached setup t c target (record { node = node; index = index })
-  pub own : own_read t c (EntryAt node index) ≡ Some word
-  pub vacant : MayFill setup t c (PlaceOf node index) upto (entry_of_word word)
-
--- A component that no other core may retype.
-pub record HasComp (s : State) (c f : ℕ) : Type 0 where
-  pub comp : IsTrue (fits comp_kind (s.frame f))
-  pub guarded : IsGuarded s c f
-
--- The component of a frame has this liveness number and epoch.
-pub record HasLife (s : State) (f : ℕ) (life : CompWord) : Type 0 where
-  pub number : (comp_in (s.frame f)).number ≡ life.number
-  pub epoch : (comp_in (s.frame f)).epoch ≡ life.epoch
-
--- The word of the component in this frame has been read: this is its epoch, and no other core may retype it.
-pub record IsRead (s : State) (c f : ℕ) (read : Option ℕ) : Type 0 where
-  pub comp : HasComp s c f
-  pub life : CompWord
-  pub has_life : HasLife s f life
-  pub fits : CompFits life
-  pub epoch : read ≡ Some life.epoch
-
--- A call that reads the word of a component, of which this is the frame, before it looks its target up, has read this.
-abbrev pub ReadIs : State → ℕ → Option ℕ → Option ℕ → Type 0
-ReadIs s c None read = Unit {0}
-ReadIs s c (Some f) read = IsRead s c f read
-
--- A frame that the call maps is a user frame; of other calls nothing is asked.
-abbrev pub HasUser : State → Call → Type 0
-HasUser s (Map p v r f w) = s.frame f ≡ User
-HasUser s call = Unit {0}
-
--- The slot of the target is reached, and the call's last step on its entry has read this word there, which it may fill; and what is to
--- be put there is what the call puts.
-pub record IsFill (setup : Setting) (t : Trace) (c : ℕ) (call : Call) (plan : Plan) (found : List Capability) (upto : ℕ) (fill : Fill) :
-    Type 0 where
-  pub target : Target
-  pub next : next_of plan found ≡ NextFree target
-  pub way : IsReached setup t c target (record { node = fill.node; index = fill.entry })
-  pub own : own_read t c (EntryAt fill.node fill.entry) ≡ Some fill.word
-  pub vacant : MayFill setup t c (PlaceOf fill.node fill.entry) upto (entry_of_word fill.word)
-  pub fits : EntryFits (entry.Held fill.cap)
-  pub read : Option ℕ
-  pub has_read : ReadIs (state_after setup t) c (reads_of call found) read
-  pub puts : put_by call found read ≡ Some fill.cap
-  pub user : HasUser (state_after setup t) call
-
-abbrev pub is_mapping : Call → Bool
-is_mapping (Map p v r f w) = true
-is_mapping call = false
-
-abbrev pub mapped_frame : Call → ℕ
-mapped_frame (Map p v r f w) = f
-mapped_frame call = 0
-
--- A call that maps a frame has reached its target as one that fills it, and puts there a mapping of the frame.
-pub record IsMapping (setup : Setting) (t : Trace) (c : ℕ) (call : Call) (plan : Plan) (found : List Capability) (upto : ℕ) (fill : Fill) :
-    Type 0 where
-  pub spot : IsSpot setup t c plan found upto fill.node fill.entry fill.word
-  pub fits : EntryFits (entry.Held fill.cap)
-  pub puts : put_by call found None ≡ Some fill.cap
-  pub frame : fill.cap.frame ≡ mapped_frame call
-  pub maps : is_mapping call ≡ true
-
--- A call that removes what its target holds has reached the target, and may use there what it removes.
-pub record IsRemoval (setup : Setting) (t : Trace) (c : ℕ) (call : Call) (plan : Plan) (found : List Capability) (node index : ℕ)
-    (cap : Capability) : Type 0 where
-  pub target : Target
-  pub next : next_of plan found ≡ NextHeld target
-  pub way : IsReached setup t c target (record { node = node; index = index })
-  pub usable : usable (state_after setup t) c (record { node = node; index = index }) ≡ Some cap
-  pub fits : EntryFits (entry.Held cap)
-  pub removes : removes_by call ≡ true
-
--- Before the compare, the call's last step on the entry has read there this word, which says what it holds.
-pub record IsClosing (setup : Setting) (t : Trace) (c : ℕ) (call : Call) (plan : Plan) (found : List Capability) (node index word by : ℕ)
-    (cap : Capability) : Type 0 where
-  pub removal : IsRemoval setup t c call plan found node index cap
-  pub own : own_read t c (EntryAt node index) ≡ Some word
-  pub held : entry_of_word word ≡ Some (entry.Held cap)
-  pub core : by ≡ c
-
-abbrev pub KnowsClose : Setting → Trace → ℕ → Call → Plan → List Capability → Close → Capability → Type 0
-KnowsClose setup t c call plan found (close_compare node index word core) cap =
-    IsClosing setup t c call plan found node index word core cap
-KnowsClose setup t c call plan found (AtDraw node index) cap = IsRemoval setup t c call plan found node index cap
-KnowsClose setup t c call plan found (AtStore node index at) cap = ⊥
-
--- The call types this frame, which the range has to which its name has led.
-pub record IsTyped (f : ℕ) (k : FrameKind) (y : Typing) (has : Bool) : Type 0 where
-  pub frame : y.frame ≡ f
-  pub kind : y.kind ≡ k
-  pub within : has ≡ true
-
-abbrev pub TypesBy : Call → List Capability → Typing → Type 0
-TypesBy (Retype r f k) (range ∷ []) y = IsTyped f k y (has_frame (found range) f)
-TypesBy call ks y = ⊥
-
--- Before the compare, the call's last step on the frame's word has read there this word, which says that the frame is untyped and not
--- marked.
-pub record HasMet (t : Trace) (c f word : ℕ) : Type 0 where
-  pub own : own_read t c (FrameAt f) ≡ Some word
-  pub shown : FrameWord
-  pub says : frame_of_word word ≡ Some shown
-  pub kind : shown.kind ≡ Untyped
-  pub mark : shown.mark ≡ None
-
-abbrev pub HasMetAt : Trace → ℕ → ℕ → TypingAt → Type 0
-HasMetAt t c f Load = Unit {0}
-HasMetAt t c f (type_compare word) = HasMet t c f word
-
-pub record KnowsTyping (t : Trace) (c : ℕ) (call : Call) (ks : List Capability) (y : Typing) : Type 0 where
-  pub types : TypesBy call ks y
-  pub met : HasMetAt t c y.frame y.at
-
--- The call makes this object in this frame, which the range has to which its first name has led; a thread in the component to which its
--- third name has led.
-pub record IsMade (f : ℕ) (made : Option NewObject) (m : Making) (has : Bool) : Type 0 where
-  pub frame : m.frame ≡ f
-  pub object : made ≡ Some m.object
-  pub within : has ≡ true
-
-abbrev pub MakesBy : Call → List Capability → Making → Type 0
-MakesBy (make_call what r f u b) (range ∷ ks) m = IsMade f (object_made what (range ∷ ks)) m (has_frame (found range) f)
-MakesBy call ks m = ⊥
-
--- Its frame is not in that range.
-pub record IsOutside (made : Option NewObject) (has : Bool) : Type 0 where
-  pub object : IsSome made
-  pub outside : has ≡ false
-
-abbrev pub OutsideBy : Call → List Capability → Type 0
-OutsideBy (make_call what r f u b) (range ∷ ks) = IsOutside (object_made what (range ∷ ks)) (has_frame (found range) f)
-OutsideBy (Map p v r f w) (pages ∷ range ∷ ks) = has_frame (found range) f ≡ false
-OutsideBy call ks = ⊥
-
--- The frame's word as it was found: that of a blank kernel frame which no core has marked.
-abbrev pub blank_word : FrameWord
-blank_word = record { kind = FrameKernel; object = Blank; mark = None }
-
-pub record HasBlank (t : Trace) (c f word : ℕ) : Type 0 where
-  pub own : own_read t c (FrameAt f) ≡ Some word
-  pub says : frame_of_word word ≡ Some blank_word
-
--- The first words of the object are stored.
-pub record HasStored (setup : Setting) (t : Trace) (f : ℕ) (object : NewObject) (word upto : ℕ) : Type 0 where
-  pub says : frame_of_word word ≡ Some blank_word
-  pub stored : (i : ℕ) → i < upto → last_left setup t (EntryAt f i) ≡ object_word object i
-
-abbrev pub KnowsMakingAt : Setting → Trace → ℕ → ℕ → NewObject → MakingAt → Type 0
-KnowsMakingAt setup t c f object making_load = Unit {0}
-KnowsMakingAt setup t c f object (Mark word) = HasBlank t c f word
-KnowsMakingAt setup t c f object (Store word n) = HasStored setup t f object word n
-KnowsMakingAt setup t c f object (making_fill word) = HasStored setup t f object word (last_word object + 1)
-
-pub record KnowsMaking (setup : Setting) (t : Trace) (c : ℕ) (call : Call) (plan : Plan) (ks : List Capability) (upto : ℕ) (m : Making) :
-    Type 0 where
-  pub spot : IsSpot setup t c plan ks upto m.fill.node m.fill.entry m.fill.word
-  pub makes : MakesBy call ks m
-  pub core : m.core ≡ c
-  pub cap : m.fill.cap ≡ object_cap m.object m.frame
-  pub at : KnowsMakingAt setup t c m.frame m.object m.at
-
-pub record KnowsOutside (setup : Setting) (t : Trace) (c : ℕ) (call : Call) (plan : Plan) (ks : List Capability)
-    (upto node index word : ℕ) :
-    Type 0 where
-  pub spot : IsSpot setup t c plan ks upto node index word
-  pub outside : OutsideBy call ks
-
--- The call charges to the temporal capability of its core the ticks that it asks for and those that the core owes.
-abbrev pub charged_tcap : Charge → ℕ
-charged_tcap (charge_load f ticks) = f
-charged_tcap (charge_compare f ticks budget version) = f
-
-pub record IsCharge (s : State) (c n : ℕ) (charge : Charge) : Type 0 where
-  pub tcap : charged_tcap charge ≡ (s.core c).tcap
-  pub ticks : ticks_of charge ≡ ticks_due (s.core c).owed n
-
-abbrev pub ChargesBy : State → ℕ → Call → Charge → Type 0
-ChargesBy s c (Tick n) charge = IsCharge s c n charge
-ChargesBy s c call charge = ⊥
-
--- Before the compare, the call's last step on the head has read there the head that is expected, which no core has marked.
-pub record HasHead (t : Trace) (c f budget version : ℕ) : Type 0 where
-  pub own : own_read t c (EntryAt f 0) ≡ Some (word_of_head (head budget version))
-  pub fits : HeadFits (head budget version)
-
-abbrev pub HasHeadAt : Trace → ℕ → Charge → Type 0
-HasHeadAt t c (charge_load f ticks) = Unit {0}
-HasHeadAt t c (charge_compare f ticks budget version) = HasHead t c f budget version
-
-pub record KnowsTick (setup : Setting) (t : Trace) (c : ℕ) (call : Call) (charge : Charge) : Type 0 where
-  pub charges : ChargesBy (state_after setup t) c call charge
-  pub at : HasHeadAt t c charge
-
--- The call kills the component to which its name has led.
-pub record IsKilled (f : ℕ) (comp : Capability) : Type 0 where
-  pub kind : comp.kind ≡ comp_kind
-  pub frame : f ≡ comp.frame
-
-abbrev pub KillsBy : Call → List Capability → ℕ → Type 0
-KillsBy (Kill name) (comp ∷ []) f = IsKilled f comp
-KillsBy call ks f = ⊥
-
--- The number's word as it was found says that it is live in that epoch.
-pub record SaysLive (life : CompWord) (word : ℕ) : Type 0 where
-  pub frame : ℕ
-  pub says : live_of_word word ≡ Some (live_word.Live life.epoch frame)
-
--- Before the compare the call's last step on the number's word has read this word there.
-pub record HasMetLive (setup : Setting) (t : Trace) (c f : ℕ) (life : CompWord) (word : ℕ) : Type 0 where
-  pub has_life : HasLife (state_after setup t) f life
-  pub own : own_read t c (LiveAt life.number) ≡ Some word
-  pub live : SaysLive life word
-
-pub record HasClosed (setup : Setting) (t : Trace) (f : ℕ) (life : CompWord) (word : ℕ) : Type 0 where
-  pub has_life : HasLife (state_after setup t) f life
-  pub live : SaysLive life word
-
-abbrev pub KnowsKillingAt : Setting → Trace → ℕ → ℕ → KillingAt → Type 0
-KnowsKillingAt setup t c f LoadComp = Unit {0}
-KnowsKillingAt setup t c f (LoadLive life) = HasLife (state_after setup t) f life
-KnowsKillingAt setup t c f (kill_close life word) = HasMetLive setup t c f life word
-KnowsKillingAt setup t c f (kill_draw life word) = HasClosed setup t f life word
-
-pub record KnowsKilling (setup : Setting) (t : Trace) (c : ℕ) (call : Call) (ks : List Capability) (m : Killing) : Type 0 where
-  pub kills : KillsBy call ks m.comp
-  pub core : m.core ≡ c
-  pub comp : HasComp (state_after setup t) c m.comp
-  pub at : KnowsKillingAt setup t c m.comp m.at
-
--- A flush is of the translations of the core itself.
-pub record KnowsFlushing (c : ℕ) (call : Call) (by : ℕ) : Type 0 where
-  pub call_is : call ≡ Flush
-  pub core : by ≡ c
+pub use Rattle.core_invariant.specs.Components.{HasComp, HasLife, IsRead, ReadIs, KnowsInvoking, KnowsReturning}
+use Rattle.core_invariant.specs.Threads.{KnowsSwitch, KnowsRunning, KnowsIdle}
+use Rattle.core_invariant.specs.Sweeps.{KnowsUntyping, KnowsRelease}
+pub use Rattle.core_invariant.specs.Reaching.{root_frame, ReliesOn, IsReached, HasFound, IsAtRoot, IsAtLeaf, IsAtEntry, LookIs, LooksUp, own_in, NamesAre, LooksFor, HasPassed, HasFlushed, IsScanned, MayFill, IsSpot, IsUser, HasUser, IsFill, untypes, is_mapping, mapped_frame, IsMapping, IsRemoval, IsClosing, KnowsClose}
+pub use Rattle.core_invariant.specs.Acting.{IsTyped, TypesBy, HasMet, HasMetAt, KnowsTyping, IsMade, MakesBy, IsOutside, OutsideObject, OutsideComp, OutsideBy, blank_word, HasBlank, HasStored, KnowsMakingAt, KnowsMaking, KnowsOutside, charged_tcap, IsCharge, ChargesBy, HasHead, HasHeadAt, KnowsTick, IsKilled, KillsBy, SaysLive, HasMetLive, HasClosed, KnowsKillingAt, KnowsKilling, IsCompMade, MakesCompBy, MayTake, SaysBlank, ScansNumber, KnowsNumber, TakesNumber, HasMetNumber, HasWords, KnowsCompAt, KnowsComp, KnowsTouch, KnowsFlushing}
 
 -- What a call with this plan knows of its act, where its names have led to these and the cores below `upto` were scanned, with their
--- flushes. No
--- call is carried out today with the act that makes a frame untyped.
+-- flushes.
 abbrev pub KnowsAct : Setting → Trace → ℕ → Call → Plan → List Capability → ℕ → ActOf → Type 0
 KnowsAct setup t c call plan found upto (fill_act fill) = IsFill setup t c call plan found upto fill
 KnowsAct setup t c call plan found upto (remove_act close cap) = KnowsClose setup t c call plan found close cap
@@ -436,9 +118,15 @@ KnowsAct setup t c call plan found upto (make_act making) = KnowsMaking setup t 
 KnowsAct setup t c call plan found upto (map_act fill) = IsMapping setup t c call plan found upto fill
 KnowsAct setup t c call plan found upto (Outside node entry word) = KnowsOutside setup t c call plan found upto node entry word
 KnowsAct setup t c call plan found upto (tick_act charge) = KnowsTick setup t c call charge
+KnowsAct setup t c call plan found upto (touch_act m) = KnowsTouch setup t c call m
 KnowsAct setup t c call plan found upto (flush_act by) = KnowsFlushing c call by
 KnowsAct setup t c call plan found upto (kill_act m) = KnowsKilling setup t c call found m
-KnowsAct setup t c call plan found upto (untype_act m) = ⊥
+KnowsAct setup t c call plan found upto (untype_act m) = KnowsUntyping setup t c call found m
+KnowsAct setup t c call plan found upto (comp_act m) = KnowsComp setup t c call plan found upto m
+KnowsAct setup t c call plan found upto (invoke_act m) = KnowsInvoking (state_after setup t) c call found m
+KnowsAct setup t c call plan found upto (return_act m) = KnowsReturning (state_after setup t) c call m
+KnowsAct setup t c call plan found upto (share_act p) = KnowsShare setup t c call found p
+KnowsAct setup t c call plan found upto (switch_act m) = KnowsSwitch setup t c call found m
 
 -- An act is before its first step.
 abbrev pub is_first_of : Close → Bool
@@ -454,14 +142,24 @@ is_start (make_act making) = not (is_marked making.at)
 is_start (map_act fill) = true
 is_start (Outside node entry word) = true
 is_start (tick_act charge) = not (is_charging charge)
+is_start (touch_act m) = true
 is_start (flush_act by) = true
 is_start (kill_act m) = not (is_killing m.at)
 is_start (untype_act m) = false
+is_start (comp_act m) = not (comp_is_marked m.at)
+is_start (invoke_act m) = not (is_entering m.at)
+is_start (return_act m) = not (is_leaving m.at)
+is_start (share_act p) = false
+is_start (switch_act m) = false
 
--- Its counts may be acquired here: no entry and no liveness number is closed yet.
+-- Its counts may be acquired here: no entry and no liveness number is closed yet, and a sweep is over.
 abbrev pub is_counting : ActOf → Bool
 is_counting (remove_act close cap) = is_first_of close
 is_counting (kill_act m) = not (is_killing m.at)
+is_counting (comp_act m) = not (comp_meets_number m.at)
+is_counting (untype_act m) = is_drawing m.at
+is_counting (switch_act m) = not (is_switching m.at)
+is_counting (share_act p) = false
 is_counting act = true
 
 -- It goes on: it is not out of range.
@@ -473,6 +171,7 @@ goes_on act = true
 abbrev pub scanned_for : ActOf → Thing
 scanned_for (fill_act fill) = PlaceOf fill.node fill.entry
 scanned_for (make_act m) = PlaceOf m.fill.node m.fill.entry
+scanned_for (comp_act m) = PlaceOf m.fill.node m.fill.entry
 scanned_for (map_act fill) = PlaceOf fill.node fill.entry
 scanned_for (Outside node entry word) = PlaceOf node entry
 scanned_for act = PlaceOf 0 0
@@ -601,20 +300,53 @@ pub record KnowsFlush (t : Trace) (c : ℕ) (call : Call) (by at : ℕ) : Type 0
   pub small : at < 2 ^ 28
   pub last : flush_of t c ≡ at
 
--- What a call knows that has still this to store.
-abbrev pub KnowsTail : Setting → Trace → ℕ → Call → Tail → Type 0
-KnowsTail setup t c call Nothing = Unit {0}
-KnowsTail setup t c call (Quiesce close) = KnowsStore setup t c call close
-KnowsTail setup t c call (Unmark f word) = KnowsUnmark call f word
-KnowsTail setup t c call (StoreDead life stamp) = KnowsDead setup t c call life
-KnowsTail setup t c call (StoreFlush by at) = KnowsFlush t c call by at
-KnowsTail setup t c call (Release release) = ⊥
+-- The number and the frame whose words are still to be stored: the number is near the call at a moment of it, and both words are spelled.
+pub record KnowsLive (setup : Setting) (t : Trace) (c : ℕ) (call : Call) (l live f word : ℕ) : Type 0 where
+  pub numbers : changes_numbers call ≡ true
+  pub near : WasAt (IsNearIn c call (LiveAt l)) setup t c
+  pub bare : live_mark (live_of_word live) ≡ None
+  pub small : live < 2 ^ 64
+  pub unmark : KnowsUnmark call f word
+
+-- The stack of which words are still to be stored is that of the core's own thread, and the call is one that changes threads. Which thread
+-- that is, and that no other core stores there, is told by what the core keeps.
+pub record KnowsStack (c : ℕ) (call : Call) (by : ℕ) : Type 0 where
+  pub threads : changes_threads call ≡ true
+  pub core : by ≡ c
+
+pub record KnowsPlace (c : ℕ) (call : Call) (by comp : ℕ) : Type 0 where
+  pub stack : KnowsStack c call by
+  pub small : comp < 512
+
+abbrev pub KnowsPush : ℕ → Call → PushOf → Type 0
+KnowsPush c call (push.AtStack f core depth comp) = KnowsPlace c call core comp
+KnowsPush c call (push.AtThread f core depth) = KnowsStack c call core
+
+-- A pop goes from the depth to the place, by the call of the core alone.
+abbrev pub KnowsPop : ℕ → Call → PopOf → Type 0
+KnowsPop c call (pop.AtThread f core depth) = KnowsStack c call core
+KnowsPop c call (pop.AtStack f depth) = changes_threads call ≡ true
+
+-- What a call knows that has still this to store, and these counts to commit.
+abbrev pub KnowsTail : Setting → Trace → ℕ → Call → List Acquired → Tail → Type 0
+KnowsTail setup t c call counts Nothing = Unit {0}
+KnowsTail setup t c call counts (Quiesce close) = KnowsStore setup t c call close
+KnowsTail setup t c call counts (Unmark f word) = KnowsUnmark call f word
+KnowsTail setup t c call counts (StoreDead life stamp) = KnowsDead setup t c call life
+KnowsTail setup t c call counts (StoreFlush by at) = KnowsFlush t c call by at
+KnowsTail setup t c call counts (Release x) = KnowsUnmark call x.frame x.word × KnowsRelease call counts x
+KnowsTail setup t c call counts (StoreLive l live f word) = KnowsLive setup t c call l live f word
+KnowsTail setup t c call counts (Push push) = KnowsPush c call push
+KnowsTail setup t c call counts (Pop pop) = KnowsPop c call pop
+KnowsTail setup t c call counts (Share p) = KnowsShared setup t c call p
+KnowsTail setup t c call counts (StoreRunning f core depth old old_depth) = KnowsRunning setup t c call f core old
+KnowsTail setup t c call counts (StoreIdle f depth) = KnowsIdle setup t c call f
 
 -- What a call knows at its stage. One that has made no step is in no trace.
 abbrev pub KnowsAt : Setting → Trace → ℕ → ℕ → ActiveCall → Stage → Type 0
 KnowsAt setup t c table a Enter = ⊥
 KnowsAt setup t c table a (Undecided work) = KnowsUndecided setup t c table a work
-KnowsAt setup t c table a (Decided r drawn tail) = KnowsTail setup t c a.call tail
+KnowsAt setup t c table a (Decided r drawn tail) = KnowsTail setup t c a.call a.counts tail
 KnowsAt setup t c table a (Leave r x) = IsLeave setup t c x
 
 abbrev pub Knows : Setting → Trace → ℕ → ℕ → ActiveCall → Type 0
@@ -669,6 +401,12 @@ flushes_tail (Quiesce close) = false
 flushes_tail (Unmark f word) = false
 flushes_tail (StoreDead life stamp) = false
 flushes_tail (Release release) = false
+flushes_tail (Push push) = false
+flushes_tail (Pop pop) = false
+flushes_tail (StoreLive l live f word) = false
+flushes_tail (Share p) = false
+flushes_tail (StoreRunning f core depth old old_depth) = false
+flushes_tail (StoreIdle f depth) = false
 flushes_tail (StoreFlush by at) = true
 
 abbrev pub is_flushing : Stage → Bool
@@ -687,6 +425,7 @@ pub record CoreIs (setup : Setting) (core : Core) (t : Trace) (c : ℕ) : Type 0
   pub number : core.own.core ≡ c
   pub shape : core.own.layout ≡ shape_of setup
   pub limit : core.own.limit ≡ setup.calls
+  pub epochs : core.own.epochs ≡ setup.epochs
   pub works : WorksIn core.own (state_after setup t) c
   pub exit : core.own.exit ≡ exit_of t c
   -- its last flush is stored, but for one between the load of the clock and the store

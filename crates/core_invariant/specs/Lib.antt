@@ -2,5 +2,12 @@ pub mod Events
 pub mod Holding
 pub mod CountWords
 pub mod Words
+pub mod Frozen
+pub mod Sweeps
+pub mod Threads
+pub mod Shares
+pub mod Components
+pub mod Reaching
+pub mod Acting
 pub mod Knows
 pub mod Stands

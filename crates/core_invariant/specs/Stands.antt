@@ -1,18 +1,28 @@
 -- When the cores of a machine stand for a trace: what holds between two steps, whatever the calls.
 use Rattle.call_acts.specs.declared.makings.MakingAt.TheVariants.{Load, Mark, Store, Fill as making_fill}
 use Rattle.call_acts.specs.declared.makings.MakingAt.{MakingAt}
+use Rattle.call_acts.specs.declared.comps.CompAt.{CompAt}
+use Rattle.call_acts.specs.declared.comps.CompAt.TheVariants as comp_at
+use Rattle.call_acts.specs.declared.comps.CompMaking.{CompMaking}
 use Rattle.call_acts.specs.declared.kills.KillingAt.{KillingAt}
 use Rattle.call_acts.specs.declared.kills.KillingAt.TheVariants.{LoadComp, LoadLive, Close as kill_close, Draw as kill_draw}
 use Rattle.frame_words.specs.Live.{word_of_live}
+use Rattle.tcap_words.specs.Stack.{word_of_stack}
+use Rattle.tcap_words.specs.Thread.{word_of_thread, thread_of_word}
+use Rattle.tcap_words.specs.declared.thread_word.ThreadWord.TheVariants.{Running}
+use Rattle.stage_thread.specs.declared.stack.Push.{Push as PushOf}
+use Rattle.stage_thread.specs.declared.stack.Push.TheVariants as push
+use Rattle.stage_thread.specs.declared.stack.Pop.{Pop as PopOf}
+use Rattle.stage_thread.specs.declared.stack.Pop.TheVariants as pop
 use Rattle.frame_words.specs.declared.live_word.LiveWord.TheVariants.{Dead}
-use Rattle.std.specs.Prelude.{◌≡◌, ◌+◌, ◌<◌, ◌≤◌, ℕ, List, [], Option, Some, None}
+use Rattle.std.specs.Prelude.{◌≡◌, ◌+◌, ◌-◌, ◌<◌, ◌≤◌, ℕ, Bool, true, false, List, [], length, Option, Some, None}
 use Rattle.spk_nums.specs.Setting.{Setting}
 use Rattle.frame_words.specs.Count.{count_of_word}
 use Rattle.frame_words.specs.declared.count_word.CountWord.{CountWord}
-use Rattle.word_map.specs.Word.{Word, CountAt, FrameAt, FlushAt, LiveAt}
-use Rattle.kernel_rules.specs.State.{Thing, FrameOf, State}
+use Rattle.word_map.specs.Word.{Word, CountAt, FrameAt, FlushAt, LiveAt, EntryAt}
+use Rattle.kernel_rules.specs.State.{Thing, FrameOf, State, thread_of}
 use Rattle.kernel_rules.specs.References.{sum_below}
-use Rattle.kernel_history.specs.Trace.{Trace, Out, phase, calls_of, state_after}
+use Rattle.kernel_history.specs.Trace.{Trace, Out, phase, calls_of, state_after, last_left}
 use Rattle.kernel_history.specs.Legal.{IsLegal}
 use Rattle.kernel_history.specs.Bounds.{KeepsBounds}
 use Rattle.kernel_history.specs.Marking.{marked_by, HasMarked}
@@ -28,15 +38,22 @@ use Rattle.spk_nums.specs.declared.replies.Reply.{Reply}
 use Rattle.spk_nums.specs.declared.replies.Reply.TheVariants.{Ok}
 use Rattle.stage_pins.specs.declared.held.Acquired.{Acquired}
 use Rattle.call_acts.specs.declared.work.Act.{Act}
-use Rattle.call_acts.specs.declared.work.Act.TheVariants.{Fill, Remove, Retype, Make, Outside, Tick, Flush, Kill, Untype, Map as map_act}
+use Rattle.call_acts.specs.declared.work.Act.TheVariants.{Fill, Remove, Retype, Make, Outside, Tick, Flush, Kill, Untype, Map as map_act, MakeComp, Invoke, Return, Touch, Share, Switch}
 use Rattle.call_acts.specs.declared.work.Work.{Work}
 use Rattle.call_acts.specs.declared.work.Work.TheVariants.{Lookup, Read, Scan, Acquire, Act as act_work}
 use Rattle.call_acts.specs.declared.work.Tail.{Tail}
-use Rattle.call_acts.specs.declared.work.Tail.TheVariants.{Nothing, Quiesce, Unmark, StoreDead, StoreFlush, Release}
+use Rattle.call_acts.specs.declared.work.Tail.TheVariants.{Nothing, Quiesce, Unmark, StoreDead, StoreFlush, Release, StoreLive, Push, Pop, Share as share_tail, StoreRunning, StoreIdle}
+use Rattle.tcap_words.specs.Head.{word_of_head}
+use Rattle.stage_tcap.specs.Pairs.{amount_of, left_a}
+use Rattle.stage_tcap.specs.declared.pair.Pair.{Pair}
+use Rattle.stage_tcap.specs.declared.pair.PairAt.{PairAt}
+use Rattle.stage_tcap.specs.declared.pair.PairAt.TheVariants.{LoadA, MarkA, ListA, LoadB, ListB, CompareB, AgainB, StoreList, StoreB, StoreA}
 use Rattle.call_steps.specs.View.{Core}
-use Rattle.core_invariant.specs.Holding.{Holding, nothing, holds_counts, holds_closed, holds_drawn, settled, MarkIs, keeps, will_store}
+use Rattle.core_invariant.specs.Holding.{Holding, nothing, holds_counts, holds_closed, holds_drawn, settled, MarkIs, keeps, will_store, keeps_bare}
+use Rattle.core_invariant.specs.Frozen.{holds_untyping, holds_release}
+use Rattle.core_invariant.specs.Threads.{holds_switching, holds_running, holds_idle}
 use Rattle.core_invariant.specs.Words.{Times, WordIs, CountsAre}
-use Rattle.core_invariant.specs.Knows.{CoreIs}
+use Rattle.core_invariant.specs.Knows.{CoreIs, HasPassed, HasFlushed}
 
 -- Whether a decided call has been carried out, and has then drawn a stamp.
 abbrev pub done_by : Reply → Option ℕ → Option (Option ℕ)
@@ -63,8 +80,57 @@ holds_killing (LoadLive life) h = h
 holds_killing (kill_close life word) h = h
 holds_killing (kill_draw life word) h = keeps (LiveAt life.number) word h
 
--- The word that a call has marked beside its counts, at an act and at a tail. No call is carried out today with the act that makes a
--- frame untyped, so none holds what that would.
+-- The words of its thread's stack that a core has still to store are kept without a mark.
+abbrev pub holds_push : PushOf → Holding → Holding
+holds_push (push.AtStack f core depth comp) h =
+    keeps_bare f (depth + 1) (word_of_stack (record { 0 = Some comp })) (keeps_bare f 0 (word_of_thread (Running core (depth + 1))) h)
+holds_push (push.AtThread f core depth) h = keeps_bare f 0 (word_of_thread (Running core (depth + 1))) h
+
+abbrev pub holds_pop : PopOf → Holding → Holding
+holds_pop (pop.AtThread f core depth) h =
+    keeps_bare f 0 (word_of_thread (Running core (depth - 1))) (keeps_bare f depth (word_of_stack (record { 0 = None })) h)
+holds_pop (pop.AtStack f depth) h = keeps_bare f depth (word_of_stack (record { 0 = None })) h
+
+-- The frame in which a call makes a component, and then the number that it takes: each stands for its word as it was found.
+abbrev pub holds_comp : CompMaking → CompAt → Holding → Holding
+holds_comp m comp_at.Load h = h
+holds_comp m (comp_at.Mark word) h = h
+holds_comp m (comp_at.LoadLive word) h = keeps (FrameAt m.frame) word h
+holds_comp m (comp_at.Scan word last q) h = keeps (FrameAt m.frame) word h
+holds_comp m (comp_at.Close word last) h = keeps (FrameAt m.frame) word h
+holds_comp m (comp_at.Store word last entry) h = keeps (LiveAt m.number) last.word (keeps (FrameAt m.frame) word h)
+holds_comp m (comp_at.Fill word last) h = keeps (LiveAt m.number) last.word (keeps (FrameAt m.frame) word h)
+
+-- The head of the first of two temporal capabilities, from when it is marked: it stands for what was found there, and once the call is
+-- decided for what is still to be stored.
+abbrev pub holds_head : Pair → Bool → Holding → Holding
+holds_head p moved h = keeps (EntryAt p.a 0) (word_of_head (left_a moved p.head_a (amount_of p.what))) h
+
+abbrev pub holds_share : Pair → PairAt → Holding → Holding
+holds_share p LoadA h = h
+holds_share p MarkA h = h
+holds_share p (ListA n) h = holds_head p false h
+holds_share p LoadB h = holds_head p false h
+holds_share p (ListB n) h = holds_head p false h
+holds_share p CompareB h = holds_head p false h
+holds_share p (AgainB r) h = holds_head p false h
+holds_share p (StoreList n) h = h
+holds_share p StoreB h = h
+holds_share p (StoreA moved v) h = h
+
+abbrev pub holds_shared : Pair → PairAt → Holding → Holding
+holds_shared p LoadA h = h
+holds_shared p MarkA h = h
+holds_shared p (ListA n) h = h
+holds_shared p LoadB h = h
+holds_shared p (ListB n) h = h
+holds_shared p CompareB h = h
+holds_shared p (AgainB r) h = h
+holds_shared p (StoreList n) h = h
+holds_shared p StoreB h = h
+holds_shared p (StoreA moved v) h = holds_head p moved h
+
+-- The words that a call has marked beside the counts that it acquires, at an act and at a tail.
 abbrev pub holds_act : Act → Holding → Holding
 holds_act (Fill fill) h = h
 holds_act (Remove close cap) h = holds_closed close cap h
@@ -73,9 +139,15 @@ holds_act (Make making) h = holds_making making.frame making.at h
 holds_act (map_act fill) h = h
 holds_act (Outside node entry word) h = h
 holds_act (Tick charge) h = h
+holds_act (Touch m) h = h
 holds_act (Flush by) h = h
 holds_act (Kill m) h = holds_killing m.at h
-holds_act (Untype m) h = h
+holds_act (Untype m) h = holds_untyping m.frame m.at h
+holds_act (MakeComp m) h = holds_comp m m.at h
+holds_act (Invoke m) h = h
+holds_act (Return m) h = h
+holds_act (Share p) h = holds_share p p.at h
+holds_act (Switch m) h = holds_switching m m.at h
 
 abbrev pub holds_tail : Tail → Holding → Holding
 holds_tail Nothing h = h
@@ -83,7 +155,13 @@ holds_tail (Quiesce close) h = holds_drawn close h
 holds_tail (Unmark f word) h = keeps (FrameAt f) word h
 holds_tail (StoreDead life stamp) h = keeps (LiveAt life.number) (word_of_live (Dead life.epoch stamp)) h
 holds_tail (StoreFlush by stamp) h = will_store (FlushAt by) stamp h
-holds_tail (Release release) h = h
+holds_tail (Release release) h = holds_release release h
+holds_tail (StoreLive l live f word) h = keeps (LiveAt l) live (keeps (FrameAt f) word h)
+holds_tail (Push push) h = holds_push push h
+holds_tail (Pop pop) h = holds_pop pop h
+holds_tail (share_tail p) h = holds_shared p p.at h
+holds_tail (StoreRunning f core depth old old_depth) h = holds_running f core depth old old_depth h
+holds_tail (StoreIdle f depth) h = holds_idle f depth h
 
 abbrev pub holds_work : Work → Holding → Holding
 holds_work (Lookup look) h = h
@@ -136,6 +214,20 @@ pub record IsAway (core : Core) (t : Trace) (c : ℕ) : Type 0 where
 abbrev pub counted_in : Setting → State → ℕ
 counted_in setup s = sum_below (λ c. (s.core c).counted) setup.cores
 
+-- A word says that its thread runs on core d, at some depth.
+pub record SaysRunning (d word : ℕ) : Type 0 where
+  pub depth : ℕ
+  pub says : thread_of_word word ≡ Some (Running d depth)
+
+-- What a core keeps without a mark is a word of its current thread, which no other core steps on but to leave it as found; it carries no
+-- mark, and the thread's first word says that it runs on the core.
+pub record IsLent (setup : Setting) (t : Trace) (d f i : ℕ) : Type 0 where
+  pub core : d < setup.cores
+  pub thread : ((state_after setup t).core d).thread ≡ f
+  pub stack : 1 ≤ length (thread_of (state_after setup t) d).stack
+  pub unmarked : marked_by setup t (EntryAt f i) ≡ None
+  pub says : i ≡ 0 → SaysRunning d (last_left setup t (EntryAt f i))
+
 -- The cores stand for the trace.
 pub record Stands (setup : Setting) (cores : ℕ → Core) (t : Trace) : Type 0 where
   -- the trace is a legal history; its calls keep within their bounds, and are decided in order where they are alone; and its
@@ -150,6 +242,8 @@ pub record Stands (setup : Setting) (cores : ℕ → Core) (t : Trace) : Type 0 
   pub marks : (w : Word) (d : ℕ) → MarkIs setup (held_by cores) t w d
   pub marked : (w : Word) (d : ℕ) → marked_by setup t w ≡ Some d → HasMarked setup t w d
   pub words : (w : Word) → WordIs (state_after setup t) (times_of setup t) w (settled setup (held_by cores) t w)
+  -- a core keeps no word without a mark but those of its own thread
+  pub lent : (d f i v : ℕ) → (held_by cores d).bare f i ≡ Some v → IsLent setup t d f i
   -- the settled counts of each frame sum to the references to it
   pub sums : (f : ℕ) → SumIs setup (held_by cores) t f
   -- a counted call draws at most one stamp; no core has left or flushed later than now; and grace periods go with stamps
@@ -157,6 +251,8 @@ pub record Stands (setup : Setting) (cores : ℕ → Core) (t : Trace) : Type 0 
   pub some_time : 1 ≤ clock setup t
   pub times : (c : ℕ) → TimesAre setup t c
   pub graces : (x : Thing) → GraceIs setup t x
+  -- of a thing of which no grace period has begun, or whose last one was ended, no core waits, nor is to flush
+  pub unbegun : (x : Thing) (d : ℕ) → HasPassed setup t x 0 d × HasFlushed setup t x 0 d
   -- each core of the machine is where its model says, and there is no other
   pub each : (c : ℕ) → c < setup.cores → CoreIs setup (cores c) t c
   pub away : (c : ℕ) → setup.cores ≤ c → IsAway (cores c) t c

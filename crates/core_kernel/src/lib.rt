@@ -12,6 +12,8 @@
 //!
 //! **Notes.** A note tells of what a seat has seen. A seat that meets it has then seen that too, so what one thread has
 //! made, another knows to come before what it makes.
+//!
+//! See docs/PROOF.md, 'Taken steps', and the README for a program of your own.
 #![tactic(auto)]
 
 mod core_run;

@@ -1,8 +1,18 @@
 -- A step by which a call acquires a count that its act changes is good: the count is held by another core, is lost to another core, or
 -- is acquired; and so is the step by which a decided call commits it.
+use Rattle.core_invariant.proofs.Lent.{lent_elsewhere}
+use Rattle.count_invariant.proofs.SwitchCounts.{switch_of, switch_counts, switch_due_near, switch_left}
+use Rattle.core_invariant.specs.Threads.{claimed_by}
+use Rattle.count_invariant.proofs.StackCounts.{invoke_counts, invoke_near, invoking_due, returning_due, top_near}
+use Rattle.count_invariant.proofs.ActBares.{acquired_bares, committed_bares}
 use Rattle.entry_words.specs.declared.entry.Entry.TheVariants.{Held}
 use Rattle.entry_words.specs.EntryWord.{word_of_entry}
+use Rattle.call_acts.specs.Comps.{comp_undo, comp_meets_number}
+use Rattle.count_invariant.proofs.ActHolds.{SparesSwept, undo_holds, act_count, act_over}
+use Rattle.count_invariant.proofs.CompCounts.{comp_call, comp_counts, comp_due_near, comp_left}
 use Rattle.call_acts.specs.Makings.{undo_at}
+use Rattle.call_acts.specs.declared.comps.CompAt.{CompAt}
+use Rattle.call_acts.specs.declared.comps.CompAt.TheVariants as comp_at
 use Rattle.call_acts.specs.Kills.{is_killing}
 use Rattle.call_acts.specs.declared.kills.KillingAt.{KillingAt}
 use Rattle.call_acts.specs.declared.kills.KillingAt.TheVariants.{LoadComp, LoadLive, Close as kill_close, Draw as kill_draw}
@@ -15,7 +25,7 @@ use Rattle.std.proofs.lemmas.List.Elements.{All-nil, All-cons, All-head, All-tai
 use Rattle.spk_nums.specs.Setting.{Setting, IsSetting}
 use Rattle.spk_nums.specs.Capability.{Capability}
 use Rattle.spk_nums.specs.declared.calls.Call.{Call}
-use Rattle.spk_nums.specs.declared.calls.Call.TheVariants.{Remove, Shrink, Unmap}
+use Rattle.spk_nums.specs.declared.calls.Call.TheVariants.{Remove, Shrink, Unmap, Look, Copy, Retype, Make as make_call, Touch, Flush, Tick, Kill}
 use Rattle.spk_nums.specs.declared.replies.Reply.{Reply}
 use Rattle.spk_nums.specs.declared.replies.Reply.TheVariants as reply
 use Rattle.frame_words.specs.Count.{CountFits, word_of_count, count_of_word}
@@ -41,8 +51,8 @@ use Rattle.stage_quiet.specs.declared.close.Close.{Close}
 use Rattle.stage_quiet.specs.declared.close.Close.TheVariants.{AtCompare as close_compare, AtDraw, AtStore}
 use Rattle.kernel_history.specs.Trace.{Step, Trace, Open, phase, state_after, last_left, own_read}
 use Rattle.kernel_history.proofs.Carries.{was_now}
-use Rattle.kernel_history.proofs.Names.{same_word-other}
-use Rattle.kernel_history.proofs.Steps.{own_read-here, own_read-there, last_left-there}
+use Rattle.kernel_history.proofs.Names.{same_word-other, cases_word}
+use Rattle.kernel_history.proofs.Steps.{own_read-here, own_read-there, last_left-here, last_left-there}
 use Rattle.stage_pins.specs.Counts.{unheld, acquired}
 use Rattle.stage_pins.specs.Acquire.{load_end, pinned_at, compare_end, pin_move, pin_end, pin_after, after_load}
 use Rattle.stage_pins.specs.Commit.{settled_word}
@@ -61,36 +71,39 @@ use Rattle.plan_ways.proofs.Near.{one_left, one_right, near_about}
 use Rattle.call_plans.specs.GoesBy.{GoesBy, own_pages}
 use Rattle.call_plans.proofs.CallsGoBy.{calls_go}
 use Rattle.count_invariant.proofs.MakingCounts.{no_due, made_counts, made_changes, made_argument, due_near, made_left, due_named}
+use Rattle.count_invariant.proofs.SweepCounts.{sweep_counts, sweep_near, sweep_left, sweep_spares}
 use Rattle.count_invariant.proofs.KillingCounts.{kill_counts, kill_near, killing_due}
 use Rattle.look_invariant.proofs.Findings.{found_named}
 use Rattle.call_acts.specs.declared.refusals.Refusal.TheVariants as refusal
 use Rattle.call_acts.specs.declared.work.Due.{Due}
 use Rattle.call_acts.specs.declared.work.Act.{Act as ActOf}
-use Rattle.call_acts.specs.declared.work.Act.TheVariants.{Fill as fill_act, Remove as remove_act, Retype as type_act, Make as make_act, Outside, Tick as tick_act, Flush as flush_act, Kill as kill_act, Untype as untype_act, Map as map_act}
+use Rattle.call_acts.specs.declared.work.Act.TheVariants.{Fill as fill_act, Remove as remove_act, Retype as type_act, Make as make_act, Outside, Tick as tick_act, Flush as flush_act, Kill as kill_act, Untype as untype_act, Map as map_act, MakeComp as comp_act, Invoke as invoke_act, Return as return_act, Touch as touch_act, Share as share_act, Switch as switch_act}
 use Rattle.call_acts.specs.declared.work.Tail.TheVariants.{Nothing}
 use Rattle.call_acts.specs.declared.work.Work.TheVariants.{Acquire}
 use Rattle.call_steps.specs.declared.stages.Stage.TheVariants.{Undecided, Decided}
 use Rattle.call_steps.specs.declared.stages.ActiveCall.{ActiveCall}
 use Rattle.call_acts.specs.declared.work.WorkStep.TheVariants.{Goes, Acquires}
 use Rattle.call_acts.specs.Acts.{dues, acquires, next_work, removes_by, undo}
-use Rattle.call_steps.specs.Fits.{CountsAt, HasRoom}
+use Rattle.call_steps.specs.Fits.{CountsAt, HasRoom, StageFits}
 use Rattle.call_steps.specs.Steps.{GoesOn, landed, went_with, took_count, gives_up}
 use Rattle.call_steps.specs.Tails.{is_ok}
 use Rattle.call_steps.specs.View.{Core}
-use Rattle.call_steps.proofs.StepsFit.{few_dues}
+use Rattle.call_steps.proofs.DuesFit.{few_dues}
 use Rattle.call_acts.specs.declared.untypings.UntypingAt.{UntypingAt}
 use Rattle.call_acts.specs.declared.untypings.UntypingAt.TheVariants as untype
-use Rattle.call_acts.specs.Untypings.{untyping_undo}
+use Rattle.call_acts.specs.Untypings.{is_drawing}
 use Rattle.core_invariant.specs.Holding.{Holding, count_of, committed, holds_counts, AreApart, settled_by, settled, keeps}
 use Rattle.core_invariant.specs.Words.{SaysCount, count_room}
-use Rattle.core_invariant.specs.Knows.{AreDuesApart, own_in, HasFound, NamesAre, due_of, pin_frame, pin_core, IsRemoval, KnowsClose, KnowsAct, KnowsWork, KnowsUndecided, IsCount, HasRead, phase_at, KnowsTail, goes_on, is_counting}
-use Rattle.core_invariant.specs.Stands.{done_by, holds_act, holds_work, holds_at, holds_in, holds, held_by, Stands, holds_tail, holds_making, holds_killing}
-use Rattle.core_invariant.proofs.Carries.{names_on, act_on, counts_on, KeepsUsers, ReadsSame}
+use Rattle.core_invariant.specs.Knows.{AreDuesApart, own_in, HasFound, NamesAre, due_of, pin_frame, pin_core, IsRemoval, KnowsClose, KnowsAct, KnowsWork, KnowsUndecided, IsCount, HasRead, phase_at, KnowsTail, goes_on, is_counting, untypes}
+use Rattle.core_invariant.specs.Stands.{done_by, holds_act, holds_work, holds_at, holds_in, holds, held_by, Stands, holds_tail, holds_making, holds_killing, holds_comp}
+use Rattle.core_invariant.proofs.Carries.{names_on, act_on, counts_on, KeepsUsers, KeepsThreads, claimed_in, ReadsSame, freezes_at, reads_counts, due_pairs}
+use Rattle.core_invariant.proofs.Swept.{LeavesFrame}
 use Rattle.core_invariant.proofs.Writes.{same_marks}
 use Rattle.core_invariant.proofs.Good.{IsGood, spares_other}
 use Rattle.core_invariant.proofs.Counting as counters
+use Rattle.core_invariant.proofs.Users.{users_kept}
 use Rattle.core_invariant.proofs.Loads.{IsOfCall, Lands, step_to, core_at, inner, call_is, is_active, loads_on}
-use Rattle.core_invariant.proofs.Refusals.{GoodTook, ticks_in, ticks_at, raced_leaving, busy_leaving}
+use Rattle.core_invariant.proofs.Refusals.{GoodTook, IsRefusing, ticks_in, ticks_at, raced_knowing, busy_knowing}
 use Rattle.count_invariant.proofs.PutCounts.{put_counts, put_near}
 
 -- What stands in a list after those before it.
@@ -165,39 +178,6 @@ knows_next setup t c table a core act (d ∷ ds) own knows prefix apart n is sta
       starts = starts;
     })
 
--- While its counts are acquired an act holds what it will hold at its next step, which is what a refusal has then to store.
-undo_holds : (act : ActOf) (h : Holding) → is_counting act ≡ true → holds_tail (undo act) h ≡ holds_act act h
-undo_holds (fill_act fill) h is = refl
-undo_holds (remove_act (close_compare node index word by) cap) h is = refl
-undo_holds (remove_act (AtDraw node index) cap) h is = absurd (false≢true is)
-undo_holds (remove_act (AtStore node index x) cap) h is = absurd (false≢true is)
-undo_holds (type_act typing) h is = refl
-undo_holds (make_act m) h is = by m.at
-  where
-    by : (at : MakingAt) → holds_tail (undo_at m.frame at) h ≡ holds_making m.frame at h
-    by making_load = refl
-    by (Mark word) = refl
-    by (Store word entry) = refl
-    by (making_fill word) = refl
-undo_holds (map_act fill) h is = refl
-undo_holds (Outside node entry word) h is = refl
-undo_holds (tick_act charge) h is = refl
-undo_holds (flush_act core) h is = refl
-undo_holds (kill_act m) h is = by m.at is
-  where
-    by : (at : KillingAt) → not (is_killing at) ≡ true → h ≡ holds_killing at h
-    by LoadComp is = refl
-    by (LoadLive life) is = refl
-    by (kill_close life word) is = refl
-    by (kill_draw life word) is = absurd (false≢true is)
-undo_holds (untype_act m) h is = by m.at
-  where
-    by : (at : UntypingAt) → holds_tail (untyping_undo m.frame at) h ≡ h
-    by untype.Load = refl
-    by (untype.Mark word v) = refl
-    by (untype.Sweep word w) = refl
-    by (untype.Draw word w) = refl
-
 acquires_holds : (core : ℕ) (act : ActOf) (o : Option Due) (h : Holding) → holds_work (acquires core act o) h ≡ holds_act act h
 acquires_holds core act None h = refl
 acquires_holds core act (Some due) h = refl
@@ -205,71 +185,16 @@ acquires_holds core act (Some due) h = refl
 pub next_holds : (core n : ℕ) (act : ActOf) (h : Holding) → holds_work (next_work core n act) h ≡ holds_act act h
 next_holds core n act h = acquires_holds core act (slice_get (dues act) n) h
 
--- An act holds no count, and what it holds of another word does not depend on the counts.
-act_count : (act : ActOf) (h : Holding) (f d : ℕ) → ((holds_act act h).marks (CountAt f d) ≡ h.marks (CountAt f d))
-    × ((holds_act act h).stands (CountAt f d) ≡ h.stands (CountAt f d))
-act_count (fill_act fill) h f d = (refl, refl)
-act_count (map_act fill) h f d = (refl, refl)
-act_count (remove_act (close_compare node index word by) cap) h f d = (refl, refl)
-act_count (remove_act (AtDraw node index) cap) h f d = (refl, refl)
-act_count (remove_act (AtStore node index x) cap) h f d = (refl, refl)
-act_count (type_act typing) h f d = (refl, refl)
-act_count (make_act m) h f d = by m.at
+-- An act that acquires counts freezes no counter.
+counting_unread : (act : ActOf) → is_counting act ≡ true → reads_counts act ≡ false
+counting_unread (untype_act m) is = by m.at is
   where
-    by : (at : MakingAt) → ((holds_making m.frame at h).marks (CountAt f d) ≡ h.marks (CountAt f d))
-        × ((holds_making m.frame at h).stands (CountAt f d) ≡ h.stands (CountAt f d))
-    by making_load = (refl, refl)
-    by (Mark word) = (refl, refl)
-    by (Store word entry) = (refl, refl)
-    by (making_fill word) = (refl, refl)
-act_count (Outside node entry word) h f d = (refl, refl)
-act_count (tick_act charge) h f d = (refl, refl)
-act_count (flush_act core) h f d = (refl, refl)
-act_count (kill_act m) h f d = by m.at
-  where
-    by : (at : KillingAt) → ((holds_killing at h).marks (CountAt f d) ≡ h.marks (CountAt f d))
-        × ((holds_killing at h).stands (CountAt f d) ≡ h.stands (CountAt f d))
-    by LoadComp = (refl, refl)
-    by (LoadLive life) = (refl, refl)
-    by (kill_close life word) = (refl, refl)
-    by (kill_draw life word) = (refl, refl)
-act_count (untype_act m) h f d = (refl, refl)
-
-keeps_over : (v w : Word) (x : ℕ) (h g : Holding) → (h.marks w ≡ g.marks w) × (h.stands w ≡ g.stands w)
-    → ((keeps v x h).marks w ≡ (keeps v x g).marks w) × ((keeps v x h).stands w ≡ (keeps v x g).stands w)
-keeps_over v w x h g same = (
-  ap (λ b. if same_word w v then true else b) same.0,
-  ap (λ (n : ℕ). if same_word w v then x else n) same.1,
-)
-
-act_over : (act : ActOf) (h g : Holding) (w : Word) → (h.marks w ≡ g.marks w) × (h.stands w ≡ g.stands w)
-    → ((holds_act act h).marks w ≡ (holds_act act g).marks w) × ((holds_act act h).stands w ≡ (holds_act act g).stands w)
-act_over (fill_act fill) h g w same = same
-act_over (map_act fill) h g w same = same
-act_over (remove_act (close_compare node index word by) cap) h g w same = same
-act_over (remove_act (AtDraw node index) cap) h g w same = keeps_over (EntryAt node index) w (word_of_entry (Held cap)) h g same
-act_over (remove_act (AtStore node index x) cap) h g w same = same
-act_over (type_act typing) h g w same = same
-act_over (make_act m) h g w same = by m.at
-  where
-    by : (at : MakingAt) → ((holds_making m.frame at h).marks w ≡ (holds_making m.frame at g).marks w)
-        × ((holds_making m.frame at h).stands w ≡ (holds_making m.frame at g).stands w)
-    by making_load = same
-    by (Mark word) = same
-    by (Store word entry) = keeps_over (FrameAt m.frame) w word h g same
-    by (making_fill word) = keeps_over (FrameAt m.frame) w word h g same
-act_over (Outside node entry word) h g w same = same
-act_over (tick_act charge) h g w same = same
-act_over (flush_act core) h g w same = same
-act_over (kill_act m) h g w same = by m.at
-  where
-    by : (at : KillingAt) → ((holds_killing at h).marks w ≡ (holds_killing at g).marks w)
-        × ((holds_killing at h).stands w ≡ (holds_killing at g).stands w)
-    by LoadComp = same
-    by (LoadLive life) = same
-    by (kill_close life word) = same
-    by (kill_draw life word) = keeps_over (LiveAt life.number) w word h g same
-act_over (untype_act m) h g w same = same
+    by : (at : UntypingAt) → is_drawing at ≡ true → freezes_at at ≡ false
+    by untype.Load is = refl
+    by (untype.Mark word v) is = refl
+    by (untype.Sweep word w) is = absurd (false≢true is)
+    by (untype.Draw word w) is = refl
+counting_unread act is = refl
 
 -- An act that changes a count charges no ticks.
 counts_plain : (act : ActOf) (before : List Due) (due : Due) (rest : List Due) → dues act ≡ before ++ due ∷ rest → ticks_in act ≡ false
@@ -280,8 +205,14 @@ counts_plain (make_act m) before due rest is = refl
 counts_plain (map_act fill) before due rest is = refl
 counts_plain (Outside node entry word) before due rest is = refl
 counts_plain (tick_act charge) before due rest is = absurd (no_due before due rest is)
+counts_plain (touch_act m) before due rest is = refl
 counts_plain (flush_act core) before due rest is = refl
 counts_plain (kill_act m) before due rest is = refl
+counts_plain (invoke_act m) before due rest is = refl
+counts_plain (return_act m) before due rest is = refl
+counts_plain (comp_act m) before due rest is = refl
+counts_plain (share_act p) before due rest is = absurd (no_due before due rest is)
+counts_plain (switch_act m) before due rest is = refl
 counts_plain (untype_act m) before due rest is = refl
 
 -- The word of an acquired count stands for the word that was found.
@@ -313,7 +244,7 @@ module _ (setup : Setting) (setting : IsSetting setup) (cores : ℕ → Core) (t
     (stage_is : a.stage ≡ Undecided (Acquire pin change act)) (has : KnowsUndecided setup t c (cores c).own.table a
     (Acquire pin change act))
     (counting : IsTrue (counts_references a.call)) (near : (b : ℕ) → IsNearIn c a.call (CountAt frame b) (state_after setup t))
-    (left : (e : Step) → KnowsTail setup (e ∷ t) c a.call (undo act)) where
+    (left : (e : Step) → IsRefusing setup t c e → KnowsTail setup (e ∷ t) c a.call a.counts (undo act)) (spares : SparesSwept act frame) where
   abbrev s : State
   s = state_after setup t
 
@@ -356,7 +287,7 @@ module _ (setup : Setting) (setting : IsSetting setup) (cores : ℕ → Core) (t
       has.knows.new)
 
   bare_here : (holds_in (Some a)).marks at ≡ false
-  bare_here = ap (λ h. h.marks at) held_is ∙ (act_count act (holds_counts None a.counts) frame (counter_of d)).0 ∙ new
+  bare_here = ap (λ h. h.marks at) held_is ∙ (act_count act (holds_counts None a.counts) frame (counter_of d) spares).0 ∙ new
 
   -- the word of a count that carries no mark
   says : marked_by setup t at ≡ None → SaysCount (count_room s) (count_of_word was)
@@ -367,13 +298,19 @@ module _ (setup : Setting) (setting : IsSetting setup) (cores : ℕ → Core) (t
   kept e own none is w apart =
       own_read-there c e t own w (λ h. apart (h ∙ is)) ∙ ap (λ o. cond (is_some o) None (own_read t c w)) none
 
-  reads_kept : (e : Step) → c ≡ e.core → e.enters ≡ None → word_of e.move ≡ at → KeepsUsers setup t e → ReadsSame setup t e c act
-  reads_kept e own none is users = record {
+  reads_kept : (e : Step) → c ≡ e.core → e.enters ≡ None → word_of e.move ≡ at → KeepsUsers setup t e c
+      → ((f : ℕ) → LeavesFrame (state_after setup t) (state_after setup (e ∷ t)) f)
+      → KeepsThreads setup t e c (λ f. claimed_in act f) → ReadsSame setup t e c act
+  reads_kept e own none is users rests threads = record {
     entries = λ f i. kept e own none is (EntryAt f i) (entry_apart f i);
     frames = λ f. kept e own none is (FrameAt f) (frame_apart f);
     numbers = λ l. kept e own none is (LiveAt l) (number_apart l);
     stored = λ f i marked. last_left-there setup (EntryAt f i) e t (λ h. entry_apart f i (h ∙ is));
     users = users;
+    counts = λ freezes. absurd (false≢true (sym (counting_unread act has.knows.starts) ∙ freezes));
+    rests = λ f looked. rests f;
+    threads = threads;
+    pairs = due_pairs setup t e c act (map due_of a.counts) (record { frame = pin_frame pin; change = change }) has.knows.rest has.knows.due;
   }
     where
       entry_apart : (f i : ℕ) → EntryAt f i ≢ at
@@ -385,6 +322,13 @@ module _ (setup : Setting) (setting : IsSetting setup) (cores : ℕ → Core) (t
       number_apart : (l : ℕ) → LiveAt l ≢ at
       number_apart l h = cc
 
+  -- a load of it leaves all counts
+  loaded_same : (f k : ℕ) → last_left setup (step_to c None (LoadOf at) was None None ∷ t) (CountAt f k) ≡ last_left setup t (CountAt f k)
+  loaded_same f k = elim (cases_word (CountAt f k) at) [
+    | inl is ↦ last_left-here setup (CountAt f k) (step_to c None (LoadOf at) was None None) t is ∙ ap (last_left setup t) (sym is)
+    | inr other ↦ last_left-there setup (CountAt f k) (step_to c None (LoadOf at) was None None) t other
+  ]
+
   -- it charges no ticks
   plain : ticks_at a.stage ≡ false
   plain = ap ticks_at stage_is ∙ counts_plain act (map due_of a.counts) (record { frame = pin_frame pin; change = change })
@@ -392,7 +336,7 @@ module _ (setup : Setting) (setting : IsSetting setup) (cores : ℕ → Core) (t
 
   -- it is held by another core
   held_good : (b : ℕ) → marked_by setup t at ≡ Some b → GoodTook setup cores t c (LoadOf at) (landed a (gives_up (refusal.Busy b) act))
-  held_good b mark = busy_leaving setup setting cores t stands c here a active opens (undo act) undone left room (LoadOf at)
+  held_good b mark = busy_knowing setup setting cores t stands c here a active opens (undo act) undone left room (LoadOf at)
       (record { of_call = record { moves = counting; near = inl (near (counter_of d)) }; kept = refl; apart = λ e. refl })
       plain b bare_here mark tt
 
@@ -410,7 +354,9 @@ module _ (setup : Setting) (setting : IsSetting setup) (cores : ℕ → Core) (t
         names = names_on setup setting t e stands.legal c a.call is_open carries (cores c).own.table a.plan a.found has.names;
         knows = record {
           knows = act_on setup setting t e stands.legal c a.call is_open carries a.call a.plan a.found setup.cores act
-              (reads_kept e refl refl refl (λ f same. same)) has.knows.knows;
+              (reads_kept e refl refl refl (users_kept setup t e c (λ f. refl) (λ f k held. loaded_same f k))
+              (λ f. record { frame = refl; place = λ i node. refl })
+              (record { guards = λ f has. has; rests = λ f claimed has. refl })) has.knows.knows;
           rest = has.knows.rest;
           due = has.knows.due ∙ ap (λ (f : ℕ). map due_of a.counts ++ record { frame = f; change = change } ∷ has.knows.rest) frame_is;
           apart = has.knows.apart;
@@ -472,7 +418,7 @@ module _ (setup : Setting) (setting : IsSetting setup) (cores : ℕ → Core) (t
 
     count_lost : (was == expected) ≡ false → GoodTook setup cores t c compare (landed a (gives_up refusal.Raced act))
     count_lost other =
-        raced_leaving setup setting cores t stands c here a active opens (undo act) undone left room compare
+        raced_knowing setup setting cores t stands c here a active opens (undo act) undone left room compare
         (record { of_call = of_call; kept = kept; apart = λ e. refl }) plain
         (record {
           at = tt;
@@ -498,6 +444,13 @@ module _ (setup : Setting) (setting : IsSetting setup) (cores : ℕ → Core) (t
 
       unmarked : marked_by setup t at ≡ None
       unmarked = ap count_mark reads
+
+      -- a count that the core has marked is another
+      won_same : (f k : ℕ) → marked_by setup t (CountAt f k) ≡ Some c
+          → last_left setup (inner setup setting cores t stands c here a active compare None None ∷ t) (CountAt f k)
+          ≡ last_left setup t (CountAt f k)
+      won_same f k held = last_left-there setup (CountAt f k) (inner setup setting cores t stands c here a active compare None None) t
+          (λ is. none_some c (sym unmarked ∙ ap (marked_by setup t) (sym is) ∙ held))
 
       held_fits : CountFits (acquired d count stamp)
       held_fits = (
@@ -531,16 +484,17 @@ module _ (setup : Setting) (setting : IsSetting setup) (cores : ℕ → Core) (t
             ap (λ h. h.stands w) after_is ∙ rest.1 ∙ sym
                 (ap (λ h. h.stands w) before),
           ))
+          (acquired_bares (holds (cores c)) (holds after) act a.counts grown at (ap holds_in active ∙ held_is) after_is)
           (ap (λ (n : ℕ). count_mark (count_of_word n)) leaves ∙ ap count_mark (counts.spelling.reads (acquired d count stamp) held_fits)
           ∙ ap (λ (e : ℕ). Some e) own_core ∙ sym (ap (λ b. if b then Some c else None)
-          (ap (λ h. h.marks at) after_is ∙ (act_count act (holds_counts None grown) frame (counter_of d)).0
+          (ap (λ h. h.marks at) after_is ∙ (act_count act (holds_counts None grown) frame (counter_of d) spares).0
           ∙ counters.more_marked None a.counts x)))
           (λ b other is. none_some b (sym unmarked ∙ is))
           (ap (λ b. settled_by (if b then Some c else None) (held_by (put cores c after)) at (left_of compare was))
-          (ap (λ h. h.marks at) after_is ∙ (act_count act (holds_counts None grown) frame (counter_of d)).0
+          (ap (λ h. h.marks at) after_is ∙ (act_count act (holds_counts None grown) frame (counter_of d) spares).0
           ∙ counters.more_marked None a.counts x)
           ∙ ap (λ k. (holds k).stands at) (put_same cores c after c refl) ∙ ap (λ h. h.stands at) after_is
-          ∙ (act_count act (holds_counts None grown) frame (counter_of d)).1 ∙ counters.more_stands None a.counts x new
+          ∙ (act_count act (holds_counts None grown) frame (counter_of d) spares).1 ∙ counters.more_stands None a.counts x new
           ∙ stands_found frame d count change stamp loaded.fits ∙ sym same
           ∙ sym (ap (λ o. settled_by o (held_by cores) at was) unmarked))
           opens
@@ -549,7 +503,9 @@ module _ (setup : Setting) (setting : IsSetting setup) (cores : ℕ → Core) (t
             knows = knows_next setup (e ∷ t) c (cores c).own.table (more grown) (cores c).own.core act has.knows.rest
                 (stands.each c here).number
                 (act_on setup setting t e stands.legal c a.call is_open carries a.call a.plan a.found setup.cores act
-                (reads_kept e refl refl refl (λ f same. same)) has.knows.knows)
+                (reads_kept e refl refl refl (users_kept setup t e c (λ f. refl) won_same)
+                (λ f. record { frame = refl; place = λ i node. refl })
+                (record { guards = λ f has. has; rests = λ f claimed has. refl })) has.knows.knows)
                 (has.knows.due ∙ ap (λ (f : ℕ). map due_of a.counts ++ record { frame = f; change = change } ∷ has.knows.rest) frame_is
                 ∙ sym (ap (λ ds. ds ++ has.knows.rest) (map_more a.counts x) ∙ after_one (map due_of a.counts) (due_of x) has.knows.rest))
                 has.knows.apart
@@ -565,6 +521,7 @@ module _ (setup : Setting) (setting : IsSetting setup) (cores : ℕ → Core) (t
           }) (All-nil (IsCount setup (e ∷ t) c a.call))))
           (counters.more_apart a.counts x (call_is setup setting cores t stands c here a active).apart new)
           (spares_other setup t (inner setup setting cores t stands c here a active compare None None) (λ f i h. cc))
+          (lent_elsewhere cores (inner setup setting cores t stands c here a active compare None None) (λ f i h. cc))
 
       count_won : GoodTook setup cores t c compare (landed a (Acquires x (next_work (cores c).own.core (length a.counts + 1) act)))
       count_won = subst (λ (xs : List Acquired). GoodTook setup cores t c compare (GoesOn (more xs)))
@@ -587,17 +544,17 @@ acquire_near : (setup : Setting) → IsSetting setup → (cores : ℕ → Core) 
     → (pin : Pin) (change : ℤ) (act : ActOf) → a.stage ≡ Undecided (Acquire pin change act)
     → KnowsUndecided setup t c (cores c).own.table a (Acquire pin change act)
     → IsTrue (counts_references a.call) → ((b : ℕ) → IsNearIn c a.call (CountAt (pin_frame pin) b) (state_after setup t))
-    → ((e : Step) → KnowsTail setup (e ∷ t) c a.call (undo act)) → goes_on act ≡ true
+    → ((e : Step) → IsRefusing setup t c e → KnowsTail setup (e ∷ t) c a.call a.counts (undo act)) → SparesSwept act (pin_frame pin) → goes_on act ≡ true
     → GoodTook setup cores t c (pin_move pin)
     (landed a (took_count (cores c).own.core (length a.counts) change act (pin_after pin (last_left setup t (word_of (pin_move pin))))
     (pin_end pin (last_left setup t (word_of (pin_move pin))))))
-acquire_near setup setting cores t stands c here a active (AtLoad frame d) change act is has counting near left goes =
-    load_good setup setting cores t stands c here a active frame d (AtLoad frame d) change act refl refl is has counting near left refl
-acquire_near setup setting cores t stands c here a active (AtCompare frame d count stamp) change act is has counting near left goes =
+acquire_near setup setting cores t stands c here a active (AtLoad frame d) change act is has counting near left spares goes =
+    load_good setup setting cores t stands c here a active frame d (AtLoad frame d) change act refl refl is has counting near left spares refl
+acquire_near setup setting cores t stands c here a active (AtCompare frame d count stamp) change act is has counting near left spares goes =
     compare_good setup setting cores t stands c here a active frame d (AtCompare frame d count stamp) change act refl refl is has counting
-    near left count stamp has.knows.loaded refl goes
+    near left spares count stamp has.knows.loaded refl goes
 
--- A call that removes what its target holds changes references and places, and raises the clock: a line a call.
+-- A call that removes what its target holds changes references and places, raises the clock, and makes no frame untyped: a line a call.
 pub removal_counts : (call : Call) → removes_by call ≡ true → IsTrue (counts_references call)
 removal_counts (Remove u b) is = refl
 removal_counts (Shrink u i) is = refl
@@ -609,6 +566,12 @@ removal_places (Remove u b) is = refl
 removal_places (Shrink u i) is = refl
 removal_places (Unmap p v) is = refl
 removal_places call is = absurd (false≢true is)
+
+pub removal_types : (call : Call) → removes_by call ≡ true → untypes call ≡ false
+removal_types (Remove u b) is = refl
+removal_types (Shrink u i) is = refl
+removal_types (Unmap p v) is = refl
+removal_types call is = absurd (false≢true is)
 
 pub removal_raises : (call : Call) → removes_by call ≡ true → IsTrue (raises_clock call)
 removal_raises (Remove u b) is = refl
@@ -686,7 +649,7 @@ acquire_good setup setting cores t stands c here a active pin change (fill_act f
     has.knows.knows.read fill.cap
     has.knows.knows.puts (call_leads setup setting cores t stands c here a active has.names) (pin_frame pin)
     (due_named (named_by fill.cap.kind fill.cap.frame) (pos 1) (map due_of a.counts) (record { frame = pin_frame pin; change = change })
-    has.knows.rest has.knows.due)) (λ e. tt) refl
+    has.knows.rest has.knows.due)) (λ e by. tt) tt refl
 acquire_good setup setting cores t stands c here a active pin change (map_act fill) is has =
     acquire_near setup setting cores t stands c here a active pin change (map_act fill) is has
     (put_counts a.call (is_active setup setting cores t stands c here a active).built a.found None fill.cap
@@ -695,7 +658,7 @@ acquire_good setup setting cores t stands c here a active pin change (map_act fi
     fill.cap
     has.knows.knows.puts (call_leads setup setting cores t stands c here a active has.names) (pin_frame pin)
     (due_named (named_by fill.cap.kind fill.cap.frame) (pos 1) (map due_of a.counts) (record { frame = pin_frame pin; change = change })
-    has.knows.rest has.knows.due)) (λ e. tt) refl
+    has.knows.rest has.knows.due)) (λ e by. tt) tt refl
 acquire_good setup setting cores t stands c here a active pin change (type_act typing) is has =
     absurd (no_due (map due_of a.counts) (record { frame = pin_frame pin; change = change }) has.knows.rest has.knows.due)
 acquire_good setup setting cores t stands c here a active pin change (remove_act close cap) is has =
@@ -703,29 +666,75 @@ acquire_good setup setting cores t stands c here a active pin change (remove_act
     (removal_counts a.call (removal_does setup setting cores t stands c here a active has.names close cap has.knows.knows))
     (λ b. removal_near setup setting cores t stands c here a active has.names close cap has.knows.knows (pin_frame pin)
     (due_named (named_by cap.kind cap.frame) (negsuc 0) (map due_of a.counts) (record { frame = pin_frame pin; change = change })
-    has.knows.rest has.knows.due)) (λ e. tt) refl
+    has.knows.rest has.knows.due)) (λ e by. tt) tt refl
 acquire_good setup setting cores t stands c here a active pin change (make_act m) is has =
     acquire_near setup setting cores t stands c here a active pin change (make_act m) is has
     (made_counts a.call a.found m has.knows.knows.makes)
     (λ b. due_near (state_after setup t) c a.call a.found m has.knows.knows.makes
     (call_leads setup setting cores t stands c here a active has.names) (map due_of a.counts)
     (record { frame = pin_frame pin; change = change }) has.knows.rest has.knows.due)
-    (λ e. made_left setup t (e ∷ t) c m.frame m.object m.at a.call (made_changes a.call a.found m has.knows.knows.makes)
-    (made_argument a.call a.found m has.knows.knows.makes) has.knows.knows.at) refl
+    (λ e by. made_left setup t (e ∷ t) c a.counts m.frame m.object m.at a.call (made_changes a.call a.found m has.knows.knows.makes)
+    (made_argument a.call a.found m has.knows.knows.makes) has.knows.knows.at) tt refl
 acquire_good setup setting cores t stands c here a active pin change (Outside node entry word) is has =
     absurd (no_due (map due_of a.counts) (record { frame = pin_frame pin; change = change }) has.knows.rest has.knows.due)
 acquire_good setup setting cores t stands c here a active pin change (tick_act charge) is has =
     absurd (no_due (map due_of a.counts) (record { frame = pin_frame pin; change = change }) has.knows.rest has.knows.due)
+acquire_good setup setting cores t stands c here a active pin change (touch_act m) is has =
+    absurd (no_due (map due_of a.counts) (record { frame = pin_frame pin; change = change }) has.knows.rest has.knows.due)
 acquire_good setup setting cores t stands c here a active pin change (flush_act core) is has =
     absurd (no_due (map due_of a.counts) (record { frame = pin_frame pin; change = change }) has.knows.rest has.knows.due)
+acquire_good setup setting cores t stands c here a active pin change (invoke_act m) is has =
+    acquire_near setup setting cores t stands c here a active pin change (invoke_act m) is has
+    (invoke_counts a.call a.found m has.knows.knows.invokes)
+    (λ b. ap (λ (n : ℕ). is_one_of n (frames_near (state_after setup t) c a.call))
+    (invoking_due m.comp m.at (map due_of a.counts) (record { frame = pin_frame pin; change = change }) has.knows.rest has.knows.due)
+    ∙ invoke_near (state_after setup t) c a.call a.found m has.knows.knows.invokes
+    (call_leads setup setting cores t stands c here a active has.names)) (λ e by. tt) tt refl
+acquire_good setup setting cores t stands c here a active pin change (return_act m) is has =
+    acquire_near setup setting cores t stands c here a active pin change (return_act m) is has
+    (subst (λ x. IsTrue (counts_references x)) (sym has.knows.knows.call_is) refl)
+    (λ b. ap (λ (n : ℕ). is_one_of n (frames_near (state_after setup t) c a.call))
+    (returning_due m.top m.at (map due_of a.counts) (record { frame = pin_frame pin; change = change }) has.knows.rest has.knows.due)
+    ∙ top_near (state_after setup t) c a.call m.top has.knows.knows.top
+    (let fits = (subst (StageFits (cores c).own.layout) is (is_active setup setting cores t stands c here a active).stage).1 in
+    let some = fits.some_depth in let same = has.knows.knows.on.depth in omega (arith, some, same))) (λ e by. tt) tt refl
 acquire_good setup setting cores t stands c here a active pin change (kill_act m) is has =
     acquire_near setup setting cores t stands c here a active pin change (kill_act m) is has
     (kill_counts a.call a.found m.comp has.knows.knows.kills)
     (λ b. ap (λ (n : ℕ). is_one_of n (frames_near (state_after setup t) c a.call))
     (killing_due m.comp m.at (map due_of a.counts) (record { frame = pin_frame pin; change = change }) has.knows.rest has.knows.due)
     ∙ kill_near (state_after setup t) c a.call a.found m.comp has.knows.knows.kills
-    (call_leads setup setting cores t stands c here a active has.names)) (λ e. tt) refl
-acquire_good setup setting cores t stands c here a active pin change (untype_act m) is has = absurd has.knows.knows
+    (call_leads setup setting cores t stands c here a active has.names)) (λ e by. tt) tt refl
+acquire_good setup setting cores t stands c here a active pin change (untype_act m) is has =
+    acquire_near setup setting cores t stands c here a active pin change (untype_act m) is has
+    (sweep_counts setup setting cores t stands c here a active pin change m is has)
+    (sweep_near setup setting cores t stands c here a active pin change m is has)
+    (λ e by. sweep_left setup setting cores t stands c here a active pin change m is has (e ∷ t))
+    (sweep_spares setup setting cores t stands c here a active pin change m is has) refl
+acquire_good setup setting cores t stands c here a active pin change (share_act p) is has =
+    absurd (no_due (map due_of a.counts) (record { frame = pin_frame pin; change = change }) has.knows.rest has.knows.due)
+acquire_good setup setting cores t stands c here a active pin change (switch_act m) is has =
+    let call = switch_of a.call a.found (claimed_by m.at) m.tcap has.knows.knows.switches in
+    acquire_near setup setting cores t stands c here a active pin change (switch_act m) is has
+    (switch_counts a.call a.found (claimed_by m.at) m.tcap has.knows.knows.switches)
+    (λ b. switch_due_near (state_after setup t) c a.call a.found m has.knows.knows.leaves m.at call
+    (call_leads setup setting cores t stands c here a active has.names) (map due_of a.counts)
+    (record { frame = pin_frame pin; change = change }) has.knows.rest has.knows.due)
+    (λ e by. switch_left setup t e c a.call a.found a.counts m m.at call
+    (call_leads setup setting cores t stands c here a active has.names)
+    ((call_is setup setting cores t stands c here a active).phase ∙ ap (phase_at a.call) is) by has.knows.knows.thread) tt refl
+acquire_good setup setting cores t stands c here a active pin change (comp_act m) is has =
+    let of = comp_call a.call a.found m has.knows.knows.makes in
+    acquire_near setup setting cores t stands c here a active pin change (comp_act m) is has
+    (comp_counts a.call a.found m of)
+    (λ b. comp_due_near (state_after setup t) c a.call a.found m of
+    (call_leads setup setting cores t stands c here a active has.names) m.at (map due_of a.counts)
+    (record { frame = pin_frame pin; change = change }) has.knows.rest has.knows.due)
+    (λ e by. comp_left setup t (e ∷ t) c a.counts a.call a.found m of m.at (not_true (comp_meets_number m.at) has.knows.starts) has.knows.knows.at) tt refl
+  where
+    not_true : (b : Bool) → not b ≡ true → b ≡ false
+    not_true true h = cc
+    not_true false h = refl
 
 -- A decided call commits its earliest count.
 module _ (setup : Setting) (setting : IsSetting setup) (cores : ℕ → Core) (t : Trace) (stands : Stands setup cores t) (c : ℕ)
@@ -779,10 +788,11 @@ module _ (setup : Setting) (setting : IsSetting setup) (cores : ℕ → Core) (t
       (λ w there.
       let rest = counters.rest_elsewhere (done_by r drawn) x xs w there in
       (rest.0 ∙ sym (ap (λ h. h.marks w) holds_is), rest.1 ∙ sym (ap (λ h. h.stands w) holds_is)))
+      (committed_bares (holds (cores c)) (holds after) (done_by r drawn) (x ∷ xs) xs (count_of x) holds_is refl)
       (ap count_mark stored_says.says ∙ sym (ap (λ b. if b then Some c else None) bare))
       (λ b other is. other (sym (some_inj c b (sym own_mark ∙ is))))
       (ap (λ b. settled_by (if b then Some c else None) (held_by (put cores c after)) (count_of x) stored) bare ∙ sym settles)
       (ap (phase_at a.call) stage_is) (λ carries. tt)
       (counts_on setup t e c a.call (λ own. refl) xs (All-tail (IsCount setup t c a.call) x xs known))
       apart.1
-      (spares_other setup t e (λ f i h. cc))
+      (spares_other setup t e (λ f i h. cc)) (lent_elsewhere cores e (λ f i h. cc))

@@ -159,15 +159,17 @@ count_word (x ∷ xs) w mark = elim (cases_word w (count_of x)) [
       ∙ mark)
 ]
 
--- The call has drawn this stamp or none, and the dues of the counts that it has acquired are these.
+-- The call has drawn this stamp or none, and the dues of the counts that it has acquired are these. Of a frame that is spared the core holds
+-- no count beside those; the frames of these are spared.
 module _ (setup : Setting) (setting : IsSetting setup) (cores : ℕ → Core) (t : Trace) (stands : Stands setup cores t) (c : ℕ)
     (here : c < setup.cores)
     (a : ActiveCall) (active : (cores c).active ≡ Some a) (drawn : Option ℕ) (drawn_small : later 0 drawn < 2 ^ 28)
     (ds : List Due) (all : ds ≡ map due_of a.counts) (small_changes : All (λ d. IsWithin d.change 4) ds)
+    (spared : ℕ → Type 0) (all_spared : All (λ x. spared x.pin.frame) a.counts)
     (move : Move) (r : Reply) (after : Core) (still : (w : Word) → (holds after).marks w ≡ (holds (cores c)).marks w)
-    (before_count : (f d : ℕ) → ((holds (cores c)).marks (CountAt f d) ≡ (holds_counts None a.counts).marks (CountAt f d))
+    (before_count : (f d : ℕ) → spared f → ((holds (cores c)).marks (CountAt f d) ≡ (holds_counts None a.counts).marks (CountAt f d))
     × ((holds (cores c)).stands (CountAt f d) ≡ (holds_counts None a.counts).stands (CountAt f d)))
-    (after_count : (f d : ℕ) → (holds after).stands (CountAt f d) ≡ (holds_counts (Some drawn) a.counts).stands (CountAt f d))
+    (after_count : (f d : ℕ) → spared f → (holds after).stands (CountAt f d) ≡ (holds_counts (Some drawn) a.counts).stands (CountAt f d))
     (alike : ReadsAlike setup t (inner setup setting cores t stands c here a active move (Some r) None))
     (was : marked_by setup t (word_of move) ≡ None) (now : mark_of (state_after setup t) (word_of move)
     (left_of move (last_left setup t (word_of move))) ≡ None)
@@ -188,14 +190,14 @@ module _ (setup : Setting) (setting : IsSetting setup) (cores : ℕ → Core) (t
   shown' = count_shown setup (held_by (put cores c after)) (e ∷ t)
 
   -- a count that the core has marked is one that the call has acquired
-  own_word : (f d : ℕ) → marked_by setup t (CountAt f d) ≡ Some c → (holds_counts None a.counts).marks (CountAt f d) ≡ true
-  own_word f d is = sym (before_count f d).0 ∙ (stands.marks (CountAt f d) c).owned is
+  own_word : (f d : ℕ) → spared f → marked_by setup t (CountAt f d) ≡ Some c → (holds_counts None a.counts).marks (CountAt f d) ≡ true
+  own_word f d ok is = sym (before_count f d ok).0 ∙ (stands.marks (CountAt f d) c).owned is
 
   -- what the word of another count shows stays
-  other_shown : (f d : ℕ) → ((holds_counts None a.counts).marks (CountAt f d) ≡ false) → shown' f d ≡ shown f d
-  other_shown f d bare =
+  other_shown : (f d : ℕ) → spared f → ((holds_counts None a.counts).marks (CountAt f d) ≡ false) → shown' f d ≡ shown f d
+  other_shown f d ok bare =
       ap count_of_word (others_settled setup cores t e after still alike was now (CountAt f d) (no_count f d)
-      (λ is. false≢true (sym bare ∙ own_word f d is)))
+      (λ is. false≢true (sym bare ∙ own_word f d ok is)) refl)
 
   all_known : All (IsCount setup t c a.call) a.counts
   all_known = (call_is setup setting cores t stands c here a active).counts
@@ -209,6 +211,9 @@ module _ (setup : Setting) (setting : IsSetting setup) (cores : ℕ → Core) (t
   module _ (f : ℕ) (has : HasOne a.counts f) where
     abbrev x : Acquired
     x = has.x
+
+    ok : spared x.pin.frame
+    ok = all_at (λ y. spared y.pin.frame) a.counts has.i x has.at all_spared
 
     known : IsCount setup t c a.call x
     known = all_at (IsCount setup t c a.call) a.counts has.i x has.at all_known
@@ -235,7 +240,7 @@ module _ (setup : Setting) (setting : IsSetting setup) (cores : ℕ → Core) (t
     new = later old brought
 
     own_mark : marked_by setup t (count_of x) ≡ Some c
-    own_mark = (stands.marks (count_of x) c).kept ((before_count frame counter).0 ∙ has.one.marked)
+    own_mark = (stands.marks (count_of x) c).kept ((before_count frame counter ok).0 ∙ has.one.marked)
 
     -- before the decision it shows the count that was found
     found_word : committed None x ≡ word_of_count (unheld count old)
@@ -243,7 +248,7 @@ module _ (setup : Setting) (setting : IsSetting setup) (cores : ℕ → Core) (t
 
     settled_found : settled setup (held_by cores) t (count_of x) ≡ committed None x
     settled_found = ap (λ o. settled_by o (held_by cores) (count_of x) (last_left setup t (count_of x))) own_mark
-        ∙ (before_count frame counter).1 ∙ has.one.found
+        ∙ (before_count frame counter ok).1 ∙ has.one.found
 
     shows_found : shown frame counter ≡ Some (unheld count old)
     shows_found = ap count_of_word (settled_found ∙ found_word) ∙ counts.spelling.reads (unheld count old) known.fits
@@ -289,7 +294,7 @@ module _ (setup : Setting) (setting : IsSetting setup) (cores : ℕ → Core) (t
 
     shows_after : shown' frame counter ≡ Some (unheld (count +ℤ x.change) new)
     shows_after = ap count_of_word (own_settled setup cores t e after still alike was now (count_of x) (no_count frame counter) own_mark
-        ∙ after_count frame counter ∙ has.one.made drawn)
+        ∙ after_count frame counter ok ∙ has.one.made drawn)
         ∙ shows_made
 
     core_below : x.pin.core < s.limits.cores
@@ -299,7 +304,7 @@ module _ (setup : Setting) (setting : IsSetting setup) (cores : ℕ → Core) (t
         omega (arith, own, limits, here)
 
     there_shown : (d : ℕ) → d ≢ counter → shown' frame d ≡ shown frame d
-    there_shown d there = other_shown frame d (has.one.bare d there)
+    there_shown d there = other_shown frame d ok (has.one.bare d there)
 
     -- the sum of the counts of its frame, and the newest of their stamps
     sum_here : count_sum (shown' frame) (counters s.limits.cores) ≡ count_sum (shown frame) (counters s.limits.cores) +ℤ x.change
@@ -318,8 +323,8 @@ module _ (setup : Setting) (setting : IsSetting setup) (cores : ℕ → Core) (t
 
   -- and so of every frame: the references change exactly where a due names the frame, by its change, and the last release is then the
   -- stamp that it brings
-  module _ (cores_same : s'.limits.cores ≡ s.limits.cores) (kept : (f : ℕ) → All (λ d. f ≢ d.frame) ds → (refs s' f ≡ refs s f) ×
-      (stamp setup (e ∷ t) (FrameOf f) ≡ stamp setup t (FrameOf f)))
+  module _ (cores_same : s'.limits.cores ≡ s.limits.cores) (kept : (f : ℕ) → spared f → All (λ d. f ≢ d.frame) ds
+      → (refs s' f ≡ refs s f) × (stamp setup (e ∷ t) (FrameOf f) ≡ stamp setup t (FrameOf f)))
       (changes : All (λ d. (pos (refs s' d.frame) ≡ pos (refs s d.frame) +ℤ d.change)
       × (stamp setup (e ∷ t) (FrameOf d.frame) ≡ max (stamp setup t (FrameOf d.frame)) (later 0 (stamp_of_change d.change drawn)))) ds)
     where
@@ -327,10 +332,10 @@ module _ (setup : Setting) (setting : IsSetting setup) (cores : ℕ → Core) (t
       Changes d = (pos (refs s' d.frame) ≡ pos (refs s d.frame) +ℤ d.change)
           × (stamp setup (e ∷ t) (FrameOf d.frame) ≡ max (stamp setup t (FrameOf d.frame)) (later 0 (stamp_of_change d.change drawn)))
 
-      stays : (f : ℕ) → HasNone a.counts f → SumIs setup (held_by (put cores c after)) (e ∷ t) f
-      stays f none =
-          let same : (d : ℕ) → shown' f d ≡ shown f d = (λ d. other_shown f d (none.bare d)) in
-          let stay = kept f (subst (All (λ d. f ≢ d.frame)) (sym all) (All-map (λ d. f ≢ d.frame) due_of a.counts none.apart)) in
+      stays : (f : ℕ) → spared f → HasNone a.counts f → SumIs setup (held_by (put cores c after)) (e ∷ t) f
+      stays f ok none =
+          let same : (d : ℕ) → shown' f d ≡ shown f d = (λ d. other_shown f d ok (none.bare d)) in
+          let stay = kept f ok (subst (All (λ d. f ≢ d.frame)) (sym all) (All-map (λ d. f ≢ d.frame) due_of a.counts none.apart)) in
           record {
             sum = ap (λ (n : ℕ). count_sum (shown' f) (counters n)) cores_same
                 ∙ sum_same (shown f) (shown' f) (counters s.limits.cores) same ∙ (stands.sums f).sum ∙ ap (λ (n : ℕ). pos n) (sym stay.0);
@@ -350,10 +355,10 @@ module _ (setup : Setting) (setting : IsSetting setup) (cores : ℕ → Core) (t
                 ∙ sym change.1;
           }
 
-      pub dues_sum : (f : ℕ) → SumIs setup (held_by (put cores c after)) (e ∷ t) f
-      dues_sum f = elim (which_of f) [
+      pub spared_sum : (f : ℕ) → spared f → SumIs setup (held_by (put cores c after)) (e ∷ t) f
+      spared_sum f ok = elim (which_of f) [
         | inl has ↦ subst (λ (g : ℕ). SumIs setup (held_by (put cores c after)) (e ∷ t) g) (sym has.frame) (here_now f has)
-        | inr none ↦ stays f none
+        | inr none ↦ stays f ok none
       ]
 
   commits_count : count_room s + 4 ≤ count_room s' → (f d : ℕ) → (holds_counts None a.counts).marks (CountAt f d) ≡ true
@@ -372,9 +377,50 @@ module _ (setup : Setting) (setting : IsSetting setup) (cores : ℕ → Core) (t
   ]
 
   -- each count that the call holds says then what its commit will store
-  pub dues_commit : count_room s + 4 ≤ count_room s' → (w : Word) → (holds_counts None a.counts).marks w ≡ true
+  pub spared_commit : count_room s + 4 ≤ count_room s' → (w : Word) → (holds_counts None a.counts).marks w ≡ true
       → WordIs s' (times_of setup (e ∷ t)) w ((holds_counts (Some drawn) a.counts).stands w)
-  dues_commit room w mark =
+  spared_commit room w mark =
       let is = count_word a.counts w mark in
       subst (λ v. WordIs s' (times_of setup (e ∷ t)) v ((holds_counts (Some drawn) a.counts).stands v)) (sym is.2)
       (commits_count room is.0 is.1 (subst (λ v. (holds_counts None a.counts).marks v ≡ true) is.2 mark))
+
+all_unit : (xs : List Acquired) → All (λ x. Unit {0}) xs
+all_unit [] = All-nil (λ x. Unit {0})
+all_unit (x ∷ xs) = All-cons (λ x. Unit {0}) x xs tt (all_unit xs)
+
+-- The core holds no other count.
+module _ (setup : Setting) (setting : IsSetting setup) (cores : ℕ → Core) (t : Trace) (stands : Stands setup cores t) (c : ℕ)
+    (here : c < setup.cores)
+    (a : ActiveCall) (active : (cores c).active ≡ Some a) (drawn : Option ℕ) (drawn_small : later 0 drawn < 2 ^ 28)
+    (ds : List Due) (all : ds ≡ map due_of a.counts) (small_changes : All (λ d. IsWithin d.change 4) ds)
+    (move : Move) (r : Reply) (after : Core) (still : (w : Word) → (holds after).marks w ≡ (holds (cores c)).marks w)
+    (before_count : (f d : ℕ) → ((holds (cores c)).marks (CountAt f d) ≡ (holds_counts None a.counts).marks (CountAt f d))
+    × ((holds (cores c)).stands (CountAt f d) ≡ (holds_counts None a.counts).stands (CountAt f d)))
+    (after_count : (f d : ℕ) → (holds after).stands (CountAt f d) ≡ (holds_counts (Some drawn) a.counts).stands (CountAt f d))
+    (alike : ReadsAlike setup t (inner setup setting cores t stands c here a active move (Some r) None))
+    (was : marked_by setup t (word_of move) ≡ None) (now : mark_of (state_after setup t) (word_of move)
+    (left_of move (last_left setup t (word_of move))) ≡ None)
+    (no_count : (f d : ℕ) → CountAt f d ≢ word_of move) where
+  abbrev e' : Step
+  e' = inner setup setting cores t stands c here a active move (Some r) None
+
+  abbrev before : State
+  before = state_after setup t
+
+  abbrev later_state : State
+  later_state = state_after setup (e' ∷ t)
+
+  pub dues_sum : later_state.limits.cores ≡ before.limits.cores
+      → ((f : ℕ) → All (λ d. f ≢ d.frame) ds → (refs later_state f ≡ refs before f)
+      × (stamp setup (e' ∷ t) (FrameOf f) ≡ stamp setup t (FrameOf f)))
+      → All (λ d. (pos (refs later_state d.frame) ≡ pos (refs before d.frame) +ℤ d.change)
+      × (stamp setup (e' ∷ t) (FrameOf d.frame) ≡ max (stamp setup t (FrameOf d.frame)) (later 0 (stamp_of_change d.change drawn)))) ds
+      → (f : ℕ) → SumIs setup (held_by (put cores c after)) (e' ∷ t) f
+  dues_sum cores_same kept changes f = spared_sum setup setting cores t stands c here a active drawn drawn_small ds all small_changes
+      (λ g. Unit {0}) (all_unit a.counts) move r after still (λ g d ok. before_count g d) (λ g d ok. after_count g d) alike was now no_count
+      cores_same (λ g ok. kept g) changes f tt
+
+  pub dues_commit : count_room before + 4 ≤ count_room later_state → (w : Word) → (holds_counts None a.counts).marks w ≡ true
+      → WordIs later_state (times_of setup (e' ∷ t)) w ((holds_counts (Some drawn) a.counts).stands w)
+  dues_commit = spared_commit setup setting cores t stands c here a active drawn drawn_small ds all small_changes
+      (λ g. Unit {0}) (all_unit a.counts) move r after still (λ g d ok. before_count g d) (λ g d ok. after_count g d) alike was now no_count

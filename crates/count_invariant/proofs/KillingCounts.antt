@@ -20,7 +20,7 @@ use Rattle.call_acts.specs.declared.kills.KillingAt.{KillingAt}
 use Rattle.call_acts.specs.declared.kills.KillingAt.TheVariants.{LoadComp, LoadLive, Close, Draw}
 use Rattle.call_acts.specs.declared.work.Due.{Due}
 use Rattle.call_acts.specs.Acts.{killing_dues}
-use Rattle.core_invariant.specs.Knows.{KillsBy}
+use Rattle.core_invariant.specs.Knows.{KillsBy, untypes}
 use Rattle.count_invariant.proofs.MakingCounts.{no_due}
 
 -- The call that kills a component.
@@ -48,6 +48,10 @@ kill_numbers call ks f is = ap changes_numbers (kill_of call ks f is).call_is
 
 pub kill_raises : (call : Call) (ks : List Capability) (f : ℕ) → KillsBy call ks f → IsTrue (raises_clock call)
 kill_raises call ks f is = subst (λ x. IsTrue (raises_clock x)) (sym (kill_of call ks f is).call_is) refl
+
+-- It makes no frame untyped.
+pub kill_types : (call : Call) (ks : List Capability) (f : ℕ) → KillsBy call ks f → untypes call ≡ false
+kill_types call ks f is = ap untypes (kill_of call ks f is).call_is
 
 -- The component is near it.
 pub kill_near : (s : State) (c : ℕ) (call : Call) (ks : List Capability) (f : ℕ) → KillsBy call ks f

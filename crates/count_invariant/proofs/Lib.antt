@@ -1,7 +1,13 @@
 pub mod PutCounts
+pub mod ActBares
+pub mod StackCounts
 pub mod Acquiring
 pub mod CountChanges
 pub mod CapChanges
 pub mod MakingCounts
 pub mod KillingCounts
 pub mod LinkCounts
+pub mod CompCounts
+pub mod SwitchCounts
+pub mod ActHolds
+pub mod SweepCounts

@@ -30,6 +30,7 @@ use Rattle.call_plans.specs.declared.plans.Nth.TheVariants.{Third}
 use Rattle.call_plans.specs.Plans.{at_place}
 use Rattle.call_plans.specs.PlanOf.{plan_for, of_kind as of_kind_name}
 use Rattle.call_plans.specs.After.{Leads, LeadsIn}
+use Rattle.stage_pins.specs.declared.held.Acquired.{Acquired}
 use Rattle.call_acts.specs.Acts.{made_dues}
 use Rattle.call_acts.specs.Objects.{object_names, object_dues, object_made, thread_on}
 use Rattle.call_acts.specs.Makings.{undo_at}
@@ -39,7 +40,7 @@ use Rattle.call_acts.specs.declared.makings.MakingAt.TheVariants.{Mark, Store, L
 use Rattle.call_acts.specs.declared.objects.NewObject.{NewObject}
 use Rattle.call_acts.specs.declared.objects.NewObject.TheVariants.{Table, Leaf, Pages, Pleaf, Thread, Tcap}
 use Rattle.call_acts.specs.declared.work.Due.{Due}
-use Rattle.core_invariant.specs.Knows.{KnowsTail, MakesBy, KnowsMakingAt, KnowsUnmark, blank_word}
+use Rattle.core_invariant.specs.Knows.{KnowsTail, MakesBy, KnowsMakingAt, KnowsUnmark, blank_word, untypes}
 
 -- The frame of a count that is due is one that the capability names.
 pub due_named : (fs : List ℕ) (z : ℤ) (xs : List Due) (d : Due) (rest : List Due)
@@ -70,6 +71,12 @@ pub made_changes : (call : Call) (ks : List Capability) (m : Making) → MakesBy
 made_changes (make_call what r f u b) (range ∷ ks) m is = refl
 made_changes (make_call what r f u b) [] m is = absurd is
 made_changes call ks m is = absurd is
+
+-- It makes no frame untyped.
+pub made_types : (call : Call) (ks : List Capability) (m : Making) → MakesBy call ks m → untypes call ≡ false
+made_types (make_call what r f u b) (range ∷ ks) m is = refl
+made_types (make_call what r f u b) [] m is = absurd is
+made_types call ks m is = absurd is
 
 pub made_argument : (call : Call) (ks : List Capability) (m : Making) → MakesBy call ks m → is_one_of m.frame (frame_argument call) ≡ true
 made_argument (make_call what r f u b) (range ∷ ks) m is = ap (λ b. b || false) (eq-eqb f m.frame (sym is.frame))
@@ -197,10 +204,10 @@ blank_left f word call changes argument says = record {
       subst (λ (n : ℕ). n < 2 ^ 64) spells.1 (frames.spelling.small blank_word spells.0);
 }
 
-pub made_left : (setup : Setting) (t u : Trace) (c f : ℕ) (object : NewObject) (at : MakingAt) (call : Call)
+pub made_left : (setup : Setting) (t u : Trace) (c : ℕ) (counts : List Acquired) (f : ℕ) (object : NewObject) (at : MakingAt) (call : Call)
     → changes_frames call ≡ true → is_one_of f (frame_argument call) ≡ true → KnowsMakingAt setup t c f object at
-    → KnowsTail setup u c call (undo_at f at)
-made_left setup t u c f object making_load call changes argument knows = tt
-made_left setup t u c f object (Mark word) call changes argument knows = tt
-made_left setup t u c f object (Store word entry) call changes argument knows = blank_left f word call changes argument knows.says
-made_left setup t u c f object (making_fill word) call changes argument knows = blank_left f word call changes argument knows.says
+    → KnowsTail setup u c call counts (undo_at f at)
+made_left setup t u c counts f object making_load call changes argument knows = tt
+made_left setup t u c counts f object (Mark word) call changes argument knows = tt
+made_left setup t u c counts f object (Store word entry) call changes argument knows = blank_left f word call changes argument knows.says
+made_left setup t u c counts f object (making_fill word) call changes argument knows = blank_left f word call changes argument knows.says

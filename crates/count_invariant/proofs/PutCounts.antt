@@ -5,7 +5,7 @@ use Rattle.std.proofs.lemmas.Bool.{false≢true, eq-eqb, eqb-true, eqb-false}
 use Rattle.std.proofs.lemmas.List.Elements.{All-nil, All-cons, All-head, All-tail, All-append}
 use Rattle.spk_nums.specs.Capability.{Capability}
 use Rattle.spk_nums.specs.declared.calls.Call.{Call}
-use Rattle.spk_nums.specs.declared.calls.Call.TheVariants.{Look, Copy, Remove, Shrink, Unmap, Retype, Make as make_call, Tick, Gate, Kill, Grow, Flush, Map}
+use Rattle.spk_nums.specs.declared.calls.Call.TheVariants.{Look, Copy, Remove, Shrink, Unmap, Retype, Make as make_call, Tick, Gate, Kill, Grow, Touch, Flush, Map, Call as call_gate, Ret, Transfer, Test, Switch}
 use Rattle.supported_calls.specs.Built.{IsBuilt}
 use Rattle.kernel_rules.specs.State.{State}
 use Rattle.kernel_rules.specs.References.{named_by}
@@ -39,10 +39,16 @@ put_counts (Map p v r f w) built ks read k puts = refl
 put_counts (Unmap p v) built ks read k puts = absurd (cc)
 put_counts (Retype r f j) built ks read k puts = absurd (cc)
 put_counts (make_call what r f u b) built ks read k puts = absurd (cc)
+put_counts (Touch v) built ks read k puts = absurd (cc)
 put_counts Flush built ks read k puts = absurd (cc)
 put_counts (Tick n) built ks read k puts = absurd (cc)
 put_counts (Gate n u b) built ks read k puts = refl
 put_counts (Kill n) built ks read k puts = absurd (cc)
+put_counts (call_gate n) built ks read k puts = absurd (cc)
+put_counts Ret built ks read k puts = absurd (cc)
+put_counts (Transfer x y m) built ks read k puts = absurd (cc)
+put_counts (Test x y) built ks read k puts = absurd (cc)
+put_counts (Switch x y) built ks read k puts = absurd (cc)
 put_counts call built ks read k puts = absurd built
 
 cap_same : (j k : Capability) → Some j ≡ Some k → j ≡ k
@@ -92,8 +98,14 @@ put_near s c (Map p v r g w) built ks read k puts lead f names_it = page_near s 
 put_near s c (Unmap p v) built ks read k puts lead f names_it = absurd (cc)
 put_near s c (Retype r g j) built ks read k puts lead f names_it = absurd (cc)
 put_near s c (make_call what r g u b) built ks read k puts lead f names_it = absurd (cc)
+put_near s c (Touch v) built ks read k puts lead f names_it = absurd (cc)
 put_near s c Flush built ks read k puts lead f names_it = absurd (cc)
 put_near s c (Tick n) built ks read k puts lead f names_it = absurd (cc)
 put_near s c (Gate n u b) built ks read k puts lead f names_it = gate_near s c n u b ks (at_place ks First) read k refl puts lead f names_it
 put_near s c (Kill n) built ks read k puts lead f names_it = absurd (cc)
+put_near s c (call_gate n) built ks read k puts lead f names_it = absurd (cc)
+put_near s c Ret built ks read k puts lead f names_it = absurd (cc)
+put_near s c (Transfer x y m) built ks read k puts lead f names_it = absurd (cc)
+put_near s c (Test x y) built ks read k puts lead f names_it = absurd (cc)
+put_near s c (Switch x y) built ks read k puts lead f names_it = absurd (cc)
 put_near s c call built ks read k puts lead f names_it = absurd built

@@ -6,4 +6,6 @@
 //! its frame is marked.
 //!
 //! The lemmas stand in this crate's proofs.
+//!
+//! See docs/PROOF.md, 'The sum of counts'.
 #![tactic(auto)]

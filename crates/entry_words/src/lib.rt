@@ -1,4 +1,6 @@
 //! The packed word of a place in a node: free, held, closing or quiescing.
+//!
+//! See docs/FORMATS.md, 'Packed words'.
 #![tactic(auto)]
 
 mod entry;

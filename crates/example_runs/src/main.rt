@@ -3,6 +3,8 @@
 //! a line for each says whether status and bytes are the same. A script with no answer, an answer with no script and a
 //! file that is neither are told. The exit status is 0 where each is the same and none of these was found, 2 where a
 //! file cannot be read or memory runs out, else 1.
+//!
+//! See CONTRIBUTING.md, 'To add an example'.
 #![tactic(auto)]
 
 mod names;

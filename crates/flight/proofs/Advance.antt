@@ -11,7 +11,7 @@ use Rattle.word_map.specs.Moves.{LoadOf, StoreOf, word_of, told_of}
 use Rattle.kernel_history.specs.Trace.{Step, Trace, last_left}
 use Rattle.kernel_history.specs.Stamps.{clock}
 use Rattle.kernel_history.proofs.Steps.{clock_seen-own}
-use Rattle.call_acts.specs.declared.work.Tail.TheVariants.{Nothing, Quiesce, Unmark, StoreDead, StoreFlush, Release}
+use Rattle.call_acts.specs.declared.work.Tail.TheVariants.{Nothing, Quiesce, Unmark, StoreDead, StoreFlush, Release, StoreLive, Push, Pop, Share, StoreRunning, StoreIdle}
 use Rattle.call_steps.specs.declared.stages.Stage.{Stage}
 use Rattle.call_steps.specs.declared.stages.Stage.TheVariants.{Enter, Undecided, Decided, Leave}
 use Rattle.call_steps.specs.declared.stages.ActiveCall.{ActiveCall}
@@ -36,9 +36,14 @@ use Rattle.flight.specs.Phases.{IsWord}
 use Rattle.flight.proofs.CoreFits.{begun_fits, after_fits}
 use Rattle.flight.proofs.Spelling.{stage_word}
 use Rattle.place_invariant.proofs.Removals.{store_good}
+use Rattle.frame_invariant.proofs.CompStores.{give_live_good}
 use Rattle.frame_invariant.proofs.Makes.{unmark_good}
+use Rattle.thread_invariant.proofs.Stacks.{push_good, pop_good}
+use Rattle.share_invariant.proofs.Shares.{shared_good}
 use Rattle.live_invariant.proofs.Killed.{dead_good}
 use Rattle.page_invariant.proofs.Flushes.{flushed_good}
+use Rattle.switch_invariant.proofs.Stores.{running_good, idle_good}
+use Rattle.sweep_invariant.proofs.Releases.{release_good}
 use Rattle.work_invariant.proofs.Work.{work_good}
 use Rattle.flight.proofs.Entries.{enter_good}
 
@@ -121,7 +126,17 @@ module _ (setup : Setting) (setting : IsSetting setup) (cores : ℕ → Core) (t
       dead_good setup setting cores t stands c here a active r drawn life x at knows
   stage_good a (Decided r drawn (StoreFlush by x)) active at knows =
       flushed_good setup setting cores t stands c here a active r drawn by x at knows
-  stage_good a (Decided r drawn (Release release)) active at knows = absurd knows
+  stage_good a (Decided r drawn (Release release)) active at knows =
+      release_good setup setting cores t stands c here a active r drawn release at knows
+  stage_good a (Decided r drawn (Share p)) active at knows = shared_good setup setting cores t stands c here a active r drawn p at knows
+  stage_good a (Decided r drawn (StoreRunning f core depth old old_depth)) active at knows =
+      running_good setup setting cores t stands c here a active r drawn f core depth old old_depth at knows
+  stage_good a (Decided r drawn (StoreIdle f depth)) active at knows =
+      idle_good setup setting cores t stands c here a active r drawn f depth at knows
+  stage_good a (Decided r drawn (StoreLive l live f word)) active at knows =
+      give_live_good setup setting cores t stands c here a active r drawn l live f word at knows
+  stage_good a (Decided r drawn (Push push)) active at knows = push_good setup setting cores t stands c here a active r drawn push at knows
+  stage_good a (Decided r drawn (Pop pop)) active at knows = pop_good setup setting cores t stands c here a active r drawn pop at knows
   stage_good a (Leave r x) active at knows = leave_good a r x active at
 
   -- the step of a call

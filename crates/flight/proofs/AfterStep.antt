@@ -5,7 +5,7 @@ use Rattle.call_steps.specs.declared.stages.ActiveCall.{ActiveCall}
 use Rattle.call_steps.specs.Steps.{Took, GoesOn, Decides, Returns, Changes, took}
 use Rattle.call_steps.specs.View.{Core}
 use Rattle.call_acts.specs.declared.own.Own.{Own}
-use Rattle.call_acts.specs.declared.own.OwnChange.TheVariants.{Ticks, Empties}
+use Rattle.call_acts.specs.declared.own.OwnChange.TheVariants.{Ticks, Empties, Works, Caches, Switches}
 use Rattle.call_steps.specs.Cores.{core_after, absorbed_in, absorbed, told_by, told_in, told_of_step}
 use Rattle.core_invariant.specs.Events.{returned_in}
 
@@ -15,6 +15,9 @@ after_shape own (Decides r a) = refl
 after_shape own (Returns r x) = refl
 after_shape own (Changes r (Ticks charged owed) a) = refl
 after_shape own (Changes r Empties a) = refl
+after_shape own (Changes r (Works comp table pages depth) a) = refl
+after_shape own (Changes r (Caches item) a) = refl
+after_shape own (Changes r (Switches thread depth comp table pages tcap) a) = refl
 
 absorbed_in_shape : (own : Own) (o : Option ActiveCall) (found : ℕ) → (absorbed_in own o found).own.layout ≡ own.layout
 absorbed_in_shape own None found = refl

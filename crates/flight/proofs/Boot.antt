@@ -1,4 +1,5 @@
 -- The start stands for no step.
+use Rattle.core_invariant.proofs.Bare.{none_value}
 use Rattle.std.proofs.Common.{◌≡◌, inl, inr, ℕ, zero, suc, ◌+◌, ◌<◌, ◌≤◌, ◌==◌, ◌*◌, ◌-◌, ◌∷◌, nat_lt, length, slice_get, Bool, true, false, [], Option, Some, None, arith, refl, sym, ◌∙◌, ap, subst, IsTrue, if◌then◌else◌, pos, ◌+ℤ◌, max}
 use Rattle.std.proofs.lemmas.Bool.{cases_lt, false≢true, lt-ltb, eqb-true}
 use Rattle.spk_nums.specs.Capability.{Capability}
@@ -20,7 +21,7 @@ use Rattle.frame_words.proofs.FlushLemmas as flushes
 use Rattle.frame_words.proofs.FrameLemmas as frames
 use Rattle.frame_words.proofs.LiveLemmas as lives
 use Rattle.word_map.specs.Word.{Word, EntryAt, FrameAt, CountAt, CoreAt, FlushAt, LiveAt, ClockAt}
-use Rattle.kernel_rules.specs.State.{Place, Free, Holds, Quiescing, Object, Blank, Table, Leaf, Pages, Pleaf, Comp, Thread, Tcap, Frame, Untyped, User, Kernel, State, comp_in, thread_in, thread_of, first_of_stack}
+use Rattle.kernel_rules.specs.State.{Place, Free, Holds, Quiescing, Object, Blank, Table, Leaf, Pages, Pleaf, Comp, Thread, Tcap, TcapFields, Frame, Untyped, User, Kernel, State, comp_in, thread_in, thread_of, first_of_stack}
 use Rattle.kernel_rules.specs.Start.{start, start_place, start_cap, place_with, start_frame, start_number, granted}
 use Rattle.kernel_rules.specs.References.{refs}
 use Rattle.kernel_rules.specs.Fitting.{fits, IsGood, EndsWithin}
@@ -35,7 +36,10 @@ use Rattle.kernel_history.proofs.GraceSteps.{grace_start, times_start}
 use Rattle.stage_look.specs.Shown.{CapNames}
 use Rattle.kernel_history.specs.Marking.{marked_by}
 use Rattle.core_invariant.specs.Holding.{settled_by}
-use Rattle.core_invariant.specs.Words.{PlaceIs, IsObjectWord, IsFrameWord, NumberIs, WordIs}
+use Rattle.core_invariant.specs.Words.{PlaceIs, IsObjectWord, IsFrameWord, NumberIs, WordIs, count_room}
+use Rattle.tcap_words.specs.Head.{word_of_head, head_of_word}
+use Rattle.tcap_words.specs.declared.head_word.HeadWord.{HeadWord}
+use Rattle.tcap_words.proofs.HeadLemmas as heads
 use Rattle.core_invariant.specs.Stands.{held_by, times_of, count_shown, SumIs}
 use Rattle.core_invariant.specs.CountWords.{stamp_in}
 use Rattle.kernel_history.specs.Counts.{count_in}
@@ -116,7 +120,24 @@ past_free setup setting f i past = by_place (start_place setup f i) refl
 next : (i : ℕ) → 1 + i ≡ suc i
 next i = omega arith
 
+-- The head of a temporal capability is in its first version.
+first_version : (q : TcapFields) (version : ℕ)
+    → head_of_word (word_of_head (record { budget = q.budget; mark = None; version = 0 }))
+    ≡ Some (record { budget = q.budget; mark = None; version = version }) → version ≤ 16
+first_version q version says =
+    let fits = (heads.spelling.spells _ (record { budget = q.budget; mark = None; version = version }) says).0 in
+    let none : Some (record { budget = q.budget; mark = None; version = 0 }) ≡ Some (record { budget = q.budget; mark = None; version = version })
+    = sym (heads.spelling.reads (record { budget = q.budget; mark = None; version = 0 }) (fits.0, tt, omega arith)) ∙ says in
+    let same = version_of _ _ none in omega (arith, same)
+  where
+    version_of : (v u : HeadWord) → Some v ≡ Some u → v.version ≡ u.version
+    version_of v u h = cc
+
 module _ (setup : Setting) (setting : IsSetting setup) where
+  -- no call is counted
+  abbrev boot_room : ℕ
+  boot_room = count_room (start setup)
+
   parts : Represent (boot_word setup) (λ c. Rattle.kernel_history.specs.FinalWords.end_of (start setup) c) (start setup)
   parts = (boot_represents setup setting).parts
 
@@ -165,7 +186,7 @@ module _ (setup : Setting) (setting : IsSetting setup) where
       (ap head_mark h.head)
 
   object_says : (f : ℕ) (x : Object) → AreObject x (start_place setup f) (λ i. boot_object x (start_place setup f) i)
-      → (i : ℕ) → IsObjectWord setup.frames x (start_place setup f i) 0 i (boot_object x (start_place setup f) i)
+      → (i : ℕ) → IsObjectWord setup.frames boot_room x (start_place setup f i) 0 i (boot_object x (start_place setup f) i)
   object_says f Blank h i = tt
   object_says f Table h i = node_says f h i
   object_says f Leaf h i = node_says f h i
@@ -180,7 +201,7 @@ module _ (setup : Setting) (setting : IsSetting setup) where
       λ below. subst (λ (j : ℕ). Rattle.tcap_words.specs.Stack.stack_of_word (boot_object (Thread t) (start_place setup f) j) ≡ Some
       (record { 0 = Rattle.kernel_history.specs.ObjectWords.at_height t.stack i }))
       (next i) (h.stack i below)
-  object_says f (Tcap q) h zero = record { version = h.version; says = h.head; most = h.most }
+  object_says f (Tcap q) h zero = record { version = h.version; says = h.head; within = (let few = first_version q h.version h.head in omega (arith, few)); most = h.most }
   object_says f (Tcap q) h (suc i) =
       λ below. subst (λ (j : ℕ). Rattle.tcap_words.specs.Quality.quality_of_word (boot_object (Tcap q) (start_place setup f) j) ≡ Some
       (record { 0 = slice_get q.qualities i }))
@@ -193,7 +214,7 @@ module _ (setup : Setting) (setting : IsSetting setup) where
   frame_marks f (Kernel x) h i = object_marks f x h i
 
   frame_says : (f : ℕ) (x : Frame) → AreFrame x (start_place setup f) (λ i. boot_frame x (start_place setup f) i)
-      → (i : ℕ) → IsFrameWord setup.frames x (start_place setup f i) 0 i (boot_frame x (start_place setup f) i)
+      → (i : ℕ) → IsFrameWord setup.frames boot_room x (start_place setup f i) 0 i (boot_frame x (start_place setup f) i)
   frame_says f Untyped h i = tt
   frame_says f User h i = tt
   frame_says f (Kernel x) h i = object_says f x h i
@@ -300,17 +321,22 @@ boots setup setting = record {
   marked = λ w d h. absurd (none_some d (sym (boot_mark setup setting w) ∙ h));
   marks = λ w d. record { owned = λ h. absurd (none_some d (sym (boot_mark setup setting w) ∙ h)); kept = λ h. absurd (false≢true h) };
   words = λ w. subst (λ o. WordIs (start setup) (times_of setup []) w (settled_by o (held_by (boot_cores setup)) w (boot_word setup w)))
-      (sym (boot_mark setup setting w)) (boot_says setup setting w);
+      (sym (boot_mark setup setting w))
+      (subst (WordIs (start setup) (times_of setup []) w)
+      (sym (none_value (held_by (boot_cores setup)) w (boot_word setup w) (λ f i d. refl))) (boot_says setup setting w));
+  lent = λ d f i v h. absurd (none_some v h);
   sums = boot_sums setup setting;
   draws = omega arith;
   some_time = omega arith;
   times = times_start setup;
   graces = grace_start setup;
+  unbegun = λ x d. (λ same. refl, λ same. refl);
   each = λ c here. let whose = thread_is setup setting c here in record {
     fits = started_fits c setup setting here;
     number = refl;
     shape = refl;
     limit = refl;
+    epochs = refl;
     works = record {
       thread = refl;
       depth = ap (λ k. length k.stack) (sym whose);

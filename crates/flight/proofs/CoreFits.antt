@@ -8,7 +8,7 @@ use Rattle.supported_calls.specs.Built.{IsBuilt}
 use Rattle.kernel_rules.specs.Laws.{calls_counted}
 use Rattle.call_acts.specs.declared.own.Own.{Own}
 use Rattle.call_acts.specs.declared.own.OwnChange.{OwnChange}
-use Rattle.call_acts.specs.declared.own.OwnChange.TheVariants.{Ticks, Empties}
+use Rattle.call_acts.specs.declared.own.OwnChange.TheVariants.{Ticks, Empties, Works, Caches, Switches}
 use Rattle.spk_nums.specs.declared.replies.Reply.{Reply}
 use Rattle.call_steps.specs.declared.stages.ActiveCall.{ActiveCall}
 use Rattle.call_steps.specs.View.{Core}
@@ -28,11 +28,14 @@ started_fits c setting h below =
         shape = record { some_core = h.some_core; most_cores = h.most_cores; least_frames = least; most_frames = h.most_frames };
         core = below;
         thread = omega arith;
+        some_depth = omega arith;
+        most_depth = omega arith;
         comp = omega arith;
         table = omega arith;
         pages = omega arith;
         tcap = omega arith;
         most_calls = h.most_calls;
+        most_epochs = h.most_epochs;
         made = omega arith;
       };
       active = tt;
@@ -52,12 +55,15 @@ left_fits own x h = record {
   shape = h.shape;
   core = h.core;
   thread = h.thread;
+  some_depth = h.some_depth;
+  most_depth = h.most_depth;
   comp = h.comp;
   table = h.table;
   pages = h.pages;
   tcap =
       h.tcap;
   most_calls = h.most_calls;
+  most_epochs = h.most_epochs;
   made = h.made;
 }
 
@@ -66,6 +72,9 @@ further_changed : (own : Own) (a : ActiveCall) (r : Reply) (change : OwnChange) 
     → GoesFurther own a (core_after own (Changes r change new))
 further_changed own a r (Ticks charged owed) new fits fewer = record { fits = fits; fewer = fewer }
 further_changed own a r Empties new fits fewer = record { fits = fits; fewer = fewer }
+further_changed own a r (Works comp table pages depth) new fits fewer = record { fits = fits; fewer = fewer }
+further_changed own a r (Caches item) new fits fewer = record { fits = fits; fewer = fewer }
+further_changed own a r (Switches thread depth comp table pages tcap) new fits fewer = record { fits = fits; fewer = fewer }
 
 further : (own : Own) (a : ActiveCall) (found : ℕ) (k : Took) → took own a found ≡ k → IsCore (record { own = own; active = Some a })
     → GoesFurther own a (core_after own k)

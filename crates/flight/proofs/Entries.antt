@@ -1,22 +1,24 @@
 -- The entry of a call is good: its calls are spent, its first name has no slot, or it looks that name up.
-use Rattle.std.proofs.Common.{◌≡◌, ℕ, ◌+◌, ◌<◌, ◌≤◌, [], ◌∷◌, Bool, true, false, nat_le, Some, None, arith, refl, sym, ◌∙◌, ap, subst}
-use Rattle.std.proofs.lemmas.Bool.{leb-true}
+use Rattle.std.proofs.Common.{◌≡◌, ℕ, ◌+◌, ◌<◌, ◌≤◌, [], ◌∷◌, Bool, true, false, nat_le, length, Some, None, arith, refl, sym, ◌∙◌, ap, subst, inl, if◌then◌else◌}
+use Rattle.std.proofs.lemmas.Bool.{leb-true, leb-false, lt-ltb}
 use Rattle.spk_nums.specs.Setting.{Setting, IsSetting}
 use Rattle.spk_nums.specs.declared.kinds.Kind.{Kind}
 use Rattle.spk_nums.specs.declared.calls.Call.{Call}
 use Rattle.spk_nums.specs.declared.kinds.FrameKind.TheVariants.{Untyped, User, Kernel}
-use Rattle.spk_nums.specs.declared.calls.Call.TheVariants.{Look as look_call, Copy, Remove, Shrink, Unmap, Retype, Make as make_call, Tick, Gate, Kill, Grow, Flush, Map}
+use Rattle.spk_nums.specs.declared.calls.Call.TheVariants.{Look as look_call, Copy, Remove, Shrink, Unmap, Retype, Make as make_call, Tick, Gate, Kill, Grow, Touch, Flush, Map, Call as call_gate, Ret, Transfer, Test, Switch}
 use Rattle.spk_nums.specs.declared.calls.Make.TheVariants as make
 use Rattle.spk_nums.specs.declared.replies.Reply.TheVariants as reply
 use Rattle.supported_calls.specs.Built.{IsBuilt}
 use Rattle.word_map.specs.Word.{CoreAt}
 use Rattle.word_map.specs.Places.{IsIn as IsInShape}
 use Rattle.word_map.specs.Moves.{StoreOf}
-use Rattle.kernel_rules.specs.State.{State, comp_of}
-use Rattle.kernel_rules.specs.Access.{root_at}
+use Rattle.kernel_rules.specs.State.{State, comp_of, first_of_stack, thread_in, thread_of}
+use Rattle.kernel_rules.specs.InvocationCalls.{pops}
+use Rattle.kernel_rules.specs.Access.{root_at, Under}
+use Rattle.kernel_rules.specs.MemoryCalls.{translation_of}
 use Rattle.kernel_rules.specs.Relies.{Relies}
 use Rattle.kernel_rules.specs.GracePeriods.{entered}
-use Rattle.kernel_rules.specs.Rules.{RuleMay, Refused}
+use Rattle.kernel_rules.specs.Rules.{RuleMay, Refused, unless, first_of}
 use Rattle.kernel_rules.specs.CallRelation.{rule_of, change_of, are_calls_spent, counted}
 use Rattle.kernel_rules.proofs.Within.{put_same}
 use Rattle.kernel_history.specs.BootWords.{shape_of}
@@ -24,7 +26,7 @@ use Rattle.kernel_history.specs.Trace.{Step, Trace, Out, Open, phase, state_afte
 use Rattle.kernel_history.specs.Legal.{MayFollow}
 use Rattle.kernel_history.proofs.AloneCalls.{spent_first, refused_first}
 use Rattle.kernel_history.proofs.Steps.{phase-own}
-use Rattle.kernel_history.proofs.Stays.{relies_table, entered_comp}
+use Rattle.kernel_history.proofs.Stays.{relies_table, relies_pages, entered_comp}
 use Rattle.stage_look.specs.declared.look.Look.TheVariants.{AtRoot}
 use Rattle.call_plans.specs.GoesBy.{own_pages}
 use Rattle.call_plans.specs.PlanOf.{plan_for}
@@ -34,10 +36,12 @@ use Rattle.call_plans.proofs.AfterNames.{next_may}
 use Rattle.call_acts.specs.declared.refusals.Refusal.TheVariants as refusal
 use Rattle.call_acts.specs.declared.work.Work.TheVariants.{Lookup, Act}
 use Rattle.call_acts.specs.declared.work.Act.{Act as ActOf}
-use Rattle.call_acts.specs.declared.work.Act.TheVariants.{Tick as tick_act, Flush as flush_act}
+use Rattle.call_acts.specs.declared.work.Act.TheVariants.{Tick as tick_act, Touch as touch_act, Flush as flush_act, Return as return_act}
+use Rattle.call_acts.specs.declared.invocations.ReturningAt.TheVariants.{LoadBelow}
 use Rattle.stage_tcap.specs.declared.charge.Charge.TheVariants.{AtLoad}
-use Rattle.call_acts.specs.Acts.{reads_of}
+use Rattle.call_acts.specs.Acts.{reads_of, returns_at, returns_if}
 use Rattle.call_acts.specs.Flushes.{flushes}
+use Rattle.call_acts.specs.Touches.{touching, touches, touches_if}
 use Rattle.call_acts.specs.Ticks.{ticks_due, charges}
 use Rattle.call_acts.specs.declared.work.WorkStep.TheVariants.{Goes}
 use Rattle.call_acts.specs.declared.work.Tail.TheVariants.{Nothing}
@@ -59,6 +63,7 @@ use Rattle.flight.specs.Made.{MayBegin}
 use Rattle.plan_ways.specs.Laws.{NextRefused}
 use Rattle.plan_ways.proofs.Ways.{next_first}
 use Rattle.look_invariant.proofs.Findings.{past_slot, past_unreached, named_no_slot}
+use Rattle.page_invariant.proofs.TouchCalls.{past_may, past_first}
 
 module _ (setup : Setting) (setting : IsSetting setup) (cores : ℕ → Core) (t : Trace) (stands : Stands setup cores t) (c : ℕ)
     (here : c < setup.cores)
@@ -224,6 +229,85 @@ module _ (setup : Setting) (setting : IsSetting setup) (cores : ℕ → Core) (t
         };
       })
 
+  -- a touch looks its page up, or its number is past its range
+  module _ (v : ℕ) (is : call ≡ Touch v) where
+    abbrev touches_page : Took
+    touches_page = landed (fresh call) (Goes (Act (touch_act (touching (cores c).own v))))
+
+    abbrev e_touch : Step
+    e_touch = step touches_page
+
+    follows_touch : IsInShape (shape_of setup) (CoreAt c) → MayFollow setup t e_touch
+    follows_touch is_in = record {
+      is_core = here;
+      is_in = is_in;
+      is_named = refl;
+      found = refl;
+      small = core_small true (cores c).own.exit (let a = (stands.times c).exit in let b = (stands.each c here).exit in let m =
+          clock_small setup setting cores t stands in omega arith);
+      enters = (out, may.limits);
+      in_call = not_out;
+      decides = tt;
+      returns = tt;
+    }
+      where
+        not_out : Open call ≡ Out → ⊥
+        not_out h = cc
+
+    page_looks : IsInShape (shape_of setup) (CoreAt c) → v ≤ 4095
+        → LooksUp setup (e_touch ∷ t) c (Under (root_at (cores c).own.pages) v) (AtRoot (cores c).own.pages v)
+    page_looks is_in within = record {
+      relies = subst (λ (f : ℕ). Relies (entered s c) c f) (ap (λ k. k.pages) (entered_comp s c) ∙ sym (stands.each c here).works.pages)
+          (relies_pages setup setting (e_touch ∷ t) (stands.legal, follows_touch is_in) c call (phase-own c e_touch t refl));
+      at = record { found = refl; frame = refl; same = refl; within = within };
+    }
+
+    touches_within : is_spent (cores c).own ≡ false → v ≤ 4095 → GoodEntry touches_page
+    touches_within unspent within lands =
+        let works = (stands.each c here).works in
+        let core_is = put_same s.core c (record (s.core c) { inside = true }) c refl in
+        enters_on setup setting cores t stands c here (cores c).own.made call None
+        (Undecided (Act (touch_act (touching (cores c).own v))))
+        may.between may.limits lands refl refl
+        (calm_entered s c)
+        (record { begins = λ x. refl; ends = λ x. refl; flushes = refl; apart = λ d. refl; same = refl })
+        (let made = works.made in let same = same_count in omega arith)
+        (λ g i. refl)
+        tt
+        tt
+        (record {
+          names = tt;
+          knows = record {
+            knows = record {
+              call_is = is;
+              root = works.pages ∙ ap (λ k. k.pages) (sym (entered_comp s c));
+              all = ap (λ x. x.frames) (stands.each c here).shape;
+              known = ap (λ xs. translation_of xs (cores c).own.pages v) (works.cached ∙ ap (λ k. k.cached) (sym core_is));
+              first = λ some. refl;
+              looks = page_looks lands.is_in within;
+            };
+            all = refl;
+            goes = refl;
+          };
+        })
+
+    touches_past : is_spent (cores c).own ≡ false → nat_le v 4095 ≡ false → GoodEntry (landed (fresh call) (refuse refusal.NoSlot))
+    touches_past unspent past =
+        let pages : ℕ = (comp_of (entered s c) c).pages in
+        let cached = translation_of ((entered s c).core c).cached pages v in
+        let beyond = lt-ltb 4095 v (leb-false v 4095 past) in
+        enters_refused unspent
+        (subst (λ x. RuleMay (entered s c) c (rule_of (entered s c) c x) reply.NoSlot) (sym is)
+        (past_may (entered s c) c pages v cached beyond))
+        (subst (λ x. change_of (entered s c) c x ≡ Refused reply.NoSlot) (sym is) (past_first (entered s c) c pages v cached beyond))
+
+    enters_touch : is_spent (cores c).own ≡ false → GoodEntry (landed (fresh call) (touches (cores c).own v))
+    enters_touch unspent = by (nat_le v 4095) refl
+      where
+        by : (within : Bool) → nat_le v 4095 ≡ within → GoodEntry (landed (fresh call) (touches_if within (cores c).own v))
+        by true in_range = touches_within unspent (leb-true v 4095 in_range)
+        by false past = touches_past unspent past
+
   -- a flush loads the clock
   enters_flush : call ≡ Flush → is_spent (cores c).own ≡ false → GoodEntry (landed (fresh call) (flushes (cores c).own.core))
   enters_flush is unspent lands =
@@ -241,6 +325,90 @@ module _ (setup : Setting) (setting : IsSetting setup) (cores : ℕ → Core) (t
         knows = record { knows = record { call_is = is; core = (stands.each c here).number }; all = refl; goes = refl };
       })
 
+  -- a return leaves the component on top of the stack, or there is none below it
+  module _ (is : call ≡ Ret) where
+    same_own : (entered s c).core c ≡ record (s.core c) { inside = true }
+    same_own = put_same s.core c (record (s.core c) { inside = true }) c refl
+
+    same_thread : thread_of (entered s c) c ≡ thread_of s c
+    same_thread = ap (λ k. thread_in (s.frame k.thread)) same_own
+
+    depth_is : (cores c).own.depth ≡ length (thread_of (entered s c) c).stack
+    depth_is = (stands.each c here).works.depth ∙ ap (λ k. length k.stack) (sym same_thread)
+
+    at_bottom : nat_le (cores c).own.depth 1 ≡ true → nat_le (length (thread_of (entered s c) c).stack) 1 ≡ true
+    at_bottom low = sym (ap (λ (n : ℕ). nat_le n 1) depth_is) ∙ low
+
+    returns_not : is_spent (cores c).own ≡ false → nat_le (cores c).own.depth 1 ≡ true
+        → GoodEntry (landed (fresh call) (refuse refusal.Bottom))
+    returns_not unspent low lands =
+        enters_on setup setting cores t stands c here ((cores c).own.made + 1) call (Some reply.Bottom) (Decided reply.Bottom None Nothing)
+        may.between may.limits lands refl refl
+        (calm_then s (entered s c) (counted (entered s c) c) c (calm_entered s c) (calm_counted (entered s c) c))
+        (record { begins = λ x. refl; ends = λ x. refl; flushes = refl; apart = λ d. refl; same = refl })
+        (let made = (stands.each c here).works.made in
+        let same = same_count in
+        let more : ((counted (entered s c) c).core c).counted ≡ ((entered s c).core c).counted + 1 =
+        ap (λ k. k.counted) (put_same (entered s c).core c (record ((entered s c).core c) { counted = ((entered s c).core c).counted + 1 })
+        c refl) in
+        omega arith)
+        (λ g i. refl)
+        (record {
+          call = call;
+          is_open = refl;
+          permitted = (
+            spent_is ∙ unspent,
+            subst (λ x. RuleMay (entered s c) c (rule_of (entered s c) c x) reply.Bottom) (sym is) (inl (at_bottom low, refl)),
+          );
+          justified = tt;
+        })
+        (refused_first (entered s c) c call reply.Bottom (spent_is ∙ unspent)
+        (subst (λ x. change_of (entered s c) c x ≡ Refused reply.Bottom) (sym is)
+        (ap (λ b. unless (first_of (if b then Some reply.Bottom else None) None) (pops (entered s c) c)) (at_bottom low))))
+        tt
+
+    returns_on : is_spent (cores c).own ≡ false → nat_le (cores c).own.depth 1 ≡ false
+        → GoodEntry (landed (fresh call) (returns_if false (cores c).own))
+    returns_on unspent deep lands =
+        let works = (stands.each c here).works in
+        enters_on setup setting cores t stands c here (cores c).own.made call None
+        (Undecided (Act (return_act (record {
+          top = (cores c).own.comp;
+          thread = (cores c).own.thread;
+          depth = (cores c).own.depth;
+          core = (cores c).own.core;
+          frames = (cores c).own.layout.frames;
+          at = LoadBelow;
+        }))))
+        may.between may.limits lands refl refl
+        (calm_entered s c)
+        (record { begins = λ x. refl; ends = λ x. refl; flushes = refl; apart = λ d. refl; same = refl })
+        (let made = works.made in let same = same_count in omega arith)
+        (λ g i. refl)
+        tt
+        tt
+        (record {
+          names = tt;
+          knows = record {
+            knows = record {
+              call_is = is;
+              core = (stands.each c here).number;
+              on = record { thread = works.thread ∙ ap (λ k. k.thread) (sym same_own); depth = depth_is };
+              top = works.comp ∙ ap (λ k. first_of_stack k.stack) (sym same_thread);
+              at = tt;
+            };
+            all = refl;
+            goes = refl;
+          };
+        })
+
+    enters_ret : is_spent (cores c).own ≡ false → GoodEntry (landed (fresh call) (returns_at (cores c).own))
+    enters_ret unspent = by (nat_le (cores c).own.depth 1) refl
+      where
+        by : (bottom : Bool) → nat_le (cores c).own.depth 1 ≡ bottom → GoodEntry (landed (fresh call) (returns_if bottom (cores c).own))
+        by true low = returns_not unspent low
+        by false deep = returns_on unspent deep
+
 -- a call enters
 module _ (setup : Setting) (setting : IsSetting setup) (cores : ℕ → Core) (t : Trace) (stands : Stands setup cores t) (c : ℕ)
     (here : c < setup.cores) where
@@ -253,7 +421,8 @@ module _ (setup : Setting) (setting : IsSetting setup) (cores : ℕ → Core) (t
   enters_first (Shrink u i) may built unspent = enters_name setup setting cores t stands c here (Shrink u i) may u _ refl unspent
   enters_first (Map p v r f w) may built unspent = enters_name setup setting cores t stands c here (Map p v r f w) may p _ refl unspent
   enters_first (Unmap p v) may built unspent = enters_name setup setting cores t stands c here (Unmap p v) may p _ refl unspent
-  enters_first (Retype r f Untyped) may built unspent = absurd built
+  enters_first (Retype r f Untyped) may built unspent =
+      enters_name setup setting cores t stands c here (Retype r f Untyped) may r _ refl unspent
   enters_first (Retype r f User) may built unspent =
       enters_name setup setting cores t stands c here (Retype r f User) may r _ refl unspent
   enters_first (Retype r f Kernel) may built unspent =
@@ -270,10 +439,18 @@ module _ (setup : Setting) (setting : IsSetting setup) (cores : ℕ → Core) (t
       enters_name setup setting cores t stands c here (make_call (make.Thread comp) r f u b) may r _ refl unspent
   enters_first (make_call (make.Tcap sched quality) r f u b) may built unspent =
       enters_name setup setting cores t stands c here (make_call (make.Tcap sched quality) r f u b) may r _ refl unspent
+  enters_first (Touch v) may built unspent = enters_touch setup setting cores t stands c here (Touch v) may v refl unspent
   enters_first Flush may built unspent = enters_flush setup setting cores t stands c here Flush may refl unspent
+  enters_first (make_call (make.Comp x p live) r f u b) may built unspent =
+      enters_name setup setting cores t stands c here (make_call (make.Comp x p live) r f u b) may r _ refl unspent
   enters_first (Tick n) may built unspent = enters_tick setup setting cores t stands c here (Tick n) may n refl unspent
   enters_first (Gate n u b) may built unspent = enters_name setup setting cores t stands c here (Gate n u b) may n _ refl unspent
   enters_first (Kill n) may built unspent = enters_name setup setting cores t stands c here (Kill n) may n _ refl unspent
+  enters_first (call_gate n) may built unspent = enters_name setup setting cores t stands c here (call_gate n) may n _ refl unspent
+  enters_first Ret may built unspent = enters_ret setup setting cores t stands c here Ret may refl unspent
+  enters_first (Transfer x y m) may built unspent = enters_name setup setting cores t stands c here (Transfer x y m) may x _ refl unspent
+  enters_first (Test x y) may built unspent = enters_name setup setting cores t stands c here (Test x y) may x _ refl unspent
+  enters_first (Switch x y) may built unspent = enters_name setup setting cores t stands c here (Switch x y) may x _ refl unspent
   enters_first _ may built unspent = absurd built
 
   pub enter_good : (call : Call) (may : MayBegin call (cores c))

@@ -1,4 +1,5 @@
 -- At each moment the words say what the state is; and where all cores are between calls, they represent it with the cores' ends.
+use Rattle.core_invariant.proofs.Bare.{none_value}
 use Rattle.std.proofs.Common.{◌≡◌, ◌≢◌, ◌⊎◌, inl, inr, ℕ, suc, ◌+◌, ◌<◌, true, false, List, [], ◌∷◌, slice_get, Option, Some, None, arith, refl, sym, ◌∙◌, ap, subst, IsTrue}
 use Rattle.std.proofs.lemmas.Bool.{cases_lt, false≢true, true≢false}
 use Rattle.std.proofs.lemmas.List.Elements.{All-nil, All-cons}
@@ -33,7 +34,7 @@ use Rattle.kernel_history.specs.Marking.{marked_by}
 use Rattle.core_invariant.specs.Holding.{settled_by, settled}
 use Rattle.core_invariant.specs.Words.{PlaceIs, IsFrameWord, SaysCount, count_room, NumberIs, WordIs}
 use Rattle.core_invariant.specs.Knows.{CallIs, WorksIn}
-use Rattle.core_invariant.specs.Stands.{held_by, times_of, count_shown, Stands as Invariant}
+use Rattle.core_invariant.specs.Stands.{holds_in, held_by, times_of, count_shown, Stands as Invariant}
 use Rattle.flight.specs.Theorems.{SaysWords, AreBetween, Represents, RepresentsCounts}
 use Rattle.core_invariant.proofs.CountSums.{sum_same}
 use Rattle.core_invariant.proofs.Sounds.{limits_of}
@@ -109,21 +110,21 @@ next : (i : ℕ) → suc i ≡ 1 + i
 next i = omega arith
 
 -- The words of a frame, as those of its object.
-frame_parts : (n : ℕ) (x : Frame) (p : ℕ → Place) (r word : ℕ → ℕ) → ((i : ℕ) → IsFrameWord n x (p i) (r i) i (word i))
+frame_parts : (n m : ℕ) (x : Frame) (p : ℕ → Place) (r word : ℕ → ℕ) → ((i : ℕ) → IsFrameWord n m x (p i) (r i) i (word i))
     → AreFrame x p word
-frame_parts n Untyped p r word h = tt
-frame_parts n User p r word h = tt
-frame_parts n (Kernel Blank) p r word h = tt
-frame_parts n (Kernel Table) p r word h = λ i below. says_place n (p i) (r i) (entry_of_word (word i)) (h i below)
-frame_parts n (Kernel Leaf) p r word h = λ i below. says_place n (p i) (r i) (entry_of_word (word i)) (h i below)
-frame_parts n (Kernel Pages) p r word h = λ i below. says_place n (p i) (r i) (entry_of_word (word i)) (h i below)
-frame_parts n (Kernel Pleaf) p r word h = λ i below. says_place n (p i) (r i) (entry_of_word (word i)) (h i below)
-frame_parts n (Kernel (Comp k)) p r word h = record { table = h 0; pages = h 1; live = h 2 }
-frame_parts n (Kernel (Thread t)) p r word h = record {
+frame_parts n m Untyped p r word h = tt
+frame_parts n m User p r word h = tt
+frame_parts n m (Kernel Blank) p r word h = tt
+frame_parts n m (Kernel Table) p r word h = λ i below. says_place n (p i) (r i) (entry_of_word (word i)) (h i below)
+frame_parts n m (Kernel Leaf) p r word h = λ i below. says_place n (p i) (r i) (entry_of_word (word i)) (h i below)
+frame_parts n m (Kernel Pages) p r word h = λ i below. says_place n (p i) (r i) (entry_of_word (word i)) (h i below)
+frame_parts n m (Kernel Pleaf) p r word h = λ i below. says_place n (p i) (r i) (entry_of_word (word i)) (h i below)
+frame_parts n m (Kernel (Comp k)) p r word h = record { table = h 0; pages = h 1; live = h 2 }
+frame_parts n m (Kernel (Thread t)) p r word h = record {
   runs = h 0;
   stack = λ i below. subst (λ (j : ℕ). stack_of_word (word j) ≡ Some (record { 0 = at_height t.stack i })) (next i) (h (suc i) below);
 }
-frame_parts n (Kernel (Tcap q)) p r word h = let head = h 0 in record {
+frame_parts n m (Kernel (Tcap q)) p r word h = let head = h 0 in record {
   version = head.version;
   head = head.says;
   list = λ i below. subst (λ (j : ℕ). quality_of_word (word j) ≡ Some (record { 0 = slice_get q.qualities i })) (next i)
@@ -175,13 +176,20 @@ module _ (setup : Setting) (setting : IsSetting setup) (cores : ℕ → Core) (t
   -- each word stands for itself
   settled_is : (w : Word) → settled setup (held_by cores) t w ≡ last_left setup t w
   settled_is w = ap (λ o. settled_by o (held_by cores) w (last_left setup t w)) (unmarked w (marked_by setup t w) refl)
+      ∙ none_value (held_by cores) w (last_left setup t w) (λ f i d. ap (λ o. (holds_in o).bare f i) (idle d))
+    where
+      idle : (d : ℕ) → (cores d).active ≡ None
+      idle d = elim (cases_lt d setup.cores) [
+        | inl below ↦ between d below
+        | inr past ↦ (stands.away d past).idle
+      ]
 
   word_is : (w : Word) → WordIs (state_after setup t) (times_of setup t) w (last_left setup t w)
   word_is w = subst (WordIs (state_after setup t) (times_of setup t) w) (settled_is w) (stands.words w)
 
   words_represent : Represent (last_left setup t) (λ c. end_of (cores c)) (state_after setup t)
   words_represent = record {
-    objects = λ f here. frame_parts (state_after setup t).limits.frames ((state_after setup t).frame f) ((state_after setup t).place f)
+    objects = λ f here. frame_parts (state_after setup t).limits.frames (Rattle.core_invariant.specs.Words.count_room (state_after setup t)) ((state_after setup t).frame f) ((state_after setup t).place f)
         (λ i. stamp setup t (PlaceOf f i)) (λ i. last_left setup t (EntryAt f i))
         (λ i. word_is (EntryAt f i));
     bare = λ f here none i below. none_held ((state_after setup t).place f i)

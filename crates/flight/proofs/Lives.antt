@@ -15,39 +15,11 @@ use Rattle.state_laws.proofs.Lives.{dead_stays}
 use Rattle.core_invariant.specs.Holding.{settled_by}
 use Rattle.core_invariant.specs.Words.{NumberIs}
 use Rattle.core_invariant.specs.Stands.{held_by, Stands}
+use Rattle.frame_invariant.proofs.LaterEvents.{Later, later_events}
 use Rattle.live_invariant.proofs.Numbers.{number_is}
 use Rattle.flight.specs.Lives.{DeadForGood}
 use Rattle.flight.specs.Made.{cores_after}
 use Rattle.flight.proofs.Made.{made_stands}
-
--- The events of a longer trace are those of the shorter one, and later ones.
-record Later (more events : List Event) : Type 0 where
-  later : List Event
-  adds : more ≡ later ++ events
-
-entry_later : (o : Option Call) (c : ℕ) (more events : List Event) → Later more events → Later (with_entry o c more) events
-entry_later None c more events had = had
-entry_later (Some call) c more events had =
-    record { later = Enters c call ∷ had.later; adds = ap (λ xs. Enters c call ∷ xs) had.adds }
-
-decision_later : (o : Option Reply) (p : Phase) (c : ℕ) (more events : List Event) → Later more events
-    → Later (with_decision o p c more) events
-decision_later None p c more events had = had
-decision_later (Some r) Out c more events had = had
-decision_later (Some r) (Open call) c more events had =
-    record { later = Decides c call r ∷ had.later; adds = ap (λ xs. Decides c call r ∷ xs) had.adds }
-decision_later (Some r) (Decided call q) c more events had = had
-
-return_later : (o : Option Reply) (c : ℕ) (more events : List Event) → Later more events → Later (with_return o c more) events
-return_later None c more events had = had
-return_later (Some r) c more events had = record { later = Returns c ∷ had.later; adds = ap (λ xs. Returns c ∷ xs) had.adds }
-
-later_events : (u t : Trace) → Later (events_of (u ++ t)) (events_of t)
-later_events [] t = record { later = []; adds = refl }
-later_events (e ∷ u) t =
-    return_later e.returns e.core _ (events_of t)
-    (decision_later e.decides (after_enter e.enters (phase (u ++ t) e.core)) e.core _ (events_of t)
-    (entry_later e.enters e.core (events_of (u ++ t)) (events_of t) (later_events u t)))
 
 pub dead_for_good : DeadForGood
 dead_for_good setup setting u t made l e d f dead shows =

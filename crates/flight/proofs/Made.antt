@@ -9,6 +9,7 @@ use Rattle.flight.specs.Histories.{MadeHistories}
 use Rattle.kernel_history.specs.Graces.{KeepsTime}
 use Rattle.core_invariant.specs.Stands.{Stands}
 use Rattle.core_invariant.proofs.Good.{IsGood, stands_on}
+use Rattle.core_invariant.proofs.Users.{SparesCounted}
 use Rattle.flight.specs.Theorems.{found_by, MadeStands}
 use Rattle.flight.proofs.Boot.{boots}
 use Rattle.flight.proofs.Advance.{good_on}
@@ -38,6 +39,10 @@ made_stands setup lim (e ∷ t) made =
 -- A made step keeps time.
 pub made_times : (setup : Setting) → IsSetting setup → (t : Trace) (e : Step) → IsMade setup (e ∷ t) → KeepsTime setup t e
 made_times setup lim t e made = (made_good setup lim t e made.1 (made_stands setup lim t made.0)).time
+
+-- And ends the grace period of a frame only where its core holds all counters of the frame.
+pub made_counted : (setup : Setting) → IsSetting setup → (t : Trace) (e : Step) → IsMade setup (e ∷ t) → SparesCounted setup t e
+made_counted setup lim t e made = (made_good setup lim t e made.1 (made_stands setup lim t made.0)).counted
 
 says_along : (setup : Setting) → IsSetting setup → (t : Trace) → IsMade setup t → WordsSayAlong setup t
 says_along setup lim [] made = says_words setup lim (cores_after setup []) [] (made_stands setup lim [] made)

@@ -1,5 +1,5 @@
 -- The next step of a call is on a word of its machine, by the one name of the word's place.
-use Rattle.std.proofs.Common.{◌≡◌, ℕ, ◌<◌, Option, Some, None, IfSome, length, arith, refl, sym, ap}
+use Rattle.std.proofs.Common.{◌≡◌, ℕ, ◌<◌, Option, Some, None, IfSome, length, arith, refl, sym, ap, ◌≤◌}
 use Rattle.std.specs.Prelude.{IsSome, List, [], ◌∷◌}
 use Rattle.word_map.specs.Places.{Shape, IsIn, shared}
 use Rattle.word_map.specs.Moves.{word_of}
@@ -9,6 +9,10 @@ use Rattle.stage_look.specs.declared.look.Look.TheVariants.{AtRoot, AtLeaf, AtEn
 use Rattle.stage_look.proofs.LookLemmas.{look_is_in}
 use Rattle.call_steps.specs.Fits.{TailFits, StageFits, CallFits}
 use Rattle.call_steps.specs.Cores.{move_in}
+use Rattle.call_acts.specs.Comps.{CompMakingFits, comp_at}
+use Rattle.call_acts.specs.declared.comps.CompAt.{CompAt}
+use Rattle.call_acts.specs.declared.comps.CompAt.TheVariants as comp_stands
+use Rattle.call_acts.specs.declared.comps.CompMaking.{CompMaking}
 use Rattle.call_acts.specs.declared.kills.KillingAt.{KillingAt}
 use Rattle.call_acts.specs.declared.kills.KillingAt.TheVariants.{LoadComp, LoadLive, Close as kill_close, Draw as kill_draw}
 use Rattle.call_acts.specs.Kills.{KillingAtFits, killing_at}
@@ -25,7 +29,7 @@ use Rattle.call_acts.specs.Untypings.{UntypingAtFits, untyping_at, release_at}
 use Rattle.word_map.specs.Word.{CountAt}
 use Rattle.call_acts.specs.declared.own.Own.{Own}
 use Rattle.call_acts.specs.declared.work.Act.{Act}
-use Rattle.call_acts.specs.declared.work.Act.TheVariants.{Fill, Remove, Retype, Make, Outside, Tick, Flush, Kill, Untype, Map as map_act}
+use Rattle.call_acts.specs.declared.work.Act.TheVariants.{Fill, Remove, Retype, Make, Outside, Tick, Flush, Kill, Untype, Map as map_act, MakeComp, Invoke, Return, Touch, Share, Switch}
 use Rattle.spk_nums.specs.declared.kinds.FrameKind.{FrameKind}
 use Rattle.call_acts.specs.declared.typings.TypingAt.{TypingAt}
 use Rattle.call_acts.specs.declared.typings.TypingAt.TheVariants.{Load, Compare as type_compare}
@@ -36,10 +40,10 @@ use Rattle.call_acts.specs.declared.makings.MakingAt.TheVariants as making
 use Rattle.call_acts.specs.Fills.{FillFits}
 use Rattle.call_acts.specs.declared.objects.NewObject.{NewObject}
 use Rattle.call_acts.specs.Makings.{MakingAtFits, making_at}
-use Rattle.call_steps.proofs.StepsFit.{last_small}
+use Rattle.call_steps.proofs.DuesFit.{last_small}
 use Rattle.call_acts.specs.declared.work.Work.TheVariants.{Lookup, Read, Scan, Acquire, Act as act_work}
 use Rattle.call_acts.specs.declared.work.Tail.{Tail}
-use Rattle.call_acts.specs.declared.work.Tail.TheVariants.{Nothing, Quiesce, Unmark, StoreDead, StoreFlush, Release}
+use Rattle.call_acts.specs.declared.work.Tail.TheVariants.{Nothing, Quiesce, Unmark, StoreDead, StoreFlush, Release, StoreLive, Push, Pop, Share as share_tail, StoreRunning, StoreIdle}
 use Rattle.call_acts.specs.Acts.{ActFits, act_move}
 use Rattle.call_steps.specs.Tails.{tail_move, is_ok}
 use Rattle.std.proofs.lemmas.List.Elements.{All-head}
@@ -54,7 +58,27 @@ use Rattle.stage_pins.proofs.HeldLemmas.{commit_fits}
 use Rattle.stage_tcap.specs.Charging.{charge_move}
 use Rattle.stage_tcap.specs.declared.charge.Charge.{Charge}
 use Rattle.stage_tcap.specs.declared.charge.Charge.TheVariants.{AtLoad as charge_load, AtCompare as charge_compare}
-use Rattle.stage_tcap.proofs.PairLemmas.{charge_is_in}
+use Rattle.stage_tcap.proofs.PairLemmas.{charge_is_in, pair_is_in}
+use Rattle.stage_thread.specs.Stacking.{push_move, pop_move}
+use Rattle.stage_thread.proofs.ThreadLemmas.{push_is_in, pop_is_in, claim_is_in}
+use Rattle.stage_thread.specs.declared.stack.Push.{Push as PushOf}
+use Rattle.stage_thread.specs.declared.stack.Push.TheVariants as push
+use Rattle.stage_thread.specs.declared.stack.Pop.{Pop as PopOf}
+use Rattle.stage_thread.specs.declared.stack.Pop.TheVariants as pop
+use Rattle.call_acts.specs.declared.invocations.InvokingAt.{InvokingAt}
+use Rattle.call_acts.specs.declared.invocations.InvokingAt.TheVariants as invoking
+use Rattle.call_acts.specs.declared.invocations.ReturningAt.{ReturningAt}
+use Rattle.call_acts.specs.declared.invocations.ReturningAt.TheVariants as returning
+use Rattle.call_acts.specs.Switches.{SwitchingFits, switching_at}
+use Rattle.call_acts.specs.declared.switches.Switching.{Switching}
+use Rattle.call_acts.specs.declared.switches.SwitchAt.{SwitchAt}
+use Rattle.call_acts.specs.declared.switches.SwitchAt.TheVariants as switch_at
+use Rattle.stage_thread.specs.declared.claim.Claim.TheVariants as claim
+use Rattle.call_acts.specs.Invocations.{InvokingAtFits, invoking_at, ReturningAtFits, returning_at}
+use Rattle.stage_tcap.specs.Pairs.{move_at as pair_at_move}
+use Rattle.stage_tcap.specs.declared.pair.Pair.{Pair}
+use Rattle.stage_tcap.specs.declared.pair.PairAt.{PairAt}
+use Rattle.stage_tcap.specs.declared.pair.PairAt.TheVariants.{LoadA, MarkA, ListA, LoadB, ListB, CompareB, AgainB, StoreList, StoreB, StoreA}
 use Rattle.stage_quiet.specs.declared.close.Close.{Close}
 use Rattle.stage_quiet.specs.declared.close.Close.TheVariants.{AtCompare as close_compare, AtDraw, AtStore}
 use Rattle.stage_quiet.specs.declared.quiet.Quiet.{Quiet}
@@ -103,6 +127,28 @@ killing_named f core (LoadLive life) = refl
 killing_named f core (kill_close life word) = refl
 killing_named f core (kill_draw life word) = refl
 
+invoking_named : (f : ℕ) (at : InvokingAt) → shared (word_of (invoking_at f at)) ≡ word_of (invoking_at f at)
+invoking_named f invoking.LoadTable = refl
+invoking_named f (invoking.LoadPages table) = refl
+invoking_named f (invoking.LoadComp table pages) = refl
+invoking_named f (invoking.LoadLive table pages life) = refl
+
+returning_named : (thread depth : ℕ) (at : ReturningAt)
+    → shared (word_of (returning_at thread depth at)) ≡ word_of (returning_at thread depth at)
+returning_named thread depth returning.LoadBelow = refl
+returning_named thread depth (returning.LoadTable comp) = refl
+returning_named thread depth (returning.LoadPages comp table) = refl
+returning_named thread depth (returning.Draw comp table pages) = refl
+
+comp_named : (m : CompMaking) (at : CompAt) → shared (word_of (comp_at m at)) ≡ word_of (comp_at m at)
+comp_named m comp_stands.Load = refl
+comp_named m (comp_stands.Mark word) = refl
+comp_named m (comp_stands.LoadLive word) = refl
+comp_named m (comp_stands.Scan word last q) = quiet_named q
+comp_named m (comp_stands.Close word last) = refl
+comp_named m (comp_stands.Store word last entry) = refl
+comp_named m (comp_stands.Fill word last) = refl
+
 -- a frame's counters are those of the cores
 no_other : (s : Shape) (n : ℕ) → n < counters_of s → n ≡ 0
 unfolding counters_of
@@ -130,6 +176,27 @@ release_named : (s : Shape) (f word : ℕ) (o : Option Thaw) → IfSome o (ThawF
 release_named s f word None fits = refl
 release_named s f word (Some x) fits = counter_named s x.frame x.at (let low = fits.at in let few = fits.words in omega (arith, low, few))
 
+pair_named : (p : Pair) (at : PairAt) → shared (word_of (pair_at_move p at)) ≡ word_of (pair_at_move p at)
+pair_named p LoadA = refl
+pair_named p MarkA = refl
+pair_named p (ListA entry) = refl
+pair_named p LoadB = refl
+pair_named p (ListB entry) = refl
+pair_named p CompareB = refl
+pair_named p (AgainB r) = refl
+pair_named p (StoreList entry) = refl
+pair_named p StoreB = refl
+pair_named p (StoreA moved v) = refl
+
+switching_named : (m : Switching) (at : SwitchAt) → shared (word_of (switching_at m at)) ≡ word_of (switching_at m at)
+switching_named m (switch_at.Claim (claim.AtLoad f core)) = refl
+switching_named m (switch_at.Claim (claim.AtCompare f core depth)) = refl
+switching_named m (switch_at.Claim (claim.AtStack f depth)) = refl
+switching_named m (switch_at.LoadTable to) = refl
+switching_named m (switch_at.LoadPages to table) = refl
+switching_named m (switch_at.Leave to table pages) = refl
+switching_named m (switch_at.Draw to table pages) = refl
+
 act_named : (s : Shape) (act : Act) → ActFits s act → shared (word_of (act_move act)) ≡ word_of (act_move act)
 act_named s (Fill fill) fits = refl
 act_named s (Remove close cap) fits = close_named close
@@ -138,14 +205,28 @@ act_named s (Make m) fits = making_named m.frame m.object m.core m.fill m.at
 act_named s (map_act fill) fits = refl
 act_named s (Outside node entry word) fits = refl
 act_named s (Tick charge) fits = charge_named charge
+act_named s (Touch m) fits = look_named m.look
 act_named s (Flush core) fits = refl
 act_named s (Kill m) fits = killing_named m.comp m.core m.at
 act_named s (Untype m) fits = untyping_named s m.frame m.core m.at fits.at
+act_named s (MakeComp m) fits = comp_named m m.at
+act_named s (Invoke m) fits = invoking_named m.comp m.at
+act_named s (Return m) fits = returning_named m.thread m.depth m.at
+act_named s (Share p) fits = pair_named p p.at
+act_named s (Switch m) fits = switching_named m m.at
 
 -- a count's word is that of its core's counter
 pin_named : (pin : Pin) → shared (word_of (pin_move pin)) ≡ word_of (pin_move pin)
 pin_named (AtLoad frame core) = refl
 pin_named (AtCompare frame core count stamp) = refl
+
+push_named : (x : PushOf) → shared (word_of (push_move x)) ≡ word_of (push_move x)
+push_named (push.AtStack t core depth comp) = refl
+push_named (push.AtThread t core depth) = refl
+
+pop_named : (x : PopOf) → shared (word_of (pop_move x)) ≡ word_of (pop_move x)
+pop_named (pop.AtThread t core depth) = refl
+pop_named (pop.AtStack t depth) = refl
 
 tail_named : (s : Shape) (r : Reply) (drawn : Option ℕ) (tail : Tail) (counts : List Acquired) → TailFits s tail
     → shared (word_of (tail_move r drawn tail counts)) ≡ word_of (tail_move r drawn tail counts)
@@ -153,6 +234,12 @@ tail_named s r drawn (Quiesce close) counts fits = close_named close
 tail_named s r drawn (Unmark f word) counts fits = refl
 tail_named s r drawn (StoreDead life stamp) counts fits = refl
 tail_named s r drawn (StoreFlush core stamp) counts fits = refl
+tail_named s r drawn (StoreLive l live f word) counts fits = refl
+tail_named s r drawn (Push push) counts fits = push_named push
+tail_named s r drawn (Pop pop) counts fits = pop_named pop
+tail_named s r drawn (share_tail p) counts fits = pair_named p p.at
+tail_named s r drawn (StoreRunning f core depth old old_depth) counts fits = refl
+tail_named s r drawn (StoreIdle f depth) counts fits = refl
 tail_named s r drawn Nothing [] fits = refl
 tail_named s r drawn Nothing (x ∷ xs) fits = refl
 tail_named s r drawn (Release release) [] fits = release_named s release.frame release.word release.thaw fits.thaw
@@ -213,6 +300,38 @@ release_in shape f word None below fits some = below
 release_in shape f word (Some x) below fits some =
     counter_in shape x.frame x.at fits.frame (let low = fits.at in let few = fits.words in omega (arith, low, few)) some
 
+comp_in : (shape : Shape) (m : CompMaking) (at : CompAt) → CompMakingFits shape (record m { at = at })
+    → IsIn shape (word_of (comp_at m at))
+comp_in shape m comp_stands.Load fits = fits.frame
+comp_in shape m (comp_stands.Mark word) fits = fits.frame
+comp_in shape m (comp_stands.LoadLive word) fits = fits.number
+comp_in shape m (comp_stands.Scan word last q) fits = quiet_is_in shape q fits.at.0
+comp_in shape m (comp_stands.Close word last) fits = fits.number
+comp_in shape m (comp_stands.Store word last entry) fits = (fits.frame, (let most = fits.at.1 in omega (arith, most)))
+comp_in shape m (comp_stands.Fill word last) fits = (fits.fill.node, fits.fill.entry)
+
+invoking_in : (shape : Shape) (f : ℕ) (at : InvokingAt) → f < shape.frames → InvokingAtFits shape at
+    → IsIn shape (word_of (invoking_at f at))
+invoking_in shape f invoking.LoadTable below fits = (below, omega arith)
+invoking_in shape f (invoking.LoadPages table) below fits = (below, omega arith)
+invoking_in shape f (invoking.LoadComp table pages) below fits = (below, omega arith)
+invoking_in shape f (invoking.LoadLive table pages life) below fits = fits.2.0
+
+returning_in : (shape : Shape) (thread depth : ℕ) (at : ReturningAt) → thread < shape.frames → depth ≤ 16 → ReturningAtFits shape at
+    → IsIn shape (word_of (returning_at thread depth at))
+returning_in shape thread depth returning.LoadBelow below most fits = (below, omega (arith, most))
+returning_in shape thread depth (returning.LoadTable comp) below most fits = (fits, omega arith)
+returning_in shape thread depth (returning.LoadPages comp table) below most fits = (fits.0, omega arith)
+returning_in shape thread depth (returning.Draw comp table pages) below most fits = tt
+
+switching_in : (shape : Shape) (m : Switching) (at : SwitchAt) → SwitchingFits shape (record m { at = at })
+    → IsIn shape (word_of (switching_at m at))
+switching_in shape m (switch_at.Claim claim) fits = claim_is_in shape claim fits.at
+switching_in shape m (switch_at.LoadTable to) fits = (fits.at.comp, omega arith)
+switching_in shape m (switch_at.LoadPages to table) fits = (fits.at.0.comp, omega arith)
+switching_in shape m (switch_at.Leave to table pages) fits = (fits.old, omega arith)
+switching_in shape m (switch_at.Draw to table pages) fits = tt
+
 act_in : (shape : Shape) (act : Act) → ActFits shape act → IsIn shape (word_of (act_move act))
 act_in shape (Fill fill) fits = (fits.node, fits.entry)
 act_in shape (Remove close cap) fits = close_is_in shape close fits.0
@@ -221,9 +340,15 @@ act_in shape (Make m) fits = making_in shape m.frame m.object m.core m.fill m.at
 act_in shape (map_act fill) fits = fits.1
 act_in shape (Outside node entry word) fits = fits
 act_in shape (Tick charge) fits = charge_is_in shape charge fits
+act_in shape (Touch m) fits = look_is_in shape m.look fits.look
 act_in shape (Flush core) fits = tt
 act_in shape (Kill m) fits = killing_in shape m.comp m.core m.at fits.comp fits.at
 act_in shape (Untype m) fits = untyping_in shape m.frame m.core m.at fits.frame fits.at
+act_in shape (MakeComp m) fits = comp_in shape m m.at fits
+act_in shape (Invoke m) fits = invoking_in shape m.comp m.at fits.comp fits.at
+act_in shape (Return m) fits = returning_in shape m.thread m.depth m.at fits.thread fits.most_depth fits.at
+act_in shape (Share p) fits = pair_is_in shape p fits
+act_in shape (Switch m) fits = switching_in shape m m.at fits
 
 tail_in : (shape : Shape) (r : Reply) (drawn : Option ℕ) (tail : Tail) (counts : List Acquired) → TailFits shape tail
     → AllFit shape counts → 0 < shape.cores
@@ -231,7 +356,13 @@ tail_in : (shape : Shape) (r : Reply) (drawn : Option ℕ) (tail : Tail) (counts
 tail_in shape r drawn (Quiesce close) counts fits fit some = close_is_in shape close fits
 tail_in shape r drawn (Unmark f word) counts fits fit some = fits
 tail_in shape r drawn (StoreDead life stamp) counts fits fit some = fits.0.0
+tail_in shape r drawn (Push push) counts fits fit some = push_is_in shape push fits
+tail_in shape r drawn (Pop pop) counts fits fit some = pop_is_in shape pop fits
+tail_in shape r drawn (StoreLive l live f word) counts fits fit some = fits.0
 tail_in shape r drawn (StoreFlush core stamp) counts fits fit some = fits
+tail_in shape r drawn (share_tail p) counts fits fit some = pair_is_in shape p fits.fits
+tail_in shape r drawn (StoreRunning f core depth old old_depth) counts fits fit some = (fits.0, omega arith)
+tail_in shape r drawn (StoreIdle f depth) counts fits fit some = (fits.0, omega arith)
 tail_in shape r drawn Nothing [] fits fit some = tt
 tail_in shape r drawn Nothing (x ∷ xs) fits fit some =
     settle_is_in shape (commit_of (is_ok r) drawn x) (commit_fits shape (is_ok r) drawn x (All-head (AcquiredFits shape) x xs fit))

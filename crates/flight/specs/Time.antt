@@ -1,15 +1,24 @@
 -- The time of a machine: what its temporal capabilities hold and its cores have spent and owe.
-use Rattle.std.specs.Prelude.{◌≡◌, ℕ, ◌+◌, Option, Some, None}
+use Rattle.std.specs.Prelude.{◌≡◌, ℕ, suc, ◌+◌, ◌<◌, ◌∷◌, slice_get, Option, Some, None}
 use Rattle.spk_nums.specs.Setting.{Setting, IsSetting}
+use Rattle.spk_nums.specs.Capability.{Capability}
+use Rattle.spk_nums.specs.declared.kinds.Kind.TheVariants as kind
+use Rattle.spk_nums.specs.declared.calls.Call.TheVariants.{Test}
+use Rattle.spk_nums.specs.declared.replies.Reply.TheVariants.{Ok}
+use Rattle.spk_nums.specs.declared.replies.Value.{Value}
+use Rattle.tcap_words.specs.Quality.{quality_of_word}
 use Rattle.tcap_words.specs.Head.{head_of_word}
 use Rattle.tcap_words.specs.declared.head_word.HeadWord.{HeadWord}
 use Rattle.word_map.specs.Word.{EntryAt}
+use Rattle.kernel_rules.specs.Access.{only}
 use Rattle.kernel_rules.specs.Laws.{ticks}
-use Rattle.kernel_rules.specs.State.{Kernel, Tcap, TcapFields}
+use Rattle.kernel_rules.specs.Rules.{Found, named}
+use Rattle.kernel_rules.specs.State.{Kernel, Tcap, TcapFields, State}
+use Rattle.kernel_rules.specs.TimeCalls.{tcap_at, preemption, preempts}
 use Rattle.kernel_laws.specs.Laws.{grants_sum, decided_ticks}
 use Rattle.kernel_history.specs.Events.{events_of}
 use Rattle.kernel_history.specs.Marking.{marked_by}
-use Rattle.kernel_history.specs.Trace.{Trace, state_after, last_left}
+use Rattle.kernel_history.specs.Trace.{Step, Trace, Open, phase, after_enter, state_after, state_before, last_left}
 use Rattle.flight.specs.Made.{IsMade}
 
 -- At each moment the budgets of all temporal capabilities and the ticks that all cores have spent sum to the grants.
@@ -32,3 +41,24 @@ abbrev pub HeadsSay : Type 0
 HeadsSay = (setup : Setting) → IsSetting setup → (t : Trace) → IsMade setup t → (f : ℕ) (q : TcapFields)
     → (state_after setup t).frame f ≡ Kernel (Tcap q) → marked_by setup t (EntryAt f 0) ≡ None
     → ShowsBudget q.budget (head_of_word (last_left setup t (EntryAt f 0)))
+
+-- At each moment the words of a list say the list, of a temporal capability whose head no core has marked.
+abbrev pub ListsSay : Type 0
+ListsSay = (setup : Setting) → IsSetting setup → (t : Trace) → IsMade setup t → (f : ℕ) (q : TcapFields)
+    → (state_after setup t).frame f ≡ Kernel (Tcap q) → marked_by setup t (EntryAt f 0) ≡ None → (j : ℕ) → j < 8
+    → quality_of_word (last_left setup t (EntryAt f (suc j))) ≡ Some (record { 0 = slice_get q.qualities j })
+
+-- What a test tells is so in one state: its names lead there to two temporal capabilities, and it tells whether the first preempts the
+-- second by the budgets and the lists that both have there.
+pub record TellsOf (s : State) (c x y : ℕ) (v : Value) : Type 0 where
+  pub first : Capability
+  pub second : Capability
+  pub first_named : named s c x (only kind.Tcap) ≡ Found first
+  pub second_named : named s c y (only kind.Tcap) ≡ Found second
+  pub answer : v ≡ preemption (preempts (tcap_at s first.frame) (tcap_at s second.frame))
+
+-- A step that decides a `test` with an answer tells so of the state that it finds, though the words of a list are read one by one.
+abbrev pub TestsTell : Type 0
+TestsTell = (setup : Setting) → IsSetting setup → (e : Step) (t : Trace) → IsMade setup (e ∷ t)
+    → (x y : ℕ) (v : Value) → after_enter e.enters (phase t e.core) ≡ Open (Test x y) → e.decides ≡ Some (Ok v)
+    → TellsOf (state_before setup t e) e.core x y v

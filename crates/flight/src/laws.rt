@@ -1,10 +1,13 @@
 //! What is proved of the step machine, as laws: cores that stand for a trace go on standing for it, step by step.
 
+ghost use Rattle.flight.specs.Frames.{CountedFramesStay, LookedNodesStay, UntypedFramesAreUnused};
 ghost use Rattle.flight.specs.Histories.{MadeHistories};
+ghost use Rattle.flight.specs.Invocations.{EntersNoneKilled, EntersTheLiving};
 ghost use Rattle.flight.specs.Lives.{DeadForGood};
-ghost use Rattle.flight.specs.Pages.{CachedFramesStay};
+ghost use Rattle.flight.specs.Pages.{CachedFramesStay, CachedTillFlush, TouchesCache};
 ghost use Rattle.flight.specs.Places.{PlacesFound, ScannedCores};
-ghost use Rattle.flight.specs.Time.{HeadsSay, TicksAreCounted, TimeIsKept};
+ghost use Rattle.flight.specs.Threads.{ThreadWordsSay, ThreadsRunApart};
+ghost use Rattle.flight.specs.Time.{HeadsSay, ListsSay, TestsTell, TicksAreCounted, TimeIsKept};
 ghost use Rattle.flight.specs.Theorems.{Boots, StepsOn, MadeStands, SaysWords, Represents, RepresentsCounts};
 
 /// The start stands for no step.
@@ -83,14 +86,87 @@ pub fn heads_say()
     ensures { HeadsSay }
 {}
 
+/// At each moment the words of a list say the list, of a temporal capability whose head no core has marked.
+#[tactic(auto, using(crate::proofs::Time::lists_say))]
+pub fn lists_say()
+    ensures { ListsSay }
+{}
+
+/// What a `test` answers is so of the state that its deciding step finds, of the budgets and the lists that both temporal
+/// capabilities have there.
+#[tactic(auto, using(crate::proofs::Time::tests_tell))]
+pub fn tests_tell()
+    ensures { TestsTell }
+{}
+
 /// A dead epoch never lives again: where a liveness number is dead after an epoch, its word shows it live later in higher epochs alone.
 #[tactic(auto, using(crate::proofs::Lives::dead_for_good))]
 pub fn dead_for_good()
     ensures { DeadForGood }
 {}
 
-/// At each moment each translation that a core has cached stands: its frame is a user frame, which is not retyped till the core flushes.
+/// At each moment each translation that a core has cached names a user frame, and stands: what it was found by is there still, or the core
+/// has decided no flush since it was removed.
 #[tactic(auto, using(crate::proofs::Pages::cached_frames_stay))]
 pub fn cached_frames_stay()
     ensures { CachedFramesStay }
+{}
+
+/// A retype to untyped that is decided `ok` has at that moment no reference to its frame, no other core that is waited for, and no core
+/// that has not flushed.
+#[tactic(auto, using(crate::proofs::Frames::untyped_unused))]
+pub fn untyped_frames_are_unused()
+    ensures { UntypedFramesAreUnused }
+{}
+
+/// While a core holds a count of a frame, no other core makes the frame untyped.
+#[tactic(auto, using(crate::proofs::Frames::counted_frames_stay))]
+pub fn counted_frames_stay()
+    ensures { CountedFramesStay }
+{}
+
+/// A node through which a call has looked stays that node till the call returns, unless the call makes it untyped itself.
+#[tactic(auto, using(crate::proofs::Frames::looked_nodes_stay))]
+pub fn looked_nodes_stay()
+    ensures { LookedNodesStay }
+{}
+
+/// A translation stays cached till its core flushes, whatever steps come in between, and its frame is a user frame at each moment till
+/// then: it is not retyped since the translation was cached.
+#[tactic(auto, using(crate::proofs::Pages::cached_till_flush))]
+pub fn cached_till_flush()
+    ensures { CachedTillFlush }
+{}
+
+/// A `touch` that answers a frame and flags leaves that translation of its page cached, unless 64 others are, which then stay: so later
+/// touches of the page answer it till the core flushes.
+#[tactic(auto, using(crate::proofs::Pages::touches_cache))]
+pub fn touches_cache()
+    ensures { TouchesCache }
+{}
+
+/// A call through a gate that is carried out finds the gate's component live at that moment, in the gate's epoch.
+#[tactic(auto, using(crate::proofs::Invocations::enters_the_living))]
+pub fn enters_the_living()
+    ensures { EntersTheLiving }
+{}
+
+/// No call through a gate is carried out whose component was killed before the call's decision: where the component's number was dead after
+/// an epoch, only a gate of a later epoch leads on.
+#[tactic(auto, using(crate::proofs::Invocations::enters_none_killed))]
+pub fn enters_none_killed()
+    ensures { EntersNoneKilled }
+{}
+
+/// At each moment a thread is the current one of at most one core.
+#[tactic(auto, using(crate::proofs::Threads::threads_apart))]
+pub fn threads_run_apart()
+    ensures { ThreadsRunApart }
+{}
+
+/// At each moment what the first word of a thread shows is so: a thread that is shown running is the current one of that core, one that is
+/// shown idle is no core's, and one that is shown claimed is claimed by a core inside a call, which alone may run it.
+#[tactic(auto, using(crate::proofs::Threads::words_say))]
+pub fn thread_words_say()
+    ensures { ThreadWordsSay }
 {}

@@ -1,5 +1,7 @@
 -- The decision of a call that makes an object: the compare of its target, where it is won, makes the frame that object, and puts its
 -- capability there.
+use Rattle.core_invariant.proofs.Bare.{counts_bare}
+use Rattle.core_invariant.proofs.Lent.{is_thread, unlent_value, unlent_word, node_no_thread}
 use Rattle.std.specs.Prelude.{if◌then◌else◌, pos, All}
 use Rattle.std.proofs.Common.{◌≡◌, List, Bool, true, false, Some, None, refl, ℕ, ◌<◌, ◌^◌, ◌==◌, arith, ◌≢◌, ◌+◌, sym, ◌&&◌, [], ◌∷◌, ap, ◌∙◌, subst, ◌≤◌, IsTrue, ◌⊎◌, inl, inr, max, map, ◌+ℤ◌}
 use Rattle.std.proofs.lemmas.List.Elements.{All-nil, All-cons, All-head, All-tail}
@@ -84,7 +86,7 @@ use Rattle.core_invariant.specs.Knows.{AreDuesApart, HasFound, own_in, phase_at,
 use Rattle.core_invariant.specs.Stands.{holds_at, holds_in, Stands, holds, held_by, holds_making, times_of, SumIs, counted_in}
 use Rattle.core_invariant.specs.Words.{PlaceIs, count_room, IsFrameWord, WordIs}
 use Rattle.look_invariant.proofs.Findings.{found_named, own_is, way_gone}
-use Rattle.count_invariant.proofs.MakingCounts.{made_changes, made_argument}
+use Rattle.count_invariant.proofs.MakingCounts.{made_changes, made_types, made_argument}
 use Rattle.stage_pins.specs.Counts.{later}
 use Rattle.stage_pins.specs.Held.{stamp_of_change}
 use Rattle.count_invariant.proofs.CountChanges.{dues_commit, dues_sum}
@@ -406,14 +408,15 @@ module _ (setup : Setting) (setting : IsSetting setup) (cores : ℕ → Core) (t
     -- a word of the frame says what the object is
     made_says : (g i : ℕ) → g ≡ f → StaysSaid setup cores t e (EntryAt g i)
     made_says g i same before =
-        subst (λ x. IsFrameWord s'.limits.frames x (s'.place g i) (stamp setup (e ∷ t) (PlaceOf g i)) i
+        subst (λ x. IsFrameWord s'.limits.frames (count_room s') x (s'.place g i) (stamp setup (e ∷ t) (PlaceOf g i)) i
         (settled setup (held_by cores) t (EntryAt g i))) (sym (frame_here g same))
-        (word_new m.object s'.limits.frames (s'.place g i) (stamp setup (e ∷ t) (PlaceOf g i)) i
+        (word_new m.object s'.limits.frames (count_room s') (s'.place g i) (stamp setup (e ∷ t) (PlaceOf g i)) i
         (settled setup (held_by cores) t (EntryAt g i)) (place_made g i same) (subst (SaysNew m.object i) (sym settled_is) (word_says i)))
       where
         settled_is : settled setup (held_by cores) t (EntryAt g i) ≡ last_left setup t (EntryAt f i)
         settled_is = ap (λ (h : ℕ). settled setup (held_by cores) t (EntryAt h i)) same
             ∙ ap (λ o. settled_by o (held_by cores) (EntryAt f i) (last_left setup t (EntryAt f i))) (no_mark i)
+            ∙ unlent_value setup cores t stands f (ap is_thread blank) i (last_left setup t (EntryAt f i))
 
     stays : (w : Word) → w ≢ EntryAt node index → marked_by setup t w ≢ Some c → StaysSaid setup cores t e w
     stays (EntryAt g i) there free = elim (cases_eq g f) [
@@ -423,6 +426,7 @@ module _ (setup : Setting) (setting : IsSetting setup) (cores : ℕ → Core) (t
         frame = frame_there g other;
         place = place_kept g i other there;
         stamp = stamp_kept (PlaceOf g i) (ne_eqb g f other);
+        room = (let more = more_room in omega arith);
       })
     ]
     stays (FrameAt g) there free = said (FrameAt g) (frame_there g (λ same. free (ap (λ (x : ℕ). marked_by setup t (FrameAt x)) same
@@ -438,7 +442,7 @@ module _ (setup : Setting) (setting : IsSetting setup) (cores : ℕ → Core) (t
 
     -- the word of the target
     word_now : WordIs s' (times_of setup (e ∷ t)) (EntryAt node index) new
-    word_now = node_word s'.limits.frames (s'.frame node) (s'.place node index) (stamp setup (e ∷ t) (PlaceOf node index)) index new
+    word_now = node_word s'.limits.frames (count_room s') (s'.frame node) (s'.place node index) (stamp setup (e ∷ t) (PlaceOf node index)) index new
         (subst (λ x. IsTrue (is_node x)) (sym (frame_there node (λ h. apart (sym h)))) in_node)
         (subst (λ p. PlaceIs s'.limits.frames p (stamp setup (e ∷ t) (PlaceOf node index)) (entry_of_word new)) (sym place_target) (
           new_says ∙ ap (λ x. Some (Held x)) knows.cap,
@@ -576,7 +580,11 @@ module _ (setup : Setting) (setting : IsSetting setup) (cores : ℕ → Core) (t
     put_won lands = decides_writing setup setting cores t stands c here a active put_it count (reply.Ok Nothing) a.found stage
         unmarked.mark bare_now (subst (λ (n : ℕ). n < 2 ^ 64) (sym leaves_it) (entries.spelling.small (Held k) fits)) of_call lands opens
         refl
-        same_held alike begins_none (spares_node setup t e node index refl in_node) rises works stays
+        same_held
+        (λ g i. counts_bare (Some None) a.counts g i ∙ sym (ap (λ h. h.bare g i) held ∙ counts_bare None a.counts g i))
+        (unlent_word setup cores t stands node index (node_no_thread (s.frame node) in_node))
+        alike begins_none (spares_node setup t e node index refl in_node)
+        (inl (made_types a.call a.found m knows.makes)) rises works stays
         (subst (WordIs s' (times_of setup (e ∷ t)) (EntryAt node index)) (sym leaves_it) word_now) commits sums_are
         (record { call = a.call; is_open = is_open; permitted = permitted; justified = gone })
         (λ is_alone. ok_first s c a.call Nothing permitted)

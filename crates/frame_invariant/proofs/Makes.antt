@@ -1,5 +1,7 @@
 -- The steps by which a call makes a node, up to its decision: the load of the frame's word, the compare that marks it, the stores of its
 -- places, and a compare of the target that is lost; and the store that gives the frame's word back.
+use Rattle.core_invariant.proofs.Bare.{as_none, counts_bare}
+use Rattle.core_invariant.proofs.Lent.{is_thread, unlent_word, lent_elsewhere}
 use Rattle.std.specs.Prelude.{if◌then◌else◌, List}
 use Rattle.std.proofs.Common.{◌≡◌, ◌≤◌, Bool, true, false, cond, Option, Some, None, refl, ℕ, ◌<◌, ◌^◌, ◌==◌, arith, ◌≢◌, ◌+◌, sym, nat_lt, ◌&&◌, [], ◌∷◌, ◌++◌, length, ap, ◌∙◌, subst, IsTrue, inl, inr, not, is_some, map}
 use Rattle.std.proofs.lemmas.Bool.{lt-ltb, eqb-true, eqb-false, ltb-false, cases_eq, eq-eqb, false≢true}
@@ -68,14 +70,14 @@ use Rattle.call_steps.specs.declared.stages.ActiveCall.{ActiveCall}
 use Rattle.call_steps.specs.declared.stages.Stage.TheVariants.{Undecided, Decided}
 use Rattle.core_invariant.proofs.Carries.{names_on, counts_on, spot_on}
 use Rattle.core_invariant.proofs.Counting as counting
-use Rattle.core_invariant.proofs.Good.{spares_other, blank_is}
+use Rattle.core_invariant.proofs.Good.{spares_blank, spares_other, blank_is}
 use Rattle.core_invariant.proofs.Loads.{decides_on, step_to, OnlyLooks, next_at, loads_on, IsOfCall, core_at, inner, call_is, core_is}
 use Rattle.core_invariant.proofs.Refusals.{GoodTook, ticks_at, refuses_busy, refuses_raced, raced_leaving, not_spent}
 use Rattle.core_invariant.proofs.Writes.{stores_on}
 use Rattle.core_invariant.specs.Holding.{holds_counts, Holding, settled_by, settled, keeps}
 use Rattle.core_invariant.specs.Knows.{phase_at, due_of, KnowsUndecided, KnowsMaking, MakesBy, KnowsMakingAt, KnowsUnmark, blank_word, HasStored, HasBlank}
 use Rattle.core_invariant.specs.Stands.{holds_at, holds_in, Stands, done_by, holds, held_by, holds_making}
-use Rattle.core_invariant.specs.Words.{IsFrameWord}
+use Rattle.core_invariant.specs.Words.{IsFrameWord, count_room}
 use Rattle.look_invariant.proofs.Lookups.{near_way}
 use Rattle.count_invariant.proofs.Acquiring.{knows_next, next_holds}
 use Rattle.count_invariant.proofs.MakingCounts.{blank_left, made_changes, made_argument, made_near, argument_near}
@@ -112,7 +114,7 @@ stored_knows setup t c f object word n has small = by (nat_lt n (last_word objec
     }
 
 -- A call that makes an object loads and changes the word of its frame, and the words of a blank frame.
-made_looks : (call : Call) → changes_frames call ≡ true → IsTrue (looks_at_frames call)
+pub made_looks : (call : Call) → changes_frames call ≡ true → IsTrue (looks_at_frames call)
 made_looks (Map p v r f w) is = absurd (false≢true is)
 made_looks call is = is
 
@@ -128,7 +130,7 @@ makes_places (make_call what r f u b) [] m is = absurd is
 makes_places call ks m is = absurd is
 
 -- A frame that is no kernel frame, or has an object, is not blank.
-not_blank_by : (x : Frame) (o : Obj) → (frame_value x).object ≡ o → (o ≡ obj.Blank → ⊥) → is_blank x ≡ false
+pub not_blank_by : (x : Frame) (o : Obj) → (frame_value x).object ≡ o → (o ≡ obj.Blank → ⊥) → is_blank x ≡ false
 not_blank_by (Kernel Blank) o is other = absurd (other (sym is))
 not_blank_by (Kernel Table) o is other = refl
 not_blank_by (Kernel Leaf) o is other = refl
@@ -140,12 +142,12 @@ not_blank_by (Kernel (Tcap k)) o is other = refl
 not_blank_by Untyped o is other = refl
 not_blank_by User o is other = refl
 
-not_kernel_by : (x : Frame) (k : FrameKind) → (frame_value x).kind ≡ k → (k ≡ FrameKernel → ⊥) → is_blank x ≡ false
+pub not_kernel_by : (x : Frame) (k : FrameKind) → (frame_value x).kind ≡ k → (k ≡ FrameKernel → ⊥) → is_blank x ≡ false
 not_kernel_by Untyped k is other = refl
 not_kernel_by User k is other = refl
 not_kernel_by (Kernel object) k is other = absurd (other (sym is))
 
-marked_fits : (c : ℕ) → c < 8 → FrameFits (marked c)
+pub marked_fits : (c : ℕ) → c < 8 → FrameFits (marked c)
 marked_fits c small = (small, omega arith)
 
 module _ (setup : Setting) (setting : IsSetting setup) (cores : ℕ → Core) (t : Trace) (stands : Stands setup cores t) (c : ℕ)
@@ -394,6 +396,9 @@ module _ (setup : Setting) (setting : IsSetting setup) (cores : ℕ → Core) (t
               (same_word-other w (FrameAt f) there)
               ∙ sym (ap (λ h. h.stands w) held_before),
         ))
+        (as_none (holds (cores c)) (holds after) (FrameAt f)
+        (λ g i. ap (λ h. h.bare g i) held_before ∙ counts_bare None a.counts g i)
+        (λ g i. ap (λ h. h.bare g i) held_now ∙ counts_bare None a.counts g i))
         (ap (λ (n : ℕ). frame_mark (frame_of_word n)) leaves_it ∙ ap frame_mark (frames.spelling.reads (marked m.core) fits)
         ∙ ap (λ (n : ℕ). Some n) knows.core ∙ ap (λ b. if b then Some c else None) (sym marks_it))
         (λ b other is. none_some b (sym bare ∙ is))
@@ -413,7 +418,7 @@ module _ (setup : Setting) (setting : IsSetting setup) (cores : ℕ → Core) (t
         })
         (counts_on setup t e c a.call (λ own. refl) a.counts (call_is setup setting cores t stands c here a active).counts)
         (call_is setup setting cores t stands c here a active).apart
-        (spares_other setup t e (λ g i h. cc))
+        (spares_other setup t e (λ g i h. cc)) (lent_elsewhere cores e (λ g i h. cc))
       where
         no_counts : a.counts ≡ []
         no_counts = none_of a.counts (dues_at (Mark word) at_is)
@@ -501,9 +506,10 @@ module _ (setup : Setting) (setting : IsSetting setup) (cores : ℕ → Core) (t
         (word_small m.object n fits_in.object.pair (calls.small_names setup setting cores t stands c here a active m stage_is has))
         (record { moves = makes_in_blank a.call a.found m knows.makes (s.frame f) blank; near = inl near })
         (λ b. refl) (λ h. cc) (λ g b h. cc) lands
-        (stored_holds m.object f word n (holds_counts None a.counts) ∙ sym held_store) opens
-        (subst (λ x. IsFrameWord s.limits.frames x (s.place f n) (stamp setup t (PlaceOf f n)) n new_word) (sym blank) tt)
-        (λ g i at is_blank. inl (ap (λ (h : ℕ). marked_by setup t (FrameAt h)) (sym (same_frame g i at)) ∙ own_mark))
+        (stored_holds m.object f word n (holds_counts None a.counts) ∙ sym held_store)
+        (unlent_word setup cores t stands f n (ap is_thread blank)) opens
+        (subst (λ x. IsFrameWord s.limits.frames (count_room s) x (s.place f n) (stamp setup t (PlaceOf f n)) n new_word) (sym blank) tt)
+        (spares_blank setup t e f n refl blank own_mark)
         (λ carries. record {
           names = names_on setup setting t e stands.legal c a.call is_open carries (cores c).own.table a.plan a.found has.names;
           knows = record {
@@ -604,6 +610,8 @@ module _ (setup : Setting) (setting : IsSetting setup) (cores : ℕ → Core) (t
         sym (ap (λ h. h.marks w) was_held ∙ ap (λ b. if b then true else rest.marks w) (same_word-other w (FrameAt f) there)),
         sym (ap (λ h. h.stands w) was_held ∙ ap (λ b. if b then word else rest.stands w) (same_word-other w (FrameAt f) there)),
       ))
+      (as_none (holds (cores c)) (holds after) (FrameAt f)
+      (λ g i. ap (λ h. h.bare g i) was_held ∙ counts_bare (done_by r drawn) a.counts g i) (counts_bare (done_by r drawn) a.counts))
       (has.bare ∙ sym (ap (λ b. if b then Some c else None) (no_frame (done_by r drawn) a.counts f)))
       (λ b other is. other (sym (some_inj c b (sym its_mark ∙ is))))
       (ap (λ b. settled_by (if b then Some c else None) (held_by (put cores c after)) (FrameAt f) word)
@@ -612,4 +620,4 @@ module _ (setup : Setting) (setting : IsSetting setup) (cores : ℕ → Core) (t
       (λ carries. tt)
       (counts_on setup t e c a.call (λ own. refl) a.counts (call_is setup setting cores t stands c here a active).counts)
       (call_is setup setting cores t stands c here a active).apart
-      (spares_other setup t e (λ g i h. cc))
+      (spares_other setup t e (λ g i h. cc)) (lent_elsewhere cores e (λ g i h. cc))

@@ -33,6 +33,7 @@ use Rattle.call_acts.specs.declared.objects.NewObject.TheVariants as objects
 use Rattle.call_acts.specs.Objects.{object_cap, object_word, thread_word, tcap_word, last_word, object_names, PairFits, NamesFit}
 use Rattle.call_acts.specs.Makings.{made}
 use Rattle.core_invariant.specs.Words.{PlaceIs, IsThreadWord, IsTcapWord, IsFrameWord}
+use Rattle.core_invariant.proofs.WordFrames.{entry_more}
 use Rattle.place_invariant.proofs.ObjectMakes.{new_object, ready_place, readied}
 
 pub made_value : (o : NewObject) → frame_value (Kernel (new_object o)) ≡ made o
@@ -106,9 +107,9 @@ SaysNew objects.Leaf i x = entry_of_word x ≡ Some Free
 SaysNew objects.Pages i x = entry_of_word x ≡ Some Free
 SaysNew objects.Pleaf i x = entry_of_word x ≡ Some Free
 SaysNew (objects.Thread comp) i x = IsThreadWord (idle_in comp) i x
-SaysNew (objects.Tcap sched quality) i x = IsTcapWord (listed sched quality) i x
+SaysNew (objects.Tcap sched quality) i x = IsTcapWord (listed sched quality) 0 i x
 
--- The words of a thread above its component, and those of a temporal capability behind its pair.
+-- The words of a thread above its component, and those of a temporal capability after its pair.
 later_thread : (comp i : ℕ) → 2 ≤ i → thread_word comp i ≡ word_of_stack (record { 0 = None })
 later_thread comp i far =
     ap (λ b. if b then word_of_thread (Idle 1) else (if i == 1 then word_of_stack (record { 0 = Some comp })
@@ -140,11 +141,12 @@ thread_says comp (suc (suc h)) x small stored = λ low. ap stack_of_word (stored
     ∙ ap (λ (o : Option ℕ). Some (record { 0 = o })) (sym (slice_get_past (comp ∷ []) (suc h) (omega arith)))
 
 tcap_says : (sched quality i x : ℕ) → PairFits (objects.Tcap sched quality) → (i ≤ 8 → x ≡ tcap_word sched quality i)
-    → IsTcapWord (listed sched quality) i x
+    → IsTcapWord (listed sched quality) 0 i x
 tcap_says sched quality zero x pair stored = record {
   version = 0;
   says = ap head_of_word (stored (omega arith))
       ∙ heads.spelling.reads (record { budget = 0; mark = None; version = 0 }) (omega arith, tt, omega arith);
+  within = omega arith;
   most = omega arith;
 }
 tcap_says sched quality (suc zero) x pair stored =
@@ -236,14 +238,15 @@ place_word : (frames : ℕ) (p : Place) (stamp x : ℕ) → p ≡ Vacant → ent
 place_word frames p stamp x free says = subst (λ q. PlaceIs frames q stamp (entry_of_word x)) (sym free) says
 
 -- And so its words say what the frame is.
-pub word_new : (o : NewObject) (frames : ℕ) (p : Place) (stamp i x : ℕ) → PlaceReady o p → SaysNew o i x
-    → IsFrameWord frames (Kernel (new_object o)) p stamp i x
-word_new objects.Table frames p stamp i x ready says = λ low. place_word frames p stamp x ready says
-word_new objects.Leaf frames p stamp i x ready says = λ low. place_word frames p stamp x ready says
-word_new objects.Pages frames p stamp i x ready says = λ low. place_word frames p stamp x ready says
-word_new objects.Pleaf frames p stamp i x ready says = λ low. place_word frames p stamp x ready says
-word_new (objects.Thread comp) frames p stamp i x ready says = says
-word_new (objects.Tcap sched quality) frames p stamp i x ready says = says
+pub word_new : (o : NewObject) (frames room : ℕ) (p : Place) (stamp i x : ℕ) → PlaceReady o p → SaysNew o i x
+    → IsFrameWord frames room (Kernel (new_object o)) p stamp i x
+word_new objects.Table frames room p stamp i x ready says = λ low. place_word frames p stamp x ready says
+word_new objects.Leaf frames room p stamp i x ready says = λ low. place_word frames p stamp x ready says
+word_new objects.Pages frames room p stamp i x ready says = λ low. place_word frames p stamp x ready says
+word_new objects.Pleaf frames room p stamp i x ready says = λ low. place_word frames p stamp x ready says
+word_new (objects.Thread comp) frames room p stamp i x ready says = says
+word_new (objects.Tcap sched quality) frames room p stamp i x ready says =
+    entry_more frames 0 room (Kernel (new_object (objects.Tcap sched quality))) p stamp i x (omega arith) says
 
 -- The references change by what it names.
 ready_refs : (o : NewObject) (s : State) (f g : ℕ) → ((i : ℕ) (k : Capability) → s.place f i ≡ Holds k → ⊥)

@@ -14,7 +14,6 @@ use Rattle.spk_nums.specs.declared.calls.Call.{Call}
 use Rattle.spk_nums.specs.declared.calls.Call.TheVariants.{Retype}
 use Rattle.spk_nums.specs.declared.replies.Reply.TheVariants as reply
 use Rattle.spk_nums.specs.declared.replies.Value.TheVariants.{Nothing}
-use Rattle.supported_calls.specs.Built.{IsBuilt, IsTyping}
 use Rattle.frame_words.specs.Frame.{FrameFits, word_of_frame, frame_of_word}
 use Rattle.frame_words.specs.declared.frame_word.FrameWord.{FrameWord}
 use Rattle.frame_words.proofs.FrameLemmas.{spelling}
@@ -65,7 +64,7 @@ use Rattle.call_steps.specs.Steps.{landed}
 use Rattle.call_steps.specs.View.{Core}
 use Rattle.core_invariant.specs.Holding.{holds_counts, settled_by, settled}
 use Rattle.core_invariant.specs.Words.{IsFrameWord, WordIs, count_room}
-use Rattle.core_invariant.specs.Knows.{HasFound, own_in, due_of, TypesBy, HasMet, KnowsUndecided, WorksIn, phase_at}
+use Rattle.core_invariant.specs.Knows.{HasFound, own_in, due_of, TypesBy, HasMet, KnowsUndecided, WorksIn, phase_at, untypes}
 use Rattle.core_invariant.specs.Stands.{holds_at, holds_in, holds, held_by, times_of, counted_in, Stands}
 use Rattle.core_invariant.proofs.Calm.{counts, calm_counted, own_works, counted_rises, room_rises, IsPlain, plain_begins, plain_stamp, plain_flush, plain_exit}
 use Rattle.core_invariant.proofs.Carries.{names_on, own_kept}
@@ -112,10 +111,10 @@ typed_comp kind.Untyped = refl
 typed_comp kind.User = refl
 typed_comp kind.Kernel = refl
 
-typed_says : (k : FrameKind) (n : ℕ) (p : Place) (r i x : ℕ) → IsFrameWord n (typed_frame k) p r i x
-typed_says kind.Untyped n p r i x = tt
-typed_says kind.User n p r i x = tt
-typed_says kind.Kernel n p r i x = tt
+typed_says : (k : FrameKind) (n m : ℕ) (p : Place) (r i x : ℕ) → IsFrameWord n m (typed_frame k) p r i x
+typed_says kind.Untyped n m p r i x = tt
+typed_says kind.User n m p r i x = tt
+typed_says kind.Kernel n m p r i x = tt
 
 typed_mark : (k : FrameKind) (i x : ℕ) → mark_in_frame (typed_frame k) i x ≡ None
 typed_mark kind.Untyped i x = refl
@@ -134,20 +133,25 @@ typed_is User k is other = refl
 typed_is (Kernel object) k is other = refl
 
 -- The rule of such a retype, after its name.
-typing_causes : (s : State) (f : ℕ) (k : FrameKind) → IsTyping k → not_retyped s f k ≡ not_untyped s f ∷ []
-typing_causes s f kind.Untyped typing = absurd typing
+typing_causes : (s : State) (f : ℕ) (k : FrameKind) → k ≢ kind.Untyped → not_retyped s f k ≡ not_untyped s f ∷ []
+typing_causes s f kind.Untyped typing = absurd (typing refl)
 typing_causes s f kind.User typing = refl
 typing_causes s f kind.Kernel typing = refl
 
-typing_change : (s : State) (f : ℕ) (k : FrameKind) → IsTyping k → retypes s f k ≡ leaves (with_frame s f (typed_frame k))
-typing_change s f kind.Untyped typing = absurd typing
+typing_change : (s : State) (f : ℕ) (k : FrameKind) → k ≢ kind.Untyped → retypes s f k ≡ leaves (with_frame s f (typed_frame k))
+typing_change s f kind.Untyped typing = absurd (typing refl)
 typing_change s f kind.User typing = refl
 typing_change s f kind.Kernel typing = refl
 
-typing_ends : (r f : ℕ) (k : FrameKind) → IsTyping k → (x : Thing) → ends_by (Retype r f k) x ≡ false
-typing_ends r f kind.Untyped typing x = absurd typing
+typing_ends : (r f : ℕ) (k : FrameKind) → k ≢ kind.Untyped → (x : Thing) → ends_by (Retype r f k) x ≡ false
+typing_ends r f kind.Untyped typing x = absurd (typing refl)
 typing_ends r f kind.User typing x = refl
 typing_ends r f kind.Kernel typing x = refl
+
+typing_types : (r f : ℕ) (k : FrameKind) → k ≢ kind.Untyped → untypes (Retype r f k) ≡ false
+typing_types r f kind.Untyped typing = absurd (typing refl)
+typing_types r f kind.User typing = refl
+typing_types r f kind.Kernel typing = refl
 
 -- The call that types a frame.
 pub record IsRetype (call : Call) (ks : List Capability) (f : ℕ) (k : FrameKind) : Type 0 where
@@ -156,6 +160,7 @@ pub record IsRetype (call : Call) (ks : List Capability) (f : ℕ) (k : FrameKin
   pub call_is : call ≡ Retype name f k
   pub found_is : ks ≡ range ∷ []
   pub within : has_frame (found range) f ≡ true
+  pub types : k ≢ kind.Untyped
 
 retype_of : (call : Call) (ks : List Capability) (f : ℕ) (k : FrameKind) (at : TypingAt)
     → TypesBy call ks (record { frame = f; kind = k; at = at }) → IsRetype call ks f k
@@ -165,6 +170,7 @@ retype_of (Retype r g j) (range ∷ []) f k at is = record {
   call_is = ap (λ (x : ℕ). Retype r x j) (sym is.frame) ∙ ap (Retype r f) (sym is.kind);
   found_is = refl;
   within = ap (has_frame (found range)) is.frame ∙ is.within;
+  types = is.types;
 }
 retype_of (Retype r g j) [] f k at is = absurd is
 retype_of (Retype r g j) (range ∷ q ∷ ks) f k at is = absurd is
@@ -195,8 +201,8 @@ module _ (setup : Setting) (setting : IsSetting setup) (cores : ℕ → Core) (t
   is : IsRetype a.call a.found f k
   is = retype_of a.call a.found f k at has.knows.knows.types
 
-  types : IsTyping k
-  types = subst IsBuilt is.call_is (is_active setup setting cores t stands c here a active).built
+  types : k ≢ kind.Untyped
+  types = is.types
 
   opens : phase_at a.call a.stage ≡ Open a.call
   opens = ap (phase_at a.call) stage_is
@@ -335,7 +341,7 @@ module _ (setup : Setting) (setting : IsSetting setup) (cores : ℕ → Core) (t
       where
         types_on : (call : Call) (ks : List Capability) → TypesBy call ks typing
             → TypesBy call ks (record { frame = f; kind = k; at = type_compare was })
-        types_on (Retype r g j) (range ∷ []) h = record { frame = h.frame; kind = h.kind; within = h.within }
+        types_on (Retype r g j) (range ∷ []) h = record { frame = h.frame; kind = h.kind; types = h.types; within = h.within }
         types_on (Retype r g j) [] h = absurd h
         types_on (Retype r g j) (range ∷ q ∷ ks) h = absurd h
         types_on call ks h = absurd h
@@ -494,15 +500,16 @@ module _ (setup : Setting) (setting : IsSetting setup) (cores : ℕ → Core) (t
 
       stays : (w : Word) → w ≢ FrameAt f → marked_by setup t w ≢ Some c → StaysSaid setup cores t e w
       stays (EntryAt g i) there free = elim (cases_eq g f) [
-        | inl same ↦ λ h. subst (λ x. IsFrameWord s'.limits.frames x (s'.place g i) (stamp setup (e ∷ t) (PlaceOf g i)) i
+        | inl same ↦ λ h. subst (λ x. IsFrameWord s'.limits.frames (count_room s') x (s'.place g i) (stamp setup (e ∷ t) (PlaceOf g i)) i
             (settled setup (held_by cores) t (EntryAt g i))) (sym (frame_here g same))
-            (typed_says k s'.limits.frames (s'.place g i) (stamp setup (e ∷ t) (PlaceOf g i)) i
+            (typed_says k s'.limits.frames (count_room s') (s'.place g i) (stamp setup (e ∷ t) (PlaceOf g i)) i
             (settled setup (held_by cores) t (EntryAt g i)))
         | inr other ↦ said (EntryAt g i) (record {
           frames = ap (λ l. l.frames) limits;
           frame = frame_there g other;
           place = ap (λ x. x.place g i) now;
           stamp = plain_stamp setup t e plain (PlaceOf g i);
+          room = more_room;
         })
       ]
       stays (FrameAt g) there free = said (FrameAt g) (frame_there g (λ same. there (ap (λ (x : ℕ). FrameAt x) same)))
@@ -570,15 +577,21 @@ module _ (setup : Setting) (setting : IsSetting setup) (cores : ℕ → Core) (t
                 (λ m d h. own_kept t e c refl refl _ (had.way.stepped m d h))),
           )
 
+      no_entry_word : (g i : ℕ) → FrameAt f ≡ EntryAt g i → ⊥
+      no_entry_word g i h = cc
+
       won : GoodTook setup cores t c compare (landed a (typed_if true))
       won lands = writes_on setup setting cores t stands c here a active compare made (reply.Ok Nothing) a.found
           (Decided (reply.Ok Nothing) None no_tail) unmarked bare_now
           (subst (λ (n : ℕ). n < 2 ^ 64) (sym leaves_it) (spelling.small (typed k) (typed_fits k)))
-          of_call lands opens refl refl alike (plain_begins setup t e plain) (spares_other setup t e (λ g i h. cc)) rises works stays
+          of_call lands opens refl refl (λ g i h. absurd (no_entry_word g i h))
+          alike (plain_begins setup t e plain) (spares_other setup t e (λ g i h. cc))
+          (inl (ap untypes is.call_is ∙ typing_types is.name f k types)) rises works stays
           (subst (WordIs s' (times_of setup (e ∷ t)) (FrameAt f)) (sym leaves_it) now_says)
           held_is (λ w own. absurd (free_of w own))
           (sums_keep setup t e (held_by cores) (held_by (put cores c after))
-          (λ g d. others_settled setup cores t e after still alike unmarked bare_now (CountAt g d) (no_count g d) (free_of (CountAt g d)))
+          (λ g d. others_settled setup cores t e after still alike unmarked bare_now (CountAt g d) (no_count g d) (free_of (CountAt g d))
+          refl)
           plain limits kept_refs stands.sums)
           (record { call = a.call; is_open = is_open; permitted = permitted; justified = gone })
           (λ is_alone. ok_first s c a.call Nothing permitted)

@@ -10,4 +10,6 @@
 //! capability. What is still to be stored of the frame's word is what it stands for.
 //!
 //! The lemmas stand in this crate's proofs.
+//!
+//! See docs/PROOF.md, 'Frames: mapping, typing, making'.
 #![tactic(auto)]

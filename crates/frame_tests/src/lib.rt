@@ -1,4 +1,6 @@
 //! Tests of the calls that change frames: `retype`, and `make`.
+//!
+//! See docs/CLAIMS.md, 'Crate by crate'.
 #![tactic(auto)]
 
 #[cfg(test)]
@@ -7,3 +9,5 @@ mod makes;
 mod object_makes;
 #[cfg(test)]
 mod retypes;
+#[cfg(test)]
+mod untypings;

@@ -27,7 +27,7 @@ number_of_count (negsuc n) = 2 ^ 30 - 1 - n
 abbrev pub count_of_number : ℕ → ℤ
 count_of_number n = if nat_lt n (2 ^ 30) then negsuc (2 ^ 30 - 1 - n) else pos (n - 2 ^ 30)
 
--- a hold's number in a word: the mark in the lower 4 bits, and behind it whether the word is closed
+-- a hold's number in a word: the mark in the lower 4 bits, and after it whether the word is closed
 abbrev pub number_of_hold : Hold → ℕ
 number_of_hold Unheld = 0
 number_of_hold (Pinned by) = by + 1

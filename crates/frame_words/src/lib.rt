@@ -1,4 +1,6 @@
 //! The packed words of frames, counts, cores, flushes, liveness numbers and components.
+//!
+//! See docs/FORMATS.md, 'Packed words'.
 #![tactic(auto)]
 
 mod comp_word;

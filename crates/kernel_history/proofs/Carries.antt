@@ -6,7 +6,7 @@ use Rattle.spk_nums.specs.Setting.{Setting, IsSetting}
 use Rattle.spk_nums.specs.declared.calls.Call.{Call}
 use Rattle.word_map.specs.Word.{Word}
 use Rattle.word_map.specs.Moves.{word_of}
-use Rattle.kernel_rules.specs.State.{Thing, PlaceOf, NumberOf, State}
+use Rattle.kernel_rules.specs.State.{Thing, PlaceOf, NumberOf, State, Dead}
 use Rattle.kernel_history.specs.Trace.{Step, Trace, Open, phase, state_after, state_entered, own_left, IfNot, WasAt, WasBefore}
 use Rattle.kernel_history.specs.Stamps.{is_in, stamp, clock}
 use Rattle.kernel_history.specs.Justified.{IsRemoved}
@@ -61,6 +61,10 @@ was_before P setup t e no_entry was = inr (if_not (is_some e.enters) (WasAt P se
 pub was_at_once : (P : State → Type 0) (setup : Setting) (t : Trace) (e : Step) → e.enters ≡ None → P (state_after setup t) → WasBefore P setup t e
 was_at_once P setup t e no_entry now = inl (subst (λ o. P (state_entered o (state_after setup t) e.core)) (sym no_entry) now)
 
+-- A liveness number is dead in this epoch.
+abbrev pub IsDeadIn : ℕ → ℕ → State → Type 0
+IsDeadIn l d s = s.number l ≡ Dead d
+
 -- What core c, in an open call, knows after t it knows after e too.
 pub record Carries (setup : Setting) (t : Trace) (e : Step) (c : ℕ) : Type 0 where
   -- the words on which its call has stepped
@@ -69,6 +73,8 @@ pub record Carries (setup : Setting) (t : Trace) (e : Step) (c : ℕ) : Type 0 w
   pub stays : Stays setup t e c
   -- that a thing was removed at a moment of its call
   pub was_removed : (x : Thing) → WasAt (IsRemoved x) setup t c → WasAt (IsRemoved x) setup (e ∷ t) c
+  -- and that a liveness number was dead in an epoch
+  pub was_dead : (l d : ℕ) → WasAt (IsDeadIn l d) setup t c → WasAt (IsDeadIn l d) setup (e ∷ t) c
   -- stamps that are past; those of the places of a node on which it relies, and of liveness numbers, only rise
   pub past : (s : ℕ) → s < clock setup t → s < clock setup (e ∷ t)
   pub place_rises : (f i : ℕ) → ReliesOn setup t c f → stamp setup t (PlaceOf f i) ≤ stamp setup (e ∷ t) (PlaceOf f i)
@@ -83,6 +89,7 @@ carries_by setup lim t legal e follows time graces c no_entry stays = record {
   own = own_stays c e t no_entry;
   stays = stays;
   was_removed = λ x. was_stays (IsRemoved x) setup t e c no_entry;
+  was_dead = λ l d. was_stays (IsDeadIn l d) setup t e c no_entry;
   past = still_past setup t e follows time graces;
   place_rises = λ f i relies. stamp_rises setup t e follows time graces (PlaceOf f i) (node_goes_on setup lim t legal e follows f i relies.node);
   number_rises = λ l. stamp_rises setup t e follows time graces (NumberOf l) (number_goes_on setup lim t legal e follows l);

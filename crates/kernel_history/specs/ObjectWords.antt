@@ -66,6 +66,6 @@ at_height stack h = slice_get (reverse stack) h
 abbrev pub stack_word : List ℕ → ℕ → ℕ
 stack_word stack h = word_of_stack (record { 0 = at_height stack h })
 
--- The word of a temporal capability's list at a position: none behind the list's end.
+-- The word of a temporal capability's list at a position: none after the list's end.
 abbrev pub quality_word : List (ℕ × ℕ) → ℕ → ℕ
 quality_word qualities j = word_of_quality (record { 0 = slice_get qualities j })

@@ -56,7 +56,7 @@ object_word (Comp k) = codes "comp"
 object_word (Thread t) = codes "thread"
 object_word (Tcap q) = codes "tcap"
 
--- The lines of an object behind its frame's line.
+-- The lines of an object after its frame's line.
 abbrev pub object_lines : Object → (ℕ → Place) → List ℕ
 object_lines Blank place = []
 object_lines Table place = node_lines place

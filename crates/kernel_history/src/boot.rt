@@ -445,7 +445,7 @@ fn filled(alloc: Global, setup: &Setup, layout: &Layout) -> Result<Vec<u64>, All
 ///
 /// # Errors
 ///
-/// `Memory` where memory is wanting.
+/// `Memory` where memory has run out.
 pub fn boot_words(alloc: Global, setup: &Setup) -> Result<Vec<u64>, Memory>
     ensures length { IfOk result (λ words. length words.items ≡ size_of (shape_of setup.now)) }
     ensures words { IfOk result (λ words. (w : Word) → IsIn (shape_of setup.now) w → word_in (shape_of setup.now) words.items w ≡ boot_word setup.now (shared w)) }

@@ -1,6 +1,8 @@
 //! What the kernel promises: traces of atomic steps, and when a trace is a legal history of the sequential kernel.
 //!
 //! The definitions stand in this crate's specs. The laws below say of them what a reader would ask of them.
+//!
+//! See docs/MODEL.md, 'Traces and legal histories', and docs/PROOF.md, 'What holds of legal traces by the definitions alone'.
 #![tactic(auto)]
 
 mod boot;

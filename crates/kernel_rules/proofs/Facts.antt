@@ -52,7 +52,7 @@ refused_found r x e = cc
 pub found_inj : {A : Type 0} (x y : A) → Found x ≡ Found y → x ≡ y
 found_inj x y e = cc
 
--- What is found behind another finding.
+-- What is found after another finding.
 pub then_parts : {A B : Type 0} (x : Judged A) (f : A → Judged B) (b : B) → and_then x f ≡ Found b → (a : A) × (x ≡ Found a) × (f a ≡ Found b)
 then_parts (Refused r) f b e = absurd (refused_found r b e)
 then_parts (Found a) f b e = (a, refl, e)

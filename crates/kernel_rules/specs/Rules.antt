@@ -30,7 +30,7 @@ pub data Cause : Type 0 where
   Unflushed : Thing → Cause
 
 -- A rule: a capability of this number and a wanted kind; a target that is to be free; a target that is to be held; a page
--- that is to be mapped, by its root; and, behind them, the call's own causes in order, and the change.
+-- that is to be mapped, by its root; and, after them, the call's own causes in order, and the change.
 pub data Rule : Type 0 where
   Name : ℕ → (Kind → Bool) → (Named → Rule) → Rule
   Vacant : Target → (Slot → Rule) → Rule

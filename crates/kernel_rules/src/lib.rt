@@ -3,6 +3,8 @@
 //! The definitions stand in this crate's specs. A call is a rule: the capabilities that it names, its target, its own
 //! causes of refusal in order, and what it does. The laws below say what every run keeps; laws that nothing above needs
 //! stand in `kernel_laws`.
+//!
+//! See docs/MODEL.md, 'The sequential kernel'.
 #![tactic(auto)]
 
 ghost use Rattle.kernel_rules.specs.Laws.{RefusalKeeps, WaitsWithin, WaitersInside, FirstPermitted, RefsChange, CapabilitiesFit};

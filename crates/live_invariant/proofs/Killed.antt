@@ -1,5 +1,7 @@
 -- A killing draws its stamp and is decided: the number is dead, its reference to the component's frame is released, and the grace periods
 -- of both begin at the stamp. And the store of the dead number's word is good.
+use Rattle.core_invariant.proofs.Bare.{as_none, counts_bare}
+use Rattle.core_invariant.proofs.Lent.{lent_elsewhere}
 use Rattle.std.specs.Prelude.{IsSome}
 use Rattle.std.specs.List.{list_any}
 use Rattle.std.proofs.Common.{◌≡◌, ◌≢◌, inl, inr, ℕ, pos, negsuc, ◌+ℤ◌, max, length, ◌+◌, ◌^◌, ◌<◌, ◌≤◌, ◌==◌, ◌||◌, Bool, true, false, if◌then◌else◌, List, [], ◌∷◌, Option, Some, None, IsTrue, arith, refl, sym, ◌∙◌, ap, subst}
@@ -78,7 +80,7 @@ use Rattle.core_invariant.proofs.Sounds.{limits_of}
 use Rattle.core_invariant.proofs.WordFrames.{SameFor, ReadsAlike, reads_alike, StaysSaid, word_stays}
 use Rattle.core_invariant.proofs.Writes.{clock_small, same_marks}
 use Rattle.count_invariant.proofs.CapChanges.{counts_commit, counts_sum, dues_of}
-use Rattle.count_invariant.proofs.KillingCounts.{kill_numbers, kill_raises}
+use Rattle.count_invariant.proofs.KillingCounts.{kill_numbers, kill_raises, kill_types}
 use Rattle.look_invariant.proofs.Findings.{own_is, found_named, way_gone}
 use Rattle.live_invariant.proofs.Numbers.{IsSpelled, spelled, no_number, number_is, lives_for}
 use Rattle.live_invariant.proofs.KillCalls as calls
@@ -313,6 +315,7 @@ module _ (setup : Setting) (setting : IsSetting setup) (cores : ℕ → Core) (t
       frame = frames g;
       place = ap (λ y. y.place g i) now;
       stamp = stamp_stays (PlaceOf g i) refl;
+      room = (let more = more_room in omega arith);
     }
     same (FrameAt g) no_clock bare = frames g
     same (CountAt g d) no_clock bare = (let more = more_room in omega arith)
@@ -446,7 +449,11 @@ module _ (setup : Setting) (setting : IsSetting setup) (cores : ℕ → Core) (t
 
     draw_at : GoodTook setup cores t c (AddOf ClockAt 1) (landed a (drawn_dead life now_at))
     draw_at lands = drawing.draws_on setup setting cores t stands c here a active r stage made
-        (kill_raises a.call a.found f has.knows.knows.kills) lands still opens refl alike grows works no_flush stays held_now
+        (kill_raises a.call a.found f has.knows.knows.kills) lands still
+        (λ g i. counts_bare (Some (Some now_at)) a.counts g i ∙ sym (ap (λ h. h.bare g i)
+        (ap holds_in active ∙ ap (λ stage. holds_at stage a.counts) stage_is) ∙ counts_bare None a.counts g i))
+        opens refl alike (inl (kill_types a.call a.found f has.knows.knows.kills)) grows works
+        no_flush stays held_now
         (counts_sum setup setting cores t stands c here a active (negsuc 0) one_small (Some now_at) drawn_small fs few has.knows.all
         (AddOf ClockAt 1) r after still
         (λ g d. before (CountAt g d)) (λ g d. refl) alike refl refl no_count (ap (λ l. l.cores) limits) kept changes)
@@ -534,6 +541,9 @@ module _ (setup : Setting) (setting : IsSetting setup) (cores : ℕ → Core) (t
         sym ((holds_is w).0 ∙ ap (λ b. if b then true else rest.marks w) (same_word-other w dead_at there)),
         sym ((holds_is w).1 ∙ ap (λ b. if b then dead_word else rest.stands w) (same_word-other w dead_at there)),
       ))
+      (as_none (holds (cores c)) (holds after) dead_at
+      (λ f i. ap (λ h. h.bare f i) (ap holds_in active ∙ ap (λ stage. holds_at stage a.counts) stage_is)
+      ∙ counts_bare (done_by r drawn) a.counts f i) (counts_bare (done_by r drawn) a.counts))
       (says.unmarked ∙ sym (ap (λ b. if b then Some c else None) (no_number (done_by r drawn) a.counts life.number)))
       (λ b other is. other (sym (some_inj c b (sym its_mark ∙ is))))
       (ap (λ b. settled_by (if b then Some c else None) (held_by (put cores c after)) dead_at dead_word)
@@ -542,4 +552,4 @@ module _ (setup : Setting) (setting : IsSetting setup) (cores : ℕ → Core) (t
       (λ carries. tt)
       (counts_on setup t e c a.call (λ own. refl) a.counts (call_is setup setting cores t stands c here a active).counts)
       (call_is setup setting cores t stands c here a active).apart
-      (spares_other setup t e (λ g i h. cc))
+      (spares_other setup t e (λ g i h. cc)) (lent_elsewhere cores e (λ g i h. cc))

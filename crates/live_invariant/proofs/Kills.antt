@@ -1,5 +1,7 @@
 -- The steps of a killing before its draw are good: the loads of the component's word and of its number's word, and the compare that marks
 -- the number, which is lost to another core or holds it for the call.
+use Rattle.core_invariant.proofs.Bare.{as_none, counts_bare}
+use Rattle.core_invariant.proofs.Lent.{is_thread, unlent_value, lent_elsewhere}
 use Rattle.std.proofs.Common.{◌≡◌, ◌≢◌, inl, ℕ, ◌+◌, ◌++◌, ◌^◌, ◌<◌, ◌==◌, map, length, Bool, true, false, if◌then◌else◌, List, [], ◌∷◌, Option, Some, None, IsTrue, arith, refl, sym, ◌∙◌, ap, subst}
 use Rattle.std.proofs.lemmas.Bool.{eqb-true, eqb-false, eq-eqb, false≢true}
 use Rattle.spk_nums.specs.Setting.{Setting, IsSetting}
@@ -38,7 +40,7 @@ use Rattle.call_steps.specs.declared.stages.ActiveCall.{ActiveCall}
 use Rattle.call_steps.specs.Steps.{GoesOn, landed, went}
 use Rattle.call_steps.specs.View.{Core}
 use Rattle.core_invariant.specs.Holding.{holds_counts, settled_by}
-use Rattle.core_invariant.specs.Words.{IsFrameWord, NumberIs}
+use Rattle.core_invariant.specs.Words.{IsFrameWord, NumberIs, count_room}
 use Rattle.core_invariant.specs.Knows.{due_of, KnowsUndecided}
 use Rattle.core_invariant.specs.Stands.{holds_at, holds_in, holds, held_by, Stands}
 use Rattle.core_invariant.proofs.Carries.{names_on, has_comp_on, life_on, counts_on}
@@ -75,10 +77,13 @@ module _ (setup : Setting) (setting : IsSetting setup) (cores : ℕ → Core) (t
   unmarked = ap (λ x. mark_in_frame x 2 was) (calls.holds_comp setup setting cores t stands c here a active f by LoadComp stage_is has)
 
   says_life : comp_of_word was ≡ Some life
-  says_life = subst (λ x. IsFrameWord s.limits.frames x (s.place f 2) (stamp setup t (PlaceOf f 2)) 2 was)
+  says_life = subst (λ x. IsFrameWord s.limits.frames (count_room s) x (s.place f 2) (stamp setup t (PlaceOf f 2)) 2 was)
       (calls.holds_comp setup setting cores t stands c here a active f by LoadComp stage_is has)
-      (subst (λ o. IsFrameWord s.limits.frames (s.frame f) (s.place f 2) (stamp setup t (PlaceOf f 2)) 2
-      (settled_by o (held_by cores) (EntryAt f 2) was)) unmarked (stands.words (EntryAt f 2)))
+      (subst (λ (n : ℕ). IsFrameWord s.limits.frames (count_room s) (s.frame f) (s.place f 2) (stamp setup t (PlaceOf f 2)) 2 n)
+      (unlent_value setup cores t stands f
+      (ap is_thread (calls.holds_comp setup setting cores t stands c here a active f by LoadComp stage_is has)) 2 was)
+      (subst (λ o. IsFrameWord s.limits.frames (count_room s) (s.frame f) (s.place f 2) (stamp setup t (PlaceOf f 2)) 2
+      (settled_by o (held_by cores) (EntryAt f 2) was)) unmarked (stands.words (EntryAt f 2))))
 
   loading : OnlyLooks setup t c a.call (LoadOf (EntryAt f 2))
   loading = record {
@@ -328,6 +333,8 @@ module _ (setup : Setting) (setting : IsSetting setup) (cores : ℕ → Core) (t
           ap (λ b. if b then word else (holds_counts None a.counts).stands w) (same_word-other w live_at there) ∙ sym
               (ap (λ h. h.stands w) held_before),
         ))
+        (as_none (holds (cores c)) (holds after) live_at (λ g i. ap (λ h. h.bare g i) held_before ∙ counts_bare None a.counts g i)
+        (counts_bare None a.counts))
         (ap (λ (n : ℕ). live_mark (live_of_word n)) leaves ∙ ap live_mark (lives.spelling.reads (live_word.Closing life.epoch by) by_fits)
         ∙ ap (λ (n : ℕ). Some n) has.knows.knows.core ∙ sym (ap (λ b. if b then Some c else None) marks_it))
         (λ b other is. none_some b (sym bare ∙ is))
@@ -355,7 +362,7 @@ module _ (setup : Setting) (setting : IsSetting setup) (cores : ℕ → Core) (t
         })
         (counts_on setup t e c a.call (λ own. refl) a.counts (call_is setup setting cores t stands c here a active).counts)
         (call_is setup setting cores t stands c here a active).apart
-        (spares_other setup t e (λ g i h. cc))
+        (spares_other setup t e (λ g i h. cc)) (lent_elsewhere cores e (λ g i h. cc))
 
   pub close_good : GoodTook setup cores t c compare (landed a (closes_if closes life word (left_there == word)))
   close_good = by_test (left_there == word) refl

@@ -6,4 +6,6 @@
 //! act and to no other. What is still to be stored of its word is what it stands for.
 //!
 //! The lemmas stand in this crate's proofs.
+//!
+//! See docs/PROOF.md, 'Killing'.
 #![tactic(auto)]

@@ -1,4 +1,2 @@
 pub mod Repeats
 pub mod Within
-pub mod Tallies
-pub mod ReplyWords

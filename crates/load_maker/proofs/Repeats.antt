@@ -18,13 +18,13 @@ pub below_range : (m x : ℕ) → 0 < m → (below m x).0 < m
 unfolding below
 below_range m x some = mod_below (behind x / 2 ^ 33) m some
 
--- one more is drawn behind those drawn
+-- one more is drawn after those drawn
 repeated_suc : {A : Type 0} (n : ℕ) (d : Draw A) (x : ℕ) → repeated (suc n) d x ≡ ((repeated n d x).0 ++ (d (repeated n d x).1).0 ∷ [], (d (repeated n d x).1).1)
 unfolding repeated
 repeated_suc zero d x = refl
 repeated_suc (suc n) d x = ap (λ p. ((d x).0 ∷ p.0, p.1)) (repeated_suc n d (d x).1)
 
--- so many were drawn, and stand behind the first items
+-- so many were drawn, and stand after the first items
 pub record Drawn {A : Type 0} (d : Draw A) (first : List A) (from n : ℕ) (items : List A) (at : ℕ) : Type 0 where
   pub all : items ≡ first ++ (repeated n d from).0
   pub goes_on : at ≡ (repeated n d from).1

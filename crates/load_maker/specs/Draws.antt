@@ -1,7 +1,7 @@
 -- Numbers drawn one after another, each from the one before.
 use Rattle.std.specs.Prelude.{ℕ, zero, suc, ◌+◌, ◌*◌, ◌/◌, ◌%◌, ◌^◌, List, [], ◌∷◌}
 
--- the number behind a number
+-- the number after a number
 unfoldable pub behind : ℕ → ℕ
 behind x = (x * 6364136223846793005 + 1442695040888963407) % 2 ^ 64
 

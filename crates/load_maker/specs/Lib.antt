@@ -1,4 +1,3 @@
 pub mod Draws
 pub mod Loads
 pub mod Accepted
-pub mod Summaries

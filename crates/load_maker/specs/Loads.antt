@@ -156,7 +156,7 @@ whole_call = record { core = 0; how = Return }
 abbrev pub first_items : List Item
 first_items = whole_call ∷ whole_call ∷ whole_call ∷ []
 
--- the items of the order behind these
+-- the items of the order after these
 unfoldable pub drawn_items : Draw (List Item)
 drawn_items = repeated 6000 an_item
 

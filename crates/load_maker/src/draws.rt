@@ -3,7 +3,7 @@
 ghost use Rattle.std.specs.Prelude.{◌≡◌, ◌<◌};
 ghost use Rattle.load_maker.specs.Draws.{behind, below};
 
-// The step from a number to the one behind it, modulo 2^64.
+// The step from a number to the one after it, modulo 2^64.
 const FACTOR: u64 = 6_364_136_223_846_793_005;
 
 const SUMMAND: u64 = 1_442_695_040_888_963_407;

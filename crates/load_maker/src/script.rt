@@ -67,7 +67,7 @@ fn first_calls(alloc: Global) -> Result<Vec<Call>, AllocError>
     Ok(calls)
 }
 
-// Draws the calls of a core, behind those with which it begins.
+// Draws the calls of a core, after those with which it begins.
 fn push_calls(draws: &mut Draws, calls: &mut Vec<Call>) -> Result<(), AllocError>
     ensures value { OnOk result (calls.new.items ≡ calls.old.items ++ (drawn_calls draws.old.at).0) }
     ensures goes_on { OnOk result (draws.new.at ≡ (drawn_calls draws.old.at).1) }
@@ -156,7 +156,7 @@ fn draw_order(alloc: Global, draws: &mut Draws) -> Result<Vec<Item>, AllocError>
 ///
 /// # Errors
 ///
-/// `Memory` where memory is wanting.
+/// `Memory` where memory has run out.
 #[tactic(auto, unfolding(crate::specs::Loads::script_made))]
 pub fn made_script<'a>(alloc: Global, number: u32) -> Result<Script<'a>, Memory>
     ensures value { IfOk result (λ script. script_view script ≡ script_made number) }
@@ -177,7 +177,7 @@ pub fn made_script<'a>(alloc: Global, number: u32) -> Result<Script<'a>, Memory>
 ///
 /// # Errors
 ///
-/// `Memory` where memory is wanting.
+/// `Memory` where memory has run out.
 #[tactic(auto, unfolding(crate::specs::Loads::load_text))]
 pub fn load_script(alloc: Global, number: u32) -> Result<String, Memory>
     ensures text { IfOk result (λ text. string_bytes text ≡ load_text number) }

@@ -1,5 +1,4 @@
 use super::*;
-use spk_nums::{CoreNo, Decision, Reply, Value};
 use std::alloc::Global;
 use std::process::Abort;
 use std::test::*;
@@ -20,7 +19,7 @@ const FIRST: &str =
     "speck 1\ncores 4\nframes 128\ngrant 1000000 0 1\ngrant 1000000 0 1\ngrant 1000000 0 1\ngrant 1000000 0 1\ncalls 4194304\nepochs 65535\ncore 0\nretype 0 12 kernel\nmake pleaf 0 12 1 20\ngrow 2 0 20\ntest 12 13\nmake leaf 0 17 1 51\ntick 25\nlook 27\ntouch 18\nunmap 2 61\nlook 30\ncopy 18 1 47\ntouch 46\n";
 
 #[test]
-fn begins_with_its_setup(rt: HostRuntime) -> Result<(), Fail> {
+fn a_load_begins_with_its_setup(rt: HostRuntime) -> Result<(), Fail> {
     let text = text_of(&rt, rt.alloc(), 0)?;
     assert!(&rt; text.as_str().starts_with(FIRST));
     assert!(&rt;
@@ -44,7 +43,7 @@ fn measure(text: &[u8]) -> (u32, u32) {
 }
 
 #[test]
-fn whole_texts(rt: HostRuntime) -> Result<(), Fail> {
+fn whole_texts_are_those_of_another_program(rt: HostRuntime) -> Result<(), Fail> {
     for (number, all) in [
         (0u32, 77_022_900),
         (1, 2_755_813_863),
@@ -54,34 +53,5 @@ fn whole_texts(rt: HostRuntime) -> Result<(), Fail> {
         let text = text_of(&rt, rt.alloc(), number)?;
         assert_eq!(&rt; measure(text.as_str().as_bytes()), (2_618, all));
     }
-    Ok(())
-}
-
-fn decided(index: u32, reply: Reply) -> Decision {
-    Decision {
-        core: CoreNo::new(0),
-        index,
-        reply,
-    }
-}
-
-#[test]
-fn a_summary_counts_replies_by_their_number(rt: HostRuntime) -> Result<(), Fail> {
-    let decisions = [
-        decided(1, Reply::Referenced(2)),
-        decided(2, Reply::Ok(Value::Nothing)),
-        decided(3, Reply::CallsSpent),
-        decided(4, Reply::Referenced(7)),
-        decided(5, Reply::Ok(Value::Amount(5))),
-        decided(6, Reply::NoSlot),
-        decided(7, Reply::Ok(Value::Stays)),
-    ];
-    let mut text = String::new(rt.alloc());
-    push_summary(&mut text, &decisions, 4_000_000)?;
-    let wanted = "ok 3\nno-slot 1\nreferenced 2\ncalls-spent 1\ncalls 7\ntotal 4000000\n";
-    assert_eq!(&rt; text.as_str(), wanted);
-    let mut none = String::new(rt.alloc());
-    push_summary(&mut none, &[], 0)?;
-    assert_eq!(&rt; none.as_str(), "calls 0\ntotal 0\n");
     Ok(())
 }

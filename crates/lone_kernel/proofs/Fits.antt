@@ -1,4 +1,4 @@
--- A machine that fits still does behind a step, and has less to do.
+-- A machine that fits still does after a step, and has less to do.
 use Rattle.std.proofs.Common.{◌≡◌, ◌≢◌, inl, inr, ℕ, ◌+◌, ◌<◌, ◌≤◌, List, [], length, get_or, Option, Some, None, arith, refl, sym, ◌∙◌, ap, subst, false, get_or-set_same, get_or-set_other}
 use Rattle.std.specs.Prelude.{slice_set, sum_by, All, option_map, IsSome}
 use Rattle.std.proofs.lemmas.Bool.{cases_eq}
@@ -11,7 +11,7 @@ use Rattle.kernel_history.specs.Trace.{decision_at}
 use Rattle.call_steps.specs.View.{Core}
 use Rattle.call_steps.specs.Fits.{IsCore, steps_left}
 use Rattle.call_acts.specs.declared.own.Own.{Own}
-use Rattle.call_acts.specs.declared.own.OwnChange.TheVariants.{Ticks, Empties}
+use Rattle.call_acts.specs.declared.own.OwnChange.TheVariants.{Ticks, Empties, Works, Caches, Switches}
 use Rattle.call_steps.specs.Cores.{core_after, told_by, absorbed, told_of_step, absorbed_in, told_in}
 use Rattle.core_invariant.specs.Events.{decided_in}
 use Rattle.call_steps.specs.declared.stages.Absorbed.{Absorbed}
@@ -30,7 +30,7 @@ use Rattle.lone_kernel.proofs.Small.{steps_small}
 some_inj : {A : Type 0} (x y : A) → Some x ≡ Some y → x ≡ y
 some_inj x y h = cc
 
--- what a turn of a fit seat is: the core may take it, and the calls begun behind it are of the list
+-- what a turn of a fit seat is: the core may take it, and the calls begun after it are of the list
 pub record IsOf (list : List Call) (seat : Seat) (f : Turn) : Type 0 where
   pub can : CanTake f seat.state
   pub within : begun_by f seat.begun ≤ length list
@@ -74,7 +74,7 @@ pub turn_is : (setup : Setting) (list : List Call) (c : ℕ) (seat : Seat) (f : 
 turn_is setup list c seat f fit calls begins =
     of_call list seat.begun seat.due seat.state seat.state.active f refl calls fit.sum fit.begun begins
 
--- what one decides is due before it and not behind it
+-- what one decides is due before it and not after it
 pub record Counts (before after : Option ActiveCall) (said : Absorbed) : Type 0 where
   pub due : due_in before ≡ due_in after + decisions_in said
 
@@ -104,6 +104,9 @@ same_took own (Decides r g) = record { core = refl; layout = refl }
 same_took own (Returns r x) = record { core = refl; layout = refl }
 same_took own (Changes r (Ticks charged owed) g) = record { core = refl; layout = refl }
 same_took own (Changes r Empties g) = record { core = refl; layout = refl }
+same_took own (Changes r (Works comp table pages depth) g) = record { core = refl; layout = refl }
+same_took own (Changes r (Caches item) g) = record { core = refl; layout = refl }
+same_took own (Changes r (Switches thread depth comp table pages tcap) g) = record { core = refl; layout = refl }
 
 same_in : (own : Own) (o : Option ActiveCall) (found : ℕ) → IsTheSame own (absorbed_in own o found).own
 same_in own None found = record { core = refl; layout = refl }

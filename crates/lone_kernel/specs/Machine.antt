@@ -146,7 +146,7 @@ decisions_in (Returned r) = 0
 abbrev pub said_by : Core → ℕ → Absorbed
 said_by core found = told_of_step core (told_of (move_of core) found)
 
--- The seat behind the step of a turn that finds this word.
+-- The seat after the step of a turn that finds this word.
 abbrev pub seat_after : Seat → Turn → ℕ → Seat
 seat_after seat f found = record {
   begun = begun_by f seat.begun;
@@ -158,7 +158,7 @@ seat_after seat f found = record {
 abbrev pub place_next : Shape → Core → ℕ
 place_next shape core = place_of shape (word_of (move_of core))
 
--- The words behind the step of a core that finds this.
+-- The words after the step of a core that finds this.
 abbrev pub words_after : Shape → List ℕ → Core → ℕ → List ℕ
 words_after shape words core found = slice_set words (place_next shape core) (left_of (move_of core) found)
 

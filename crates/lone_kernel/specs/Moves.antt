@@ -37,7 +37,7 @@ abbrev pub MovesBy : Moved → How → Machine → Machine → ℕ → Type 0
 MovesBy Idle how m m' c = StaysIdle m m' c
 MovesBy Went how m m' c = GoesBy how m m' c
 
--- The calls begun behind a step: one more where none was active.
+-- The calls begun after a step: one more where none was active.
 abbrev pub calls_begun : Option ActiveCall → ℕ → ℕ
 calls_begun None n = n + 1
 calls_begun (Some f) n = n

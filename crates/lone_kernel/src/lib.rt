@@ -1,4 +1,6 @@
 //! The machine for given orders: a vector of words, and the moves of the cores over it, one atomic step after another.
+//!
+//! See docs/PROOF.md, 'Given steps'.
 #![tactic(auto)]
 
 mod lone;

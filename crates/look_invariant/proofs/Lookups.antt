@@ -93,7 +93,7 @@ shown_of frames (Removed k) stamp word is = record {
   shows = record { held = k; removed = refl };
 }
 
-link_kind : (k : Kind) → is_link k ≡ only kind.Link k
+pub link_kind : (k : Kind) → is_link k ≡ only kind.Link k
 link_kind kind.Range = refl
 link_kind kind.Table = refl
 link_kind kind.Leaf = refl
@@ -131,10 +131,10 @@ pub slot_one : (g i : ℕ) → is_slot_in (record { node = g; index = i } ∷ []
 slot_one g i = rw (eq-eqb g g refl, eq-eqb i i refl)
 
 -- Under a number within range of a root that is found, its root entry is passed.
-passes : (table : Named) (n : ℕ) → table.found ≡ true → n ≤ 4095 → (table.found && nat_le n 4095) ≡ true
+pub passes : (table : Named) (n : ℕ) → table.found ≡ true → n ≤ 4095 → (table.found && nat_le n 4095) ≡ true
 passes table n found within = ap (λ b. b && nat_le n 4095) found ∙ le-leb n 4095 within
 
-root_slots : (table : Named) (n : ℕ) → table.found ≡ true → n ≤ 4095 → root_passed (Under table n) ≡ root_slot table.frame n ∷ []
+pub root_slots : (table : Named) (n : ℕ) → table.found ≡ true → n ≤ 4095 → root_passed (Under table n) ≡ root_slot table.frame n ∷ []
 root_slots table n found within = ap (λ b. if b then root_slot table.frame n ∷ [] else []) (passes table n found within)
 
 -- By a link that core c may use, it reaches the leaf's place for the number.
@@ -146,7 +146,7 @@ leaf_reached s c table n leaf found within link =
     ∙ ap (λ l. slot_in l (n % 64)) link
 
 -- What may be used links to the leaf to which what stands there links.
-link_shown : (p : Place) (waits : Bool) (leaf : ℕ) → linked (usable_in p waits) ≡ Some leaf → linked (capability_in p) ≡ Some leaf
+pub link_shown : (p : Place) (waits : Bool) (leaf : ℕ) → linked (usable_in p waits) ≡ Some leaf → linked (capability_in p) ≡ Some leaf
 link_shown Vacant waits leaf h = h
 link_shown (Holds k) waits leaf h = h
 link_shown (Removed k) true leaf h = h
@@ -183,7 +183,7 @@ near_way s c call g i h =
     (slot_near (wide_ways s c (rule_of s c call)) g i h))
 
 -- Where no core waits, what is no link leads to no leaf.
-link_none : (k : Capability) → only kind.Link k.kind ≡ false → linked (Some k) ≡ None
+pub link_none : (k : Capability) → only kind.Link k.kind ≡ false → linked (Some k) ≡ None
 link_none k is = ap (λ b. if b then Some k.frame else None) is
 
 pub use_removed : (p : Place) (k : Capability) (waits : Bool) → p ≡ Removed k → waits ≡ false → usable_in p waits ≡ None

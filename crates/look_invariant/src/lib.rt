@@ -5,4 +5,6 @@
 //! or arrives at the place that it looks for. No act of a call is looked at.
 //!
 //! The lemmas stand in this crate's proofs.
+//!
+//! See docs/PROOF.md, 'The invariant of the step machine'.
 #![tactic(auto)]

@@ -24,9 +24,12 @@ use Rattle.core_invariant.proofs.Refusals.{GoodTook, not_spent}
 use Rattle.core_invariant.proofs.Sounds.{limits_of}
 use Rattle.core_invariant.proofs.Sums.{sums_since}
 use Rattle.core_invariant.proofs.WordFrames.{SameFor, marks_own, word_stays, reads_alike, carry_marks, carry_words, others_settled, own_settled}
+use Rattle.core_invariant.proofs.Users.{spares_none}
+use Rattle.core_invariant.proofs.Bare.{counts_bare}
+use Rattle.core_invariant.proofs.Lent.{lent_none, lent_kept, lent_elsewhere}
 use Rattle.core_invariant.proofs.Writes.{clock_small}
 use Rattle.core_invariant.specs.Holding.{Holding, holds_counts, settled_by, settled}
-use Rattle.core_invariant.specs.Knows.{due_of, KnowsUndecided, KnowsFlush, WorksIn, CoreIs, phase_at}
+use Rattle.core_invariant.specs.Knows.{due_of, KnowsUndecided, KnowsFlush, WorksIn, CoreIs, phase_at, untypes}
 use Rattle.core_invariant.specs.Stands.{is_done, holds_at, holds_in, holds, held_by, times_of, counted_in, Stands}
 use Rattle.core_invariant.specs.Words.{WordIs, count_room}
 use Rattle.frame_words.proofs.FlushLemmas.{spelling}
@@ -186,6 +189,11 @@ module _ (setup : Setting) (setting : IsSetting setup) (cores : ℕ → Core) (t
   same_marks w = ap (λ (xs : List Acquired). (holds_counts (Some None) xs).marks w) no_counts
       ∙ sym (ap (λ h. h.marks w) (ap holds_in active ∙ held_is ∙ ap (holds_counts None) no_counts))
 
+  -- it keeps no word without a mark, before and after
+  same_bare : (f i : ℕ) → (holds after).bare f i ≡ (holds (cores c)).bare f i
+  same_bare f i = counts_bare (Some None) a.counts f i
+      ∙ sym (ap (λ h. h.bare f i) (ap holds_in active ∙ held_is) ∙ counts_bare None a.counts f i)
+
   -- the core holds no word
   free_of : (w : Word) → marked_by setup t w ≡ Some c → ⊥
   free_of w own = false≢true (sym (ap (λ h. h.marks w) (ap holds_in active ∙ held_is ∙ ap (holds_counts None) no_counts))
@@ -225,6 +233,7 @@ module _ (setup : Setting) (setting : IsSetting setup) (cores : ℕ → Core) (t
     frame = frames g;
     place = ap (λ x. x.place g i) now;
     stamp = same_stamp (PlaceOf g i);
+    room = more_room;
   }
   same_words (FrameAt g) = frames g
   same_words (CountAt g d) = more_room
@@ -249,14 +258,14 @@ module _ (setup : Setting) (setting : IsSetting setup) (cores : ℕ → Core) (t
 
   alike : (f d : ℕ) → settled setup (held_by (put cores c after)) (e ∷ t) (CountAt f d) ≡ settled setup (held_by cores) t (CountAt f d)
   alike f d = others_settled setup cores t e after same_marks (reads_alike setup t e frames) refl refl (CountAt f d) (λ h. cc)
-      (free_of (CountAt f d))
+      (free_of (CountAt f d)) refl
 
-  flush_now : GoodTook setup cores t c load (landed a (work_changes r Empties (StoreFlush by now_at)))
+  flush_now : GoodTook setup cores t c load (landed a (work_changes r Empties None (StoreFlush by now_at)))
   flush_now lands =
       let of_call : IsOfCall setup t c a.call load = record { moves = refl; near = inl tt } in
       let marks = carry_marks setup cores t e after same_marks (reads_alike setup t e frames) refl refl stands.marks in
       decides_owning setup setting cores t stands c here a active load r own' stage
-      (record { core = refl; layout = refl; limit = refl; exit = refl })
+      (record { core = refl; layout = refl; limit = refl; epochs = refl; exit = refl })
       (last_small setup setting t stands.legal ClockAt)
       of_call lands opens refl
       (marks_own setup cores t e after (λ w there. same_marks w) stands.marks marks)
@@ -268,10 +277,11 @@ module _ (setup : Setting) (setting : IsSetting setup) (cores : ℕ → Core) (t
       })
       (omega arith)
       (λ done. absurd (false≢true (sym done)))
-      (spares_kept setup t e refl) rises works marks
-      (carry_words setup cores t e after same_marks (reads_alike setup t e frames) refl refl
+      (spares_kept setup t e refl) (inl (ap untypes call_is_flush)) rises works marks
+      (carry_words setup cores t e after same_marks (reads_alike setup t e frames) refl refl same_bare (λ x. refl)
       (λ w there free. word_stays s s' (times_of setup t) (times_of setup (e ∷ t)) w (settled setup (held_by cores) t w) (same_words w))
       tt (λ w own. absurd (free_of w own)) stands.words)
+      (lent_none setup (e ∷ t) c after (counts_bare (Some None) a.counts)) (lent_kept cores e refl)
       (sums_since setup t e (held_by cores) (held_by (put cores c after)) alike (λ f. same_stamp (FrameOf f)) limits kept_refs
       stands.sums)
       (record { call = a.call; is_open = is_open; permitted = permitted; justified = justified })
@@ -289,7 +299,7 @@ module _ (setup : Setting) (setting : IsSetting setup) (cores : ℕ → Core) (t
           (sym (ap (λ b. if b then reply.CallsSpent else r) (not_spent setup (cores c) t c (stands.each c here) unspent_room)))
 
   pub flush_good : GoodTook setup cores t c load (landed a (took_flush by now_at))
-  flush_good = subst (λ (x : ℕ). GoodTook setup cores t c load (landed a (work_changes r Empties (StoreFlush by x)))) (sym fits) flush_now
+  flush_good = subst (λ (x : ℕ). GoodTook setup cores t c load (landed a (work_changes r Empties None (StoreFlush by x)))) (sym fits) flush_now
     where
       fits : stamp_of_clock now_at ≡ now_at
       fits = let low = clock_small setup setting cores t stands in omega arith
@@ -332,6 +342,9 @@ module _ (setup : Setting) (setting : IsSetting setup) (cores : ℕ → Core) (t
   still_stands : (w : Word) → w ≢ FlushAt c → (holds stored_core).stands w ≡ (holds (cores c)).stands w
   still_stands w there = sym ((holds_was w).1 ∙ ap (λ b. if b then x else rest.stands w) (same_word-other w (FlushAt c) there))
 
+  still_bare : (f i : ℕ) → (holds stored_core).bare f i ≡ (holds (cores c)).bare f i
+  still_bare f i = sym (ap (λ h. h.bare f i) (ap holds_in active ∙ ap (λ stage. holds_at stage a.counts) stage_is))
+
   its_words : (w : Word) → marked_by setup t w ≡ Some c → w ≢ FlushAt c → settled setup (held_by cores) t w ≡ (holds stored_core).stands w
   its_words w own there = ap (λ o. settled_by o (held_by cores) w (last_left setup t w)) own ∙ sym (still_stands w there)
 
@@ -347,7 +360,7 @@ module _ (setup : Setting) (setting : IsSetting setup) (cores : ℕ → Core) (t
 
   said : (w : Word) → w ≢ FlushAt c
       → SameFor (state_after setup t) (state_after setup (storing ∷ t)) (times_of setup t) (times_of setup (storing ∷ t)) w
-  said (EntryAt g i) there = record { frames = refl; frame = refl; place = refl; stamp = refl }
+  said (EntryAt g i) there = record { frames = refl; frame = refl; place = refl; stamp = refl; room = omega arith }
   said (FrameAt g) there = refl
   said (CountAt g d) there = omega arith
   said (CoreAt d) there = record { inside = refl; exit = plain_exit t storing refl d }
@@ -365,13 +378,13 @@ module _ (setup : Setting) (setting : IsSetting setup) (cores : ℕ → Core) (t
       by_mark : (o : Option ℕ) → marked_by setup t (CountAt f d) ≡ o
           → settled setup (held_by (put cores c stored_core)) (storing ∷ t) (CountAt f d) ≡ settled setup (held_by cores) t (CountAt f d)
       by_mark None is = others_settled setup cores t storing stored_core still_marks (reads_alike setup t storing (λ g. refl)) refl refl
-          (CountAt f d) there (λ h. none_some c (sym is ∙ h))
+          (CountAt f d) there (λ h. none_some c (sym is ∙ h)) refl
       by_mark (Some b) is = elim (cases_eq b c) [
         | inl own ↦ (let mine : marked_by setup t (CountAt f d) ≡ Some c = is ∙ ap (λ (n : ℕ). Some n) own in
             own_settled setup cores t storing stored_core still_marks (reads_alike setup t storing (λ g. refl)) refl refl (CountAt f d)
             there mine ∙ sym (its_words (CountAt f d) mine there))
         | inr other ↦ others_settled setup cores t storing stored_core still_marks (reads_alike setup t storing (λ g. refl)) refl refl
-            (CountAt f d) there (λ h. other (same_number b c (sym is ∙ h)))
+            (CountAt f d) there (λ h. other (same_number b c (sym is ∙ h))) refl
       ]
         where
           same_number : (n m : ℕ) → Some n ≡ Some m → n ≡ m
@@ -408,8 +421,10 @@ module _ (setup : Setting) (setting : IsSetting setup) (cores : ℕ → Core) (t
             (λ d m other. absurd (none_some d m));
         near = inner_near setup setting cores t stands c here a active store None None of_store;
         blanks = spares_other setup t storing (λ f i h. cc);
+        counted = spares_none setup t storing (λ f. refl);
         marks = marks;
-        words = carry_words setup cores t storing stored_core still_marks (reads_alike setup t storing (λ g. refl)) refl refl
+        words = carry_words setup cores t storing stored_core still_marks (reads_alike setup t storing (λ g. refl)) refl refl still_bare
+            (λ y. refl)
             (λ w there free. word_stays (state_after setup t) (state_after setup (storing ∷ t)) (times_of setup t)
             (times_of setup (storing ∷ t)) w (settled setup (held_by cores) t w) (said w there))
             (spelling.reads (record { stamp = x }) has.small ∙ ap (λ (n : ℕ). Some (record { stamp = n })) (sym now_stored))
@@ -418,6 +433,8 @@ module _ (setup : Setting) (setting : IsSetting setup) (cores : ℕ → Core) (t
             (word_stays (state_after setup t) (state_after setup (storing ∷ t)) (times_of setup t) (times_of setup (storing ∷ t)) w
             (settled setup (held_by cores) t w) (said w (not_flush w own)) (stands.words w)))
             stands.words;
+        lent = lent_none setup (storing ∷ t) c stored_core (counts_bare (is_done (Decided r drawn Nothing)) a.counts);
+        spares = lent_elsewhere cores storing (λ f i h. cc);
         sums = sums_since setup t storing (held_by cores) (held_by (put cores c stored_core)) counts_same (λ f. refl) refl (λ f. refl)
             stands.sums;
         draws = (let d = stands.draws in omega arith);
@@ -428,6 +445,7 @@ module _ (setup : Setting) (setting : IsSetting setup) (cores : ℕ → Core) (t
           number = is.number;
           shape = is.shape;
           limit = is.limit;
+          epochs = is.epochs;
           works = is.works;
           exit = is.exit ∙ sym (plain_exit t storing refl c);
           flushed = λ done. now_stored ∙ sym last_same;

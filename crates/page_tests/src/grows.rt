@@ -172,7 +172,7 @@ fn a_shrunk_entry_of_pages_waits_for_flushes_too(rt: HostRuntime) -> Result<(), 
             "0. 0. 0. 0. 0. 0. 0. 0. 0. 1.",
             "0.7 grow 2 0 21 = unflushed 0\n0.8 grow 2 0 21 = unflushed 0\n0.9 grow 2 1 21 = ok\n1.1 look 0 = ok range 8 24\n",
         ),
-        // It enters behind the load of its word (7), and is passed.
+        // It enters after the load of its word (7), and is passed.
         (
             "0. 0. 0. 0. 0. 0. 0 0 0 0 0 0 0 1< 0. 1. 0. 0.",
             "0.7 grow 2 0 21 = unflushed 0\n1.1 look 0 = ok range 8 24\n0.8 grow 2 0 21 = unflushed 0\n0.9 grow 2 1 21 = ok\n",

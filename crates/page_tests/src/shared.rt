@@ -83,7 +83,7 @@ pub fn order_of(number: u32, length: u32, ones: u32) -> Option<[u8; 12]> {
     Some(order)
 }
 
-/// The items of an order of two cores: of its steps, without the places behind them.
+/// The items of an order of two cores: of its steps, without the places after them.
 pub fn items_of(alloc: Global, order: &[u8; 12]) -> Result<String, Fail> {
     let mut items = String::new(alloc);
     for core in order.iter() {

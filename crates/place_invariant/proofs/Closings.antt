@@ -1,5 +1,7 @@
 -- The entry of a removal is closed and given back: the compare that marks it is lost to another core or holds it for the call, and the
 -- store of a decided removal leaves the quiescing entry for which it stood.
+use Rattle.core_invariant.proofs.Bare.{as_none, counts_bare}
+use Rattle.core_invariant.proofs.Lent.{unlent_value, unlent_word, unlent_after, node_no_thread, lent_free}
 use Rattle.core_invariant.proofs.Good.{spares_node}
 use Rattle.std.proofs.Common.{◌≡◌, ◌≢◌, inl, inr, ℕ, ◌^◌, ◌<◌, ◌==◌, ◌∷◌, [], Bool, true, false, List, Option, Some, None, arith, refl, sym, ◌∙◌, ap, subst, IsTrue, if◌then◌else◌}
 use Rattle.std.proofs.lemmas.Bool.{eqb-true, eqb-false, eq-eqb}
@@ -43,7 +45,7 @@ use Rattle.call_steps.specs.Fits.{StageFits, HasRoom}
 use Rattle.call_steps.specs.Steps.{GoesOn, landed, went, went_with}
 use Rattle.call_steps.specs.View.{Core}
 use Rattle.core_invariant.specs.Holding.{Holding, holds_counts, settled_by, settled}
-use Rattle.core_invariant.specs.Words.{PlaceIs}
+use Rattle.core_invariant.specs.Words.{PlaceIs, count_room}
 use Rattle.core_invariant.specs.Knows.{IsStored, KnowsUndecided, phase_at}
 use Rattle.core_invariant.specs.Stands.{done_by, holds_at, holds_in, holds, held_by, times_of, Stands}
 use Rattle.core_invariant.proofs.Carries.{names_on, removal_on, slot_relies, counts_on}
@@ -205,6 +207,8 @@ module _ (setup : Setting) (setting : IsSetting setup) (cores : ℕ → Core) (t
             ap (λ b. if b then word_of_entry (entry.Held cap) else (holds_counts None a.counts).stands w) (same_word-other w at there) ∙
                 sym (ap (λ h. h.stands w) before),
           ))
+          (as_none (holds (cores c)) (holds after) at (λ f i. ap (λ h. h.bare f i) before ∙ counts_bare None a.counts f i)
+          (counts_bare None a.counts))
           (node_mark (s.frame node) index (left_of compare was) in_node ∙ ap (λ (n : ℕ). entry_mark (entry_of_word n)) leaves
           ∙ ap entry_mark (spelling.reads (entry.Closing by) by_fits) ∙ ap (λ (n : ℕ). Some n) has.knows.knows.core
           ∙ sym (ap (λ b. if b then Some c else None) marked))
@@ -212,7 +216,8 @@ module _ (setup : Setting) (setting : IsSetting setup) (cores : ℕ → Core) (t
           (ap (λ b. settled_by (if b then Some c else None) (held_by (put cores c after)) at (left_of compare was)) marked
           ∙ ap (λ k. (holds k).stands at) (put_same cores c after c refl)
           ∙ ap (λ b. if b then word_of_entry (entry.Held cap) else (holds_counts None a.counts).stands at) (same_same at)
-          ∙ spells.1 ∙ sym same ∙ sym (ap (λ o. settled_by o (held_by cores) at was) unmarked))
+          ∙ spells.1 ∙ sym same ∙ sym (ap (λ o. settled_by o (held_by cores) at was) unmarked
+          ∙ unlent_value setup cores t stands node (node_no_thread (s.frame node) in_node) index was))
           opens
           (λ carries. record {
             names = names_on setup setting t e stands.legal c a.call is_open carries (cores c).own.table a.plan a.found has.names;
@@ -226,6 +231,7 @@ module _ (setup : Setting) (setting : IsSetting setup) (cores : ℕ → Core) (t
           (counts_on setup t e c a.call (λ own. refl) a.counts (call_is setup setting cores t stands c here a active).counts)
           (call_is setup setting cores t stands c here a active).apart
           (spares_node setup t e node index refl in_node)
+          (lent_free cores e (unlent_word setup cores t stands node index (node_no_thread (s.frame node) in_node)))
 
     pub close_good : GoodTook setup cores t c compare (landed a
         (took_close cap (close_at (was == word) node index word by) (close_compared (was == word))))
@@ -268,7 +274,7 @@ module _ (setup : Setting) (setting : IsSetting setup) (cores : ℕ → Core) (t
 
     says : IsSpelled stored
     says = spelled s.limits.frames (s.place node index) (stamp setup t (PlaceOf node index)) stored
-        (node_says s.limits.frames (s.frame node) (s.place node index) (stamp setup t (PlaceOf node index)) index stored has.relies.node
+        (node_says s.limits.frames (count_room s) (s.frame node) (s.place node index) (stamp setup t (PlaceOf node index)) index stored has.relies.node
         entry_fits.1
         (subst (λ (n : ℕ). Rattle.core_invariant.specs.Words.WordIs s (times_of setup t) at n) settles (stands.words at)))
 
@@ -283,13 +289,19 @@ module _ (setup : Setting) (setting : IsSetting setup) (cores : ℕ → Core) (t
           sym ((holds_is w).0 ∙ ap (λ b. if b then true else rest.marks w) (same_word-other w at there)),
           sym ((holds_is w).1 ∙ ap (λ b. if b then stored else rest.stands w) (same_word-other w at there)),
         ))
+        (as_none (holds (cores c)) (holds after) at
+        (λ f i. ap (λ h. h.bare f i) (ap holds_in active ∙ ap (λ stage. holds_at stage a.counts) stage_is)
+        ∙ counts_bare (done_by r drawn) a.counts f i) (counts_bare (done_by r drawn) a.counts))
         (node_mark (s.frame node) index stored has.relies.node ∙ says.unmarked ∙ sym
         (ap (λ b. if b then Some c else None) (no_entry (done_by r drawn) a.counts node index)))
         (λ b other is. other (sym (some_inj c b (sym own_mark ∙ is))))
         (ap (λ b. settled_by (if b then Some c else None) (held_by (put cores c after)) at stored)
-        (no_entry (done_by r drawn) a.counts node index) ∙ sym settles)
+        (no_entry (done_by r drawn) a.counts node index)
+        ∙ unlent_after setup cores t stands c after node index (node_no_thread (s.frame node) has.relies.node)
+        (counts_bare (done_by r drawn) a.counts node index) stored ∙ sym settles)
         (ap (phase_at a.call) stage_is)
         (λ carries. tt)
         (counts_on setup t e c a.call (λ own. refl) a.counts (call_is setup setting cores t stands c here a active).counts)
         (call_is setup setting cores t stands c here a active).apart
         (spares_node setup t e node index refl has.relies.node)
+        (lent_free cores e (unlent_word setup cores t stands node index (node_no_thread (s.frame node) has.relies.node)))

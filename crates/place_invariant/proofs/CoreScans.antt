@@ -12,7 +12,7 @@ use Rattle.entry_words.specs.declared.entry.Entry.{Entry}
 use Rattle.entry_words.specs.declared.entry.Entry.TheVariants as entry
 use Rattle.frame_words.specs.Core.{core_of_word}
 use Rattle.frame_words.specs.declared.core_word.CoreWord.{CoreWord}
-use Rattle.word_map.specs.Word.{EntryAt, CoreAt, FrameAt, LiveAt}
+use Rattle.word_map.specs.Word.{EntryAt, CountAt, CoreAt, FrameAt, LiveAt}
 use Rattle.word_map.specs.Moves.{LoadOf, word_of, told_of}
 use Rattle.kernel_rules.specs.State.{Thing, PlaceOf, State}
 use Rattle.kernel_rules.specs.Access.{Slot, Target, reached}
@@ -50,7 +50,8 @@ use Rattle.call_steps.specs.View.{Core}
 use Rattle.core_invariant.specs.Holding.{holds_counts}
 use Rattle.core_invariant.specs.Knows.{HasPassed, IsScanned, MayFill, KnowsAct, KnowsUndecided, phase_at, IsSpot, goes_on as goes_on_act, HasFlushed, KnowsScan, KnowsQuiet, scanned_for}
 use Rattle.core_invariant.specs.Stands.{holds_at, holds_in, Stands}
-use Rattle.core_invariant.proofs.Carries.{names_on, act_on, ReadsSame, slot_relies}
+use Rattle.core_invariant.proofs.Carries.{start_pairs, names_on, act_on, ReadsSame, slot_relies}
+use Rattle.core_invariant.proofs.Users.{users_kept}
 use Rattle.core_invariant.proofs.Loads.{OnlyLooks, step_to, inner, core_is, call_is, is_active, loads_on, decides_on, next_at}
 use Rattle.core_invariant.proofs.Refusals.{GoodTook, not_spent}
 use Rattle.core_invariant.proofs.Sounds.{limits_of}
@@ -206,6 +207,9 @@ module _ (setup : Setting) (setting : IsSetting setup) (cores : ℕ → Core) (t
     entry_apart : (f i : ℕ) → EntryAt f i ≢ CoreAt at
     entry_apart f i h = cc
 
+    count_apart : (f k : ℕ) → CountAt f k ≢ CoreAt at
+    count_apart f k h = cc
+
     frame_apart : (f : ℕ) → FrameAt f ≢ CoreAt at
     frame_apart f h = cc
 
@@ -220,7 +224,11 @@ module _ (setup : Setting) (setting : IsSetting setup) (cores : ℕ → Core) (t
           frames = λ f. own_read-there c e t refl (FrameAt f) (frame_apart f);
           numbers = λ l. own_read-there c e t refl (LiveAt l) (number_apart l);
           stored = λ f i marked. last_left-there setup (EntryAt f i) e t (entry_apart f i);
-          users = λ f is. is;
+          users = users_kept setup t e c (λ f. refl) (λ f k held. last_left-there setup (CountAt f k) e t (count_apart f k));
+          counts = λ freezes f d. own_read-there c e t refl (CountAt f d) (count_apart f d);
+          rests = λ f looked. record { frame = refl; place = λ i node. refl };
+          threads = record { guards = λ f has. has; rests = λ f claimed has. refl };
+          pairs = start_pairs setup t e c act has.knows.starts;
         }
 
     carried : (upto : ℕ) → KnowsAct setup t c a.call a.plan a.found upto act

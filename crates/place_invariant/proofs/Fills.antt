@@ -1,4 +1,5 @@
 -- The filling compare of a copy is good: it is lost to another core, or the place is free and takes the capability.
+use Rattle.core_invariant.proofs.Lent.{unlent_word, node_no_thread}
 use Rattle.core_invariant.proofs.Good.{spares_node}
 use Rattle.std.proofs.Common.{◌≡◌, ◌≢◌, ◌⊎◌, inl, inr, not, ℕ, pos, length, ◌≤◌, ◌+◌, ◌^◌, ◌/◌, ◌%◌, ◌<◌, ◌==◌, ◌&&◌, nat_le, if◌then◌else◌, ◌∷◌, [], Bool, true, false, List, Option, Some, None, arith, refl, sym, ◌∙◌, ap, subst, IsTrue, ◌+ℤ◌, max}
 use Rattle.std.specs.Prelude.{option_to_list}
@@ -7,7 +8,7 @@ use Rattle.spk_nums.specs.Capability.{Capability}
 use Rattle.spk_nums.specs.Setting.{Setting, IsSetting}
 use Rattle.spk_nums.specs.declared.kinds.Kind.TheVariants as kind
 use Rattle.spk_nums.specs.declared.calls.Call.{Call}
-use Rattle.spk_nums.specs.declared.calls.Call.TheVariants.{Look, Copy, Remove, Shrink, Unmap, Retype, Make as make_call, Tick, Gate, Kill, Grow, Flush, Map}
+use Rattle.spk_nums.specs.declared.calls.Call.TheVariants.{Look, Copy, Remove, Shrink, Unmap, Retype, Make as make_call, Tick, Gate, Kill, Grow, Flush, Map, Touch, Call as call_gate, Ret, Transfer, Test, Switch}
 use Rattle.spk_nums.specs.declared.kinds.Kind.{Kind}
 use Rattle.supported_calls.specs.Built.{IsBuilt}
 use Rattle.spk_nums.specs.declared.replies.Value.TheVariants.{Nothing}
@@ -57,7 +58,7 @@ use Rattle.call_steps.specs.declared.stages.Stage.TheVariants.{Undecided, Decide
 use Rattle.call_steps.specs.declared.stages.ActiveCall.{ActiveCall}
 use Rattle.call_acts.specs.Fills.{FillFits, filled_if, fill_move}
 use Rattle.call_acts.specs.Acts.{cap_dues, gate_if, gate_to, put_by, reads_of, page_cap}
-use Rattle.call_steps.proofs.StepsFit.{cap_one}
+use Rattle.call_steps.proofs.DuesFit.{cap_one}
 use Rattle.kernel_rules.specs.References.{named_by, times, refs}
 use Rattle.core_invariant.proofs.WordFrames.{reads_alike}
 use Rattle.core_invariant.proofs.Calm.{room_grows, IsCalm, calm_core, IsPlain, plain_stamp}
@@ -72,7 +73,7 @@ use Rattle.core_invariant.proofs.Writes.{same_marks, writes_entry}
 use Rattle.call_steps.specs.Steps.{landed}
 use Rattle.call_steps.specs.View.{Core}
 use Rattle.call_steps.specs.Fits.{StageFits, HasRoom}
-use Rattle.core_invariant.specs.Words.{PlaceIs, IsFrameWord, WordIs}
+use Rattle.core_invariant.specs.Words.{PlaceIs, IsFrameWord, WordIs, count_room}
 use Rattle.core_invariant.specs.Knows.{HasFound, IsRead, ReadIs, MayFill, KnowsUndecided, own_in, phase_at, HasUser}
 use Rattle.core_invariant.specs.Stands.{holds_at, holds_in, holds, times_of, Stands}
 use Rattle.core_invariant.proofs.Carries.{own_kept, slot_relies}
@@ -118,13 +119,13 @@ free_place n (Removed k) r o is free = absurd (not_free r (sym is.says ∙ free)
     not_free r h = cc
 
 -- The word of a place of a node.
-pub node_word : (n : ℕ) (x : Frame) (p : Place) (r i v : ℕ) → IsTrue (is_node x) → PlaceIs n p r (entry_of_word v)
-    → IsFrameWord n x p r i v
-node_word n (Kernel Table) p r i v node h = λ below. h
-node_word n (Kernel Leaf) p r i v node h = λ below. h
-node_word n (Kernel Pages) p r i v node h = λ below. h
-node_word n (Kernel Pleaf) p r i v node h = λ below. h
-node_word n _ p r i v node h = absurd (false≢true node)
+pub node_word : (n m : ℕ) (x : Frame) (p : Place) (r i v : ℕ) → IsTrue (is_node x) → PlaceIs n p r (entry_of_word v)
+    → IsFrameWord n m x p r i v
+node_word n m (Kernel Table) p r i v node h = λ below. h
+node_word n m (Kernel Leaf) p r i v node h = λ below. h
+node_word n m (Kernel Pages) p r i v node h = λ below. h
+node_word n m (Kernel Pleaf) p r i v node h = λ below. h
+node_word n m _ p r i v node h = absurd (false≢true node)
 
 -- A call that changes places changes those of nodes.
 pub changes_node : (call : Call) (x : Frame) → changes_places call ≡ true → IsTrue (is_node x) → IsTrue (changes_in_frame call x)
@@ -313,7 +314,7 @@ module _ (setup : Setting) (setting : IsSetting setup) (cores : ℕ → Core) (t
     new_says = spelling.reads (Held k) fits
 
     word_now : WordIs (state_after setup (e ∷ t)) (times_of setup (e ∷ t)) (EntryAt node index) new
-    word_now = node_word (state_after setup (e ∷ t)).limits.frames ((state_after setup (e ∷ t)).frame node)
+    word_now = node_word (state_after setup (e ∷ t)).limits.frames (count_room (state_after setup (e ∷ t))) ((state_after setup (e ∷ t)).frame node)
         ((state_after setup (e ∷ t)).place node index)
         (stamp setup (e ∷ t) (PlaceOf node index)) index new
         (subst (λ x. IsTrue (is_node x)) (sym (calm.frame node)) in_node)
@@ -412,7 +413,8 @@ module _ (setup : Setting) (setting : IsSetting setup) (cores : ℕ → Core) (t
         ((cores c).own.made + calls_counted (reply.Ok Nothing)) (reply.Ok Nothing) a.found (Decided (reply.Ok Nothing) None no_tail)
         refl unmarked.mark bare_now
         (subst (λ (n : ℕ). n < 2 ^ 64) (sym leaves) (spelling.small (Held k) fits))
-        of_call lands opens refl refl calm plain (spares_node setup t e node index refl in_node) counts elsewhere
+        of_call lands opens refl refl (unlent_word setup cores t stands node index (node_no_thread (s.frame node) in_node))
+        calm plain (spares_node setup t e node index refl in_node) counts elsewhere
         (subst (WordIs (state_after setup (e ∷ t)) (times_of setup (e ∷ t)) (EntryAt node index)) (sym leaves) word_now)
         held_is (λ w own. counts_commit setup setting cores t stands c here a active (pos 1) one_small None none_small
         (named_by k.kind k.frame) few has.knows.all compare
@@ -465,11 +467,20 @@ maps_calm s c f range has user =
     by true = refl
     by false = refl
 
+-- A frame that the call maps is a user frame.
+abbrev MapsUser : State → Call → Type 0
+MapsUser s (Map p v r f w) = s.frame f ≡ User
+MapsUser s call = Unit {0}
+
+maps_user : (setup : Setting) (t : Trace) (c : ℕ) (call : Call) → HasUser setup t c call → MapsUser (state_after setup t) call
+maps_user setup t c (Map p v r f w) has = has.user
+maps_user setup t c call has = tt
+
 -- What a call puts at its target is what its rule puts there: a line a call that fills.
 puts_by : (s : State) (c : ℕ) (target : Target) (q : Capability) (call : Call) → IsBuilt call → (ks : List Capability)
     → Leads (LeadsIn s c) (plan_for call).names [] ks → names_after (plan_for call).names ks ≡ []
     → next_of (plan_for call) ks ≡ NextFree target → (read : Option ℕ) → ReadIs s c (reads_of call ks) read → put_by call ks read ≡ Some q
-    → HasUser s call → Puts s c call ks target q
+    → MapsUser s call → Puts s c call ks target q
 puts_by s c target q (Copy a u b) built (k ∷ j ∷ []) lead none next read has_read puts user =
     subst (λ (q : Capability). Puts s c (Copy a u b) (k ∷ j ∷ []) target q) (cap_same k q puts)
     (subst (λ p. Puts s c (Copy a u b) (k ∷ j ∷ []) p k) (target_in (Under (found j) b) target next)
@@ -542,9 +553,15 @@ puts_by s c target q (Gate n u b) built (k ∷ []) lead none next read has_read 
   where
     not_none : of_kind kind.Table u ∷ [] ≡ [] → ⊥
     not_none h = cc
+puts_by s c target q (Touch v) built ks lead none next read has_read puts user = absurd (cc)
 puts_by s c target q (Gate n u b) built (k ∷ j ∷ i ∷ ks) lead none next read has_read puts user = absurd lead.1.1
 puts_by s c target q Flush built ks lead none next read has_read puts user = absurd (cc)
 puts_by s c target q (Kill n) built ks lead none next read has_read puts user = absurd (cc)
+puts_by s c target q (call_gate n) built ks lead none next read has_read puts user = absurd (cc)
+puts_by s c target q Ret built ks lead none next read has_read puts user = absurd (cc)
+puts_by s c target q (Transfer x y m) built ks lead none next read has_read puts user = absurd (cc)
+puts_by s c target q (Test x y) built ks lead none next read has_read puts user = absurd (cc)
+puts_by s c target q (Switch x y) built ks lead none next read has_read puts user = absurd (cc)
 puts_by s c target q call built ks lead none next read has_read puts user = absurd built
 
 module _ (setup : Setting) (setting : IsSetting setup) (cores : ℕ → Core) (t : Trace) (stands : Stands setup cores t) (c : ℕ)
@@ -574,4 +591,5 @@ module _ (setup : Setting) (setting : IsSetting setup) (cores : ℕ → Core) (t
       (plan_leads setup setting cores t stands c here a active has.names))
       (subst (λ (p : Plan). names_after p.names a.found ≡ []) plan_is none_left)
       (ap (λ p. next_of p a.found) (sym plan_is) ∙ has.knows.knows.next)
-      has.knows.knows.read has.knows.knows.has_read has.knows.knows.puts has.knows.knows.user)
+      has.knows.knows.read has.knows.knows.has_read has.knows.knows.puts
+      (maps_user setup t c a.call has.knows.knows.user))

@@ -12,7 +12,7 @@ use Rattle.entry_words.specs.EntryWord.{entry_of_word}
 use Rattle.entry_words.specs.declared.entry.Entry.TheVariants as entry
 use Rattle.frame_words.specs.Flush.{flush_of_word}
 use Rattle.frame_words.specs.declared.flush_word.FlushWord.{FlushWord}
-use Rattle.word_map.specs.Word.{EntryAt, FlushAt, FrameAt, LiveAt, same_word}
+use Rattle.word_map.specs.Word.{EntryAt, CountAt, FlushAt, FrameAt, LiveAt, same_word}
 use Rattle.word_map.specs.Moves.{Move, LoadOf, word_of}
 use Rattle.kernel_rules.specs.State.{Thing, PlaceOf, State}
 use Rattle.kernel_rules.specs.Access.{Slot, Target, place_at, reached}
@@ -57,7 +57,8 @@ use Rattle.core_invariant.specs.Knows.{HasPassed, HasFlushed, MayFill, KnowsAct,
 use Rattle.core_invariant.specs.Stands.{holds_at, holds_in, Stands}
 use Rattle.core_invariant.proofs.Calm.{stored_by}
 use Rattle.core_invariant.proofs.Flushing.{none_flushing}
-use Rattle.core_invariant.proofs.Carries.{ReadsSame, slot_relies, names_on, act_on}
+use Rattle.core_invariant.proofs.Carries.{start_pairs, ReadsSame, slot_relies, names_on, act_on}
+use Rattle.core_invariant.proofs.Users.{users_kept}
 use Rattle.core_invariant.proofs.Loads.{OnlyLooks, step_to, next_at, inner, core_is, call_is, is_active, loads_on, decides_on}
 use Rattle.core_invariant.proofs.Places.{IsMarked, IsPlain as IsUnmarked, place_reads}
 use Rattle.core_invariant.proofs.Refusals.{GoodTook, not_spent}
@@ -317,6 +318,9 @@ module _ (setup : Setting) (setting : IsSetting setup) (cores : ℕ → Core) (t
     entry_apart : (f i : ℕ) → EntryAt f i ≢ FlushAt at
     entry_apart f i h = cc
 
+    count_apart : (f k : ℕ) → CountAt f k ≢ FlushAt at
+    count_apart f k h = cc
+
     frame_apart : (f : ℕ) → FrameAt f ≢ FlushAt at
     frame_apart f h = cc
 
@@ -335,7 +339,11 @@ module _ (setup : Setting) (setting : IsSetting setup) (cores : ℕ → Core) (t
           frames = λ f. own_read-there c loads t refl (FrameAt f) (frame_apart f);
           numbers = λ l. own_read-there c loads t refl (LiveAt l) (number_apart l);
           stored = λ f i marked. last_left-there setup (EntryAt f i) loads t (entry_apart f i);
-          users = λ f is. is;
+          users = users_kept setup t loads c (λ f. refl) (λ f k held. last_left-there setup (CountAt f k) loads t (count_apart f k));
+          counts = λ freezes f d. own_read-there c loads t refl (CountAt f d) (count_apart f d);
+          rests = λ f looked. record { frame = refl; place = λ i node. refl };
+          threads = record { guards = λ f has. has; rests = λ f claimed has. refl };
+          pairs = start_pairs setup t loads c act has.knows.starts;
         }) knows
 
     -- the next flush word is scanned

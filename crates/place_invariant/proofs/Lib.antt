@@ -1,13 +1,18 @@
+-- Where acts start, and refusals.
 pub mod Starts
-pub mod ObjectMakes
 pub mod Outside
+pub mod ObjectMakes
+pub mod CompMakes
+-- Filling.
 pub mod Fills
 pub mod Vacancy
-pub mod Removals
-pub mod Closings
-pub mod Scans
 pub mod Paging
+pub mod Mappings
+-- Scanning.
+pub mod Scans
 pub mod CoreScans
 pub mod FlushScans
 pub mod ScanSteps
-pub mod Mappings
+-- Removing.
+pub mod Closings
+pub mod Removals

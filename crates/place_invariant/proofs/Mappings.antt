@@ -1,7 +1,8 @@
 -- The load of the word of a frame that is to be mapped: one that a core has marked is `busy`, one that is no user frame `frame-kind`, and a
--- user frame is mapped next. The call has acquired the count of the frame, and no other core makes it anything else in the meantime.
-use Rattle.std.proofs.Common.{◌≡◌, ℕ, ◌<◌, ◌&&◌, not, Bool, true, false, IsTrue, List, [], ◌∷◌, Option, Some, None, inl, inr, refl, sym, ◌∙◌, ap, subst, if◌then◌else◌}
-use Rattle.std.specs.Prelude.{◌||◌}
+-- user frame is mapped next. The call has acquired the count of the frame, and while it holds that no other core makes it anything else.
+use Rattle.std.proofs.Common.{◌≡◌, ℕ, ℤ, pos, ◌<◌, ◌&&◌, map, not, Bool, true, false, IsTrue, List, [], ◌∷◌, Option, Some, None, inl, inr, refl, sym, ◌∙◌, ap, subst, if◌then◌else◌}
+use Rattle.std.specs.Prelude.{All, ◌||◌}
+use Rattle.std.proofs.lemmas.List.Elements.{All-head}
 use Rattle.std.proofs.lemmas.Bool.{lt-ltb, eq-eqb, false≢true}
 use Rattle.spk_nums.specs.Capability.{Capability}
 use Rattle.spk_nums.specs.Setting.{Setting, IsSetting}
@@ -11,9 +12,11 @@ use Rattle.spk_nums.specs.declared.kinds.PageFlags.{PageFlags}
 use Rattle.spk_nums.specs.declared.kinds.FrameKind.{FrameKind}
 use Rattle.spk_nums.specs.declared.kinds.FrameKind.TheVariants as kind
 use Rattle.spk_nums.specs.declared.replies.Reply.TheVariants as reply
+use Rattle.frame_words.specs.Count.{count_of_word}
 use Rattle.frame_words.specs.Frame.{frame_of_word}
 use Rattle.frame_words.specs.declared.frame_word.FrameWord.{FrameWord}
-use Rattle.word_map.specs.Word.{EntryAt, FrameAt, LiveAt}
+use Rattle.word_map.specs.Word.{EntryAt, FrameAt, CountAt, LiveAt}
+use Rattle.word_map.specs.Places.{counter_of}
 use Rattle.word_map.specs.Moves.{Move, LoadOf, word_of}
 use Rattle.kernel_rules.specs.State.{Frame, Untyped, User, Kernel, State}
 use Rattle.kernel_rules.specs.Access.{Slot, Target, Under, found, reached}
@@ -25,7 +28,7 @@ use Rattle.kernel_history.specs.Alone.{IsAlone}
 use Rattle.kernel_history.specs.Discipline.{looks_at_frames}
 use Rattle.kernel_history.specs.Footprint.{is_one_of, frames_near, frame_argument}
 use Rattle.kernel_history.specs.Marking.{marked_by}
-use Rattle.kernel_history.specs.Marks.{frame_mark}
+use Rattle.kernel_history.specs.Marks.{count_mark, frame_mark}
 use Rattle.kernel_history.specs.ObjectWords.{frame_value}
 use Rattle.kernel_history.specs.Trace.{Step, Trace, Open, phase, state_after, last_left}
 use Rattle.kernel_history.proofs.AloneCalls.{refused_first}
@@ -35,23 +38,28 @@ use Rattle.call_plans.specs.PlanOf.{plan_for}
 use Rattle.call_plans.specs.GoesBy.{GoesBy, own_pages}
 use Rattle.call_plans.specs.After.{Leads, LeadsIn, NextFree, rule_after, next_of}
 use Rattle.call_plans.proofs.AfterNames.{left_may, outcome_left}
+use Rattle.call_plans.specs.declared.plans.Nth.TheVariants.{Second}
+use Rattle.call_plans.specs.Plans.{at_place}
 use Rattle.call_acts.specs.declared.fills.Fill.{Fill}
 use Rattle.call_acts.specs.declared.refusals.Refusal.TheVariants as refusal
 use Rattle.call_acts.specs.declared.work.Act.TheVariants.{Fill as fill_act, Map as map_act}
+use Rattle.call_acts.specs.declared.work.Due.{Due}
 use Rattle.call_acts.specs.declared.work.Work.TheVariants.{Act}
 use Rattle.call_acts.specs.declared.work.WorkStep.TheVariants.{Goes}
 use Rattle.call_acts.specs.WorkSteps.{refuse}
 use Rattle.stage_pins.specs.declared.held.Acquired.{Acquired}
+use Rattle.kernel_rules.specs.References.{named_by}
 use Rattle.kernel_rules.specs.Relies.{is_node}
-use Rattle.call_acts.specs.Acts.{reads_of, put_by, maps_kind, maps_frame, maps_word, page_cap}
+use Rattle.call_acts.specs.Acts.{reads_of, put_by, page_of, maps_kind, maps_frame, maps_word, page_cap}
 use Rattle.call_steps.specs.declared.stages.Stage.TheVariants.{Undecided}
 use Rattle.call_steps.specs.declared.stages.ActiveCall.{ActiveCall}
 use Rattle.call_steps.specs.Fits.{StageFits, HasRoom}
 use Rattle.call_steps.specs.Steps.{landed}
 use Rattle.call_steps.specs.View.{Core}
 use Rattle.core_invariant.specs.Holding.{holds_counts, settled_by}
-use Rattle.core_invariant.specs.Knows.{ReadIs, HasUser, IsMapping, mapped_frame, is_mapping, KnowsUndecided, phase_at}
+use Rattle.core_invariant.specs.Knows.{ReadIs, HasUser, IsUser, IsCount, due_of, IsMapping, mapped_frame, is_mapping, KnowsUndecided, phase_at}
 use Rattle.core_invariant.specs.Stands.{holds_at, holds_in, held_by, Stands}
+use Rattle.core_invariant.proofs.Counting.{first_marked}
 use Rattle.core_invariant.proofs.Carries.{names_on, spot_on, slot_relies}
 use Rattle.core_invariant.proofs.Loads.{OnlyLooks, step_to, inner, core_is, call_is, is_active, loads_on, decides_on}
 use Rattle.core_invariant.proofs.Refusals.{GoodTook, ticks_at, not_spent, refuses_busy}
@@ -83,6 +91,40 @@ record IsMap (call : Call) (ks : List Capability) : Type 0 where
 map_is : (call : Call) (ks : List Capability) → is_mapping call ≡ true → IsMap call ks
 map_is (Map p v r f w) ks is = record { pages = p; page = v; name = r; frame = f; flags = w; call_is = refl }
 map_is call ks is = absurd (false≢true is)
+
+-- What it puts names its frame alone.
+map_names : (call : Call) (ks : List Capability) (k : Capability) → is_mapping call ≡ true → put_by call ks None ≡ Some k
+    → named_by k.kind k.frame ≡ k.frame ∷ []
+map_names (Map p v r f w) ks k is puts = by_place (at_place ks Second) puts
+  where
+    some_cap : (j k : Capability) → Some j ≡ Some k → j ≡ k
+    some_cap j k h = cc
+
+    by_range : (has : Bool) → (if has then Some (page_cap f w) else None) ≡ Some k → named_by k.kind k.frame ≡ k.frame ∷ []
+    by_range true h = subst (λ (q : Capability). named_by q.kind q.frame ≡ q.frame ∷ []) (some_cap (page_cap f w) k h) refl
+    by_range false h = absurd (cc)
+
+    by_place : (o : Option Capability) → page_of o f w ≡ Some k → named_by k.kind k.frame ≡ k.frame ∷ []
+    by_place None h = absurd (cc)
+    by_place (Some y) h = by_range (has_frame (found y) f) h
+map_names call ks k is puts = absurd (false≢true is)
+
+-- A core that has acquired the counts due to one frame holds its count of the frame.
+count_held : (setup : Setting) (t : Trace) (c : ℕ) (call : Call) (f : ℕ) (z : ℤ) (xs : List Acquired)
+    → record { frame = f; change = z } ∷ [] ≡ map due_of xs → All (IsCount setup t c call) xs
+    → (holds_counts None xs).marks (CountAt f (counter_of c)) ≡ true
+count_held setup t c call f z [] due all = absurd (none_due _ due)
+  where
+    none_due : (d : Due) → d ∷ [] ≡ [] → ⊥
+    none_due d h = cc
+count_held setup t c call f z (x ∷ xs) due all =
+    subst (λ (b : ℕ). (holds_counts None (x ∷ xs)).marks (CountAt f (counter_of b)) ≡ true)
+    (All-head (IsCount setup t c call) x xs all).core
+    (subst (λ (g : ℕ). (holds_counts None (x ∷ xs)).marks (CountAt g (counter_of x.pin.core)) ≡ true)
+    (sym (ap (λ (d : Due). d.frame) (first_due _ _ _ _ due))) (first_marked None x xs))
+  where
+    first_due : (d b : Due) (ds bs : List Due) → d ∷ ds ≡ b ∷ bs → d ≡ b
+    first_due d b ds bs h = cc
 
 target_in : (p q : Target) → NextFree p ≡ NextFree q → p ≡ q
 target_in p q h = cc
@@ -235,6 +277,18 @@ module _ (setup : Setting) (setting : IsSetting setup) (cores : ℕ → Core) (t
   entry_apart : (g i : ℕ) → EntryAt g i ≡ FrameAt f → ⊥
   entry_apart g i h = cc
 
+  -- its count is held
+  held_count : marked_by setup t (CountAt f (counter_of c)) ≡ Some c
+  held_count = (stands.marks (CountAt f (counter_of c)) c).kept (ap (λ o. (holds_in o).marks (CountAt f (counter_of c))) active
+      ∙ ap (λ h. h.marks (CountAt f (counter_of c))) held_is
+      ∙ count_held setup t c a.call f (pos 1) a.counts
+      (ap (λ (fs : List ℕ). map (λ (g : ℕ). record { frame = g; change = pos 1 }) fs)
+      (sym (map_names a.call a.found fill.cap knows.maps knows.puts)) ∙ has.knows.all)
+      (call_is setup setting cores t stands c here a active).counts)
+
+  not_count : (g b : ℕ) → CountAt g b ≡ FrameAt f → ⊥
+  not_count g b h = cc
+
   -- it is a user frame
   user_good : (v : FrameWord) → frame_of_word was ≡ Some v → v.mark ≡ None → v.kind ≡ kind.User
       → GoodTook setup cores t c load (landed a (Goes (Act (fill_act fill))))
@@ -257,8 +311,11 @@ module _ (setup : Setting) (setting : IsSetting setup) (cores : ℕ → Core) (t
             read = None;
             has_read = subst (λ (call : Call). ReadIs (state_after setup (e ∷ t)) c (reads_of call a.found) None) (sym is.call_is) tt;
             puts = knows.puts;
-            user = subst (HasUser s) (sym is.call_is) (ap s.frame frame_is
-                ∙ user_is (s.frame f) (ap (λ x. x.kind) (shown_is v shown bare) ∙ kind_is));
+            user = subst (HasUser setup (e ∷ t) c) (sym is.call_is) (subst (λ (n : ℕ). IsUser setup (e ∷ t) c n) (sym frame_is) (record {
+              user = user_is (s.frame f) (ap (λ x. x.kind) (shown_is v shown bare) ∙ kind_is);
+              held = ap (λ (n : ℕ). count_mark (count_of_word n))
+                  (last_left-there setup (CountAt f (counter_of c)) e t (not_count f (counter_of c))) ∙ held_count;
+            }));
           };
           all = has.knows.all;
           goes = refl;

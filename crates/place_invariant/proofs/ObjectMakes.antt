@@ -172,8 +172,13 @@ module _ (s : State) (c r f u b : ℕ) where
       }
   object_make (make.Comp table pages live) object ks is leads none = absurd (cc)
 
+-- A make of another object than a component.
+abbrev pub IsObject : Make → Type 0
+IsObject (make.Comp table pages live) = ⊥
+IsObject what = Unit {0}
+
 -- The object that a call makes whose names have all led to something.
-pub made_of : (what : Make) → IsObjectMade what → (r f u b : ℕ) (ks : List Capability)
+pub made_of : (what : Make) → IsObject what → (r f u b : ℕ) (ks : List Capability)
     → names_after (plan_for (make_call what r f u b)).names ks ≡ []
     → (R : Type 0) → ((object : NewObject) → object_made what ks ≡ Some object → R) → R
 made_of make.Table built r f u b ks none R by = by objects.Table refl

@@ -7,6 +7,8 @@ use Rattle.spk_nums.specs.Setting.{Setting, IsSetting}
 use Rattle.spk_nums.specs.declared.calls.Call.{Call}
 use Rattle.spk_nums.specs.declared.calls.Call.TheVariants.{Make as make_call, Map}
 use Rattle.spk_nums.specs.declared.calls.Make.{Make}
+use Rattle.spk_nums.specs.declared.calls.Make.TheVariants as make_of
+use Rattle.place_invariant.proofs.CompMakes.{IsCompMake, comp_make, comp_rest, new_comp}
 use Rattle.spk_nums.specs.declared.replies.Reply.{Reply}
 use Rattle.spk_nums.specs.declared.replies.Reply.TheVariants as reply
 use Rattle.entry_words.specs.EntryWord.{entry_of_word}
@@ -19,7 +21,7 @@ use Rattle.kernel_rules.specs.MemoryCalls.{not_user}
 use Rattle.core_invariant.proofs.Carries.{slot_relies}
 use Rattle.kernel_rules.specs.Rules.{Rule, Cause, Change, Vacant, Does, fills, RuleMay, Refused, Found, and_then, or_refuse, unless, first_of, first_cause, vacant, not_vacant, outcome}
 use Rattle.kernel_rules.specs.Relies.{is_node}
-use Rattle.kernel_rules.specs.CapabilityCalls.{has_frame, outside, not_blank, makes}
+use Rattle.kernel_rules.specs.CapabilityCalls.{has_frame, outside, not_blank, not_taken, makes, makes_comp}
 use Rattle.kernel_rules.specs.CallRelation.{rule_of, change_of}
 use Rattle.kernel_history.specs.Alone.{IsAlone}
 use Rattle.kernel_history.specs.Trace.{Trace, Open, phase, state_after, last_left, own_read}
@@ -33,7 +35,7 @@ use Rattle.call_acts.specs.declared.objects.NewObject.{NewObject}
 use Rattle.call_acts.specs.Objects.{object_kind, object_made}
 use Rattle.call_steps.specs.declared.stages.ActiveCall.{ActiveCall}
 use Rattle.call_steps.specs.View.{Core}
-use Rattle.core_invariant.specs.Knows.{IsSpot, MayFill, OutsideBy, NamesAre, phase_at}
+use Rattle.core_invariant.specs.Knows.{IsSpot, MayFill, OutsideBy, OutsideObject, OutsideComp, NamesAre, phase_at}
 use Rattle.core_invariant.specs.Stands.{Stands}
 use Rattle.core_invariant.proofs.Loads.{step_to, call_is, is_active}
 use Rattle.core_invariant.proofs.Places.{IsMarked, IsPlain as IsUnmarked, place_reads}
@@ -70,7 +72,7 @@ some_of : {A : Type 0} (o : Option A) → IsSome o → (R : Type 0) → ((x : A)
 some_of None some R f = absurd (false≢true some)
 some_of (Some x) some R f = f x refl
 
-outside_make : (what : Make) (r f u b : ℕ) (ks : List Capability) → OutsideBy (make_call what r f u b) ks
+outside_make : (what : Make) (r f u b : ℕ) (ks : List Capability) → OutsideObject (make_call what r f u b) ks
     → IsOutsideMake (make_call what r f u b) ks
 outside_make what r f u b (range ∷ ks) is = some_of (object_made what (range ∷ ks)) is.object
     (IsOutsideMake (make_call what r f u b) (range ∷ ks))
@@ -140,10 +142,39 @@ made_refusable s c call ks target is leads next =
     first_same : (k j : Capability) (ks js : List Capability) → k ∷ ks ≡ j ∷ js → k ≡ j
     first_same k j ks js h = cc
 
+-- So is a call that makes a component.
+comp_refusable : (s : State) (c : ℕ) (call : Call) (ks : List Capability) (target : Target) → OutsideComp call ks
+    → Leads (LeadsIn s c) (plan_for call).names [] ks → next_of (plan_for call) ks ≡ NextFree target → IsRefusable s c call ks target
+comp_refusable s c (make_call (make_of.Comp x p live) r f u b) (range ∷ second ∷ table ∷ pages ∷ []) target out leads next =
+    let call : Call = make_call (make_of.Comp x p live) r f u b in
+    let ks : List Capability = range ∷ second ∷ table ∷ pages ∷ [] in
+    let make : IsCompMake s c r f u b x p live ks = comp_make s c r f u b x p live ks leads (none_left_of (plan_for call) ks target next) in
+    record {
+      range = make.range;
+      frame = f;
+      causes = not_blank s f ∷ not_taken s live;
+      change = λ at. makes_comp s f (new_comp s make.table.frame make.pages.frame live) at;
+      rule = make.rule ∙ ap (λ to. comp_rest s make.range f make.table.frame make.pages.frame live to)
+          (target_in _ _ (sym make.next ∙ next));
+      is_outside = ap (λ (k : Capability). has_frame (found k) f) (first_same _ _ _ _ (sym make.found_is)) ∙ out;
+    }
+  where
+    first_same : (k j : Capability) (ks js : List Capability) → k ∷ ks ≡ j ∷ js → k ≡ j
+    first_same k j ks js h = cc
+comp_refusable s c (make_call (make_of.Comp x p live) r f u b) [] target out leads next = absurd out
+comp_refusable s c (make_call (make_of.Comp x p live) r f u b) (k ∷ []) target out leads next = absurd out
+comp_refusable s c (make_call (make_of.Comp x p live) r f u b) (k ∷ j ∷ []) target out leads next = absurd out
+comp_refusable s c (make_call (make_of.Comp x p live) r f u b) (k ∷ j ∷ i ∷ []) target out leads next = absurd out
+comp_refusable s c (make_call (make_of.Comp x p live) r f u b) (k ∷ j ∷ i ∷ h ∷ g ∷ ks) target out leads next = absurd out
+comp_refusable s c (make_call what r f u b) ks target out leads next = absurd out
+comp_refusable s c call ks target out leads next = absurd out
+
 refusable : (s : State) (c : ℕ) (call : Call) (ks : List Capability) (target : Target) → OutsideBy call ks
     → Leads (LeadsIn s c) (plan_for call).names [] ks → next_of (plan_for call) ks ≡ NextFree target → IsRefusable s c call ks target
-refusable s c (make_call what r f u b) ks target out leads next =
-    made_refusable s c (make_call what r f u b) ks target (outside_make what r f u b ks out) leads next
+refusable s c (make_call what r f u b) ks target out leads next = elim out [
+  | inl is ↦ made_refusable s c (make_call what r f u b) ks target (outside_make what r f u b ks is) leads next
+  | inr is ↦ comp_refusable s c (make_call what r f u b) ks target is leads next
+]
 refusable s c (Map p v r f w) (k ∷ j ∷ []) target out leads next =
     subst (IsRefusable s c (Map p v r f w) (k ∷ j ∷ [])) (target_in (Under (found k) v) target next) (record {
       range = j;

@@ -1,4 +1,6 @@
 -- Which places that a call fills are those of page tables.
+use Rattle.spk_nums.specs.declared.calls.Make.TheVariants as make
+use Rattle.place_invariant.proofs.CompMakes.{IsCompMake, comp_make}
 use Rattle.std.proofs.Common.{◌≡◌, ℕ, ◌&&◌, nat_le, if◌then◌else◌, Bool, true, false, List, [], ◌∷◌, Option, Some, None, refl, sym, ◌∙◌, ap, subst, IsTrue}
 use Rattle.std.proofs.lemmas.Bool.{false≢true}
 use Rattle.spk_nums.specs.Capability.{Capability}
@@ -7,7 +9,7 @@ use Rattle.spk_nums.specs.declared.kinds.FrameKind.TheVariants as frame_kind
 use Rattle.spk_nums.specs.declared.kinds.Kind.{Kind}
 use Rattle.spk_nums.specs.declared.kinds.Kind.TheVariants as kind
 use Rattle.spk_nums.specs.declared.calls.Call.{Call}
-use Rattle.spk_nums.specs.declared.calls.Call.TheVariants.{Look, Copy, Remove, Grow, Shrink, Map, Unmap, Retype, Make as make_call, Tick, Kill, Gate, Flush}
+use Rattle.spk_nums.specs.declared.calls.Call.TheVariants.{Look, Copy, Remove, Grow, Shrink, Map, Unmap, Retype, Make as make_call, Tick, Kill, Gate, Touch, Flush, Call as call_gate, Ret, Transfer, Test, Switch}
 use Rattle.supported_calls.specs.Built.{IsBuilt}
 use Rattle.kernel_rules.specs.State.{Table, Pages, Frame, Kernel, State}
 use Rattle.kernel_rules.specs.Access.{Slot, Named, found, root, only, Target, Under, InRoot, reached}
@@ -109,6 +111,11 @@ module _ (setup : Setting) (setting : IsSetting setup) (t : Trace) (legal : IsLe
   paging_by (Map p v r f w) is built [] lead next = absurd (cc)
   paging_by (Map p v r f w) is built (k ∷ []) lead next = absurd (cc)
   paging_by (Map p v r f w) is built (k ∷ j ∷ h ∷ ks) lead next = absurd lead.1.1
+  paging_by (make_call (make.Comp x p live) r f u b) is built ks lead next =
+      let none = none_left_of (plan_for (make_call (make.Comp x p live) r f u b)) ks target next in
+      let made : IsCompMake s c r f u b x p live ks = comp_make s c r f u b x p live ks lead none in
+      ap is_paging (in_leaf setup setting t legal c (make_call (make.Comp x p live) r f u b) is u b made.second at made.under
+      (ap (reached s c) (target_in (Under (found made.second) b) target (sym made.next ∙ next)) ∙ reaches))
   paging_by (make_call what r f u b) is built ks lead next =
       let none = none_left_of (plan_for (make_call what r f u b)) ks target next in
       made_of what built r f u b ks none (PagingIs (make_call what r f u b) ks) (λ object of.
@@ -121,14 +128,20 @@ module _ (setup : Setting) (setting : IsSetting setup) (t : Trace) (legal : IsLe
   paging_by (Gate n u b) is built [] lead next = absurd (cc)
   paging_by (Gate n u b) is built (k ∷ []) lead next = absurd (cc)
   paging_by (Gate n u b) is built (k ∷ j ∷ i ∷ ks) lead next = absurd lead.1.1
+  paging_by (Touch v) is built ks lead next = absurd (none_free (Touch v) ks next)
   paging_by Flush is built ks lead next = absurd (none_free Flush ks next)
   paging_by (Look a) is built ks lead next = absurd (none_free (Look a) ks next)
   paging_by (Remove u b) is built ks lead next = absurd (none_free (Remove u b) ks next)
   paging_by (Shrink u i) is built ks lead next = absurd (none_free (Shrink u i) ks next)
   paging_by (Unmap p v) is built ks lead next = absurd (none_free (Unmap p v) ks next)
-  paging_by (Retype r f frame_kind.Untyped) is built ks lead next = absurd built
+  paging_by (Retype r f frame_kind.Untyped) is built ks lead next = absurd (none_free (Retype r f frame_kind.Untyped) ks next)
   paging_by (Retype r f frame_kind.User) is built ks lead next = absurd (none_free (Retype r f frame_kind.User) ks next)
   paging_by (Retype r f frame_kind.Kernel) is built ks lead next = absurd (none_free (Retype r f frame_kind.Kernel) ks next)
   paging_by (Tick n) is built ks lead next = absurd (none_free (Tick n) ks next)
   paging_by (Kill n) is built ks lead next = absurd (none_free (Kill n) ks next)
+  paging_by (call_gate n) is built ks lead next = absurd (none_free (call_gate n) ks next)
+  paging_by Ret is built ks lead next = absurd (none_free Ret ks next)
+  paging_by (Transfer x y m) is built ks lead next = absurd (none_free (Transfer x y m) ks next)
+  paging_by (Test x y) is built ks lead next = absurd (none_free (Test x y) ks next)
+  paging_by (Switch x y) is built ks lead next = absurd (none_free (Switch x y) ks next)
   paging_by call is built ks lead next = absurd built

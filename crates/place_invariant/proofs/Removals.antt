@@ -1,5 +1,6 @@
 -- A removal draws its stamp and is decided: what its target held is removed, the reference is released, and the grace periods of both
 -- begin at the stamp.
+use Rattle.core_invariant.proofs.Bare.{counts_bare}
 use Rattle.std.proofs.Common.{◌≡◌, ◌≢◌, ◌⊎◌, inl, inr, ℕ, pos, negsuc, ◌+ℤ◌, max, length, ◌≤◌, ◌+◌, ◌^◌, ◌<◌, ◌==◌, ◌&&◌, ◌||◌, ◌∷◌, [], Bool, true, false, List, Option, Some, None, arith, refl, sym, ◌∙◌, ap, subst, IsTrue, if◌then◌else◌}
 use Rattle.std.specs.List.{list_any}
 use Rattle.std.proofs.Math.IntN.{pos-+ℤ-pos, +ℤ_assoc, +ℤ_invr, +ℤ_idr}
@@ -66,10 +67,10 @@ use Rattle.call_acts.specs.Acts.{took_close, cap_dues, removes_by}
 use Rattle.call_steps.specs.Fits.{StageFits, HasRoom}
 use Rattle.call_steps.specs.Steps.{GoesOn, landed, went_with}
 use Rattle.call_steps.specs.View.{Core}
-use Rattle.call_steps.proofs.StepsFit.{cap_one}
+use Rattle.call_steps.proofs.DuesFit.{cap_one}
 use Rattle.core_invariant.specs.CountWords.{IsWithin}
 use Rattle.core_invariant.specs.Holding.{Holding, holds_counts, settled_by, settled}
-use Rattle.core_invariant.specs.Words.{PlaceIs, WordIs}
+use Rattle.core_invariant.specs.Words.{PlaceIs, WordIs, count_room}
 use Rattle.core_invariant.specs.Knows.{HasFound, KnowsStore, KnowsUndecided, own_in, phase_at}
 use Rattle.core_invariant.specs.Stands.{holds_at, holds_in, holds, held_by, times_of, Stands}
 use Rattle.core_invariant.proofs.Calm.{IsCalm, calm_core, plain_exit, room_rises, room_grows, counted_grows}
@@ -82,7 +83,7 @@ use Rattle.core_invariant.proofs.Refusals.{GoodTook, not_spent}
 use Rattle.core_invariant.proofs.Sounds.{limits_of}
 use Rattle.core_invariant.proofs.WordFrames.{SameFor, ReadsAlike, reads_alike, StaysSaid, word_stays}
 use Rattle.core_invariant.proofs.Writes.{clock_small, same_marks}
-use Rattle.count_invariant.proofs.Acquiring.{removal_places, removal_raises, plan_leads, goes_by}
+use Rattle.count_invariant.proofs.Acquiring.{removal_places, removal_raises, removal_types, plan_leads, goes_by}
 use Rattle.place_invariant.proofs.Closings.{close_good, store_at}
 use Rattle.count_invariant.proofs.CapChanges.{counts_commit, counts_sum}
 use Rattle.place_invariant.proofs.Fills.{node_word, target_way}
@@ -168,7 +169,7 @@ times_later f g gs other =
     (ne_eqb g f (λ h. other (sym h))) in
     omega arith
 
-frame_none : (f : ℕ) (fs : List ℕ) → times f fs ≡ 0 → list_any (same_thing (FrameOf f)) (frames_of fs) ≡ false
+pub frame_none : (f : ℕ) (fs : List ℕ) → times f fs ≡ 0 → list_any (same_thing (FrameOf f)) (frames_of fs) ≡ false
 frame_none f [] none = refl
 frame_none f (g ∷ gs) none = elim (cases_eq f g) [
   | inl same ↦ absurd (let one : times f (g ∷ gs) ≡ 1 + times f gs = sums.times_cons f g gs ∙ ap (λ b. (if b then 1 else 0) + times f gs)
@@ -180,7 +181,7 @@ frame_none f (g ∷ gs) none = elim (cases_eq f g) [
 either : (b : Bool) → (true || b) ≡ true
 either b = refl
 
-frame_some : (f : ℕ) (fs : List ℕ) → times f fs ≢ 0 → list_any (same_thing (FrameOf f)) (frames_of fs) ≡ true
+pub frame_some : (f : ℕ) (fs : List ℕ) → times f fs ≢ 0 → list_any (same_thing (FrameOf f)) (frames_of fs) ≡ true
 frame_some f [] some = absurd (some refl)
 frame_some f (g ∷ gs) some = elim (cases_eq f g) [
   | inl same ↦ ap (λ b. b || list_any (same_thing (FrameOf f)) (frames_of gs)) (eq-eqb f g same)
@@ -271,7 +272,7 @@ module _ (setup : Setting) (setting : IsSetting setup) (cores : ℕ → Core) (t
   held_cap : s.place node index ≡ Holds cap
   held_cap = holds_place s.limits.frames (s.place node index) (stamp setup t (PlaceOf node index))
       (entry_of_word (word_of_entry (entry.Held cap))) cap
-      (node_says s.limits.frames (s.frame node) (s.place node index) (stamp setup t (PlaceOf node index)) index
+      (node_says s.limits.frames (count_room s) (s.frame node) (s.place node index) (stamp setup t (PlaceOf node index)) index
       (word_of_entry (entry.Held cap)) relies.node fits.0.1
       (subst (WordIs s (times_of setup t) at) stood_for (stands.words at)))
       (spelling.reads (entry.Held cap) has.knows.knows.fits)
@@ -367,6 +368,7 @@ module _ (setup : Setting) (setting : IsSetting setup) (cores : ℕ → Core) (t
         frame = calm.frame g;
         place = there g i other;
         stamp = stamp_stays (PlaceOf g i) (apart_place g i other);
+        room = room_rises s s' c calm;
       }
     ]
 
@@ -397,7 +399,7 @@ module _ (setup : Setting) (setting : IsSetting setup) (cores : ℕ → Core) (t
     stored_fits = let low = small in let is = drawn_is in omega arith
 
     entry_now : WordIs s' (times_of setup (e ∷ t)) at (word_of_entry (entry.Quiescing now_at))
-    entry_now = node_word s'.limits.frames (s'.frame node) (s'.place node index) (stamp setup (e ∷ t) (PlaceOf node index)) index
+    entry_now = node_word s'.limits.frames (count_room s') (s'.frame node) (s'.place node index) (stamp setup (e ∷ t) (PlaceOf node index)) index
         (word_of_entry (entry.Quiescing now_at))
         (subst (λ y. IsTrue (is_node y)) (sym (calm.frame node)) relies.node)
         (subst (λ p. PlaceIs s'.limits.frames p (stamp setup (e ∷ t) (PlaceOf node index))
@@ -519,7 +521,10 @@ module _ (setup : Setting) (setting : IsSetting setup) (cores : ℕ → Core) (t
     draw_at : GoodTook setup cores t c (AddOf ClockAt 1) (landed a
         (Answers value.Nothing (Some now_at) (Quiesce (AtStore node index now_at))))
     draw_at lands = drawing.draws_on setup setting cores t stands c here a active r stage made
-        (removal_raises a.call has.knows.knows.removes) lands still opens refl alike
+        (removal_raises a.call has.knows.knows.removes) lands still
+        (λ f i. counts_bare (Some (Some now_at)) a.counts f i ∙ sym (ap (λ h. h.bare f i)
+        (ap holds_in active ∙ ap (λ stage. holds_at stage a.counts) stage_is) ∙ counts_bare None a.counts f i))
+        opens refl alike (inl (removal_types a.call has.knows.knows.removes))
         (counted_grows setup s s' c calm here one_more)
         (inner_works setup setting cores t stands c here a active (AddOf ClockAt 1) (Some r) None made calm counts_are)
         no_flush stays held_now

@@ -11,7 +11,7 @@ use Rattle.stage_quiet.specs.declared.quiet.Quiet.{Quiet}
 use Rattle.stage_quiet.specs.declared.quiet.Quiet.TheVariants.{AtCore, AtFlush}
 use Rattle.stage_quiet.specs.Scan.{quiet_move, quiet_end, quiet_after}
 use Rattle.call_acts.specs.declared.work.Act.{Act as ActOf}
-use Rattle.call_acts.specs.declared.work.Act.TheVariants.{Fill as fill_act, Remove as remove_act, Retype as type_act, Make as make_act, Outside, Tick as tick_act, Flush as flush_act, Kill as kill_act, Untype as untype_act, Map as map_act}
+use Rattle.call_acts.specs.declared.work.Act.TheVariants.{Fill as fill_act, Remove as remove_act, Retype as type_act, Make as make_act, Outside, Tick as tick_act, Flush as flush_act, Kill as kill_act, Untype as untype_act, Map as map_act, MakeComp as comp_act, Invoke as invoke_act, Return as return_act, Touch as touch_act, Share as share_act, Switch as switch_act}
 use Rattle.call_acts.specs.declared.work.Work.TheVariants.{Scan}
 use Rattle.call_acts.specs.Acts.{ActFits, stamp_of_act, stamp_shown}
 use Rattle.word_map.specs.Places.{Shape}
@@ -52,8 +52,11 @@ module _ (setup : Setting) (setting : IsSetting setup) (cores : ℕ → Core) (t
   scans_place (type_act typing) is fits stamp names knows = absurd (omega arith)
   scans_place (tick_act charge) is fits stamp names knows = absurd (omega arith)
   scans_place (kill_act m) is fits stamp names knows = absurd (omega arith)
+  scans_place (touch_act m) is fits stamp names knows = absurd (omega arith)
   scans_place (flush_act core) is fits stamp names knows = absurd (omega arith)
-  scans_place (untype_act m) is fits stamp names knows = absurd knows
+  scans_place (untype_act m) is fits stamp names knows = absurd (omega arith)
+  scans_place (invoke_act m) is fits stamp names knows = absurd (omega arith)
+  scans_place (return_act m) is fits stamp names knows = absurd (omega arith)
   scans_place (fill_act fill) is fits stamp names knows = record {
     node = fill.node;
     index = fill.entry;
@@ -73,6 +76,26 @@ module _ (setup : Setting) (setting : IsSetting setup) (cores : ℕ → Core) (t
       has_read = knows.has_read;
       puts = knows.puts;
       user = knows.user;
+    };
+    outside = λ out. absurd (false≢true (sym out));
+  }
+  scans_place (share_act p) is fits stamp names knows = absurd (omega arith)
+  scans_place (switch_act m) is fits stamp names knows = absurd (omega arith)
+  scans_place (comp_act m) is fits stamp names knows = record {
+    node = m.fill.node;
+    index = m.fill.entry;
+    word = m.fill.word;
+    small = fits.fill.entry;
+    thing = refl;
+    spot = knows.spot;
+    stamp = refl;
+    again = λ upto spot. record {
+      spot = spot;
+      makes = knows.makes;
+      core = knows.core;
+      epochs = knows.epochs;
+      cap = knows.cap;
+      at = knows.at;
     };
     outside = λ out. absurd (false≢true (sym out));
   }

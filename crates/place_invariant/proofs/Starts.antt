@@ -1,4 +1,5 @@
 -- Where an act starts, after its look-ups or its scan: it acquires its first count or makes its first step, or its frame is out of range.
+use Rattle.call_steps.proofs.DuesFit.{invoking_one, returning_one, cap_one}
 use Rattle.std.proofs.Common.{◌≡◌, ℕ, pos, negsuc, ◌<◌, ◌++◌, map, length, not, true, false, List, [], ◌∷◌, Some, None, refl, sym, ◌∙◌, ap, arith}
 use Rattle.std.proofs.lemmas.Bool.{false≢true}
 use Rattle.spk_nums.specs.Setting.{Setting, IsSetting}
@@ -16,24 +17,26 @@ use Rattle.stage_pins.specs.declared.held.Acquired.{Acquired}
 use Rattle.call_acts.specs.declared.refusals.Refusal.TheVariants as refusal
 use Rattle.call_acts.specs.declared.makings.MakingAt.{MakingAt}
 use Rattle.call_acts.specs.declared.makings.MakingAt.TheVariants.{Load as making_load, Mark, Store, Fill as making_fill}
+use Rattle.call_acts.specs.Comps.{comp_is_marked, comp_meets_number, comp_dues}
 use Rattle.call_acts.specs.Makings.{is_marked}
+use Rattle.call_acts.specs.declared.comps.CompAt.{CompAt}
+use Rattle.call_acts.specs.declared.comps.CompAt.TheVariants as comp_at
 use Rattle.call_acts.specs.Kills.{is_killing}
 use Rattle.call_acts.specs.declared.kills.KillingAt.{KillingAt}
 use Rattle.call_acts.specs.declared.kills.KillingAt.TheVariants.{LoadComp, LoadLive, Close as kill_close, Draw as kill_draw}
 use Rattle.call_acts.specs.declared.work.Act.{Act as ActOf}
-use Rattle.call_acts.specs.declared.work.Act.TheVariants.{Fill as fill_act, Remove as remove_act, Retype as type_act, Make as make_act, Outside, Tick as tick_act, Flush as flush_act, Kill as kill_act, Untype as untype_act, Map as map_act}
+use Rattle.call_acts.specs.declared.work.Act.TheVariants.{Fill as fill_act, Remove as remove_act, Retype as type_act, Make as make_act, Outside, Tick as tick_act, Flush as flush_act, Kill as kill_act, Untype as untype_act, Map as map_act, MakeComp as comp_act, Invoke as invoke_act, Return as return_act, Touch as touch_act, Share as share_act, Switch as switch_act}
 use Rattle.call_acts.specs.declared.work.WorkStep.TheVariants.{Goes}
 use Rattle.call_acts.specs.WorkSteps.{refuse}
-use Rattle.call_acts.specs.Acts.{dues, made_dues, next_work, starts, killing_dues}
+use Rattle.call_acts.specs.Acts.{dues, made_dues, next_work, starts, killing_dues, invoking_dues, returning_dues}
 use Rattle.call_steps.specs.declared.stages.Stage.{Stage}
 use Rattle.call_steps.specs.declared.stages.Stage.TheVariants.{Undecided}
 use Rattle.call_steps.specs.declared.stages.ActiveCall.{ActiveCall}
 use Rattle.call_steps.specs.Steps.{landed}
 use Rattle.call_steps.specs.View.{Core}
-use Rattle.call_steps.proofs.StepsFit.{cap_one}
 use Rattle.core_invariant.specs.Holding.{Holding, holds_counts}
 use Rattle.core_invariant.specs.Knows.{AreDuesApart, due_of, KnowsAct, NamesAre, is_start, is_counting, goes_on, phase_at}
-use Rattle.core_invariant.specs.Stands.{holds_act, holds_making, holds_in, Stands, holds_killing}
+use Rattle.core_invariant.specs.Stands.{holds_act, holds_making, holds_in, Stands, holds_killing, holds_comp}
 use Rattle.core_invariant.proofs.Carries.{names_on}
 use Rattle.core_invariant.proofs.Loads.{OnlyLooks, step_to, next_at, core_is, call_is, loads_on, decides_on}
 use Rattle.core_invariant.proofs.Refusals.{GoodTook, not_spent}
@@ -56,6 +59,7 @@ start_holds (make_act m) h is = by m.at is
 start_holds (map_act fill) h is = refl
 start_holds (Outside node entry word) h is = refl
 start_holds (tick_act charge) h is = refl
+start_holds (touch_act m) h is = refl
 start_holds (flush_act core) h is = refl
 start_holds (kill_act m) h is = by m.at is
   where
@@ -64,7 +68,21 @@ start_holds (kill_act m) h is = by m.at is
     by (LoadLive life) is = refl
     by (kill_close life word) is = refl
     by (kill_draw life word) is = absurd (false≢true is)
-start_holds (untype_act m) h is = refl
+start_holds (untype_act m) h is = absurd (false≢true is)
+start_holds (share_act p) h is = absurd (false≢true is)
+start_holds (switch_act m) h is = absurd (false≢true is)
+start_holds (comp_act m) h is = by m.at is
+  where
+    by : (at : CompAt) → not (comp_is_marked at) ≡ true → holds_comp m at h ≡ h
+    by comp_at.Load is = refl
+    by (comp_at.Mark word) is = refl
+    by (comp_at.LoadLive word) is = absurd (false≢true is)
+    by (comp_at.Scan word last q) is = absurd (false≢true is)
+    by (comp_at.Close word last) is = absurd (false≢true is)
+    by (comp_at.Store word last entry) is = absurd (false≢true is)
+    by (comp_at.Fill word last) is = absurd (false≢true is)
+start_holds (invoke_act m) h is = refl
+start_holds (return_act m) h is = refl
 
 start_counts : (act : ActOf) → is_start act ≡ true → is_counting act ≡ true
 start_counts (fill_act fill) is = refl
@@ -74,9 +92,24 @@ start_counts (make_act m) is = refl
 start_counts (map_act fill) is = refl
 start_counts (Outside node entry word) is = refl
 start_counts (tick_act charge) is = refl
+start_counts (touch_act m) is = refl
 start_counts (flush_act core) is = refl
 start_counts (kill_act m) is = is
-start_counts (untype_act m) is = refl
+start_counts (untype_act m) is = absurd (false≢true is)
+start_counts (share_act p) is = absurd (false≢true is)
+start_counts (switch_act m) is = absurd (false≢true is)
+start_counts (comp_act m) is = by m.at is
+  where
+    by : (at : CompAt) → not (comp_is_marked at) ≡ true → not (comp_meets_number at) ≡ true
+    by comp_at.Load is = refl
+    by (comp_at.Mark word) is = refl
+    by (comp_at.LoadLive word) is = refl
+    by (comp_at.Scan word last q) is = absurd (false≢true is)
+    by (comp_at.Close word last) is = absurd (false≢true is)
+    by (comp_at.Store word last entry) is = absurd (false≢true is)
+    by (comp_at.Fill word last) is = absurd (false≢true is)
+start_counts (invoke_act m) is = refl
+start_counts (return_act m) is = refl
 
 -- Before its first step an act changes one count at most.
 start_apart : (act : ActOf) → is_start act ≡ true → AreDuesApart (dues act)
@@ -93,6 +126,7 @@ start_apart (make_act m) is = by m.at is
 start_apart (map_act fill) is = one_apart (dues (map_act fill)) (cap_one fill.cap.kind fill.cap.frame fill.cap.arg (pos 1))
 start_apart (Outside node entry word) is = tt
 start_apart (tick_act charge) is = tt
+start_apart (touch_act m) is = tt
 start_apart (flush_act core) is = tt
 start_apart (kill_act m) is = by m.at
   where
@@ -102,6 +136,20 @@ start_apart (kill_act m) is = by m.at
     by (kill_close life word) = one_apart (killing_dues m.comp (kill_close life word)) (omega arith)
     by (kill_draw life word) = one_apart (killing_dues m.comp (kill_draw life word)) (omega arith)
 start_apart (untype_act m) is = absurd (false≢true is)
+start_apart (share_act p) is = tt
+start_apart (switch_act m) is = absurd (false≢true is)
+start_apart (comp_act m) is = by m.at is
+  where
+    by : (at : CompAt) → not (comp_is_marked at) ≡ true → AreDuesApart (comp_dues m at)
+    by comp_at.Load is = tt
+    by (comp_at.Mark word) is = tt
+    by (comp_at.LoadLive word) is = absurd (false≢true is)
+    by (comp_at.Scan word last q) is = absurd (false≢true is)
+    by (comp_at.Close word last) is = absurd (false≢true is)
+    by (comp_at.Store word last entry) is = absurd (false≢true is)
+    by (comp_at.Fill word last) is = absurd (false≢true is)
+start_apart (invoke_act m) is = one_apart (invoking_dues m.comp m.at) (invoking_one m.comp m.at)
+start_apart (return_act m) is = one_apart (returning_dues m.top m.at) (returning_one m.top m.at)
 
 -- A call whose frame is not in its range is refused so, and nothing before that refuses it.
 pub record IsRefusedOutside (setup : Setting) (t : Trace) (c : ℕ) (call : Call) (move : Move) : Type 0 where
@@ -156,6 +204,12 @@ module _ (setup : Setting) (setting : IsSetting setup) (cores : ℕ → Core) (t
   starts_good (map_act fill) is known refused = goes_good (map_act fill) is refl known
   starts_good (Outside node entry word) is known refused = outside_good (refused refl)
   starts_good (tick_act charge) is known refused = goes_good (tick_act charge) is refl known
+  starts_good (touch_act m) is known refused = goes_good (touch_act m) is refl known
   starts_good (flush_act core) is known refused = goes_good (flush_act core) is refl known
   starts_good (kill_act m) is known refused = goes_good (kill_act m) is refl known
   starts_good (untype_act m) is known refused = absurd (false≢true is)
+  starts_good (share_act p) is known refused = absurd (false≢true is)
+  starts_good (switch_act m) is known refused = absurd (false≢true is)
+  starts_good (comp_act m) is known refused = goes_good (comp_act m) is refl known
+  starts_good (invoke_act m) is known refused = goes_good (invoke_act m) is refl known
+  starts_good (return_act m) is known refused = goes_good (return_act m) is refl known

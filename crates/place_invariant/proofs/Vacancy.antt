@@ -135,7 +135,7 @@ none_waits s c x passed = by (other_waiting s c x) refl
         let p = both ((s.grace x).waits e) (not (e == c)) at.0 in
         absurd (false≢true (sym (passed e (let q = at.1 in omega (arith, q)) (differs e c (e == c) refl p.1)) ∙ p.0))
 
-none_unflushed : (s : State) (x : Thing) → ((d : ℕ) → d < s.limits.cores → (s.grace x).unflushed d ≡ false) → flushes_of s x ≡ None
+pub none_unflushed : (s : State) (x : Thing) → ((d : ℕ) → d < s.limits.cores → (s.grace x).unflushed d ≡ false) → flushes_of s x ≡ None
 none_unflushed s x flushed = by (lowest s (s.grace x).unflushed) refl
   where
     by : (o : Option ℕ) → lowest s (s.grace x).unflushed ≡ o → unflushed_by o ≡ None

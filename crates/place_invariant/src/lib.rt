@@ -9,4 +9,6 @@
 //! **Out of the range.** A make whose frame is not in its range is refused where its target was found, or scanned for.
 //!
 //! The lemmas stand in this crate's proofs.
+//!
+//! See docs/PROOF.md, 'Removal'.
 #![tactic(auto)]

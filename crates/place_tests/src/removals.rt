@@ -13,7 +13,7 @@ use test_machine::{AMPLE, FROM_ENTRIES, TO_ENTRIES, is_counted, replays};
 // Nothing is added to the tables of the start, in which the component has four references.
 const AS_AT_THE_START: (&str, u32) = ("", 4);
 
-// The number of the first of these orders behind which the lists do not end with its reply lines, if there is one. The tables are
+// The number of the first of these orders after which the lists do not end with its reply lines, if there is one. The tables are
 // those of the start, with these entry lines added and so many references to the component.
 fn first_unlike<R: Threads + Sync>(
     rt: &R,

@@ -5,6 +5,8 @@
 //!
 //! **Exact.** In every state that a run reaches and the kernel represents, and where the core is in no call, the reply is that
 //! of the definitions, and the kernel then represents the state that they leave.
+//!
+//! See docs/PROOF.md, 'The laws of the sequential kernel': the plain kernel.
 #![tactic(auto)]
 
 mod step;

@@ -28,7 +28,7 @@ cores_of setting k s r =
     ap (λ (l : Limits). l.cores) r.represents.limits ∙ ap (λ (x : State). x.limits.cores) (sym r.state)
     ∙ ap (λ (l : Limits). l.cores) (limits_stay setting r.events)
 
--- Where the making of core c's calls stands, behind the first i: what is left to make and to write gives the whole.
+-- Where the making of core c's calls stands, after the first i: what is left to make and to write gives the whole.
 pub record Midway (setting : Setting) (s : State) (c : ℕ) (calls : List Call) (text : List ℕ) (i : ℕ) (k : Maps) (now : List ℕ) : Type 0
   where
     pub state : State
@@ -61,7 +61,7 @@ one_more setting s c calls text i k k' now now' call less is mid runs =
           ∙ ap (λ l. now ++ plain_lines mid.state c (i + 1) l) (sym cut) ∙ mid.lines;
     }
 
--- From a state that the kernel has reached it has reached some state, behind some of the calls.
+-- From a state that the kernel has reached it has reached some state, after some of the calls.
 pub reached_midway : (setting : Setting) (c : ℕ) (calls : List Call) (text : List ℕ) (i : ℕ) (k k' : Maps) (now : List ℕ)
     → ((s : State) → IsReached setting k s → Midway setting s c calls text i k' now) → HasReached setting k → HasReached setting k'
 reached_midway setting c calls text i k k' now mid h = let m = mid h.state h.reached in record { state = m.state; reached = m.reached }

@@ -2,6 +2,8 @@
 //!
 //! They are printed from its maps by the lines that the tables of final words are printed by. The references to each frame are
 //! counted afresh, by one pass over places, objects, cores and liveness numbers.
+//!
+//! See docs/FORMATS.md, 'Printed text'.
 #![tactic(auto)]
 
 mod frames;

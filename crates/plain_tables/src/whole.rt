@@ -46,7 +46,7 @@ fn whole(alloc: Global, k: &SeqKernel) -> Result<String, AllocError>
 ///
 /// # Errors
 ///
-/// `Memory` where memory is wanting.
+/// `Memory` where memory has run out.
 pub fn tables(alloc: Global, k: &SeqKernel) -> Result<String, Memory>
     // They are the tables of the state that the kernel's maps stand for.
     ensures own { IfOk result (λ text. string_bytes text ≡ tables_of (state_of k.now)) }

@@ -1,4 +1,6 @@
 //! The ways of a call by its plan: what its names and target lead through, where some of its names have been found.
+//!
+//! See docs/MODEL.md, 'Ways', and docs/PROOF.md, 'The invariant of the step machine'.
 #![tactic(auto)]
 
 ghost use Rattle.plan_ways.specs.Laws.{NextOnWay, TargetIsNext, AskedIsLeft, NextIsFirst, AllWays, FoundAreNamed, FoundAreNear};

@@ -1,4 +1,6 @@
 //! The test of preemption: whether a temporal capability that arrives takes the place of the one that runs.
+//!
+//! See docs/MODEL.md, 'A call is a rule': `test`.
 #![tactic(auto)]
 
 ghost use Rattle.std.specs.Prelude.{◌≡◌};

@@ -61,7 +61,7 @@ refusal_same w (WaitedFor x) (Unflushed y) h = absurd h
 refusal_same w (Unflushed x) (When b r) h = absurd h
 refusal_same w (Unflushed x) (WaitedFor y) h = absurd h
 
--- What comes behind a refusal is the same, as far as there is none.
+-- What comes after a refusal is the same, as far as there is none.
 behind : (r p q : Option Reply) → (r ≡ None → p ≡ q) → first_of r p ≡ first_of r q
 behind None p q same = same refl
 behind (Some r) p q same = refl

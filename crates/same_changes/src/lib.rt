@@ -3,6 +3,8 @@
 //! The plain kernel's maps have no more than the machine has, and a state of the definitions has more: what is past the
 //! machine's frames and cores. An open call looks at none of that in a state that a run reaches, so its reply and its change
 //! are the same.
+//!
+//! See docs/PROOF.md, 'The laws of the sequential kernel': the plain kernel.
 #![tactic(auto)]
 
 ghost use Rattle.same_changes.specs.Same.{SameChanges, StaysInRange};

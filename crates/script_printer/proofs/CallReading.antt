@@ -138,7 +138,7 @@ call_read (Delegate a b m) h =
     rw (name_back ws 1 a refl h.0, name_back ws 2 b refl h.1, number_back ws 3 0 4000000000 m refl (omega arith) h.2 (omega arith)) refl
 call_read (Test a b) h = let ws = call_words (Test a b) in rw (name_back ws 1 a refl h.0, name_back ws 2 b refl h.1) refl
 
--- behind a `core` line, the line of a call says that call
+-- after a `core` line, the line of a call says that call
 pub call_back : (head : Head) (c : Call) → head.section ≡ section.List → IsCallWithin c → line_of head (call_words c) ≡ Ok (line.Call c)
 unfolding line_of line_by
 call_back head c e h = rw (call_first c, e, call_read c h) refl

@@ -80,7 +80,7 @@ text_onto (Transfer a b m) rest = simp append_assoc
 text_onto (Delegate a b m) rest = simp append_assoc
 text_onto (Test a b) rest = simp append_assoc
 
--- the line of a call, before the bytes behind it
+-- the line of a call, before the bytes after it
 pub call_onto : (c : Call) (rest : List ℕ) → call_line c ++ rest ≡ line_onto (call_words c) rest
 call_onto c rest = append_assoc (call_text c) (10 ∷ []) rest ∙ text_onto c rest
 

@@ -38,7 +38,7 @@ core_words n = codes "core" ∷ decimal n ∷ []
 abbrev pub order_words : List (List ℕ)
 order_words = codes "order" ∷ []
 
--- between the limits and the order: behind the limits, or in the list of a core
+-- between the limits and the order: after the limits, or in the list of a core
 abbrev pub IsListing : Section → Type 0
 IsListing s = (s ≡ section.Lists) ⊎ (s ≡ section.List)
 

@@ -24,7 +24,7 @@ use Rattle.script_printer.proofs.CallReading.{call_back}
 use Rattle.script_printer.proofs.HeadLines.{speck_words, cores_words, frames_words, grant_words, calls_words, epochs_words, core_words, order_words, IsListing, speck_back, cores_back, frames_back, grant_back, calls_back, epochs_back, core_line_back, order_back}
 use Rattle.script_printer.proofs.ItemWords.{in_front, item_rows, order_rows, item_read}
 
--- behind a draft, these lines say that script, wherever they stand
+-- after a draft, these lines say that script, wherever they stand
 pub record Says (d : Draft_of) (lines : List (List (List ℕ))) (m : Meaning) : Type 0 where
   pub says : (n k : ℕ) → and_then (draft_from d (rows_from n lines)) (λ e. meaning_at e (Whole k)) ≡ Ok m
 
@@ -67,7 +67,7 @@ abbrev pub grants_then : List Grant → List (List (List ℕ)) → List (List (L
 grants_then [] lines = lines
 grants_then (g ∷ gs) lines = grant_words g ∷ grants_then gs lines
 
--- a head behind its last grant
+-- a head after its last grant
 abbrev all_granted : Head → List Grant → Head
 all_granted h gs = record h { section = section.Calls; grants = h.grants ++ gs }
 
@@ -221,7 +221,7 @@ grants_all_say : (gs : List Grant) (h : Head) (lists : List (List Call)) (lines 
 grants_all_say [] h lists lines m e n some all more = absurd (omega arith)
 grants_all_say (g ∷ gs) h lists lines m e n some all more = grants_say g gs h lists lines m e n (All-head GrantFits g gs all) (All-tail GrantFits g gs all) more
 
--- the head of a setup behind its last limit
+-- the head of a setup after its last limit
 abbrev sized : Setting → Head
 sized s = record { section = section.Grants; cores = s.cores; frames = s.frames; grants = []; calls = 4194304; epochs = 65535; core = 0 }
 

@@ -20,13 +20,13 @@ abbrev pub is_text : List ℕ → Bool
 is_text [] = false
 is_text (b ∷ bs) = is_word_byte b && are_word_bytes bs
 
--- a line of words, before the bytes behind it
+-- a line of words, before the bytes after it
 abbrev pub line_onto : List (List ℕ) → List ℕ → List ℕ
 line_onto [] rest = 10 ∷ rest
 line_onto (w ∷ []) rest = w ++ 10 ∷ rest
 line_onto (w ∷ v ∷ ws) rest = w ++ 32 ∷ line_onto (v ∷ ws) rest
 
--- lines of words, before the bytes behind them
+-- lines of words, before the bytes after them
 abbrev pub lines_onto : List (List (List ℕ)) → List ℕ → List ℕ
 lines_onto [] rest = rest
 lines_onto (ws ∷ lines) rest = line_onto ws (lines_onto lines rest)
@@ -77,7 +77,7 @@ word_no_hash b h =
 
 -- ---- where words stand
 
--- the first word begins behind a place
+-- the first word begins after a place
 joined_ends : (line start here : ℕ) (ws : List Span) → RisesFrom (here + 1) ws → joined line start here ws ≡ record { line = line; start = start; end = here } ∷ ws
 joined_ends line start here [] h = refl
 joined_ends line start here (w ∷ ws) h =
@@ -87,7 +87,7 @@ joined_ends line start here (w ∷ ws) h =
 one_byte : (line here x : ℕ) (bs : List ℕ) → is_word_byte x ≡ true → spans line here false (x ∷ bs) ≡ joined line here (here + 1) (spans line (here + 1) false bs)
 one_byte line here x bs h = rw (h, word_no_feed x h, word_no_hash x h) refl
 
--- a word, and what is behind it
+-- a word, and what is after it
 word_spans : (line here x : ℕ) (xs tail : List ℕ) (after : List Span) → is_word_byte x ≡ true → are_word_bytes xs ≡ true
     → spans line (here + suc (length xs)) false tail ≡ after → RisesFrom (here + suc (length xs) + 1) after
     → spans line here false (x ∷ xs ++ tail) ≡ record { line = line; start = here; end = here + suc (length xs) } ∷ after
@@ -115,7 +115,7 @@ word_there source line here w tail e =
     let text : slice_range source here (here + length w) ≡ w = ap (λ k. take k (drop here source)) n ∙ ap (take (length w)) e ∙ take-append_seam w tail in
     ap (λ (t : List ℕ). record { text = t; line = line; start = here; end = here + length w }) text
 
--- the bytes behind a word and one more byte
+-- the bytes after a word and one more byte
 behind_there : (source : List ℕ) (here b : ℕ) (w rest : List ℕ) → drop here source ≡ w ++ b ∷ rest → drop (here + length w + 1) source ≡ rest
 behind_there source here b w rest e =
     let one : drop (length w) (drop here source) ≡ b ∷ rest = ap (drop (length w)) e ∙ drop-append_seam w (b ∷ rest) in

@@ -50,7 +50,7 @@ list_lines core (calls ∷ lists) = core_lines core calls ++ list_lines (core + 
 
 -- ---- the order
 
--- the mark behind an item's core: how far the core goes on
+-- the mark after an item's core: how far the core goes on
 abbrev pub how_text : How → List ℕ
 how_text One = []
 how_text Ready = codes "<"
@@ -61,7 +61,7 @@ how_text Return = codes "."
 abbrev pub item_text : Item → List ℕ
 item_text item = decimal item.core ++ how_text item.how
 
--- what stands before the item at a place, counted from 0: each tenth begins a line, another stands behind a space
+-- what stands before the item at a place, counted from 0: each tenth begins a line, another stands after a space
 abbrev pub before_item : ℕ → List ℕ
 before_item at = if at % 10 == 0 then 10 ∷ [] else codes " "
 

@@ -1,4 +1,6 @@
 //! Prints scripts in their printed form, and the reply lines of calls.
+//!
+//! See docs/FORMATS.md, 'Printed form'.
 #![tactic(auto)]
 
 mod law;

@@ -54,15 +54,15 @@ fn printed(alloc: Global, script: &Script) -> Result<String, AllocError>
     Ok(text)
 }
 
-/// Prints a script: the lines of its setup with both limits, the calls of each core that has some behind
-/// its `core` line, and the items of its order, ten a line, behind an `order` line.
+/// Prints a script: the lines of its setup with both limits, the calls of each core that has some after
+/// its `core` line, and the items of its order, ten a line, after an `order` line.
 ///
 /// Where the script is within the limits and its printed form has at most 20,000 lines, `read` of what is
 /// printed gives the same setup, lists and order.
 ///
 /// # Errors
 ///
-/// `Memory` where memory is wanting.
+/// `Memory` where memory has run out.
 pub fn print(alloc: Global, script: &Script) -> Result<String, Memory>
     // What is answered is the printed form.
     ensures text { IfOk result (λ text. string_bytes text ≡ printed (script_view script.now)) }

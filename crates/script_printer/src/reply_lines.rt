@@ -3,6 +3,7 @@
 ghost use Rattle.std.specs.Prelude.{◌≡◌, ◌++◌, IfOk, OnOk, string_bytes};
 ghost use Rattle.spk_nums.specs.Texts.{reply_line_text};
 
+use line_texts::push_line;
 use spk_nums::{Call, CoreNo, Memory, Reply};
 use std::alloc::{AllocError, Global};
 
@@ -20,8 +21,7 @@ pub fn push_reply_line(
 ) -> Result<(), AllocError>
     ensures { OnOk result (string_bytes text.new ≡ string_bytes text.old ++ reply_line_text core index call.now reply.now) }
 {
-    let core = core.number();
-    write!(text, "{core}.{index} {call} = {reply}\n")
+    push_line(text, core, index, call, reply)
 }
 
 /// The reply line of a call.

@@ -26,7 +26,7 @@ fn printed(rt: &impl Abort, alloc: Global, source: &[u8]) -> Result<String, Fail
 }
 
 #[test]
-fn leading_zeros_and_limits(rt: HostRuntime) -> Result<(), Fail> {
+fn leading_zeros_are_dropped_and_limits_added(rt: HostRuntime) -> Result<(), Fail> {
     let source = b"speck 1\ncores 2\nframes 32\ngrant 100 0 1\ngrant 100 0 1\ncore 0\nlook 007\n";
     let wanted =
         "speck 1\ncores 2\nframes 32\ngrant 100 0 1\ngrant 100 0 1\ncalls 4194304\nepochs 65535\ncore 0\nlook 7\n";
@@ -46,7 +46,7 @@ fn printed_forms_stay(rt: HostRuntime) -> Result<(), Fail> {
 }
 
 #[test]
-fn print_of_print(rt: HostRuntime) -> Result<(), Fail> {
+fn what_was_printed_prints_as_itself(rt: HostRuntime) -> Result<(), Fail> {
     let source =
         b"# scattered\r\nspeck 01\r\ncores 2\nframes\t32\ngrant 100 0 1\ngrant 100 0 1\nepochs 9\ncore 1\n look 1 # one\ncore 0\nlook 2\ncore 1\nlook 03\norder\n\n0\n1< 0! 00.";
     let once = printed(&rt, rt.alloc(), source)?;
@@ -59,7 +59,7 @@ fn print_of_print(rt: HostRuntime) -> Result<(), Fail> {
 }
 
 #[test]
-fn reply_lines(rt: HostRuntime) {
+fn reply_lines_are_written(rt: HostRuntime) {
     let call = Call::Copy {
         a: CapId::new(0),
         t: CapId::new(1),

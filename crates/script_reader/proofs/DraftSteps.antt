@@ -17,7 +17,7 @@ use Rattle.script_reader.specs.Readings.{words_in, lists_of, with_call, calls_of
 
 -- ---- the words of a line
 
--- the words of the line so far, and those behind
+-- the words of the line so far, and those that follow
 pub record Counts (tokens : List Token) (line i n : ℕ) : Type 0 where
   pub so_far : n ≡ i
   pub value : n + words_in line (views (drop i tokens)) ≡ words_in line (views tokens)

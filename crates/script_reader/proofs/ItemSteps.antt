@@ -9,7 +9,7 @@ use Rattle.script_reader.specs.Arguments.{texts}
 use Rattle.script_reader.specs.Orders.{item_of, items_of}
 use Rattle.script_reader.specs.Readings.{BelowCores}
 
--- the items so far, and what the words behind still give
+-- the items so far, and what the words that follow still give
 pub record Adds (cores : ℕ) (old : List Item) (words : List Token) (i : ℕ) (order : List Item) : Type 0 where
   pub value : items_of cores order (texts (drop i words)) ≡ items_of cores old (texts words)
   pub below : BelowCores cores old → BelowCores cores order

@@ -30,7 +30,7 @@ rows_run w (v ∷ vs) =
           ahead ∙ rw (apart, e) (ap (λ (rows : List Row). record { number = w.line; words = w.text ∷ [] } ∷ rows) (sym (rows_run v vs)))
     ]
 
--- the draft so far, and what the lines behind still make of it
+-- the draft so far, and what the lines that follow still make of it
 pub record Goes (old : Draft_of) (tokens : List Token) (at : ℕ) (d : Draft_of) : Type 0 where
   pub value : draft_from d (rows_of (views (drop at tokens))) ≡ draft_from old (rows_of (views tokens))
   pub draft : IsDraft d
@@ -46,7 +46,7 @@ drop_views ts zero = refl
 drop_views [] (suc n) = refl
 drop_views (t ∷ ts) (suc n) = drop_views ts n
 
--- the lines of tokens: the first, and those behind it
+-- the lines of tokens: the first, and those after it
 rows_front : (t : Token) (ts : List Token) (n : ℕ) → n ≡ words_in t.line (views (t ∷ ts)) → rows_of (views (t ∷ ts)) ≡ record { number = t.line; words = texts (take n (t ∷ ts)) } ∷ rows_of (views (drop n (t ∷ ts)))
 rows_front t ts n e =
     let m = words_in t.line (views ts) in

@@ -1,4 +1,4 @@
--- Lines that are carried out today, one after another.
+-- Lines that are supported today, one after another.
 use Rattle.std.proofs.Common.{ℕ, ◌+◌, ◌<◌, ◌≤◌, List, length, get_or, take, drop, Option, Some, None, refl, sym, subst, inl, inr}
 use Rattle.std.proofs.lemmas.List.{drop_all}
 use Rattle.script_tokens.specs.declared.token.Token.{Token}
@@ -8,7 +8,7 @@ use Rattle.script_reader.specs.Readings.{Row, rows_of}
 use Rattle.script_reader.specs.Unbuilt.{IsBuiltLine, IsFirstUnbuiltOf}
 use Rattle.script_reader.proofs.Rows.{Stands, rows_cut, stands, line_words, line_words_are}
 
--- what is first behind a place is first of all
+-- what is first after a place is first of all
 pub record Passes (tokens : List Token) (at : ℕ) : Type 0 where
   pub first : (found : Option ℕ) → IsFirstUnbuiltOf (rows_of (views (drop at tokens))) found → IsFirstUnbuiltOf (rows_of (views tokens)) found
   pub within : at ≤ length tokens

@@ -1,4 +1,4 @@
--- The arguments of a line. A line is the list of its words; the first word is at 0, and its arguments stand behind it.
+-- The arguments of a line. A line is the list of its words; the first word is at 0, and its arguments stand after it.
 use Rattle.std.specs.Prelude.{ℕ, List, Bool, Option, Some, None, Result, Ok, Err, length, map, codes, slice_get, ◌&&◌, nat_le, nat_lt, if◌then◌else◌}
 use Rattle.std.specs.Option.{ok_or}
 use Rattle.std.specs.Str.{bytes_eq}
@@ -49,7 +49,7 @@ core_at words place cores = do
   n ← ok_or (number_of word) S1
   if nat_lt n cores then Ok n else Err S6
 
--- nothing stands behind the last argument, at `place` or later; else S4
+-- nothing stands after the last argument, at `place` or later; else S4
 unfoldable pub end_at : List (List ℕ) → ℕ → Result Unit Cause
 end_at words place = if nat_le (length words) place then Ok tt else Err S4
 

@@ -184,14 +184,14 @@ object_at words = do
   word ← word_at words 1
   ok_or (object_of word) S2
 
--- behind `make thread R F T B`: `C`
+-- after `make thread R F T B`: `C`
 unfoldable pub thread_at : List (List ℕ) → Result Make Cause
 thread_at words = do
   comp ← name_at words 6
   done ← end_at words 7
   Ok (make.Thread comp)
 
--- behind `make tcap R F T B`: `S W`
+-- after `make tcap R F T B`: `S W`
 unfoldable pub tcap_at : List (List ℕ) → Result Make Cause
 tcap_at words = do
   sched ← number_at words 6 0 63
@@ -199,7 +199,7 @@ tcap_at words = do
   done ← end_at words 8
   Ok (make.Tcap sched quality)
 
--- behind `make comp R F T B`: `X P L`
+-- after `make comp R F T B`: `X P L`
 unfoldable pub comp_at : List (List ℕ) → Result Make Cause
 comp_at words = do
   table ← name_at words 6
@@ -208,13 +208,13 @@ comp_at words = do
   done ← end_at words 9
   Ok (make.Comp table pages live)
 
--- behind `make O R F T B` for the other objects: nothing
+-- after `make O R F T B` for the other objects: nothing
 unfoldable pub plain_at : List (List ℕ) → Make → Result Make Cause
 plain_at words what = do
   done ← end_at words 6
   Ok what
 
--- what is made, by the arguments behind `make O R F T B`
+-- what is made, by the arguments after `make O R F T B`
 unfoldable pub made_at : List (List ℕ) → Object → Result Make Cause
 made_at words object.Table = plain_at words make.Table
 made_at words object.Leaf = plain_at words make.Leaf

@@ -19,7 +19,7 @@ use Rattle.script_reader.specs.FirstWords.{first_word}
 use Rattle.script_reader.specs.CallLines.{call_line}
 
 -- what may stand next: the head's lines in turn; then `calls`, `epochs` and `core`, each only before what is later;
--- behind a `core` line also calls; no other line than `order` begins the order of steps
+-- after a `core` line also calls; no other line than `order` begins the order of steps
 abbrev pub may_stand : Section → FirstWord → Bool
 may_stand section.Version first.Speck = true
 may_stand section.Cores first.Cores = true
@@ -60,7 +60,7 @@ frames_line head words = do
   done ← end_at words 2
   Ok (record head { section = section.Grants; frames = n })
 
--- behind the grant of the last core come the limits
+-- after the grant of the last core come the limits
 abbrev pub granted : Head → Grant → Head
 granted head grant =
     record head {
@@ -91,7 +91,7 @@ epochs_line head words = do
   done ← end_at words 2
   Ok (record head { section = section.Lists; epochs = n })
 
--- `core c`: the calls behind are that core's
+-- `core c`: the calls that follow are that core's
 unfoldable pub core_line : Head → List (List ℕ) → Result Head Cause
 core_line head words = do
   c ← core_at words 1 head.cores

@@ -14,7 +14,7 @@ all_digits (b ∷ bs) = is_digit b && all_digits bs
 abbrev pub is_digits : List ℕ → Bool
 is_digits word = nat_lt 0 (length word) && all_digits word
 
--- the number that digits stand for, behind those that stand for n
+-- the number that digits stand for, after those that stand for n
 abbrev pub value_from : ℕ → List ℕ → ℕ
 value_from n [] = n
 value_from n (b ∷ bs) = value_from (10 * n + (b - 48)) bs

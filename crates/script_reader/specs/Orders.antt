@@ -27,7 +27,7 @@ abbrev pub lent_parts : {B : Type 0} → (B → Parts) → Option B → Option P
 lent_parts parts None = None
 lent_parts parts (Some p) = Some (parts p)
 
--- digits with a suffix directly behind
+-- digits with a suffix directly after
 abbrev pub suffixed : List ℕ → Option Parts
 suffixed word = option_and_then (λ last. option_and_then (with_digits (take (length word - 1) word)) (how_of last)) (slice_get word (length word - 1))
 
@@ -58,7 +58,7 @@ item_of cores word = judged cores word (parts_of word)
 abbrev pub with_item : List Item → Item → Result (List Item) Cause
 with_item order item = if nat_lt (length order) 200000 then Ok (order ++ item ∷ []) else Err S9
 
--- the order behind the items of a line, judged from left to right
+-- the order after the items of a line, judged from left to right
 abbrev pub items_of : ℕ → List Item → List (List ℕ) → Result (List Item) Cause
 items_of cores order [] = Ok order
 items_of cores order (word ∷ words) = item_of cores word >>= λ item. with_item order item >>= λ more. items_of cores more words

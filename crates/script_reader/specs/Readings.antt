@@ -33,7 +33,7 @@ pub record Row : Type 0 where
   pub number : ℕ
   pub words : List (List ℕ)
 
--- a word in front of the lines behind: it is of the first of them where that has its number
+-- a word in front of the lines that follow: it is of the first of them where that has its number
 abbrev pub with_word : Word → List Row → List Row
 with_word w [] = record { number = w.line; words = w.text ∷ [] } ∷ []
 with_word w (row ∷ rows) =
@@ -71,16 +71,16 @@ abbrev pub with_line : Draft_of → Line → Draft_of
 with_line d (line.Head head) = record d { head = head }
 with_line d (line.Call call) = record d { lists = with_call d.lists d.head.core call }
 
--- behind the `order` line stand items alone
+-- after the `order` line stand items alone
 abbrev pub is_order : Section → Bool
 is_order section.Order = true
 is_order _ = false
 
--- the draft behind a line before the order of steps
+-- the draft after a line before the order of steps
 unfoldable pub behind_line : Draft_of → List (List ℕ) → Result Draft_of Cause
 behind_line d words = line_of d.head words >>= λ line. Ok (with_line d line)
 
--- the draft behind a line
+-- the draft after a line
 unfoldable pub draft_behind : Draft_of → List (List ℕ) → Result Draft_of Cause
 draft_behind d words =
     if is_order d.head.section
@@ -103,7 +103,7 @@ abbrev pub and_then : {A B : Type 0} → Result A First_fault → (A → Result 
 and_then (Ok x) f = f x
 and_then (Err e) f = Err e
 
--- the draft behind lines, or the first fault
+-- the draft after lines, or the first fault
 abbrev pub draft_from : Draft_of → List Row → Result Draft_of First_fault
 draft_from d [] = Ok d
 draft_from d (row ∷ rows) = and_then (at_line row.number (draft_behind d row.words)) (λ more. draft_from more rows)
@@ -127,7 +127,7 @@ meaning_of d =
       order = d.order;
     }
 
--- the end of the bytes: the byte or line that ended them, S8 or S9; else S7 behind the last line where the last grant is missing
+-- the end of the bytes: the byte or line that ended them, S8 or S9; else S7 after the last line where the last grant is missing
 abbrev pub meaning_at : Draft_of → Ending → Result Meaning First_fault
 meaning_at d (Faulty (NotAscii number)) = Err (record { line = number; cause = S8 })
 meaning_at d (Faulty TooManyLines) = Err (record { line = 20001; cause = S9 })
@@ -156,13 +156,13 @@ pub record IsDraft (d : Draft_of) : Type 0 where
   pub below : BelowCores d.head.cores d.order
   pub before : is_order d.head.section ≡ false → d.order ≡ []
 
--- a line that was taken leaves that value, unless memory was wanting
+-- a line that was taken leaves that value, unless memory has run out
 abbrev pub Takes : {A : Type 0} → Result Unit LineFault → A → Result A Cause → Type 0
 Takes (Ok done) new read = read ≡ Ok new
 Takes (Err (line_fault.Cause c)) new read = read ≡ Err c
 Takes (Err line_fault.Memory) new read = Unit {0}
 
--- an answer that is none tells the first fault, unless memory was wanting
+-- an answer that is none tells the first fault, unless memory has run out
 abbrev pub Fails : {A : Type 0} → ReadFault → Result A First_fault → Type 0
 Fails (read_fault.Script number c) read = read ≡ Err (record { line = number; cause = c })
 Fails read_fault.Memory read = Unit {0}
@@ -172,12 +172,12 @@ abbrev pub fault_at : ℕ → LineFault → ReadFault
 fault_at number (line_fault.Cause c) = read_fault.Script number c
 fault_at number line_fault.Memory = read_fault.Memory
 
--- lines that were taken leave that draft, unless memory was wanting
+-- lines that were taken leave that draft, unless memory has run out
 abbrev pub Leads : {A : Type 0} → Result Unit ReadFault → A → Result A First_fault → Type 0
 Leads (Ok done) new read = read ≡ Ok new
 Leads (Err e) new read = Fails e read
 
--- the answer gives what was to be read, unless memory was wanting
+-- the answer gives what was to be read, unless memory has run out
 abbrev pub Gives : {X A : Type 0} → (X → A) → Result X ReadFault → Result A First_fault → Type 0
 Gives view (Ok x) read = read ≡ Ok (view x)
 Gives view (Err e) read = Fails e read

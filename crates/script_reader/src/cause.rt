@@ -18,7 +18,7 @@ pub enum Cause {
     S2,
     /// The line ends before its last argument.
     S3,
-    /// A word stands behind the last argument.
+    /// A word stands after the last argument.
     S4,
     /// A number is outside its range.
     S5,
@@ -57,7 +57,7 @@ impl fmt::Display for Cause {
 pub enum ReadFault {
     /// The bytes are no script: their first fault, and its line, which counts from 1.
     Script { line: u32, cause: Cause },
-    /// Memory was wanting.
+    /// Memory has run out.
     Memory,
 }
 

@@ -25,9 +25,9 @@ pub enum Section {
     Frames,
     /// A `grant` line.
     Grants,
-    /// A `calls` line, or what stands behind it.
+    /// A `calls` line, or what stands after it.
     Calls,
-    /// An `epochs` line, or what stands behind it.
+    /// An `epochs` line, or what stands after it.
     Epochs,
     /// A `core` line or the `order` line.
     Lists,

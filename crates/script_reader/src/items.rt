@@ -26,7 +26,7 @@ fn how_of(suffix: u8) -> Option<How>
     }
 }
 
-// Digits with a suffix directly behind.
+// Digits with a suffix directly after.
 fn suffixed(word: &[u8]) -> Option<(&[u8], How)>
     ensures value { lent_parts (λ p. record { digits = p.0.now; how = p.1 }) result ≡ suffixed word.now }
     ensures digits { IfSome result (λ p. is_digits p.0.now ≡ true) }

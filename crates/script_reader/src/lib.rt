@@ -1,5 +1,7 @@
 //! Reads scripts: the setup of a machine, a list of calls for each core, and an order of steps, or the
 //! first fault of bytes that are no script.
+//!
+//! See docs/FORMATS.md, 'Script'.
 #![tactic(auto)]
 
 mod arguments;

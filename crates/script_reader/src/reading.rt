@@ -232,7 +232,7 @@ fn read_words<'a>(alloc: Global, source: &'a [u8]) -> Result<Script<'a>, ReadFau
 ///
 /// `Script` where the bytes are no script, with their first fault: lines are judged one after another,
 /// and within a line the number of the line, its bytes, its first word and its arguments from left to
-/// right. `Memory` where memory is wanting.
+/// right. `Memory` where memory has run out.
 pub fn read<'a>(alloc: Global, source: &'a [u8]) -> Result<Script<'a>, ReadFault>
     requires { length source.now < 2 ^ 32 }
     // What is read is what the bytes say, or their first fault.

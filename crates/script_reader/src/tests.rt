@@ -8,7 +8,7 @@ use std::test::*;
 
 const HEAD: &[u8] = b"speck 1\ncores 2\nframes 32\ngrant 100 0 1\ngrant 100 0 1\n";
 
-// A head of five lines, and this behind it, which begins at line 6.
+// A head of five lines, and this after it, which begins at line 6.
 fn behind_head(alloc: Global, text: &[u8]) -> Result<Vec<u8>, Fail> {
     let mut source = Vec::from_slice(alloc, HEAD)?;
     source.extend_from_slice(text)?;
@@ -25,7 +25,7 @@ fn refuses(rt: &impl Abort, alloc: Global, source: &[u8], line: u32, cause: Caus
     }
 }
 
-// Each text behind the head is refused at that line for that cause.
+// Each text after the head is refused at that line for that cause.
 fn refuse_behind(
     rt: &impl Abort,
     alloc: Global,
@@ -40,7 +40,7 @@ fn refuse_behind(
 }
 
 #[test]
-fn heads_that_are_none(rt: HostRuntime) {
+fn heads_that_are_none_are_refused(rt: HostRuntime) {
     let table: [(&[u8], u32, Cause); 26] = [
         (b"", 1, Cause::S7),
         (b"speck 1\ncores 2\nfra", 3, Cause::S2),
@@ -88,7 +88,7 @@ fn heads_that_are_none(rt: HostRuntime) {
 }
 
 #[test]
-fn calls_that_are_none(rt: HostRuntime) -> Result<(), Fail> {
+fn lines_that_are_no_calls_are_refused(rt: HostRuntime) -> Result<(), Fail> {
     refuse_behind(
         &rt,
         rt.alloc(),
@@ -117,7 +117,7 @@ fn calls_that_are_none(rt: HostRuntime) -> Result<(), Fail> {
             (b"core 0\nmake make", 7, Cause::S2),
             (b"core 0\n0.", 7, Cause::S2),
             (b"core 0\n7", 7, Cause::S2),
-            // A missing word: behind a comment, and before another fault.
+            // A missing word: after a comment, and before another fault.
             (b"core 0\ncopy 0 1 # 20", 7, Cause::S3),
             (b"core 0\ncopy 0#1 20", 7, Cause::S3),
             (b"core 0\nretype 0 8", 7, Cause::S3),
@@ -156,7 +156,7 @@ fn calls_that_are_none(rt: HostRuntime) -> Result<(), Fail> {
 }
 
 #[test]
-fn sections_out_of_place(rt: HostRuntime) -> Result<(), Fail> {
+fn sections_out_of_place_are_refused(rt: HostRuntime) -> Result<(), Fail> {
     refuse_behind(
         &rt,
         rt.alloc(),
@@ -187,7 +187,7 @@ fn sections_out_of_place(rt: HostRuntime) -> Result<(), Fail> {
 }
 
 #[test]
-fn bytes_and_lines(rt: HostRuntime) -> Result<(), Fail> {
+fn bytes_and_lines_past_the_limits_are_refused(rt: HostRuntime) -> Result<(), Fail> {
     refuse_behind(
         &rt,
         rt.alloc(),
@@ -228,7 +228,7 @@ fn with_items(alloc: Global, count: u32) -> Result<Vec<u8>, Fail> {
 }
 
 #[test]
-fn most_items(rt: HostRuntime) -> Result<(), Fail> {
+fn the_most_items_are_read_and_one_more_is_refused(rt: HostRuntime) -> Result<(), Fail> {
     let most = with_items(rt.alloc(), 200_000)?;
     assert!(&rt; most.len() < 1_000_000);
     match read(rt.alloc(), &most) {
@@ -380,7 +380,7 @@ fn check_order(rt: &impl Abort, order: &[Item]) {
 }
 
 #[test]
-fn every_call(rt: HostRuntime) -> Result<(), Fail> {
+fn every_call_is_read(rt: HostRuntime) -> Result<(), Fail> {
     let source = behind_head(rt.alloc(), CALLS)?;
     assert!(&rt; source.len() < 1_000_000);
     match read(rt.alloc(), &source) {
@@ -397,7 +397,7 @@ fn every_call(rt: HostRuntime) -> Result<(), Fail> {
 }
 
 #[test]
-fn texts_of_causes(rt: HostRuntime) -> Result<(), Fail> {
+fn causes_have_their_texts(rt: HostRuntime) -> Result<(), Fail> {
     let table = [
         (Cause::S1, "S1 bad number"),
         (Cause::S2, "S2 unknown word"),

@@ -1,4 +1,4 @@
-//! What a script asks for that is not carried out today.
+//! What a script asks for that is not supported today.
 
 ghost use Rattle.std.specs.Prelude.{IsTrue, ◌↔◌};
 ghost use Rattle.script_tokens.specs.Words.{views};
@@ -25,8 +25,8 @@ fn is_built_line(words: &[Token]) -> bool
     }
 }
 
-/// The first line of a script's words that is not carried out today, if there is one: the line of a
-/// call that is not built.
+/// The first line of a script's words that is not supported today, if there is one: the line of a
+/// call that is not supported.
 pub fn first_unbuilt(tokens: &[Token]) -> Option<u32>
     ensures { IsFirstUnbuiltOf (rows_of (views tokens.now)) result }
 {

@@ -14,7 +14,7 @@ use Rattle.script_tokens.specs.declared.token.Token.{Token}
 use Rattle.script_tokens.specs.Words.{Span, joined, spans, spans_of, first_fault, line_of_fault, line_count, ending_from, ending_of, before_fault, word_at, words_of, views, Ascend}
 use Rattle.script_tokens.specs.Scanning.{span_of, IsSlice, after_in, place_after, word_before, last_word, ended, line_after, whole_after, fault_at, is_fault}
 
--- the words of the bytes behind, where the byte before stands at that place
+-- the words of the bytes that follow, where the byte before stands at that place
 abbrev pub behind : Place → ℕ → ℕ → List ℕ → List Span
 behind Between line here bs = spans line here false bs
 behind (Word start) line here bs = joined line start here (spans line here false bs)
@@ -22,7 +22,7 @@ behind Comment line here bs = spans line here true bs
 
 -- ---- words ascend
 
--- each word begins at or behind the place, has a byte, and the next begins behind its end
+-- each word begins at or after the place, has a byte, and the next begins after its end
 abbrev pub RisesFrom : ℕ → List Span → Type 0
 RisesFrom here [] = Unit {0}
 RisesFrom here (w ∷ ws) = (here ≤ w.start) × (w.start < w.end) × RisesFrom (w.end + 1) ws
@@ -186,7 +186,7 @@ before_low line (w ∷ ws) h = let first : w.line ≤ line = h.0 in rw (lt-ltb w
 
 -- ---- the pass
 
--- what the pass keeps: the words so far, and what the bytes behind still give
+-- what the pass keeps: the words so far, and what the bytes that follow still give
 pub record Holds (source : List ℕ) (at : ℕ) (place : Place) (line whole : ℕ) (done : List Span) : Type 0 where
   pub words : done ++ behind place line at (drop at source) ≡ spans 1 0 false source
   pub fault : first_fault line (drop at source) ≡ first_fault 1 source

@@ -13,7 +13,7 @@ is_hash b = b == 35
 abbrev pub is_word_byte : ℕ → Bool
 is_word_byte b = nat_le 33 b && (nat_le b 126 && not (is_hash b))
 
--- the byte behind is a line feed
+-- the next byte is a line feed
 abbrev pub feed_next : Option ℕ → Bool
 feed_next None = false
 feed_next (Some b) = is_feed b

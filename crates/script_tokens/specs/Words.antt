@@ -15,7 +15,7 @@ pub record Span : Type 0 where
   pub start : ℕ
   pub end : ℕ
 
--- the bytes from start up to here are of one word, which goes on where the first of the words behind begins here
+-- the bytes from start up to here are of one word, which goes on where the first of the words that follow begins here
 abbrev pub joined : ℕ → ℕ → ℕ → List Span → List Span
 joined line start here [] = record { line = line; start = start; end = here } ∷ []
 joined line start here (w ∷ ws) =
@@ -67,7 +67,7 @@ abbrev pub line_of_fault : ByteFault → ℕ
 line_of_fault (NotAscii line) = line
 line_of_fault TooManyLines = 20001
 
--- the fault that tokens tells of a source whose first fault is that, unless memory was wanting
+-- the fault that tokens tells of a source whose first fault is that, unless memory has run out
 abbrev pub IsFault : TokenFault → Option ByteFault → Type 0
 IsFault tells.Memory fault = Unit {0}
 IsFault (tells.NotAscii line) fault = fault ≡ Some (NotAscii line)

@@ -1,4 +1,6 @@
 //! Cuts the bytes of a script into words. Each word is lent from the bytes; nothing is copied.
+//!
+//! See docs/FORMATS.md, 'Script'.
 #![tactic(auto)]
 
 mod bytes;

@@ -35,7 +35,7 @@ pub enum TokenFault {
     NotAscii { line: u32 },
     /// A line 20,001 starts, and no earlier line has such a byte.
     TooManyLines,
-    /// Memory was wanting.
+    /// Memory has run out.
     Memory,
 }
 
@@ -64,7 +64,7 @@ enum Place {
     Comment,
 }
 
-// Where the byte at `at` stands, behind one that stands at `place`.
+// Where the byte at `at` stands, after one that stands at `place`.
 fn place_after(place: Place, byte: u8, at: usize) -> Place
     ensures { result ≡ place_after place byte at }
 {
@@ -226,7 +226,7 @@ fn fault(line: u32) -> ByteFault
 ///
 /// The first fault in the order of the lines: `NotAscii` at a line with a byte that may not stand in
 /// a script, also in a comment, and `TooManyLines` where line 20,001 starts and no earlier line has
-/// such a byte. `Memory` where memory is wanting.
+/// such a byte. `Memory` where memory has run out.
 pub fn tokens<'a>(alloc: Global, source: &'a [u8]) -> Result<Vec<Token<'a>>, TokenFault>
     requires { length source.now < 2 ^ 32 }
     ensures words { IfOk result (λ words. (first_fault 1 source.now ≡ None) × (views words.items ≡ words_of source.now)) }

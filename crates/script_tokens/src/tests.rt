@@ -23,7 +23,7 @@ fn check(rt: &impl Abort, alloc: Global, source: &[u8], wanted: &[(&[u8], u32, u
 }
 
 #[test]
-fn words_and_places(rt: HostRuntime) {
+fn words_are_cut_with_their_places(rt: HostRuntime) {
     check(&rt, rt.alloc(), b"", &[]);
     check(&rt, rt.alloc(), b" \t\n\r\n", &[]);
     check(
@@ -51,7 +51,7 @@ fn refuses(rt: &impl Abort, alloc: Global, source: &[u8], fault: TokenFault)
 }
 
 #[test]
-fn first_faults(rt: HostRuntime) -> Result<(), Fail> {
+fn the_first_fault_is_told(rt: HostRuntime) -> Result<(), Fail> {
     refuses(&rt, rt.alloc(), &[200], TokenFault::NotAscii { line: 1 });
     refuses(
         &rt,
@@ -88,7 +88,7 @@ fn first_faults(rt: HostRuntime) -> Result<(), Fail> {
 }
 
 #[test]
-fn words_before_a_fault(rt: HostRuntime) -> Result<(), Fail> {
+fn words_before_a_fault_are_kept(rt: HostRuntime) -> Result<(), Fail> {
     let found = scan(rt.alloc(), b"a b\nc \x01 d\n")?;
     assert_eq!(rt; found.words.len(), 2);
     assert_eq!(rt;

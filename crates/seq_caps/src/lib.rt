@@ -11,6 +11,8 @@
 //! **Ranges.** A `make` takes a frame of a range and an epoch of a liveness number. Both have a word's range where the range
 //! ends within the machine's frames and the epochs within their limit (`IsInRange`), as in every reached state. Of any other
 //! state the contract says nothing, and asks for nothing.
+//!
+//! See docs/MODEL.md, 'A call is a rule'.
 #![tactic(auto)]
 
 mod entries;

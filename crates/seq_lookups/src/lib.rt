@@ -12,6 +12,8 @@
 //! a state that was never reached, its contract has `IsInRange` as a premise, which holds in each reached state.
 //!
 //! **No memory.** Nothing here takes memory, so a refused call leaves the kernel as it was.
+//!
+//! See docs/PROOF.md, 'The laws of the sequential kernel': the plain kernel.
 #![tactic(auto)]
 
 mod changes;

@@ -1,4 +1,4 @@
--- What a retype does with its frame, behind the range that it names.
+-- What a retype does with its frame, after the range that it names.
 use Rattle.std.specs.Prelude.{ℕ}
 use Rattle.spk_nums.specs.declared.kinds.FrameKind.{FrameKind}
 use Rattle.kernel_rules.specs.State.{State}

@@ -11,6 +11,8 @@
 //! **Ranges.** A frame has a word's range where the range that is named ends within the machine's frames, and a touched
 //! page's flags have theirs where a page table maps pages alone (`IsInRange`), as in every reached state. Of any other state
 //! the contract says nothing, and asks for nothing.
+//!
+//! See docs/MODEL.md, 'A call is a rule'.
 #![tactic(auto)]
 
 mod frames;

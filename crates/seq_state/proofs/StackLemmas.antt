@@ -8,7 +8,7 @@ use Rattle.kernel_rules.proofs.Sums.{times_cons, times_append}
 use Rattle.seq_state.specs.declared.stack.Stack.TheInside.{Inside}
 use Rattle.seq_state.specs.Stacks.{stacked, IsStack}
 
--- A blank in the last cell that holds an item leaves the cells behind it blank.
+-- A blank in the last cell that holds an item leaves the cells after it blank.
 pub removed : {A : Type 0} (blank : A) (room len at : ℕ) (cells : List A) → at + 1 ≡ len → IsListed blank room len cells
     → IsListed blank room (len - 1) (slice_set cells at blank)
 removed {A} blank room len at cells is h =

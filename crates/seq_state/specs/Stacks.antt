@@ -9,7 +9,7 @@ use Rattle.seq_state.specs.declared.stack.Stack.TheInside.{Inside}
 abbrev pub stacked : Inside → List ℕ
 stacked a = reverse (take a.len a.cells)
 
--- The cells hold up to 16 frames, and are blank behind them.
+-- The cells hold up to 16 frames, and are blank after them.
 abbrev pub IsStack : Inside → Type 0
 IsStack a = IsListed 0 16 a.len a.cells
 

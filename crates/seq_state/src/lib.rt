@@ -2,6 +2,8 @@
 //!
 //! `SeqKernel` is the state of the definitions (`kernel_rules`) as plain maps. It starts as the start state; its readers
 //! and changes are exact, and take no memory.
+//!
+//! See docs/PROOF.md, 'The laws of the sequential kernel': the plain kernel.
 #![tactic(auto)]
 
 mod counts;

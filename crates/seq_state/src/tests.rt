@@ -170,7 +170,7 @@ fn enters_returns_and_flushes(rt: HostRuntime) -> Result<(), Fail> {
 }
 
 #[test]
-fn stacks(rt: HostRuntime) {
+fn a_stack_holds_what_was_pushed(rt: HostRuntime) {
     let mut stack = Stack::one(FrameNo::new(3));
     stack.push(FrameNo::new(9));
     assert_eq!(rt; stack.len(), 2);

@@ -24,7 +24,7 @@ idle_stays Untyped h = refl
 idle_stays User h = refl
 idle_stays (Kernel x) h = idle_in x h
 
--- So the frame of an idle thread is the same behind the old thread's.
+-- So the frame of an idle thread is the same after the old thread's.
 taken_stays : (s : State) (old h : ℕ) → (thread_in (s.frame h)).runs_on ≡ None → put s.frame old (run_by (s.frame old) None) h ≡ s.frame h
 taken_stays s old h idle = by_test (h == old) refl
   where

@@ -5,6 +5,8 @@
 //! its value, and the kernel then represents the state that they leave. A refused call leaves the kernel as it was.
 //!
 //! **Ranges.** A sum of ticks that has no word stops at the last word that there is. In a reached state no sum comes so far.
+//!
+//! See docs/MODEL.md, 'A call is a rule'.
 #![tactic(auto)]
 
 mod budgets;

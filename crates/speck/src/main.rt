@@ -1,5 +1,7 @@
 //! The program `speck`: standard input, standard output and the words of the command line, handed
 //! to the top call. Its exit status is the number of the call's status.
+//!
+//! See the README, 'Commands'.
 #![tactic(auto)]
 
 ghost use Rattle.std.specs.Prelude.{◌≡◌, [], drop, IfOk, IsErr, IsOkUnless};

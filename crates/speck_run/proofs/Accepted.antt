@@ -1,4 +1,4 @@
--- The lists of a script whose lines are all carried out: their calls are built, and within their limits.
+-- The lists of a script whose lines are all supported: so are their calls, and within their limits.
 use Rattle.std.proofs.Common.{◌≡◌, ℕ, ◌<◌, ◌^◌, Bool, true, false, List, [], ◌∷◌, ◌++◌, length, All, Option, Some, None, Result, Ok, Err, refl, sym, subst, arith, inl, inr}
 use Rattle.std.specs.Prelude.{slice_get, if◌then◌else◌}
 use Rattle.std.specs.Option.{option_and_then, ok_or}
@@ -33,7 +33,7 @@ use Rattle.lone_kernel.specs.Machine.{AreLists}
 abbrev AreBuilt : List (List Call) → Type 0
 AreBuilt lists = All (All IsBuilt) lists
 
--- A line before the order says a call only where its words do, so that call is built.
+-- A line before the order says a call only where its words do, so that call is supported.
 not_call : (read : Result Head Cause) (call : Call) → (read >>= λ head. Ok (line.Head head)) ≡ Ok (line.Call call) → ⊥
 not_call (Ok head) call e = cc
 not_call (Err cause) call e = cc
@@ -106,7 +106,7 @@ line_fits : (d d' : Draft_of) (words : List (List ℕ)) → draft_behind d words
 unfolding draft_behind
 line_fits d d' words e fits built = by_section_fits (is_order d.head.section) d d' words e fits built
 
--- A line that was taken, and the lines behind it.
+-- A line that was taken, and the lines after it.
 record Taken (read : Result Draft_of Cause) (rest : Draft_of → Result Draft_of First_fault) (d' : Draft_of) : Type 0 where
   more : Draft_of
   is : read ≡ Ok more

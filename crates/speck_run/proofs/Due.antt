@@ -1,5 +1,5 @@
 -- What is due is the status that the input has.
-use Rattle.std.proofs.Common.{◌≡◌, ◌⊎◌, ℕ, List, [], ◌∷◌, Option, Some, None, Result, Ok, Err, Bool, IfOk, refl, sym, ap, subst, ◌∙◌, arith, inl, inr, eqb}
+use Rattle.std.proofs.Common.{◌≡◌, ◌⊎◌, ℕ, List, [], ◌∷◌, Option, Some, None, Result, Ok, Err, Bool, IfOk, refl, sym, ap, subst, ◌∙◌, arith, inl, inr, eqb, get_or}
 use Rattle.std.specs.Prelude.{◌≤◌, if◌then◌else◌, length, codes, string_bytes}
 use lib.Pointwise.{pointwise}
 use Rattle.spk_nums.specs.declared.memory.Memory.{Memory as Out_of_memory}
@@ -7,16 +7,16 @@ use Rattle.byte_ends.specs.Ends.{HasRisen, Adds}
 use Rattle.script_tokens.specs.Words.{words_of}
 use Rattle.script_reader.specs.Numerals.{number_of}
 use Rattle.script_reader.specs.Readings.{Row, Meaning, First_fault, rows_of, script_of}
-use Rattle.script_reader.specs.Unbuilt.{IsFirstUnbuiltOf}
+use Rattle.script_reader.specs.Unbuilt.{IsFirstUnbuilt, IsFirstUnbuiltOf}
 use Rattle.load_maker.specs.Loads.{load_text}
 use Rattle.speck_run.specs.declared.words.Command.{Command}
 use Rattle.speck_run.specs.declared.words.Command.TheVariants.{Replay, Run, Plain, Print}
 use Rattle.speck_run.specs.declared.top.Answer.{Answer}
 use Rattle.speck_run.specs.declared.top.Status.{Status}
 use Rattle.speck_run.specs.declared.top.Status.TheVariants.{Done, Words, Script, ReadFault, WriteFault, Memory, TooLong, NotBuilt, Stopped}
-use Rattle.speck_run.specs.Ends.{GivesAll}
+use Rattle.whole_ends.specs.Ends.{GivesAll}
 use Rattle.speck_run.specs.Script.{IsTaken, IsLeft, IsAnswer, IsMade}
-use Rattle.speck_run.specs.Top.{CommandLine, texts_of, Asked, Asks, AsksMake, IsCommand, IsMake, IsNumberOf, IsNumberIn, IsDue, IsDueOf, IsDone, InputMakes, CarriesOut, IsStatusOf, Answers, IsAccepted, Writes, InputRuns}
+use Rattle.speck_run.specs.Top.{CommandLine, texts_of, Asked, Asks, AsksNumber, HasNumber, AsksMake, AsksLoad, IsCommand, IsMake, IsLoad, IsUnderstood, IsNumberOf, IsNumberIn, IsDue, IsDueOf, IsDueOfLoad, IsStatusOfLoad, IsSummary, LeavesLoad, IsDone, InputMakes, CarriesOut, IsStatusOf, Answers, IsAccepted, Writes, InputRuns}
 
 -- There is one first line that is not carried out, or none.
 first_same : (rows : List Row) (a b : Option ℕ) → IsFirstUnbuiltOf rows a → IsFirstUnbuiltOf rows b → a ≡ b
@@ -59,8 +59,8 @@ one_word words Run p = ap length p
 one_word words Plain p = ap length p
 one_word words Print p = ap length p
 
-asks_apart : (words : CommandLine) (command : Command) → Asks words command → IsMake words → ⊥
-asks_apart words command p m = let one : length (texts_of words) ≡ 1 = one_word words command p in let two : length (texts_of words) ≡ 2 = ap length m.asks.asks in omega arith
+asks_apart : (name : List ℕ) (words : CommandLine) (command : Command) → Asks words command → HasNumber name words → ⊥
+asks_apart name words command asks m = let one : length (texts_of words) ≡ 1 = one_word words command asks in let two : length (texts_of words) ≡ 2 = ap length m.asks.asks in omega arith
 
 -- They ask for one number.
 second_same : (v w x y : List ℕ) → v ∷ x ∷ [] ≡ w ∷ y ∷ [] → x ≡ y
@@ -70,16 +70,27 @@ number_same : (o : Option ℕ) (m n : ℕ) → o ≡ Some m → o ≡ Some n →
 number_same o m n p q = cc
 
 -- The number of such words is that of their digits.
-pub number_told : (words : CommandLine) (digits : List ℕ) (o : Option ℕ) → texts_of words ≡ codes "make" ∷ digits ∷ [] → IsNumberIn digits o → IsNumberOf words o
-number_told words digits (Some n) e h = record { digits = digits; asks = e; says = h.0; range = h.1 }
-number_told words digits None e h = λ m.
+pub number_told : (name : List ℕ) (words : CommandLine) (digits : List ℕ) (o : Option ℕ) → texts_of words ≡ name ∷ digits ∷ [] → IsNumberIn digits o → IsNumberOf name words o
+number_told name words digits (Some n) e h = record { digits = digits; asks = e; says = h.0; range = h.1 }
+number_told name words digits None e h = λ m.
     let same : digits ≡ m.asks.digits = second_same _ _ _ _ (sym e ∙ m.asks.asks) in
     h m.number (ap number_of same ∙ m.asks.says) m.asks.range
 
-make_same : (words : CommandLine) (m n : ℕ) → AsksMake words m → AsksMake words n → m ≡ n
-make_same words m n p q =
+numbers_same : (name : List ℕ) (words : CommandLine) (m n : ℕ) → AsksNumber name words m → AsksNumber name words n → m ≡ n
+numbers_same name words m n p q =
     let digits : p.digits ≡ q.digits = second_same _ _ _ _ (sym p.asks ∙ q.asks) in
     number_same (number_of p.digits) m n p.says (ap number_of digits ∙ q.says)
+
+-- And for one thing.
+first_letter : List (List ℕ) → ℕ
+first_letter texts = get_or (get_or texts 0 []) 0 0
+
+make_apart : (words : CommandLine) → IsMake words → IsLoad words → ⊥
+unfolding first_letter
+make_apart words m l =
+    let made : first_letter (texts_of words) ≡ 109 = ap first_letter m.asks.asks in
+    let loaded : first_letter (texts_of words) ≡ 108 = ap first_letter l.asks.asks in
+    omega arith
 
 -- An input that a command takes is a script, and no line of it is left.
 taken_fault : (command : Command) (bytes : List ℕ) (f : First_fault) → IsTaken command bytes → script_of bytes ≡ Err f → ⊥
@@ -157,7 +168,7 @@ due_input words left left' f f' command bytes WriteFault text asks input small d
 due_input words left left' f f' command bytes Memory text asks input small d = absurd d
 due_input words left left' f f' command bytes TooLong text asks input small d = absurd d
 due_input words left left' f f' command bytes (NotBuilt line) text asks input small d = (
-  record { command = command; asks = asks; bytes = bytes; input = input; small = small; leaves = d.0 },
+  inl record { command = command; asks = asks; bytes = bytes; input = input; small = small; leaves = d.0 },
   d.1,
 )
 due_input words left left' f f' command bytes Stopped text asks input small d = (
@@ -194,7 +205,8 @@ module _ (words : CommandLine) (command : Command) (asks : Asks words command) w
   makes_as : (left left' : Option (List ℕ)) (f f' : ℕ) (text : List ℕ) → IsDone (record { words = words; left = left; left' = left'; faults = f; faults' = f' }) text →
       InputMakes command (IsAnswer command) left left' text
   makes_as left left' f f' text (inl d) = subst (λ (c : Command). InputMakes c (IsAnswer c) left left' text) (asks_same words d.command command d.asks asks) d.makes
-  makes_as left left' f f' text (inr d) = absurd (asks_apart words command asks record { number = d.number; asks = d.asks })
+  makes_as left left' f f' text (inr (inl d)) = absurd (asks_apart (codes "make") words command asks record { number = d.number; asks = d.asks })
+  makes_as left left' f f' text (inr (inr d)) = absurd (asks_apart (codes "load") words command asks record { number = d.number; asks = d.asks })
 
   -- What is due for an input that the source tells.
   status_due : (left : List ℕ) (left' : Option (List ℕ)) (f f' : ℕ) (s : Status) (text : List ℕ) →
@@ -209,7 +221,8 @@ module _ (words : CommandLine) (command : Command) (asks : Asks words command) w
   status_due left left' f f' WriteFault text d = absurd d
   status_due left left' f f' Memory text d = absurd d
   status_due left left' f f' TooLong text (i, d, t) = inl (omega (arith, d.there))
-  status_due left left' f f' (NotBuilt line) text (d, t) =
+  status_due left left' f f' (NotBuilt line) text (inr d, t) = absurd (asks_apart (codes "load") words command asks record { number = d.number; asks = d.asks })
+  status_due left left' f f' (NotBuilt line) text (inl d, t) =
       inl (subst (λ (c : Command). IsStatusOf c left (NotBuilt line)) (asks_same words d.command command d.asks asks)
       (subst (λ (l : List ℕ). IsStatusOf d.command l (NotBuilt line)) d.input.all (d.small, d.leaves)))
 
@@ -264,24 +277,112 @@ writes_due a held held' (NotBuilt line) text d w = subst (λ (t : List ℕ). Add
 pub stops_run : (a : Asked) (s : Status) (text : List ℕ) → IsDue a s text → s ≡ Stopped → InputRuns a.words a.left a.left'
 stops_run a s text d e = (subst (λ (due : Status). IsDue a due text) e d).0
 
--- ---- the script of a number
+-- ---- the script of a number, and its summary
+
+-- Words that ask for no number's script and no number's summary, and for no command, ask for nothing.
+pub nothing_asked : (words : CommandLine) → (IsCommand words → ⊥) → (IsMake words → ⊥) → (IsLoad words → ⊥) → IsUnderstood words → ⊥
+nothing_asked words no_command no_make no_load (inl c) = no_command c
+nothing_asked words no_command no_make no_load (inr (inl m)) = no_make m
+nothing_asked words no_command no_make no_load (inr (inr l)) = no_load l
+
+-- Words that ask for something of a number ask for no command.
+no_command : (name : List ℕ) (words : CommandLine) → HasNumber name words → IsCommand words → ⊥
+no_command name words m c = asks_apart name words c.command c.asks m
 
 module _ (words : CommandLine) (number : ℕ) (asks : AsksMake words number) where
   understood : IsMake words
   understood = record { number = number; asks = asks }
 
   apart : IsCommand words → ⊥
-  apart c = asks_apart words c.command c.asks understood
+  apart = no_command (codes "make") words understood
+
+  not_load : IsLoad words → ⊥
+  not_load = make_apart words understood
 
   -- Nothing but its text is due.
   pub load_due : (left left' : Option (List ℕ)) (f f' : ℕ) (s : Status) (text : List ℕ) → IsDue (record { words = words; left = left; left' = left'; faults = f; faults' = f' }) s text → (s ≡ Done) × (text ≡ load_text number)
   load_due left left' f f' Done text (inl d) = absurd (apart record { command = d.command; asks = d.asks })
-  load_due left left' f f' Done text (inr d) = (refl, d.is_text ∙ ap load_text (make_same words d.number number d.asks asks))
-  load_due left left' f f' Words text d = absurd (d.0 (inr understood))
+  load_due left left' f f' Done text (inr (inl d)) = (refl, d.is_text ∙ ap load_text (numbers_same (codes "make") words d.number number d.asks asks))
+  load_due left left' f f' Done text (inr (inr d)) = absurd (not_load record { number = d.number; asks = d.asks })
+  load_due left left' f f' Words text d = absurd (d.0 (inr (inl understood)))
   load_due left left' f f' (Script line cause) text d = absurd (apart d.0)
   load_due left left' f f' ReadFault text d = absurd (apart d.0)
   load_due left left' f f' WriteFault text d = absurd d
   load_due left left' f f' Memory text d = absurd d
   load_due left left' f f' TooLong text d = absurd (apart d.0)
-  load_due left left' f f' (NotBuilt line) text d = absurd (apart record { command = d.0.command; asks = d.0.asks })
+  load_due left left' f f' (NotBuilt line) text (inl d, t) = absurd (apart record { command = d.command; asks = d.asks })
+  load_due left left' f f' (NotBuilt line) text (inr d, t) = absurd (not_load record { number = d.number; asks = d.asks })
   load_due left left' f f' Stopped text d = absurd (apart record { command = Run; asks = d.0.asks })
+
+module _ (words : CommandLine) (number : ℕ) (asks : AsksLoad words number) where
+  sums_up : IsLoad words
+  sums_up = record { number = number; asks = asks }
+
+  no_script : IsCommand words → ⊥
+  no_script = no_command (codes "load") words sums_up
+
+  same_load : (n : ℕ) → AsksLoad words n → n ≡ number
+  same_load n other = numbers_same (codes "load") words n number other asks
+
+  -- Nothing but its summary is due, or the line of its first line that is not supported.
+  pub summary_due : (left left' : Option (List ℕ)) (f f' : ℕ) (s : Status) (text : List ℕ) → IsDue (record { words = words; left = left; left' = left'; faults = f; faults' = f' }) s text → IsDueOfLoad number s text
+  summary_due left left' f f' Done text (inl d) = absurd (no_script record { command = d.command; asks = d.asks })
+  summary_due left left' f f' Done text (inr (inl d)) = absurd (make_apart words record { number = d.number; asks = d.asks } sums_up)
+  summary_due left left' f f' Done text (inr (inr d)) = subst (λ n. IsDueOfLoad n Done text) (same_load d.number d.asks) (d.supported, d.is_text)
+  summary_due left left' f f' Words text d = absurd (d.0 (inr (inr sums_up)))
+  summary_due left left' f f' (Script line cause) text d = absurd (no_script d.0)
+  summary_due left left' f f' ReadFault text d = absurd (no_script d.0)
+  summary_due left left' f f' WriteFault text d = absurd d
+  summary_due left left' f f' Memory text d = absurd d
+  summary_due left left' f f' TooLong text d = absurd (no_script d.0)
+  summary_due left left' f f' (NotBuilt line) text (inl d, t) = absurd (no_script record { command = d.command; asks = d.asks })
+  summary_due left left' f f' (NotBuilt line) text (inr d, t) = subst (λ n. IsDueOfLoad n (NotBuilt line) text) (same_load d.number d.asks) (d.first, t)
+  summary_due left left' f f' Stopped text d = absurd (no_script record { command = Run; asks = d.0.asks })
+
+  -- What is due for the number is due.
+  pub due_load : (left left' : Option (List ℕ)) (f f' : ℕ) (s : Status) (text : List ℕ) → IsDueOfLoad number s text → IsDue (record { words = words; left = left; left' = left'; faults = f; faults' = f' }) s text
+  due_load left left' f f' Done text d = inr (inr record { number = number; asks = asks; supported = d.0; is_text = d.1 })
+  due_load left left' f f' Words text d = absurd d
+  due_load left left' f f' (Script line cause) text d = absurd d
+  due_load left left' f f' ReadFault text d = absurd d
+  due_load left left' f f' WriteFault text d = absurd d
+  due_load left left' f f' Memory text d = absurd d
+  due_load left left' f f' TooLong text d = absurd d
+  due_load left left' f f' (NotBuilt line) text d = (inr record { number = number; asks = asks; first = d.0 }, d.1)
+  due_load left left' f f' Stopped text d = absurd d
+
+  pub answer_of_load : (left left' : Option (List ℕ)) (f f' : ℕ) (r : Result Answer Out_of_memory) → IfOk r (λ answer. IsDueOfLoad number answer.status (string_bytes answer.text)) →
+      IfOk r (λ answer. IsDue (record { words = words; left = left; left' = left'; faults = f; faults' = f' }) answer.status (string_bytes answer.text))
+  answer_of_load left left' f f' (Ok answer) d = due_load left left' f f' answer.status (string_bytes answer.text) d
+  answer_of_load left left' f f' (Err e) d = tt
+
+-- A number's summary has one status.
+pub load_status : (number : ℕ) (s due : Status) (text : List ℕ) → IsDueOfLoad number s text → IsStatusOfLoad number due → s ≡ due
+load_status number Done Done text d h = refl
+load_status number Done (NotBuilt line) text d h = let e = first_same (rows_of (words_of (load_text number))) None (Some line) d.0 h in cc
+load_status number Done Words text d h = absurd h
+load_status number Done (Script line cause) text d h = absurd h
+load_status number Done ReadFault text d h = absurd h
+load_status number Done WriteFault text d h = absurd h
+load_status number Done Memory text d h = absurd h
+load_status number Done TooLong text d h = absurd h
+load_status number Done Stopped text d h = absurd h
+load_status number (NotBuilt line) Done text d h = let e = first_same (rows_of (words_of (load_text number))) (Some line) None d.0 h in cc
+load_status number (NotBuilt line) (NotBuilt line') text d h = let e = first_same (rows_of (words_of (load_text number))) (Some line) (Some line') d.0 h in cc
+load_status number (NotBuilt line) Words text d h = absurd h
+load_status number (NotBuilt line) (Script line' cause) text d h = absurd h
+load_status number (NotBuilt line) ReadFault text d h = absurd h
+load_status number (NotBuilt line) WriteFault text d h = absurd h
+load_status number (NotBuilt line) Memory text d h = absurd h
+load_status number (NotBuilt line) TooLong text d h = absurd h
+load_status number (NotBuilt line) Stopped text d h = absurd h
+load_status number Words due text d h = absurd d
+load_status number (Script line cause) due text d h = absurd d
+load_status number ReadFault due text d h = absurd d
+load_status number WriteFault due text d h = absurd d
+load_status number Memory due text d h = absurd d
+load_status number TooLong due text d h = absurd d
+load_status number Stopped due text d h = absurd d
+
+pub summary_done : (number : ℕ) (s : Status) (text : List ℕ) → IsDueOfLoad number s text → s ≡ Done → IsSummary number text
+summary_done number s text d e = (subst (λ (due : Status). IsDueOfLoad number due text) e d).1

@@ -6,13 +6,14 @@ use Rattle.std.proofs.lemmas.List.{get_or_past}
 use Rattle.spk_nums.specs.Setting.{Setting, IsSetting}
 use Rattle.spk_nums.specs.declared.calls.Call.{Call}
 use Rattle.spk_nums.specs.declared.steps.Item.{Item}
+use Rattle.kernel_rules.specs.Laws.{ticks}
 use Rattle.kernel_history.specs.Trace.{Trace, state_after, calls_of, decisions_of}
 use Rattle.kernel_history.specs.Order.{IsIdle, HasCalls, FollowsItems, FollowsCores, Follows, list_of}
 use Rattle.kernel_history.specs.Tables.{tables_of}
 use Rattle.kernel_history.specs.Text.{reply_lines, text_of}
 use Rattle.kernel_history.proofs.Idle.{all_idle}
 use Rattle.flight.specs.Made.{ready_after, IsMade}
-use Rattle.flight.specs.Histories.{MadeHistories}
+use Rattle.flight.specs.Histories.{IsHistory, MadeHistories}
 use Rattle.call_steps.specs.declared.stages.ActiveCall.{ActiveCall}
 use Rattle.flight.proofs.Phases.{made_of_its_cores}
 use Rattle.lone_kernel.specs.GivenSteps.{GivenSteps}
@@ -21,6 +22,8 @@ use Rattle.lone_kernel.specs.Stands.{StandsFor}
 use Rattle.lone_kernel.proofs.Advance.{phase_is}
 use Rattle.lone_kernel.proofs.Runs.{none_of}
 use Rattle.speck_run.specs.Orders.{GoesByItems, RunsCoresOut}
+use Rattle.load_summary.specs.Summaries.{summary_text}
+use Rattle.speck_run.specs.Summary.{GivenSummary}
 use Rattle.speck_run.specs.Written.{lines_of}
 
 -- a machine that stands for a trace in which its cores are idle
@@ -76,20 +79,41 @@ module _ (setup : Setting) (lists : List (List Call)) (items : List Item) (k0 k1
         order = record { ordered = a.after; by_items = subst (λ l. FollowsItems (ready_after setup) l items [] a.after) lists0 items_follow; by_cores = by_cores };
       }
 
-  -- the text of a machine at the end of its run is that of given steps
-  pub given : (histories : MadeHistories) (r : IsRun setup lists items k2) (tables text : List ℕ) → tables ≡ tables_of (state_after k2.setup r.trace) → text ≡ lines_of lists k2.decisions ++ tables →
-      GivenSteps setup lists items text
-  given histories r tables text shown is =
-      let s2 : k2.setup ≡ setup = setup2 ∙ (setup1 ∙ setup0) in
-      let l2 : k2.lists ≡ lists = lists2 ∙ (lists1 ∙ lists0) in
-      let cores2 : k2.setup.cores ≡ length lists = ap (λ s. s.cores) s2 ∙ sym one_each in
-      let calls : HasCalls k2.lists r.trace = all_calls k2 r.trace (subst IsSetting (sym s2) setting) r.stands r.idle (ap length l2 ∙ sym cores2) in
-      let lines : lines_of lists k2.decisions ≡ reply_lines (calls_of r.trace) (decisions_of r.trace) =
-      ap (λ l. lines_of l k2.decisions) (sym l2) ∙ lines_are k2 r.trace (subst IsSetting (sym s2) setting) r.stands r.idle calls in
-      record {
-        trace = r.trace;
-        history = histories setup setting r.trace (subst (λ s. IsMade s r.trace) s2 r.stands.made);
-        calls = subst (λ l. HasCalls l r.trace) l2 calls;
-        order = r.order;
-        is_text = is ∙ ap (λ x. x ++ tables) lines ∙ ap (λ x. reply_lines (calls_of r.trace) (decisions_of r.trace) ++ x) shown ∙ ap (λ s. text_of s r.trace) s2;
-      }
+  setup_same : k2.setup ≡ setup
+  setup_same = setup2 ∙ (setup1 ∙ setup0)
+
+  lists_same : k2.lists ≡ lists
+  lists_same = lists2 ∙ (lists1 ∙ lists0)
+
+  module _ (r : IsRun setup lists items k2) where
+    calls_are : HasCalls k2.lists r.trace
+    calls_are =
+        let cores : k2.setup.cores ≡ length lists = ap (λ s. s.cores) setup_same ∙ sym one_each in
+        all_calls k2 r.trace (subst IsSetting (sym setup_same) setting) r.stands r.idle (ap length lists_same ∙ sym cores)
+
+    history_is : MadeHistories → IsHistory setup r.trace
+    history_is histories = histories setup setting r.trace (subst (λ s. IsMade s r.trace) setup_same r.stands.made)
+
+    -- the text of a machine at the end of its run is that of given steps
+    pub given : (histories : MadeHistories) (tables text : List ℕ) → tables ≡ tables_of (state_after k2.setup r.trace) → text ≡ lines_of lists k2.decisions ++ tables → GivenSteps setup lists items text
+    given histories tables text shown is =
+        let lines : lines_of lists k2.decisions ≡ reply_lines (calls_of r.trace) (decisions_of r.trace) =
+        ap (λ l. lines_of l k2.decisions) (sym lists_same) ∙ lines_are k2 r.trace (subst IsSetting (sym setup_same) setting) r.stands r.idle calls_are in
+        record {
+          trace = r.trace;
+          history = history_is histories;
+          calls = subst (λ l. HasCalls l r.trace) lists_same calls_are;
+          order = r.order;
+          is_text = is ∙ ap (λ x. x ++ tables) lines ∙ ap (λ x. reply_lines (calls_of r.trace) (decisions_of r.trace) ++ x) shown ∙ ap (λ s. text_of s r.trace) setup_same;
+        }
+
+    -- and its summary
+    pub summed_up : (histories : MadeHistories) (total : ℕ) (text : List ℕ) → total ≡ ticks (state_after k2.setup r.trace) → text ≡ summary_text k2.decisions total → GivenSummary setup lists items text
+    summed_up histories total text shown is = record {
+      trace = r.trace;
+      history = history_is histories;
+      calls = subst (λ l. HasCalls l r.trace) lists_same calls_are;
+      order = r.order;
+      is_text = is ∙ ap (summary_text k2.decisions) shown ∙ ap (λ ds. summary_text ds (ticks (state_after k2.setup r.trace))) r.stands.decisions
+          ∙ ap (λ (s : Setting). summary_text (decisions_of r.trace) (ticks (state_after s r.trace))) setup_same;
+    }

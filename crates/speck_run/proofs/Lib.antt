@@ -1,6 +1,5 @@
 pub mod ByItems
 pub mod Finish
-pub mod Pieces
 pub mod OneWord
 pub mod Accepted
 pub mod Due

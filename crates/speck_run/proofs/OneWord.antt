@@ -35,3 +35,9 @@ two_words bytes (x ∷ y ∷ []) w v text two is other test =
     ap (λ l. l ∷ bytes y ∷ []) (ap bytes (sym is) ∙ bytes_same (bytes w) text (sym test))
     ∙ ap (λ l. text ∷ l ∷ []) (ap bytes (sym other))
 two_words bytes (x ∷ y ∷ z ∷ ws) w v text two is other test = absurd (omega arith)
+
+-- the first word of such words is that text
+pub first_word : {S : Type 0} (bytes : S → List ℕ) (ws : List S) (w : S) (text digits : List ℕ) → w ≡ get_or ws 0 w → map bytes ws ≡ text ∷ digits ∷ [] → pointwise eqb (bytes w) text ≡ true
+first_word bytes [] w text digits is same = cc
+first_word bytes (x ∷ ws) w text digits is same =
+    ap (λ l. pointwise eqb l text) (ap bytes is ∙ head_inj (bytes x) text (map bytes ws) (digits ∷ []) same) ∙ bytes_own text

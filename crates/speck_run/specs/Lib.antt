@@ -1,5 +1,5 @@
 pub mod Orders
 pub mod Written
-pub mod Ends
 pub mod Script
+pub mod Summary
 pub mod Top

@@ -10,12 +10,14 @@ use Rattle.script_reader.specs.declared.cause.Cause.{Cause}
 use Rattle.script_reader.specs.Causes.{cause_text}
 use Rattle.script_reader.specs.Numerals.{number_of}
 use Rattle.script_reader.specs.Readings.{Meaning}
-use Rattle.load_maker.specs.Loads.{load_text}
+use Rattle.script_reader.specs.Unbuilt.{IsFirstUnbuilt}
+use Rattle.load_maker.specs.Loads.{script_made, load_text}
 use Rattle.speck_run.specs.declared.words.Command.{Command}
 use Rattle.speck_run.specs.declared.words.Command.TheVariants.{Replay, Run, Plain, Print}
 use Rattle.speck_run.specs.declared.top.Status.{Status}
 use Rattle.speck_run.specs.declared.top.Status.TheVariants.{Done, Words, Script, ReadFault, WriteFault, Memory, TooLong, NotBuilt, Stopped}
-use Rattle.speck_run.specs.Ends.{Gives, GivesAll, AddsFront}
+use Rattle.whole_ends.specs.Ends.{Gives, GivesAll, AddsFront}
+use Rattle.speck_run.specs.Summary.{GivenSummary}
 use Rattle.speck_run.specs.Script.{IsFirstFault, IsAnswer, IsTaken, IsLeft, IsMade}
 
 -- A command line: the words after the program's name.
@@ -32,22 +34,36 @@ Asks words Run = texts_of words ≡ codes "run" ∷ []
 Asks words Plain = texts_of words ≡ codes "plain" ∷ []
 Asks words Print = texts_of words ≡ codes "print" ∷ []
 
--- The words ask for the script of a number: `make`, and the number, from 0 to 4,294,967,295, as a script writes numbers.
-pub record AsksMake (words : CommandLine) (number : ℕ) : Type 0 where
+-- The words ask for something of a number: this word, and the number, from 0 to 4,294,967,295, as a script writes numbers.
+pub record AsksNumber (name : List ℕ) (words : CommandLine) (number : ℕ) : Type 0 where
   pub digits : List ℕ
-  pub asks : texts_of words ≡ codes "make" ∷ digits ∷ []
+  pub asks : texts_of words ≡ name ∷ digits ∷ []
   pub says : number_of digits ≡ Some number
   pub range : number < 2 ^ 32
 
--- The words ask for the script of some number.
-pub record IsMake (words : CommandLine) : Type 0 where
+-- The words ask for it of some number.
+pub record HasNumber (name : List ℕ) (words : CommandLine) : Type 0 where
   pub number : ℕ
-  pub asks : AsksMake words number
+  pub asks : AsksNumber name words number
 
--- The number whose script the words ask for, or none where they ask for none.
-abbrev pub IsNumberOf : CommandLine → Option ℕ → Type 0
-IsNumberOf words (Some number) = AsksMake words number
-IsNumberOf words None = IsMake words → ⊥
+-- The words ask for the script of a number.
+abbrev pub AsksMake : CommandLine → ℕ → Type 0
+AsksMake words number = AsksNumber (codes "make") words number
+
+-- The words ask for the summary of the script of a number.
+abbrev pub AsksLoad : CommandLine → ℕ → Type 0
+AsksLoad words number = AsksNumber (codes "load") words number
+
+abbrev pub IsMake : CommandLine → Type 0
+IsMake words = HasNumber (codes "make") words
+
+abbrev pub IsLoad : CommandLine → Type 0
+IsLoad words = HasNumber (codes "load") words
+
+-- The number of which the words ask for this, or none where they do not.
+abbrev pub IsNumberOf : List ℕ → CommandLine → Option ℕ → Type 0
+IsNumberOf name words (Some number) = AsksNumber name words number
+IsNumberOf name words None = HasNumber name words → ⊥
 
 -- The number below 2^32 for which the digits stand, or none where they stand for none.
 abbrev pub IsNumberIn : List ℕ → Option ℕ → Type 0
@@ -61,7 +77,7 @@ pub record IsCommand (words : CommandLine) : Type 0 where
 
 -- The words ask for something.
 abbrev pub IsUnderstood : CommandLine → Type 0
-IsUnderstood words = IsCommand words ⊎ IsMake words
+IsUnderstood words = IsCommand words ⊎ (IsMake words ⊎ IsLoad words)
 
 -- The command for which the words ask, or none where they ask for no command.
 abbrev pub IsCommandOf : CommandLine → Option Command → Type 0
@@ -137,14 +153,31 @@ pub record IsTextOf (a : Asked) (text : List ℕ) : Type 0 where
   pub makes : InputMakes command (IsAnswer command) a.left a.left' text
 
 -- The words ask for the script of a number, and the text is its text.
-pub record IsLoad (words : CommandLine) (text : List ℕ) : Type 0 where
+pub record MakesText (words : CommandLine) (text : List ℕ) : Type 0 where
   pub number : ℕ
   pub asks : AsksMake words number
   pub is_text : text ≡ load_text number
 
+-- The text is the summary of what `replay` makes of the script of a number.
+abbrev pub IsSummary : ℕ → List ℕ → Type 0
+IsSummary number text = GivenSummary (script_made number).setup (script_made number).lists (script_made number).order text
+
+-- The words ask for the summary of the script of a number, each of whose lines is supported today, and the text is that summary.
+pub record SumsUp (words : CommandLine) (text : List ℕ) : Type 0 where
+  pub number : ℕ
+  pub asks : AsksLoad words number
+  pub supported : IsFirstUnbuilt (load_text number) None
+  pub is_text : IsSummary number text
+
+-- The words ask for the summary of the script of a number of which this line is the first that is not supported today.
+pub record LeavesLoad (words : CommandLine) (line : ℕ) : Type 0 where
+  pub number : ℕ
+  pub asks : AsksLoad words number
+  pub first : IsFirstUnbuilt (load_text number) (Some line)
+
 -- The text is that for which the words ask.
 abbrev pub IsDone : Asked → List ℕ → Type 0
-IsDone a text = IsTextOf a text ⊎ IsLoad a.words text
+IsDone a text = IsTextOf a text ⊎ (MakesText a.words text ⊎ SumsUp a.words text)
 
 -- The status is due and the text is due with it: the cause of the status stands, and the text is its line or what the
 -- command makes of the input. Words are judged first, then reading, then the script.
@@ -154,7 +187,7 @@ IsDue a Words text = (IsUnderstood a.words → ⊥) × (text ≡ words_line)
 IsDue a ReadFault text = IsCommand a.words × HasRisen a.faults a.faults' × (text ≡ read_line)
 IsDue a TooLong text = IsCommand a.words × Gives 1048577 a.left a.left' × (text ≡ long_line)
 IsDue a (Script line cause) text = IsCommand a.words × InputFaults a.left a.left' line cause × (text ≡ script_line line cause)
-IsDue a (NotBuilt line) text = InputLeft a.words a.left a.left' line × (text ≡ not_built_line line)
+IsDue a (NotBuilt line) text = (InputLeft a.words a.left a.left' line ⊎ LeavesLoad a.words line) × (text ≡ not_built_line line)
 IsDue a Stopped text = InputRuns a.words a.left a.left' × (text ≡ [])
 IsDue a WriteFault text = ⊥
 IsDue a Memory text = ⊥
@@ -167,6 +200,25 @@ IsDueOf command bytes Stopped text = (command ≡ Run) × IsTaken command bytes 
 IsDueOf command bytes (Script line cause) text = IsFirstFault bytes line cause × (text ≡ script_line line cause)
 IsDueOf command bytes (NotBuilt line) text = IsLeft command bytes line × (text ≡ not_built_line line)
 IsDueOf command bytes _ text = ⊥
+
+-- The status of `load` and a number where nothing fails: its script is left at the first line that is not supported today, or it
+-- is done.
+abbrev pub IsStatusOfLoad : ℕ → Status → Type 0
+IsStatusOfLoad number Done = IsFirstUnbuilt (load_text number) None
+IsStatusOfLoad number (NotBuilt line) = IsFirstUnbuilt (load_text number) (Some line)
+IsStatusOfLoad number _ = ⊥
+
+-- What is due for `load` and a number: the summary, or the line of the first line that is not supported today.
+abbrev pub IsDueOfLoad : ℕ → Status → List ℕ → Type 0
+IsDueOfLoad number Done text = IsFirstUnbuilt (load_text number) None × IsSummary number text
+IsDueOfLoad number (NotBuilt line) text = IsFirstUnbuilt (load_text number) (Some line) × (text ≡ not_built_line line)
+IsDueOfLoad number _ text = ⊥
+
+-- The sink has taken the summary of the script of a number.
+pub record WritesSummary (number : ℕ) (held held' : Option (List ℕ)) : Type 0 where
+  pub text : List ℕ
+  pub is_text : IsSummary number text
+  pub written : Adds text held held'
 
 -- What is due for a script whose lists are made: its text of taken steps, or nothing where a core was stopped.
 abbrev pub IsRunOf : Setting → List (List Call) → Status → List ℕ → Type 0

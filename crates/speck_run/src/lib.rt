@@ -1,14 +1,17 @@
 //! The top call of the program: its words, its input, the script, and the text that is written.
+//!
+//! See docs/CLAIMS.md, 'The claims', and docs/PROOF.md, 'From the bytes read to the bytes written'.
 #![tactic(auto)]
 
-mod ends;
 mod orders;
 mod replay;
 mod runs;
+mod summary;
 mod text;
 mod top;
 mod words;
 
 pub use runs::run_lists;
+pub use summary::{Summed, sum_up};
 pub use top::{Status, speck};
 pub use words::Command;

@@ -11,13 +11,13 @@ ghost use Rattle.script_printer.specs.Printing.{printed};
 ghost use Rattle.load_maker.specs.Loads.{load_text};
 ghost use Rattle.speck_run.specs.declared.words.Command.{Command};
 ghost use Rattle.speck_run.specs.declared.words.Command.TheVariants as commands;
-ghost use Rattle.speck_run.specs.Ends.{Gives, GivesAll, GivesAtMost};
-ghost use Rattle.speck_run.specs.Top.{Asks, AsksMake, IsCommand, IsMake, IsUnderstood, IsDue, IsDueOf, InputFaults, InputLeft, InputRuns, IsRunOf, CarriesOut, Writes, Answers, IsUnlessUnwritten, IsAccepted, Finishes, script_line, not_built_line, status_number};
+ghost use Rattle.whole_ends.specs.Ends.{Gives, GivesAll, GivesAtMost};
+ghost use Rattle.speck_run.specs.Top.{Asks, AsksMake, AsksLoad, IsCommand, IsMake, IsLoad, IsUnderstood, IsDue, IsDueOf, IsDueOfLoad, IsStatusOfLoad, InputFaults, InputLeft, LeavesLoad, InputRuns, IsRunOf, CarriesOut, WritesSummary, Writes, Answers, IsUnlessUnwritten, IsAccepted, Finishes, script_line, not_built_line, status_number};
 
-use crate::ends::{ReadError, read_all, write_all};
 use crate::replay::replay;
 use crate::runs::run_lists;
-use crate::words::{Command, command_of, number_of_make};
+use crate::summary::{Summed, sum_up};
+use crate::words::{Command, command_of, number_behind};
 use byte_ends::{Sink, Source};
 use core_kernel::Gate;
 use load_maker::load_script;
@@ -27,6 +27,7 @@ use script_reader::{Cause, ReadFault, Script, first_unbuilt, read};
 use spk_nums::Memory;
 use std::alloc::Global;
 use std::thread::Threads;
+use whole_ends::{LIMIT, ReadError, read_all, write_all};
 
 /// How a call of `speck` ended.
 #[derive(Clone, Copy, Debug, PartialEq, Eq)]
@@ -45,7 +46,7 @@ pub enum Status {
     Memory,
     /// The source gave more than 1,048,576 bytes.
     TooLong,
-    /// The input of `replay` or `run` is a script with a call that is not built; this is the line of the first.
+    /// The input of `replay` or `run` is a script with a call that is not supported; this is the line of the first.
     NotBuilt { line: u32 },
     /// The gate has stopped a core of a `run`.
     Stopped,
@@ -98,7 +99,7 @@ fn refuse(alloc: Global, line: u32, cause: Cause) -> Result<Answer, Memory>
     })
 }
 
-// The answer to a script whose first line that is not built is this.
+// The answer to a script whose first line that is not supported is this.
 fn leave(alloc: Global, line: u32) -> Result<Answer, Memory>
     ensures status { IfOk result (λ answer. answer.status ≡ Status.NotBuilt line) }
     ensures text { IfOk result (λ answer. string_bytes answer.text ≡ not_built_line line) }
@@ -192,7 +193,8 @@ fn judge_command<R: Threads + Sync, G: Gate, S: Source>(
     words: &Vec<String>,
     source: &mut S,
 ) -> Result<Answer, Memory>
-    requires { IsMake words.now → ⊥ }
+    requires make { IsMake words.now → ⊥ }
+    requires load { IsLoad words.now → ⊥ }
     ensures due { IfOk result (λ answer. IsDue record {
       words = words.now;
       left = S.left source.old;
@@ -216,7 +218,24 @@ fn judge_command<R: Threads + Sync, G: Gate, S: Source>(
     }
 }
 
-// What is due: words are judged first. Where they ask for the script of a number, it is that script's text.
+// What is due for the summary of the script of a number. A script that has a call that is not supported today is left.
+fn answer_load(alloc: Global, number: u32) -> Result<Answer, Memory>
+    ensures { IfOk result (λ answer. IsDueOfLoad number answer.status (string_bytes answer.text)) }
+{
+    let script = load_script(alloc, number)?;
+    // A made script is far shorter than an input may be, so memory has run out before it is not.
+    if script.len() > LIMIT {
+        return Err(Memory);
+    }
+    match sum_up(alloc, script.as_bytes())? {
+        Summed::Done { text } => Ok(made(text)),
+        Summed::Left { line } => leave(alloc, line),
+        Summed::NoScript { line: _, cause: _ } => unreachable!(),
+    }
+}
+
+// What is due: words are judged first. Where they ask for the script of a number, it is that script's text; where for its
+// summary, that.
 fn judge<R: Threads + Sync, G: Gate, S: Source>(
     rt: &R,
     alloc: Global,
@@ -236,11 +255,14 @@ fn judge<R: Threads + Sync, G: Gate, S: Source>(
     ensures free { IfOk result (λ answer. answer.status ≡ Status.Stopped → G.is_free gate.now ≡ true → ⊥) }
     ensures steady { IfOk result (λ answer. (answer.status ≡ Status.ReadFault) ⊎ (S.faults source.new ≡ S.faults source.old)) }
 {
-    let Some(number) = number_of_make(words) else {
-        return judge_command(rt, alloc, gate, words, source);
-    };
-    let text = load_script(alloc, number)?;
-    Ok(made(text))
+    if let Some(number) = number_behind(words, "make") {
+        let text = load_script(alloc, number)?;
+        return Ok(made(text));
+    }
+    if let Some(number) = number_behind(words, "load") {
+        return answer_load(alloc, number);
+    }
+    judge_command(rt, alloc, gate, words, source)
 }
 
 // Writes the text, and answers the status that is due with it, or that the sink failed.
@@ -257,11 +279,13 @@ fn finish<K: Sink>(sink: &mut K, answer: &Answer) -> Status
 /// Does all that the program does: judges the words, reads the source, takes the script and writes
 /// the sink.
 ///
-/// Words other than `replay`, `run`, `plain` or `print` alone, and `make` with a number from 0 to
-/// 4,294,967,295, are `Words`, and nothing is read. Under `make` nothing is read either: the text of
-/// the number's script is written, and the status is `Done`. A source that fails is `ReadFault`, and one that gives a byte past 1,048,576 is `TooLong`; no more
+/// Words other than `replay`, `run`, `plain` or `print` alone, and `make` and `load` with a number
+/// from 0 to 4,294,967,295, are `Words`, and nothing is read. Under `make` and `load` nothing is read
+/// either, and the status is `Done`: `make` writes the text of the number's script, and `load` takes
+/// the steps of that script as `replay` does and writes their summary, or leaves it as `replay` does.
+/// A source that fails is `ReadFault`, and one that gives a byte past 1,048,576 is `TooLong`; no more
 /// than that byte is taken. An input that is no script is `Script`, with its first fault. Under
-/// `replay` and `run` a script that has a call that is not built is `NotBuilt`, at the line of the
+/// `replay` and `run` a script that has a call that is not supported is `NotBuilt`, at the line of the
 /// first such call; else the script's steps are taken and their text is written, the reply lines
 /// and the tables, and the status is `Done`. `run` makes each core's calls in a thread of its own
 /// where one can be made, and asks the gate before each call: where the gate stops a core, which a
@@ -295,12 +319,16 @@ pub fn speck<R: Threads + Sync, G: Gate, S: Source, K: Sink>(
         (S.left source.old) (S.left source.new) (K.held sink.old) (K.held sink.new) }
     ensures make { (number : ℕ) → AsksMake words.now number → result ≡ Status.Done
         → Adds (load_text number) (K.held sink.old) (K.held sink.new) }
+    ensures load { (number : ℕ) → AsksLoad words.now number → result ≡ Status.Done
+        → WritesSummary number (K.held sink.old) (K.held sink.new) }
     ensures done { result ≡ Status.Done → IsUnderstood words.now }
 
     // Words are judged first: nothing is read for others, and for those that ask for no script to be read.
     ensures words { result ≡ Status.Words → IsUnderstood words.now → ⊥ }
     ensures other_words { (IsUnderstood words.now → ⊥) → IsUnlessUnwritten Status.Words result }
     ensures made { (number : ℕ) → AsksMake words.now number → IsUnlessUnwritten Status.Done result }
+    ensures loaded { (number : ℕ) (due : Status) → AsksLoad words.now number → IsStatusOfLoad number due
+        → IsUnlessUnwritten due result }
     ensures unread { (IsCommand words.now → ⊥) → source.new ≡ source.old }
 
     // Then reading, then the script.
@@ -308,7 +336,7 @@ pub fn speck<R: Threads + Sync, G: Gate, S: Source, K: Sink>(
     ensures script { (line : ℕ) (cause : Cause) → result ≡ Status.Script line cause
         → IsCommand words.now × InputFaults (S.left source.old) (S.left source.new) line cause }
     ensures not_built { (line : ℕ) → result ≡ Status.NotBuilt line
-        → InputLeft words.now (S.left source.old) (S.left source.new) line }
+        → InputLeft words.now (S.left source.old) (S.left source.new) line ⊎ LeavesLoad words.now line }
     // A run is stopped by a gate that is not free alone.
     ensures stopped { result ≡ Status.Stopped
         → InputRuns words.now (S.left source.old) (S.left source.new) × (G.is_free gate.now ≡ true → ⊥) }

@@ -55,12 +55,12 @@ fn number_in(word: &str) -> Option<u32>
     u32::try_from(number).ok()
 }
 
-/// The number behind `make`, where the words are these two; none for other words.
-pub fn number_of_make(words: &Vec<String>) -> Option<u32>
-    ensures { IsNumberOf words.now result }
+/// The number after this word, where the words are these two; none for other words.
+pub fn number_behind(words: &Vec<String>, name: &str) -> Option<u32>
+    ensures { IsNumberOf name.now words.now result }
 {
     match words.as_slice() {
-        [word, number] if word.as_str() == "make" => number_in(number.as_str()),
+        [word, number] if word.as_str() == name => number_in(number.as_str()),
         _ => None,
     }
 }

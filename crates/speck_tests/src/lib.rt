@@ -1,4 +1,6 @@
 //! Tests that cross crates, and those of the base crates, which all others wait for.
+//!
+//! See docs/CLAIMS.md, 'Crate by crate'.
 #![tactic(auto)]
 
 #[cfg(test)]

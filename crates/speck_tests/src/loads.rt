@@ -2,11 +2,12 @@
 
 use byte_ends::{MemSink, MemSource};
 use core_kernel::FreeGate;
-use speck_run::{Status, speck};
+use speck_run::{Status, Summed, speck, sum_up};
 use std::alloc::Global;
+use std::str::from_utf8;
 use std::test::Fail;
 use std::thread::Threads;
-use test_machine::{AMPLE, Ends, answers, list_of};
+use test_machine::{AMPLE, Ends, MACHINE, answers, list_of};
 
 // More than any text here.
 const ROOM: usize = 262_144;
@@ -55,16 +56,18 @@ fn numbers_are_written_as_in_scripts(rt: HostRuntime) -> Result<(), Fail> {
     assert!(rt; status == Status::Done && same.as_slice() == text.as_slice());
     let (status, other) = written(&rt, alloc, &["make", "4294967295"], b"", &[])?;
     assert!(rt; status == Status::Done && other.as_slice() != text.as_slice());
-    let rows: [&[&str]; 7] = [
-        &["make", ""],
-        &["make", "-1"],
-        &["make", "+1"],
-        &["make", "5x"],
-        &["make", "18446744073709551616"],
-        &["make", "5", "6"],
-        &["5", "make"],
+    let rows: [(&str, &[&str]); 9] = [
+        ("no number", &["load"]),
+        ("a letter, under load", &["load", "5x"]),
+        ("no digits", &["make", ""]),
+        ("a minus", &["make", "-1"]),
+        ("a plus", &["make", "+1"]),
+        ("a letter", &["make", "5x"]),
+        ("a number past 64 bits", &["make", "18446744073709551616"]),
+        ("a word too many", &["make", "5", "6"]),
+        ("the number first", &["5", "make"]),
     ];
-    for words in rows {
+    for (what, words) in rows {
         assert!(rt;
             answers(
                 &rt,
@@ -74,7 +77,8 @@ fn numbers_are_written_as_in_scripts(rt: HostRuntime) -> Result<(), Fail> {
                 &AMPLE,
                 Status::Words,
                 "words not understood\n"
-            )?
+            )?,
+            "{what}"
         );
     }
     Ok(())
@@ -94,5 +98,103 @@ fn a_sink_that_is_full_holds_the_front(rt: HostRuntime) -> Result<(), Fail> {
             "speck 1\ncores 4\nframes 128"
         )?
     );
+    Ok(())
+}
+
+// The words of replies, in the order of their numbers.
+const WORDS: [&str; 24] = [
+    "ok",
+    "no-slot",
+    "empty",
+    "wrong-cap",
+    "occupied",
+    "quiescing",
+    "unflushed",
+    "frame-kind",
+    "out-of-range",
+    "referenced",
+    "not-empty",
+    "dead",
+    "deep",
+    "bottom",
+    "running",
+    "short",
+    "unlike",
+    "too-many",
+    "same",
+    "epochs-spent",
+    "raced",
+    "busy",
+    "fault",
+    "calls-spent",
+];
+
+// How many of these lines tell a reply of this word, or of any word where none is told.
+fn replies(text: &str, word: Option<&str>) -> u32 {
+    let mut count: u32 = 0;
+    for line in text.lines() {
+        if let Some((_, reply)) = line.split_once(" = ") {
+            let name = match reply.split_once(' ') {
+                Some((name, _)) => name,
+                None => reply,
+            };
+            if word.is_none_or(|word| word == name) {
+                count = count.saturating_add(1);
+            }
+        }
+    }
+    count
+}
+
+// The summary of what `replay` has written.
+fn summary_of(alloc: Global, text: &str) -> Result<String, Fail> {
+    let mut summary = String::new(alloc);
+    for word in WORDS {
+        let count = replies(text, Some(word));
+        if count > 0 {
+            write!(summary, "{word} {count}\n")?;
+        }
+    }
+    let calls = replies(text, None);
+    let last = text.lines().last().unwrap_or("");
+    write!(summary, "calls {calls}\n{last}\n")?;
+    Ok(summary)
+}
+
+// While some call of the script is not supported, `load` and `replay` answer the same.
+#[test]
+fn a_load_sums_up_what_replay_writes(rt: HostRuntime) -> Result<(), Fail> {
+    let alloc = rt.alloc();
+    for number in ["1", "5"] {
+        let (_, script) = written(&rt, alloc, &["make", number], b"", &[])?;
+        let (status, text) = written(&rt, alloc, &["replay"], &script, &[])?;
+        let (same, summary) = written(&rt, alloc, &["load", number], b"", &[1])?;
+        assert!(rt; same == status, "{number}");
+        if status == Status::Done {
+            let text = from_utf8(&text).unwrap_or("");
+            let wanted = summary_of(alloc, text)?;
+            assert!(rt; summary.as_slice() == wanted.as_bytes(), "{number}");
+        } else {
+            assert!(rt; summary.as_slice() == text.as_slice(), "{number}");
+        }
+    }
+    Ok(())
+}
+
+#[test]
+fn a_summary_counts_the_replies_of_a_replay(rt: HostRuntime) -> Result<(), Fail> {
+    let alloc = rt.alloc();
+    let script = format!(in alloc;
+        "{MACHINE}core 0\ncopy 0 1 20\ntick 30\nretype 0 8 user\nretype 0 8 user\ncore 1\ncopy 0 1 20\nlook 64\nkill 3\nkill 3\norder\n0< 1< 0! 1!\n"
+    )?;
+    let wanted = "ok 4\nno-slot 1\nframe-kind 1\ndead 1\nraced 1\ncalls 8\ntotal 200\n";
+    let (status, text) = written(&rt, alloc, &["replay"], script.as_bytes(), &[])?;
+    assert!(rt; status == Status::Done);
+    let counted = summary_of(alloc, from_utf8(&text).unwrap_or(""))?;
+    assert_eq!(rt; counted.as_str(), wanted);
+    match sum_up(alloc, script.as_bytes()) {
+        Ok(Summed::Done { text }) => assert_eq!(rt; text.as_str(), wanted),
+        _ => assert!(rt; false),
+    }
     Ok(())
 }

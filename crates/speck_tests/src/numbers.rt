@@ -84,5 +84,7 @@ fn calls_know_their_limits(rt: HostRuntime) {
             b: CapId::new(65_535)
         })
     );
-    assert!(rt; !is_built(&Call::Ret));
+    assert!(rt; is_built(&Call::Ret));
+    assert!(rt; is_built(&Call::Switch { h: id, q: id }));
+    assert!(rt; !is_built(&Call::Delegate { a: id, b: id, m: 5 }));
 }

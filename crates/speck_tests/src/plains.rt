@@ -54,7 +54,7 @@ fn has(bytes: &[u8], piece: &str) -> bool {
         .any(|x| x == piece.as_bytes())
 }
 
-// Whether the calls of the cores, core 0's first, are answered so behind the head of a script; the tables then begin with the
+// Whether the calls of the cores, core 0's first, are answered so after the head of a script; the tables then begin with the
 // root of the table, have these pieces, and end so.
 fn is_answered<R: Threads + Sync>(
     rt: &R,

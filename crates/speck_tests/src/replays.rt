@@ -47,7 +47,7 @@ const COPIES: &str = "core 0\ncopy 0 1 20\ncore 1\ncopy 0 1 20\n";
 
 const COPIED: &str = "  20 range 8 24\n";
 
-// Whether the script of these lines is told that this line is the first that is not built.
+// Whether the script of these lines is told that this line is the first that is not supported.
 fn is_not_built<R: Threads + Sync>(
     rt: &R,
     alloc: Global,
@@ -98,7 +98,9 @@ fn the_tables_of_the_start_are_written(rt: HostRuntime) -> Result<(), Fail> {
                 &ends,
                 Status::Done,
                 ALONE_TABLES
-            )?
+            )?,
+            "reads of at most {} bytes",
+            ends.read_most
         );
     }
     assert!(rt; is_done(&rt, alloc, "", "", "")?);
@@ -108,7 +110,7 @@ fn the_tables_of_the_start_are_written(rt: HostRuntime) -> Result<(), Fail> {
 #[test]
 fn cores_look_and_copy(rt: HostRuntime) -> Result<(), Fail> {
     let alloc = rt.alloc();
-    // Lines behind the machine's, the reply lines, and the entry lines that are added.
+    // Lines after the machine's, the reply lines, and the entry lines that are added.
     let rows = [
         (
             "core 0\nlook 0\nlook 63\nlook 64\nlook 4096\n",
@@ -258,7 +260,7 @@ fn the_first_to_decide_is_told_first(rt: HostRuntime) -> Result<(), Fail> {
 
 #[test]
 fn items_of_idle_cores_do_nothing(rt: HostRuntime) -> Result<(), Fail> {
-    // Core 1 has no list, and core 0 has finished its own behind its first item.
+    // Core 1 has no list, and core 0 has finished its own after its first item.
     let lines = "core 0\nlook 0\norder\n1 1< 1! 1. 0. 0 0< 0! 0. 1\n";
     assert!(rt; is_done(&rt, rt.alloc(), lines, "0.1 look 0 = ok range 8 24\n", "")?);
     Ok(())
@@ -348,22 +350,22 @@ fn spaces_and_comments_are_passed_over(rt: HostRuntime) -> Result<(), Fail> {
 #[test]
 fn the_first_line_that_is_not_built_is_told(rt: HostRuntime) -> Result<(), Fail> {
     let rows = [
-        ("core 0\nswitch 4 12\n", 7),
+        ("core 0\ndelegate 12 13 5\n", 7),
         (
-            "core 0\nlook 64\ncopy 0 2 64\nlook 65535\nswitch 4 12\n",
+            "core 0\nlook 64\ncopy 0 2 64\nlook 65535\ndelegate 12 13 5\n",
             10,
         ),
         (
-            "core 1\nlook 0\n\ncore 0\nremove 1 20\nretype 0 8 untyped\n",
+            "core 1\nlook 0\n\ncore 0\nremove 1 20\ndelegate 12 13 5\n",
             11,
         ),
-        ("core 0\nmake comp 0 8 1 20 1 2 7\norder\n0\n", 7),
+        ("core 0\ndelegate 12 13 5\norder\n0\n", 7),
         (
-            "core 0\nmake table 0 8 1 20\nmake leaf 0 8 1 20\nmake pages 0 8 1 20\nmake pleaf 0 8 1 20\nmake thread 0 8 1 20 3\nmake tcap 0 8 1 20 0 5\ntouch 1\n",
+            "core 0\nmake table 0 8 1 20\nmake leaf 0 8 1 20\nmake pages 0 8 1 20\nmake pleaf 0 8 1 20\nmake thread 0 8 1 20 3\nmake tcap 0 8 1 20 0 5\ndelegate 12 13 5\n",
             13,
         ),
-        ("core 0\nmake leaf 0 8 1 20\nmake comp 0 8 1 21 1 2 7\n", 8),
-        ("calls 4194304\nepochs 1\ncore 0\nret\n", 9),
+        ("core 0\nmake comp 0 8 1 21 1 2 7\ndelegate 12 13 5\n", 8),
+        ("calls 4194304\nepochs 1\ncore 0\ndelegate 12 13 5\n", 9),
     ];
     for (lines, line) in rows {
         assert!(rt;
@@ -400,7 +402,7 @@ fn the_first_fault_of_a_script_is_told(rt: HostRuntime) -> Result<(), Fail> {
 #[test]
 fn a_fault_of_a_call_is_told_at_its_line(rt: HostRuntime) -> Result<(), Fail> {
     let alloc = rt.alloc();
-    // A call that is not built stands before each fault: the fault is told all the same.
+    // A call that is not supported stands before each fault: the fault is told all the same.
     let rows = [
         ("look", 7, Cause::S3, "S3 missing word"),
         ("look x", 7, Cause::S1, "S1 bad number"),
@@ -437,15 +439,15 @@ fn a_foreign_byte_and_one_line_too_many_are_told(rt: HostRuntime) -> Result<(), 
     Ok(())
 }
 
-// Lines in their printed form, with calls that are not built.
+// Lines in their printed form, with calls that are not supported.
 const UNBUILT: &str =
     "calls 2\nepochs 1\ncore 1\nmake tcap 65535 8 1 65535 63 16777215\ntransfer 12 13 4000000000\norder\n0< 1! 0. 1\n";
 
 #[test]
-fn scripts_are_printed(rt: HostRuntime) -> Result<(), Fail> {
+fn scripts_are_printed_in_one_form(rt: HostRuntime) -> Result<(), Fail> {
     let alloc = rt.alloc();
     let print = ["print"];
-    // What stands behind the machine's lines, and what is printed behind them.
+    // What stands after the machine's lines, and what is printed after them.
     let rows = [
         (
             "core 0\nlook 007\n",
@@ -465,7 +467,8 @@ fn scripts_are_printed(rt: HostRuntime) -> Result<(), Fail> {
                 &AMPLE,
                 Status::Done,
                 text.as_str()
-            )?
+            )?,
+            "{lines}"
         );
     }
     assert!(rt;
@@ -551,15 +554,15 @@ fn faults_have_their_statuses(rt: HostRuntime) -> Result<(), Fail> {
 #[test]
 fn words_and_length_are_judged_first(rt: HostRuntime) -> Result<(), Fail> {
     let alloc = rt.alloc();
-    let rows: [&[&str]; 6] = [
-        &[],
-        &["-h"],
-        &["replay", "1"],
-        &["make"],
-        &["make", "4294967296"],
-        &["Replay"],
+    let rows: [(&str, &[&str]); 6] = [
+        ("no word", &[]),
+        ("an option", &["-h"]),
+        ("a word too many", &["replay", "1"]),
+        ("no number", &["make"]),
+        ("a number past 32 bits", &["make", "4294967296"]),
+        ("a capital", &["Replay"]),
     ];
-    for words in rows {
+    for (what, words) in rows {
         assert!(rt;
             answers(
                 &rt,
@@ -569,7 +572,8 @@ fn words_and_length_are_judged_first(rt: HostRuntime) -> Result<(), Fail> {
                 &AMPLE,
                 Status::Words,
                 "words not understood\n"
-            )?
+            )?,
+            "{what}"
         );
     }
     let spaces = vec![in alloc; b' '; 1_048_577]?;

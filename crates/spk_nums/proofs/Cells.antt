@@ -7,7 +7,7 @@ use Rattle.spk_nums.specs.Listed.{IsListed, length-listed}
 use Rattle.spk_nums.specs.Qualities.{AreQualities, IsAbove, IsQualityList, PairFits, takes_pair}
 use Rattle.spk_nums.specs.declared.qualities.Qualities.TheInside.{Inside}
 
--- an item put into the first blank cell leaves the cells behind it blank
+-- an item put into the first blank cell leaves the cells after it blank
 pub added : {A : Type 0} (blank : A) (room len at : ℕ) (cells : List A) (x : A) → at ≡ len → len < room → IsListed blank room len cells
     → IsListed blank room (len + 1) (slice_set cells at x)
 added blank room len at cells x is small h = rw is record {

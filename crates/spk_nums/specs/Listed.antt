@@ -2,7 +2,7 @@ use Rattle.std.specs.Prelude.{◌≡◌, ℕ, ◌-◌, ◌≤◌, List, ◌++◌
 use Rattle.std.proofs.Common.{sym, ap, ◌∙◌, arith}
 use Rattle.std.proofs.lemmas.List.{length-take-le, take-append-drop}
 
--- an array of `room` cells holds a list in its first `len` cells, and the cells behind them are blank
+-- an array of `room` cells holds a list in its first `len` cells, and the cells after them are blank
 pub record IsListed {A : Type 0} (blank : A) (room len : ℕ) (cells : List A) : Type 0 where
   pub most : len ≤ room
   pub whole : length cells ≡ room

@@ -13,7 +13,7 @@ use Rattle.spk_nums.specs.declared.replies.Reply.{Reply}
 use Rattle.spk_nums.specs.declared.replies.Reply.TheVariants.{Ok as ok_reply, NoSlot, Empty, WrongCap, Occupied, Quiescing, Unflushed, FrameKind as wrong_frame, OutOfRange, Referenced, NotEmpty, Dead, Deep, Bottom, Running, Short, Unlike, TooMany, Same, EpochsSpent, Raced, Busy, Fault, CallsSpent}
 use Rattle.spk_nums.specs.declared.replies.Decision.{Decision}
 
--- a word, and behind it one, two, three or five numbers, each after a space
+-- a word, and after it one, two, three or five numbers, each after a space
 abbrev pub with_one : List ℕ → ℕ → List ℕ
 with_one word a = word ++ codes " " ++ decimal a
 

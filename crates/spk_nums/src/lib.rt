@@ -1,4 +1,6 @@
 //! Numbers, capabilities, calls and replies: the words that every other crate speaks in.
+//!
+//! docs/FORMATS.md has the formats, docs/MODEL.md what the numbers and calls mean.
 #![tactic(auto)]
 
 mod calls;

@@ -2,7 +2,7 @@
 
 use std::alloc::AllocError;
 
-/// Memory was wanting: the one answer that no contract ties to a cause.
+/// Memory has run out: the one answer that no contract ties to a cause.
 #[derive(Clone, Copy, PartialEq, Eq, Debug)]
 pub struct Memory;
 

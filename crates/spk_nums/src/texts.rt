@@ -257,7 +257,7 @@ impl fmt::Display for Reply {
     }
 }
 
-/// The value of a call that was carried out, to be printed behind its `ok`.
+/// The value of a call that was carried out, to be printed after its `ok`.
 #[derive(Clone, Copy)]
 struct Carried<'a> {
     value: &'a Value,

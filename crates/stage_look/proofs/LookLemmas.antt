@@ -38,7 +38,7 @@ after_link_fits : (s : Shape) (linked : Bool) (root number : ℕ) (k : Capabilit
 after_link_fits s true root number k is names h = leaf_below s.frames k.kind k.frame k.arg (cc) names
 after_link_fits s false root number k is names h = h
 
--- it names frames of the machine behind each step
+-- it names frames of the machine after each step
 pub after_fits : (s : Shape) (look : Look) (shown : Option Entry) → IfSome shown (EntryNames s.frames) → LookFits s look → LookFits s (look_after look shown)
 after_fits s (AtRoot root number) None names h = h
 after_fits s (AtRoot root number) (Some Free) names h = h

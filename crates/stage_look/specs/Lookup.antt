@@ -25,7 +25,7 @@ look_move (AtRoot root number) = LoadOf (EntryAt root (number / 64))
 look_move (AtLeaf leaf number) = LoadOf (EntryAt leaf (number % 64))
 look_move (AtEntry root entry) = LoadOf (EntryAt root entry)
 
--- behind a root entry that holds a link the leaf is loaded; one that holds another capability leads to no slot
+-- after a root entry that holds a link the leaf is loaded; one that holds another capability leads to no slot
 abbrev pub end_by_link : Bool → StageEnd Found
 end_by_link linked = if linked then Going else Refuse reply.NoSlot
 
@@ -55,11 +55,11 @@ look_end (AtRoot root number) word shown = root_end shown
 look_end (AtLeaf leaf number) word shown = place_end leaf (number % 64) word shown
 look_end (AtEntry root entry) word shown = place_end root entry word shown
 
--- where a look-up stands behind a root entry that does or does not hold the link to this leaf
+-- where a look-up stands after a root entry that does or does not hold the link to this leaf
 abbrev pub after_link : Bool → ℕ → ℕ → ℕ → Look
 after_link linked root number leaf = if linked then AtLeaf leaf number else AtRoot root number
 
--- where it stands behind a root entry that shows this
+-- where it stands after a root entry that shows this
 abbrev pub root_after : ℕ → ℕ → Option Entry → Look
 root_after root number None = AtRoot root number
 root_after root number (Some Free) = AtRoot root number
@@ -67,7 +67,7 @@ root_after root number (Some (Held k)) = after_link (is_link k.kind) root number
 root_after root number (Some (Closing by)) = AtRoot root number
 root_after root number (Some (Quiescing stamp)) = AtRoot root number
 
--- where a look-up stands behind a step on a word that shows this
+-- where a look-up stands after a step on a word that shows this
 abbrev pub look_after : Look → Option Entry → Look
 look_after (AtRoot root number) shown = root_after root number shown
 look_after (AtLeaf leaf number) shown = AtLeaf leaf number

@@ -126,7 +126,7 @@ impl Look {
         }
     }
 
-    // Where the look-up stands behind a step on a word that shows this.
+    // Where the look-up stands after a step on a word that shows this.
     #[inline]
     fn after(&self, shown: &Option<Entry>) -> Look
         ensures { result ≡ look_after self.now shown.now }
@@ -224,7 +224,7 @@ fn root_leads(entry: &Entry) -> StageEnd<Found>
     }
 }
 
-// Where a look-up stands behind a root entry that shows this.
+// Where a look-up stands after a root entry that shows this.
 #[inline]
 fn root_after(root: FrameNo, number: CapId, shown: &Option<Entry>) -> Look
     ensures { result ≡ root_after root number shown.now }
@@ -235,7 +235,7 @@ fn root_after(root: FrameNo, number: CapId, shown: &Option<Entry>) -> Look
     }
 }
 
-// Where a look-up stands behind this root entry.
+// Where a look-up stands after this root entry.
 #[inline]
 fn after_entry(root: FrameNo, number: CapId, entry: &Entry) -> Look
     ensures { result ≡ root_after root number (Some entry.now) }

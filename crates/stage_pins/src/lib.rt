@@ -1,4 +1,6 @@
 //! Acquiring a frame's count before a call changes the references to the frame, and committing it afterwards.
+//!
+//! See docs/FORMATS.md, 'Steps of calls'.
 #![tactic(auto)]
 
 mod held;

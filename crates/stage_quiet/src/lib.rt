@@ -1,4 +1,6 @@
 //! Quiescence: the scans that a reuse waits for, and the steps that begin a grace period.
+//!
+//! See docs/FORMATS.md, 'Steps of calls'.
 #![tactic(auto)]
 
 mod close;

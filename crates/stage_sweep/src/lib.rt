@@ -1,4 +1,6 @@
 //! Freezing the counters of a frame that is retyped, judging that nothing uses it, and releasing them again.
+//!
+//! See docs/FORMATS.md, 'Steps of calls'.
 #![tactic(auto)]
 
 mod count_words;

@@ -1,4 +1,6 @@
 //! Charging ticks to a temporal capability, and calls on two of them: transfers, delegations and tests of preemption.
+//!
+//! See docs/FORMATS.md, 'Steps of calls'.
 #![tactic(auto)]
 
 mod charge;

@@ -1,4 +1,6 @@
 //! Claiming a thread, and pushing and popping the components on its stack.
+//!
+//! See docs/FORMATS.md, 'Steps of calls'.
 #![tactic(auto)]
 
 mod claim;

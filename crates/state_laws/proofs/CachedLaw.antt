@@ -145,7 +145,7 @@ module _ (s : State) (o : ℕ → Bool) (c : ℕ) (h : IsOpen s o c) (w : IsFitt
       by_frame User fit = refl
       by_frame _ fit = absurd (false≢true fit)
 
-  touched : (v : ℕ) (k : Capability) → mapped s c (comp_of s c).pages v ≡ Found k
+  pub touched : (v : ℕ) (k : Capability) → mapped s c (comp_of s c).pages v ≡ Found k
       → Stands s c (record { pages = (comp_of s c).pages; page = v; frame = k.frame; flags = record { 0 = k.arg } })
   touched v k e =
       let pages : ℕ = (comp_of s c).pages in
@@ -416,7 +416,7 @@ return_waited setting events c old = record {
 fewer : (s : State) (o o' : ℕ → Bool) → ((c : ℕ) → o' c ≡ true → o c ≡ true) → IsWaited s o → IsWaited s o'
 fewer s o o' less h = record { unflushed = λ x d q. h.unflushed x d (less d q); bare = h.bare }
 
-runs_waited : (setting : Setting) → IsSetting setting → (events : List Event) → IsRun setting events
+pub runs_waited : (setting : Setting) → IsSetting setting → (events : List Event) → IsRun setting events
     → IsWaited (after setting events) (opened events)
 runs_waited setting lim [] run = record { unflushed = λ x d q wait. absurd (false≢true wait); bare = λ f d none. refl }
 runs_waited setting lim (Enters c call ∷ events) run = enter_waited setting events c call run (runs_waited setting lim events run.0)

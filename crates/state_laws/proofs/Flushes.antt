@@ -87,6 +87,11 @@ frame_ends s d call (reply.Ok v) f may is = by_call call may is
     by_call call may is = absurd (false≢true is)
 frame_ends s d call _ f may is = absurd (false≢true is)
 
+pub frame_flushed : (s : State) (d : ℕ) (call : Call) (r : Reply) (f : ℕ) → MayReply s d call r → ends call r (FrameOf f) ≡ true
+    → (e : ℕ) → e < s.limits.cores → (s.grace (FrameOf f)).unflushed e ≡ false
+unfolding AreFlushed
+frame_flushed s d call r f may is = frame_ends s d call r f may is
+
 -- A frame that is referenced is referenced after a decision, or its grace period has begun.
 found_refs : (s : State) (c : ℕ) (v : Value) (x : Judged Change) → IfFound x (RefsBy s) → IsFoundAnd x (λ k. k.value ≡ v) → (f : ℕ)
     → 0 < refs s f
@@ -107,7 +112,7 @@ owed_refs : (s : State) (c : ℕ) (call : Call) (f : ℕ) → refs (owed_by s c 
 owed_refs s c (Tick n) f = core_same_refs s c _ refl refl f
 owed_refs s c _ f = refl
 
-decided_refs : (s : State) (o : ℕ → Bool) (c : ℕ) (call : Call) (r : Reply) → IsOpen s o c → InLimits call → MayReply s c call r → (f : ℕ)
+pub decided_refs : (s : State) (o : ℕ → Bool) (c : ℕ) (call : Call) (r : Reply) → IsOpen s o c → InLimits call → MayReply s c call r → (f : ℕ)
     → 0 < refs s f
     → (0 < refs (state_by s c call r) f) ⊎ (begins s c call r (FrameOf f) ≡ true)
 decided_refs s o c call (reply.Ok v) h lim may f some =

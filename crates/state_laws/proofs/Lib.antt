@@ -5,5 +5,8 @@ pub mod CompsApart
 pub mod Gates
 pub mod Threads
 pub mod Flushes
+pub mod Relied
 pub mod CachedLaw
+pub mod Lists
+pub mod Touched
 pub mod Looking

@@ -229,7 +229,7 @@ unfolding LivesAre
 live_numbers_fit setting lim events run = runs_lives setting lim events run
 
 -- A past epoch stays past.
-past_stays : (setting : Setting) (later earlier : List Event) → IsRun setting (later ++ earlier) → (l e : ℕ)
+pub past_stays : (setting : Setting) (later earlier : List Event) → IsRun setting (later ++ earlier) → (l e : ℕ)
     → IsPast e ((after setting earlier).number l)
     → IsPast e ((after setting (later ++ earlier)).number l)
 past_stays setting [] earlier run l e past = past

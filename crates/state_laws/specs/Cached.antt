@@ -1,12 +1,17 @@
 -- Cached translations in the states that runs reach.
-use Rattle.std.specs.Prelude.{◌≡◌, ◌⊎◌, ◌<◌, ◌≤◌, ℕ, ◌/◌, ◌%◌, List, IsTrue}
+use Rattle.std.specs.Prelude.{◌≡◌, ◌⊎◌, ◌<◌, ◌≤◌, ◌++◌, ℕ, ◌/◌, ◌%◌, List, ◌∷◌, length, Some, IsTrue}
 use Rattle.std.specs.List.{AllByRecursion}
 use Rattle.spk_nums.specs.Setting.{Setting, IsSetting}
 use Rattle.spk_nums.specs.declared.kinds.Kind.TheVariants as kind
 use Rattle.spk_nums.specs.declared.translations.Translation.{Translation}
-use Rattle.kernel_rules.specs.State.{Place, Free, Holds, Quiescing, Pages, Pleaf, User, Kernel, Thing, PlaceOf, FrameOf, State}
+use Rattle.spk_nums.specs.declared.kinds.PageFlags.{PageFlags}
+use Rattle.spk_nums.specs.declared.calls.Call.TheVariants.{Touch}
+use Rattle.spk_nums.specs.declared.replies.Value.TheVariants.{Page}
+use Rattle.spk_nums.specs.declared.replies.Reply.TheVariants.{Ok}
+use Rattle.kernel_rules.specs.State.{Place, Free, Holds, Quiescing, Pages, Pleaf, User, Kernel, Thing, PlaceOf, FrameOf, State, comp_of}
 use Rattle.kernel_rules.specs.References.{refs}
-use Rattle.kernel_rules.specs.Runs.{Event, after, IsRun}
+use Rattle.kernel_rules.specs.MemoryCalls.{translation_of}
+use Rattle.kernel_rules.specs.Runs.{Event, Decides, after, MayDecide, IsRun}
 
 -- Core c has decided no flush since the grace period of a thing began.
 abbrev pub IsUnflushedBy : State → ℕ → Thing → Type 0
@@ -51,3 +56,26 @@ pub record Stands (s : State) (c : ℕ) (t : Translation) : Type 0 where
 abbrev pub TranslationsStand : Type 0
 TranslationsStand = (setting : Setting) → IsSetting setting → (events : List Event) → IsRun setting events → (c : ℕ) → c < setting.cores
     → AllByRecursion (Stands (after setting events) c) ((after setting events).core c).cached
+
+-- A list of translations begins with another: it has these first, in order, and more after them.
+pub record Begins (xs ys : List Translation) : Type 0 where
+  pub more : List Translation
+  pub is : ys ≡ xs ++ more
+
+-- Core c has cached this translation: it is what a touch of its page answers while core c works on these pages.
+abbrev pub HasCached : State → ℕ → Translation → Type 0
+HasCached s c x = translation_of (s.core c).cached x.pages x.page ≡ Some x
+
+-- A touch has answered this translation of a user frame, from one state to the next: core c has cached it from then on; or 64 others are
+-- cached, and stay so.
+pub record Answers (s t : State) (c : ℕ) (x : Translation) : Type 0 where
+  pub user : t.frame x.frame ≡ User
+  pub cached : HasCached t c x ⊎ ((64 ≤ length (s.core c).cached) × ((t.core c).cached ≡ (s.core c).cached))
+
+-- In every run, a touch that answers a frame and flags answers the translation of its page which these are.
+abbrev pub TouchesCache : Type 0
+TouchesCache = (setting : Setting) → IsSetting setting → (events : List Event) → IsRun setting events → (c v f : ℕ) (flags : PageFlags)
+    → c < setting.cores
+    → MayDecide setting events c (Touch v) (Ok (Page f flags))
+    → Answers (after setting events) (after setting (Decides c (Touch v) (Ok (Page f flags)) ∷ events)) c
+    (record { pages = (comp_of (after setting events) c).pages; page = v; frame = f; flags = flags })

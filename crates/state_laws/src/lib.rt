@@ -1,9 +1,11 @@
 //! Laws of the states that runs of the sequential kernel reach: liveness numbers, gates and threads,
 //! cached translations, and what an open call has found. Each is the contract of a function.
+//!
+//! See docs/MODEL.md, 'What is proved of these definitions', and docs/PROOF.md, 'The laws of the sequential kernel'.
 #![tactic(auto)]
 
 ghost use Rattle.state_laws.specs.Lives.{LiveNumbersFit, CompsApart, GatesFit, DeadStays, ThreadsRun};
-ghost use Rattle.state_laws.specs.Cached.{TranslationsStand};
+ghost use Rattle.state_laws.specs.Cached.{TranslationsStand, TouchesCache};
 ghost use Rattle.state_laws.specs.Looking.{FoundStays};
 
 /// In every state that a run reaches, the frame of a live liveness number has a component of that number and epoch.
@@ -43,6 +45,13 @@ pub fn threads_run()
 #[tactic(auto, using(crate::proofs::CachedLaw::translations_stand))]
 pub fn translations_stand()
     ensures { TranslationsStand }
+{}
+
+/// In every run, a `touch` that answers a frame and flags answers a user frame, and its core has cached that translation of its page from
+/// then on, unless it has 64 others cached; these then stay as they are.
+#[tactic(auto, using(crate::proofs::Touched::touches_cache))]
+pub fn touches_cache()
+    ensures { TouchesCache }
 {}
 
 /// In a run, whatever other cores do: what a core in an open call has found stays found, it still reaches and may use what it did

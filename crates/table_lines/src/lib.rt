@@ -2,8 +2,10 @@
 //!
 //! The references to each frame are a tally of the frames that are named.
 //!
-//! A function appends one line, or the lines of one thing, to a text. Where it answers that memory is wanting, the text may
+//! A function appends one line, or the lines of one thing, to a text. Where it answers that memory has run out, the text may
 //! have a part of them.
+//!
+//! See docs/FORMATS.md, 'Printed text'.
 #![tactic(auto)]
 
 mod counting;

@@ -102,7 +102,7 @@ says_number (Dead epoch) shown h = ap number_shown h.says
 
 module _ (shape : Shape) (words : List ℕ) (ends : List CoreEnd) (s : State)
     (cores : s.limits.cores ≡ shape.cores) (frames : s.limits.frames ≡ shape.frames)
-    (h : Represent (word_in shape words) (end_in ends) s) (represented : RepresentCounts (word_in shape words) s) where
+    (h : Represent (word_in shape words) (end_in ends) s) where
   within : (f : ℕ) → f < shape.frames → f < s.limits.frames
   within f below = omega (arith, below, frames)
 
@@ -128,12 +128,7 @@ module _ (shape : Shape) (words : List ℕ) (ends : List CoreEnd) (s : State)
       (λ node i small. ap (entry_line i) (node_place f i below node) ∙ says_line i (s.place f i) (entry_of_word (words_of shape words f i)) (says f i below small node))
       ∙ ap (frame_lines f (s.frame f) (s.place f)) same
 
-  refs_told : (f : ℕ) → f < shape.frames → counted_at shape words f ≡ refs s f
-  refs_told f below =
-      ap (λ n. natural (count_sum (count_at (word_in shape words) f) (counters n))) (sym cores)
-      ∙ ap natural (represented f (within f below)).sum
-
-  ticks_told : ticks (shown shape words ends) ≡ ticks s
+  pub ticks_told : ticks (shown shape words ends) ≡ ticks s
   ticks_told =
       let a = sum_same (λ f. (tcap_in (frame_at shape words f)).budget) (λ f. (tcap_in (s.frame f)).budget) shape.frames
       (λ f below. ap (λ x. (tcap_in x).budget) (frame_told f below) ∙ told_budget (s.frame f)) in
@@ -142,13 +137,6 @@ module _ (shape : Shape) (words : List ℕ) (ends : List CoreEnd) (s : State)
       let fa = ap (sum_below (λ f. (tcap_in (s.frame f)).budget)) frames in
       let fb = ap (sum_below (λ c. (s.core c).spent)) cores in
       omega (arith, a, b, fa, fb)
-
-  frames_told : frames_text shape words shape.frames ≡ lines_below (λ f. frame_lines f (s.frame f) (s.place f) (refs s f)) s.limits.frames
-  frames_told =
-      lines_same (λ f. frame_lines f (frame_at shape words f) (place_at shape words f) (counted_at shape words f))
-      (λ f. frame_lines f (s.frame f) (s.place f) (refs s f)) shape.frames
-      (λ f below. lines_told f (counted_at shape words f) (refs s f) below (refs_told f below))
-      ∙ ap (lines_below (λ f. frame_lines f (s.frame f) (s.place f) (refs s f))) (sym frames)
 
   numbers_told : numbers_text shape words 64 ≡ lines_below (λ l. number_line l (s.number l)) 64
   numbers_told = lines_same (λ l. number_line l (number_at shape words l)) (λ l. number_line l (s.number l)) 64
@@ -160,15 +148,28 @@ module _ (shape : Shape) (words : List ℕ) (ends : List CoreEnd) (s : State)
       (λ c below. ap (λ e. core_lines c (core_shown e) e.comp) (h.ends c (omega (arith, below, cores))))
       ∙ ap (lines_below (λ c. core_lines c (s.core c) (first_of_stack (thread_of s c).stack))) (sym cores)
 
-  pub determined : tables_shown shape words ends ≡ tables_of s
-  determined =
-      ap (λ a. a ++ (numbers_text shape words 64 ++ (cores_text ends shape.cores ++ total_line (ticks (shown shape words ends))))) frames_told
-      ∙ ap (λ b. lines_below (λ f. frame_lines f (s.frame f) (s.place f) (refs s f)) s.limits.frames ++ (b ++ (cores_text ends shape.cores ++ total_line (ticks (shown shape words ends))))) numbers_told
-      ∙ ap (λ d. lines_below (λ f. frame_lines f (s.frame f) (s.place f) (refs s f)) s.limits.frames ++ (lines_below (λ l. number_line l (s.number l)) 64 ++ (d ++ total_line (ticks (shown shape words ends))))) cores_told
-      ∙ ap (λ n. lines_below (λ f. frame_lines f (s.frame f) (s.place f) (refs s f)) s.limits.frames ++ (lines_below (λ l. number_line l (s.number l)) 64
-      ++ (lines_below (λ c. core_lines c (s.core c) (first_of_stack (thread_of s c).stack)) s.limits.cores ++ total_line n))) ticks_told
+  module _ (represented : RepresentCounts (word_in shape words) s) where
+    refs_told : (f : ℕ) → f < shape.frames → counted_at shape words f ≡ refs s f
+    refs_told f below =
+        ap (λ n. natural (count_sum (count_at (word_in shape words) f) (counters n))) (sym cores)
+        ∙ ap natural (represented f (within f below)).sum
 
--- The text that the pieces make, one behind the other.
+    frames_told : frames_text shape words shape.frames ≡ lines_below (λ f. frame_lines f (s.frame f) (s.place f) (refs s f)) s.limits.frames
+    frames_told =
+        lines_same (λ f. frame_lines f (frame_at shape words f) (place_at shape words f) (counted_at shape words f))
+        (λ f. frame_lines f (s.frame f) (s.place f) (refs s f)) shape.frames
+        (λ f below. lines_told f (counted_at shape words f) (refs s f) below (refs_told f below))
+        ∙ ap (lines_below (λ f. frame_lines f (s.frame f) (s.place f) (refs s f))) (sym frames)
+
+    pub determined : tables_shown shape words ends ≡ tables_of s
+    determined =
+        ap (λ a. a ++ (numbers_text shape words 64 ++ (cores_text ends shape.cores ++ total_line (ticks (shown shape words ends))))) frames_told
+        ∙ ap (λ b. lines_below (λ f. frame_lines f (s.frame f) (s.place f) (refs s f)) s.limits.frames ++ (b ++ (cores_text ends shape.cores ++ total_line (ticks (shown shape words ends))))) numbers_told
+        ∙ ap (λ d. lines_below (λ f. frame_lines f (s.frame f) (s.place f) (refs s f)) s.limits.frames ++ (lines_below (λ l. number_line l (s.number l)) 64 ++ (d ++ total_line (ticks (shown shape words ends))))) cores_told
+        ∙ ap (λ n. lines_below (λ f. frame_lines f (s.frame f) (s.place f) (refs s f)) s.limits.frames ++ (lines_below (λ l. number_line l (s.number l)) 64
+        ++ (lines_below (λ c. core_lines c (s.core c) (first_of_stack (thread_of s c).stack)) s.limits.cores ++ total_line n))) ticks_told
+
+-- The text that the pieces make, one after the other.
 pub whole_text : (shape : Shape) (words : List ℕ) (ends : List CoreEnd) (begun a b d e : List ℕ) (total : ℕ)
     → length ends ≡ shape.cores → total ≡ ticks (shown shape words ends)
     → begun ≡ []

@@ -2,6 +2,8 @@
 //!
 //! The tables are printed from the final words and the ends of the cores. The references to each frame are those that its
 //! count words show.
+//!
+//! See docs/FORMATS.md, 'Printed text'.
 #![tactic(auto)]
 
 mod counts;
@@ -12,7 +14,7 @@ mod whole;
 mod words;
 
 pub use spk_nums;
-pub use whole::report;
+pub use whole::{report, total};
 pub use word_map;
 
 #[cfg(test)]

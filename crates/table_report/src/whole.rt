@@ -2,11 +2,12 @@
 
 ghost use Rattle.std.specs.Prelude.{◌≡◌, IfOk, length, string_bytes};
 ghost use Rattle.kernel_rules.specs.State.{State};
+ghost use Rattle.kernel_rules.specs.Laws.{ticks};
 ghost use Rattle.word_map.specs.Places.{size_of};
 ghost use Rattle.kernel_history.specs.FinalWords.{Represent, word_in, end_in};
 ghost use Rattle.kernel_history.specs.Counts.{RepresentCounts};
 ghost use Rattle.kernel_history.specs.Tables.{tables_of};
-ghost use Rattle.table_report.specs.Shown.{tables_shown};
+ghost use Rattle.table_report.specs.Shown.{shown, tables_shown};
 
 use crate::frames::{budgets, push_frames};
 use crate::rest::{push_cores, push_numbers, spent};
@@ -14,6 +15,16 @@ use spk_nums::{CoreEnd, Memory};
 use std::alloc::{AllocError, Global};
 use table_lines::push_total;
 use word_map::{Closed, Layout};
+
+// The budgets of all temporal capabilities and what the cores have spent.
+fn total_ticks(layout: &Layout, words: &[u64], ends: &[CoreEnd]) -> u128
+    requires size { length words.now ≡ size_of layout.now }
+    requires ends { length ends.now ≡ layout.now.cores }
+    ensures { result ≡ ticks (shown layout.now words.now ends.now) }
+{
+    let _cores = layout.cores();
+    u128::from(budgets(layout, words)) + spent(ends)
+}
 
 fn tables(
     alloc: Global,
@@ -25,8 +36,7 @@ fn tables(
     requires ends { length ends.now ≡ layout.now.cores }
     ensures { IfOk result (λ text. string_bytes text ≡ tables_shown layout.now words.now ends.now) }
 {
-    let _cores = layout.cores();
-    let total = u128::from(budgets(layout, words)) + spent(ends);
+    let total = total_ticks(layout, words, ends);
     let mut text = String::new(alloc);
     push_frames(&mut text, layout, words)?;
     push_numbers(&mut text, layout, words)?;
@@ -43,7 +53,7 @@ fn tables(
 ///
 /// # Errors
 ///
-/// `Memory` where memory is wanting.
+/// `Memory` where memory has run out.
 pub fn report(alloc: Global, closed: &Closed) -> Result<String, Memory>
     requires words { length closed.now.words.items ≡ size_of closed.now.layout }
     requires ends { length closed.now.ends.items ≡ closed.now.layout.cores }
@@ -54,4 +64,19 @@ pub fn report(alloc: Global, closed: &Closed) -> Result<String, Memory>
 {
     let text = tables(alloc, &closed.layout, &closed.words, &closed.ends)?;
     Ok(text)
+}
+
+/// The total of all ticks of a machine in which no core is in a call, by its final words and the ends of its cores: the budgets
+/// of all temporal capabilities, and what the cores have spent.
+///
+/// There are as many words as the layout has places, and an end for each core.
+pub fn total(closed: &Closed) -> u128
+    requires words { length closed.now.words.items ≡ size_of closed.now.layout }
+    requires ends { length closed.now.ends.items ≡ closed.now.layout.cores }
+    // It is what the words and the ends show, whatever they are.
+    ensures shown { result ≡ ticks (shown closed.now.layout closed.now.words.items closed.now.ends.items) }
+    // It is the total of every state that they represent.
+    ensures total { (s : State) → s.limits.cores ≡ closed.now.layout.cores → s.limits.frames ≡ closed.now.layout.frames → Represent (word_in closed.now.layout closed.now.words.items) (end_in closed.now.ends.items) s → result ≡ ticks s }
+{
+    total_ticks(&closed.layout, &closed.words, &closed.ends)
 }

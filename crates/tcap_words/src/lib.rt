@@ -1,4 +1,6 @@
 //! The packed words of temporal capabilities and threads.
+//!
+//! See docs/FORMATS.md, 'Packed words'.
 #![tactic(auto)]
 
 mod head_word;

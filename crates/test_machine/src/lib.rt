@@ -1,4 +1,6 @@
 //! What the tests of scripts share: a machine of two cores, its tables, and the top call over ends in memory.
+//!
+//! See docs/CLAIMS.md, 'Crate by crate'.
 #![tactic(auto)]
 
 mod orders;

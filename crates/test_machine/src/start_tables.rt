@@ -19,7 +19,7 @@ frame 1 leaf refs 1
   13 tcap 7
 ";
 
-/// The tables behind the entries.
+/// The tables after the entries.
 pub const FROM_ENTRIES: &str = "frame 2 pages refs 2
 frame 3 comp refs 4
   fields 0 2 0 1
@@ -39,7 +39,7 @@ core 1 thread 5 tcap 7 comp 3 spent 0 owed 0
 total 200
 ";
 
-/// The tables of the start with these entry lines added, and these lines of frames behind those of the start.
+/// The tables of the start with these entry lines added, and these lines of frames after those of the start.
 pub fn tables(alloc: Global, added: &str, frames: &str) -> Result<String, Fail> {
     let start = format!(in alloc; "{TO_ENTRIES}{added}{FROM_ENTRIES}")?;
     let typed = format!(in alloc; "{frames}live 0 epoch")?;

@@ -55,7 +55,7 @@ pub fn answers<R: Threads + Sync>(
     Ok(answer == status && sink.bytes() == text.as_bytes())
 }
 
-/// Whether the script of these lines behind the machine's ends with this status and text.
+/// Whether the script of these lines after the machine's ends with this status and text.
 pub fn replays<R: Threads + Sync>(
     rt: &R,
     alloc: Global,

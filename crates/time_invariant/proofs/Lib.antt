@@ -1,3 +1,4 @@
 pub mod Ticks
+pub mod TickSteps
 pub mod TickCalls
 pub mod Budgets

@@ -6,8 +6,6 @@ use Rattle.spk_nums.specs.declared.calls.Call.TheVariants.{Tick}
 use Rattle.kernel_rules.specs.State.{Frame, Kernel, Tcap, TcapFields, State, thread_of, comp_of}
 use Rattle.kernel_history.specs.Footprint.{is_one_of, frames_own, frames_near}
 use Rattle.kernel_history.specs.Justified.{HasRacedHead}
-use Rattle.kernel_history.proofs.Inside.{decided-inside}
-use Rattle.kernel_history.proofs.Steps.{own_read-here}
 use Rattle.plan_ways.proofs.Near.{one_left}
 use Rattle.stage_tcap.specs.declared.charge.Charge.{Charge}
 use Rattle.core_invariant.specs.Knows.{IsCharge, ChargesBy}

@@ -1,8 +1,10 @@
 -- The steps of a tick are good: the load of the head of its core's temporal capability, and the compare, which is lost to another core or
 -- charges the ticks that are due.
+use Rattle.core_invariant.proofs.Bare.{counts_bare}
+use Rattle.core_invariant.proofs.Lent.{is_thread, unlent_value, unlent_word, lent_none, lent_kept, lent_free}
 use Rattle.std.specs.Prelude.{min, IsSome}
 use Rattle.std.proofs.lemmas.List.Elements.{All-nil}
-use Rattle.std.proofs.Common.{◌≡◌, ◌≢◌, inl, inr, ℕ, zero, suc, ◌||◌, map, ◌++◌, ◌+◌, ◌-◌, ◌*◌, ◌^◌, ◌<◌, ◌≤◌, ◌==◌, Bool, true, false, List, [], ◌∷◌, length, Option, Some, None, arith, refl, sym, ◌∙◌, ap, subst, if◌then◌else◌}
+use Rattle.std.proofs.Common.{◌≡◌, ◌≢◌, inl, inr, ℕ, zero, suc, map, ◌+◌, ◌-◌, ◌*◌, ◌^◌, ◌<◌, ◌≤◌, ◌==◌, true, false, List, [], ◌∷◌, length, Option, Some, None, arith, refl, sym, ◌∙◌, ap, subst, if◌then◌else◌}
 use Rattle.std.proofs.lemmas.Bool.{eqb-true, eqb-false, eq-eqb, cases_eq, false≢true}
 use Rattle.spk_nums.specs.Setting.{Setting, IsSetting}
 use Rattle.spk_nums.specs.CallLimits.{InLimits}
@@ -16,8 +18,8 @@ use Rattle.tcap_words.specs.Head.{HeadFits, word_of_head, head_of_word}
 use Rattle.tcap_words.specs.declared.head_word.HeadWord.{HeadWord}
 use Rattle.tcap_words.proofs.HeadLemmas.{spelling}
 use Rattle.word_map.specs.Word.{Word, EntryAt, FrameAt, CountAt, CoreAt, FlushAt, LiveAt, ClockAt}
-use Rattle.word_map.specs.Moves.{Move, LoadOf, CompareOf, word_of, left_of, told_of}
-use Rattle.kernel_rules.specs.State.{Core as CoreFields, Kernel, Blank, Tcap, TcapFields, tcap_in, Thing, PlaceOf, NumberOf, State, put, with_frame, with_core, thread_in, comp_in, thread_of, comp_of, first_of_stack}
+use Rattle.word_map.specs.Moves.{Move, LoadOf, CompareOf, word_of, left_of}
+use Rattle.kernel_rules.specs.State.{Core as CoreFields, Kernel, Tcap, TcapFields, tcap_in, Thing, PlaceOf, NumberOf, State, put, with_frame, with_core, thread_in, comp_in, thread_of, comp_of, first_of_stack}
 use Rattle.kernel_rules.specs.References.{sum_below, refs, frame_names, times}
 use Rattle.kernel_rules.specs.Rules.{Change, Found, IsFoundAnd}
 use Rattle.kernel_rules.specs.TimeCalls.{owing, with_tcap, charge, charges}
@@ -46,13 +48,13 @@ use Rattle.kernel_history.proofs.Small.{last_small}
 use Rattle.kernel_history.proofs.Steps.{own_read-here}
 use Rattle.stage_pins.specs.declared.held.Acquired.{Acquired}
 use Rattle.stage_tcap.specs.Heads.{head, raised, debited}
-use Rattle.stage_tcap.specs.Charging.{charge_move, after_mark, after_head, end_by_mark, head_end, charged_end}
+use Rattle.stage_tcap.specs.Charging.{after_mark, after_head, end_by_mark, head_end, charged_end}
 use Rattle.stage_tcap.specs.declared.charge.Charge.{Charge}
 use Rattle.stage_tcap.specs.declared.charge.Charge.TheVariants.{AtLoad, AtCompare}
 use Rattle.call_acts.specs.declared.own.Own.{Own}
 use Rattle.call_acts.specs.declared.own.OwnChange.TheVariants.{Ticks}
 use Rattle.call_acts.specs.OwnChanges.{own_changed}
-use Rattle.call_acts.specs.Ticks.{ticks_of, owes, took_charge, took_tick}
+use Rattle.call_acts.specs.Ticks.{ticks_of, owes, took_charge}
 use Rattle.call_acts.specs.declared.work.Act.TheVariants.{Tick as tick_act}
 use Rattle.call_acts.specs.declared.work.Work.TheVariants.{Act}
 use Rattle.call_acts.specs.declared.work.Tail.TheVariants.{Nothing as no_tail}
@@ -65,11 +67,12 @@ use Rattle.call_steps.specs.Cores.{own_decided}
 use Rattle.call_steps.specs.View.{Core}
 use Rattle.core_invariant.specs.Holding.{holds_counts, settled_by, settled}
 use Rattle.core_invariant.specs.Words.{HeadIs, IsFrameWord, WordIs, count_room}
-use Rattle.core_invariant.specs.Knows.{due_of, charged_tcap, ChargesBy, HasHead, KnowsUndecided, WorksIn, phase_at}
-use Rattle.core_invariant.specs.Stands.{holds_at, holds_in, holds, held_by, times_of, counted_in, Stands}
+use Rattle.core_invariant.specs.Knows.{due_of, charged_tcap, ChargesBy, HasHead, KnowsUndecided, WorksIn, phase_at, untypes}
+use Rattle.core_invariant.specs.Stands.{holds_at, holds_in, holds, held_by, times_of, counted_in, Stands, done_by}
 use Rattle.core_invariant.proofs.Calm.{IsPlain, plain_begins, plain_stamp, plain_flush, plain_exit}
 use Rattle.core_invariant.proofs.CountSums.{counted_refs}
-use Rattle.core_invariant.proofs.Good.{SparesBlanks, spares_kept}
+use Rattle.core_invariant.specs.Shares.{list_changed, TurnsHead, SparesTcap}
+use Rattle.core_invariant.proofs.Good.{Spared, SparesBlanks, spares_kept}
 use Rattle.core_invariant.proofs.Loads.{IsOfCall, OnlyLooks, next_at, inner, call_is, is_active, loads_on}
 use Rattle.core_invariant.proofs.Markers.{marker_inside}
 use Rattle.core_invariant.proofs.OwnChanges.{IsSameCore, decides_changing}
@@ -77,7 +80,7 @@ use Rattle.core_invariant.proofs.Refusals.{GoodTook, not_spent}
 use Rattle.core_invariant.proofs.Sounds.{limits_of}
 use Rattle.core_invariant.proofs.Sums.{sums_keep}
 use Rattle.core_invariant.proofs.WordFrames.{SameFor, ReadsAlike, StaysSaid, marks_own, settled_on, load_keeps, load_marks, load_words, word_stays, carry_marks, carry_words, others_settled}
-use Rattle.core_invariant.proofs.Writes.{same_marks}
+use Rattle.core_invariant.proofs.Writes.{same_marks, room_left}
 use Rattle.time_invariant.proofs.Budgets.{tcap_is, IsTcap, Numbers, numbers_of}
 use Rattle.time_invariant.proofs.TickCalls.{IsTick, tick_of, own_near, raced_head}
 
@@ -151,10 +154,11 @@ module _ (setup : Setting) (setting : IsSetting setup) (cores : ℕ → Core) (t
       all = let low = few in let owed = numbers.owed in let most = numbers.counted in omega arith
 
   -- what the head's word shows, where no core has marked it
-  head_says : marked_by setup t at ≡ None → HeadIs q (head_of_word was)
-  head_says unmarked = subst (λ o. HeadIs q (head_of_word (settled_by o (held_by cores) at was))) unmarked
-      (subst (λ x. IsFrameWord s.limits.frames x (s.place f 0) (stamp setup t (PlaceOf f 0)) 0 (settled setup (held_by cores) t at))
-      tcap.is (stands.words at))
+  head_says : marked_by setup t at ≡ None → HeadIs q (count_room s) (head_of_word was)
+  head_says unmarked = subst (λ (n : ℕ). HeadIs q (count_room s) (head_of_word n)) (unlent_value setup cores t stands f (ap is_thread tcap.is) 0 was)
+      (subst (λ o. HeadIs q (count_room s) (head_of_word (settled_by o (held_by cores) at was))) unmarked
+      (subst (λ x. IsFrameWord s.limits.frames (count_room s) x (s.place f 0) (stamp setup t (PlaceOf f 0)) 0 (settled setup (held_by cores) t at))
+      tcap.is (stands.words at)))
 
   mark_is : (x : ℕ) → mark_of s at x ≡ head_mark (head_of_word x)
   mark_is x = ap (λ y. mark_in_frame y 0 x) tcap.is
@@ -180,7 +184,7 @@ module _ (setup : Setting) (setting : IsSetting setup) (cores : ℕ → Core) (t
   left_own r charged owed = own_decided (own_changed (cores c).own (Ticks charged owed)) r
 
   same_core : (r : Reply) (charged owed : ℕ) → IsSameCore (cores c).own (left_own r charged owed)
-  same_core r charged owed = record { core = refl; layout = refl; limit = refl; exit = refl }
+  same_core r charged owed = record { core = refl; layout = refl; limit = refl; epochs = refl; exit = refl }
 
   -- A refusal leaves owed what is due.
   module _ (move : Move) (looks : OnlyLooks setup t c a.call move) (r : Reply)
@@ -291,6 +295,7 @@ module _ (setup : Setting) (setting : IsSetting setup) (cores : ℕ → Core) (t
       frame = frames g;
       place = ap (λ x. x.place g i) now;
       stamp = plain_stamp setup t e plain (PlaceOf g i);
+      room = more_room;
     }
     same_words (FrameAt g) = frames g
     same_words (CountAt g d) = more_room
@@ -312,8 +317,9 @@ module _ (setup : Setting) (setting : IsSetting setup) (cores : ℕ → Core) (t
         looks.of_call lands opens refl
         (marks_own setup cores t e after (λ w there. ap (λ h. h.marks w) still) stands.marks marks)
         (λ d m other. looks.kept)
-        (plain_begins setup t e plain) (spares_kept setup t e looks.kept) rises works marks
+        (plain_begins setup t e plain) (spares_kept setup t e looks.kept) (inl (ap untypes is.call_is)) rises works marks
         (load_words setup cores t e after still frames looks.kept same_words stands.words)
+        (lent_none setup (e ∷ t) c after (counts_bare (done_by r None) a.counts)) (lent_kept cores e looks.kept)
         (sums_keep setup t e (held_by cores) (held_by (put cores c after))
         (λ g d. settled_on setup cores t e after still frames (CountAt g d)
         (load_keeps setup cores t e after still frames looks.kept (CountAt g d)))
@@ -380,7 +386,7 @@ module _ (setup : Setting) (setting : IsSetting setup) (cores : ℕ → Core) (t
 
   -- The load.
   module _ (tcap_at : ℕ) (ticks : ℕ) (charge_is : charge_at ≡ AtLoad tcap_at ticks) where
-    here_is : tcap_at ≡ f
+    pub here_is : tcap_at ≡ f
     here_is = ap charged_tcap (sym charge_is) ∙ is.charged.tcap
 
     loading : OnlyLooks setup t c a.call (LoadOf at)
@@ -473,11 +479,17 @@ module _ (setup : Setting) (setting : IsSetting setup) (cores : ℕ → Core) (t
     unmarked : marked_by setup t at ≡ None
     unmarked = mark_is was ∙ ap head_mark shown_is
 
-    budget_is : budget ≡ q.budget
-    budget_is = ap (λ v. v.budget) (same_head _ _ (sym shown_is ∙ (head_says unmarked).says))
+    head_is : head budget version ≡ record { budget = q.budget; mark = None; version = (head_says unmarked).version }
+    head_is = same_head _ _ (sym shown_is ∙ (head_says unmarked).says)
       where
         same_head : (v u : HeadWord) → Some v ≡ Some u → v ≡ u
         same_head v u h = cc
+
+    budget_is : budget ≡ q.budget
+    budget_is = ap (λ v. v.budget) head_is
+
+    version_within : version ≤ count_room s
+    version_within = subst (λ (n : ℕ). n ≤ count_room s) (sym (ap (λ v. v.version) head_is)) (head_says unmarked).within
 
     ticks_is : ticks ≡ due
     ticks_is = ap ticks_of (sym charge_is) ∙ due_is
@@ -540,18 +552,24 @@ module _ (setup : Setting) (setting : IsSetting setup) (cores : ℕ → Core) (t
       | inr other ↦ ap comp_in (frame_there g other)
     ]
 
-    rises_won : counted_in setup s ≤ counted_in setup s_won
-    rises_won =
+    rises_more : 1 + counted_in setup s ≤ counted_in setup s_won
+    rises_more =
         let sum = sum_one (λ d. (s.core d).counted) (λ d. (s_won.core d).counted) setup.cores c here
         (λ d other. ap (λ k. k.counted) (core_won_other d other)) in
         let more : (s_won.core c).counted ≡ (s.core c).counted + 1 = ap (λ k. k.counted) core_won in
         omega arith
 
+    rises_won : counted_in setup s ≤ counted_in setup s_won
+    rises_won = let more = rises_more in omega arith
+
+    room_more : 1 + count_room s ≤ count_room s_won
+    room_more =
+        subst (λ (m : ℕ). 1 + count_room s ≤ 16 + 4 * sum_below (λ d. (s_won.core d).counted) m) (sym (ap (λ l. l.cores) limits_won))
+        (subst (λ (m : ℕ). 1 + (16 + 4 * sum_below (λ d. (s.core d).counted) m) ≤ 16 + 4 * sum_below (λ d. (s_won.core d).counted) m)
+        (sym (ap (λ l. l.cores) (limits_of setup t))) (let more = rises_more in omega arith))
+
     room_won : count_room s ≤ count_room s_won
-    room_won =
-        subst (λ (m : ℕ). count_room s ≤ 16 + 4 * sum_below (λ d. (s_won.core d).counted) m) (sym (ap (λ l. l.cores) limits_won))
-        (subst (λ (m : ℕ). 16 + 4 * sum_below (λ d. (s.core d).counted) m ≤ 16 + 4 * sum_below (λ d. (s_won.core d).counted) m)
-        (sym (ap (λ l. l.cores) (limits_of setup t))) (let more = rises_won in omega arith))
+    room_won = let more = room_more in omega arith
 
     whose_won : thread_of s_won c ≡ thread_of s c
     whose_won = threads_won (s_won.core c).thread ∙ ap (λ k. thread_in (s.frame k.thread)) core_won
@@ -616,25 +634,26 @@ module _ (setup : Setting) (setting : IsSetting setup) (cores : ℕ → Core) (t
     said_won : (w : Word) → SameFor s s_won (times_of setup t) (times_of setup (e_won ∷ t)) w → StaysSaid setup cores t e_won w
     said_won w same = word_stays s s_won (times_of setup t) (times_of setup (e_won ∷ t)) w (settled setup (held_by cores) t w) same
 
-    list_stays : (i x : ℕ) → i ≢ 0 → IsFrameWord s.limits.frames (Kernel (Tcap q)) (s.place f i) (stamp setup t (PlaceOf f i)) i x
-        → IsFrameWord s_won.limits.frames (Kernel (Tcap q_less)) (s_won.place f i) (stamp setup (e_won ∷ t) (PlaceOf f i)) i x
+    list_stays : (i x : ℕ) → i ≢ 0 → IsFrameWord s.limits.frames (count_room s) (Kernel (Tcap q)) (s.place f i) (stamp setup t (PlaceOf f i)) i x
+        → IsFrameWord s_won.limits.frames (count_room s_won) (Kernel (Tcap q_less)) (s_won.place f i) (stamp setup (e_won ∷ t) (PlaceOf f i)) i x
     list_stays zero x some h = absurd (some refl)
     list_stays (suc j) x some h = h
 
     stays_won : (w : Word) → w ≢ at → marked_by setup t w ≢ Some c → StaysSaid setup cores t e_won w
     stays_won (EntryAt g i) there free = elim (cases_eq g f) [
       | inl same ↦ subst (λ (m : ℕ). StaysSaid setup cores t e_won (EntryAt m i)) (sym same)
-          (λ h. subst (λ x. IsFrameWord s_won.limits.frames x (s_won.place f i) (stamp setup (e_won ∷ t) (PlaceOf f i)) i
+          (λ h. subst (λ x. IsFrameWord s_won.limits.frames (count_room s_won) x (s_won.place f i) (stamp setup (e_won ∷ t) (PlaceOf f i)) i
           (settled setup (held_by cores) t (EntryAt f i))) (sym (frame_here f refl))
           (list_stays i (settled setup (held_by cores) t (EntryAt f i))
           (λ first. there (ap (λ (m : ℕ). EntryAt m i) same ∙ ap (λ (m : ℕ). EntryAt f m) first))
-          (subst (λ x. IsFrameWord s.limits.frames x (s.place f i) (stamp setup t (PlaceOf f i)) i
+          (subst (λ x. IsFrameWord s.limits.frames (count_room s) x (s.place f i) (stamp setup t (PlaceOf f i)) i
           (settled setup (held_by cores) t (EntryAt f i))) tcap.is h)))
       | inr other ↦ said_won (EntryAt g i) (record {
         frames = ap (λ l. l.frames) limits_won;
         frame = frame_there g other;
         place = ap (λ x. x.place g i) now_won;
         stamp = plain_stamp setup t e_won plain_won (PlaceOf g i);
+        room = room_won;
       })
     ]
     stays_won (FrameAt g) there free = elim (cases_eq g f) [
@@ -656,12 +675,13 @@ module _ (setup : Setting) (setting : IsSetting setup) (cores : ℕ → Core) (t
 
     now_says : WordIs s_won (times_of setup (e_won ∷ t)) at (left_of charging was)
     now_says = subst (WordIs s_won (times_of setup (e_won ∷ t)) at) (sym leaves_it)
-        (subst (λ x. IsFrameWord s_won.limits.frames x (s_won.place f 0) (stamp setup (e_won ∷ t) (PlaceOf f 0)) 0 (word_of_head less))
+        (subst (λ x. IsFrameWord s_won.limits.frames (count_room s_won) x (s_won.place f 0) (stamp setup (e_won ∷ t) (PlaceOf f 0)) 0 (word_of_head less))
         (sym (frame_here f refl))
         (record {
           version = raised version;
           says = spelling.reads less less_fits
               ∙ ap (λ (m : ℕ). Some (record { budget = m - charged; mark = None; version = raised version })) budget_is;
+          within = (let low = version_within in let more = room_more in omega arith);
           most = (head_says unmarked).most;
         }))
 
@@ -694,13 +714,23 @@ module _ (setup : Setting) (setting : IsSetting setup) (cores : ℕ → Core) (t
     no_count g d h = cc
 
     spares : SparesBlanks setup t e_won
-    spares g i on blank = absurd (not_blank (sym blank ∙ ap s.frame (same_frame g i on) ∙ tcap.is))
+    spares g i on = subst (λ (m : ℕ). Spared setup t e_won m i (s.frame m)) (sym (frame_is g i on))
+        (subst (Spared setup t e_won f i) (sym tcap.is)
+        (subst (λ (m : ℕ). SparesTcap setup t e_won f m) (sym (index_is g i on)) turns))
       where
-        same_frame : (g i : ℕ) → at ≡ EntryAt g i → g ≡ f
-        same_frame g i h = cc
+        frame_is : (g i : ℕ) → at ≡ EntryAt g i → g ≡ f
+        frame_is g i h = cc
 
-        not_blank : Kernel Blank ≡ Kernel (Tcap q) → ⊥
-        not_blank h = cc
+        index_is : (g i : ℕ) → at ≡ EntryAt g i → i ≡ 0
+        index_is g i h = cc
+
+        rises : version < raised version
+        rises = let low = version_within in let few = room_left setup setting cores t stands in omega arith
+
+        turns : SparesTcap setup t e_won f 0
+        turns = inr (subst (λ o. TurnsHead c (list_changed t f) (head_of_word was) o)
+            (sym (ap head_of_word leaves_it ∙ spelling.reads less less_fits))
+            (subst (λ o. TurnsHead c (list_changed t f) o (Some less)) (sym shown_is) (inl refl, inl rises)))
 
     permitted_won : MayReply s c a.call (reply.Ok (Amount charged))
     permitted_won = (
@@ -725,55 +755,18 @@ module _ (setup : Setting) (setting : IsSetting setup) (cores : ℕ → Core) (t
         (of_compare budget version met (word_of_head less)) lands opens refl
         (marks_own setup cores t e_won after_won (λ w there. still_won w) stands.marks marks)
         (λ d m other. absurd (none_some d (sym unmarked ∙ m)))
-        (plain_begins setup t e_won plain_won) spares rises_won works_won marks
-        (carry_words setup cores t e_won after_won still_won alike_won unmarked bare_now stays_won now_says
+        (plain_begins setup t e_won plain_won) spares (inl (ap untypes is.call_is)) rises_won works_won marks
+        (carry_words setup cores t e_won after_won still_won alike_won unmarked bare_now
+        (λ g i. counts_bare (Some None) a.counts g i
+        ∙ sym (ap (λ h. h.bare g i) (ap holds_in active ∙ held_is) ∙ counts_bare None a.counts g i))
+        (unlent_value setup cores t stands f (ap is_thread tcap.is) 0) stays_won now_says
         (λ w own. absurd (free_of w own)) stands.words)
+        (lent_none setup (e_won ∷ t) c after_won (counts_bare (Some None) a.counts))
+        (lent_free cores e_won (unlent_word setup cores t stands f 0 (ap is_thread tcap.is)))
         (sums_keep setup t e_won (held_by cores) (held_by (put cores c after_won))
         (λ g d. others_settled setup cores t e_won after_won still_won alike_won unmarked bare_now (CountAt g d) (no_count g d)
-        (free_of (CountAt g d)))
+        (free_of (CountAt g d)) refl)
         plain_won limits_won refs_won stands.sums)
         (record { call = a.call; is_open = is_open; permitted = permitted_won; justified = reached_none })
         (λ is_alone. ok_first s c a.call (Amount charged) permitted_won)
         tt
-
--- A step of a tick is good.
-pub tick_good : (setup : Setting) → IsSetting setup → (cores : ℕ → Core) (t : Trace) → Stands setup cores t → (c : ℕ) → c < setup.cores
-    → (a : ActiveCall) → (cores c).active ≡ Some a → (charge_at : Charge) → a.stage ≡ Undecided (Act (tick_act charge_at))
-    → KnowsUndecided setup t c (cores c).own.table a (Act (tick_act charge_at))
-    → GoodTook setup cores t c (charge_move charge_at)
-    (landed a (took_tick charge_at (told_of (charge_move charge_at) (last_left setup t (word_of (charge_move charge_at))))))
-tick_good setup setting cores t stands c here a active (AtLoad tcap ticks) is has =
-    subst (λ (f : ℕ). GoodTook setup cores t c (LoadOf (EntryAt f 0))
-    (landed a (took_charge ticks (after_head f ticks (head_of_word (last_left setup t (EntryAt f 0))))
-    (head_end (head_of_word (last_left setup t (EntryAt f 0)))))))
-    (sym (here_is setup setting cores t stands c here a active (AtLoad tcap ticks) is has tcap ticks refl))
-    (load_good setup setting cores t stands c here a active (AtLoad tcap ticks) is has tcap ticks refl)
-tick_good setup setting cores t stands c here a active (AtCompare tcap ticks budget version) is has = by (own_frame has.knows.knows.charges)
-  where
-    own_frame : ChargesBy (state_after setup t) c a.call (AtCompare tcap ticks budget version) → tcap ≡ ((state_after setup t).core c).tcap
-    own_frame h = (tick_of (state_after setup t) c a.call (AtCompare tcap ticks budget version) h).charged.tcap
-
-    Goal : ℕ → Type 0
-    Goal f = GoodTook setup cores t c (CompareOf (EntryAt f 0) (word_of_head (head budget version))
-        (word_of_head (debited (head budget version) (min ticks budget))))
-        (landed a (took_charge ticks (AtCompare tcap ticks budget version)
-        (charged_end (last_left setup t (EntryAt f 0) == word_of_head (head budget version)) (min ticks budget))))
-
-    by : tcap ≡ ((state_after setup t).core c).tcap → Goal tcap
-    by same = subst Goal (sym same) (by_test (last_left setup t (EntryAt ((state_after setup t).core c).tcap 0)
-        == word_of_head (head budget version)) refl)
-      where
-        met : HasHead t c ((state_after setup t).core c).tcap budget version
-        met = subst (λ (f : ℕ). HasHead t c f budget version) same has.knows.knows.at
-
-        by_test : (equal : Bool)
-            → (last_left setup t (EntryAt ((state_after setup t).core c).tcap 0) == word_of_head (head budget version)) ≡ equal
-            → GoodTook setup cores t c (CompareOf (EntryAt ((state_after setup t).core c).tcap 0) (word_of_head (head budget version))
-            (word_of_head (debited (head budget version) (min ticks budget))))
-            (landed a (took_charge ticks (AtCompare tcap ticks budget version) (charged_end equal (min ticks budget))))
-        by_test true equal =
-            won_good setup setting cores t stands c here a active (AtCompare tcap ticks budget version) is has tcap ticks budget version
-            refl met equal
-        by_test false other =
-            lost_good setup setting cores t stands c here a active (AtCompare tcap ticks budget version) is has budget version met
-            (word_of_head (debited (head budget version) (min ticks budget))) other

@@ -5,4 +5,6 @@
 //! which a tick is decided changes what its core has of its own.
 //!
 //! The lemmas stand in this crate's proofs.
+//!
+//! See docs/PROOF.md, 'Time: a tick'.
 #![tactic(auto)]

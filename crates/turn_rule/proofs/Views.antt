@@ -19,7 +19,7 @@ set_same [] i = refl
 set_same (x ∷ xs) zero = refl
 set_same (x ∷ xs) (suc i) = ap (λ (ys : List ℕ). x ∷ ys) (set_same xs i)
 
--- a look-up behind a push
+-- a look-up after a push
 pushed_at : {A : Type 0} (l : List A) (a b : A) (j : ℕ) → get_elem? (l ++ a ∷ []) j ≡ some b → (get_elem? l j ≡ some b) ⊎ ((j ≡ length l) × (a ≡ b))
 pushed_at [] a b zero e = inr (refl, some-injective a b e)
 pushed_at [] a b (suc j) e = absurd (some-ne-none b (sym e))

@@ -11,11 +11,13 @@
 //! step of the trace found the word that was last left at its place, and is the step that its core's program made.
 //!
 //! **Atomic steps.** A load, a compare, a store and an add are steps of a core and stand in the trace. A store tells the
-//! program the word stored; the trace has the word found. Handing out a note, joining one in and the load behind that
+//! program the word stored; the trace has the word found. Handing out a note, joining one in and the load after that
 //! change what seats have seen, and stand in no trace.
 //!
 //! **Notes.** A note tells of what a seat has seen. A seat that meets it has then seen that and all before its load. So
 //! what one thread has made, another knows to come before what it makes.
+//!
+//! See docs/PROOF.md, 'Taken steps'.
 #![tactic(auto)]
 
 mod ends;

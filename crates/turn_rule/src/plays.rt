@@ -92,7 +92,7 @@ impl<P, C> Join<View<P, C>> for Takes {
     ghost spent = { view nothing };
 }
 
-/// The load behind a join, with which the seat has seen both traces and all so far.
+/// The load after a join, with which the seat has seen both traces and all so far.
 pub(crate) struct CatchesUp<P> {
     marker: PhantomData<P>,
 }
@@ -103,7 +103,7 @@ impl<P: CoreProgram> Play<(), View<P, P::Call>> for CatchesUp<P> {
     ghost then = { met P.steps };
 }
 
-/// The load behind a join, with which the seat stands for the cores of the other seat too.
+/// The load after a join, with which the seat stands for the cores of the other seat too.
 pub(crate) struct Gathers<P> {
     marker: PhantomData<P>,
 }

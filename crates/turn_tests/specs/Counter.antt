@@ -16,7 +16,7 @@ next_at Idle = None
 next_at (Looks left) = Some (Load 0)
 next_at (Tries seen left) = Some (Compare 0 seen ((seen + 1) % 2 ^ 64))
 
--- behind a lost try, which found n
+-- after a lost try, which found n
 abbrev pub lost : ℕ → ℕ → Stage
 lost n zero = Idle
 lost n (suc left) = Tries n left

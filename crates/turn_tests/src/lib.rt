@@ -1,5 +1,7 @@
 //! The shared table's rule at two small programs: cores that count by compare-and-swap, and cores that take tickets by
 //! an add, and show them by stores in words of their own.
+//!
+//! See docs/CLAIMS.md, 'Crate by crate'.
 #![tactic(auto)]
 
 mod counter;

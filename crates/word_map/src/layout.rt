@@ -142,7 +142,7 @@ impl Layout {
         self.lives_begin() + 65
     }
 
-    /// The first place behind the counts.
+    /// The first place after the counts.
     #[inline]
     fn cores_begin(&self) -> u32
         ensures place { result ≡ place_of self.now (CoreAt 0) }
@@ -151,7 +151,7 @@ impl Layout {
         65 * u32::from(self.frames) + u32::from(self.cores) * u32::from(self.frames)
     }
 
-    /// The first place behind the cores' words.
+    /// The first place after the cores' words.
     #[inline]
     fn lives_begin(&self) -> u32
         ensures place { result ≡ place_of self.now (LiveAt 0) }

@@ -1,4 +1,6 @@
 //! The places of the shared table's words.
+//!
+//! See docs/FORMATS.md, 'Places of the words'.
 #![tactic(auto)]
 
 mod closed;

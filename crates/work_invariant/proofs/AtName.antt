@@ -1,10 +1,11 @@
 -- What the look-up of a call with one name and no target ends in: a look answers what its name has led to; a retype has found its range,
 -- which has the frame or does not.
-use Rattle.std.proofs.Common.{◌≡◌, inl, ℕ, ◌+◌, ◌<◌, ◌≤◌, ◌&&◌, not, nat_le, nat_lt, Bool, true, false, List, [], ◌∷◌, Some, None, arith, refl, sym, ◌∙◌, ap, subst, if◌then◌else◌, map}
+use Rattle.std.proofs.Common.{◌≡◌, ◌≢◌, ◌⊎◌, inl, inr, ℕ, ◌+◌, ◌<◌, ◌≤◌, ◌&&◌, not, nat_le, nat_lt, Bool, true, false, List, [], ◌∷◌, Some, None, arith, refl, sym, ◌∙◌, ap, subst, if◌then◌else◌, map}
 use Rattle.std.proofs.lemmas.Bool.{ltb-true, lt-ltb, false≢true}
 use Rattle.spk_nums.specs.Capability.{Capability}
 use Rattle.spk_nums.specs.Setting.{Setting, IsSetting}
 use Rattle.spk_nums.specs.declared.kinds.FrameKind.{FrameKind}
+use Rattle.spk_nums.specs.declared.kinds.FrameKind.TheVariants.{Untyped}
 use Rattle.spk_nums.specs.declared.kinds.Kind.{Kind}
 use Rattle.spk_nums.specs.declared.kinds.Kind.TheVariants.{Range}
 use Rattle.spk_nums.specs.declared.calls.Call.TheVariants.{Retype, Look as look_call}
@@ -26,8 +27,11 @@ use Rattle.call_plans.proofs.AfterNames.{outcome_left, left_may}
 use Rattle.stage_look.specs.Shown.{CapNames, end_of_frames}
 use Rattle.stage_pins.specs.declared.held.Acquired.{Acquired}
 use Rattle.call_acts.specs.declared.typings.TypingAt.TheVariants.{Load}
+use Rattle.call_acts.specs.declared.untypings.Untyping.{Untyping}
+use Rattle.call_acts.specs.declared.untypings.UntypingAt.TheVariants.{Load as untype_load}
+use Rattle.core_invariant.specs.Sweeps.{UntypesBy}
 use Rattle.call_acts.specs.declared.work.Act.{Act as ActOf}
-use Rattle.call_acts.specs.declared.work.Act.TheVariants.{Retype as type_act}
+use Rattle.call_acts.specs.declared.work.Act.TheVariants.{Retype as type_act, Untype as untype_act}
 use Rattle.call_acts.specs.declared.work.WorkStep.TheVariants.{Goes}
 use Rattle.call_acts.specs.declared.work.Work.TheVariants.{Act}
 use Rattle.call_acts.specs.Acts.{typing_to, types_if, types_at, act_begun}
@@ -85,6 +89,11 @@ one_name names one name rest ks kind is left wanted = (
     named : name ≡ one
     named = first_same name rest one (sym (subst (λ (ks : List Capability). names_after (one ∷ []) ks ≡ name ∷ rest) none after))
 
+-- The act of a retype: to another kind than untyped, or to untyped.
+abbrev pub IsTypedBy : ℕ → ℕ → FrameKind → Type 0
+IsTypedBy core f k = ((k ≢ Untyped) × (typing_to core f k ≡ type_act (record { frame = f; kind = k; at = Load })))
+    ⊎ ((k ≡ Untyped) × (typing_to core f k ≡ untype_act (record { frame = f; core = core; at = untype_load })))
+
 module _ (setup : Setting) (setting : IsSetting setup) (cores : ℕ → Core) (t : Trace) (stands : Stands setup cores t) (c : ℕ)
     (here : c < setup.cores)
     (a : ActiveCall) (active : (cores c).active ≡ Some a) (opens : phase_at a.call a.stage ≡ Open a.call)
@@ -97,7 +106,7 @@ module _ (setup : Setting) (setting : IsSetting setup) (cores : ℕ → Core) (t
     → NamesAre setup (step_to c None (LoadOf (EntryAt at.node at.index)) (last_left setup t (EntryAt at.node at.index)) None None ∷ t) c
     (cores c).own.table a.plan (range ∷ []))
     (r f : ℕ) (k : FrameKind) (call_is : a.call ≡ Retype r f k) (kind_is : range.kind ≡ Range) (within : CapNames setup.frames range)
-    (to : typing_to (cores c).own.core f k ≡ type_act (record { frame = f; kind = k; at = Load })) where
+    (to : IsTypedBy (cores c).own.core f k) where
   abbrev s : State
   s = state_after setup t
 
@@ -112,9 +121,9 @@ module _ (setup : Setting) (setting : IsSetting setup) (cores : ℕ → Core) (t
   unspent = not_spent setup (cores c) t c (core_is setup setting cores t stands c here a active) room
 
   -- the frame is in the range
-  types_now : has_frame (found range) f ≡ true → GoodTook setup cores t c (LoadOf (EntryAt at.node at.index))
+  types_now : k ≢ Untyped → has_frame (found range) f ≡ true → GoodTook setup cores t c (LoadOf (EntryAt at.node at.index))
       (landed (found_more a (range ∷ [])) (Goes (Act (type_act (record { frame = f; kind = k; at = Load })))))
-  types_now has lands =
+  types_now types_so has lands =
       loads_on setup setting cores t stands c here a active (LoadOf (EntryAt at.node at.index)) (range ∷ [])
       (Undecided (Act (type_act (record { frame = f; kind = k; at = Load })))) looks lands (sym held_is) opens
       (λ carries. record {
@@ -122,7 +131,7 @@ module _ (setup : Setting) (setting : IsSetting setup) (cores : ℕ → Core) (t
         knows = record {
           knows = record {
             types = subst (λ x. TypesBy x (range ∷ []) (record { frame = f; kind = k; at = Load })) (sym call_is)
-                (record { frame = refl; kind = refl; within = has });
+                (record { frame = refl; kind = refl; types = types_so; within = has });
             met = tt;
           };
           all = ap (λ (xs : List Acquired). map due_of xs) (sym no_counts);
@@ -130,9 +139,36 @@ module _ (setup : Setting) (setting : IsSetting setup) (cores : ℕ → Core) (t
         };
       })
 
+  -- and is to be made untyped
+  abbrev untyping : Untyping
+  untyping = record { frame = f; core = (cores c).own.core; at = untype_load }
+
+  untypes_now : k ≡ Untyped → has_frame (found range) f ≡ true → GoodTook setup cores t c (LoadOf (EntryAt at.node at.index))
+      (landed (found_more a (range ∷ [])) (Goes (Act (untype_act untyping))))
+  untypes_now untyped has lands =
+      loads_on setup setting cores t stands c here a active (LoadOf (EntryAt at.node at.index)) (range ∷ [])
+      (Undecided (Act (untype_act untyping))) looks lands (sym held_is) opens
+      (λ carries. record {
+        names = names carries;
+        knows = record {
+          knows = record {
+            untypes = subst (λ x. UntypesBy x (range ∷ []) untyping) (sym (call_is ∙ ap (Retype r f) untyped))
+                (record { frame = refl; within = has });
+            core = (stands.each c here).number;
+            at = tt;
+          };
+          all = ap (λ (xs : List Acquired). map due_of xs) (sym no_counts);
+          goes = refl;
+        };
+      })
+
   in_range : has_frame (found range) f ≡ true → Ends true
-  in_range has = subst (λ (act : ActOf). GoodTook setup cores t c (LoadOf (EntryAt at.node at.index))
-      (landed (found_more a (range ∷ [])) (Goes (Act act)))) (sym to) (types_now has)
+  in_range has = elim to [
+    | inl types ↦ subst (λ (act : ActOf). GoodTook setup cores t c (LoadOf (EntryAt at.node at.index))
+        (landed (found_more a (range ∷ [])) (Goes (Act act)))) (sym types.1) (types_now types.0 has)
+    | inr untypes ↦ subst (λ (act : ActOf). GoodTook setup cores t c (LoadOf (EntryAt at.node at.index))
+        (landed (found_more a (range ∷ [])) (Goes (Act act)))) (sym untypes.1) (untypes_now untypes.0 has)
+  ]
 
   -- it is not
   past : has_frame (found range) f ≡ false → Ends false

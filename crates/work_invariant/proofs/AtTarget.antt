@@ -1,7 +1,7 @@
 -- The act with which a call begins at a target that is to be free: it fills the place, it makes an object in a frame of its range, or this
 -- frame is out of range.
 use Rattle.std.specs.Prelude.{IsSome}
-use Rattle.std.proofs.Common.{◌≡◌, inl, ℕ, ◌<◌, ◌&&◌, nat_lt, Bool, true, false, List, [], ◌∷◌, Option, Some, refl, sym, ◌∙◌, ap, subst, IsTrue, arith, if◌then◌else◌, None, ◌≤◌}
+use Rattle.std.proofs.Common.{◌≡◌, inl, ℕ, ◌<◌, ◌&&◌, nat_lt, Bool, true, false, List, [], ◌∷◌, Option, Some, refl, sym, ◌∙◌, ap, subst, IsTrue, arith, if◌then◌else◌, None, ◌≤◌, inr}
 use Rattle.std.proofs.lemmas.Bool.{lt-ltb, le-leb, false≢true}
 use Rattle.spk_nums.specs.Capability.{Capability}
 use Rattle.spk_nums.specs.Setting.{Setting, IsSetting}
@@ -9,7 +9,7 @@ use Rattle.spk_nums.specs.declared.kinds.FrameKind.TheVariants as frame_kind
 use Rattle.spk_nums.specs.declared.kinds.Kind.{Kind}
 use Rattle.spk_nums.specs.declared.kinds.Kind.TheVariants as kind
 use Rattle.spk_nums.specs.declared.calls.Call.{Call}
-use Rattle.spk_nums.specs.declared.calls.Call.TheVariants.{Look as look_call, Copy, Remove, Shrink, Unmap, Retype, Make as make_call, Tick, Gate, Kill, Grow, Flush, Map}
+use Rattle.spk_nums.specs.declared.calls.Call.TheVariants.{Look as look_call, Copy, Remove, Shrink, Unmap, Retype, Make as make_call, Tick, Gate, Kill, Grow, Flush, Map, Touch, Call as call_gate, Ret, Transfer, Test, Switch}
 use Rattle.spk_nums.specs.declared.calls.Make.{Make}
 use Rattle.spk_nums.specs.declared.calls.Make.TheVariants as make
 use Rattle.spk_nums.specs.CallLimits.{InLimits}
@@ -37,7 +37,7 @@ use Rattle.call_plans.specs.declared.plans.Nth.TheVariants.{First, Second}
 use Rattle.call_plans.specs.declared.plans.Plan.{Plan}
 use Rattle.call_plans.specs.declared.plans.Spot.{Spot}
 use Rattle.call_plans.specs.declared.plans.Spot.TheVariants as spot_of
-use Rattle.call_plans.specs.declared.plans.Target.TheVariants.{Nowhere, Free, Held}
+use Rattle.call_plans.specs.declared.plans.Target.TheVariants.{Nowhere, Free, Held, Own as own_page}
 use Rattle.call_plans.specs.Plans.{at_place}
 use Rattle.call_plans.specs.PlanOf.{any_cap, a_root, a_leaf, of_kind, plan_for}
 use Rattle.call_plans.specs.After.{Leads, LeadsIn, names_after}
@@ -47,8 +47,9 @@ use Rattle.call_acts.specs.declared.objects.NewObject.TheVariants as objects
 use Rattle.call_acts.specs.declared.work.Act.{Act as ActOf}
 use Rattle.call_acts.specs.declared.work.Act.TheVariants.{Outside}
 use Rattle.call_acts.specs.Objects.{object_made}
-use Rattle.call_acts.specs.Acts.{gate_if, gate_to, put_by, reads_of, fills_with, scans, stamp_in, stamp_shown, stamp_of_act, filling, making, making_if, makes_at, act_begun, fills_page, page_cap, mapping, mapping_if, maps_if}
+use Rattle.call_acts.specs.Acts.{gate_if, gate_to, put_by, reads_of, fills_with, scans, stamp_in, stamp_shown, stamp_of_act, filling, making, making_if, makes_at, act_begun, fills_page, page_cap, mapping, mapping_if, maps_if, made_begun, comp_making, comp_if}
 use Rattle.core_invariant.specs.Knows.{IsRead, ReadIs, IsSpot, KnowsAct, OutsideBy, is_start, goes_on, HasUser}
+use Rattle.place_invariant.proofs.CompMakes.{IsCompMake, comp_make}
 use Rattle.core_invariant.proofs.Sounds.{limits_of}
 use Rattle.place_invariant.proofs.ObjectMakes.{made_of, TwoFound, object_make}
 use Rattle.work_invariant.proofs.AtName.{range_below}
@@ -61,7 +62,7 @@ pub record Begins (own : Own) (call : Call) (plan : Plan) (ks : List Capability)
       ≡ scans own.core (quiet_scan (stamp_in f.value) own.core own.layout.cores (fills_page call ks)) act
   pub stamp : stamp_of_act act ≡ stamp_shown (entry_of_word f.word)
   pub starts : is_start act ≡ true
-  pub knows : (setup : Setting) (t : Trace) (upto : ℕ) → IsSpot setup t c plan ks upto f.node f.entry f.word
+  pub knows : (setup : Setting) (t : Trace) (upto : ℕ) → own.epochs ≡ setup.epochs → IsSpot setup t c plan ks upto f.node f.entry f.word
       → ReadIs (state_after setup t) c (reads_of call ks) read → KnowsAct setup t c call plan ks upto act
   pub outside : goes_on act ≡ false → OutsideBy call ks
 
@@ -95,14 +96,14 @@ module _ (own : Own) (plan : Plan) (read : Option ℕ) (c : ℕ) (own_core : own
   begins_fill : (call : Call) (ks : List Capability) (k : Capability)
       → act_begun own call ks read (Some at)
       ≡ scans own.core (quiet_scan (stamp_in at.value) own.core own.layout.cores (fills_page call ks)) (filling k at)
-      → EntryFits (entry.Held k) → put_by call ks read ≡ Some k → ((s : State) → HasUser s call)
+      → EntryFits (entry.Held k) → put_by call ks read ≡ Some k → ((setup : Setting) (t : Trace) → HasUser setup t c call)
       → Begins own call plan ks read c at
   begins_fill call ks k begins fits puts user = record {
     act = filling k at;
     begins = begins;
     stamp = refl;
     starts = refl;
-    knows = λ setup t upto spot reads. record {
+    knows = λ setup t upto epochs spot reads. record {
       target = spot.target;
       next = spot.next;
       way = spot.way;
@@ -112,7 +113,7 @@ module _ (own : Own) (plan : Plan) (read : Option ℕ) (c : ℕ) (own_core : own
       read = read;
       has_read = reads;
       puts = puts;
-      user = user (state_after setup t);
+      user = user setup t;
     };
     outside = λ out. absurd (false≢true (sym out));
   }
@@ -137,7 +138,7 @@ module _ (own : Own) (plan : Plan) (read : Option ℕ) (c : ℕ) (own_core : own
           begins = map_within true has flags ∙ ap (λ b. map_scan (mapping_if b f w at)) (lt-ltb f own.layout.frames (below has));
           stamp = refl;
           starts = refl;
-          knows = λ setup t upto spot reads. record {
+          knows = λ setup t upto epochs spot reads. record {
             spot = spot;
             fits = (let low = below has in omega (arith, low, small), omega arith, flags);
             puts = ap (λ b. if b then Some (page_cap f w) else None) has;
@@ -151,9 +152,18 @@ module _ (own : Own) (plan : Plan) (read : Option ℕ) (c : ℕ) (own_core : own
           begins = map_within false has flags;
           stamp = refl;
           starts = refl;
-          knows = λ setup t upto spot reads. record { spot = spot; outside = has };
+          knows = λ setup t upto epochs spot reads. record { spot = spot; outside = has };
           outside = λ out. has;
         }
+
+  -- what a make of an object does
+  object_begun : (what : Make) (ks : List Capability) (object : NewObject) → object_made what ks ≡ Some object → (f : ℕ)
+      → made_begun own what ks f (Some at) ≡ makes_at own (object_made what ks) (at_place ks First) f (Some at)
+  object_begun (make.Comp table pages live) ks object is f = absurd (none_some is)
+    where
+      none_some : None ≡ Some object → ⊥
+      none_some h = cc
+  object_begun what ks object is f = refl
 
   -- it makes an object
   module _ (what : Make) (r f u b : ℕ) (object : NewObject) (range : Capability) (rest : List Capability)
@@ -166,7 +176,7 @@ module _ (own : Own) (plan : Plan) (read : Option ℕ) (c : ℕ) (own_core : own
 
     within_is : (has : Bool) → has_frame (found range) f ≡ has
         → act_begun own (make_call what r f u b) ks read (Some at) ≡ scan (making_if (has && nat_lt f own.layout.frames) own object f at)
-    within_is has by = ap (λ o. makes_at own o (Some range) f (Some at)) is
+    within_is has by = object_begun what ks object is f ∙ ap (λ o. makes_at own o (Some range) f (Some at)) is
         ∙ ap (λ b. scan (making_if (b && nat_lt f own.layout.frames) own object f at)) by
 
     begins_make : (has_frame (found range) f ≡ true → f < own.layout.frames) → Begins own (make_call what r f u b) plan ks read c at
@@ -178,7 +188,7 @@ module _ (own : Own) (plan : Plan) (read : Option ℕ) (c : ℕ) (own_core : own
           begins = within_is true has ∙ ap (λ b. scan (making_if b own object f at)) (lt-ltb f own.layout.frames (below has));
           stamp = refl;
           starts = refl;
-          knows = λ setup t upto spot reads. record {
+          knows = λ setup t upto epochs spot reads. record {
             spot = spot;
             makes = record { frame = refl; object = is; within = has };
             core = own_core;
@@ -192,12 +202,55 @@ module _ (own : Own) (plan : Plan) (read : Option ℕ) (c : ℕ) (own_core : own
           begins = within_is false has;
           stamp = refl;
           starts = refl;
-          knows = λ setup t upto spot reads. record {
+          knows = λ setup t upto epochs spot reads. record {
             spot = spot;
-            outside = record { object = subst (λ (o : Option NewObject). IsSome o) (sym is) refl; outside = has };
+            outside = inl (record { object = subst (λ (o : Option NewObject). IsSome o) (sym is) refl; outside = has });
           };
-          outside = λ out. record { object = subst (λ (o : Option NewObject). IsSome o) (sym is) refl; outside = has };
+          outside = λ out. inl (record { object = subst (λ (o : Option NewObject). IsSome o) (sym is) refl; outside = has });
         }
+
+-- It makes a component.
+module _ (own : Own) (plan : Plan) (read : Option ℕ) (c : ℕ) (own_core : own.core ≡ c) (at : Found) (x p live r f u b : ℕ)
+    (range second table pages : Capability) where
+  abbrev four : List Capability
+  four = range ∷ second ∷ table ∷ pages ∷ []
+
+  abbrev comp_scan : ActOf → Rattle.call_acts.specs.declared.work.WorkStep.WorkStep
+  comp_scan act = scans own.core (quiet_scan (stamp_in at.value) own.core own.layout.cores false) act
+
+  comp_within : (has : Bool) → has_frame (found range) f ≡ has
+      → act_begun own (make_call (make.Comp x p live) r f u b) four read (Some at)
+      ≡ comp_scan (comp_if (has && nat_lt f own.layout.frames) own live table pages f at)
+  comp_within has by = ap (λ b. comp_scan (comp_if (b && nat_lt f own.layout.frames) own live table pages f at)) by
+
+  begins_comp : (has_frame (found range) f ≡ true → f < own.layout.frames)
+      → Begins own (make_call (make.Comp x p live) r f u b) plan four read c at
+  begins_comp below = by (has_frame (found range) f) refl
+    where
+      by : (has : Bool) → has_frame (found range) f ≡ has → Begins own (make_call (make.Comp x p live) r f u b) plan four read c at
+      by true has = record {
+        act = comp_making own live table pages f at;
+        begins = comp_within true has ∙ ap (λ b. comp_scan (comp_if b own live table pages f at)) (lt-ltb f own.layout.frames (below has));
+        stamp = refl;
+        starts = refl;
+        knows = λ setup t upto epochs spot reads. record {
+          spot = spot;
+          makes = record { frame = refl; number = refl; table = refl; pages = refl; within = has };
+          core = own_core;
+          epochs = epochs;
+          cap = refl;
+          at = tt;
+        };
+        outside = λ out. absurd (false≢true (sym out));
+      }
+      by false has = record {
+        act = Outside at.node at.entry at.word;
+        begins = comp_within false has;
+        stamp = refl;
+        starts = refl;
+        knows = λ setup t upto epochs spot reads. record { spot = spot; outside = inr has };
+        outside = λ out. inr has;
+      }
 
 -- The gate to a component whose word a call has read.
 record GateOf (comp : Capability) (read : Option ℕ) : Type 0 where
@@ -235,7 +288,7 @@ begins_free own (Copy a u b) built limits small spot to s plan [] read c core no
     not_none : any_cap a ∷ of_kind kind.Table u ∷ [] ≡ [] → ⊥
     not_none h = cc
 begins_free own (Copy a u b) built limits small spot to s plan (k ∷ ks) read c core none leads fits within reads at =
-    begins_fill own plan read c core at (Copy a u b) (k ∷ ks) k refl (fits First k refl) refl (λ s. tt)
+    begins_fill own plan read c core at (Copy a u b) (k ∷ ks) k refl (fits First k refl) refl (λ setup t. tt)
 begins_free own (Grow u i l) built limits small spot to s plan [] read c core none leads fits within reads at = absurd (not_none none)
   where
     not_none : a_root u ∷ a_leaf l ∷ [] ≡ [] → ⊥
@@ -246,7 +299,7 @@ begins_free own (Grow u i l) built limits small spot to s plan (k ∷ []) read c
     not_none h = cc
 begins_free own (Grow u i l) built limits small spot to s plan (k ∷ j ∷ ks) read c core none leads fits within reads at =
     begins_fill own plan read c core at (Grow u i l) (k ∷ j ∷ ks) (plain_cap kind.Link j.frame) refl
-    (link_fits j (fits Second j refl)) refl (λ s. tt)
+    (link_fits j (fits Second j refl)) refl (λ setup t. tt)
 begins_free own (Map p v r f w) built limits small spot to s plan [] read c core none leads fits within reads at = absurd (not_none none)
   where
     not_none : of_kind kind.Pages p ∷ of_kind kind.Range r ∷ [] ≡ [] → ⊥
@@ -269,7 +322,11 @@ begins_free own (Unmap p v) built limits small spot to s plan ks read c core non
   where
     not_free : Held (spot_of.Under First v) ≡ Free spot → ⊥
     not_free h = cc
-begins_free own (Retype r f frame_kind.Untyped) built limits small spot to s plan ks read c core none leads fits within reads at = absurd built
+begins_free own (Retype r f frame_kind.Untyped) built limits small spot to s plan ks read c core none leads fits within reads at = absurd
+    (not_target to)
+  where
+    not_target : Nowhere ≡ Free spot → ⊥
+    not_target h = cc
 begins_free own (Retype r f frame_kind.User) built limits small spot to s plan ks read c core none leads fits within reads at = absurd (not_target to)
   where
     not_target : Nowhere ≡ Free spot → ⊥
@@ -279,12 +336,20 @@ begins_free own (Retype r f frame_kind.Kernel) built limits small spot to s plan
   where
     not_target : Nowhere ≡ Free spot → ⊥
     not_target h = cc
+begins_free own (make_call (make.Comp x p live) r f u b) built limits small spot to s plan ks read c core none leads fits within reads at =
+    let of : IsCompMake s c r f u b x p live ks = comp_make s c r f u b x p live ks leads none in
+    subst (λ ks. Begins own (make_call (make.Comp x p live) r f u b) plan ks read c at) (sym of.found_is)
+    (begins_comp own plan read c core at x p live r f u b of.range of.second of.table of.pages (within r f of.range of.first))
 begins_free own (make_call what r f u b) built limits small spot to s plan ks read c core none leads fits within reads at =
     made_of what built r f u b ks none (Begins own (make_call what r f u b) plan ks read c at) (λ object is.
     let two : TwoFound s c r u ks = (object_make s c r f u b what object ks is leads none).two in
     subst (λ ks. Begins own (make_call what r f u b) plan ks read c at) (sym two.found_is)
     (begins_make own plan read c core at what r f u b object two.range (two.table ∷ two.rest)
     (subst (λ ks. object_made what ks ≡ Some object) two.found_is is) (within r f two.range two.first)))
+begins_free own (Touch v) built limits small spot to s plan ks read c core none leads fits within reads at = absurd (not_target to)
+  where
+    not_target : own_page v ≡ Free spot → ⊥
+    not_target h = cc
 begins_free own Flush built limits small spot to s plan ks read c core none leads fits within reads at = absurd (not_target to)
   where
     not_target : Nowhere ≡ Free spot → ⊥
@@ -300,8 +365,28 @@ begins_free own (Gate n u b) built limits small spot to s plan [] read c core no
 begins_free own (Gate n u b) built limits small spot to s plan (k ∷ ks) read c core none leads fits within reads at =
     let gate : GateOf k read = gate_of s c k read reads (fits First k refl) in
     begins_fill own plan read c core at (Gate n u b) (k ∷ ks) gate.cap (ap (λ o. fills_with own o false (Some at)) gate.is) gate.fits gate.is
-    (λ s. tt)
+    (λ setup t. tt)
 begins_free own (Kill n) built limits small spot to s plan ks read c core none leads fits within reads at = absurd (not_target to)
+  where
+    not_target : Nowhere ≡ Free spot → ⊥
+    not_target h = cc
+begins_free own (call_gate n) built limits small spot to s plan ks read c core none leads fits within reads at = absurd (not_target to)
+  where
+    not_target : Nowhere ≡ Free spot → ⊥
+    not_target h = cc
+begins_free own Ret built limits small spot to s plan ks read c core none leads fits within reads at = absurd (not_target to)
+  where
+    not_target : Nowhere ≡ Free spot → ⊥
+    not_target h = cc
+begins_free own (Transfer x y m) built limits small spot to s plan ks read c core none leads fits within reads at = absurd (not_target to)
+  where
+    not_target : Nowhere ≡ Free spot → ⊥
+    not_target h = cc
+begins_free own (Test x y) built limits small spot to s plan ks read c core none leads fits within reads at = absurd (not_target to)
+  where
+    not_target : Nowhere ≡ Free spot → ⊥
+    not_target h = cc
+begins_free own (Switch x y) built limits small spot to s plan ks read c core none leads fits within reads at = absurd (not_target to)
   where
     not_target : Nowhere ≡ Free spot → ⊥
     not_target h = cc

@@ -3,7 +3,7 @@ use Rattle.std.proofs.Common.{◌≡◌, ℕ, nat_le, nat_lt, ◌&&◌, Bool, tr
 use Rattle.std.proofs.lemmas.Bool.{leb-false, lt-ltb}
 use Rattle.spk_nums.specs.Capability.{Capability}
 use Rattle.spk_nums.specs.declared.calls.Call.{Call}
-use Rattle.spk_nums.specs.declared.calls.Call.TheVariants.{Look as look_call, Copy, Remove, Shrink, Unmap, Retype, Make as make_call, Tick, Gate, Kill, Grow, Flush, Map}
+use Rattle.spk_nums.specs.declared.calls.Call.TheVariants.{Look as look_call, Copy, Remove, Shrink, Unmap, Retype, Make as make_call, Tick, Gate, Kill, Grow, Flush, Map, Touch, Call as call_gate, Ret, Transfer, Test, Switch}
 use Rattle.spk_nums.specs.declared.calls.Make.{Make}
 use Rattle.spk_nums.specs.declared.calls.Make.TheVariants as make
 use Rattle.spk_nums.specs.declared.kinds.FrameKind.TheVariants as frame_kind
@@ -74,27 +74,33 @@ make_target (make.Thread comp) r u b = refl
 make_target (make.Tcap sched quality) r u b = refl
 make_target (make.Comp table pages live) r u b = refl
 
--- No call that is carried out looks up a page of its own.
-pub no_own : (call : Call) → IsBuilt call → (v : ℕ) → (plan_for call).target ≡ own_page v → ⊥
-no_own (look_call a) built v is = cc
-no_own (Copy a u b) built v is = cc
-no_own (Grow u i l) built v is = cc
-no_own (Remove u b) built v is = cc
-no_own (Shrink u i) built v is = cc
-no_own (Map p n r f w) built v is = cc
-no_own (Unmap p n) built v is = cc
-no_own (Retype r f frame_kind.Untyped) built v is = cc
-no_own (Retype r f frame_kind.User) built v is = cc
-no_own (Retype r f frame_kind.Kernel) built v is = cc
-no_own (make_call what r f u b) built v is = absurd (not_own (sym (make_target what r u b) ∙ is))
+-- A call whose target is a page of its own has no names.
+pub own_unnamed : (call : Call) → IsBuilt call → (v : ℕ) → (plan_for call).target ≡ own_page v → (plan_for call).names ≡ []
+own_unnamed (look_call a) built v is = absurd (cc)
+own_unnamed (Copy a u b) built v is = absurd (cc)
+own_unnamed (Grow u i l) built v is = absurd (cc)
+own_unnamed (Remove u b) built v is = absurd (cc)
+own_unnamed (Shrink u i) built v is = absurd (cc)
+own_unnamed (Map p n r f w) built v is = absurd (cc)
+own_unnamed (Unmap p n) built v is = absurd (cc)
+own_unnamed (Retype r f frame_kind.Untyped) built v is = absurd (cc)
+own_unnamed (Retype r f frame_kind.User) built v is = absurd (cc)
+own_unnamed (Retype r f frame_kind.Kernel) built v is = absurd (cc)
+own_unnamed (make_call what r f u b) built v is = absurd (not_own (sym (make_target what r u b) ∙ is))
   where
     not_own : Free (spot_of.Under Second b) ≡ own_page v → ⊥
     not_own h = cc
-no_own Flush built v is = cc
-no_own (Tick n) built v is = cc
-no_own (Gate k u b) built v is = cc
-no_own (Kill n) built v is = cc
-no_own call built v is = built
+own_unnamed (Touch w) built v is = refl
+own_unnamed Flush built v is = absurd (cc)
+own_unnamed (Tick n) built v is = absurd (cc)
+own_unnamed (Gate k u b) built v is = absurd (cc)
+own_unnamed (Kill n) built v is = absurd (cc)
+own_unnamed (call_gate n) built v is = absurd (cc)
+own_unnamed Ret built v is = absurd (cc)
+own_unnamed (Transfer x y m) built v is = absurd (cc)
+own_unnamed (Test x y) built v is = absurd (cc)
+own_unnamed (Switch x y) built v is = absurd (cc)
+own_unnamed call built v is = absurd built
 
 -- A target is somewhere.
 pub free_somewhere : (spot : Spot) → Free spot ≡ Nowhere → ⊥
@@ -102,6 +108,9 @@ free_somewhere spot h = cc
 
 pub held_somewhere : (spot : Spot) → Held spot ≡ Nowhere → ⊥
 held_somewhere spot h = cc
+
+pub own_somewhere : (v : ℕ) → own_page v ≡ Nowhere → ⊥
+own_somewhere v h = cc
 
 -- What is looked up first is all that is looked up of one name.
 pub none_after : (ks : List Capability) → names_after [] ks ≡ []
@@ -160,6 +169,10 @@ begins_removal own (make_call what r f u b) built spot to ks = absurd (not_held 
   where
     not_held : Free (spot_of.Under Second b) ≡ Held spot → ⊥
     not_held h = cc
+begins_removal own (Touch v) built spot to ks = absurd (not_held to)
+  where
+    not_held : own_page v ≡ Held spot → ⊥
+    not_held h = cc
 begins_removal own Flush built spot to ks = absurd (not_held to)
   where
     not_held : Nowhere ≡ Held spot → ⊥
@@ -173,6 +186,26 @@ begins_removal own (Gate k u b) built spot to ks = absurd (not_held to)
     not_held : Free (spot_of.Under Second b) ≡ Held spot → ⊥
     not_held h = cc
 begins_removal own (Kill n) built spot to ks = absurd (not_held to)
+  where
+    not_held : Nowhere ≡ Held spot → ⊥
+    not_held h = cc
+begins_removal own (call_gate n) built spot to ks = absurd (not_held to)
+  where
+    not_held : Nowhere ≡ Held spot → ⊥
+    not_held h = cc
+begins_removal own Ret built spot to ks = absurd (not_held to)
+  where
+    not_held : Nowhere ≡ Held spot → ⊥
+    not_held h = cc
+begins_removal own (Transfer x y m) built spot to ks = absurd (not_held to)
+  where
+    not_held : Nowhere ≡ Held spot → ⊥
+    not_held h = cc
+begins_removal own (Test x y) built spot to ks = absurd (not_held to)
+  where
+    not_held : Nowhere ≡ Held spot → ⊥
+    not_held h = cc
+begins_removal own (Switch x y) built spot to ks = absurd (not_held to)
   where
     not_held : Nowhere ≡ Held spot → ⊥
     not_held h = cc

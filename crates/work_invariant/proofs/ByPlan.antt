@@ -1,11 +1,12 @@
 -- A step of any look-up of a call is good: the look-up goes by the call's plan.
-use Rattle.std.proofs.Common.{◌≡◌, ℕ, suc, negsuc, ◌≢◌, ◌<◌, ◌≤◌, ◌+◌, map, length, arith, Bool, true, false, if◌then◌else◌, IsTrue, List, [], ◌∷◌, ◌++◌, Option, Some, None, refl, sym, ◌∙◌, ap, subst}
+use Rattle.thread_invariant.proofs.InvokeStarts.{invokes_good}
+use Rattle.std.proofs.Common.{◌≡◌, inl, inr, ℕ, suc, negsuc, ◌≢◌, ◌<◌, ◌≤◌, ◌+◌, map, length, arith, Bool, true, false, if◌then◌else◌, IsTrue, List, [], ◌∷◌, ◌++◌, Option, Some, None, refl, sym, ◌∙◌, ap, subst}
 use Rattle.std.proofs.lemmas.Bool.{eq-eqb}
 use Rattle.spk_nums.specs.Capability.{Capability}
 use Rattle.spk_nums.specs.Setting.{Setting, IsSetting}
 use Rattle.spk_nums.specs.declared.kinds.Kind.{Kind}
 use Rattle.spk_nums.specs.declared.calls.Call.{Call}
-use Rattle.spk_nums.specs.declared.calls.Call.TheVariants.{Look as look_call, Copy, Remove, Shrink, Unmap, Retype, Make as make_call, Tick, Gate, Kill, Grow, Flush, Map}
+use Rattle.spk_nums.specs.declared.calls.Call.TheVariants.{Look as look_call, Copy, Remove, Shrink, Unmap, Retype, Make as make_call, Tick, Gate, Kill, Grow, Touch, Flush, Map, Call as call_gate, Ret, Transfer, Test, Switch}
 use Rattle.supported_calls.specs.Built.{IsBuilt}
 use Rattle.spk_nums.specs.declared.replies.Reply.{Reply}
 use Rattle.spk_nums.specs.declared.replies.Reply.TheVariants as reply
@@ -51,10 +52,12 @@ use Rattle.call_steps.specs.declared.stages.Stage.TheVariants.{Undecided}
 use Rattle.call_steps.specs.declared.stages.ActiveCall.{ActiveCall}
 use Rattle.spk_nums.specs.declared.kinds.FrameKind.{FrameKind}
 use Rattle.spk_nums.specs.declared.kinds.FrameKind.TheVariants as frame_kind
-use Rattle.spk_nums.specs.declared.kinds.Kind.TheVariants.{Range as range_kind, Comp as comp_kind}
+use Rattle.spk_nums.specs.declared.kinds.Kind.TheVariants.{Range as range_kind, Comp as comp_kind, Gate as gate_kind}
 use Rattle.kernel_rules.proofs.Sound.{only_is}
-use Rattle.work_invariant.proofs.AtName.{one_name, ranges_good, looked_good}
+use Rattle.work_invariant.proofs.AtName.{IsTypedBy, one_name, ranges_good, looked_good}
 use Rattle.live_invariant.proofs.KillStarts.{kills_good}
+use Rattle.share_invariant.proofs.ShareStarts.{transfers_good, tests_good}
+use Rattle.switch_invariant.proofs.SwitchStarts.{switches_good}
 use Rattle.call_acts.specs.declared.work.WorkStep.TheVariants.{Goes}
 use Rattle.stage_pins.specs.declared.held.Acquired.{Acquired}
 use Rattle.call_acts.specs.declared.work.Act.{Act as ActOf}
@@ -75,7 +78,7 @@ use Rattle.stage_quiet.specs.Scan.{quiet_scan}
 use Rattle.kernel_history.specs.Stamps.{clock, stamp}
 use Rattle.call_acts.specs.Lookups.{met_name, met_free, met_held}
 use Rattle.call_steps.specs.Steps.{landed, found_more, next_by as what_next, named_one, took_look, took_found}
-use Rattle.call_steps.proofs.StepsFit.{cap_one}
+use Rattle.call_steps.proofs.DuesFit.{cap_one}
 use Rattle.call_steps.specs.View.{Core}
 use Rattle.core_invariant.specs.Stands.{holds_at, holds_in, Stands}
 use Rattle.core_invariant.proofs.Carries.{names_on, read_before_on}
@@ -85,7 +88,7 @@ use Rattle.core_invariant.proofs.Refusals.{GoodTook, refuses_empty, refuses_wron
 use Rattle.look_invariant.proofs.Lookups.{Shows, ShowsHeld, Arrives, under_step, in_root_step}
 use Rattle.look_invariant.proofs.Findings.{own_is, reaches_none, reaches_held, reaches_other, use_held, use_free, use_removed_at, named_of, named_no_slot, named_empty, named_wrong, found_named, arriving, reached_now, found_now}
 use Rattle.look_invariant.proofs.Next.{MayUse, Rest, ANameLeft, NoneLeft, rest_of, next_name, next_end}
-use Rattle.work_invariant.proofs.ByCall.{none_after, vacant_no_slot, vacant_occupied, held_no_slot, held_empty, make_target, BeginsRemoval, begins_removal, free_somewhere, held_somewhere}
+use Rattle.work_invariant.proofs.ByCall.{none_after, vacant_no_slot, vacant_occupied, held_no_slot, held_empty, make_target, BeginsRemoval, begins_removal, free_somewhere, held_somewhere, own_somewhere}
 use Rattle.work_invariant.proofs.AtTarget.{Begins, begins_free, range_within}
 use Rattle.work_invariant.proofs.FoundFits.{found_fits}
 use Rattle.work_invariant.proofs.ScanStarts.{ScanStarts, scan_starts}
@@ -220,7 +223,7 @@ module _ (setup : Setting) (setting : IsSetting setup) (cores : ℕ → Core) (t
 
     -- a retype has found its range
     range_at_name : (r f : ℕ) (j : FrameKind) → a.call ≡ Retype r f j → (plan_for (Retype r f j)).names ≡ of_kind range_kind r ∷ []
-        → typing_to (cores c).own.core f j ≡ type_act (record { frame = f; kind = j; at = type_load })
+        → IsTypedBy (cores c).own.core f j
         → GoodTook setup cores t c (LoadOf (EntryAt at.node at.index))
         (landed (found_more a more) (act_begun (cores c).own (Retype r f j) more None None))
     range_at_name r f j is one to =
@@ -238,10 +241,10 @@ module _ (setup : Setting) (setting : IsSetting setup) (cores : ℕ → Core) (t
     is_named none = let h : name ∷ rest ≡ [] = sym left ∙ ap (λ (ns : List Name). names_after ns a.found) none ∙ none_after a.found in cc
 
     -- a look answers what its name has led to
-    acts_at_name : (call : Call) → a.call ≡ call → IsBuilt call → (plan_for call).target ≡ Nowhere
+    acts_at_name : (call : Call) → a.call ≡ call → IsBuilt call → (plan_for call).target ≡ Nowhere → names_after a.plan.names more ≡ []
         → GoodTook setup cores t c (LoadOf (EntryAt at.node at.index))
         (landed (found_more a more) (act_begun (cores c).own call more None None))
-    acts_at_name (look_call n) is built nowhere =
+    acts_at_name (look_call n) is built nowhere none =
         let plan_look : a.plan ≡ plan_for (look_call n) = plan_is ∙ ap plan_for is in
         let only_one = one_name a.plan.names (any_cap n) name rest a.found k.kind (ap (λ (p : Plan). p.names) plan_look) left wanted in
         let more_is : more ≡ k ∷ [] = ap (λ ks. ks ++ k ∷ []) only_one.0 in
@@ -251,19 +254,22 @@ module _ (setup : Setting) (setting : IsSetting setup) (cores : ℕ → Core) (t
         (landed (found_more a ks) (act_begun (cores c).own (look_call n) ks None None))) (sym more_is)
         (looked_good setup setting cores t stands c here a active opens held_is no_counts room at looks n
         (subst (λ (m : ℕ). Arrives setup t c (own_in table m) at) (ap (λ (x : Name). x.number) only_one.1) arrives) k named_it is)
-    acts_at_name (Copy b u v) is built nowhere = absurd (free_somewhere (spot_of.Under Second v) nowhere)
-    acts_at_name (Grow u i l) is built nowhere = absurd (free_somewhere (spot_of.InRoot First i) nowhere)
-    acts_at_name (Remove u v) is built nowhere = absurd (held_somewhere (spot_of.Under First v) nowhere)
-    acts_at_name (Shrink u i) is built nowhere = absurd (held_somewhere (spot_of.InRoot First i) nowhere)
-    acts_at_name (Map p v r f w) is built nowhere = absurd (free_somewhere (spot_of.Under First v) nowhere)
-    acts_at_name (Unmap p v) is built nowhere = absurd (held_somewhere (spot_of.Under First v) nowhere)
-    acts_at_name (Retype r f frame_kind.Untyped) is built nowhere = absurd built
-    acts_at_name (Retype r f frame_kind.User) is built nowhere = range_at_name r f frame_kind.User is refl refl
-    acts_at_name (Retype r f frame_kind.Kernel) is built nowhere = range_at_name r f frame_kind.Kernel is refl refl
-    acts_at_name (make_call what r f u b) is built nowhere =
+    acts_at_name (Copy b u v) is built nowhere none = absurd (free_somewhere (spot_of.Under Second v) nowhere)
+    acts_at_name (Grow u i l) is built nowhere none = absurd (free_somewhere (spot_of.InRoot First i) nowhere)
+    acts_at_name (Remove u v) is built nowhere none = absurd (held_somewhere (spot_of.Under First v) nowhere)
+    acts_at_name (Shrink u i) is built nowhere none = absurd (held_somewhere (spot_of.InRoot First i) nowhere)
+    acts_at_name (Map p v r f w) is built nowhere none = absurd (free_somewhere (spot_of.Under First v) nowhere)
+    acts_at_name (Unmap p v) is built nowhere none = absurd (held_somewhere (spot_of.Under First v) nowhere)
+    acts_at_name (Retype r f frame_kind.Untyped) is built nowhere none =
+        range_at_name r f frame_kind.Untyped is refl (inr (refl, refl))
+    acts_at_name (Retype r f frame_kind.User) is built nowhere none =
+        range_at_name r f frame_kind.User is refl (inl ((λ h. cc), refl))
+    acts_at_name (Retype r f frame_kind.Kernel) is built nowhere none =
+        range_at_name r f frame_kind.Kernel is refl (inl ((λ h. cc), refl))
+    acts_at_name (make_call what r f u b) is built nowhere none =
         absurd (free_somewhere (spot_of.Under Second b) (sym (make_target what r u b) ∙ nowhere))
-    acts_at_name (Gate n u b) is built nowhere = absurd (free_somewhere (spot_of.Under Second b) nowhere)
-    acts_at_name (Kill n) is built nowhere =
+    acts_at_name (Gate n u b) is built nowhere none = absurd (free_somewhere (spot_of.Under Second b) nowhere)
+    acts_at_name (Kill n) is built nowhere none =
         let plan_kill : a.plan ≡ plan_for (Kill n) = plan_is ∙ ap plan_for is in
         let only_one = one_name a.plan.names (of_kind comp_kind n) name rest a.found k.kind (ap (λ (p : Plan). p.names) plan_kill) left
         wanted in
@@ -275,17 +281,41 @@ module _ (setup : Setting) (setting : IsSetting setup) (cores : ℕ → Core) (t
         (subst (λ (ks : List Capability). Leads (LeadsIn s c) (of_kind comp_kind n ∷ []) [] ks) more_is
         (subst (λ (p : Plan). Leads (LeadsIn s c) p.names [] more) plan_kill leads_then)).0
         (λ carries. subst (λ (ks : List Capability). NamesAre setup (e ∷ t) c table a.plan ks) more_is (names_then carries)))
-    acts_at_name Flush is built nowhere = absurd (is_named (ap (λ (p : Plan). p.names) (plan_is ∙ ap plan_for is)))
-    acts_at_name (Tick n) is built nowhere = absurd (is_named (ap (λ (p : Plan). p.names) (plan_is ∙ ap plan_for is)))
-    acts_at_name call is built nowhere = absurd built
+    acts_at_name (call_gate n) is built nowhere none =
+        let plan_call : a.plan ≡ plan_for (call_gate n) = plan_is ∙ ap plan_for is in
+        let only_one = one_name a.plan.names (of_kind gate_kind n) name rest a.found k.kind (ap (λ (p : Plan). p.names) plan_call) left
+        wanted in
+        let more_is : more ≡ k ∷ [] = ap (λ ks. ks ++ k ∷ []) only_one.0 in
+        subst (λ ks. GoodTook setup cores t c (LoadOf (EntryAt at.node at.index))
+        (landed (found_more a ks) (act_begun (cores c).own (call_gate n) ks None None))) (sym more_is)
+        (invokes_good setup setting cores t stands c here a active opens held_is no_counts room goes_by (LoadOf (EntryAt at.node at.index))
+        looks n k is (only_is gate_kind k.kind only_one.2)
+        (subst (λ (ks : List Capability). Leads (LeadsIn s c) (of_kind gate_kind n ∷ []) [] ks) more_is
+        (subst (λ (p : Plan). Leads (LeadsIn s c) p.names [] more) plan_call leads_then)).0
+        (subst (λ (ks : List Capability). Leads (LeadsIn s c) a.plan.names [] ks) more_is leads_then)
+        (λ carries. subst (λ (ks : List Capability). NamesAre setup (e ∷ t) c table a.plan ks) more_is (names_then carries)))
+    acts_at_name Ret is built nowhere none = absurd (is_named (ap (λ (p : Plan). p.names) (plan_is ∙ ap plan_for is)))
+    acts_at_name (Touch v) is built nowhere none = absurd (own_somewhere v nowhere)
+    acts_at_name Flush is built nowhere none = absurd (is_named (ap (λ (p : Plan). p.names) (plan_is ∙ ap plan_for is)))
+    acts_at_name (Tick n) is built nowhere none = absurd (is_named (ap (λ (p : Plan). p.names) (plan_is ∙ ap plan_for is)))
+    acts_at_name (Transfer x y m) is built nowhere none =
+        transfers_good setup setting cores t stands c here a active opens held_is no_counts room goes_by (LoadOf (EntryAt at.node at.index))
+        looks more leads_then none names_then x y m is
+    acts_at_name (Test x y) is built nowhere none =
+        tests_good setup setting cores t stands c here a active opens held_is no_counts room goes_by (LoadOf (EntryAt at.node at.index))
+        looks more leads_then none names_then x y is
+    acts_at_name (Switch x y) is built nowhere none =
+        switches_good setup setting cores t stands c here a active opens held_is no_counts (LoadOf (EntryAt at.node at.index))
+        looks more leads_then none names_then x y is
+    acts_at_name call is built nowhere none = absurd built
 
     -- the name is found
     found_good : GoodTook setup cores t c (LoadOf (EntryAt at.node at.index)) (named_one (cores c).own a (Finds k))
     found_good = subst (λ ks. GoodTook setup cores t c (LoadOf (EntryAt at.node at.index))
         (landed (found_more a ks) (what_next (cores c).own (found_more a ks)))) (sym (pushed_one a.found k few))
-        (next_good setup setting cores t stands c here a active opens held_is no_counts room at looks more leads_then uses_then names_then
+        (next_good setup setting cores t stands c here a active opens held_is no_counts room at looks more leads_then uses_then names_then is_named
         (λ nowhere none. acts_at_name a.call refl (is_active setup setting cores t stands c here a active).built
-        (ap (λ (p : Plan). p.target) (sym plan_is) ∙ nowhere)))
+        (ap (λ (p : Plan). p.target) (sym plan_is) ∙ nowhere) none))
       where
         few : length a.found < 4
         few =
@@ -399,7 +429,7 @@ module _ (setup : Setting) (setting : IsSetting setup) (cores : ℕ → Core) (t
 
       knows_begun : (upto : ℕ) → MayFill setup (load ∷ t) c thing upto (Some v)
           → KnowsAct setup (load ∷ t) c a.call a.plan a.found upto begun.act
-      knows_begun upto may = begun.knows setup (load ∷ t) upto (record {
+      knows_begun upto may = begun.knows setup (load ∷ t) upto (stands.each c here).epochs (record {
         target = target;
         next = next_free;
         way = reached_now setup t c target at word arrives;

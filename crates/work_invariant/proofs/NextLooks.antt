@@ -50,7 +50,7 @@ use Rattle.core_invariant.proofs.Loads.{OnlyLooks, core_is, call_is, is_active, 
 use Rattle.core_invariant.proofs.Refusals.{GoodTook, not_spent}
 use Rattle.look_invariant.proofs.Findings.{own_is, past_slot, past_unreached, named_no_slot}
 use Rattle.look_invariant.proofs.Next.{MayUse, spot_relies, Rest, ANameLeft, NoneLeft, rest_of, next_name, next_end}
-use Rattle.work_invariant.proofs.ByCall.{vacant_no_slot, held_no_slot, past_entry, past_entry_unreached, no_own}
+use Rattle.work_invariant.proofs.ByCall.{vacant_no_slot, held_no_slot, past_entry, past_entry_unreached, own_unnamed}
 use Rattle.work_invariant.proofs.Reading.{reads_comp}
 
 module _ (setup : Setting) (setting : IsSetting setup) (cores : ℕ → Core) (t : Trace) (stands : Stands setup cores t) (c : ℕ)
@@ -233,24 +233,24 @@ module _ (setup : Setting) (setting : IsSetting setup) (cores : ℕ → Core) (t
       (λ past. past_entry x past) (λ past. held_no_slot s c (InRoot (earlier (with_found [] more) i) x)
       (past_entry_unreached s c (earlier (with_found [] more) i) x past))
 
-  target_good : (target : Target) → a.plan.target ≡ target → names_after a.plan.names more ≡ []
+  target_good : (a.plan.names ≡ [] → ⊥) → (target : Target) → a.plan.target ≡ target → names_after a.plan.names more ≡ []
       → (target ≡ Nowhere → GoodTook setup cores t c (LoadOf (EntryAt at.node at.index))
       (landed (found_more a more) (act_begun (cores c).own a.call more None None)))
       → GoodTook setup cores t c (LoadOf (EntryAt at.node at.index))
       (landed (found_more a more) (next_step (cores c).own a.call more (next_target (with_found [] more) target)))
-  target_good Nowhere to none acts = acts refl
-  target_good (Free spot) to none acts = free_good spot to none (next_end a.plan more (Free spot) none to)
-  target_good (Held spot) to none acts = held_good spot to none (next_end a.plan more (Held spot) none to)
-  target_good (own_page v) to none acts =
-      absurd (no_own a.call (is_active setup setting cores t stands c here a active).built v
-      (ap (λ (p : Plan). p.target) (sym plan_is) ∙ to))
+  target_good named Nowhere to none acts = acts refl
+  target_good named (Free spot) to none acts = free_good spot to none (next_end a.plan more (Free spot) none to)
+  target_good named (Held spot) to none acts = held_good spot to none (next_end a.plan more (Held spot) none to)
+  target_good named (own_page v) to none acts =
+      absurd (named (ap (λ (p : Plan). p.names) plan_is
+      ∙ own_unnamed a.call (is_active setup setting cores t stands c here a active).built v (ap (λ (p : Plan). p.target) (sym plan_is) ∙ to)))
 
-  pub next_good : (a.plan.target ≡ Nowhere → names_after a.plan.names more ≡ []
+  pub next_good : (a.plan.names ≡ [] → ⊥) → (a.plan.target ≡ Nowhere → names_after a.plan.names more ≡ []
       → GoodTook setup cores t c (LoadOf (EntryAt at.node at.index))
       (landed (found_more a more) (act_begun (cores c).own a.call more None None)))
       → GoodTook setup cores t c (LoadOf (EntryAt at.node at.index))
       (landed (found_more a more) (what_next (cores c).own (found_more a more)))
-  next_good acts = by (rest_of a.plan more)
+  next_good named acts = by (rest_of a.plan more)
     where
       Goal : Next → Type 0
       Goal next = GoodTook setup cores t c (LoadOf (EntryAt at.node at.index))
@@ -268,4 +268,4 @@ module _ (setup : Setting) (setting : IsSetting setup) (cores : ℕ → Core) (t
           (λ past. named_no_slot s c name2.number (wants (with_found [] more) name2.wanted)
           (ap (reached s c) (sym (own_target name2.number)) ∙ past_unreached s c (root_at table) name2.number past)))
       by (NoneLeft none) = subst Goal (sym (next_end a.plan more a.plan.target none refl))
-          (target_good a.plan.target refl none (λ nowhere. acts nowhere none))
+          (target_good named a.plan.target refl none (λ nowhere. acts nowhere none))

@@ -39,7 +39,7 @@ use Rattle.call_steps.specs.declared.stages.ActiveCall.{ActiveCall}
 use Rattle.call_steps.specs.Steps.{took_read}
 use Rattle.call_steps.specs.View.{Core}
 use Rattle.core_invariant.specs.Holding.{settled_by}
-use Rattle.core_invariant.specs.Words.{IsFrameWord}
+use Rattle.core_invariant.specs.Words.{IsFrameWord, count_room}
 use Rattle.core_invariant.specs.Knows.{HasComp, LooksFor, ReadIs, ReadBefore, KnowsUndecided, phase_at}
 use Rattle.core_invariant.specs.Stands.{holds_at, held_by, Stands}
 use Rattle.core_invariant.proofs.Carries.{names_on, looks_on}
@@ -48,6 +48,7 @@ use Rattle.core_invariant.proofs.Refusals.{GoodTook}
 use Rattle.live_invariant.proofs.KillStarts.{comp_named}
 use Rattle.live_invariant.proofs.Numbers.{comp_is}
 use Rattle.count_invariant.proofs.Acquiring.{plan_leads}
+use Rattle.core_invariant.proofs.Lent.{is_thread, unlent_value}
 
 -- It is a component, which no other core may retype.
 pub reads_comp : (setup : Setting) → IsSetting setup → (t : Trace) → IsLegal setup t → (c : ℕ) (call : Call) → phase t c ≡ Open call
@@ -107,9 +108,11 @@ module _ (setup : Setting) (setting : IsSetting setup) (cores : ℕ → Core) (t
   unmarked = ap (λ x. mark_in_frame x 2 was) holds_comp
 
   says_life : comp_of_word was ≡ Some life
-  says_life = subst (λ x. IsFrameWord s.limits.frames x (s.place f 2) (stamp setup t (PlaceOf f 2)) 2 was) holds_comp
-      (subst (λ o. IsFrameWord s.limits.frames (s.frame f) (s.place f 2) (stamp setup t (PlaceOf f 2)) 2
-      (settled_by o (held_by cores) (EntryAt f 2) was)) unmarked (stands.words (EntryAt f 2)))
+  says_life = subst (λ x. IsFrameWord s.limits.frames (count_room s) x (s.place f 2) (stamp setup t (PlaceOf f 2)) 2 was) holds_comp
+      (subst (λ (n : ℕ). IsFrameWord s.limits.frames (count_room s) (s.frame f) (s.place f 2) (stamp setup t (PlaceOf f 2)) 2 n)
+      (unlent_value setup cores t stands f (ap is_thread holds_comp) 2 was)
+      (subst (λ o. IsFrameWord s.limits.frames (count_room s) (s.frame f) (s.place f 2) (stamp setup t (PlaceOf f 2)) 2
+      (settled_by o (held_by cores) (EntryAt f 2) was)) unmarked (stands.words (EntryAt f 2))))
 
   life_fits : CompFits life
   life_fits = (comp_spells (Some life) was (sym says_life)).0

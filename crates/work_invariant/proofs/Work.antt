@@ -1,4 +1,6 @@
 -- A step of the work of an undecided call is good.
+use Rattle.thread_invariant.proofs.Left.{returning_good}
+use Rattle.thread_invariant.proofs.Entered.{invoking_good}
 use Rattle.std.proofs.Common.{◌≡◌, ℕ, ◌<◌, Some, sym, ap, subst}
 use Rattle.std.proofs.lemmas.Bool.{false≢true}
 use Rattle.spk_nums.specs.Setting.{Setting, IsSetting}
@@ -8,7 +10,7 @@ use Rattle.stage_look.specs.Shown.{shown_in}
 use Rattle.stage_look.specs.Lookup.{look_move}
 use Rattle.stage_look.specs.declared.look.Look.{Look}
 use Rattle.stage_look.specs.declared.look.Look.TheVariants.{AtRoot, AtLeaf, AtEntry}
-use Rattle.call_acts.specs.declared.work.Act.TheVariants.{Fill as fill_act, Remove as remove_act, Retype as type_act, Make as make_act, Outside, Tick as tick_act, Flush as flush_act, Kill as kill_act, Untype as untype_act, Map as map_act}
+use Rattle.call_acts.specs.declared.work.Act.TheVariants.{Fill as fill_act, Remove as remove_act, Retype as type_act, Make as make_act, Outside, Tick as tick_act, Flush as flush_act, Kill as kill_act, Untype as untype_act, Map as map_act, MakeComp as comp_act, Invoke as invoke_act, Return as return_act, Touch as touch_act, Share as share_act, Switch as switch_act}
 use Rattle.call_acts.specs.declared.work.Work.{Work}
 use Rattle.call_acts.specs.declared.work.Work.TheVariants.{Lookup, Read, Scan, Acquire, Act}
 use Rattle.call_steps.specs.declared.stages.Stage.TheVariants.{Undecided}
@@ -22,15 +24,21 @@ use Rattle.stage_pins.specs.declared.pin.Pin.TheVariants.{AtLoad, AtCompare}
 use Rattle.count_invariant.proofs.Acquiring.{acquire_good}
 use Rattle.work_invariant.proofs.ByPlan.{lookup_good}
 use Rattle.work_invariant.proofs.Reading.{read_good}
+use Rattle.sweep_invariant.proofs.UntypeSteps.{untype_good}
+use Rattle.core_invariant.proofs.Loads.{is_active}
 use Rattle.place_invariant.proofs.Fills.{fill_good}
 use Rattle.place_invariant.proofs.Mappings.{map_good}
 use Rattle.place_invariant.proofs.Removals.{remove_good}
 use Rattle.place_invariant.proofs.ScanSteps.{scan_good}
 use Rattle.frame_invariant.proofs.Typings.{typing_good}
+use Rattle.frame_invariant.proofs.MadeComps.{comp_good}
 use Rattle.frame_invariant.proofs.MadeObjects.{making_good}
-use Rattle.time_invariant.proofs.Ticks.{tick_good}
+use Rattle.time_invariant.proofs.TickSteps.{tick_good}
 use Rattle.live_invariant.proofs.Killed.{killing_good}
 use Rattle.page_invariant.proofs.Flushes.{flush_good}
+use Rattle.page_invariant.proofs.Touches.{touch_good}
+use Rattle.share_invariant.proofs.Shares.{share_good}
+use Rattle.switch_invariant.proofs.Switches.{switch_good}
 
 look_good : (setup : Setting) → IsSetting setup → (cores : ℕ → Core) (t : Trace) → Stands setup cores t → (c : ℕ) → c < setup.cores
     → (a : ActiveCall) → (cores c).active ≡ Some a
@@ -74,10 +82,23 @@ work_good setup setting cores t stands c here a active (Act (Outside node entry 
     absurd (false≢true knows.knows.goes)
 work_good setup setting cores t stands c here a active (Act (tick_act charge)) is knows =
     tick_good setup setting cores t stands c here a active charge is knows
+work_good setup setting cores t stands c here a active (Act (touch_act m)) is knows =
+    touch_good setup setting cores t stands c here a active m is knows
 work_good setup setting cores t stands c here a active (Act (flush_act core)) is knows =
     flush_good setup setting cores t stands c here a active core is knows
+work_good setup setting cores t stands c here a active (Act (invoke_act m)) is knows =
+    invoking_good setup setting cores t stands c here a active m is knows
+work_good setup setting cores t stands c here a active (Act (return_act m)) is knows =
+    returning_good setup setting cores t stands c here a active m is knows
 work_good setup setting cores t stands c here a active (Act (kill_act m)) is knows =
     killing_good setup setting cores t stands c here a active m.comp m.core m.at is knows
-work_good setup setting cores t stands c here a active (Act (untype_act m)) is knows = absurd knows.knows.knows
+work_good setup setting cores t stands c here a active (Act (untype_act m)) is knows =
+    untype_good setup setting cores t stands c here a active m is knows
+work_good setup setting cores t stands c here a active (Act (share_act p)) is knows =
+    share_good setup setting cores t stands c here a active p is knows
+work_good setup setting cores t stands c here a active (Act (switch_act m)) is knows =
+    switch_good setup setting cores t stands c here a active m is knows
+work_good setup setting cores t stands c here a active (Act (comp_act m)) is knows =
+    comp_good setup setting cores t stands c here a active m is knows
 work_good setup setting cores t stands c here a active (Scan q act) is knows =
     scan_good setup setting cores t stands c here a active q act is knows

@@ -5,4 +5,6 @@
 //! stand below.
 //!
 //! The lemmas stand in this crate's proofs; `work_good` is the one that the step machine cites.
+//!
+//! See docs/PROOF.md, 'The invariant of the step machine'.
 #![tactic(auto)]

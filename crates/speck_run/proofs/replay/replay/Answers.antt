@@ -53,4 +53,4 @@ returns c =
     ∙ ap (lines_of lists) c.decisions.ensures)
     ∙ ap (λ x. lines_of lists ended.decisions ++ x) c.deref.ensures in
     given c.args.setup.now lists c.args.items.now c.in_ok-kernel.kernel c.follow.new.kernel ended booted.setup followed.setup ran.setup booted.lists followed.lists ran.lists
-    c.cores-cores.ensures.limits one_each booted.stands followed.goes ran.goes made_histories r (string_bytes c.in_ok-tables.tables) (string_bytes c.push_str.new.self) shown is
+    c.cores-cores.ensures.limits one_each booted.stands followed.goes ran.goes r made_histories (string_bytes c.in_ok-tables.tables) (string_bytes c.push_str.new.self) shown is

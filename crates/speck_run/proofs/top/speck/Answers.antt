@@ -3,7 +3,7 @@ use Rattle.speck_run.specs.declared.words.Command.TheVariants as commands
 use Rattle.speck_run.specs.declared.top.Status.TheVariants.{Stopped}
 use Rattle.byte_ends.specs.Ends.{Adds}
 use Rattle.speck_run.specs.Top.{Asked, Answers, Writes}
-use Rattle.speck_run.proofs.Due.{answers_due, answers_fault, asks_same, carried_out, completes, load_due, stops_run, writes_due}
+use Rattle.speck_run.proofs.Due.{answers_due, answers_fault, asks_same, carried_out, completes, load_due, load_status, stops_run, summary_due, writes_due}
 use Rattle.speck_run.proofs.top.speck.Goals as goal
 
 pub returns-in-Ok-clause-replay : goal.returns-in-Ok-clause-replay
@@ -61,6 +61,13 @@ pub returns-in-Ok-clause-made : goal.returns-in-Ok-clause-made
 returns-in-Ok-clause-made g c number asks =
     elim c.finish.ensures [
       | inl p ↦ inl (p.0 ∙ (load_due c.args.words.now number asks (g.S.Source.left c.args.source.now) _ _ _ c.in-Ok.answer.status _ c.in-Ok.ensures.due).0)
+      | inr p ↦ inr (inl p.0)
+    ]
+
+pub returns-in-Ok-clause-loaded : goal.returns-in-Ok-clause-loaded
+returns-in-Ok-clause-loaded g c number due asks is =
+    elim c.finish.ensures [
+      | inl p ↦ inl (p.0 ∙ load_status number c.in-Ok.answer.status due _ (summary_due c.args.words.now number asks (g.S.Source.left c.args.source.now) _ _ _ c.in-Ok.answer.status _ c.in-Ok.ensures.due) is)
       | inr p ↦ inr (inl p.0)
     ]
 

@@ -72,7 +72,7 @@ take-absorbed-requires-clause-due c h =
     undecided_due c.index.result.now.items c.index_mut.result.now c.in-Some.turn
     (of_lent i c.index_mut.result.now c.index_mut.ensures.value) h
 
--- behind the turn
+-- after the turn
 module _ (i : In-Some) (k seat' read : Seat) (k_is : k ≡ get_or i.self.inside.seats.items i.from-at.result k)
     (read_is : read ≡ get_or (slice_set i.self.inside.seats.items i.from-at.result seat') i.from-at.result read) where
   pub read_same : read ≡ seat'

@@ -1,0 +1,41 @@
+-- What a core holds of a frame that it makes untyped: the frame's word, and the counters that it has frozen.
+use Rattle.std.specs.Prelude.{ℕ, ◌&&◌, ◌==◌, nat_lt, nat_le, Bool, true, false, length, slice_get, Option, Some, None, if◌then◌else◌}
+use Rattle.frame_words.specs.Count.{word_of_count}
+use Rattle.word_map.specs.Word.{Word, CountAt, FrameAt}
+use Rattle.stage_sweep.specs.Freeze.{swept_of}
+use Rattle.stage_sweep.specs.Release.{released}
+use Rattle.stage_sweep.specs.declared.thaw.Thaw.{Thaw}
+use Rattle.call_acts.specs.Untypings.{release_of}
+use Rattle.call_acts.specs.declared.untypings.Release.{Release}
+use Rattle.call_acts.specs.declared.untypings.UntypingAt.{UntypingAt}
+use Rattle.call_acts.specs.declared.untypings.UntypingAt.TheVariants.{Load, Mark, Sweep as sweep_at, Draw}
+use Rattle.core_invariant.specs.Holding.{Holding, keeps}
+
+-- Whether a word is a counter that is frozen and still to be released.
+abbrev pub is_frozen : Thaw → Word → Bool
+is_frozen t (CountAt f d) = f == t.frame && (nat_le t.at d && nat_lt d (length t.words))
+is_frozen t _ = false
+
+-- It stands for the word that is to be stored there: the count as it was found, or with no count and no stamp where the frame is cleared.
+abbrev pub thawed : Thaw → Word → ℕ
+thawed t (CountAt f d) = word_of_count (released t.clear (slice_get t.words d))
+thawed t _ = 0
+
+abbrev pub holds_thaw : Option Thaw → Holding → Holding
+holds_thaw None h = h
+holds_thaw (Some t) h = record {
+  marks = λ u. if is_frozen t u then true else h.marks u;
+  stands = λ u. if is_frozen t u then thawed t u else h.stands u;
+  bare = h.bare;
+}
+
+-- What is held until the release of a frame is done: its counters, and its word.
+abbrev pub holds_release : Release → Holding → Holding
+holds_release x h = keeps (FrameAt x.frame) x.word (holds_thaw x.thaw h)
+
+-- Before its decision an untyping holds what a refusal would have to release, from when the frame is marked.
+abbrev pub holds_untyping : ℕ → UntypingAt → Holding → Holding
+holds_untyping f Load h = h
+holds_untyping f (Mark word v) h = h
+holds_untyping f (sweep_at word w) h = holds_release (release_of f word (swept_of w) false) h
+holds_untyping f (Draw word w) h = holds_release (release_of f word w false) h

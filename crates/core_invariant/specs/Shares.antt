@@ -1,0 +1,182 @@
+-- What a call on two temporal capabilities knows where it stands, and which steps on the words of a temporal capability it relies on.
+use Rattle.std.specs.Prelude.{◌≡◌, ◌≢◌, ◌⊎◌, ◌<◌, ◌≤◌, ◌==◌, ◌&&◌, not, ℕ, zero, suc, Bool, true, false, IsTrue, IsSome, List, [], ◌∷◌, ◌^◌, ◌+◌, Option, Some, None, if◌then◌else◌}
+use Rattle.spk_nums.specs.Setting.{Setting}
+use Rattle.spk_nums.specs.Capability.{Capability}
+use Rattle.spk_nums.specs.declared.kinds.Kind.TheVariants.{Tcap as tcap_kind}
+use Rattle.spk_nums.specs.declared.calls.Call.{Call}
+use Rattle.spk_nums.specs.declared.calls.Call.TheVariants as call_as
+use Rattle.tcap_words.specs.Head.{HeadFits, word_of_head, head_of_word}
+use Rattle.tcap_words.specs.Quality.{quality_of_word}
+use Rattle.tcap_words.specs.declared.head_word.HeadWord.{HeadWord}
+use Rattle.word_map.specs.Word.{Word, EntryAt, FrameAt, CountAt, CoreAt, FlushAt, LiveAt, ClockAt}
+use Rattle.word_map.specs.Moves.{word_of, left_of}
+use Rattle.kernel_rules.specs.State.{State}
+use Rattle.kernel_rules.specs.Fitting.{fits}
+use Rattle.kernel_rules.specs.Relies.{IsGuarded}
+use Rattle.kernel_history.specs.Trace.{Step, Trace, state_after, last_left, own_read, WasAt}
+use Rattle.kernel_history.specs.Marking.{marked_by}
+use Rattle.kernel_history.specs.Discipline.{changes_budgets}
+use Rattle.kernel_history.specs.Footprint.{IsNearIn}
+use Rattle.stage_tcap.specs.Heads.{marked}
+use Rattle.stage_tcap.specs.Lists.{read_word, in_order}
+use Rattle.stage_tcap.specs.Pairs.{amount_of, whole_b, judged}
+use Rattle.stage_tcap.specs.declared.pair.Pair.{Pair}
+use Rattle.stage_tcap.specs.declared.pair.PairAt.{PairAt}
+use Rattle.stage_tcap.specs.declared.pair.PairAt.TheVariants.{LoadA, MarkA, ListA, LoadB, ListB, CompareB, AgainB, StoreList, StoreB, StoreA}
+use Rattle.stage_tcap.specs.declared.pair.PairWork.{PairWork}
+use Rattle.stage_tcap.specs.declared.pair.PairWork.TheVariants as share
+
+-- Whether the list of the temporal capability in a frame was changed by a step since its head was changed last.
+abbrev pub turns_list : Word → Bool → ℕ → Bool → Bool
+turns_list (EntryAt g zero) same f before = if g == f && not same then false else before
+turns_list (EntryAt g (suc i)) same f before = if g == f && not same then true else before
+turns_list (FrameAt g) same f before = before
+turns_list (CountAt g d) same f before = before
+turns_list (CoreAt d) same f before = before
+turns_list (FlushAt d) same f before = before
+turns_list (LiveAt l) same f before = before
+turns_list ClockAt same f before = before
+
+abbrev pub list_changed : Trace → ℕ → Bool
+list_changed [] f = false
+list_changed (e ∷ t) f = turns_list (word_of e.move) (left_of e.move e.found == e.found) f (list_changed t f)
+
+-- A core changes a head that no other core has marked. It raises its version; where it does not, it marks a head that no core had
+-- marked, or its list was not changed since the head was.
+abbrev pub MayTurn : ℕ → Option ℕ → Type 0
+MayTurn core mark = (mark ≡ None) ⊎ (mark ≡ Some core)
+
+abbrev pub TurnsHead : ℕ → Bool → Option HeadWord → Option HeadWord → Type 0
+TurnsHead core changed (Some h) (Some k) =
+    MayTurn core h.mark
+    × ((h.version < k.version) ⊎ ((h.version ≡ k.version) × ((h.mark ≡ None) ⊎ (changed ≡ false))))
+TurnsHead core changed None k = ⊥
+TurnsHead core changed (Some h) None = ⊥
+
+-- A step on a word of the temporal capability in a frame leaves it as found, or changes its head so, or a word of its list where its core
+-- has marked the head.
+abbrev pub SparesTcap : Setting → Trace → Step → ℕ → ℕ → Type 0
+SparesTcap setup t e f zero =
+    (left_of e.move e.found ≡ e.found) ⊎ TurnsHead e.core (list_changed t f) (head_of_word e.found) (head_of_word (left_of e.move e.found))
+SparesTcap setup t e f (suc j) =
+    (left_of e.move e.found ≡ e.found) ⊎ ((marked_by setup t (EntryAt f 0) ≡ Some e.core)
+    × IsSome (quality_of_word (left_of e.move e.found)))
+
+-- The words of a list, and the list that is read from the first of them.
+abbrev pub list_word : Setting → Trace → ℕ → ℕ → ℕ
+list_word setup t f j = last_left setup t (EntryAt f (suc j))
+
+abbrev pub read_up : (ℕ → ℕ) → ℕ → Option (List (ℕ × ℕ))
+read_up words zero = Some []
+read_up words (suc n) = read_word (read_up words n) (quality_of_word (words n))
+
+-- A temporal capability that no other core may retype.
+pub record HasTcap (s : State) (c f : ℕ) : Type 0 where
+  pub tcap : IsTrue (fits tcap_kind (s.frame f))
+  pub guarded : IsGuarded s c f
+
+-- The head of one is expected that the call's last step on it has read there, and that no core has marked.
+pub record ReadsHead (t : Trace) (c f : ℕ) (h : HeadWord) : Type 0 where
+  pub own : own_read t c (EntryAt f 0) ≡ Some (word_of_head h)
+  pub fits : HeadFits h
+  pub bare : h.mark ≡ None
+
+-- The head of A carries the core's mark, its budget is no less than the ticks, and so many words of its list are read.
+pub record HasMarkedA (setup : Setting) (t : Trace) (p : Pair) (n : ℕ) : Type 0 where
+  pub raw : last_left setup t (EntryAt p.a 0) ≡ word_of_head (marked p.core p.head_a)
+  pub fits : HeadFits p.head_a
+  pub bare : p.head_a.mark ≡ None
+  pub enough : amount_of p.what ≤ p.head_a.budget
+  pub list : p.list_a ≡ read_up (list_word setup t p.a) n
+  pub clean : list_changed t p.a ≡ false
+
+-- Since the head of B was read in this version, its version has not fallen; and where it is the same, so many words of its list are as
+-- they were read, or a core has marked the head and changed the list.
+pub record HasSeenB (setup : Setting) (t : Trace) (f version : ℕ) (list : Option (List (ℕ × ℕ))) (n : ℕ) : Type 0 where
+  pub now : HeadWord
+  pub shown : head_of_word (last_left setup t (EntryAt f 0)) ≡ Some now
+  pub later : version ≤ now.version
+  pub same : now.version ≡ version
+      → (list ≡ read_up (list_word setup t f) n) ⊎ ((list_changed t f ≡ true) × IsSome now.mark)
+  pub valid : (j : ℕ) → j < 8 → IsSome (quality_of_word (list_word setup t f j))
+
+pub record HasReadB (setup : Setting) (t : Trace) (c : ℕ) (p : Pair) (list : Option (List (ℕ × ℕ))) (n : ℕ) : Type 0 where
+  pub head : ReadsHead t c p.b p.head_b
+  pub seen : HasSeenB setup t p.b p.head_b.version list n
+
+-- Both lists are read, and what they lead to is that the deciding step comes next.
+pub record HasBoth (setup : Setting) (t : Trace) (c : ℕ) (p : Pair) (at : PairAt) : Type 0 where
+  pub a : HasMarkedA setup t p 8
+  pub read : Option (List (ℕ × ℕ))
+  pub b : HasReadB setup t c p read 8
+  pub whole : p.list_b ≡ whole_b p.what (in_order p.list_a) (in_order read)
+  pub judges : judged p.what p ≡ at
+
+-- Nothing of a list is read yet.
+abbrev pub IsUnread : Option (List (ℕ × ℕ)) → Type 0
+IsUnread list = list ≡ Some []
+
+-- What it knows where it stands there.
+abbrev pub KnowsPairAt : Setting → Trace → ℕ → Pair → PairAt → Type 0
+KnowsPairAt setup t c p LoadA = IsUnread p.list_a × IsUnread p.list_b
+KnowsPairAt setup t c p MarkA = ReadsHead t c p.a p.head_a × IsUnread p.list_a × IsUnread p.list_b
+KnowsPairAt setup t c p (ListA zero) = ⊥
+KnowsPairAt setup t c p (ListA (suc n)) = HasMarkedA setup t p n × IsUnread p.list_b
+KnowsPairAt setup t c p LoadB = HasMarkedA setup t p 8 × IsUnread p.list_b
+KnowsPairAt setup t c p (ListB zero) = ⊥
+KnowsPairAt setup t c p (ListB (suc n)) = HasMarkedA setup t p 8 × HasReadB setup t c p p.list_b n
+KnowsPairAt setup t c p CompareB = HasBoth setup t c p CompareB
+KnowsPairAt setup t c p (AgainB r) = HasBoth setup t c p (AgainB r)
+KnowsPairAt setup t c p (StoreList entry) = ⊥
+KnowsPairAt setup t c p StoreB = ⊥
+KnowsPairAt setup t c p (StoreA moved v) = ⊥
+
+-- It is of these two, to which its names have led and which differ, and moves so many ticks.
+pub record IsShared (a b : Capability) (what : PairWork) (p : Pair) : Type 0 where
+  pub first : p.a ≡ a.frame
+  pub second : p.b ≡ b.frame
+  pub first_kind : a.kind ≡ tcap_kind
+  pub second_kind : b.kind ≡ tcap_kind
+  pub differ : a.frame ≢ b.frame
+  pub work : p.what ≡ what
+
+abbrev pub SharesBy : Call → List Capability → Pair → Type 0
+SharesBy (call_as.Transfer x y m) (a ∷ b ∷ []) p = IsShared a b (share.Transfer m) p
+SharesBy (call_as.Delegate x y m) (a ∷ b ∷ []) p = IsShared a b (share.Delegate m) p
+SharesBy (call_as.Test x y) (a ∷ b ∷ []) p = IsShared a b share.Test p
+SharesBy call ks p = ⊥
+
+pub record KnowsShare (setup : Setting) (t : Trace) (c : ℕ) (call : Call) (ks : List Capability) (p : Pair) : Type 0 where
+  pub shares : SharesBy call ks p
+  pub core : p.core ≡ c
+  pub tcap_a : HasTcap (state_after setup t) c p.a
+  pub tcap_b : HasTcap (state_after setup t) c p.b
+  pub at : KnowsPairAt setup t c p p.at
+
+-- The head of A is still to be stored, less the ticks or as it was found: it carries the core's mark.
+pub record StoresA (setup : Setting) (t : Trace) (p : Pair) : Type 0 where
+  pub raw : last_left setup t (EntryAt p.a 0) ≡ word_of_head (marked p.core p.head_a)
+  pub fits : HeadFits p.head_a
+  pub bare : p.head_a.mark ≡ None
+  pub few : p.head_a.version + 1 < 2 ^ 28
+  pub clean : list_changed t p.a ≡ false
+
+abbrev pub KnowsStoresAt : Setting → Trace → Pair → PairAt → Type 0
+KnowsStoresAt setup t p LoadA = ⊥
+KnowsStoresAt setup t p MarkA = ⊥
+KnowsStoresAt setup t p (ListA n) = ⊥
+KnowsStoresAt setup t p LoadB = ⊥
+KnowsStoresAt setup t p (ListB n) = ⊥
+KnowsStoresAt setup t p CompareB = ⊥
+KnowsStoresAt setup t p (AgainB r) = ⊥
+KnowsStoresAt setup t p (StoreList n) = ⊥
+KnowsStoresAt setup t p StoreB = ⊥
+KnowsStoresAt setup t p (StoreA moved v) = StoresA setup t p
+
+-- What a decided call knows that has still to store the words of two temporal capabilities.
+pub record KnowsShared (setup : Setting) (t : Trace) (c : ℕ) (call : Call) (p : Pair) : Type 0 where
+  pub budgets : changes_budgets call ≡ true
+  pub core : p.core ≡ c
+  pub near : WasAt (IsNearIn c call (EntryAt p.a 0)) setup t c
+  pub tcap_a : HasTcap (state_after setup t) c p.a
+  pub at : KnowsStoresAt setup t p p.at

@@ -1,0 +1,135 @@
+-- What a switch holds of the words of threads, and what it knows: the thread to which it goes on, the component at the top of its stack, and
+-- the thread that it leaves.
+use Rattle.std.specs.Prelude.{◌≡◌, ◌≢◌, ℕ, Bool, true, false, length, List, [], ◌∷◌, Some, IsTrue}
+use Rattle.spk_nums.specs.Capability.{Capability}
+use Rattle.spk_nums.specs.Setting.{Setting}
+use Rattle.spk_nums.specs.declared.calls.Call.{Call}
+use Rattle.spk_nums.specs.declared.calls.Call.TheVariants.{Switch}
+use Rattle.spk_nums.specs.declared.kinds.Kind.TheVariants as kind
+use Rattle.tcap_words.specs.Thread.{word_of_thread}
+use Rattle.tcap_words.specs.declared.thread_word.ThreadWord.TheVariants.{Idle, Running}
+use Rattle.stage_thread.specs.declared.claim.Claim.{Claim as ClaimOf}
+use Rattle.stage_thread.specs.declared.claim.Claim.TheVariants.{AtLoad, AtCompare, AtStack}
+use Rattle.stage_thread.specs.declared.claim.Claimed.{Claimed}
+use Rattle.word_map.specs.Word.{EntryAt}
+use Rattle.kernel_rules.specs.State.{State, comp_in, first_of_stack, thread_in, thread_of}
+use Rattle.kernel_rules.specs.Fitting.{fits}
+use Rattle.kernel_rules.specs.Relies.{IsGuarded}
+use Rattle.kernel_history.specs.Discipline.{changes_threads}
+use Rattle.kernel_history.specs.Footprint.{IsNearIn}
+use Rattle.kernel_history.specs.Trace.{Trace, WasAt, own_read, state_after}
+use Rattle.call_acts.specs.declared.switches.Switching.{Switching}
+use Rattle.call_acts.specs.declared.switches.SwitchAt.{SwitchAt}
+use Rattle.call_acts.specs.declared.switches.SwitchAt.TheVariants.{Claim, LoadTable, LoadPages, Leave, Draw}
+use Rattle.core_invariant.specs.Holding.{Holding, keeps}
+use Rattle.core_invariant.specs.Components.{HasComp}
+
+-- A thread that is claimed stands for the idle one that was found.
+abbrev pub holds_idle : ℕ → ℕ → Holding → Holding
+holds_idle f depth h = keeps (EntryAt f 0) (word_of_thread (Idle depth)) h
+
+abbrev pub holds_claim : ClaimOf → Holding → Holding
+holds_claim (AtLoad f core) h = h
+holds_claim (AtCompare f core depth) h = h
+holds_claim (AtStack f depth) h = holds_idle f depth h
+
+-- So does the core's own thread for the running one, from when it is stored as claimed.
+abbrev pub holds_switching : Switching → SwitchAt → Holding → Holding
+holds_switching m (Claim claim) h = holds_claim claim h
+holds_switching m (LoadTable to) h = holds_idle to.thread to.depth h
+holds_switching m (LoadPages to table) h = holds_idle to.thread to.depth h
+holds_switching m (Leave to table pages) h = holds_idle to.thread to.depth h
+holds_switching m (Draw to table pages) h =
+    holds_idle to.thread to.depth (keeps (EntryAt m.old 0) (word_of_thread (Running m.core m.old_depth)) h)
+
+-- After the decision the thread stands for the running one, and the thread that was left for an idle one.
+abbrev pub holds_running : ℕ → ℕ → ℕ → ℕ → ℕ → Holding → Holding
+holds_running f core depth old old_depth h =
+    keeps (EntryAt f 0) (word_of_thread (Running core depth)) (holds_idle old old_depth h)
+
+-- The frame of the thread to which it goes on, and whether this is claimed.
+abbrev pub claimed_by : SwitchAt → ℕ
+claimed_by (Claim (AtLoad f core)) = f
+claimed_by (Claim (AtCompare f core depth)) = f
+claimed_by (Claim (AtStack f depth)) = f
+claimed_by (LoadTable to) = to.thread
+claimed_by (LoadPages to table) = to.thread
+claimed_by (Leave to table pages) = to.thread
+claimed_by (Draw to table pages) = to.thread
+
+abbrev pub is_claimed : SwitchAt → Bool
+is_claimed (Claim (AtLoad f core)) = false
+is_claimed (Claim (AtCompare f core depth)) = false
+is_claimed (Claim (AtStack f depth)) = true
+is_claimed (LoadTable to) = true
+is_claimed (LoadPages to table) = true
+is_claimed (Leave to table pages) = true
+is_claimed (Draw to table pages) = true
+
+-- A thread that no other core may retype.
+pub record HasThread (s : State) (c f : ℕ) : Type 0 where
+  pub thread : IsTrue (fits kind.Thread (s.frame f))
+  pub guarded : IsGuarded s c f
+
+-- The call goes on as the thread to which its first name has led, with the temporal capability to which its second has led.
+pub record IsSwitched (f q : ℕ) (to by : Capability) : Type 0 where
+  pub thread : f ≡ to.frame
+  pub tcap : q ≡ by.frame
+
+abbrev pub SwitchesBy : Call → List Capability → ℕ → ℕ → Type 0
+SwitchesBy (Switch h q) (thread ∷ tcap ∷ []) f g = IsSwitched f g thread tcap
+SwitchesBy call ks f g = ⊥
+
+-- It leaves the thread of its core, and its temporal capability.
+pub record LeavesOwn (s : State) (c : ℕ) (m : Switching) : Type 0 where
+  pub core : m.core ≡ c
+  pub thread : m.old ≡ (s.core c).thread
+  pub depth : m.old_depth ≡ length (thread_of s c).stack
+  pub tcap : m.old_tcap ≡ (s.core c).tcap
+
+-- The component at the top of the stack of a claimed thread, which no other core may retype.
+pub record IsTop (s : State) (c : ℕ) (to : Claimed) : Type 0 where
+  pub top : first_of_stack (thread_in (s.frame to.thread)).stack ≡ to.comp
+  pub comp : HasComp s c to.comp
+
+-- Its table, and its pages.
+pub record HasTable (s : State) (c : ℕ) (to : Claimed) (root : ℕ) : Type 0 where
+  pub top : IsTop s c to
+  pub table : (comp_in (s.frame to.comp)).table ≡ root
+
+pub record HasRoots (s : State) (c : ℕ) (to : Claimed) (table root : ℕ) : Type 0 where
+  pub has_table : HasTable s c to table
+  pub pages : (comp_in (s.frame to.comp)).pages ≡ root
+
+-- Before the compare, the call's last step on the thread's word has read there the idle word that is expected.
+abbrev pub KnowsClaim : Trace → ℕ → ClaimOf → Type 0
+KnowsClaim t c (AtLoad f core) = core ≡ c
+KnowsClaim t c (AtCompare f core depth) = (core ≡ c) × (own_read t c (EntryAt f 0) ≡ Some (word_of_thread (Idle depth)))
+KnowsClaim t c (AtStack f depth) = Unit {0}
+
+abbrev pub KnowsSwitchAt : Setting → Trace → ℕ → SwitchAt → Type 0
+KnowsSwitchAt setup t c (Claim claim) = KnowsClaim t c claim
+KnowsSwitchAt setup t c (LoadTable to) = IsTop (state_after setup t) c to
+KnowsSwitchAt setup t c (LoadPages to table) = HasTable (state_after setup t) c to table
+KnowsSwitchAt setup t c (Leave to table pages) = HasRoots (state_after setup t) c to table pages
+KnowsSwitchAt setup t c (Draw to table pages) = HasRoots (state_after setup t) c to table pages
+
+pub record KnowsSwitch (setup : Setting) (t : Trace) (c : ℕ) (call : Call) (ks : List Capability) (m : Switching) : Type 0 where
+  pub switches : SwitchesBy call ks (claimed_by m.at) m.tcap
+  pub leaves : LeavesOwn (state_after setup t) c m
+  pub thread : HasThread (state_after setup t) c (claimed_by m.at)
+  pub at : KnowsSwitchAt setup t c m.at
+
+-- A thread whose word is still to be stored as idle: no other core may retype it, and it is near the call at a moment of it.
+pub record KnowsIdle (setup : Setting) (t : Trace) (c : ℕ) (call : Call) (f : ℕ) : Type 0 where
+  pub threads : changes_threads call ≡ true
+  pub near : WasAt (IsNearIn c call (EntryAt f 0)) setup t c
+  pub thread : HasThread (state_after setup t) c f
+
+-- The thread whose word is still to be stored as running is that of the core, and the one that it has left is another.
+pub record KnowsRunning (setup : Setting) (t : Trace) (c : ℕ) (call : Call) (f by old : ℕ) : Type 0 where
+  pub core : by ≡ c
+  pub own : f ≡ ((state_after setup t).core c).thread
+  pub near : WasAt (IsNearIn c call (EntryAt f 0)) setup t c
+  pub apart : f ≢ old
+  pub rest : KnowsIdle setup t c call old

@@ -1,0 +1,183 @@
+-- A call that makes a component: what it is, its counts, and what it has still to store where it is refused.
+use Rattle.std.specs.Prelude.{List, ℤ, pos}
+use Rattle.std.proofs.Common.{◌≡◌, Bool, true, false, Option, Some, None, ◌∙◌, refl, ℕ, ◌==◌, ◌||◌, sym, [], ◌∷◌, ◌++◌, ap, subst, IsTrue}
+use Rattle.std.proofs.lemmas.Bool.{eq-eqb, false≢true}
+use Rattle.spk_nums.specs.Capability.{Capability}
+use Rattle.spk_nums.specs.Setting.{Setting}
+use Rattle.spk_nums.specs.declared.calls.Call.{Call}
+use Rattle.spk_nums.specs.declared.calls.Call.TheVariants.{Make as make_call}
+use Rattle.spk_nums.specs.declared.calls.Make.{Make}
+use Rattle.spk_nums.specs.declared.calls.Make.TheVariants as make
+use Rattle.spk_nums.specs.declared.kinds.Kind.{Kind}
+use Rattle.spk_nums.specs.declared.kinds.Kind.TheVariants as kind
+use Rattle.kernel_rules.specs.Access.{found, only}
+use Rattle.kernel_rules.specs.CapabilityCalls.{has_frame}
+use Rattle.kernel_rules.specs.References.{named_by}
+use Rattle.kernel_rules.specs.State.{State}
+use Rattle.kernel_rules.proofs.Sound.{only_is}
+use Rattle.kernel_history.specs.Discipline.{counts_references, changes_frames, changes_places, changes_numbers}
+use Rattle.kernel_history.specs.Footprint.{frames_near, numbers_near, is_one_of, frame_argument}
+use Rattle.kernel_history.specs.Trace.{Trace}
+use Rattle.plan_ways.proofs.Near.{one_left, near_found}
+use Rattle.call_plans.specs.declared.plans.Nth.TheVariants.{Third, Fourth}
+use Rattle.call_plans.specs.Plans.{at_place}
+use Rattle.call_plans.specs.PlanOf.{plan_for}
+use Rattle.call_plans.specs.After.{Leads, LeadsIn}
+use Rattle.stage_pins.specs.declared.held.Acquired.{Acquired}
+use Rattle.call_acts.specs.Comps.{comp_dues, comp_due_list, comp_undo, comp_meets_number}
+use Rattle.call_acts.specs.declared.comps.CompAt.{CompAt}
+use Rattle.call_acts.specs.declared.comps.CompAt.TheVariants as comp_at
+use Rattle.call_acts.specs.declared.comps.CompMaking.{CompMaking}
+use Rattle.call_acts.specs.declared.work.Due.{Due}
+use Rattle.core_invariant.specs.Knows.{KnowsTail, MakesCompBy, KnowsCompAt}
+use Rattle.count_invariant.proofs.MakingCounts.{argument_near, blank_left, named_kind, no_due}
+
+-- It makes this component in this frame, which the range has to which its first name has led, with what its third and its fourth have led to.
+pub record IsCompCall (call : Call) (ks : List Capability) (m : CompMaking) : Type 0 where
+  pub x : ℕ
+  pub p : ℕ
+  pub name : ℕ
+  pub root : ℕ
+  pub slot : ℕ
+  pub range : Capability
+  pub second : Capability
+  pub table : Capability
+  pub pages : Capability
+  pub call_is : call ≡ make_call (make.Comp x p m.number) name m.frame root slot
+  pub found_is : ks ≡ range ∷ second ∷ table ∷ pages ∷ []
+  pub table_is : m.table ≡ table.frame
+  pub pages_is : m.pages ≡ pages.frame
+  pub within : has_frame (found range) m.frame ≡ true
+
+pub comp_call : (call : Call) (ks : List Capability) (m : CompMaking) → MakesCompBy call ks m → IsCompCall call ks m
+comp_call (make_call (make.Comp x p live) r f u b) (range ∷ second ∷ table ∷ pages ∷ []) m is = record {
+  x = x;
+  p = p;
+  name = r;
+  root = u;
+  slot = b;
+  range = range;
+  second = second;
+  table = table;
+  pages = pages;
+  call_is = ap (λ (n : ℕ). make_call (make.Comp x p n) r f u b) (sym is.number)
+      ∙ ap (λ (g : ℕ). make_call (make.Comp x p m.number) r g u b) (sym is.frame);
+  found_is = refl;
+  table_is = is.table;
+  pages_is = is.pages;
+  within = ap (has_frame (found range)) is.frame ∙ is.within;
+}
+comp_call (make_call (make.Comp x p live) r f u b) [] m is = absurd is
+comp_call (make_call (make.Comp x p live) r f u b) (k ∷ []) m is = absurd is
+comp_call (make_call (make.Comp x p live) r f u b) (k ∷ j ∷ []) m is = absurd is
+comp_call (make_call (make.Comp x p live) r f u b) (k ∷ j ∷ i ∷ []) m is = absurd is
+comp_call (make_call (make.Comp x p live) r f u b) (k ∷ j ∷ i ∷ h ∷ g ∷ ks) m is = absurd is
+comp_call (make_call what r f u b) ks m is = absurd is
+comp_call call ks m is = absurd is
+
+-- It makes it wherever its steps stand.
+pub makes_comp_on : (call : Call) (ks : List Capability) (m : CompMaking) (at : CompAt) → MakesCompBy call ks m
+    → MakesCompBy call ks (record m { at = at })
+makes_comp_on (make_call (make.Comp x p live) r f u b) (range ∷ second ∷ table ∷ pages ∷ []) m at is =
+    record { frame = is.frame; number = is.number; table = is.table; pages = is.pages; within = is.within }
+makes_comp_on (make_call (make.Comp x p live) r f u b) [] m at is = absurd is
+makes_comp_on (make_call (make.Comp x p live) r f u b) (k ∷ []) m at is = absurd is
+makes_comp_on (make_call (make.Comp x p live) r f u b) (k ∷ j ∷ []) m at is = absurd is
+makes_comp_on (make_call (make.Comp x p live) r f u b) (k ∷ j ∷ i ∷ []) m at is = absurd is
+makes_comp_on (make_call (make.Comp x p live) r f u b) (k ∷ j ∷ i ∷ h ∷ g ∷ ks) m at is = absurd is
+makes_comp_on (make_call what r f u b) ks m at is = absurd is
+makes_comp_on call ks m at is = absurd is
+
+module _ (call : Call) (ks : List Capability) (m : CompMaking) (is : IsCompCall call ks m) where
+  pub comp_counts : IsTrue (counts_references call)
+  comp_counts = subst (λ x. IsTrue (counts_references x)) (sym is.call_is) refl
+
+  pub comp_changes : changes_frames call ≡ true
+  comp_changes = ap changes_frames is.call_is
+
+  pub comp_places : changes_places call ≡ true
+  comp_places = ap changes_places is.call_is
+
+  pub comp_numbers : changes_numbers call ≡ true
+  comp_numbers = ap changes_numbers is.call_is
+
+  pub comp_argument : is_one_of m.frame (frame_argument call) ≡ true
+  comp_argument = ap (λ x. is_one_of m.frame (frame_argument x)) is.call_is ∙ ap (λ b. b || false) (eq-eqb m.frame m.frame refl)
+
+  pub comp_near : (s : State) (c : ℕ) → is_one_of m.frame (frames_near s c call) ≡ true
+  comp_near s c = argument_near s c call m.frame comp_argument
+
+  pub number_near : (s : State) (c : ℕ) → is_one_of m.number (numbers_near s c call) ≡ true
+  number_near s c = ap (λ x. is_one_of m.number (numbers_near s c x)) is.call_is
+      ∙ one_left m.number (m.number ∷ []) _ (ap (λ b. b || false) (eq-eqb m.number m.number refl))
+
+-- What its third and its fourth name have led to is near it.
+same_cap : (x y : Capability) → Some x ≡ Some y → x ≡ y
+same_cap x y h = cc
+
+module _ (s : State) (c : ℕ) (call : Call) (ks : List Capability) (m : CompMaking) (is : IsCompCall call ks m)
+    (lead : Leads (LeadsIn s c) (plan_for call).names [] ks) where
+  abbrev whole : Call
+  whole = make_call (make.Comp is.x is.p m.number) is.name m.frame is.root is.slot
+
+  abbrev all : List Capability
+  all = is.range ∷ is.second ∷ is.table ∷ is.pages ∷ []
+
+  leads : Leads (LeadsIn s c) (plan_for whole).names [] all
+  leads = subst (λ x. Leads (LeadsIn s c) (plan_for x).names [] all) is.call_is
+      (subst (λ x. Leads (LeadsIn s c) (plan_for call).names [] x) is.found_is lead)
+
+  named_one : (k : Capability) (want : Kind) → named_by want k.frame ≡ k.frame ∷ [] → only want k.kind ≡ true → (g : ℕ) → k.frame ≡ g
+      → is_one_of g (named_by k.kind k.frame) ≡ true
+  named_one k want one wanted g same =
+      ap (λ (j : Kind). is_one_of g (named_by j k.frame)) (only_is want k.kind wanted) ∙ ap (is_one_of g) one
+      ∙ ap (λ b. b || false) (eq-eqb k.frame g same)
+
+  pub table_near : is_one_of m.table (frames_near s c call) ≡ true
+  table_near = ap (λ x. is_one_of m.table (frames_near s c x)) is.call_is
+      ∙ near_found s c whole all leads Third is.table refl m.table
+      (named_one is.table kind.Table refl (named_kind s c is.x (only kind.Table) is.table leads.1.1.0) m.table (sym is.table_is))
+
+  pub pages_near : is_one_of m.pages (frames_near s c call) ≡ true
+  pages_near = ap (λ x. is_one_of m.pages (frames_near s c x)) is.call_is
+      ∙ near_found s c whole all leads Fourth is.pages refl m.pages
+      (named_one is.pages kind.Pages refl (named_kind s c is.p (only kind.Pages) is.pages leads.1.1.1.0) m.pages (sym is.pages_is))
+
+  head_same : (x y : Due) (xs ys : List Due) → x ∷ xs ≡ y ∷ ys → x ≡ y
+  head_same x y xs ys h = cc
+
+  tail_same : (x y : Due) (xs ys : List Due) → x ∷ xs ≡ y ∷ ys → xs ≡ ys
+  tail_same x y xs ys h = cc
+
+  list_near : (xs : List Due) (d : Due) (rest : List Due) → comp_due_list m ≡ xs ++ d ∷ rest
+      → is_one_of d.frame (frames_near s c call) ≡ true
+  list_near [] d rest h = subst (λ (y : Due). is_one_of y.frame (frames_near s c call) ≡ true) (head_same _ _ _ _ h)
+      (comp_near call ks m is s c)
+  list_near (y ∷ []) d rest h = subst (λ (y : Due). is_one_of y.frame (frames_near s c call) ≡ true)
+      (head_same _ _ _ _ (tail_same _ _ _ _ h)) table_near
+  list_near (y ∷ z ∷ []) d rest h = subst (λ (y : Due). is_one_of y.frame (frames_near s c call) ≡ true)
+      (head_same _ _ _ _ (tail_same _ _ _ _ (tail_same _ _ _ _ h))) pages_near
+  list_near (y ∷ z ∷ w ∷ ys) d rest h =
+      absurd (no_due ys d rest (tail_same _ _ _ _ (tail_same _ _ _ _ (tail_same _ _ _ _ h))))
+
+  pub comp_due_near : (at : CompAt) (xs : List Due) (d : Due) (rest : List Due) → comp_dues m at ≡ xs ++ d ∷ rest
+      → is_one_of d.frame (frames_near s c call) ≡ true
+  comp_due_near comp_at.Load xs d rest h = absurd (no_due xs d rest h)
+  comp_due_near (comp_at.Mark word) xs d rest h = absurd (no_due xs d rest h)
+  comp_due_near (comp_at.LoadLive word) xs d rest h = list_near xs d rest h
+  comp_due_near (comp_at.Scan word last q) xs d rest h = list_near xs d rest h
+  comp_due_near (comp_at.Close word last) xs d rest h = list_near xs d rest h
+  comp_due_near (comp_at.Store word last n) xs d rest h = list_near xs d rest h
+  comp_due_near (comp_at.Fill word last) xs d rest h = list_near xs d rest h
+
+-- While its counts are acquired it has to store the word of its frame, as it was found.
+pub comp_left : (setup : Setting) (t u : Trace) (c : ℕ) (counts : List Acquired) (call : Call) (ks : List Capability) (m : CompMaking) → IsCompCall call ks m
+    → (at : CompAt) → comp_meets_number at ≡ false → KnowsCompAt setup t c m at → KnowsTail setup u c call counts (comp_undo m at)
+comp_left setup t u c counts call ks m is comp_at.Load early knows = tt
+comp_left setup t u c counts call ks m is (comp_at.Mark word) early knows = tt
+comp_left setup t u c counts call ks m is (comp_at.LoadLive word) early knows =
+    blank_left m.frame word call (comp_changes call ks m is) (comp_argument call ks m is) knows
+comp_left setup t u c counts call ks m is (comp_at.Scan word last q) early knows = absurd (false≢true (sym early))
+comp_left setup t u c counts call ks m is (comp_at.Close word last) early knows = absurd (false≢true (sym early))
+comp_left setup t u c counts call ks m is (comp_at.Store word last n) early knows = absurd (false≢true (sym early))
+comp_left setup t u c counts call ks m is (comp_at.Fill word last) early knows = absurd (false≢true (sym early))

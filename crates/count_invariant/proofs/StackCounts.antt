@@ -1,0 +1,125 @@
+-- The count, and the frames, of a call that enters a component or leaves one.
+use Rattle.std.specs.Prelude.{List, ℤ, pos, negsuc}
+use Rattle.std.proofs.Common.{◌≡◌, refl, ℕ, ◌≤◌, Bool, true, false, sym, ◌∙◌, [], ◌∷◌, ◌++◌, length, ap, arith, subst, IsTrue, ◌||◌, ◌==◌}
+use Rattle.std.proofs.Math.Bool.{or-true}
+use Rattle.std.proofs.lemmas.Bool.{eq-eqb}
+use Rattle.spk_nums.specs.Capability.{Capability}
+use Rattle.spk_nums.specs.declared.kinds.Kind.{Kind}
+use Rattle.spk_nums.specs.declared.kinds.Kind.TheVariants as kind
+use Rattle.spk_nums.specs.declared.calls.Call.{Call}
+use Rattle.spk_nums.specs.declared.calls.Call.TheVariants.{Call as call_gate, Ret}
+use Rattle.kernel_rules.specs.References.{named_by}
+use Rattle.kernel_rules.specs.State.{State, first_of_stack, thread_of, comp_of}
+use Rattle.kernel_history.specs.Discipline.{counts_references, changes_threads}
+use Rattle.kernel_history.specs.Footprint.{frames_own, frames_near, is_one_of}
+use Rattle.call_plans.specs.declared.plans.Nth.TheVariants.{First}
+use Rattle.call_plans.specs.Plans.{at_place}
+use Rattle.call_plans.specs.PlanOf.{plan_for}
+use Rattle.call_plans.specs.After.{Leads, LeadsIn}
+use Rattle.plan_ways.proofs.Near.{near_found, one_left}
+use Rattle.call_acts.specs.declared.invocations.Invoking.{Invoking}
+use Rattle.call_acts.specs.declared.invocations.InvokingAt.{InvokingAt}
+use Rattle.call_acts.specs.declared.invocations.InvokingAt.TheVariants as invoking
+use Rattle.call_acts.specs.declared.invocations.ReturningAt.{ReturningAt}
+use Rattle.call_acts.specs.declared.invocations.ReturningAt.TheVariants as returning
+use Rattle.call_acts.specs.declared.work.Due.{Due}
+use Rattle.call_acts.specs.Acts.{invoking_dues, returning_dues}
+use Rattle.core_invariant.specs.Components.{InvokesBy, below_of}
+use Rattle.count_invariant.proofs.MakingCounts.{no_due}
+
+-- The call that enters a component.
+pub record IsInvoke (call : Call) (ks : List Capability) (m : Invoking) : Type 0 where
+  pub name : ℕ
+  pub gate : Capability
+  pub call_is : call ≡ call_gate name
+  pub found_is : ks ≡ gate ∷ []
+  pub kind : gate.kind ≡ kind.Gate
+  pub frame : m.comp ≡ gate.frame
+  pub epoch : m.epoch ≡ gate.arg
+
+pub invoke_of : (call : Call) (ks : List Capability) (m : Invoking) → InvokesBy call ks m → IsInvoke call ks m
+invoke_of (call_gate name) (gate ∷ []) m is = record {
+  name = name;
+  gate = gate;
+  call_is = refl;
+  found_is = refl;
+  kind = is.kind;
+  frame = is.frame;
+  epoch = is.epoch;
+}
+invoke_of (call_gate name) [] m is = absurd is
+invoke_of (call_gate name) (gate ∷ k ∷ ks) m is = absurd is
+invoke_of call ks m is = absurd is
+
+-- It changes references, and the words of threads; and so does a return.
+pub invoke_counts : (call : Call) (ks : List Capability) (m : Invoking) → InvokesBy call ks m → IsTrue (counts_references call)
+invoke_counts call ks m is = subst (λ x. IsTrue (counts_references x)) (sym (invoke_of call ks m is).call_is) refl
+
+pub invoke_threads : (call : Call) (ks : List Capability) (m : Invoking) → InvokesBy call ks m → changes_threads call ≡ true
+invoke_threads call ks m is = ap changes_threads (invoke_of call ks m is).call_is
+
+-- The component is near it.
+pub invoke_near : (s : State) (c : ℕ) (call : Call) (ks : List Capability) (m : Invoking) → InvokesBy call ks m
+    → Leads (LeadsIn s c) (plan_for call).names [] ks → is_one_of m.comp (frames_near s c call) ≡ true
+invoke_near s c call ks m invokes leads =
+    let is = invoke_of call ks m invokes in
+    near_found s c call ks leads First is.gate (ap (λ xs. at_place xs First) is.found_is) m.comp
+    (ap (λ (k : Kind). is_one_of m.comp (named_by k is.gate.frame)) is.kind ∙ ap (λ b. b || false)
+    (eq-eqb is.gate.frame m.comp (sym is.frame)))
+
+-- A core's thread, and each component on its stack, is near each of its calls.
+or_left : (a b : Bool) → a ≡ true → (a || b) ≡ true
+or_left a b is = ap (λ x. x || b) is
+
+or_right : (a b : Bool) → b ≡ true → (a || b) ≡ true
+or_right a b is = ap (λ x. a || x) is ∙ or-true a
+
+pub stack_near : (s : State) (c : ℕ) (call : Call) (f : ℕ) → is_one_of f (thread_of s c).stack ≡ true
+    → is_one_of f (frames_near s c call) ≡ true
+stack_near s c call f is = one_left f (frames_own s c) _
+    (or_right ((s.core c).thread == f) _ (or_right ((s.core c).tcap == f) _
+    (one_left f (thread_of s c).stack ((comp_of s c).table ∷ (comp_of s c).pages ∷ []) is)))
+
+pub thread_near : (s : State) (c : ℕ) (call : Call) (f : ℕ) → (s.core c).thread ≡ f → is_one_of f (frames_near s c call) ≡ true
+thread_near s c call f is = one_left f (frames_own s c) _ (or_left ((s.core c).thread == f) _ (eq-eqb (s.core c).thread f is))
+
+pub first_one : (fs : List ℕ) → 1 ≤ length fs → is_one_of (first_of_stack fs) fs ≡ true
+first_one [] some = absurd (omega (arith, some))
+first_one (f ∷ fs) some = ap (λ b. b || is_one_of f fs) (eq-eqb f f refl)
+
+pub below_one : (fs : List ℕ) → 2 ≤ length fs → is_one_of (below_of fs) fs ≡ true
+below_one [] deep = absurd (omega (arith, deep))
+below_one (f ∷ []) deep = absurd (omega (arith, deep))
+below_one (f ∷ g ∷ fs) deep = or_right (f == g) (is_one_of g (g ∷ fs)) (ap (λ b. b || is_one_of g fs) (eq-eqb g g refl))
+
+only_due : (f : ℕ) (z : ℤ) (xs : List Due) (d : Due) (rest : List Due) → record { frame = f; change = z } ∷ [] ≡ xs ++ d ∷ rest
+    → d.frame ≡ f
+only_due f z [] d rest is = sym (ap (λ (x : Due). x.frame) (head_same _ _ _ _ is))
+  where
+    head_same : (x y : Due) (xs ys : List Due) → x ∷ xs ≡ y ∷ ys → x ≡ y
+    head_same x y xs ys h = cc
+only_due f z (x ∷ xs) d rest is = absurd (no_due xs d rest (tail_same _ _ _ _ is))
+  where
+    tail_same : (x y : Due) (xs ys : List Due) → x ∷ xs ≡ y ∷ ys → xs ≡ ys
+    tail_same x y xs ys h = cc
+
+-- The count that an entering changes is that of the component's frame, and that of a leaving that of the top's.
+pub invoking_due : (f : ℕ) (at : InvokingAt) (xs : List Due) (d : Due) (rest : List Due) → invoking_dues f at ≡ xs ++ d ∷ rest
+    → d.frame ≡ f
+invoking_due f invoking.LoadTable xs d rest is = absurd (no_due xs d rest is)
+invoking_due f (invoking.LoadPages table) xs d rest is = absurd (no_due xs d rest is)
+invoking_due f (invoking.LoadComp table pages) xs d rest is = absurd (no_due xs d rest is)
+invoking_due f (invoking.LoadLive table pages life) xs d rest is = only_due f (pos 1) xs d rest is
+
+pub returning_due : (f : ℕ) (at : ReturningAt) (xs : List Due) (d : Due) (rest : List Due) → returning_dues f at ≡ xs ++ d ∷ rest
+    → d.frame ≡ f
+returning_due f returning.LoadBelow xs d rest is = absurd (no_due xs d rest is)
+returning_due f (returning.LoadTable comp) xs d rest is = absurd (no_due xs d rest is)
+returning_due f (returning.LoadPages comp table) xs d rest is = absurd (no_due xs d rest is)
+returning_due f (returning.Draw comp table pages) xs d rest is = only_due f (negsuc 0) xs d rest is
+
+-- The component at the top of a core's stack is near each of its calls.
+pub top_near : (s : State) (c : ℕ) (call : Call) (top : ℕ) → top ≡ first_of_stack (thread_of s c).stack → 1 ≤ length (thread_of s c).stack
+    → is_one_of top (frames_near s c call) ≡ true
+top_near s c call top is some = stack_near s c call top
+    (subst (λ (n : ℕ). is_one_of n (thread_of s c).stack ≡ true) (sym is) (first_one (thread_of s c).stack some))

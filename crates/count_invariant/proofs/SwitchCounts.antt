@@ -1,0 +1,206 @@
+-- The counts of a call that switches, and the frames that it names.
+use Rattle.std.specs.Prelude.{List, All, pos, negsuc}
+use Rattle.std.specs.List.{flat_map}
+use Rattle.std.proofs.Common.{◌≡◌, ◌+◌, ◌<◌, inl, inr, refl, ℕ, Bool, true, false, sym, ◌∙◌, [], ◌∷◌, ◌++◌, map, ap, subst, IsTrue, ◌||◌, ◌==◌, arith}
+use Rattle.std.proofs.lemmas.Bool.{eq-eqb}
+use Rattle.std.proofs.lemmas.List.Elements.{All-nil, All-cons, All-head, All-tail}
+use Rattle.spk_nums.specs.Setting.{Setting}
+use Rattle.spk_nums.specs.Capability.{Capability}
+use Rattle.spk_nums.specs.declared.kinds.Kind.{Kind}
+use Rattle.spk_nums.specs.declared.kinds.Kind.TheVariants as kind
+use Rattle.spk_nums.specs.declared.calls.Call.{Call}
+use Rattle.spk_nums.specs.declared.calls.Call.TheVariants.{Switch}
+use Rattle.kernel_rules.specs.Access.{only}
+use Rattle.word_map.specs.Word.{EntryAt}
+use Rattle.kernel_rules.specs.CallRelation.{rule_of, counted}
+use Rattle.kernel_rules.specs.References.{named_by, frame_names}
+use Rattle.kernel_rules.specs.Relies.{IsGuarded}
+use Rattle.kernel_rules.specs.State.{State, thread_of, comp_of}
+use Rattle.kernel_rules.proofs.Sound.{only_is}
+use Rattle.kernel_rules.proofs.SparesRuns.{core_same_refs}
+use Rattle.kernel_history.specs.Discipline.{counts_references, changes_threads}
+use Rattle.kernel_history.specs.Footprint.{IsNearIn, frames_about, frames_near, frames_own, is_one_of}
+use Rattle.kernel_history.specs.Trace.{Step, Trace, Open, Out, WasAt, phase, state_after}
+use Rattle.kernel_history.specs.Ways.{wide_ways}
+use Rattle.kernel_history.proofs.Carries.{was_now, was_stays}
+use Rattle.stage_pins.specs.declared.held.Acquired.{Acquired}
+use Rattle.stage_thread.specs.declared.claim.Claim.TheVariants.{AtLoad, AtCompare, AtStack}
+use Rattle.stage_thread.specs.declared.claim.Claimed.{Claimed}
+use Rattle.call_plans.specs.declared.plans.Nth.TheVariants.{First, Second}
+use Rattle.call_plans.specs.Plans.{at_place}
+use Rattle.call_plans.specs.PlanOf.{plan_for}
+use Rattle.call_plans.specs.After.{Leads, LeadsIn}
+use Rattle.plan_ways.proofs.Near.{near_found, one_left}
+use Rattle.call_acts.specs.Switches.{switching_dues, switch_due_list, switching_undo, tcap_dues}
+use Rattle.call_acts.specs.declared.switches.Switching.{Switching}
+use Rattle.call_acts.specs.declared.switches.SwitchAt.{SwitchAt}
+use Rattle.call_acts.specs.declared.switches.SwitchAt.TheVariants.{Claim, LoadTable, LoadPages, Leave, Draw}
+use Rattle.call_acts.specs.declared.work.Due.{Due}
+use Rattle.core_invariant.specs.Knows.{KnowsTail}
+use Rattle.core_invariant.specs.Threads.{HasThread, KnowsIdle, LeavesOwn, SwitchesBy, claimed_by}
+use Rattle.core_invariant.proofs.Refusals.{IsRefusing}
+use Rattle.count_invariant.proofs.MakingCounts.{named_kind}
+
+-- The call that goes on as this thread, with this temporal capability.
+pub record IsSwitch (call : Call) (ks : List Capability) (f q : ℕ) : Type 0 where
+  pub name : ℕ
+  pub other : ℕ
+  pub thread : Capability
+  pub tcap : Capability
+  pub call_is : call ≡ Switch name other
+  pub found_is : ks ≡ thread ∷ tcap ∷ []
+  pub thread_is : f ≡ thread.frame
+  pub tcap_is : q ≡ tcap.frame
+
+pub switch_of : (call : Call) (ks : List Capability) (f q : ℕ) → SwitchesBy call ks f q → IsSwitch call ks f q
+switch_of (Switch h b) (thread ∷ tcap ∷ []) f q is = record {
+  name = h;
+  other = b;
+  thread = thread;
+  tcap = tcap;
+  call_is = refl;
+  found_is = refl;
+  thread_is = is.thread;
+  tcap_is = is.tcap;
+}
+switch_of (Switch h b) [] f q is = absurd is
+switch_of (Switch h b) (k ∷ []) f q is = absurd is
+switch_of (Switch h b) (k ∷ j ∷ i ∷ ks) f q is = absurd is
+switch_of call ks f q is = absurd is
+
+pub switch_counts : (call : Call) (ks : List Capability) (f q : ℕ) → SwitchesBy call ks f q → IsTrue (counts_references call)
+switch_counts call ks f q is = subst (λ x. IsTrue (counts_references x)) (sym (switch_of call ks f q is).call_is) refl
+
+-- What its names have led to is of their kinds, and near it.
+module _ (s : State) (c : ℕ) (call : Call) (ks : List Capability) (f q : ℕ) (is : IsSwitch call ks f q)
+    (lead : Leads (LeadsIn s c) (plan_for call).names [] ks) where
+  abbrev whole : Call
+  whole = Switch is.name is.other
+
+  abbrev all : List Capability
+  all = is.thread ∷ is.tcap ∷ []
+
+  leads : Leads (LeadsIn s c) (plan_for whole).names [] all
+  leads = subst (λ x. Leads (LeadsIn s c) (plan_for x).names [] all) is.call_is
+      (subst (λ x. Leads (LeadsIn s c) (plan_for call).names [] x) is.found_is lead)
+
+  pub thread_kind : is.thread.kind ≡ kind.Thread
+  thread_kind = only_is kind.Thread is.thread.kind (named_kind s c is.name (only kind.Thread) is.thread leads.0)
+
+  pub tcap_kind : is.tcap.kind ≡ kind.Tcap
+  tcap_kind = only_is kind.Tcap is.tcap.kind (named_kind s c is.other (only kind.Tcap) is.tcap leads.1.0)
+
+  names_it : (k : Capability) (want : Kind) → named_by want k.frame ≡ k.frame ∷ [] → k.kind ≡ want → (g : ℕ) → k.frame ≡ g
+      → is_one_of g (named_by k.kind k.frame) ≡ true
+  names_it k want one wanted g same =
+      ap (λ (j : Kind). is_one_of g (named_by j k.frame)) wanted ∙ ap (is_one_of g) one ∙ ap (λ b. b || false) (eq-eqb k.frame g same)
+
+  pub thread_near : is_one_of f (frames_near s c call) ≡ true
+  thread_near = ap (λ x. is_one_of f (frames_near s c x)) is.call_is
+      ∙ near_found s c whole all leads First is.thread refl f (names_it is.thread kind.Thread refl thread_kind f (sym is.thread_is))
+
+  pub tcap_near : is_one_of q (frames_near s c call) ≡ true
+  tcap_near = ap (λ x. is_one_of q (frames_near s c x)) is.call_is
+      ∙ near_found s c whole all leads Second is.tcap refl q (names_it is.tcap kind.Tcap refl tcap_kind q (sym is.tcap_is))
+
+-- The frame of its own thread is near it, and that of its own temporal capability.
+own_near : (s : State) (c : ℕ) (call : Call) (f : ℕ) → is_one_of f (frames_own s c) ≡ true → is_one_of f (frames_near s c call) ≡ true
+own_near s c call f is = one_left f (frames_own s c) (map (λ at. at.node) (wide_ways s c (rule_of s c call))
+    ++ (frames_about s c call ++ flat_map (λ g. frame_names (s.frame g)) (frames_about s c call))) is
+
+pub old_near : (s : State) (c : ℕ) (call : Call) (m : Switching) → LeavesOwn s c m → is_one_of m.old (frames_near s c call) ≡ true
+old_near s c call m leaves = own_near s c call m.old
+    (ap (λ b. b || is_one_of m.old ((s.core c).tcap ∷ ((thread_of s c).stack ++ ((comp_of s c).table ∷ (comp_of s c).pages ∷ []))))
+    (eq-eqb (s.core c).thread m.old (sym leaves.thread)))
+
+pub old_tcap_near : (s : State) (c : ℕ) (call : Call) (m : Switching) → LeavesOwn s c m → is_one_of m.old_tcap (frames_near s c call) ≡ true
+old_tcap_near s c call m leaves = own_near s c call m.old_tcap (or_true ((s.core c).thread == m.old_tcap)
+    (ap (λ b. b || is_one_of m.old_tcap ((thread_of s c).stack ++ ((comp_of s c).table ∷ (comp_of s c).pages ∷ [])))
+    (eq-eqb (s.core c).tcap m.old_tcap (sym leaves.tcap))))
+  where
+    or_true : (b : Bool) {x : Bool} → x ≡ true → (b || x) ≡ true
+    or_true true h = refl
+    or_true false h = h
+
+-- What all dues have, each has.
+each_due : (P : Due → Type 0) (xs : List Due) (d : Due) (rest : List Due) → All P (xs ++ d ∷ rest) → P d
+each_due P [] d rest all = All-head P d rest all
+each_due P (x ∷ xs) d rest all = each_due P xs d rest (All-tail P x (xs ++ d ∷ rest) all)
+
+-- The frames of the counts that it changes are near it.
+module _ (s : State) (c : ℕ) (call : Call) (ks : List Capability) (m : Switching) (leaves : LeavesOwn s c m) where
+  abbrev IsNear : Due → Type 0
+  IsNear d = is_one_of d.frame (frames_near s c call) ≡ true
+
+  tcaps_near : (b : Bool) → is_one_of m.tcap (frames_near s c call) ≡ true → All IsNear (tcap_dues b m.tcap m.old_tcap)
+  tcaps_near true near = All-nil IsNear
+  tcaps_near false near = All-cons IsNear (record { frame = m.tcap; change = pos 1 }) (record { frame = m.old_tcap; change = negsuc 0 } ∷ []) near
+      (All-cons IsNear (record { frame = m.old_tcap; change = negsuc 0 }) [] (old_tcap_near s c call m leaves) (All-nil IsNear))
+
+  all_near : (to : Claimed) → is_one_of to.thread (frames_near s c call) ≡ true → is_one_of m.tcap (frames_near s c call) ≡ true
+      → All IsNear (switch_due_list m to)
+  all_near to thread tcap =
+      All-cons IsNear (record { frame = to.thread; change = pos 1 })
+      (record { frame = m.old; change = negsuc 0 } ∷ tcap_dues (m.tcap == m.old_tcap) m.tcap m.old_tcap) thread
+      (All-cons IsNear (record { frame = m.old; change = negsuc 0 }) (tcap_dues (m.tcap == m.old_tcap) m.tcap m.old_tcap)
+      (old_near s c call m leaves) (tcaps_near (m.tcap == m.old_tcap) tcap))
+
+  dues_near : (at : SwitchAt) → IsSwitch call ks (claimed_by at) m.tcap → Leads (LeadsIn s c) (plan_for call).names [] ks
+      → All IsNear (switching_dues m at)
+  dues_near (Claim claim) is lead = All-nil IsNear
+  dues_near (LoadTable to) is lead = All-nil IsNear
+  dues_near (LoadPages to table) is lead = All-nil IsNear
+  dues_near (Leave to table pages) is lead =
+      all_near to (thread_near s c call ks to.thread m.tcap is lead) (tcap_near s c call ks to.thread m.tcap is lead)
+  dues_near (Draw to table pages) is lead =
+      all_near to (thread_near s c call ks to.thread m.tcap is lead) (tcap_near s c call ks to.thread m.tcap is lead)
+
+  pub switch_due_near : (at : SwitchAt) → IsSwitch call ks (claimed_by at) m.tcap → Leads (LeadsIn s c) (plan_for call).names [] ks
+      → (xs : List Due) (d : Due) (rest : List Due) → switching_dues m at ≡ xs ++ d ∷ rest → IsNear d
+  switch_due_near at is lead xs d rest same = each_due IsNear xs d rest (subst (All IsNear) same (dues_near at is lead))
+
+-- What is said now is said at a moment of the call.
+pub was_here : (P : State → Type 0) (setup : Setting) (t : Trace) (c : ℕ) (call : Call) → phase t c ≡ Open call → P (state_after setup t)
+    → WasAt P setup t c
+was_here P setup [] c call is now = absurd (not_out is)
+  where
+    not_out : Out ≡ Open call → ⊥
+    not_out h = cc
+was_here P setup (e ∷ t) c call is now = was_now P setup t e c now
+
+-- A thread that is guarded stays so where a call is counted.
+pub counted_thread : (s : State) (c f : ℕ) → HasThread s c f → HasThread (counted s c) c f
+counted_thread s c f has = record {
+  thread = has.thread;
+  guarded = guarded has.guarded;
+}
+  where
+    guarded : IsGuarded s c f → IsGuarded (counted s c) c f
+    guarded (inl some) = inl (let same = core_same_refs s c (record (s.core c) { counted = (s.core c).counted + 1 }) refl refl f in
+        omega (arith, same, some))
+    guarded (inr waits) = inr waits
+
+-- What a refused switch has to store, where it has claimed the thread.
+pub switch_left : (setup : Setting) (t : Trace) (e : Step) (c : ℕ) (call : Call) (ks : List Capability) (counts : List Acquired) (m : Switching)
+    (at : SwitchAt) (is : IsSwitch call ks (claimed_by at) m.tcap) → Leads (LeadsIn (state_after setup t) c) (plan_for call).names [] ks
+    → phase t c ≡ Open call → IsRefusing setup t c e → HasThread (state_after setup t) c (claimed_by at)
+    → KnowsTail setup (e ∷ t) c call counts (switching_undo at)
+switch_left setup t e c call ks counts m at is lead opens by has = left at is has
+  where
+    idle : (f : ℕ) → IsSwitch call ks f m.tcap → HasThread (state_after setup t) c f → KnowsIdle setup (e ∷ t) c call f
+    idle f of thread = record {
+      threads = subst (λ x. changes_threads x ≡ true) (sym of.call_is) refl;
+      near = was_stays (IsNearIn c call (EntryAt f 0)) setup t e c (λ own. by.entry)
+          (was_here (IsNearIn c call (EntryAt f 0)) setup t c call opens (thread_near (state_after setup t) c call ks f m.tcap of lead));
+      thread = subst (λ s. HasThread s c f) (sym by.state) (counted_thread (state_after setup t) c f thread);
+    }
+
+    left : (at : SwitchAt) → IsSwitch call ks (claimed_by at) m.tcap → HasThread (state_after setup t) c (claimed_by at)
+        → KnowsTail setup (e ∷ t) c call counts (switching_undo at)
+    left (Claim (AtLoad f core)) of thread = tt
+    left (Claim (AtCompare f core depth)) of thread = tt
+    left (Claim (AtStack f depth)) of thread = idle f of thread
+    left (LoadTable to) of thread = idle to.thread of thread
+    left (LoadPages to table) of thread = idle to.thread of thread
+    left (Leave to table pages) of thread = idle to.thread of thread
+    left (Draw to table pages) of thread = idle to.thread of thread

@@ -1,7 +1,0 @@
-use Rattle.std.proofs.Common.{◌≡◌, ◌++◌}
-use Rattle.std.specs.Prelude.{string_bytes}
-use Rattle.load_maker.specs.Summaries.{counts_below}
-use Rattle.load_maker.proofs.summary.push_counts.Given as goal
-
-abbrev pub invariant-numbers : goal.invariant-numbers
-invariant-numbers l = string_bytes l.text ≡ string_bytes l.initial.text ++ counts_below l.number l.decisions

@@ -1,0 +1,7 @@
+use Rattle.std.proofs.Common.{◌≡◌, ◌++◌}
+use Rattle.std.specs.Prelude.{string_bytes}
+use Rattle.load_summary.specs.Summaries.{counts_below}
+use Rattle.load_summary.proofs.counts.push_lines.Given as goal
+
+abbrev pub invariant-numbers : goal.invariant-numbers
+invariant-numbers l = string_bytes l.text ≡ string_bytes l.initial.text ++ counts_below l.number l.decisions

@@ -1,0 +1,595 @@
+-- The two steps of a touch: the load of the root entry of its page, which answers a translation that is cached, and the load of the page's
+-- entry.
+use Rattle.std.proofs.Common.{◌≡◌, ◌≢◌, ◌⊎◌, inl, inr, ℕ, ◌+◌, ◌*◌, ◌/◌, ◌%◌, ◌^◌, ◌<◌, ◌≤◌, ◌||◌, ◌++◌, ◌==◌, nat_le, nat_lt, Bool, true, false, List, [], ◌∷◌, map, length, Option, Some, None, arith, refl, sym, ◌∙◌, ap, subst, if◌then◌else◌, IsTrue}
+use Rattle.std.specs.Prelude.{IsSome, is_some, option_to_list}
+use Rattle.std.proofs.lemmas.Bool.{false≢true, eq-eqb, le-leb, le-ltb}
+use Rattle.std.proofs.lemmas.List.Elements.{All-nil}
+use Rattle.spk_nums.specs.Capability.{Capability}
+use Rattle.spk_nums.specs.Setting.{Setting, IsSetting}
+use Rattle.spk_nums.specs.declared.calls.Call.{Call}
+use Rattle.spk_nums.specs.declared.calls.Call.TheVariants.{Touch}
+use Rattle.spk_nums.specs.declared.kinds.Kind.{Kind}
+use Rattle.spk_nums.specs.declared.kinds.Kind.TheVariants as kind
+use Rattle.spk_nums.specs.declared.replies.Reply.{Reply}
+use Rattle.spk_nums.specs.declared.replies.Reply.TheVariants as reply
+use Rattle.spk_nums.specs.declared.translations.Translation.{Translation}
+use Rattle.entry_words.specs.declared.entry.Entry.{Entry}
+use Rattle.entry_words.specs.declared.entry.Entry.TheVariants.{Free, Held, Closing, Quiescing}
+use Rattle.entry_words.specs.EntryWord.{EntryFits}
+use Rattle.word_map.specs.Word.{Word, EntryAt, FrameAt, CountAt, CoreAt, FlushAt, LiveAt, ClockAt}
+use Rattle.word_map.specs.Moves.{Move, LoadOf, word_of, told_of}
+use Rattle.kernel_rules.specs.State.{Core as CoreFields, Thing, PlaceOf, FrameOf, NumberOf, State, Holds, put, with_core, thread_in, comp_in, first_of_stack, thread_of, comp_of}
+use Rattle.kernel_rules.specs.Access.{Slot, root_at, Target, Under, place_at, usable_in, usable, linked, slot_in, root_slot, reached, holds_link, held_in}
+use Rattle.kernel_rules.specs.References.{refs, sum_below}
+use Rattle.kernel_rules.specs.Relies.{Relies}
+use Rattle.kernel_rules.specs.Rules.{Rule, Refused, Found, IsFoundAnd, mapped, outcome, RuleMay, answers}
+use Rattle.kernel_rules.specs.MemoryCalls.{translation_of, caching, translated, caches, touch_by}
+use Rattle.kernel_rules.specs.CallRelation.{rule_of, change_of, changed, counted, state_by, begins, ends, flushes, MayReply}
+use Rattle.kernel_rules.proofs.SoundCalls.{IsOpen}
+use Rattle.kernel_rules.proofs.SoundRuns.{opened}
+use Rattle.kernel_rules.proofs.SparesRuns.{core_same_refs}
+use Rattle.kernel_rules.proofs.Sums.{sum_one}
+use Rattle.kernel_rules.proofs.Within.{put_same, put_other}
+use Rattle.kernel_laws.proofs.NodeSteps.{IsFitted}
+use Rattle.kernel_laws.proofs.NodesLaw.{runs_fit, mapped_page}
+use Rattle.kernel_history.specs.Events.{events_of}
+use Rattle.kernel_history.specs.Footprint.{is_one_of, frames_own, frames_near}
+use Rattle.kernel_history.specs.Justified.{is_slot_in, HasReached, IsJustified}
+use Rattle.kernel_history.specs.Marking.{marked_by}
+use Rattle.kernel_history.specs.Stamps.{begins_in, ends_in, flushes_in, stamp}
+use Rattle.kernel_history.specs.Trace.{Step, Trace, Open, phase, state_after, state_decided_in, last_left, own_left}
+use Rattle.kernel_history.specs.Ways.{led_to, root_passed, wide_way_to, ways, wide_ways}
+use Rattle.kernel_history.proofs.AloneCalls.{ok_first}
+use Rattle.kernel_history.proofs.Carries.{Carries}
+use Rattle.kernel_history.proofs.Events.{state_is, run_of}
+use Rattle.kernel_history.proofs.Inside.{decided-inside}
+use Rattle.kernel_history.proofs.Small.{last_small}
+use Rattle.kernel_history.proofs.Stays.{sound_of, opened_is, relies_reached}
+use Rattle.kernel_history.proofs.Steps.{own_left-here}
+use Rattle.plan_ways.proofs.Near.{one_left, one_right}
+use Rattle.stage_look.specs.Shown.{entry_within, shown_in, is_link}
+use Rattle.stage_look.specs.Lookup.{look_move, look_end, look_after, root_end, root_after, place_end, end_by_link, after_link}
+use Rattle.stage_look.specs.declared.look.Look.{Look}
+use Rattle.stage_look.specs.declared.look.Look.TheVariants.{AtRoot, AtLeaf, AtEntry}
+use Rattle.stage_pins.specs.declared.held.Acquired.{Acquired}
+use Rattle.call_acts.specs.declared.own.Own.{Own}
+use Rattle.call_acts.specs.declared.own.OwnChange.TheVariants.{Caches}
+use Rattle.call_acts.specs.declared.refusals.Refusal.TheVariants as refusal
+use Rattle.call_acts.specs.declared.touches.Touching.{Touching}
+use Rattle.call_acts.specs.declared.work.Act.TheVariants.{Touch as touch_act}
+use Rattle.call_acts.specs.declared.work.Tail.TheVariants.{Nothing}
+use Rattle.call_acts.specs.declared.work.Work.TheVariants.{Act}
+use Rattle.call_acts.specs.declared.work.WorkStep.{WorkStep}
+use Rattle.call_acts.specs.declared.work.WorkStep.TheVariants.{Goes, Answers, Changes as work_changes}
+use Rattle.call_acts.specs.OwnChanges.{own_changed}
+use Rattle.call_acts.specs.Touches.{mapping_of, meets_page, touch_end, took_touch, is_at_page}
+use Rattle.call_acts.specs.WorkSteps.{refuse}
+use Rattle.call_steps.specs.Cores.{own_decided}
+use Rattle.call_steps.specs.declared.stages.ActiveCall.{ActiveCall}
+use Rattle.call_steps.specs.declared.stages.Stage.TheVariants.{Undecided, Decided}
+use Rattle.call_steps.specs.Fits.{HasRoom}
+use Rattle.call_steps.specs.Steps.{landed}
+use Rattle.call_steps.specs.View.{Core}
+use Rattle.core_invariant.specs.Holding.{holds_counts, settled}
+use Rattle.core_invariant.specs.Knows.{due_of, LooksUp, KnowsTouch, KnowsUndecided, WorksIn, phase_at, untypes}
+use Rattle.core_invariant.specs.Stands.{holds_at, holds_in, holds, held_by, times_of, counted_in, Stands}
+use Rattle.core_invariant.specs.Words.{WordIs, count_room}
+use Rattle.core_invariant.proofs.Bare.{counts_bare}
+use Rattle.core_invariant.proofs.Lent.{lent_none, lent_kept}
+use Rattle.core_invariant.proofs.Calm.{IsPlain, plain_begins, plain_stamp, plain_flush, plain_exit}
+use Rattle.core_invariant.proofs.Carries.{names_on}
+use Rattle.core_invariant.proofs.CountSums.{counted_refs}
+use Rattle.core_invariant.proofs.Good.{spares_kept}
+use Rattle.core_invariant.proofs.Loads.{OnlyLooks, step_to, next_at, inner, call_is, core_is, is_active, loads_on, decides_on}
+use Rattle.core_invariant.proofs.OwnChanges.{decides_changing}
+use Rattle.core_invariant.proofs.Places.{IsMarked, IsPlain as ReadsPlain, place_reads}
+use Rattle.core_invariant.proofs.Refusals.{GoodTook, NobodyWaits, ticks_at, not_spent, refuses_fault, refuses_busy}
+use Rattle.core_invariant.proofs.Sounds.{limits_of}
+use Rattle.core_invariant.proofs.Sums.{sums_keep}
+use Rattle.core_invariant.proofs.WordFrames.{SameFor, marks_own, settled_on, load_keeps, load_marks, load_words}
+use Rattle.look_invariant.proofs.Lookups.{Shows, ShowsHeld, shown_of, link_kind, link_none, link_shown, passes, root_slots, slot_left, slot_right, slot_one, near_way, use_removed, leaf_reached}
+use Rattle.page_invariant.proofs.TouchCalls.{told_by, unlinked_may, empty_may, unreached_first, empty_first, cached_first, mapped_is, mapped_first}
+
+-- What a touch takes from the load of its look-up, where this translation is cached or none.
+abbrev touched_at : Touching → Look → Option Translation → ℕ → WorkStep
+touched_at m look (Some item) found = Answers (translated item) None Nothing
+touched_at m look None found =
+    touch_end m (look_after look (shown_in m.frames found)) (look_end look found (shown_in m.frames found))
+
+-- The root of its core's pages is near each call.
+pages_near : (s : State) (c : ℕ) (call : Call) → is_one_of (comp_of s c).pages (frames_near s c call) ≡ true
+pages_near s c call = one_left (comp_of s c).pages (frames_own s c) _
+    (ap (λ b. ((s.core c).thread == (comp_of s c).pages) || (((s.core c).tcap == (comp_of s c).pages) || b))
+    (one_right (comp_of s c).pages (thread_of s c).stack ((comp_of s c).table ∷ (comp_of s c).pages ∷ [])
+    (ap (λ b. ((comp_of s c).table == (comp_of s c).pages) || (b || false)) (eq-eqb (comp_of s c).pages (comp_of s c).pages refl)
+    ∙ last ((comp_of s c).table == (comp_of s c).pages)))
+    ∙ ap (λ b. ((s.core c).thread == (comp_of s c).pages) || b) (last ((s.core c).tcap == (comp_of s c).pages))
+    ∙ last ((s.core c).thread == (comp_of s c).pages))
+  where
+    last : (b : Bool) → (b || true) ≡ true
+    last true = refl
+    last false = refl
+
+-- A core that has counted one call more.
+abbrev one_more : CoreFields → CoreFields
+one_more k = record k { counted = k.counted + 1 }
+
+-- The flags of a mapping are those of its page.
+flags_of : (m : Touching) (k : Capability) → k.kind ≡ kind.Page → EntryFits (Held k) → mapping_of m k ≡ told_by m.pages m.page k
+flags_of m k page fits =
+    ap (λ (n : ℕ). record { pages = m.pages; page = m.page; frame = k.frame; flags = record { 0 = n } })
+    (small (subst (λ j. k.arg < Rattle.spk_nums.specs.Limits.end_of_arg j) page fits.2))
+  where
+    small : k.arg < 4 → k.arg % 4 ≡ k.arg
+    small low = omega (arith, low)
+
+module _ (setup : Setting) (setting : IsSetting setup) (cores : ℕ → Core) (t : Trace) (stands : Stands setup cores t) (c : ℕ)
+    (here : c < setup.cores)
+    (a : ActiveCall) (active : (cores c).active ≡ Some a) (m : Touching)
+    (stage_is : a.stage ≡ Undecided (Act (touch_act m)))
+    (has : KnowsUndecided setup t c (cores c).own.table a (Act (touch_act m))) where
+  abbrev s : State
+  s = state_after setup t
+
+  knows : KnowsTouch setup t c a.call m
+  knows = has.knows.knows
+
+  abbrev target : Target
+  target = Under (root_at m.pages) m.page
+
+  opens : phase_at a.call a.stage ≡ Open a.call
+  opens = ap (phase_at a.call) stage_is
+
+  held_is : holds_in (Some a) ≡ holds_counts None a.counts
+  held_is = ap (λ s. holds_at s a.counts) stage_is
+
+  room : (cores c).own.made < (cores c).own.limit
+  room = subst (HasRoom (cores c).own.made (cores c).own.limit) stage_is (is_active setup setting cores t stands c here a active).room
+
+  is_open : phase t c ≡ Open a.call
+  is_open = (call_is setup setting cores t stands c here a active).phase ∙ opens
+
+  -- no count is acquired
+  no_counts : a.counts ≡ []
+  no_counts = none_of a.counts has.knows.all
+    where
+      none_of : (xs : List Acquired) → [] ≡ map due_of xs → xs ≡ []
+      none_of [] h = refl
+      none_of (x ∷ xs) h = absurd (cc)
+
+  still : (fate : Option (Option ℕ)) → holds_counts fate a.counts ≡ holds_in (Some a)
+  still fate = ap (holds_counts fate) no_counts ∙ sym (ap (holds_counts None) no_counts) ∙ sym held_is
+
+  -- the rule of the touch
+  rule_is : (cached : Option Translation) → m.cached ≡ cached → rule_of s c a.call ≡ touch_by s c m.pages m.page cached
+  rule_is cached is = ap (rule_of s c) knows.call_is
+      ∙ ap (λ (p : ℕ). touch_by s c p m.page (translation_of (s.core c).cached p m.page)) (sym knows.root)
+      ∙ ap (touch_by s c m.pages m.page) (sym knows.known ∙ is)
+
+  -- an entry on its way is loaded
+  looks_at : (g i : ℕ) → is_one_of g (frames_near s c a.call) ≡ true → OnlyLooks setup t c a.call (LoadOf (EntryAt g i))
+  looks_at g i near = record { of_call = record { moves = refl; near = inl near }; kept = refl; apart = λ d. refl }
+
+  root_near : is_one_of m.pages (frames_near s c a.call) ≡ true
+  root_near = subst (λ (p : ℕ). is_one_of p (frames_near s c a.call) ≡ true) (sym knows.root) (pages_near s c a.call)
+
+  -- what it knows while its core's own step goes on
+  knows_on : (e : Step) → Carries setup t e c → (look : Look) → m.cached ≡ None → LooksUp setup (e ∷ t) c target look
+      → KnowsTouch setup (e ∷ t) c a.call (record m { look = look })
+  knows_on e carries look none looks = record {
+    call_is = knows.call_is;
+    root = knows.root ∙ ap (λ k. k.pages) (sym carries.stays.comp);
+    all = knows.all;
+    known = knows.known ∙ ap (λ k. translation_of k.cached m.pages m.page) (sym carries.stays.core);
+    first = λ some. absurd (false≢true (sym (ap is_some none) ∙ some));
+    looks = looks;
+  }
+
+  -- A translation that is cached is answered.
+  module _ (item : Translation) (cached : m.cached ≡ Some item) (within : m.page ≤ 4095) where
+    answers_it : change_of s c a.call ≡ Found (answers s (translated item))
+    answers_it = ap (outcome s c) (rule_is (Some item) cached) ∙ cached_first s c m.pages m.page item (le-ltb 4095 m.page within)
+
+    answered_may : MayReply s c a.call (reply.Ok (translated item))
+    answered_may = (
+      not_spent setup (cores c) t c (core_is setup setting cores t stands c here a active) room,
+      subst (λ j. IsFoundAnd j (λ x. x.value ≡ translated item)) (sym answers_it) refl,
+    )
+
+    answered : (i : ℕ) → GoodTook setup cores t c (LoadOf (EntryAt m.pages i)) (landed a (Answers (translated item) None Nothing))
+    answered i lands =
+        decides_on setup setting cores t stands c here a active (LoadOf (EntryAt m.pages i)) (reply.Ok (translated item)) a.found
+        (looks_at m.pages i root_near) lands (still (Some None)) opens
+        (ap (λ j. counted (changed s j) c) answers_it) refl
+        (λ x. ap (λ j. Rattle.kernel_rules.specs.CallRelation.begins_in j x) answers_it)
+        (λ x. ap (λ y. ends y (reply.Ok (translated item)) x) knows.call_is)
+        (ap (λ y. flushes y (reply.Ok (translated item))) knows.call_is)
+        answered_may
+        (subst (λ rule. HasReached (step_to c None (LoadOf (EntryAt m.pages i)) (last_left setup t (EntryAt m.pages i))
+        (Some (reply.Ok (translated item))) None ∷ t) c (ways s c rule)) (sym (rule_is (Some item) cached))
+        (All-nil (λ (x : Slot). IsSome (own_left (step_to c None (LoadOf (EntryAt m.pages i)) (last_left setup t (EntryAt m.pages i))
+        (Some (reply.Ok (translated item))) None ∷ t) c (EntryAt x.node x.index)))))
+        (λ is_alone. ok_first s c a.call (translated item) answered_may)
+
+  -- No translation is cached: its entries are loaded.
+  module _ (none : m.cached ≡ None) (within : m.page ≤ 4095) where
+    way_is : wide_ways s c (rule_of s c a.call) ≡ wide_way_to s target
+    way_is = ap (wide_ways s c) (rule_is None none)
+
+    faults : (g i : ℕ) → is_one_of g (frames_near s c a.call) ≡ true → RuleMay s c (touch_by s c m.pages m.page None) reply.Fault
+        → (NobodyWaits s → outcome s c (touch_by s c m.pages m.page None) ≡ Refused reply.Fault)
+        → GoodTook setup cores t c (LoadOf (EntryAt g i)) (landed a (refuse refusal.Fault))
+    faults g i near may first =
+        refuses_fault setup setting cores t stands c here a active opens held_is room (LoadOf (EntryAt g i)) (looks_at g i near)
+        (subst (λ rule. RuleMay s c rule reply.Fault) (sym (rule_is None none)) may)
+        (λ nobody. ap (outcome s c) (rule_is None none) ∙ first nobody)
+
+    busy : (g i : ℕ) → is_one_of g (frames_near s c a.call) ≡ true → is_slot_in (wide_way_to s target) g i ≡ true
+        → (d : ℕ) → marked_by setup t (EntryAt g i) ≡ Some d
+        → GoodTook setup cores t c (LoadOf (EntryAt g i)) (landed a (refuse (refusal.Busy d)))
+    busy g i near way d mark =
+        refuses_busy setup setting cores t stands c here a active opens held_is room (LoadOf (EntryAt g i)) (looks_at g i near)
+        (ap ticks_at stage_is) d (ap (λ xs. (holds_counts None xs).marks (EntryAt g i)) no_counts) mark
+        (λ node. ap (λ xs. is_slot_in xs g i) way_is ∙ way)
+
+    past : nat_lt 4095 m.page ≡ false
+    past = le-ltb 4095 m.page within
+
+    small : nat_le m.page 4095 ≡ true
+    small = le-leb m.page 4095 within
+
+    -- The load of the root entry.
+    module _ (relies : Relies s c m.pages) where
+      abbrev top : ℕ
+      top = m.page / 64
+
+      abbrev root_load : Move
+      root_load = LoadOf (EntryAt m.pages top)
+
+      abbrev FromRoot : Option Entry → Type 0
+      FromRoot shown = GoodTook setup cores t c root_load
+          (landed a (touch_end m (root_after m.pages m.page shown) (root_end shown)))
+
+      root_way : is_slot_in (wide_way_to s target) m.pages top ≡ true
+      root_way = slot_left (root_passed target) (option_to_list (led_to s target)) m.pages top
+          (ap (λ l. is_slot_in l m.pages top) (root_slots (root_at m.pages) m.page refl within) ∙ slot_one m.pages top)
+
+      unreached : linked (usable s c (root_slot m.pages m.page)) ≡ None → reached s c target ≡ None
+      unreached free = ap (λ b. if b then slot_in (linked (usable s c (root_slot m.pages m.page))) (m.page % 64) else None)
+          (passes (root_at m.pages) m.page refl within)
+          ∙ ap (λ l. slot_in l (m.page % 64)) free
+
+      no_page : holds_link (place_at s (root_slot m.pages m.page)) ≡ false
+          → (NobodyWaits s → linked (usable s c (root_slot m.pages m.page)) ≡ None)
+          → GoodTook setup cores t c root_load (landed a (refuse refusal.Fault))
+      no_page free unlinked = faults m.pages top root_near (unlinked_may s c m.pages m.page small free)
+          (λ nobody. unreached_first s c m.pages m.page past (unreached (unlinked nobody)))
+
+      abbrev waits_there : Bool
+      waits_there = (s.grace (PlaceOf m.pages top)).waits c
+
+      to_leaf : (k : Capability) → ShowsHeld setup.frames (s.place m.pages top) k → is_link k.kind ≡ true
+          → GoodTook setup cores t c root_load (landed a (Goes (Act (touch_act (record m { look = AtLeaf k.frame m.page })))))
+      to_leaf k shows is lands =
+          let e : Step = step_to c None root_load (last_left setup t (EntryAt m.pages top)) None None in
+          loads_on setup setting cores t stands c here a active root_load a.found
+          (Undecided (Act (touch_act (record m { look = AtLeaf k.frame m.page })))) (looks_at m.pages top root_near) lands (sym held_is)
+          opens
+          (λ carries. record {
+            names = names_on setup setting t e stands.legal c a.call is_open carries (cores c).own.table a.plan a.found has.names;
+            knows = record {
+              knows = knows_on e carries (AtLeaf k.frame m.page) none (record {
+                relies = carries.stays.relies m.pages relies;
+                at = record {
+                  found = refl;
+                  same = refl;
+                  within = within;
+                  link = ap linked (carries.stays.usable (root_slot m.pages m.page) k relies
+                      (ap (λ p. usable_in p waits_there) shows.holds))
+                      ∙ ap (λ b. if b then Some k.frame else None) (sym (link_kind k.kind) ∙ is);
+                  stepped = ap is_some (own_left-here c e t refl (EntryAt m.pages top) refl);
+                };
+              });
+              all = ap (λ (xs : List Acquired). map due_of xs) (sym no_counts);
+              goes = refl;
+            };
+          })
+
+      by_link : (k : Capability) → ShowsHeld setup.frames (s.place m.pages top) k → (b : Bool) → is_link k.kind ≡ b
+          → GoodTook setup cores t c root_load (landed a (touch_end m (after_link b m.pages m.page k.frame) (end_by_link b)))
+      by_link k shows true is = to_leaf k shows is
+      by_link k shows false is =
+          no_page (ap holds_link shows.holds ∙ sym (link_kind k.kind) ∙ is)
+          (λ nobody. ap (λ p. linked (usable_in p waits_there)) shows.holds ∙ link_none k (sym (link_kind k.kind) ∙ is))
+
+      from_root : (v : Entry) → Shows setup.frames (s.place m.pages top) v → FromRoot (Some v)
+      from_root Free shows = no_page (ap holds_link shows) (λ nobody. ap (λ p. linked (usable_in p waits_there)) shows)
+      from_root (Held k) shows = by_link k shows (is_link k.kind) refl
+      from_root (Closing d) shows = absurd shows
+      from_root (Quiescing x) shows = no_page (ap holds_link shows.removed)
+          (λ nobody. ap linked (use_removed _ shows.held _ shows.removed (nobody (PlaceOf m.pages top) c)))
+
+      root_good : FromRoot (shown_in setup.frames (last_left setup t (EntryAt m.pages top)))
+      root_good = by_read (place_reads setup cores t stands m.pages top relies.node (let w = within in omega arith))
+        where
+          by_read : IsMarked setup t m.pages top ⊎ ReadsPlain setup t m.pages top
+              → FromRoot (shown_in setup.frames (last_left setup t (EntryAt m.pages top)))
+          by_read (inl marked) = subst FromRoot (sym (ap (entry_within setup.frames) marked.says))
+              (busy m.pages top root_near root_way marked.by marked.mark)
+          by_read (inr p) =
+              let shown = shown_of setup.frames (s.place m.pages top) (stamp setup t (PlaceOf m.pages top))
+              (last_left setup t (EntryAt m.pages top)) p.says in
+              subst FromRoot (sym shown.shown) (from_root shown.value shown.shows)
+
+    -- The load of the page's entry.
+    module _ (leaf : ℕ) (link : linked (usable s c (root_slot m.pages m.page)) ≡ Some leaf) where
+      abbrev index : ℕ
+      index = m.page % 64
+
+      abbrev slot : Slot
+      slot = record { node = leaf; index = index }
+
+      abbrev page_load : Move
+      page_load = LoadOf (EntryAt leaf index)
+
+      reaches : reached s c target ≡ Some slot
+      reaches = leaf_reached s c (root_at m.pages) m.page leaf refl within link
+
+      leads : led_to s target ≡ Some slot
+      leads = ap (λ b. if b then slot_in (linked (Rattle.kernel_history.specs.Ways.capability_in
+          (place_at s (root_slot m.pages m.page)))) (m.page % 64) else None) (passes (root_at m.pages) m.page refl within)
+          ∙ ap (λ l. slot_in l (m.page % 64))
+          (link_shown (place_at s (root_slot m.pages m.page)) ((s.grace (PlaceOf m.pages (m.page / 64))).waits c) leaf link)
+
+      page_way : is_slot_in (wide_way_to s target) leaf index ≡ true
+      page_way = slot_right (root_passed target) (option_to_list (led_to s target)) leaf index
+          (ap (λ o. is_slot_in (option_to_list o) leaf index) leads ∙ slot_one leaf index)
+
+      page_near : is_one_of leaf (frames_near s c a.call) ≡ true
+      page_near = near_way s c a.call leaf index (ap (λ xs. is_slot_in xs leaf index) way_is ∙ page_way)
+
+      relies_leaf : Relies s c leaf
+      relies_leaf = relies_reached setup setting t stands.legal c a.call is_open (root_at m.pages) m.page slot reaches
+
+      no_mapping : held_in (place_at s slot) ≡ None → GoodTook setup cores t c page_load (landed a (refuse refusal.Fault))
+      no_mapping free = faults leaf index page_near (empty_may s c m.pages m.page slot small reaches free)
+          (λ nobody. empty_first s c m.pages m.page slot past reaches free)
+
+      -- The mapping is answered, and its translation cached.
+      module _ (k : Capability) (holds_it : place_at s slot ≡ Holds k) (fits : EntryFits (Held k)) where
+        abbrev item : Translation
+        item = told_by m.pages m.page k
+
+        abbrev r : Reply
+        r = reply.Ok (translated item)
+
+        abbrev e : Step
+        e = inner setup setting cores t stands c here a active page_load (Some r) None
+
+        abbrev s' : State
+        s' = state_after setup (e ∷ t)
+
+        abbrev own' : Own
+        own' = own_decided (own_changed (cores c).own (Caches item)) r
+
+        abbrev after : Core
+        after = record { own = own'; active = Some (next_at a a.found (Decided r None Nothing)) }
+
+        looks : OnlyLooks setup t c a.call page_load
+        looks = looks_at leaf index page_near
+
+        found_it : mapped s c m.pages m.page ≡ Found k
+        found_it = mapped_is s c m.pages m.page slot k past reaches holds_it
+
+        caches_it : change_of s c a.call ≡ Found (caches s c item)
+        caches_it = ap (outcome s c) (rule_is None none) ∙ mapped_first s c m.pages m.page k found_it
+
+        abbrev more : CoreFields
+        more = record (s.core c) { cached = caching (s.core c).cached item }
+
+        now : s' ≡ counted (with_core s c more) c
+        now = ap (λ p. state_decided_in p r s c) is_open ∙ ap (λ j. counted (changed s j) c) caches_it
+
+        core_now : s'.core c ≡ one_more more
+        core_now = ap (λ x. x.core c) now ∙ put_same (with_core s c more).core c _ c refl
+            ∙ ap one_more (put_same s.core c more c refl)
+
+        core_other : (d : ℕ) → d ≢ c → s'.core d ≡ s.core d
+        core_other d other =
+            ap (λ x. x.core d) now ∙ put_other (with_core s c more).core c _ d other ∙ put_other s.core c more d other
+
+        frames : (g : ℕ) → s'.frame g ≡ s.frame g
+        frames g = ap (λ x. x.frame g) now
+
+        limits : s'.limits ≡ s.limits
+        limits = ap (λ x. x.limits) now
+
+        rises : counted_in setup s ≤ counted_in setup s'
+        rises =
+            let sum = sum_one (λ d. (s.core d).counted) (λ d. (s'.core d).counted) setup.cores c here
+            (λ d other. ap (λ k. k.counted) (core_other d other)) in
+            let one : (s'.core c).counted ≡ (s.core c).counted + 1 = ap (λ k. k.counted) core_now in
+            omega arith
+
+        more_room : count_room s ≤ count_room s'
+        more_room =
+            subst (λ (n : ℕ). count_room s ≤ 16 + 4 * sum_below (λ d. (s'.core d).counted) n) (sym (ap (λ l. l.cores) limits))
+            (subst (λ (n : ℕ). 16 + 4 * sum_below (λ d. (s.core d).counted) n ≤ 16 + 4 * sum_below (λ d. (s'.core d).counted) n)
+            (sym (ap (λ l. l.cores) (limits_of setup t))) (let up = rises in omega arith))
+
+        same_holds : holds after ≡ holds (cores c)
+        same_holds = still (Some None) ∙ ap holds_in (sym active)
+
+        plain : IsPlain setup t e
+        plain = record {
+          begins = λ x. ap (λ p. begins_in (Some r) p s c x) is_open
+              ∙ ap (λ j. Rattle.kernel_rules.specs.CallRelation.begins_in j x) caches_it;
+          ends = λ x. ap (λ p. ends_in (Some r) p x) is_open ∙ ap (λ y. ends y r x) knows.call_is;
+          flushes = ap (flushes_in (Some r)) is_open ∙ ap (λ y. flushes y r) knows.call_is;
+          apart = looks.apart;
+          same = load_keeps setup cores t e after same_holds frames looks.kept ClockAt;
+        }
+
+        whose : thread_of s' c ≡ thread_of s c
+        whose = ap thread_in (frames (s'.core c).thread) ∙ ap (λ k. thread_in (s.frame k.thread)) core_now
+
+        comp_same : comp_of s' c ≡ comp_of s c
+        comp_same = ap comp_in (frames (first_of_stack (thread_of s' c).stack))
+            ∙ ap (λ k. comp_in (s.frame (first_of_stack k.stack))) whose
+
+        made_is : own'.made ≡ (s'.core c).counted
+        made_is =
+            let own = (stands.each c here).works.made in
+            let one : (s'.core c).counted ≡ (s.core c).counted + 1 = ap (λ k. k.counted) core_now in
+            omega arith
+
+        works : WorksIn own' s' c
+        works =
+            let was_in = (stands.each c here).works in record {
+              thread = was_in.thread ∙ ap (λ k. k.thread) (sym core_now);
+              depth = was_in.depth ∙ ap (λ k. length k.stack) (sym whose);
+              comp = was_in.comp ∙ ap (λ k. first_of_stack k.stack) (sym whose);
+              table = was_in.table ∙ ap (λ k. k.table) (sym comp_same);
+              pages = was_in.pages ∙ ap (λ k. k.pages) (sym comp_same);
+              tcap = was_in.tcap ∙ ap (λ k. k.tcap) (sym core_now);
+              cached = ap (λ xs. caching xs item) was_in.cached ∙ ap (λ k. k.cached) (sym core_now);
+              owed = was_in.owed ∙ ap (λ k. k.owed) (sym core_now);
+              spent = was_in.spent ∙ ap (λ k. k.spent) (sym core_now);
+              made = made_is;
+            }
+
+        same_words : (w : Word) → SameFor s s' (times_of setup t) (times_of setup (e ∷ t)) w
+        same_words (EntryAt g i) = record {
+          frames = ap (λ l. l.frames) limits;
+          frame = frames g;
+          place = ap (λ x. x.place g i) now;
+          stamp = plain_stamp setup t e plain (PlaceOf g i);
+          room = more_room;
+        }
+        same_words (FrameAt g) = frames g
+        same_words (CountAt g d) = more_room
+        same_words (CoreAt d) = record { inside = decided-inside (Some r) (phase t c) s c d; exit = plain_exit t e refl d }
+        same_words (FlushAt d) = plain_flush setup t e plain d
+        same_words (LiveAt l) = record { number = ap (λ x. x.number l) now; stamp = plain_stamp setup t e plain (NumberOf l) }
+        same_words ClockAt = tt
+
+        kept_refs : (g : ℕ) → refs s' g ≡ refs s g
+        kept_refs g = ap (λ x. refs x g) now ∙ counted_refs (with_core s c more) c g ∙ core_same_refs s c more refl refl g
+
+        permitted : MayReply s c a.call r
+        permitted = (
+          not_spent setup (cores c) t c (core_is setup setting cores t stands c here a active) room,
+          subst (λ j. IsFoundAnd j (λ x. x.value ≡ translated item)) (sym caches_it) refl,
+        )
+
+        justified : IsJustified setup t e a.call r
+        justified = subst (λ rule. HasReached (e ∷ t) c (ways s c rule)) (sym (rule_is None none))
+            (All-nil (λ (x : Slot). IsSome (own_left (e ∷ t) c (EntryAt x.node x.index))))
+
+        cached_now : GoodTook setup cores t c page_load (landed a (work_changes r (Caches item) None Nothing))
+        cached_now lands =
+            let marks = load_marks setup cores t e after same_holds frames looks.kept stands.marks in
+            decides_changing setup setting cores t stands c here a active page_load r own' (Decided r None Nothing)
+            (record { core = refl; layout = refl; limit = refl; epochs = refl; exit = refl })
+            (last_small setup setting t stands.legal (EntryAt leaf index))
+            looks.of_call lands opens refl
+            (marks_own setup cores t e after (λ w there. ap (λ h. h.marks w) same_holds) stands.marks marks)
+            (λ d n other. refl)
+            (plain_begins setup t e plain) (spares_kept setup t e refl) (inl (ap untypes knows.call_is)) rises works marks
+            (load_words setup cores t e after same_holds frames looks.kept same_words stands.words)
+            (lent_none setup (e ∷ t) c after (counts_bare (Some None) a.counts)) (lent_kept cores e refl)
+            (sums_keep setup t e (held_by cores) (held_by (put cores c after))
+            (λ g d. settled_on setup cores t e after same_holds frames (CountAt g d)
+            (load_keeps setup cores t e after same_holds frames looks.kept (CountAt g d)))
+            plain limits kept_refs stands.sums)
+            (record { call = a.call; is_open = is_open; permitted = permitted; justified = justified })
+            (λ is_alone. ok_first s c a.call (translated item) permitted)
+            tt
+
+        abbrev opens_now : ℕ → Bool
+        opens_now = opened (events_of t)
+
+        open_now : IsOpen s opens_now c
+        open_now = record { sound = sound_of setup setting t stands.legal; is = opened_is t c a.call is_open }
+
+        fitted : IsFitted s opens_now
+        fitted = subst (λ x. IsFitted x opens_now) (sym (state_is setup t))
+            (runs_fit setup setting (events_of t) (run_of setup t stands.legal))
+
+        -- what a page of the core's own holds is a mapping
+        is_page : k.kind ≡ kind.Page
+        is_page = mapped_page s opens_now c open_now fitted m.page k
+            (subst (λ (p : ℕ). mapped s c p m.page ≡ Found k) knows.root found_it)
+
+        page_good : GoodTook setup cores t c page_load (landed a (meets_page m (Held k)))
+        page_good = subst (λ x. GoodTook setup cores t c page_load (landed a (work_changes (reply.Ok (translated x)) (Caches x) None Nothing)))
+            (sym (flags_of m k is_page fits)) cached_now
+
+      abbrev FromPage : Option Entry → Type 0
+      FromPage shown = GoodTook setup cores t c page_load
+          (landed a (touch_end m (AtLeaf leaf m.page) (place_end leaf index (last_left setup t (EntryAt leaf index)) shown)))
+
+      from_page : (v : Entry) → Shows setup.frames (s.place leaf index) v → FromPage (Some v)
+      from_page Free shows = no_mapping (ap held_in shows)
+      from_page (Held k) shows = page_good k shows.holds shows.fits
+      from_page (Closing d) shows = absurd shows
+      from_page (Quiescing x) shows = no_mapping (ap held_in shows.removed)
+
+      leaf_good : FromPage (shown_in setup.frames (last_left setup t (EntryAt leaf index)))
+      leaf_good = by_read (place_reads setup cores t stands leaf index relies_leaf.node (omega arith))
+        where
+          by_read : IsMarked setup t leaf index ⊎ ReadsPlain setup t leaf index
+              → FromPage (shown_in setup.frames (last_left setup t (EntryAt leaf index)))
+          by_read (inl marked) = subst FromPage (sym (ap (entry_within setup.frames) marked.says))
+              (busy leaf index page_near page_way marked.by marked.mark)
+          by_read (inr p) =
+              let shown = shown_of setup.frames (s.place leaf index) (stamp setup t (PlaceOf leaf index))
+              (last_left setup t (EntryAt leaf index)) p.says in
+              subst FromPage (sym shown.shown) (from_page shown.value shown.shows)
+
+  -- A load of a touch, by where its look-up stands and by what is cached.
+  abbrev FromLoad : Look → Option Translation → Type 0
+  FromLoad look cached =
+      GoodTook setup cores t c (look_move look) (landed a (touched_at m look cached (last_left setup t (word_of (look_move look)))))
+
+  by_load : (look : Look) (cached : Option Translation) → m.cached ≡ cached → (is_some cached ≡ true → is_at_page look ≡ false)
+      → LooksUp setup t c target look → FromLoad look cached
+  by_load (AtRoot root number) (Some item) is first looks =
+      subst (λ (f : ℕ). FromLoad (AtRoot f number) (Some item)) looks.at.frame
+      (answered item is (subst (λ (n : ℕ). n ≤ 4095) refl looks.at.within) (number / 64))
+  by_load (AtRoot root number) None is first looks =
+      subst (λ (f : ℕ). FromLoad (AtRoot f number) None) looks.at.frame
+      (subst (λ (n : ℕ). FromLoad (AtRoot m.pages n) None) looks.at.same
+      (subst (λ (n : ℕ). GoodTook setup cores t c (LoadOf (EntryAt m.pages (m.page / 64)))
+      (landed a (touch_end m (root_after m.pages m.page (shown_in n (last_left setup t (EntryAt m.pages (m.page / 64)))))
+      (root_end (shown_in n (last_left setup t (EntryAt m.pages (m.page / 64)))))))) (sym knows.all)
+      (root_good is looks.at.within looks.relies)))
+  by_load (AtLeaf leaf number) (Some item) is first looks = absurd (false≢true (sym (first refl)))
+  by_load (AtLeaf leaf number) None is first looks =
+      subst (λ (n : ℕ). FromLoad (AtLeaf leaf n) None) looks.at.same
+      (subst (λ (n : ℕ). GoodTook setup cores t c (LoadOf (EntryAt leaf (m.page % 64)))
+      (landed a (touch_end m (AtLeaf leaf m.page) (place_end leaf (m.page % 64) (last_left setup t (EntryAt leaf (m.page % 64)))
+      (shown_in n (last_left setup t (EntryAt leaf (m.page % 64)))))))) (sym knows.all)
+      (leaf_good is looks.at.within leaf looks.at.link))
+  by_load (AtEntry root i) cached is first looks = absurd looks.at
+
+  pub touch_good : GoodTook setup cores t c (look_move m.look)
+      (landed a (took_touch m (told_of (look_move m.look) (last_left setup t (word_of (look_move m.look))))))
+  touch_good = by_told (look_told m.look (last_left setup t (word_of (look_move m.look))))
+    where
+      look_told : (look : Look) (x : ℕ) → told_of (look_move look) x ≡ x
+      look_told (AtRoot root number) x = refl
+      look_told (AtLeaf leaf number) x = refl
+      look_told (AtEntry root i) x = refl
+
+      as_taken : (cached : Option Translation) (x : ℕ)
+          → GoodTook setup cores t c (look_move m.look) (landed a (touched_at m m.look cached x))
+          → GoodTook setup cores t c (look_move m.look) (landed a (Rattle.call_acts.specs.Touches.touched m x cached))
+      as_taken None x h = h
+      as_taken (Some item) x h = h
+
+      by_told : {x : ℕ} → x ≡ last_left setup t (word_of (look_move m.look))
+          → GoodTook setup cores t c (look_move m.look) (landed a (took_touch m x))
+      by_told {x = x} same = subst (λ (n : ℕ). GoodTook setup cores t c (look_move m.look) (landed a (took_touch m n))) (sym same)
+          (as_taken m.cached (last_left setup t (word_of (look_move m.look)))
+          (by_load m.look m.cached refl knows.first knows.looks))

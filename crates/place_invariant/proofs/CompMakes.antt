@@ -1,0 +1,118 @@
+-- A call that makes a component: its names, and what is left of its rule after them.
+use Rattle.std.proofs.Common.{◌≡◌, ◌≢◌, ◌+◌, ℕ, Bool, true, pos, List, [], ◌∷◌, Some, None, refl, sym, ◌∙◌, ap, subst, IsTrue}
+use Rattle.std.proofs.lemmas.Bool.{false≢true}
+use Rattle.std.proofs.lemmas.List.Elements.{All-nil, All-cons}
+use Rattle.spk_nums.specs.Capability.{Capability}
+use Rattle.spk_nums.specs.declared.kinds.Kind.{Kind}
+use Rattle.spk_nums.specs.declared.kinds.Kind.TheVariants as kind
+use Rattle.spk_nums.specs.declared.calls.Call.TheVariants.{Make as make_call}
+use Rattle.spk_nums.specs.declared.calls.Make.TheVariants as make
+use Rattle.kernel_rules.specs.State.{State, Frame, Object, Kernel, Blank, Table, Pages, CompFields}
+use Rattle.kernel_rules.specs.Access.{Target, Under, found, only}
+use Rattle.kernel_rules.specs.Fitting.{fits}
+use Rattle.kernel_rules.specs.Rules.{Rule, Vacant, Does, Found, named}
+use Rattle.kernel_rules.specs.CapabilityCalls.{outside, not_blank, not_taken, makes_comp, epoch_of}
+use Rattle.kernel_rules.specs.CallRelation.{rule_of}
+use Rattle.kernel_rules.proofs.Facts.{named_fit}
+use Rattle.kernel_rules.proofs.Sound.{IsSound}
+use Rattle.call_plans.specs.PlanOf.{of_kind, plan_for}
+use Rattle.call_plans.specs.After.{Leads, LeadsIn, rule_after, names_after, NextFree, next_of}
+use Rattle.call_acts.specs.Comps.{comp_due_list}
+use Rattle.call_acts.specs.declared.comps.CompMaking.{CompMaking}
+use Rattle.call_acts.specs.declared.work.Due.{Due}
+use Rattle.core_invariant.specs.Knows.{AreDuesApart}
+
+-- What the component has.
+abbrev pub new_comp : State → ℕ → ℕ → ℕ → CompFields
+new_comp s x p l = record { table = x; pages = p; number = l; epoch = epoch_of (s.number l) + 1 }
+
+-- What is left of the rule of such a call after its names.
+abbrev pub comp_rest : State → Capability → ℕ → ℕ → ℕ → ℕ → Target → Rule
+comp_rest s range f x p l target =
+    Vacant target λ at. Does (outside (found range) f ∷ not_blank s f ∷ not_taken s l) (makes_comp s f (new_comp s x p l) at)
+
+-- Its names have led to a range, a table, and the table and the pages of the component.
+pub record IsCompMake (s : State) (c r f u b x p l : ℕ) (ks : List Capability) : Type 0 where
+  pub range : Capability
+  pub second : Capability
+  pub table : Capability
+  pub pages : Capability
+  pub found_is : ks ≡ range ∷ second ∷ table ∷ pages ∷ []
+  pub first : named s c r (only kind.Range) ≡ Found range
+  pub under : named s c u (only kind.Table) ≡ Found second
+  pub third : named s c x (only kind.Table) ≡ Found table
+  pub fourth : named s c p (only kind.Pages) ≡ Found pages
+  pub rule : rule_after (rule_of s c (make_call (make.Comp x p l) r f u b)) ks
+      ≡ comp_rest s range f table.frame pages.frame l (Under (found second) b)
+  pub next : next_of (plan_for (make_call (make.Comp x p l) r f u b)) ks ≡ NextFree (Under (found second) b)
+
+pub comp_make : (s : State) (c r f u b x p l : ℕ) (ks : List Capability)
+    → Leads (LeadsIn s c) (plan_for (make_call (make.Comp x p l) r f u b)).names [] ks
+    → names_after (plan_for (make_call (make.Comp x p l) r f u b)).names ks ≡ []
+    → IsCompMake s c r f u b x p l ks
+comp_make s c r f u b x p l [] leads none = absurd (not_none none)
+  where
+    not_none : of_kind kind.Range r ∷ of_kind kind.Table u ∷ of_kind kind.Table x ∷ of_kind kind.Pages p ∷ [] ≡ [] → ⊥
+    not_none h = cc
+comp_make s c r f u b x p l (k ∷ []) leads none = absurd (not_none none)
+  where
+    not_none : of_kind kind.Table u ∷ of_kind kind.Table x ∷ of_kind kind.Pages p ∷ [] ≡ [] → ⊥
+    not_none h = cc
+comp_make s c r f u b x p l (k ∷ j ∷ []) leads none = absurd (not_none none)
+  where
+    not_none : of_kind kind.Table x ∷ of_kind kind.Pages p ∷ [] ≡ [] → ⊥
+    not_none h = cc
+comp_make s c r f u b x p l (k ∷ j ∷ i ∷ []) leads none = absurd (not_none none)
+  where
+    not_none : of_kind kind.Pages p ∷ [] ≡ [] → ⊥
+    not_none h = cc
+comp_make s c r f u b x p l (k ∷ j ∷ i ∷ h ∷ []) leads none = record {
+  range = k;
+  second = j;
+  table = i;
+  pages = h;
+  found_is = refl;
+  first = leads.0;
+  under = leads.1.0;
+  third = leads.1.1.0;
+  fourth = leads.1.1.1.0;
+  rule = refl;
+  next = refl;
+}
+comp_make s c r f u b x p l (k ∷ j ∷ i ∷ h ∷ g ∷ ks) leads none = absurd leads.1.1.1.1
+
+-- Its frame, which is blank, its table and its pages differ.
+is_table : (y : Frame) → IsTrue (fits kind.Table y) → y ≡ Kernel Table
+is_table (Kernel Table) h = refl
+is_table _ h = absurd (false≢true h)
+
+is_pages : (y : Frame) → IsTrue (fits kind.Pages y) → y ≡ Kernel Pages
+is_pages (Kernel Pages) h = refl
+is_pages _ h = absurd (false≢true h)
+
+pub comp_dues_apart : (s : State) (m : CompMaking) → s.frame m.frame ≡ Kernel Blank → IsTrue (fits kind.Table (s.frame m.table))
+    → IsTrue (fits kind.Pages (s.frame m.pages)) → AreDuesApart (comp_due_list m)
+comp_dues_apart s m blank table pages = (
+  All-cons (λ (y : Due). m.frame ≢ y.frame) (one m.table) (one m.pages ∷ [])
+      (λ same. not_table (sym blank ∙ ap s.frame same ∙ is_table (s.frame m.table) table))
+      (All-cons (λ (y : Due). m.frame ≢ y.frame) (one m.pages) []
+      (λ same. not_pages (sym blank ∙ ap s.frame same ∙ is_pages (s.frame m.pages) pages)) (All-nil (λ (y : Due). m.frame ≢ y.frame))),
+  (
+    All-cons (λ (y : Due). m.table ≢ y.frame) (one m.pages) []
+        (λ same. apart (sym (is_table (s.frame m.table) table) ∙ ap s.frame same ∙ is_pages (s.frame m.pages) pages))
+        (All-nil (λ (y : Due). m.table ≢ y.frame)),
+    (All-nil (λ (y : Due). m.pages ≢ y.frame), tt),
+  ),
+)
+  where
+    one : ℕ → Due
+    one f = record { frame = f; change = pos 1 }
+
+    not_table : Kernel Blank ≡ Kernel Table → ⊥
+    not_table h = cc
+
+    not_pages : Kernel Blank ≡ Kernel Pages → ⊥
+    not_pages h = cc
+
+    apart : Kernel Table ≡ Kernel Pages → ⊥
+    apart h = cc

@@ -1,0 +1,268 @@
+-- The second load of the head of the second of two temporal capabilities: it has changed, or it is as it was read, and the call is decided.
+use Rattle.std.proofs.Common.{◌≡◌, inl, inr, ℕ, ◌<◌, ◌≤◌, ◌==◌, not, nat_lt, Bool, true, false, if◌then◌else◌, List, [], ◌∷◌, Option, Some, None, refl, sym, ◌∙◌, ap, subst}
+use Rattle.std.proofs.lemmas.Bool.{eq-eqb, eqb-true, eqb-false, le-ltb}
+use Rattle.spk_nums.specs.Setting.{Setting, IsSetting}
+use Rattle.spk_nums.specs.Capability.{Capability}
+use Rattle.spk_nums.specs.Merging.{preempts_by}
+use Rattle.spk_nums.specs.declared.calls.Call.{Call}
+use Rattle.spk_nums.specs.declared.calls.Call.TheVariants as call_as
+use Rattle.spk_nums.specs.declared.replies.Reply.{Reply}
+use Rattle.spk_nums.specs.declared.replies.Reply.TheVariants as reply
+use Rattle.spk_nums.specs.declared.replies.Value.{Value}
+use Rattle.spk_nums.specs.declared.replies.Value.TheVariants as value
+use Rattle.supported_calls.specs.Built.{IsBuilt}
+use Rattle.tcap_words.specs.Head.{word_of_head}
+use Rattle.word_map.specs.Word.{Word, EntryAt}
+use Rattle.word_map.specs.Moves.{LoadOf}
+use Rattle.kernel_rules.specs.State.{State}
+use Rattle.kernel_rules.specs.Access.{found as named_by}
+use Rattle.kernel_rules.specs.Rules.{Found, Refused, Does, RuleMay, IsFoundAnd, unless, first_of, first_cause, answers}
+use Rattle.kernel_rules.specs.TimeCalls.{tcap_at, is_short, are_unlike, are_alike, preemption, preempts}
+use Rattle.kernel_rules.specs.CallRelation.{rule_of, change_of, changed, counted, MayReply, begins_in as begun_by, are_calls_spent}
+use Rattle.kernel_history.specs.Justified.{HasRacedHead, IsRaceLost}
+use Rattle.kernel_history.specs.Trace.{Step, Trace, state_after, last_left}
+use Rattle.kernel_history.proofs.AloneCalls.{ok_first, refused_first}
+use Rattle.kernel_history.proofs.Laws.{not_changed}
+use Rattle.stage_tcap.specs.Lists.{in_order, same_list}
+use Rattle.stage_tcap.specs.Pairs.{again_end, again_value, value_of, by_alike, judged, whole_b}
+use Rattle.spk_nums.specs.declared.steps.StageEnd.TheVariants as ends
+use Rattle.stage_tcap.specs.declared.pair.Pair.{Pair}
+use Rattle.stage_tcap.specs.declared.pair.PairAt.TheVariants.{CompareB, AgainB, StoreA}
+use Rattle.stage_tcap.specs.declared.pair.PairWork.{PairWork}
+use Rattle.stage_tcap.specs.declared.pair.PairWork.TheVariants.{Transfer, Delegate, Test}
+use Rattle.call_acts.specs.declared.work.Act.TheVariants.{Share as share_act}
+use Rattle.call_acts.specs.declared.work.Work.TheVariants.{Act}
+use Rattle.call_acts.specs.Shares.{took_shared, took_share}
+use Rattle.call_steps.specs.declared.stages.Stage.TheVariants.{Undecided}
+use Rattle.call_steps.specs.declared.stages.ActiveCall.{ActiveCall}
+use Rattle.call_steps.specs.Steps.{landed}
+use Rattle.call_steps.specs.View.{Core}
+use Rattle.core_invariant.specs.Holding.{holds_counts}
+use Rattle.core_invariant.specs.Knows.{KnowsUndecided}
+use Rattle.core_invariant.specs.Shares.{HasBoth, SharesBy}
+use Rattle.core_invariant.specs.Stands.{holds_in, holds_head, Stands}
+use Rattle.core_invariant.proofs.Loads.{OnlyLooks, core_is, inner, is_active}
+use Rattle.core_invariant.proofs.Refusals.{GoodTook, not_spent}
+use Rattle.core_invariant.proofs.Tcaps.{TcapOf}
+use Rattle.share_invariant.proofs.HeadsB.{owes_share}
+use Rattle.share_invariant.proofs.ListsKnown as known
+use Rattle.share_invariant.proofs.ListsKnown.{AreRead, same_alike, all_gone}
+use Rattle.share_invariant.proofs.ShareCalls as calls
+use Rattle.share_invariant.proofs.ShareCalls.{causes_of, change_by}
+use Rattle.share_invariant.proofs.ShareSteps.{loading, load_decides}
+
+-- A delegation is not carried out today.
+pub no_delegation : (call : Call) (ks : List Capability) (p : Pair) → SharesBy call ks p → IsBuilt call → (m : ℕ) → p.what ≡ Delegate m → ⊥
+no_delegation (call_as.Transfer x y n) (a ∷ b ∷ []) p is built m what_is = absurd (apart (sym is.work ∙ what_is))
+  where
+    apart : Transfer n ≡ Delegate m → ⊥
+    apart h = cc
+no_delegation (call_as.Delegate x y n) (a ∷ b ∷ []) p is built m what_is = built
+no_delegation (call_as.Test x y) (a ∷ b ∷ []) p is built m what_is = absurd (apart (sym is.work ∙ what_is))
+  where
+    apart : Test ≡ Delegate m → ⊥
+    apart h = cc
+no_delegation call ks p is built m what_is = absurd is
+
+module _ (setup : Setting) (setting : IsSetting setup) (cores : ℕ → Core) (t : Trace) (stands : Stands setup cores t) (c : ℕ)
+    (here : c < setup.cores)
+    (a : ActiveCall) (active : (cores c).active ≡ Some a) (p : Pair) (r : Reply)
+    (stage_is : a.stage ≡ Undecided (Act (share_act (record p { at = AgainB r }))))
+    (has : KnowsUndecided setup t c (cores c).own.table a (Act (share_act (record p { at = AgainB r })))) where
+  abbrev now_p : Pair
+  now_p = record p { at = AgainB r }
+
+  abbrev s : State
+  s = state_after setup t
+
+  abbrev at : Word
+  at = EntryAt p.b 0
+
+  abbrev was : ℕ
+  was = last_left setup t at
+
+  abbrev old : ℕ
+  old = word_of_head p.head_b
+
+  both : HasBoth setup t c now_p (AgainB r)
+  both = has.knows.knows.at
+
+  held : holds_in (Some a) ≡ holds_head now_p false (holds_counts None a.counts)
+  held = calls.held_is setup setting cores t stands c here a active now_p stage_is has
+
+  tcap_b : TcapOf (s.frame p.b)
+  tcap_b = calls.tcap_b setup setting cores t stands c here a active now_p stage_is has
+
+  abbrev is : calls.IsShare s c a.call a.found now_p
+  is = calls.is setup setting cores t stands c here a active now_p stage_is has
+
+  unspent : are_calls_spent s c ≡ false
+  unspent = not_spent setup (cores c) t c (core_is setup setting cores t stands c here a active)
+      (calls.room setup setting cores t stands c here a active now_p stage_is has)
+
+  load : OnlyLooks setup t c a.call (LoadOf at)
+  load = loading setup setting cores t stands c here a active now_p stage_is has p.b 0
+      (calls.near_b setup setting cores t stands c here a active now_p stage_is has)
+
+  abbrev Decides : Value → Reply → Type 0
+  Decides v reply_is = GoodTook setup cores t c (LoadOf at) (landed a (took_shared (record p { at = StoreA false v }) (ends.Decided reply_is)))
+
+  abbrev raced_e : Step
+  raced_e = inner setup setting cores t stands c here a active (LoadOf at) (Some reply.Raced) None
+
+  -- another word is found there than was read
+  lost_good : (was == old) ≡ false → Decides value.Nothing reply.Raced
+  lost_good other lands =
+      load_decides setup setting cores t stands c here a active now_p stage_is has 8 both.a held (LoadOf at) load reply.Raced
+      (record p { at = StoreA false value.Nothing }) value.Nothing refl refl refl refl (sym held)
+      (ap (λ x. counted x c) (owes_share s c a.call a.found now_p has.knows.knows.shares)) refl (λ x. refl) (λ x. refl) refl
+      (unspent, tt) race
+      (λ is_alone. absurd (not_changed setup t raced_e refl is_alone race.own race.has_read race.changed)) lands
+    where
+      race : IsRaceLost t raced_e s (rule_of s c a.call)
+      race = record {
+        at = inr (subst HasRacedHead (sym tcap_b.is) tt, refl);
+        reads = eq-eqb was was refl;
+        own = old;
+        has_read = both.b.head.own;
+        changed = eqb-false was old other;
+      }
+
+  -- The word is as it was read.
+  module _ (equal : (was == old) ≡ true) where
+    same : was ≡ old
+    same = eqb-true was old equal
+
+    read : AreRead s now_p both.read
+    read = known.are_read setup setting cores t stands c here a active now_p stage_is has both held same
+
+    -- a transfer of which the lists differ
+    module _ (m : ℕ) (what_is : p.what ≡ Transfer m) (told : same_list (in_order p.list_a) (in_order p.list_b) ≡ false) where
+      list_b : Some (in_order p.list_b) ≡ Some (tcap_at s p.b).qualities
+      list_b = ap (λ o. Some (in_order o)) (both.whole ∙ ap (λ w. whole_b w (in_order p.list_a) (in_order both.read)) what_is) ∙ some_read both.read read.list_b
+        where
+          some_read : (o : Option (List (ℕ × ℕ))) → o ≡ Some (tcap_at s p.b).qualities → Some (in_order o) ≡ Some (tcap_at s p.b).qualities
+          some_read o h = ap (λ x. Some (in_order x)) h
+
+      same_lists : (xs ys : List (ℕ × ℕ)) → Some xs ≡ Some ys → xs ≡ ys
+      same_lists xs ys h = cc
+
+      unlike : are_alike (tcap_at s p.a).qualities (tcap_at s p.b).qualities ≡ false
+      unlike = same_alike (tcap_at s p.a).qualities (tcap_at s p.b).qualities
+          ∙ ap (λ xs. same_list (in_order xs) (tcap_at s p.b).qualities) (sym read.list_a)
+          ∙ ap (λ ys. same_list (in_order p.list_a) ys) (sym (same_lists (in_order p.list_b) (tcap_at s p.b).qualities list_b)) ∙ told
+
+      unlike_named : are_alike (tcap_at s is.a.frame).qualities (tcap_at s is.b.frame).qualities ≡ false
+      unlike_named = ap (λ (f : ℕ). are_alike (tcap_at s f).qualities (tcap_at s is.b.frame).qualities) (sym is.shared.first)
+          ∙ ap (λ (f : ℕ). are_alike (tcap_at s p.a).qualities (tcap_at s f).qualities) (sym is.shared.second) ∙ unlike
+
+      not_short : nat_lt (tcap_at s is.a.frame).budget m ≡ false
+      not_short = ap (λ (f : ℕ). nat_lt (tcap_at s f).budget m) (sym is.shared.first)
+          ∙ ap (λ (n : ℕ). nat_lt n m) (sym read.budget_a)
+          ∙ le-ltb p.head_a.budget m (subst (λ w. Rattle.stage_tcap.specs.Pairs.amount_of w ≤ p.head_a.budget) what_is both.a.enough)
+
+      may_unlike : RuleMay s c (Does (causes_of s (Transfer m) (named_by is.a) (named_by is.b)) (change_by s (Transfer m) is.a.frame is.b.frame))
+          reply.Unlike
+      may_unlike = inr (inr (inl (ap not unlike_named, refl)))
+
+      first_unlike : unless (first_cause s c (causes_of s (Transfer m) (named_by is.a) (named_by is.b)))
+          (change_by s (Transfer m) is.a.frame is.b.frame) ≡ Refused reply.Unlike
+      first_unlike =
+          ap (λ b. unless (first_of (if b then Some reply.Same else None)
+          (first_cause s c (is_short s (named_by is.a) m ∷ are_unlike s (named_by is.a) (named_by is.b) ∷ [])))
+          (change_by s (Transfer m) is.a.frame is.b.frame))
+          (calls.not_same setup setting cores t stands c here a active now_p stage_is has)
+          ∙ ap (λ b. unless (first_of (if b then Some (reply.Short (tcap_at s is.a.frame).budget) else None)
+          (first_cause s c (are_unlike s (named_by is.a) (named_by is.b) ∷ []))) (change_by s (Transfer m) is.a.frame is.b.frame)) not_short
+          ∙ ap (λ b. unless (first_of (if not b then Some reply.Unlike else None) None) (change_by s (Transfer m) is.a.frame is.b.frame))
+          unlike_named
+
+      unlike_good : Decides value.Nothing reply.Unlike
+      unlike_good lands =
+          load_decides setup setting cores t stands c here a active now_p stage_is has 8 both.a held (LoadOf at) load reply.Unlike
+          (record p { at = StoreA false value.Nothing }) value.Nothing refl refl refl refl (sym held)
+          refl refl (λ x. refl) (λ x. refl) refl (
+            unspent,
+            calls.may setup setting cores t stands c here a active now_p stage_is has reply.Unlike
+                (subst (λ w. RuleMay s c (Does (causes_of s w (named_by is.a) (named_by is.b)) (change_by s w is.a.frame is.b.frame)) reply.Unlike)
+                (sym what_is) may_unlike),
+          ) tt
+          (λ is_alone. refused_first s c a.call reply.Unlike unspent
+          (calls.change_is setup setting cores t stands c here a active now_p stage_is has
+          ∙ ap (λ w. unless (first_cause s c (causes_of s w (named_by is.a) (named_by is.b))) (change_by s w is.a.frame is.b.frame)) what_is
+          ∙ first_unlike)) lands
+
+    -- a test is answered
+    module _ (what_is : p.what ≡ Test) where
+      abbrev tells : Bool
+      tells = preempts_by p.head_a.budget (in_order p.list_a) p.head_b.budget (in_order p.list_b)
+
+      abbrev v : Value
+      v = if tells then value.Preempts else value.Stays
+
+      list_b_is : p.list_b ≡ Some (tcap_at s p.b).qualities
+      list_b_is = both.whole ∙ ap (λ w. whole_b w (in_order p.list_a) (in_order both.read)) what_is
+          ∙ ap (λ x. Some (in_order x)) read.list_b
+
+      tells_is : tells ≡ preempts (tcap_at s is.a.frame) (tcap_at s is.b.frame)
+      tells_is =
+          ap (λ (n : ℕ). preempts_by n (in_order p.list_a) p.head_b.budget (in_order p.list_b)) read.budget_a
+          ∙ ap (λ xs. preempts_by (tcap_at s p.a).budget (in_order xs) p.head_b.budget (in_order p.list_b)) read.list_a
+          ∙ ap (λ (n : ℕ). preempts_by (tcap_at s p.a).budget (tcap_at s p.a).qualities n (in_order p.list_b)) read.budget_b
+          ∙ ap (λ xs. preempts_by (tcap_at s p.a).budget (tcap_at s p.a).qualities (tcap_at s p.b).budget (in_order xs)) list_b_is
+          ∙ ap (λ (f : ℕ). preempts (tcap_at s f) (tcap_at s p.b)) is.shared.first
+          ∙ ap (λ (f : ℕ). preempts (tcap_at s is.a.frame) (tcap_at s f)) is.shared.second
+
+      no_cause : first_cause s c (causes_of s Test (named_by is.a) (named_by is.b)) ≡ None
+      no_cause = ap (λ b. first_of (if b then Some reply.Same else None) None)
+          (calls.not_same setup setting cores t stands c here a active now_p stage_is has)
+
+      change_is : change_of s c a.call ≡ Found (answers s v)
+      change_is = calls.change_is setup setting cores t stands c here a active now_p stage_is has
+          ∙ ap (λ w. unless (first_cause s c (causes_of s w (named_by is.a) (named_by is.b))) (change_by s w is.a.frame is.b.frame)) what_is
+          ∙ ap (λ o. unless o (change_by s Test is.a.frame is.b.frame)) no_cause
+          ∙ ap (λ b. Found (answers s (preemption b))) (sym tells_is)
+
+      permitted : MayReply s c a.call (reply.Ok v)
+      permitted = (unspent, subst (λ x. IsFoundAnd x (λ y. y.value ≡ v)) (sym change_is) refl)
+
+      abbrev answer : Step
+      answer = inner setup setting cores t stands c here a active (LoadOf at) (Some (reply.Ok v)) None
+
+      answered_good : Decides v (reply.Ok v)
+      answered_good lands =
+          load_decides setup setting cores t stands c here a active now_p stage_is has 8 both.a held (LoadOf at) load (reply.Ok v)
+          (record p { at = StoreA false v }) v refl refl refl refl
+          (ap (λ xs. holds_head now_p false (holds_counts (Some None) xs))
+          (calls.no_counts setup setting cores t stands c here a active now_p stage_is has)
+          ∙ sym (held ∙ ap (λ xs. holds_head now_p false (holds_counts None xs))
+          (calls.no_counts setup setting cores t stands c here a active now_p stage_is has)))
+          (ap (λ x. counted (changed s x) c) change_is) refl (λ x. ap (λ j. begun_by j x) change_is) (λ x. is.ends_none x) is.flush_none
+          permitted (all_gone setup setting cores t stands c here a active now_p stage_is has answer refl refl)
+          (λ is_alone. ok_first s c a.call v permitted) lands
+
+    reply_of : (x y : Reply) → AgainB x ≡ AgainB y → x ≡ y
+    reply_of x y h = cc
+
+    by_work : (what : PairWork) → p.what ≡ what → judged what now_p ≡ AgainB r → Decides (value_of r) r
+    by_work (Transfer m) what_is judges = by_lists (same_list (in_order p.list_a) (in_order p.list_b)) refl
+      where
+        not_compare : CompareB ≡ AgainB r → ⊥
+        not_compare h = cc
+
+        by_lists : (b : Bool) → same_list (in_order p.list_a) (in_order p.list_b) ≡ b → Decides (value_of r) r
+        by_lists true told = absurd (not_compare (sym (ap by_alike told) ∙ judges))
+        by_lists false told = subst (λ x. Decides (value_of x) x) (reply_of reply.Unlike r (sym (ap by_alike told) ∙ judges))
+            (unlike_good m what_is told)
+    by_work (Delegate m) what_is judges = absurd (no_delegation a.call a.found now_p has.knows.knows.shares
+        (is_active setup setting cores t stands c here a active).built m what_is)
+    by_work Test what_is judges = subst (λ x. Decides (value_of x) x) (reply_of _ r judges) (answered_good what_is)
+
+  pub again_good : GoodTook setup cores t c (LoadOf at) (landed a (took_share now_p was))
+  again_good = by (was == old) refl
+    where
+      by : (equal : Bool) → (was == old) ≡ equal
+          → GoodTook setup cores t c (LoadOf at)
+          (landed a (took_shared (record p { at = StoreA false (again_value equal r) }) (again_end equal r)))
+      by true told = by_work told p.what refl both.judges
+      by false told = lost_good told

@@ -1,0 +1,13 @@
+pub mod ListsRead
+pub mod ShareCalls
+pub mod ShareSteps
+pub mod HeadsA
+pub mod HeadsB
+pub mod MarksA
+pub mod Marking
+pub mod ListsKnown
+pub mod Compares
+pub mod Agains
+pub mod Stores
+pub mod Shares
+pub mod ShareStarts

@@ -1,0 +1,88 @@
+-- A step of a call on two temporal capabilities is good, and so is a step that gives the first one's head back.
+use Rattle.std.proofs.Common.{◌≡◌, ℕ, zero, suc, ◌<◌, Option, Some, refl}
+use Rattle.spk_nums.specs.Setting.{Setting, IsSetting}
+use Rattle.spk_nums.specs.declared.replies.Reply.{Reply}
+use Rattle.word_map.specs.Moves.{word_of, told_of}
+use Rattle.kernel_history.specs.Trace.{Trace, last_left}
+use Rattle.stage_tcap.specs.Pairs.{pair_move, judged}
+use Rattle.stage_tcap.specs.declared.pair.Pair.{Pair}
+use Rattle.stage_tcap.specs.declared.pair.PairAt.{PairAt}
+use Rattle.stage_tcap.specs.declared.pair.PairAt.TheVariants.{LoadA, MarkA, ListA, LoadB, ListB, CompareB, AgainB, StoreList, StoreB, StoreA}
+use Rattle.stage_tcap.specs.declared.pair.PairWork.{PairWork}
+use Rattle.stage_tcap.specs.declared.pair.PairWork.TheVariants.{Transfer, Delegate, Test}
+use Rattle.call_acts.specs.declared.work.Act.TheVariants.{Share as share_act}
+use Rattle.call_acts.specs.declared.work.Work.TheVariants.{Act}
+use Rattle.call_acts.specs.declared.work.Tail.TheVariants.{Share as share_tail}
+use Rattle.call_acts.specs.Shares.{took_share, after_share}
+use Rattle.call_steps.specs.declared.stages.Stage.TheVariants.{Undecided, Decided}
+use Rattle.call_steps.specs.declared.stages.ActiveCall.{ActiveCall}
+use Rattle.call_steps.specs.Steps.{landed, went_with, GoesOn}
+use Rattle.call_steps.specs.View.{Core}
+use Rattle.core_invariant.specs.Knows.{KnowsUndecided, KnowsTail}
+use Rattle.core_invariant.specs.Stands.{Stands}
+use Rattle.core_invariant.proofs.Loads.{is_active}
+use Rattle.core_invariant.proofs.Refusals.{GoodTook}
+use Rattle.share_invariant.proofs.Agains.{no_delegation, again_good}
+use Rattle.share_invariant.proofs.Compares.{compare_good}
+use Rattle.share_invariant.proofs.HeadsA.{load_a_good, list_a_good}
+use Rattle.share_invariant.proofs.HeadsB.{load_b_good, list_b_good}
+use Rattle.share_invariant.proofs.MarksA.{mark_a_good}
+use Rattle.share_invariant.proofs.Stores.{store_a_good}
+
+module _ (setup : Setting) (setting : IsSetting setup) (cores : ℕ → Core) (t : Trace) (stands : Stands setup cores t) (c : ℕ)
+    (here : c < setup.cores) (a : ActiveCall) (active : (cores c).active ≡ Some a) where
+  abbrev pub ShareGood : Pair → Type 0
+  ShareGood p = GoodTook setup cores t c (pair_move p)
+      (landed a (took_share p (told_of (pair_move p) (last_left setup t (word_of (pair_move p))))))
+
+  pub share_good : (p : Pair) → a.stage ≡ Undecided (Act (share_act p))
+      → KnowsUndecided setup t c (cores c).own.table a (Act (share_act p)) → ShareGood p
+  share_good p stage_is has = by p.what p.at stage_is has
+    where
+      test_judges : (b : PairAt) → judged Test (record p { what = Test; at = b }) ≡ CompareB → ⊥
+      test_judges b h = cc
+
+      compares : (what : PairWork) → a.stage ≡ Undecided (Act (share_act (record p { what = what; at = CompareB })))
+          → KnowsUndecided setup t c (cores c).own.table a (Act (share_act (record p { what = what; at = CompareB })))
+          → ShareGood (record p { what = what; at = CompareB })
+      compares (Transfer m) is has = compare_good setup setting cores t stands c here a active p m is has
+      compares (Delegate m) is has = absurd (no_delegation a.call a.found (record p { what = Delegate m; at = CompareB })
+          has.knows.knows.shares (is_active setup setting cores t stands c here a active).built m refl)
+      compares Test is has = absurd (test_judges CompareB has.knows.knows.at.judges)
+
+      by : (what : PairWork) (at : PairAt) → a.stage ≡ Undecided (Act (share_act (record p { what = what; at = at })))
+          → KnowsUndecided setup t c (cores c).own.table a (Act (share_act (record p { what = what; at = at })))
+          → ShareGood (record p { what = what; at = at })
+      by what LoadA is has = load_a_good setup setting cores t stands c here a active (record p { what = what }) is has
+      by what MarkA is has = mark_a_good setup setting cores t stands c here a active (record p { what = what }) is has
+      by what (ListA zero) is has = absurd has.knows.knows.at
+      by what (ListA (suc n)) is has = list_a_good setup setting cores t stands c here a active (record p { what = what }) n is has
+      by what LoadB is has = load_b_good setup setting cores t stands c here a active (record p { what = what }) is has
+      by what (ListB zero) is has = absurd has.knows.knows.at
+      by what (ListB (suc n)) is has = list_b_good setup setting cores t stands c here a active (record p { what = what }) n is has
+      by what CompareB is has = compares what is has
+      by what (AgainB r) is has = again_good setup setting cores t stands c here a active (record p { what = what }) r is has
+      by what (StoreList n) is has = absurd has.knows.knows.at
+      by what StoreB is has = absurd has.knows.knows.at
+      by what (StoreA moved v) is has = absurd has.knows.knows.at
+
+  abbrev pub SharedGood : Reply → Option ℕ → Pair → Type 0
+  SharedGood r drawn p = GoodTook setup cores t c (pair_move p)
+      (GoesOn (went_with a a.counts (Decided r drawn (after_share p (told_of (pair_move p) (last_left setup t (word_of (pair_move p))))))))
+
+  pub shared_good : (r : Reply) (drawn : Option ℕ) (p : Pair) → a.stage ≡ Decided r drawn (share_tail p)
+      → KnowsTail setup t c a.call a.counts (share_tail p) → SharedGood r drawn p
+  shared_good r drawn p stage_is has = by p.at stage_is has
+    where
+      by : (at : PairAt) → a.stage ≡ Decided r drawn (share_tail (record p { at = at }))
+          → KnowsTail setup t c a.call a.counts (share_tail (record p { at = at })) → SharedGood r drawn (record p { at = at })
+      by LoadA is has = absurd has.at
+      by MarkA is has = absurd has.at
+      by (ListA n) is has = absurd has.at
+      by LoadB is has = absurd has.at
+      by (ListB n) is has = absurd has.at
+      by CompareB is has = absurd has.at
+      by (AgainB x) is has = absurd has.at
+      by (StoreList n) is has = absurd has.at
+      by StoreB is has = absurd has.at
+      by (StoreA moved v) is has = store_a_good setup setting cores t stands c here a active r drawn p moved v is has

@@ -1,0 +1,282 @@
+-- No core holds or keeps a word of the object in a frame to which nothing refers, and for which no other core waits: who holds one, relies on
+-- its frame.
+use Rattle.std.specs.Prelude.{if◌then◌else◌}
+use Rattle.std.proofs.Common.{◌≡◌, ◌≢◌, ◌⊎◌, inl, inr, ℕ, zero, suc, ◌+◌, ◌<◌, ◌≤◌, ◌==◌, ◌&&◌, Bool, true, false, List, [], ◌∷◌, Option, Some, None, arith, refl, sym, ◌∙◌, ap, subst}
+use Rattle.std.proofs.lemmas.Bool.{cases_eq, cases_lt, false≢true, ne_eqb}
+use Rattle.spk_nums.specs.Setting.{Setting, IsSetting}
+use Rattle.spk_nums.specs.Capability.{Capability}
+use Rattle.spk_nums.specs.declared.calls.Call.{Call}
+use Rattle.spk_nums.specs.declared.replies.Reply.{Reply}
+use Rattle.stage_quiet.specs.declared.quiet.Quiet.{Quiet}
+use Rattle.stage_quiet.specs.declared.quiet.Quiet.TheVariants.{AtCore, AtFlush}
+use Rattle.stage_thread.specs.declared.claim.Claim.TheVariants.{AtLoad, AtCompare as claim_compare, AtStack}
+use Rattle.stage_thread.specs.declared.stack.Push.{Push as PushOf}
+use Rattle.stage_thread.specs.declared.stack.Push.TheVariants as push
+use Rattle.stage_thread.specs.declared.stack.Pop.{Pop as PopOf}
+use Rattle.stage_thread.specs.declared.stack.Pop.TheVariants as pop
+use Rattle.stage_tcap.specs.declared.pair.Pair.{Pair}
+use Rattle.stage_tcap.specs.declared.pair.PairAt.{PairAt}
+use Rattle.stage_tcap.specs.declared.pair.PairAt.TheVariants.{LoadA, MarkA, ListA, LoadB, ListB, CompareB, AgainB, StoreList, StoreB, StoreA}
+use Rattle.stage_pins.specs.declared.held.Acquired.{Acquired}
+use Rattle.word_map.specs.Word.{EntryAt}
+use Rattle.kernel_rules.specs.State.{State, FrameOf}
+use Rattle.kernel_rules.specs.Access.{Slot}
+use Rattle.kernel_rules.specs.References.{refs, times, core_names}
+use Rattle.kernel_rules.specs.Relies.{IsGuarded}
+use Rattle.kernel_rules.proofs.SoundRemovals.{unnamed}
+use Rattle.kernel_rules.proofs.Sums.{times_first}
+use Rattle.kernel_history.specs.Marking.{marked_by}
+use Rattle.kernel_history.specs.Trace.{Trace, Open, phase, state_after, last_left}
+use Rattle.call_plans.specs.declared.plans.Plan.{Plan}
+use Rattle.stage_quiet.specs.declared.close.Close.{Close}
+use Rattle.stage_quiet.specs.declared.close.Close.TheVariants.{AtCompare, AtDraw, AtStore}
+use Rattle.call_acts.specs.declared.makings.MakingAt.{MakingAt}
+use Rattle.call_acts.specs.declared.makings.MakingAt.TheVariants as making_at
+use Rattle.call_acts.specs.declared.comps.CompMaking.{CompMaking}
+use Rattle.call_acts.specs.declared.comps.CompAt.{CompAt}
+use Rattle.call_acts.specs.declared.comps.CompAt.TheVariants as comp_at
+use Rattle.call_acts.specs.declared.kills.KillingAt.{KillingAt}
+use Rattle.call_acts.specs.declared.kills.KillingAt.TheVariants as kill_at
+use Rattle.call_acts.specs.declared.untypings.UntypingAt.{UntypingAt}
+use Rattle.call_acts.specs.declared.untypings.UntypingAt.TheVariants as untype_at
+use Rattle.call_acts.specs.declared.switches.Switching.{Switching}
+use Rattle.call_acts.specs.declared.switches.SwitchAt.{SwitchAt}
+use Rattle.call_acts.specs.declared.switches.SwitchAt.TheVariants as switch_at
+use Rattle.call_acts.specs.declared.work.Act.{Act as ActOf}
+use Rattle.call_acts.specs.declared.work.Act.TheVariants.{Fill, Remove, Retype, Make, Outside, Tick, Flush, Kill, Untype, Map as map_act, MakeComp, Invoke, Return, Touch, Share, Switch}
+use Rattle.call_acts.specs.declared.work.Tail.{Tail}
+use Rattle.call_acts.specs.declared.work.Tail.TheVariants.{Nothing, Quiesce, Unmark, StoreDead, StoreFlush, Release, StoreLive, Push, Pop, Share as share_tail, StoreRunning, StoreIdle}
+use Rattle.call_acts.specs.declared.work.Work.{Work}
+use Rattle.call_acts.specs.declared.work.Work.TheVariants.{Lookup, Read, Scan, Acquire, Act as act_work}
+use Rattle.call_steps.specs.declared.stages.ActiveCall.{ActiveCall}
+use Rattle.call_steps.specs.declared.stages.Stage.{Stage}
+use Rattle.call_steps.specs.declared.stages.Stage.TheVariants.{Enter, Undecided, Decided, Leave}
+use Rattle.call_acts.specs.Untypings.{release_of}
+use Rattle.stage_sweep.specs.Freeze.{swept_of}
+use Rattle.call_steps.specs.View.{Core}
+use Rattle.core_invariant.specs.Holding.{Holding, holds_counts, holds_closed, holds_drawn, keeps, kept_below, settled, settled_by}
+use Rattle.core_invariant.specs.Frozen.{holds_untyping}
+use Rattle.core_invariant.specs.Knows.{KnowsAct, KnowsAt, KnowsClose, KnowsStore, KnowsTail, KnowsWork, CallIs, phase_at}
+use Rattle.core_invariant.specs.Shares.{KnowsShare, KnowsShared}
+use Rattle.core_invariant.specs.Stands.{Stands, holds, held_by, holds_act, holds_at, holds_comp, holds_head, holds_in, holds_killing, holds_making, holds_pop, holds_push, holds_share, holds_shared, holds_stage, holds_tail, holds_work, is_done}
+use Rattle.core_invariant.specs.Threads.{KnowsSwitch, holds_switching}
+use Rattle.core_invariant.proofs.Carries.{slot_relies}
+use Rattle.core_invariant.proofs.Freezing.{release_entry}
+
+none_some : (x : ℕ) → None ≡ Some x → ⊥
+none_some x h = cc
+
+-- One word more is held, of another frame.
+keep_other : (g j : ℕ) (rest : Bool) (f i : ℕ) → g ≢ f → (if f == g && i == j then true else rest) ≡ rest
+keep_other g j rest f i other = ap (λ b. if b && i == j then true else rest) (ne_eqb f g (λ same. other (sym same)))
+
+pub counts_entry : (fate : Option (Option ℕ)) (xs : List Acquired) (f i : ℕ) → (holds_counts fate xs).marks (EntryAt f i) ≡ false
+counts_entry fate [] f i = refl
+counts_entry fate (x ∷ xs) f i = counts_entry fate xs f i
+
+module _ (f i : ℕ) where
+  abbrev Same : Holding → Holding → Type 0
+  Same h k = h.marks (EntryAt f i) ≡ k.marks (EntryAt f i)
+
+  making_entry : (g : ℕ) (at : MakingAt) (h : Holding) → Same (holds_making g at h) h
+  making_entry g making_at.Load h = refl
+  making_entry g (making_at.Mark word) h = refl
+  making_entry g (making_at.Store word entry) h = refl
+  making_entry g (making_at.Fill word) h = refl
+
+  comp_entry : (m : CompMaking) (at : CompAt) (h : Holding) → Same (holds_comp m at h) h
+  comp_entry m comp_at.Load h = refl
+  comp_entry m (comp_at.Mark word) h = refl
+  comp_entry m (comp_at.LoadLive word) h = refl
+  comp_entry m (comp_at.Scan word last q) h = refl
+  comp_entry m (comp_at.Close word last) h = refl
+  comp_entry m (comp_at.Store word last entry) h = refl
+  comp_entry m (comp_at.Fill word last) h = refl
+
+  killing_entry : (at : KillingAt) (h : Holding) → Same (holds_killing at h) h
+  killing_entry kill_at.LoadComp h = refl
+  killing_entry (kill_at.LoadLive life) h = refl
+  killing_entry (kill_at.Close life word) h = refl
+  killing_entry (kill_at.Draw life word) h = refl
+
+  untyping_entry : (g : ℕ) (at : UntypingAt) (h : Holding) → Same (holds_untyping g at h) h
+  untyping_entry g untype_at.Load h = refl
+  untyping_entry g (untype_at.Mark word v) h = refl
+  untyping_entry g (untype_at.Sweep word w) h = (release_entry (release_of g word (swept_of w) false) h f i).0
+  untyping_entry g (untype_at.Draw word w) h = (release_entry (release_of g word w false) h f i).0
+
+  push_entry : (p : PushOf) (h : Holding) → Same (holds_push p h) h
+  push_entry (push.AtStack g core depth comp) h = refl
+  push_entry (push.AtThread g core depth) h = refl
+
+  pop_entry : (p : PopOf) (h : Holding) → Same (holds_pop p h) h
+  pop_entry (pop.AtThread g core depth) h = refl
+  pop_entry (pop.AtStack g depth) h = refl
+
+  share_entry : (p : Pair) (at : PairAt) (h : Holding) → p.a ≢ f → Same (holds_share p at h) h
+  share_entry p LoadA h other = refl
+  share_entry p MarkA h other = refl
+  share_entry p (ListA n) h other = keep_other p.a 0 (h.marks (EntryAt f i)) f i other
+  share_entry p LoadB h other = keep_other p.a 0 (h.marks (EntryAt f i)) f i other
+  share_entry p (ListB n) h other = keep_other p.a 0 (h.marks (EntryAt f i)) f i other
+  share_entry p CompareB h other = keep_other p.a 0 (h.marks (EntryAt f i)) f i other
+  share_entry p (AgainB r) h other = keep_other p.a 0 (h.marks (EntryAt f i)) f i other
+  share_entry p (StoreList n) h other = refl
+  share_entry p StoreB h other = refl
+  share_entry p (StoreA moved v) h other = refl
+
+  shared_entry : (p : Pair) (at : PairAt) (h : Holding) → p.a ≢ f → Same (holds_shared p at h) h
+  shared_entry p LoadA h other = refl
+  shared_entry p MarkA h other = refl
+  shared_entry p (ListA n) h other = refl
+  shared_entry p LoadB h other = refl
+  shared_entry p (ListB n) h other = refl
+  shared_entry p CompareB h other = refl
+  shared_entry p (AgainB r) h other = refl
+  shared_entry p (StoreList n) h other = refl
+  shared_entry p StoreB h other = refl
+  shared_entry p (StoreA moved v) h other = keep_other p.a 0 (h.marks (EntryAt f i)) f i other
+
+  switch_entry : (m : Switching) (at : SwitchAt) (h : Holding) → m.old ≢ f → Rattle.core_invariant.specs.Threads.claimed_by at ≢ f
+      → Same (holds_switching m at h) h
+  switch_entry m (switch_at.Claim (AtLoad g core)) h old new = refl
+  switch_entry m (switch_at.Claim (claim_compare g core depth)) h old new = refl
+  switch_entry m (switch_at.Claim (AtStack g depth)) h old new = keep_other g 0 (h.marks (EntryAt f i)) f i new
+  switch_entry m (switch_at.LoadTable to) h old new = keep_other to.thread 0 (h.marks (EntryAt f i)) f i new
+  switch_entry m (switch_at.LoadPages to table) h old new = keep_other to.thread 0 (h.marks (EntryAt f i)) f i new
+  switch_entry m (switch_at.Leave to table pages) h old new = keep_other to.thread 0 (h.marks (EntryAt f i)) f i new
+  switch_entry m (switch_at.Draw to table pages) h old new =
+      keep_other to.thread 0 (if f == m.old && i == 0 then true else h.marks (EntryAt f i)) f i new ∙ keep_other m.old 0 (h.marks (EntryAt f i)) f i old
+
+module _ (setup : Setting) (setting : IsSetting setup) (cores : ℕ → Core) (t : Trace) (stands : Stands setup cores t) (f : ℕ)
+    (zero_refs : refs (state_after setup t) f ≡ 0) where
+  abbrev s : State
+  s = state_after setup t
+
+  -- no core works on it
+  pub no_thread : (d : ℕ) → d < setup.cores → (s.core d).thread ≢ f
+  no_thread d below same =
+      let none : times f (core_names (s.core d)) ≡ 0 =
+      (unnamed s f zero_refs).cores d (subst (λ (n : ℕ). d < n) (sym (ap (λ l. l.cores) (Rattle.core_invariant.proofs.Sounds.limits_of setup t))) below) in
+      let one : 1 ≤ times f (f ∷ (s.core d).tcap ∷ []) = times_first f ((s.core d).tcap ∷ []) in
+      let at : times f (f ∷ (s.core d).tcap ∷ []) ≡ 0 = ap (λ n. times f (n ∷ (s.core d).tcap ∷ [])) (sym same) ∙ none in
+      omega (arith, one, at)
+
+  -- none keeps a word of it without a mark
+  pub none_kept : (d i : ℕ) → (held_by cores d).bare f i ≡ None
+  none_kept d i = by ((held_by cores d).bare f i) refl
+    where
+      by : (o : Option ℕ) → (held_by cores d).bare f i ≡ o → o ≡ None
+      by None is = refl
+      by (Some v) is = let lent = stands.lent d f i v is in absurd (no_thread d lent.core lent.thread)
+
+  module _ (d : ℕ) (here : d < setup.cores) (waits_not : (s.grace (FrameOf f)).waits d ≡ false) where
+    apart : (g : ℕ) → IsGuarded s d g → g ≢ f
+    apart g (inl some) same = let r : refs s g ≡ refs s f = ap (refs s) same in omega (arith, some, r, zero_refs)
+    apart g (inr waits) same = false≢true (sym waits_not ∙ sym (ap (λ (n : ℕ). (s.grace (FrameOf n)).waits d) same) ∙ waits)
+
+    module _ (i : ℕ) where
+      closed_entry : (call : Call) → phase t d ≡ Open call → (plan : Plan) (found : List Capability) (close : Close) (cap : Capability)
+          → KnowsClose setup t d call plan found close cap → (h : Holding) → Same f i (holds_closed close cap h) h
+      closed_entry call is_open plan found (AtCompare node index word by) cap knows h = refl
+      closed_entry call is_open plan found (AtDraw node index) cap knows h =
+          keep_other node index (h.marks (EntryAt f i)) f i (apart node (slot_relies setup setting t stands.legal d call is_open knows.target
+          (record { node = node; index = index }) knows.way).guarded)
+      closed_entry call is_open plan found (AtStore node index at) cap knows h = refl
+
+      stored_entry : (call : Call) (close : Close) → KnowsStore setup t d call close → (h : Holding) → Same f i (holds_drawn close h) h
+      stored_entry call (AtCompare node index word by) knows h = refl
+      stored_entry call (AtDraw node index) knows h = refl
+      stored_entry call (AtStore node index at) knows h = keep_other node index (h.marks (EntryAt f i)) f i (apart node knows.relies.guarded)
+
+      act_entry : (call : Call) → phase t d ≡ Open call → (plan : Plan) (found : List Capability) (upto : ℕ) (act : ActOf)
+          → KnowsAct setup t d call plan found upto act → (h : Holding) → Same f i (holds_act act h) h
+      act_entry call is_open plan found upto (Fill fill) knows h = refl
+      act_entry call is_open plan found upto (Remove close cap) knows h = closed_entry call is_open plan found close cap knows h
+      act_entry call is_open plan found upto (Retype typing) knows h = refl
+      act_entry call is_open plan found upto (Make m) knows h = making_entry f i m.frame m.at h
+      act_entry call is_open plan found upto (map_act fill) knows h = refl
+      act_entry call is_open plan found upto (Outside node entry word) knows h = refl
+      act_entry call is_open plan found upto (Tick charge) knows h = refl
+      act_entry call is_open plan found upto (Touch m) knows h = refl
+      act_entry call is_open plan found upto (Flush by) knows h = refl
+      act_entry call is_open plan found upto (Kill m) knows h = killing_entry f i m.at h
+      act_entry call is_open plan found upto (Untype m) knows h = untyping_entry f i m.frame m.at h
+      act_entry call is_open plan found upto (MakeComp m) knows h = comp_entry f i m m.at h
+      act_entry call is_open plan found upto (Invoke m) knows h = refl
+      act_entry call is_open plan found upto (Return m) knows h = refl
+      act_entry call is_open plan found upto (Share p) knows h = share_entry f i p p.at h (apart p.a knows.tcap_a.guarded)
+      act_entry call is_open plan found upto (Switch m) knows h =
+          switch_entry f i m m.at h (λ same. no_thread d here (sym knows.leaves.thread ∙ same))
+          (apart (Rattle.core_invariant.specs.Threads.claimed_by m.at) knows.thread.guarded)
+
+      tail_entry : (call : Call) (counts : List Acquired) (tail : Tail) → KnowsTail setup t d call counts tail → (h : Holding)
+          → Same f i (holds_tail tail h) h
+      tail_entry call counts Nothing knows h = refl
+      tail_entry call counts (Quiesce close) knows h = stored_entry call close knows h
+      tail_entry call counts (Unmark g word) knows h = refl
+      tail_entry call counts (StoreDead life stamp) knows h = refl
+      tail_entry call counts (StoreFlush by stamp) knows h = refl
+      tail_entry call counts (Release x) knows h = (release_entry x h f i).0
+      tail_entry call counts (StoreLive l live g word) knows h = refl
+      tail_entry call counts (Push p) knows h = push_entry f i p h
+      tail_entry call counts (Pop p) knows h = pop_entry f i p h
+      tail_entry call counts (share_tail p) knows h = shared_entry f i p p.at h (apart p.a knows.tcap_a.guarded)
+      tail_entry call counts (StoreRunning g core depth old old_depth) knows h =
+          keep_other g 0 (if f == old && i == 0 then true else h.marks (EntryAt f i)) f i (λ same. no_thread d here (sym knows.own ∙ same))
+          ∙ keep_other old 0 (h.marks (EntryAt f i)) f i (apart old knows.rest.thread.guarded)
+      tail_entry call counts (StoreIdle g depth) knows h = keep_other g 0 (h.marks (EntryAt f i)) f i (apart g knows.thread.guarded)
+
+      work_entry : (table : ℕ) (a : ActiveCall) → phase t d ≡ Open a.call → (work : Work) → KnowsWork setup t d table a work → (h : Holding)
+          → Same f i (holds_work work h) h
+      work_entry table a is_open (Lookup look) knows h = refl
+      work_entry table a is_open (Read comp look) knows h = refl
+      work_entry table a is_open (Scan q act) knows h = refl
+      work_entry table a is_open (Acquire pin change act) knows h = act_entry a.call is_open a.plan a.found setup.cores act knows.knows h
+      work_entry table a is_open (act_work act) knows h = act_entry a.call is_open a.plan a.found setup.cores act knows.knows h
+
+      stage_entry : (table : ℕ) (a : ActiveCall) (stage : Stage) → phase t d ≡ phase_at a.call stage → KnowsAt setup t d table a stage
+          → (h : Holding) → Same f i (holds_stage stage h) h
+      stage_entry table a Enter at knows h = absurd knows
+      stage_entry table a (Undecided work) at knows h = work_entry table a at work knows.knows h
+      stage_entry table a (Decided r drawn tail) at knows h = tail_entry a.call a.counts tail knows h
+      stage_entry table a (Leave r x) at knows h = refl
+
+      core_entry : (o : Option ActiveCall) → CallIs setup t d (cores d).own.table o → (holds_in o).marks (EntryAt f i) ≡ false
+      core_entry None is = refl
+      core_entry (Some a) is = stage_entry (cores d).own.table a a.stage is.phase is.knows (holds_counts (is_done a.stage) a.counts)
+          ∙ counts_entry (is_done a.stage) a.counts f i
+
+      pub unheld_entry : (holds (cores d)).marks (EntryAt f i) ≡ false
+      unheld_entry = core_entry (cores d).active (stands.each d here).active
+
+  -- so no word of it carries a mark, where core c, for which alone its grace period may wait, holds none
+  module _ (c : ℕ) (quiet : (d : ℕ) → d < setup.cores → d ≢ c → (s.grace (FrameOf f)).waits d ≡ false)
+      (own : (i : ℕ) → (holds (cores c)).marks (EntryAt f i) ≡ false) where
+    held_none : (d i : ℕ) → (holds (cores d)).marks (EntryAt f i) ≡ false
+    held_none d i = elim (cases_eq d c) [
+      | inl same ↦ ap (λ (n : ℕ). (holds (cores n)).marks (EntryAt f i)) same ∙ own i
+      | inr other ↦ elim (cases_lt d setup.cores) [
+        | inl here ↦ unheld_entry d here (quiet d here other) i
+        | inr past ↦ ap (λ o. (holds_in o).marks (EntryAt f i)) (stands.away d past).idle
+      ]
+    ]
+
+    pub entry_unmarked : (i : ℕ) → marked_by setup t (EntryAt f i) ≡ None
+    entry_unmarked i = by (marked_by setup t (EntryAt f i)) refl
+      where
+        by : (o : Option ℕ) → marked_by setup t (EntryAt f i) ≡ o → o ≡ None
+        by None is = refl
+        by (Some d) is = absurd (false≢true (sym (held_none d i) ∙ (stands.marks (EntryAt f i) d).owned is))
+
+    -- and each settles to what it is
+    pub entry_settles : (i : ℕ) → settled setup (held_by cores) t (EntryAt f i) ≡ last_left setup t (EntryAt f i)
+    unfolding kept_below
+    entry_settles i = ap (λ o. settled_by o (held_by cores) (EntryAt f i) (last_left setup t (EntryAt f i))) (entry_unmarked i)
+        ∙ none_below 8
+      where
+        none_below : (n : ℕ) → kept_below n (held_by cores) f i (last_left setup t (EntryAt f i)) ≡ last_left setup t (EntryAt f i)
+        none_below zero = refl
+        none_below (suc n) =
+            ap (λ o. Rattle.core_invariant.specs.Holding.kept_or o (kept_below n (held_by cores) f i (last_left setup t (EntryAt f i))))
+            (none_kept n i) ∙ none_below n

@@ -1,0 +1,292 @@
+-- The step of a retype to untyped that looks at a word of the object in its frame: what it finds is what the object is, and it goes on, or the
+-- object is not empty.
+use Rattle.std.specs.Prelude.{if◌then◌else◌, not}
+use Rattle.std.specs.List.{list_any}
+use Rattle.std.proofs.Common.{◌≡◌, ◌≢◌, ◌⊎◌, inl, inr, ℕ, ◌+◌, ◌<◌, ◌≤◌, ◌==◌, ◌&&◌, ◌||◌, nat_lt, nat_le, length, Bool, true, false, List, [], ◌∷◌, Option, Some, None, IsTrue, arith, refl, sym, ◌∙◌, ap, subst}
+use Rattle.std.proofs.lemmas.Bool.{cases_eq, eq-eqb, eqb-true, false≢true, ltb-true, ltb-false, leb-true, leb-false}
+use Rattle.spk_nums.specs.Setting.{Setting, IsSetting}
+use Rattle.spk_nums.specs.declared.calls.Call.{Call}
+use Rattle.spk_nums.specs.declared.replies.Reply.{Reply}
+use Rattle.spk_nums.specs.declared.replies.Reply.TheVariants as reply
+use Rattle.frame_words.specs.Core.{core_of_word}
+use Rattle.frame_words.specs.Flush.{flush_of_word}
+use Rattle.frame_words.specs.declared.core_word.CoreWord.{CoreWord}
+use Rattle.frame_words.specs.declared.flush_word.FlushWord.{FlushWord}
+use Rattle.frame_words.specs.declared.count_word.CountWord.{CountWord}
+use Rattle.frame_words.specs.declared.frame_word.FrameWord.{FrameWord}
+use Rattle.word_map.specs.Word.{CoreAt, FlushAt, same_word, EntryAt}
+use Rattle.word_map.specs.Moves.{Move, LoadOf}
+use Rattle.kernel_rules.specs.State.{State, Thing, FrameOf, PlaceOf}
+use Rattle.kernel_rules.specs.MemoryCalls.{is_untyped, is_empty}
+use Rattle.kernel_rules.specs.GracePeriods.{same_thing, is_translated, lowest, unflushed_by, MayWait, MayBeUnflushed}
+use Rattle.kernel_rules.specs.Rules.{Refused, When, refusal_of as cause_refuses}
+use Rattle.kernel_rules.specs.CallRelation.{rule_of, change_of}
+use Rattle.kernel_history.specs.Alone.{IsAlone}
+use Rattle.kernel_history.specs.Justified.{IsRemoved, IsWaiting, IsUnflushed}
+use Rattle.kernel_history.specs.ObjectWords.{frame_value}
+use Rattle.kernel_history.specs.Stamps.{awaits_flushes, exit_of, flush_of, flush_stored, stamp}
+use Rattle.kernel_history.specs.Trace.{Step, Trace, Out, Open, phase, state_after, last_left}
+use Rattle.kernel_history.specs.Ways.{asked_of, waited_in, flushed_in}
+use Rattle.kernel_history.proofs.AloneCalls.{refused_first, nobody_waits}
+use Rattle.kernel_history.proofs.Awaits.{awaits_are}
+use Rattle.kernel_history.proofs.Carries.{was_at_once}
+use Rattle.kernel_history.proofs.Laws.{not_inside}
+use Rattle.kernel_history.proofs.Waiting.{out_passed, later_passed, may_wait}
+use Rattle.call_plans.specs.GoesBy.{own_pages}
+use Rattle.plan_ways.proofs.Ways.{asked_left}
+use Rattle.stage_quiet.specs.declared.quiet.Quiet.{Quiet}
+use Rattle.stage_quiet.specs.declared.quiet.Quiet.TheVariants.{AtCore, AtFlush}
+use Rattle.stage_quiet.specs.Scan.{next_other, core_scan, flush_scan, core_refuses, flush_refuses, scan_end, scan_after, quiet_next, quiet_end, quiet_after}
+use Rattle.stage_sweep.specs.Counters.{latest_stamp}
+use Rattle.stage_sweep.specs.Emptiness.{may_be_cached, loads_of, empty_refuses, owned_after}
+use Rattle.stage_sweep.specs.Freeze.{refusal_of, scan_goes, empty_next, at_after, end_by, swept_of}
+use Rattle.stage_sweep.specs.declared.empty.Owned.{Owned}
+use Rattle.stage_sweep.specs.declared.sweep.Sweep.{Sweep}
+use Rattle.stage_sweep.specs.declared.sweep.SweepAt.{SweepAt}
+use Rattle.stage_sweep.specs.declared.sweep.SweepAt.TheVariants.{Scan, Empty}
+use Rattle.call_acts.specs.Acts.{took_sweep, next_work}
+use Rattle.call_acts.specs.Untypings.{release_of, UntypingFits, owned_dues}
+use Rattle.call_acts.specs.declared.untypings.Untyping.{Untyping}
+use Rattle.call_acts.specs.declared.untypings.UntypingAt.TheVariants.{Draw}
+use Rattle.stage_sweep.specs.declared.sweep.Swept.{Swept}
+use Rattle.call_acts.specs.declared.work.Act.TheVariants.{Untype as untype_act}
+use Rattle.call_acts.specs.declared.work.Work.{Work}
+use Rattle.call_acts.specs.declared.work.Work.TheVariants.{Act}
+use Rattle.call_acts.specs.declared.work.WorkStep.{WorkStep}
+use Rattle.call_acts.specs.declared.refusals.Refusal.TheVariants as refusal
+use Rattle.call_acts.specs.declared.work.Tail.TheVariants.{Release as release_tail}
+use Rattle.call_acts.specs.declared.work.WorkStep.TheVariants.{Goes, Refuses}
+use Rattle.call_steps.specs.declared.stages.Stage.TheVariants.{Undecided}
+use Rattle.call_steps.specs.declared.stages.ActiveCall.{ActiveCall}
+use Rattle.call_steps.specs.Steps.{landed}
+use Rattle.call_steps.specs.View.{Core}
+use Rattle.core_invariant.specs.Frozen.{holds_release}
+use Rattle.core_invariant.specs.Holding.{Holding, holds_counts}
+use Rattle.core_invariant.specs.Knows.{KnowsUndecided, KnowsWork, AreDuesApart}
+use Rattle.core_invariant.specs.Stands.{holds_in, holds_work, Stands, holds, held_by}
+use Rattle.core_invariant.specs.Sweeps.{AreFrozen, IsQuiet, IsScanning, KnowsSweep, KnowsSweepScan, IsLookedAt, IsSwept, names_of}
+use Rattle.core_invariant.proofs.Carries.{names_on, quiet_frame_on}
+use Rattle.core_invariant.proofs.Loads.{OnlyLooks, step_to, next_at, inner, loads_on, decides_with}
+use Rattle.core_invariant.proofs.Refusals.{GoodTook}
+use Rattle.core_invariant.proofs.Sounds.{limits_of}
+use Rattle.place_invariant.proofs.FlushScans.{flush_is_stored, flush_shown, lowest_is, still_unflushed, unflushed_shown}
+use Rattle.place_invariant.proofs.Scans.{before_next}
+use Rattle.place_invariant.proofs.Vacancy.{none_waits, none_unflushed}
+use Rattle.sweep_invariant.proofs.Counters.{sweeping, untyping_by, sweep_knows, sweep_held, sweep_counts, sweep_frame, sweep_refs, sweep_since, undo_with, undo_known}
+use Rattle.sweep_invariant.proofs.FrameQuiet as quieting
+use Rattle.sweep_invariant.proofs.FrameQuiet.{cached_is, unpaged_frame}
+use Rattle.sweep_invariant.proofs.UntypeCalls as calls
+use Rattle.sweep_invariant.proofs.UntypeCalls.{untypes_on, typed_is}
+use Rattle.spk_nums.specs.declared.kinds.Obj.{Obj}
+use Rattle.spk_nums.specs.declared.kinds.Obj.TheVariants as obj
+use Rattle.kernel_rules.specs.References.{refs, frame_names}
+use Rattle.kernel_rules.proofs.Sound.{IsSound}
+use Rattle.kernel_rules.proofs.SoundRuns.{opened}
+use Rattle.kernel_history.specs.Events.{events_of}
+use Rattle.kernel_history.proofs.Stays.{sound_of}
+use Rattle.core_invariant.specs.Words.{IsFrameWord, count_room}
+use Rattle.core_invariant.proofs.Freezing.{release_entry}
+use Rattle.sweep_invariant.proofs.Continuing as going
+use Rattle.sweep_invariant.proofs.FreeEntries.{counts_entry, entry_settles}
+use Rattle.sweep_invariant.proofs.OwnedFrames.{OwnedApart, owned_apart, names_differ}
+
+module _ (setup : Setting) (setting : IsSetting setup) (cores : ℕ → Core) (t : Trace) (stands : Stands setup cores t) (c : ℕ)
+    (here : c < setup.cores)
+    (a : ActiveCall) (active : (cores c).active ≡ Some a) (f core word g : ℕ) (v : FrameWord) (b : ℕ) (kept : List CountWord) (o : Owned)
+    (i : ℕ)
+    (stage_is : a.stage ≡ Undecided (Act (untype_act (untyping_by f core word (sweeping g v b kept o (Empty i))))))
+    (has : KnowsUndecided setup t c (cores c).own.table a (Act (untype_act (untyping_by f core word (sweeping g v b kept o (Empty i))))))
+  where
+    abbrev s : State
+    s = state_after setup t
+
+    abbrev thing : Thing
+    thing = FrameOf f
+
+    abbrev w : Sweep
+    w = sweeping g v b kept o (Empty i)
+
+    abbrev m : Untyping
+    m = untyping_by f core word w
+
+    abbrev load : Move
+    load = LoadOf (EntryAt g i)
+
+    abbrev was : ℕ
+    was = last_left setup t (EntryAt g i)
+
+    knows : KnowsSweep setup t c f word w
+    knows = sweep_knows setup setting cores t stands c here a active f core word w stage_is has
+
+    swept : IsSwept setup t c f kept i o
+    swept = knows.at
+
+    pub looked_so_far : IsLookedAt s f (s.frame f) i o
+    looked_so_far = swept.looked
+
+    fits : UntypingFits (cores c).own.layout m
+    fits = calls.fits setup setting cores t stands c here a active m stage_is has
+
+    pub entry_below : i < loads_of v.object
+    entry_below = fits.at.at
+
+    pub owned_fits : Rattle.call_acts.specs.Untypings.OwnedBy v.object o
+    owned_fits = fits.at.object
+
+    pub object_frame : v ≡ frame_value (s.frame f)
+    object_frame = sweep_frame setup setting cores t stands c here a active f core word w stage_is has
+
+    zero_refs : refs s f ≡ 0
+    zero_refs = sweep_refs setup setting cores t stands c here a active f core word w stage_is has swept.frozen
+
+    since : stamp setup t thing ≡ latest_stamp kept
+    since = sweep_since setup setting cores t stands c here a active f core word w stage_is has swept.frozen
+
+    quiet : (d : ℕ) → d < setup.cores → d ≢ c → (s.grace thing).waits d ≡ false
+    quiet d below other = swept.quiet.passed d below other since
+
+    own_free : (j : ℕ) → (holds (cores c)).marks (EntryAt f j) ≡ false
+    own_free j = ap (λ h. h.marks (EntryAt f j)) (ap holds_in active
+        ∙ sweep_held setup setting cores t stands c here a active f core word w stage_is has)
+        ∙ (release_entry (release_of f word (swept_of w) false) (holds_counts None a.counts) f j).0 ∙ counts_entry None a.counts f j
+
+    -- the word is what the object is
+    pub object_says : IsFrameWord setup.frames (count_room s) (s.frame f) (s.place f i) (stamp setup t (PlaceOf f i)) i was
+    object_says = subst (λ (n : ℕ). IsFrameWord setup.frames (count_room s) (s.frame f) (s.place f i) (stamp setup t (PlaceOf f i)) i
+        (last_left setup t (EntryAt n i))) (sym knows.frame)
+        (subst (λ (n : ℕ). IsFrameWord n (count_room s) (s.frame f) (s.place f i) (stamp setup t (PlaceOf f i)) i
+        (last_left setup t (EntryAt f i))) (ap (λ l. l.frames) (limits_of setup t))
+        (subst (IsFrameWord s.limits.frames (count_room s) (s.frame f) (s.place f i) (stamp setup t (PlaceOf f i)) i)
+        (entry_settles setup setting cores t stands f zero_refs c quiet own_free i) (stands.words (EntryAt f i))))
+
+    looks : OnlyLooks setup t c a.call load
+    looks = record {
+      of_call = record {
+        moves = refl;
+        near = inl (subst (λ (n : ℕ). Rattle.kernel_history.specs.Footprint.IsNearIn c a.call (EntryAt n i) s) (sym knows.frame)
+            (calls.near setup setting cores t stands c here a active m stage_is has));
+      };
+      kept = refl;
+      apart = λ d. refl;
+    }
+
+    is_open : phase t c ≡ Open a.call
+    is_open = calls.is_open setup setting cores t stands c here a active m stage_is has
+
+    abbrev pub Took : Owned → Option Reply → Option SweepAt → Type 0
+    Took owned r next = GoodTook setup cores t c load (landed a (took_sweep m word
+        (sweeping g v b kept owned (at_after (Empty i) r next)) (end_by r next (swept_of
+        (sweeping g v b kept owned (at_after (Empty i) r next))))))
+
+    abbrev pub Result : Owned → Option Reply → Type 0
+    Result owned r = Took owned r (if nat_lt (i + 1) (loads_of v.object) then Some (Empty (i + 1)) else None)
+
+    -- The object is not empty.
+    pub holds_some : (owned : Owned) → is_empty s f (s.frame f) ≡ false → Result owned (Some reply.NotEmpty)
+    holds_some owned full lands =
+        let e : Step = inner setup setting cores t stands c here a active load (Some reply.NotEmpty) None in
+        let unspent = calls.unspent setup setting cores t stands c here a active m stage_is has in
+        let known : is_untyped (s.frame f) ≡ false = typed_is (s.frame f) v object_frame knows.met.kind in
+        decides_with setup setting cores t stands c here a active load reply.NotEmpty
+        (undo_with setup setting cores t stands c here a active f core word w stage_is has kept) a.found looks lands
+        (sym (sweep_held setup setting cores t stands c here a active f core word w stage_is has))
+        (calls.opens setup setting cores t stands c here a active m stage_is has) refl refl
+        (λ y. refl) (λ y. refl) refl (
+          unspent,
+          calls.may_refuse setup setting cores t stands c here a active m stage_is has reply.NotEmpty
+              (inr (inr (inr (inr (inr (inl (is_full, refl))))))),
+        )
+        tt
+        (λ is_alone. refused_first s c a.call reply.NotEmpty unspent
+        (calls.by_causes setup setting cores t stands c here a active m stage_is has None None None None (Some reply.NotEmpty)
+        (calls.kind_none setup setting cores t stands c here a active m stage_is has known)
+        (calls.refs_none setup setting cores t stands c here a active m stage_is has zero_refs)
+        (none_waits s c thing (λ d low other. quiet d (below_cores d low) other))
+        (none_unflushed s thing (λ d low. swept.quiet.flushed d (below_cores d low) since))
+        (ap (λ x. if x then Some reply.NotEmpty else None) is_full)))
+        (undo_known setup setting cores t stands c here a active f core word w stage_is has (e ∷ t) kept)
+      where
+        is_full : not (is_empty s f (s.frame f)) ≡ true
+        is_full = ap not full
+
+        below_cores : (d : ℕ) → d < s.limits.cores → d < setup.cores
+        below_cores d low = subst (λ (n : ℕ). d < n) (ap (λ l. l.cores) (limits_of setup t)) low
+
+    -- It goes on, to the next word, or to the draw.
+    pub goes_on : (owned : Owned) → IsLookedAt s f (s.frame f) (i + 1) owned
+        → (loads_of v.object ≤ i + 1 → names_of owned.first owned.second ≡ frame_names (s.frame f)) → Result owned None
+    goes_on owned looked names = by (nat_lt (i + 1) (loads_of v.object)) refl
+      where
+        quiet_then : (u : Trace) → ((y upto flushes : ℕ) → IsQuiet setup t c f y upto flushes → IsQuiet setup u c f y upto flushes)
+            → IsQuiet setup u c f (latest_stamp kept) setup.cores setup.cores
+        quiet_then u carry = carry (latest_stamp kept) setup.cores setup.cores swept.quiet
+
+        more_words : Took owned None (Some (Empty (i + 1)))
+        more_words lands =
+            let e : Step = step_to c None load (last_left setup t (EntryAt g i)) None None in
+            loads_on setup setting cores t stands c here a active load a.found
+            (Undecided (Act (untype_act (untyping_by f core word (sweeping g v b kept owned (Empty (i + 1))))))) looks lands
+            (sym (sweep_held setup setting cores t stands c here a active f core word w stage_is has))
+            (calls.opens setup setting cores t stands c here a active m stage_is has)
+            (λ carries. record {
+              names = names_on setup setting t e stands.legal c a.call is_open carries (cores c).own.table a.plan a.found has.names;
+              knows = record {
+                knows = record {
+                  untypes = untypes_on a.call a.found m (untyping_by f core word (sweeping g v b kept owned (Empty (i + 1)))) refl
+                      has.knows.knows.untypes;
+                  core = has.knows.knows.core;
+                  at = record {
+                    frame = knows.frame;
+                    core = knows.core;
+                    met = knows.met;
+                    kept = knows.kept;
+                    at = record {
+                      frozen = swept.frozen;
+                      quiet = quiet_then (e ∷ t) (λ y upto flushes. quiet_frame_on setup setting t e stands.legal c a.call is_open carries f y upto
+                          flushes);
+                      looked = looked;
+                    };
+                  };
+                };
+                all = has.knows.all;
+                goes = refl;
+              };
+            })
+
+        whole : loads_of v.object ≤ i + 1 → Took owned None None
+        whole last lands =
+            let e : Step = step_to c None load (last_left setup t (EntryAt g i)) None None in
+            let no_counts = sweep_counts setup setting cores t stands c here a active f core word w stage_is has in
+            let done : Swept = swept_of (sweeping g v b kept owned (Empty i)) in
+            let apart : OwnedApart f (owned_dues owned) = owned_apart f owned.first owned.second (subst (Rattle.sweep_invariant.proofs.OwnedFrames.Differ f) (sym (names last))
+            (names_differ s (opened (events_of t)) (sound_of setup setting t stands.legal) f (i + 1) owned
+            (subst (λ (x : FrameWord). loads_of x.object ≤ i + 1) object_frame last) looked)) in
+            loads_on setup setting cores t stands c here a active load a.found
+            (Undecided (next_work core 0 (untype_act (record { frame = f; core = core; at = Draw word done })))) looks lands
+            (going.done_holds setup c (cores c).own.table a no_counts f core word has.knows.knows.core
+            (λ n is. untypes_on a.call a.found m n is has.knows.knows.untypes) done (holds_counts None a.counts)
+            ∙ sym (sweep_held setup setting cores t stands c here a active f core word w stage_is has))
+            (calls.opens setup setting cores t stands c here a active m stage_is has)
+            (λ carries. record {
+              names = names_on setup setting t e stands.legal c a.call is_open carries (cores c).own.table a.plan a.found has.names;
+              knows = going.done_knows setup c (cores c).own.table a no_counts f core word has.knows.knows.core
+                  (λ n is. untypes_on a.call a.found m n is has.knows.knows.untypes) (e ∷ t) done
+                  (record {
+                    frame = knows.frame;
+                    shown = v;
+                    met = knows.met;
+                    kept = knows.kept;
+                    swept = record {
+                      frozen = swept.frozen;
+                      quiet = quiet_then (e ∷ t) (λ y upto flushes. quiet_frame_on setup setting t e stands.legal c a.call is_open carries f y
+                          upto flushes);
+                      looked = subst (λ (n : ℕ). IsLookedAt s f (s.frame f) n owned)
+                          (let l = last in let k = entry_below in omega (arith, l, k)) looked;
+                    };
+                    names = names last;
+                  }) apart.apart;
+            })
+
+        by : (more : Bool) → nat_lt (i + 1) (loads_of v.object) ≡ more → Took owned None (if more then Some (Empty (i + 1)) else None)
+        by true is = more_words
+        by false is = whole (ltb-false (i + 1) (loads_of v.object) is)

@@ -1,0 +1,103 @@
+-- The step of a call that makes a frame untyped, wherever it stands.
+use Rattle.std.specs.Prelude.{if◌then◌else◌}
+use Rattle.std.proofs.Common.{◌≡◌, ℕ, ◌+◌, ◌<◌, ◌==◌, nat_lt, length, Bool, true, false, ℤ, List, [], ◌∷◌, Option, Some, None, arith, refl, sym, ◌∙◌, ap, subst}
+use Rattle.spk_nums.specs.Setting.{Setting, IsSetting}
+use Rattle.spk_nums.specs.declared.replies.Reply.{Reply}
+use Rattle.frame_words.specs.Core.{core_of_word}
+use Rattle.frame_words.specs.Count.{count_of_word}
+use Rattle.frame_words.specs.Flush.{flush_of_word}
+use Rattle.frame_words.specs.Frame.{frame_of_word}
+use Rattle.frame_words.specs.declared.count_word.CountWord.{CountWord}
+use Rattle.frame_words.specs.declared.frame_word.FrameWord.{FrameWord}
+use Rattle.word_map.specs.Moves.{Move, word_of, told_of}
+use Rattle.word_map.specs.Places.{Shape}
+use Rattle.kernel_history.specs.Trace.{Trace, last_left}
+use Rattle.stage_quiet.specs.declared.quiet.Quiet.{Quiet}
+use Rattle.stage_quiet.specs.declared.quiet.Quiet.TheVariants.{AtCore, AtFlush}
+use Rattle.stage_sweep.specs.Counters.{counters_of}
+use Rattle.stage_sweep.specs.Freeze.{sweep_after, sweep_end}
+use Rattle.stage_sweep.specs.declared.empty.Owned.{Owned}
+use Rattle.stage_sweep.specs.declared.sweep.Sweep.{Sweep}
+use Rattle.stage_sweep.specs.declared.sweep.SweepAt.{SweepAt}
+use Rattle.stage_sweep.specs.declared.sweep.SweepAt.TheVariants.{Load as sweep_load, Compare, Scan, Empty}
+use Rattle.call_acts.specs.Acts.{took_sweep, took_untyping}
+use Rattle.call_acts.specs.Untypings.{untyping_move}
+use Rattle.call_acts.specs.declared.untypings.Untyping.{Untyping}
+use Rattle.call_acts.specs.declared.untypings.UntypingAt.{UntypingAt}
+use Rattle.call_acts.specs.declared.untypings.UntypingAt.TheVariants.{Load, Mark, Sweep as sweep_at, Draw}
+use Rattle.call_acts.specs.declared.work.Act.TheVariants.{Untype as untype_act}
+use Rattle.call_acts.specs.declared.work.Work.TheVariants.{Act}
+use Rattle.call_steps.specs.declared.stages.ActiveCall.{ActiveCall}
+use Rattle.call_steps.specs.declared.stages.Stage.TheVariants.{Undecided}
+use Rattle.call_steps.specs.Steps.{landed}
+use Rattle.call_steps.specs.View.{Core}
+use Rattle.core_invariant.specs.Knows.{KnowsUndecided}
+use Rattle.core_invariant.specs.Stands.{Stands}
+use Rattle.core_invariant.proofs.Refusals.{GoodTook}
+use Rattle.sweep_invariant.proofs.Counters.{counter_load_good, sweeping, untyping_by}
+use Rattle.sweep_invariant.proofs.FrameCores.{core_scan_good}
+use Rattle.sweep_invariant.proofs.FrameFlushes.{flush_scan_good}
+use Rattle.sweep_invariant.proofs.Freezes.{first_compare_good, no_kept}
+use Rattle.sweep_invariant.proofs.Marking.{load_good, mark_good}
+use Rattle.sweep_invariant.proofs.Objects.{object_good}
+use Rattle.sweep_invariant.proofs.Untyped.{untyped_good}
+use Rattle.sweep_invariant.proofs.UntypeCalls as calls
+
+module _ (setup : Setting) (setting : IsSetting setup) (cores : ℕ → Core) (t : Trace) (stands : Stands setup cores t) (c : ℕ)
+    (here : c < setup.cores)
+    (a : ActiveCall) (active : (cores c).active ≡ Some a) where
+  -- what its step leads to on a machine of this shape
+  abbrev GoodOn : Shape → Untyping → Type 0
+  GoodOn shape m = GoodTook setup cores t c (untyping_move m)
+      (landed a (took_untyping shape m (told_of (untyping_move m) (last_left setup t (word_of (untyping_move m))))))
+
+  abbrev IsAt : Untyping → Type 0
+  IsAt m = a.stage ≡ Undecided (Act (untype_act m))
+
+  abbrev Knows : Untyping → Type 0
+  Knows m = KnowsUndecided setup t c (cores c).own.table a (Act (untype_act m))
+
+  abbrev layout : Shape
+  layout = (cores c).own.layout
+
+  compare_good : (f core word g : ℕ) (v : FrameWord) (b : ℕ) (kept : List CountWord) (o : Owned) (count : ℤ) (stamp : ℕ)
+      → (is : IsAt (untyping_by f core word (sweeping g v b kept o (Compare count stamp))))
+      → Knows (untyping_by f core word (sweeping g v b kept o (Compare count stamp))) → kept ≡ []
+      → GoodOn layout (untyping_by f core word (sweeping g v b kept o (Compare count stamp)))
+  compare_good f core word g v b [] o count stamp is has none =
+      first_compare_good setup setting cores t stands c here a active f core word g v b o count stamp is has
+  compare_good f core word g v b (x ∷ xs) o count stamp is has none = absurd (cc)
+
+  -- a sweep
+  swept_good : (f core word g : ℕ) (v : FrameWord) (b : ℕ) (kept : List CountWord) (o : Owned) (at : SweepAt)
+      → IsAt (untyping_by f core word (sweeping g v b kept o at)) → Knows (untyping_by f core word (sweeping g v b kept o at))
+      → GoodOn layout (untyping_by f core word (sweeping g v b kept o at))
+  swept_good f core word g v b kept o sweep_load is has =
+      counter_load_good setup setting cores t stands c here a active f core word g v b kept o is has
+  swept_good f core word g v b kept o (Compare count stamp) is has =
+      compare_good f core word g v b kept o count stamp is has
+      (no_kept layout kept (calls.fits setup setting cores t stands c here a active
+      (untyping_by f core word (sweeping g v b kept o (Compare count stamp))) is has).at.fits.at.0)
+  swept_good f core word g v b kept o (Scan (AtCore x by at page)) is has =
+      subst (λ shape. GoodOn shape (untyping_by f core word (sweeping g v b kept o (Scan (AtCore x by at page)))))
+      (sym (stands.each c here).shape)
+      (core_scan_good setup setting cores t stands c here a active f core word g v b kept o x by at page is has)
+  swept_good f core word g v b kept o (Scan (AtFlush x at)) is has =
+      subst (λ shape. GoodOn shape (untyping_by f core word (sweeping g v b kept o (Scan (AtFlush x at)))))
+      (sym (stands.each c here).shape)
+      (flush_scan_good setup setting cores t stands c here a active f core word g v b kept o x at is has)
+  swept_good f core word g v b kept o (Empty i) is has =
+      subst (λ shape. GoodOn shape (untyping_by f core word (sweeping g v b kept o (Empty i)))) (sym (stands.each c here).shape)
+      (object_good setup setting cores t stands c here a active f core word g v b kept o i is has)
+
+  at_good : (f core : ℕ) (at : UntypingAt) → IsAt (record { frame = f; core = core; at = at })
+      → Knows (record { frame = f; core = core; at = at }) → GoodOn layout (record { frame = f; core = core; at = at })
+  at_good f core Load is has =
+      load_good setup setting cores t stands c here a active (record { frame = f; core = core; at = Load }) is has refl
+  at_good f core (Mark word v) is has =
+      mark_good setup setting cores t stands c here a active (record { frame = f; core = core; at = Mark word v }) is has word v refl
+  at_good f core (sweep_at word w) is has = swept_good f core word w.frame w.word w.core w.kept w.owned w.at is has
+  at_good f core (Draw word w) is has = untyped_good setup setting cores t stands c here a active f core word w is has
+
+  pub untype_good : (m : Untyping) → IsAt m → Knows m → GoodOn layout m
+  untype_good m is has = at_good m.frame m.core m.at is has

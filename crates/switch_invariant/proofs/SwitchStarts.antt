@@ -1,0 +1,138 @@
+-- A switch begins where its names have led to a thread and to a temporal capability.
+use Rattle.std.proofs.Common.{◌≡◌, ℕ, ◌<◌, if◌then◌else◌, map, Bool, true, false, List, [], ◌∷◌, Option, Some, None, IsTrue, refl, sym, ◌∙◌, ap, subst}
+use Rattle.spk_nums.specs.Capability.{Capability}
+use Rattle.spk_nums.specs.Setting.{Setting, IsSetting}
+use Rattle.spk_nums.specs.declared.kinds.Kind.{Kind}
+use Rattle.spk_nums.specs.declared.kinds.Kind.TheVariants as kind
+use Rattle.spk_nums.specs.declared.calls.Call.{Call}
+use Rattle.spk_nums.specs.declared.calls.Call.TheVariants.{Switch}
+use Rattle.spk_nums.specs.declared.replies.Reply.TheVariants as reply
+use Rattle.word_map.specs.Moves.{Move, word_of}
+use Rattle.kernel_rules.specs.State.{State}
+use Rattle.kernel_rules.specs.Access.{only}
+use Rattle.kernel_rules.specs.References.{named_by}
+use Rattle.kernel_rules.specs.Rules.{Found, Refused, named, of_kind as has_kind}
+use Rattle.kernel_rules.proofs.Facts.{named_fit}
+use Rattle.kernel_rules.proofs.Sound.{only_is}
+use Rattle.kernel_rules.proofs.SoundRuns.{opened}
+use Rattle.kernel_rules.proofs.Stays.{name_parts}
+use Rattle.kernel_history.specs.Events.{events_of}
+use Rattle.kernel_history.specs.Legal.{IsLegal}
+use Rattle.kernel_history.specs.Trace.{Step, Trace, Open, phase, state_after, last_left}
+use Rattle.kernel_history.proofs.Carries.{Carries}
+use Rattle.kernel_history.proofs.Stays.{sound_of, opened_is, guarded_usable}
+use Rattle.call_plans.specs.declared.plans.Name.{Name}
+use Rattle.call_plans.specs.declared.plans.Plan.{Plan}
+use Rattle.call_plans.specs.After.{Leads, LeadsIn, names_after}
+use Rattle.call_plans.specs.PlanOf.{plan_for, of_kind}
+use Rattle.stage_pins.specs.declared.held.Acquired.{Acquired}
+use Rattle.call_acts.specs.Acts.{act_begun, switching}
+use Rattle.call_acts.specs.declared.work.Act.TheVariants.{Switch as switch_act}
+use Rattle.call_acts.specs.declared.work.Work.TheVariants.{Act}
+use Rattle.call_steps.specs.declared.stages.Stage.TheVariants.{Undecided}
+use Rattle.call_steps.specs.declared.stages.ActiveCall.{ActiveCall}
+use Rattle.call_steps.specs.Steps.{landed, found_more}
+use Rattle.call_steps.specs.View.{Core}
+use Rattle.core_invariant.specs.Holding.{holds_counts}
+use Rattle.core_invariant.specs.Knows.{due_of, NamesAre, phase_at}
+use Rattle.core_invariant.specs.Stands.{holds_in, Stands}
+use Rattle.core_invariant.specs.Threads.{HasThread, SwitchesBy}
+use Rattle.core_invariant.proofs.Loads.{OnlyLooks, step_to, call_is, is_active, loads_on}
+use Rattle.core_invariant.proofs.Refusals.{GoodTook}
+
+-- What a name leads to is of a wanted kind, and is what was found.
+same_found : (wanted : Kind → Bool) (j k : Capability) → has_kind wanted j ≡ Found k → (j ≡ k) × (wanted k.kind ≡ true)
+same_found wanted j k = by (wanted j.kind) refl
+  where
+    same : Found j ≡ Found k → j ≡ k
+    same h = cc
+
+    by : (b : Bool) → wanted j.kind ≡ b → (if b then Found j else Refused reply.WrongCap) ≡ Found k → (j ≡ k) × (wanted k.kind ≡ true)
+    by true is h = (same h, subst (λ (x : Capability). wanted x.kind ≡ true) (same h) is)
+    by false is h = absurd (cc)
+
+-- A thread that an open call has named is there, and no other core may retype it.
+thread_named : (setup : Setting) → IsSetting setup → (t : Trace) → IsLegal setup t → (c : ℕ) (call : Call) → phase t c ≡ Open call
+    → (n : ℕ) (k : Capability) → named (state_after setup t) c n (only kind.Thread) ≡ Found k → HasThread (state_after setup t) c k.frame
+thread_named setup setting t legal c call is n k found =
+    let s : State = state_after setup t in
+    let parts = name_parts s c n (only kind.Thread) k found in
+    let same = same_found (only kind.Thread) parts.2 k parts.4 in
+    record {
+      thread = named_fit s (opened (events_of t)) c n kind.Thread k (sound_of setup setting t legal) (opened_is t c call is) found;
+      guarded = guarded_usable setup setting t legal c call is parts.0 k
+          (ap (λ (j : Kind). named_by j k.frame) (only_is kind.Thread k.kind same.1))
+          (parts.3 ∙ ap (λ (j : Capability). Some j) same.0);
+    }
+
+-- Two names have led to these two.
+record TwoLed (s : State) (c x y : ℕ) (ks : List Capability) : Type 0 where
+  first : Capability
+  second : Capability
+  both : ks ≡ first ∷ second ∷ []
+  first_led : named s c x (only kind.Thread) ≡ Found first
+
+abbrev two_names : ℕ → ℕ → List Name
+two_names x y = of_kind kind.Thread x ∷ of_kind kind.Tcap y ∷ []
+
+two_led : (s : State) (c x y : ℕ) (ks : List Capability) → Leads (LeadsIn s c) (two_names x y) [] ks → names_after (two_names x y) ks ≡ []
+    → TwoLed s c x y ks
+two_led s c x y [] leads none = absurd (cc)
+two_led s c x y (j ∷ []) leads none = absurd (cc)
+two_led s c x y (j ∷ k ∷ []) leads none = record { first = j; second = k; both = refl; first_led = leads.0 }
+two_led s c x y (j ∷ k ∷ l ∷ ks) leads none = absurd (leads.1.1)
+
+module _ (setup : Setting) (setting : IsSetting setup) (cores : ℕ → Core) (t : Trace) (stands : Stands setup cores t) (c : ℕ)
+    (here : c < setup.cores)
+    (a : ActiveCall) (active : (cores c).active ≡ Some a) (opens : phase_at a.call a.stage ≡ Open a.call)
+    (held_is : holds_in (Some a) ≡ holds_counts None a.counts) (no_counts : a.counts ≡ [])
+    (move : Move) (looks : OnlyLooks setup t c a.call move) (ks : List Capability)
+    (leads : Leads (LeadsIn (state_after setup t) c) a.plan.names [] ks) (none : names_after a.plan.names ks ≡ [])
+    (names : Carries setup t (step_to c None move (last_left setup t (word_of move)) None None) c
+    → NamesAre setup (step_to c None move (last_left setup t (word_of move)) None None ∷ t) c (cores c).own.table a.plan ks)
+    (x y : ℕ) (call_so : a.call ≡ Switch x y) where
+  abbrev s : State
+  s = state_after setup t
+
+  abbrev e : Step
+  e = step_to c None move (last_left setup t (word_of move)) None None
+
+  open_now : phase t c ≡ Open a.call
+  open_now = (call_is setup setting cores t stands c here a active).phase ∙ opens
+
+  plan_names : a.plan.names ≡ two_names x y
+  plan_names = ap (λ (p : Plan). p.names) ((is_active setup setting cores t stands c here a active).plan ∙ ap plan_for call_so)
+
+  led : TwoLed s c x y ks
+  led = two_led s c x y ks (subst (λ (ns : List Name). Leads (LeadsIn s c) ns [] ks) plan_names leads)
+      (subst (λ (ns : List Name). names_after ns ks ≡ []) plan_names none)
+
+  begins : (j k : Capability) → ks ≡ j ∷ k ∷ [] → HasThread s c j.frame
+      → GoodTook setup cores t c move (landed (found_more a (j ∷ k ∷ [])) (act_begun (cores c).own (Switch x y) (j ∷ k ∷ []) None None))
+  begins j k both thread lands =
+      let works = (stands.each c here).works in
+      loads_on setup setting cores t stands c here a active move (j ∷ k ∷ [])
+      (Undecided (Act (switch_act (switching (cores c).own j.frame k.frame)))) looks lands (sym held_is) opens
+      (λ carries. record {
+        names = subst (λ (xs : List Capability). NamesAre setup (e ∷ t) c (cores c).own.table a.plan xs) both (names carries);
+        knows = record {
+          knows = record {
+            switches = subst (λ z. SwitchesBy z (j ∷ k ∷ []) j.frame k.frame) (sym call_so) (record { thread = refl; tcap = refl });
+            leaves = record {
+              core = (stands.each c here).number;
+              thread = works.thread;
+              depth = works.depth;
+              tcap = works.tcap;
+            };
+            thread = thread;
+            at = (stands.each c here).number;
+          };
+          all = ap (λ (xs : List Acquired). map due_of xs) (sym no_counts);
+          goes = refl;
+        };
+      })
+
+  pub switches_good : GoodTook setup cores t c move (landed (found_more a ks) (act_begun (cores c).own (Switch x y) ks None None))
+  switches_good = subst (λ (xs : List Capability). GoodTook setup cores t c move
+      (landed (found_more a xs) (act_begun (cores c).own (Switch x y) xs None None))) (sym led.both)
+      (begins led.first led.second led.both (thread_named setup setting t stands.legal c a.call open_now x led.first led.first_led))

@@ -1,0 +1,49 @@
+-- A step of a switch before its decision, and the decision, is good.
+use Rattle.std.proofs.Common.{◌≡◌, ◌<◌, ◌≤◌, ◌+◌, ◌^◌, ℕ, Some, arith, refl}
+use Rattle.spk_nums.specs.Setting.{Setting, IsSetting}
+use Rattle.word_map.specs.Moves.{told_of, word_of}
+use Rattle.kernel_history.specs.Stamps.{clock}
+use Rattle.kernel_history.specs.Trace.{Trace, last_left}
+use Rattle.stage_quiet.specs.Clocks.{drawn_stamp}
+use Rattle.stage_thread.specs.declared.claim.Claim.TheVariants.{AtLoad, AtCompare, AtStack}
+use Rattle.call_acts.specs.Acts.{took_switching, took_switching_at}
+use Rattle.call_acts.specs.Switches.{switching_at, switching_move}
+use Rattle.call_acts.specs.declared.switches.Switching.{Switching}
+use Rattle.call_acts.specs.declared.switches.SwitchAt.{SwitchAt}
+use Rattle.call_acts.specs.declared.switches.SwitchAt.TheVariants.{Claim, LoadTable, LoadPages, Leave, Draw}
+use Rattle.call_acts.specs.declared.work.Act.TheVariants.{Switch as switch_act}
+use Rattle.call_acts.specs.declared.work.Work.TheVariants.{Act}
+use Rattle.call_steps.specs.declared.stages.Stage.TheVariants.{Undecided}
+use Rattle.call_steps.specs.declared.stages.ActiveCall.{ActiveCall}
+use Rattle.call_steps.specs.Steps.{landed}
+use Rattle.call_steps.specs.View.{Core}
+use Rattle.core_invariant.specs.Knows.{KnowsUndecided}
+use Rattle.core_invariant.specs.Stands.{Stands}
+use Rattle.core_invariant.proofs.Refusals.{GoodTook}
+use Rattle.core_invariant.proofs.Writes.{clock_small}
+use Rattle.switch_invariant.proofs.Claims.{load_good, compare_good, stack_good}
+use Rattle.switch_invariant.proofs.Leaves.{leave_good}
+use Rattle.switch_invariant.proofs.Switched.{switched_good}
+use Rattle.switch_invariant.proofs.Tops.{pages_good, table_good}
+
+pub switch_good : (setup : Setting) → IsSetting setup → (cores : ℕ → Core) (t : Trace) → Stands setup cores t → (c : ℕ) → c < setup.cores
+    → (a : ActiveCall) → (cores c).active ≡ Some a → (m : Switching) → a.stage ≡ Undecided (Act (switch_act m))
+    → KnowsUndecided setup t c (cores c).own.table a (Act (switch_act m))
+    → GoodTook setup cores t c (switching_move m)
+    (landed a (took_switching m (told_of (switching_move m) (last_left setup t (word_of (switching_move m))))))
+switch_good setup setting cores t stands c here a active m stage_is has = by m.at refl
+  where
+    drawn : drawn_stamp (clock setup t) ≡ clock setup t
+    drawn = let low = clock_small setup setting cores t stands in let some = stands.some_time in omega (arith, low, some)
+
+    by : (at : SwitchAt) → m.at ≡ at
+        → GoodTook setup cores t c (switching_at m at)
+        (landed a (took_switching_at m at (told_of (switching_at m at) (last_left setup t (word_of (switching_at m at))))))
+    by (Claim (AtLoad f core)) is = load_good setup setting cores t stands c here a active m stage_is has f core is
+    by (Claim (AtCompare f core depth)) is = compare_good setup setting cores t stands c here a active m stage_is has f core depth is
+    by (Claim (AtStack f depth)) is = stack_good setup setting cores t stands c here a active m stage_is has f depth is
+    by (LoadTable to) is = table_good setup setting cores t stands c here a active m stage_is has to is
+    by (LoadPages to table) is = pages_good setup setting cores t stands c here a active m stage_is has to table is
+    by (Leave to table pages) is = leave_good setup setting cores t stands c here a active m stage_is has to table pages is
+    by (Draw to table pages) is =
+        switched_good setup setting cores t stands c here a active m stage_is has to table pages is (drawn_stamp (clock setup t)) drawn

@@ -1,0 +1,322 @@
+-- Who may have marked a word of a thread: the core that runs the thread, or one that has claimed the thread while it was idle. So no word
+-- of a running thread carries the mark of another core.
+use Rattle.std.proofs.Common.{◌≡◌, ◌≢◌, ◌⊎◌, ◌<◌, ◌^◌, ◌+◌, ◌*◌, inl, inr, ℕ, zero, suc, Bool, true, false, if◌then◌else◌, List, [], ◌∷◌, length, Option, Some, None, IsTrue, arith, refl, sym, ◌∙◌, ap, subst}
+use Rattle.std.proofs.lemmas.Bool.{false≢true, cases_eq, cases_lt, ne_eqb}
+use Rattle.spk_nums.specs.Setting.{Setting, IsSetting}
+use Rattle.spk_nums.specs.declared.kinds.Kind.TheVariants as kind
+use Rattle.tcap_words.specs.Thread.{word_of_thread, thread_of_word}
+use Rattle.tcap_words.specs.declared.thread_word.ThreadWord.TheVariants.{Idle, Running}
+use Rattle.tcap_words.proofs.ThreadLemmas as threads
+use Rattle.word_map.specs.Word.{Word, EntryAt, FrameAt}
+use Rattle.call_acts.specs.declared.comps.CompMaking.{CompMaking}
+use Rattle.kernel_rules.specs.State.{Frame, Kernel, Thread, Tcap, PlaceOf, State, thread_in, thread_of}
+use Rattle.kernel_rules.specs.Fitting.{fits}
+use Rattle.kernel_rules.specs.Relies.{Relies}
+use Rattle.kernel_history.specs.Marks.{mark_in_frame, thread_mark}
+use Rattle.kernel_history.specs.Marking.{marked_by}
+use Rattle.kernel_history.specs.ObjectWords.{thread_value}
+use Rattle.kernel_history.specs.Stamps.{stamp}
+use Rattle.kernel_history.specs.Trace.{Trace, Open, phase, state_after, last_left}
+use Rattle.kernel_history.proofs.Names.{cases_word, same_word-other}
+use Rattle.word_map.proofs.WordLemmas.{same_same}
+use Rattle.stage_pins.specs.declared.held.Acquired.{Acquired}
+use Rattle.stage_quiet.specs.declared.close.Close.TheVariants.{AtCompare, AtDraw, AtStore}
+use Rattle.stage_tcap.specs.declared.pair.Pair.{Pair}
+use Rattle.stage_tcap.specs.declared.pair.PairAt.{PairAt}
+use Rattle.stage_tcap.specs.declared.pair.PairAt.TheVariants as pair
+use Rattle.stage_thread.specs.declared.claim.Claim.TheVariants as claim
+use Rattle.stage_thread.specs.declared.stack.Push.TheVariants as push
+use Rattle.stage_thread.specs.declared.stack.Pop.TheVariants as pop
+use Rattle.call_acts.specs.declared.comps.CompAt.{CompAt}
+use Rattle.call_acts.specs.declared.comps.CompAt.TheVariants as comp_at
+use Rattle.call_acts.specs.declared.kills.KillingAt.{KillingAt}
+use Rattle.call_acts.specs.declared.kills.KillingAt.TheVariants.{LoadComp, LoadLive, Close as kill_close, Draw as kill_draw}
+use Rattle.call_acts.specs.declared.makings.MakingAt.{MakingAt}
+use Rattle.call_acts.specs.declared.makings.MakingAt.TheVariants.{Load as making_load, Mark, Store, Fill as making_fill}
+use Rattle.call_acts.specs.declared.switches.Switching.{Switching}
+use Rattle.call_acts.specs.declared.switches.SwitchAt.{SwitchAt}
+use Rattle.call_acts.specs.declared.switches.SwitchAt.TheVariants as switch
+use Rattle.call_acts.specs.declared.untypings.UntypingAt.{UntypingAt}
+use Rattle.call_acts.specs.declared.untypings.UntypingAt.TheVariants as untype
+use Rattle.call_acts.specs.Untypings.{release_of}
+use Rattle.call_acts.specs.declared.work.Act.{Act as ActOf}
+use Rattle.call_acts.specs.declared.work.Act.TheVariants.{Fill as fill_act, Remove as remove_act, Retype as type_act, Make as make_act, Outside, Tick as tick_act, Touch as touch_act, Flush as flush_act, Kill as kill_act, Untype as untype_act, Map as map_act, MakeComp as comp_act, Invoke as invoke_act, Return as return_act, Share as share_act, Switch as switch_act}
+use Rattle.call_acts.specs.declared.work.Tail.{Tail}
+use Rattle.call_acts.specs.declared.work.Tail.TheVariants.{Nothing, Quiesce, Unmark, StoreDead, StoreFlush, Release, StoreLive, Push, Pop, Share, StoreRunning, StoreIdle}
+use Rattle.call_acts.specs.declared.work.Work.{Work}
+use Rattle.call_acts.specs.declared.work.Work.TheVariants.{Lookup, Read, Scan, Acquire, Act}
+use Rattle.call_steps.specs.declared.stages.Stage.{Stage}
+use Rattle.call_steps.specs.declared.stages.Stage.TheVariants.{Enter, Undecided, Decided, Leave}
+use Rattle.call_steps.specs.declared.stages.ActiveCall.{ActiveCall}
+use Rattle.call_steps.specs.View.{Core}
+use Rattle.stage_sweep.specs.Freeze.{swept_of}
+use Rattle.core_invariant.specs.Frozen.{holds_release, holds_untyping}
+use Rattle.core_invariant.specs.Holding.{Holding, nothing, keeps, holds_counts, settled_by}
+use Rattle.core_invariant.specs.Threads.{holds_idle, holds_switching, claimed_by, KnowsSwitch}
+use Rattle.core_invariant.specs.Words.{IsFrameWord, count_room}
+use Rattle.core_invariant.specs.Knows.{KnowsAct, KnowsWork, KnowsTail, KnowsAt, CallIs, phase_at}
+use Rattle.core_invariant.specs.Stands.{holds_act, holds_making, holds_killing, holds_comp, holds_share, holds_shared, holds_head, holds_work, holds_tail, is_done, holds_at, holds_in, holds, held_by, Stands}
+use Rattle.core_invariant.proofs.Carries.{slot_relies}
+use Rattle.core_invariant.proofs.Freezing.{release_entry}
+use Rattle.core_invariant.proofs.Lent.{is_thread, node_no_thread, runs_on_own}
+use Rattle.thread_invariant.proofs.OwnStack.{own_thread}
+
+pub counts_apart : (fate : Option (Option ℕ)) (xs : List Acquired) (f i : ℕ) → (holds_counts fate xs).marks (EntryAt f i) ≡ false
+counts_apart fate [] f i = refl
+counts_apart fate (x ∷ xs) f i = counts_apart fate xs f i
+
+tcap_no_thread : (x : Frame) → IsTrue (fits kind.Tcap x) → is_thread x ≡ false
+tcap_no_thread (Kernel (Tcap q)) fit = refl
+tcap_no_thread _ fit = absurd (false≢true fit)
+
+-- A word that is to be stored says that a thread is idle.
+pub record SaysIdle (x : ℕ) : Type 0 where
+  pub depth : ℕ
+  pub is : x ≡ word_of_thread (Idle depth)
+
+unlike : (depth d n : ℕ) → word_of_thread (Running d n) ≡ word_of_thread (Idle depth) → ⊥
+unfolding word_of_thread
+unlike depth d n same = omega (arith, same)
+
+not_running : (x c n : ℕ) → SaysIdle x → thread_of_word x ≡ Some (Running c n) → ⊥
+not_running x c n idle says = unlike idle.depth c n ((threads.spelling.spells x (Running c n) says).1 ∙ idle.is)
+
+module _ (setup : Setting) (setting : IsSetting setup) (cores : ℕ → Core) (t : Trace) (stands : Stands setup cores t) (d f i : ℕ) where
+  -- the frame has no thread, or the word is to be that of an idle one, or the core runs the thread
+  abbrev Claims : Holding → Type 0
+  Claims h = (is_thread ((state_after setup t).frame f) ≡ false)
+      ⊎ (SaysIdle (h.stands (EntryAt f i)) ⊎ (f ≡ ((state_after setup t).core d).thread))
+
+  abbrev Claimed : Holding → Type 0
+  Claimed h = h.marks (EntryAt f i) ≡ true → Claims h
+
+  none : (h : Holding) → h.marks (EntryAt f i) ≡ false → Claimed h
+  none h free is = absurd (false≢true (sym free ∙ is))
+
+  over : (h : Holding) (w : Word) (x : ℕ) → Claimed h → (EntryAt f i ≡ w → Claims (keeps w x h)) → Claimed (keeps w x h)
+  over h w x below here is = elim (cases_word (EntryAt f i) w) [
+    | inl same ↦ here same
+    | inr other ↦ (let apart = same_word-other (EntryAt f i) w other in
+        subst (λ (n : ℕ). (is_thread ((state_after setup t).frame f) ≡ false) ⊎ (SaysIdle n ⊎ (f ≡ ((state_after setup t).core d).thread)))
+        (sym (ap (λ b. if b then x else h.stands (EntryAt f i)) apart))
+        (below (sym (ap (λ b. if b then true else h.marks (EntryAt f i)) apart) ∙ is)))
+  ]
+
+  same_frame : (g j : ℕ) → EntryAt f i ≡ EntryAt g j → f ≡ g
+  same_frame g j h = cc
+
+  -- an entry of a frame that has no thread
+  no_thread : (h : Holding) (g j x : ℕ) → Claimed h → is_thread ((state_after setup t).frame g) ≡ false → Claimed (keeps (EntryAt g j) x h)
+  no_thread h g j x below not = over h (EntryAt g j) x below
+      (λ same. inl (ap (λ (n : ℕ). is_thread ((state_after setup t).frame n)) (same_frame g j same) ∙ not))
+
+  -- a word that is no entry
+  apart : (h g : Holding) → h.marks (EntryAt f i) ≡ g.marks (EntryAt f i) → g.marks (EntryAt f i) ≡ false → Claimed h
+  apart h g same free = none h (same ∙ free)
+
+  idle : (h : Holding) (g depth : ℕ) → Claimed h → Claimed (holds_idle g depth h)
+  idle h g depth below = over h (EntryAt g 0) (word_of_thread (Idle depth)) below (λ same. inr (inl (record {
+    depth = depth;
+    is = ap (λ w. (keeps (EntryAt g 0) (word_of_thread (Idle depth)) h).stands w) same
+        ∙ ap (λ b. if b then word_of_thread (Idle depth) else h.stands (EntryAt g 0)) (same_same (EntryAt g 0));
+  })))
+
+  runs : (h : Holding) (g x : ℕ) → Claimed h → g ≡ ((state_after setup t).core d).thread → Claimed (keeps (EntryAt g 0) x h)
+  runs h g x below own = over h (EntryAt g 0) x below (λ same. inr (inr (same_frame g 0 same ∙ own)))
+
+  switching : (m : Switching) (at : SwitchAt) (h : Holding) → m.old ≡ ((state_after setup t).core d).thread → Claimed h
+      → Claimed (holds_switching m at h)
+  switching m (switch.Claim (claim.AtLoad g core)) h own below = below
+  switching m (switch.Claim (claim.AtCompare g core depth)) h own below = below
+  switching m (switch.Claim (claim.AtStack g depth)) h own below = idle h g depth below
+  switching m (switch.LoadTable to) h own below = idle h to.thread to.depth below
+  switching m (switch.LoadPages to table) h own below = idle h to.thread to.depth below
+  switching m (switch.Leave to table pages) h own below = idle h to.thread to.depth below
+  switching m (switch.Draw to table pages) h own below =
+      idle (keeps (EntryAt m.old 0) (word_of_thread (Running m.core m.old_depth)) h) to.thread to.depth
+      (runs h m.old (word_of_thread (Running m.core m.old_depth)) below own)
+
+  shares : (p : Pair) (at : PairAt) (h : Holding) → is_thread ((state_after setup t).frame p.a) ≡ false → Claimed h
+      → Claimed (holds_share p at h)
+  shares p pair.LoadA h not below = below
+  shares p pair.MarkA h not below = below
+  shares p (pair.ListA n) h not below = no_thread h p.a 0 _ below not
+  shares p pair.LoadB h not below = no_thread h p.a 0 _ below not
+  shares p (pair.ListB n) h not below = no_thread h p.a 0 _ below not
+  shares p pair.CompareB h not below = no_thread h p.a 0 _ below not
+  shares p (pair.AgainB r) h not below = no_thread h p.a 0 _ below not
+  shares p (pair.StoreList n) h not below = below
+  shares p pair.StoreB h not below = below
+  shares p (pair.StoreA moved v) h not below = below
+
+  shared : (p : Pair) (at : PairAt) (h : Holding) → is_thread ((state_after setup t).frame p.a) ≡ false → Claimed h
+      → Claimed (holds_shared p at h)
+  shared p pair.LoadA h not below = below
+  shared p pair.MarkA h not below = below
+  shared p (pair.ListA n) h not below = below
+  shared p pair.LoadB h not below = below
+  shared p (pair.ListB n) h not below = below
+  shared p pair.CompareB h not below = below
+  shared p (pair.AgainB r) h not below = below
+  shared p (pair.StoreList n) h not below = below
+  shared p pair.StoreB h not below = below
+  shared p (pair.StoreA moved v) h not below = no_thread h p.a 0 _ below not
+
+  making : (g : ℕ) (at : MakingAt) (h : Holding) → (holds_making g at h).marks (EntryAt f i) ≡ h.marks (EntryAt f i)
+  making g making_load h = refl
+  making g (Mark word) h = refl
+  making g (Store word entry) h = refl
+  making g (making_fill word) h = refl
+
+  killing : (at : KillingAt) (h : Holding) → (holds_killing at h).marks (EntryAt f i) ≡ h.marks (EntryAt f i)
+  killing LoadComp h = refl
+  killing (LoadLive life) h = refl
+  killing (kill_close life word) h = refl
+  killing (kill_draw life word) h = refl
+
+  comp : (m : CompMaking) (at : CompAt) (h : Holding) → (holds_comp m at h).marks (EntryAt f i) ≡ h.marks (EntryAt f i)
+  comp m comp_at.Load h = refl
+  comp m (comp_at.Mark word) h = refl
+  comp m (comp_at.LoadLive word) h = refl
+  comp m (comp_at.Scan word last q) h = refl
+  comp m (comp_at.Close word last) h = refl
+  comp m (comp_at.Store word last entry) h = refl
+  comp m (comp_at.Fill word last) h = refl
+
+  untyping : (g : ℕ) (at : UntypingAt) (h : Holding) → (holds_untyping g at h).marks (EntryAt f i) ≡ h.marks (EntryAt f i)
+  untyping g untype.Load h = refl
+  untyping g (untype.Mark word v) h = refl
+  untyping g (untype.Sweep word w) h = (release_entry (release_of g word (swept_of w) false) h f i).0
+  untyping g (untype.Draw word w) h = (release_entry (release_of g word w false) h f i).0
+
+  node : (n : ℕ) → Relies (state_after setup t) d n → is_thread ((state_after setup t).frame n) ≡ false
+  node n relies = node_no_thread ((state_after setup t).frame n) relies.node
+
+  module _ (a : ActiveCall) where
+    by_act : (act : ActOf) (h : Holding) → phase t d ≡ Open a.call → KnowsAct setup t d a.call a.plan a.found setup.cores act
+        → h.marks (EntryAt f i) ≡ false → Claimed (holds_act act h)
+    by_act (fill_act fill) h opens has free = none h free
+    by_act (remove_act (AtCompare n index word by) cap) h opens has free = none h free
+    by_act (remove_act (AtDraw n index) cap) h opens has free = no_thread h n index _ (none h free)
+        (node n (slot_relies setup setting t stands.legal d a.call opens has.target (record { node = n; index = index }) has.way))
+    by_act (remove_act (AtStore n index x) cap) h opens has free = none h free
+    by_act (type_act typing) h opens has free = none h free
+    by_act (make_act m) h opens has free = apart (holds_making m.frame m.at h) h (making m.frame m.at h) free
+    by_act (map_act fill) h opens has free = none h free
+    by_act (Outside n entry word) h opens has free = none h free
+    by_act (tick_act charge) h opens has free = none h free
+    by_act (touch_act m) h opens has free = none h free
+    by_act (flush_act by) h opens has free = none h free
+    by_act (kill_act m) h opens has free = apart (holds_killing m.at h) h (killing m.at h) free
+    by_act (untype_act m) h opens has free = apart (holds_untyping m.frame m.at h) h (untyping m.frame m.at h) free
+    by_act (comp_act m) h opens has free = apart (holds_comp m m.at h) h (comp m m.at h) free
+    by_act (invoke_act m) h opens has free = none h free
+    by_act (return_act m) h opens has free = none h free
+    by_act (share_act p) h opens has free = shares p p.at h (tcap_no_thread ((state_after setup t).frame p.a) has.tcap_a.tcap) (none h free)
+    by_act (switch_act m) h opens has free = switching m m.at h has.leaves.thread (none h free)
+
+    by_tail : (tail : Tail) (h : Holding) → KnowsTail setup t d a.call a.counts tail → h.marks (EntryAt f i) ≡ false
+        → Claimed (holds_tail tail h)
+    by_tail Nothing h has free = none h free
+    by_tail (Quiesce (AtCompare n index word by)) h has free = absurd has
+    by_tail (Quiesce (AtDraw n index)) h has free = absurd has
+    by_tail (Quiesce (AtStore n index x)) h has free = no_thread h n index _ (none h free) (node n has.relies)
+    by_tail (Unmark g word) h has free = none (keeps (FrameAt g) word h) free
+    by_tail (StoreDead life x) h has free = none (holds_tail (StoreDead life x) h) free
+    by_tail (StoreFlush by x) h has free = none (holds_tail (StoreFlush by x) h) free
+    by_tail (Release x) h has free = apart (holds_release x h) h (release_entry x h f i).0 free
+    by_tail (StoreLive l live g word) h has free = none (holds_tail (StoreLive l live g word) h) free
+    by_tail (Push (push.AtStack g core depth c)) h has free = none (holds_tail (Push (push.AtStack g core depth c)) h) free
+    by_tail (Push (push.AtThread g core depth)) h has free = none (holds_tail (Push (push.AtThread g core depth)) h) free
+    by_tail (Pop (pop.AtThread g core depth)) h has free = none (holds_tail (Pop (pop.AtThread g core depth)) h) free
+    by_tail (Pop (pop.AtStack g depth)) h has free = none (holds_tail (Pop (pop.AtStack g depth)) h) free
+    by_tail (Share p) h has free = shared p p.at h (tcap_no_thread ((state_after setup t).frame p.a) has.tcap_a.tcap) (none h free)
+    by_tail (StoreRunning g core depth old old_depth) h has free =
+        runs (holds_idle old old_depth h) g _ (idle h old old_depth (none h free)) has.own
+    by_tail (StoreIdle g depth) h has free = idle h g depth (none h free)
+
+    by_work : (table : ℕ) (work : Work) → phase t d ≡ Open a.call → KnowsWork setup t d table a work
+        → Claimed (holds_work work (holds_counts None a.counts))
+    by_work table (Lookup look) opens has = none (holds_counts None a.counts) (counts_apart None a.counts f i)
+    by_work table (Read c look) opens has = none (holds_counts None a.counts) (counts_apart None a.counts f i)
+    by_work table (Scan q act) opens has = none (holds_counts None a.counts) (counts_apart None a.counts f i)
+    by_work table (Acquire pin change act) opens has =
+        by_act act (holds_counts None a.counts) opens has.knows (counts_apart None a.counts f i)
+    by_work table (Act act) opens has = by_act act (holds_counts None a.counts) opens has.knows (counts_apart None a.counts f i)
+
+    by_stage : (table : ℕ) (stage : Stage) → phase t d ≡ phase_at a.call stage → KnowsAt setup t d table a stage
+        → Claimed (holds_at stage a.counts)
+    by_stage table Enter at knows = absurd knows
+    by_stage table (Undecided work) at knows = by_work table work at knows.knows
+    by_stage table (Decided r drawn tail) at knows =
+        by_tail tail (holds_counts (is_done (Decided r drawn tail)) a.counts) knows
+        (counts_apart (is_done (Decided r drawn tail)) a.counts f i)
+    by_stage table (Leave r x) at knows = none (holds_counts None a.counts) (counts_apart None a.counts f i)
+
+  by_call : (table : ℕ) (o : Option ActiveCall) → CallIs setup t d table o → Claimed (holds_in o)
+  by_call table None at = none nothing refl
+  by_call table (Some a) at = by_stage a table a.stage at.phase at.knows
+
+  pub claims : marked_by setup t (EntryAt f i) ≡ Some d → Claims (holds (cores d))
+  claims mark = elim (cases_lt d setup.cores) [
+    | inl below ↦ by_call (cores d).own.table (cores d).active (stands.each d below).active ((stands.marks (EntryAt f i) d).owned mark)
+    | inr past ↦ absurd (false≢true (sym (ap (λ o. (holds_in o).marks (EntryAt f i)) (stands.away d past).idle)
+        ∙ (stands.marks (EntryAt f i) d).owned mark))
+  ]
+
+  pub holder_below : marked_by setup t (EntryAt f i) ≡ Some d → d < setup.cores
+  holder_below mark = elim (cases_lt d setup.cores) [
+    | inl below ↦ below
+    | inr past ↦ absurd (false≢true (sym (ap (λ o. (holds_in o).marks (EntryAt f i)) (stands.away d past).idle)
+        ∙ (stands.marks (EntryAt f i) d).owned mark))
+  ]
+
+-- No word above the first of a thread carries a mark.
+unmarked_above : (x : Frame) (h v : ℕ) → is_thread x ≡ true → mark_in_frame x (suc h) v ≡ None
+unmarked_above (Kernel (Thread k)) h v is =
+    ap (λ b. if b then thread_mark (thread_of_word v) else None) (ne_eqb (suc h) 0 (λ same. omega (arith, same)))
+unmarked_above _ h v is = absurd (false≢true is)
+
+module _ (setup : Setting) (setting : IsSetting setup) (cores : ℕ → Core) (t : Trace) (stands : Stands setup cores t) (c : ℕ)
+    (here : c < setup.cores) where
+  abbrev s : State
+  s = state_after setup t
+
+  abbrev thread : ℕ
+  thread = ((state_after setup t).core c).thread
+
+  own : s.frame ((state_after setup t).core c).thread ≡ Kernel (Thread (thread_of s c))
+  own = own_thread setup setting t stands.legal c here
+
+  same_core : (x y : ℕ) → Some x ≡ Some y → x ≡ y
+  same_core x y h = cc
+
+  -- the word of a thread that runs on the core does not stand for an idle one
+  not_idle : (d : ℕ) → marked_by setup t (EntryAt ((state_after setup t).core c).thread 0) ≡ Some d
+      → SaysIdle ((holds (cores d)).stands (EntryAt ((state_after setup t).core c).thread 0)) → ⊥
+  not_idle d mark idle =
+      not_running ((holds (cores d)).stands (EntryAt thread 0)) c (length (thread_of s c).stack) idle
+      (subst (λ x. IsFrameWord s.limits.frames (count_room s) x (s.place thread 0) (stamp setup t (PlaceOf thread 0)) 0
+      ((holds (cores d)).stands (EntryAt thread 0))) own
+      (subst (λ o. IsFrameWord s.limits.frames (count_room s) (s.frame thread) (s.place thread 0) (stamp setup t (PlaceOf thread 0)) 0
+      (settled_by o (held_by cores) (EntryAt thread 0) (last_left setup t (EntryAt thread 0)))) mark (stands.words (EntryAt thread 0)))
+      ∙ ap (λ o. Some (thread_value o (length (thread_of s c).stack))) (runs_on_own setup setting cores t stands c here))
+
+  first_unmarked : (holds (cores c)).marks (EntryAt ((state_after setup t).core c).thread 0) ≡ false
+      → (o : Option ℕ) → marked_by setup t (EntryAt ((state_after setup t).core c).thread 0) ≡ o
+      → marked_by setup t (EntryAt ((state_after setup t).core c).thread 0) ≡ None
+  first_unmarked mine None free = free
+  first_unmarked mine (Some d) mark = absurd (elim (claims setup setting cores t stands d thread 0 mark) [
+    | inl not ↦ false≢true (sym not ∙ ap is_thread own)
+    | inr (inl idle) ↦ not_idle d mark idle
+    | inr (inr theirs) ↦
+        (let same = same_core d c (sym (runs_on_own setup setting cores t stands d
+        (holder_below setup setting cores t stands d thread 0 mark))
+        ∙ ap (λ (g : ℕ). (thread_in (s.frame g)).runs_on) (sym theirs) ∙ runs_on_own setup setting cores t stands c here) in
+        false≢true (sym mine ∙ (stands.marks (EntryAt thread 0) c).owned (mark ∙ ap (λ (n : ℕ). Some n) same)))
+  ])
+
+  pub thread_unmarked : (i : ℕ) → (holds (cores c)).marks (EntryAt ((state_after setup t).core c).thread i) ≡ false
+      → marked_by setup t (EntryAt ((state_after setup t).core c).thread i) ≡ None
+  thread_unmarked zero mine = first_unmarked mine (marked_by setup t (EntryAt thread 0)) refl
+  thread_unmarked (suc h) mine = unmarked_above (s.frame thread) h (last_left setup t (EntryAt thread (suc h))) (ap is_thread own)

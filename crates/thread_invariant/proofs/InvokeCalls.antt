@@ -1,0 +1,141 @@
+-- What a call that enters a component knows of its rule: what is left of it after its name, and what refuses it.
+use Rattle.std.specs.Prelude.{IsSome}
+use Rattle.std.proofs.Common.{◌≡◌, inl, inr, ℕ, ◌<◌, ◌==◌, ◌&&◌, ◌||◌, not, nat_le, Bool, true, false, if◌then◌else◌, List, [], ◌∷◌, length, Option, Some, None, IsTrue, arith, refl, sym, ◌∙◌, ap, subst}
+use Rattle.std.proofs.lemmas.Bool.{eq-eqb, lt-leb}
+use Rattle.std.proofs.lemmas.List.Elements.{All-nil}
+use Rattle.spk_nums.specs.Capability.{Capability}
+use Rattle.spk_nums.specs.Setting.{Setting, IsSetting}
+use Rattle.spk_nums.specs.declared.calls.Call.TheVariants.{Call as call_gate}
+use Rattle.spk_nums.specs.declared.kinds.Kind.{Kind}
+use Rattle.spk_nums.specs.declared.replies.Reply.TheVariants as reply
+use Rattle.word_map.specs.Word.{EntryAt}
+use Rattle.kernel_rules.specs.State.{CompFields, Comp, Kernel, State, comp_in, thread_of}
+use Rattle.kernel_rules.specs.Access.{Slot, found, own}
+use Rattle.kernel_rules.specs.Rules.{Rule, When, Does, RuleMay, outcome, unless, first_of}
+use Rattle.kernel_rules.specs.InvocationCalls.{is_live_in, not_live, pushes}
+use Rattle.kernel_rules.specs.CallRelation.{rule_of, change_of}
+use Rattle.kernel_history.specs.Footprint.{is_one_of, frames_near, numbers_near, number_argument, number_in}
+use Rattle.kernel_history.specs.Justified.{HasReached}
+use Rattle.kernel_history.specs.Trace.{Step, Trace, Open, phase, state_after, own_left}
+use Rattle.kernel_history.specs.Ways.{way_to, ways}
+use Rattle.call_plans.specs.declared.plans.Plan.{Plan}
+use Rattle.call_plans.specs.GoesBy.{GoesBy, own_pages}
+use Rattle.call_plans.specs.After.{rule_after, Leads, LeadsIn}
+use Rattle.call_plans.proofs.AfterNames.{outcome_left, left_may, leads_by}
+use Rattle.plan_ways.proofs.Near.{one_right}
+use Rattle.plan_ways.proofs.Ways.{all_ways}
+use Rattle.call_acts.specs.declared.invocations.Invoking.{Invoking}
+use Rattle.call_acts.specs.Invocations.{InvokingFits}
+use Rattle.call_acts.specs.declared.work.Act.TheVariants.{Invoke as invoke_act}
+use Rattle.call_acts.specs.declared.work.Work.TheVariants.{Act}
+use Rattle.call_steps.specs.declared.stages.Stage.TheVariants.{Undecided}
+use Rattle.call_steps.specs.declared.stages.ActiveCall.{ActiveCall}
+use Rattle.call_steps.specs.Fits.{StageFits, HasRoom}
+use Rattle.call_steps.specs.View.{Core}
+use Rattle.core_invariant.specs.Knows.{HasFound, KnowsUndecided, own_in, phase_at}
+use Rattle.core_invariant.specs.Stands.{Stands}
+use Rattle.core_invariant.proofs.Carries.{own_kept}
+use Rattle.core_invariant.proofs.Loads.{call_is, is_active}
+use Rattle.look_invariant.proofs.Findings.{own_is, found_named, way_gone}
+use Rattle.count_invariant.proofs.Acquiring.{plan_leads, goes_by}
+use Rattle.count_invariant.proofs.StackCounts.{IsInvoke, invoke_of, invoke_near}
+use Rattle.live_invariant.proofs.Numbers.{one_of_many, comp_is}
+
+-- What is left of the rule of a call through a gate to this frame, made in this epoch.
+abbrev pub entering : State → ℕ → Capability → ℕ → ℕ → Rule
+entering s c gate f epoch =
+    Does (
+    When (nat_le 16 (length (thread_of s c).stack)) reply.Deep
+    ∷ not_live s (found gate) (comp_in (s.frame f)).number epoch
+    ∷ []) (pushes s c f)
+
+module _ (setup : Setting) (setting : IsSetting setup) (cores : ℕ → Core) (t : Trace) (stands : Stands setup cores t) (c : ℕ)
+    (here : c < setup.cores)
+    (a : ActiveCall) (active : (cores c).active ≡ Some a) (m : Invoking) (stage_is : a.stage ≡ Undecided (Act (invoke_act m)))
+    (has : KnowsUndecided setup t c (cores c).own.table a (Act (invoke_act m))) where
+  abbrev s : State
+  s = state_after setup t
+
+  pub is : IsInvoke a.call a.found m
+  is = invoke_of a.call a.found m has.knows.knows.invokes
+
+  pub opens : phase_at a.call a.stage ≡ Open a.call
+  opens = ap (phase_at a.call) stage_is
+
+  pub is_open : phase t c ≡ Open a.call
+  is_open = (call_is setup setting cores t stands c here a active).phase ∙ opens
+
+  pub room : (cores c).own.made < (cores c).own.limit
+  room = subst (HasRoom (cores c).own.made (cores c).own.limit) stage_is (is_active setup setting cores t stands c here a active).room
+
+  pub fits : InvokingFits (cores c).own.layout m
+  fits = subst (StageFits (cores c).own.layout) stage_is (is_active setup setting cores t stands c here a active).stage
+
+  pub leads : Leads (LeadsIn s c) a.plan.names [] a.found
+  leads = plan_leads setup setting cores t stands c here a active has.names
+
+  pub by_plan : GoesBy (own_pages s c) a.plan (rule_of s c a.call)
+  by_plan = goes_by setup setting cores t stands c here a active has.names
+
+  -- the component
+  abbrev pub fields : CompFields
+  fields = comp_in (s.frame m.comp)
+
+  holds_comp : s.frame m.comp ≡ Kernel (Comp (comp_in (s.frame m.comp)))
+  holds_comp = comp_is (s.frame m.comp) has.knows.knows.comp.comp
+
+  -- what is left of the rule
+  pub left : rule_after (rule_of s c a.call) a.found ≡ entering s c is.gate m.comp m.epoch
+  left = ap (λ x. rule_after (rule_of s c x) a.found) is.call_is ∙ ap (rule_after (rule_of s c (call_gate is.name))) is.found_is
+      ∙ ap (λ (g : ℕ). entering s c is.gate g is.gate.arg) (sym is.frame)
+      ∙ ap (λ (e : ℕ). entering s c is.gate m.comp e) (sym is.epoch)
+
+  shallow : nat_le 16 (length (thread_of s c).stack) ≡ false
+  shallow = lt-leb 16 (length (thread_of s c).stack)
+      (let low = fits.most_depth in let same = has.knows.knows.on.depth in omega (arith, low, same))
+
+  pub by_life : (lives : Bool) → is_live_in (s.number fields.number) m.epoch ≡ lives
+      → change_of s c a.call ≡ unless (if not lives then Some reply.Dead else None) (pushes s c m.comp)
+  by_life lives so =
+      outcome_left s c (own_pages s c) a.plan (rule_of s c a.call) a.found by_plan leads ∙ ap (outcome s c) left
+      ∙ ap (λ b. unless (first_of (if b then Some reply.Deep else None)
+      (first_of (if not (is_live_in (s.number fields.number) m.epoch) then Some reply.Dead else None) None)) (pushes s c m.comp)) shallow
+      ∙ ap (λ b. unless (first_of (if not b then Some reply.Dead else None) None) (pushes s c m.comp)) so
+      ∙ last lives
+    where
+      last : (b : Bool) → unless (first_of (if not b then Some reply.Dead else None) None) (pushes s c m.comp)
+          ≡ unless (if not b then Some reply.Dead else None) (pushes s c m.comp)
+      last true = refl
+      last false = refl
+
+  pub may_be_dead : is_live_in (s.number fields.number) m.epoch ≡ false → RuleMay s c (rule_of s c a.call) reply.Dead
+  may_be_dead none = left_may s c (own_pages s c) a.plan (rule_of s c a.call) a.found by_plan leads reply.Dead
+      (subst (λ x. RuleMay s c x reply.Dead) (sym left) (inr (inl (ap (λ b. not b) none, refl))))
+
+  -- the component and its number are near
+  pub near : is_one_of m.comp (frames_near s c a.call) ≡ true
+  near = invoke_near s c a.call a.found m has.knows.knows.invokes
+      (subst (λ (p : Plan). Leads (LeadsIn s c) p.names [] a.found) (is_active setup setting cores t stands c here a active).plan leads)
+
+  pub number_near : (l : ℕ) → fields.number ≡ l → is_one_of l (numbers_near s c a.call) ≡ true
+  number_near l same = one_right l (number_argument a.call) _
+      (one_of_many (λ g. number_in (s.frame g)) l m.comp (frames_near s c a.call) near
+      (ap (λ x. is_one_of l (number_in x)) holds_comp ∙ ap (λ b. b || false) (eq-eqb fields.number l same)))
+
+  -- the places of the name are gone
+  pub gone : (e : Step) → e.core ≡ c → e.enters ≡ None → HasReached (e ∷ t) c (ways s c (rule_of s c a.call))
+  gone e own_step no_entry = all_ways s c (own_pages s c) (e ∷ t) a.plan (rule_of s c a.call) a.found by_plan
+      (leads_by (λ n wanted q. HasFound setup t c (own_in (cores c).own.table n) wanted q)
+      (λ n wanted q. LeadsIn s c n wanted q × HasReached (e ∷ t) c (way_to s c (own s c n)))
+      own_gone a.plan.names [] a.found has.names)
+      (subst (λ y. HasReached (e ∷ t) c (ways s c y)) (sym left)
+      (All-nil (λ (y : Slot). IsSome (own_left (e ∷ t) c (EntryAt y.node y.index)))))
+    where
+      own_gone : (n : ℕ) (wanted : Kind → Bool) (q : Capability) → HasFound setup t c (own_in (cores c).own.table n) wanted q
+          → LeadsIn s c n wanted q × HasReached (e ∷ t) c (way_to s c (own s c n))
+      own_gone n wanted q had = (
+        found_named setup t c (cores c).own.table n wanted q (stands.each c here).works.table had,
+        subst (λ y. HasReached (e ∷ t) c (way_to s c y)) (own_is s c (cores c).own.table n (stands.each c here).works.table)
+            (way_gone setup t (e ∷ t) c (own_in (cores c).own.table n) had.at had.way.reached
+            (λ k d h. own_kept t e c (sym own_step) no_entry _ (had.way.stepped k d h))),
+      )

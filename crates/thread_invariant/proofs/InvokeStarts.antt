@@ -1,0 +1,168 @@
+-- An entering starts where its name has led to a gate; or the core's stack is full.
+use Rattle.std.proofs.Common.{◌≡◌, ◌<◌, inl, ℕ, map, nat_le, not, Bool, true, false, if◌then◌else◌, List, [], ◌∷◌, length, Some, None, IsTrue, refl, sym, ◌∙◌, ap, subst}
+use Rattle.std.proofs.lemmas.Bool.{false≢true}
+use Rattle.spk_nums.specs.Capability.{Capability}
+use Rattle.spk_nums.specs.Setting.{Setting, IsSetting}
+use Rattle.spk_nums.specs.declared.kinds.Kind.{Kind}
+use Rattle.spk_nums.specs.declared.kinds.Kind.TheVariants as kind
+use Rattle.spk_nums.specs.declared.calls.Call.{Call}
+use Rattle.spk_nums.specs.declared.calls.Call.TheVariants.{Call as call_gate}
+use Rattle.spk_nums.specs.declared.replies.Reply.TheVariants as reply
+use Rattle.word_map.specs.Moves.{Move, word_of}
+use Rattle.kernel_rules.specs.State.{Comp, Frame, Kernel, State, comp_in, thread_of}
+use Rattle.kernel_rules.specs.Access.{only}
+use Rattle.kernel_rules.specs.Fitting.{fits}
+use Rattle.kernel_rules.specs.References.{named_by}
+use Rattle.kernel_rules.specs.Rules.{Found, Refused, RuleMay, named, of_kind, outcome, unless, first_of}
+use Rattle.kernel_rules.specs.InvocationCalls.{is_live_in, pushes}
+use Rattle.kernel_rules.specs.CallRelation.{rule_of, change_of, are_calls_spent}
+use Rattle.kernel_rules.proofs.Facts.{named_fit}
+use Rattle.kernel_rules.proofs.SoundRuns.{opened}
+use Rattle.kernel_rules.proofs.Stays.{name_parts}
+use Rattle.kernel_history.specs.Events.{events_of}
+use Rattle.kernel_history.specs.Legal.{IsLegal}
+use Rattle.kernel_history.specs.Trace.{Step, Trace, Open, phase, state_after, last_left}
+use Rattle.kernel_history.proofs.AloneCalls.{refused_first}
+use Rattle.kernel_history.proofs.Carries.{Carries}
+use Rattle.kernel_history.proofs.Stays.{sound_of, opened_is, guarded_usable}
+use Rattle.stage_pins.specs.declared.held.Acquired.{Acquired}
+use Rattle.call_plans.specs.GoesBy.{GoesBy, own_pages}
+use Rattle.call_plans.specs.After.{rule_after, Leads, LeadsIn}
+use Rattle.call_plans.proofs.AfterNames.{outcome_left, left_may}
+use Rattle.call_acts.specs.declared.invocations.Invoking.{Invoking}
+use Rattle.call_acts.specs.declared.invocations.InvokingAt.TheVariants.{LoadTable}
+use Rattle.call_acts.specs.declared.refusals.Refusal.TheVariants as refusal
+use Rattle.call_acts.specs.declared.work.Act.TheVariants.{Invoke as invoke_act}
+use Rattle.call_acts.specs.declared.work.Work.TheVariants.{Act}
+use Rattle.call_acts.specs.declared.work.WorkStep.TheVariants.{Goes}
+use Rattle.call_acts.specs.WorkSteps.{refuse}
+use Rattle.call_acts.specs.Acts.{invokes_if, invokes_in}
+use Rattle.call_steps.specs.declared.stages.Stage.TheVariants.{Undecided}
+use Rattle.call_steps.specs.declared.stages.ActiveCall.{ActiveCall}
+use Rattle.call_steps.specs.Steps.{landed, found_more}
+use Rattle.call_steps.specs.View.{Core}
+use Rattle.core_invariant.specs.Components.{HasComp, InvokesBy}
+use Rattle.core_invariant.specs.Holding.{holds_counts}
+use Rattle.core_invariant.specs.Knows.{due_of, NamesAre, phase_at}
+use Rattle.core_invariant.specs.Stands.{holds_in, Stands}
+use Rattle.core_invariant.proofs.Carries.{invoking_on}
+use Rattle.core_invariant.proofs.Loads.{OnlyLooks, step_to, call_is, core_is, loads_on, decides_on}
+use Rattle.core_invariant.proofs.Refusals.{GoodTook, not_spent}
+use Rattle.thread_invariant.proofs.InvokeCalls.{entering}
+
+-- What a name leads to is of a wanted kind, and is what was found.
+same_found : (wanted : Kind → Bool) (j k : Capability) → of_kind wanted j ≡ Found k → j ≡ k
+same_found wanted j k = by (wanted j.kind)
+  where
+    by : (b : Bool) → (if b then Found j else Refused reply.WrongCap) ≡ Found k → j ≡ k
+    by true h = cc
+    by false h = absurd (cc)
+
+gate_comp : (x : Frame) → IsTrue (fits kind.Gate x) → IsTrue (fits kind.Comp x)
+gate_comp (Kernel (Comp k)) fit = refl
+gate_comp _ fit = absurd (false≢true fit)
+
+-- The component of a gate that an open call has named is there, and no other core may retype it.
+gate_named : (setup : Setting) → IsSetting setup → (t : Trace) → IsLegal setup t → (c : ℕ) (call : Call) → phase t c ≡ Open call
+    → (n : ℕ) (k : Capability) → k.kind ≡ kind.Gate → named (state_after setup t) c n (only kind.Gate) ≡ Found k
+    → HasComp (state_after setup t) c k.frame
+gate_named setup setting t legal c call is n k kind_is found =
+    let s : State = state_after setup t in
+    let parts = name_parts s c n (only kind.Gate) k found in
+    record {
+      comp = gate_comp (s.frame k.frame)
+          (named_fit s (opened (events_of t)) c n kind.Gate k (sound_of setup setting t legal) (opened_is t c call is) found);
+      guarded = guarded_usable setup setting t legal c call is parts.0 k
+          (ap (λ (j : Kind). named_by j k.frame) kind_is)
+          (parts.3 ∙ ap (λ (j : Capability). Some j) (same_found (only kind.Gate) parts.2 k parts.4));
+    }
+
+module _ (setup : Setting) (setting : IsSetting setup) (cores : ℕ → Core) (t : Trace) (stands : Stands setup cores t) (c : ℕ)
+    (here : c < setup.cores)
+    (a : ActiveCall) (active : (cores c).active ≡ Some a) (opens : phase_at a.call a.stage ≡ Open a.call)
+    (held_is : holds_in (Some a) ≡ holds_counts None a.counts) (no_counts : a.counts ≡ [])
+    (room : (cores c).own.made < (cores c).own.limit)
+    (by_plan : GoesBy (own_pages (state_after setup t) c) a.plan (rule_of (state_after setup t) c a.call))
+    (move : Move) (looks : OnlyLooks setup t c a.call move) (n : ℕ) (k : Capability) (call_so : a.call ≡ call_gate n)
+    (kind_is : k.kind ≡ kind.Gate)
+    (found : named (state_after setup t) c n (only kind.Gate) ≡ Found k)
+    (leads : Leads (LeadsIn (state_after setup t) c) a.plan.names [] (k ∷ []))
+    (names : Carries setup t (step_to c None move (last_left setup t (word_of move)) None None) c
+    → NamesAre setup (step_to c None move (last_left setup t (word_of move)) None None ∷ t) c (cores c).own.table a.plan (k ∷ [])) where
+  abbrev s : State
+  s = state_after setup t
+
+  abbrev e : Step
+  e = step_to c None move (last_left setup t (word_of move)) None None
+
+  abbrev m : Invoking
+  m = record {
+    comp = k.frame;
+    epoch = k.arg;
+    thread = (cores c).own.thread;
+    depth = (cores c).own.depth;
+    core = (cores c).own.core;
+    frames = (cores c).own.layout.frames;
+    at = LoadTable;
+  }
+
+  open_now : phase t c ≡ Open a.call
+  open_now = (call_is setup setting cores t stands c here a active).phase ∙ opens
+
+  unspent : are_calls_spent s c ≡ false
+  unspent = not_spent setup (cores c) t c (core_is setup setting cores t stands c here a active) room
+
+  left : rule_after (rule_of s c a.call) (k ∷ []) ≡ entering s c k k.frame k.arg
+  left = ap (λ x. rule_after (rule_of s c x) (k ∷ [])) call_so
+
+  depth_is : nat_le 16 (cores c).own.depth ≡ nat_le 16 (length (thread_of s c).stack)
+  depth_is = ap (λ (d : ℕ). nat_le 16 d) (stands.each c here).works.depth
+
+  -- the stack is full
+  full : nat_le 16 (cores c).own.depth ≡ true → GoodTook setup cores t c move (landed (found_more a (k ∷ [])) (refuse refusal.Deep))
+  full deep lands =
+      decides_on setup setting cores t stands c here a active move reply.Deep (k ∷ []) looks lands
+      (sym held_is) opens refl refl (λ x. refl) (λ x. refl) refl (
+        unspent,
+        left_may s c (own_pages s c) a.plan (rule_of s c a.call) (k ∷ []) by_plan leads reply.Deep
+            (subst (λ x. RuleMay s c x reply.Deep) (sym left) (inl (sym depth_is ∙ deep, refl))),
+      ) tt
+      (λ is_alone. refused_first s c a.call reply.Deep unspent refused)
+    where
+      refused : change_of s c a.call ≡ Refused reply.Deep
+      refused = outcome_left s c (own_pages s c) a.plan (rule_of s c a.call) (k ∷ []) by_plan leads ∙ ap (outcome s c) left
+          ∙ ap (λ b. unless (first_of (if b then Some reply.Deep else None)
+          (first_of (if not (is_live_in (s.number (comp_in (s.frame k.frame)).number) k.arg) then Some reply.Dead else None) None))
+          (pushes s c k.frame)) (sym depth_is ∙ deep)
+
+  -- it is not
+  starts : GoodTook setup cores t c move (landed (found_more a (k ∷ [])) (Goes (Act (invoke_act m))))
+  starts lands =
+      loads_on setup setting cores t stands c here a active move (k ∷ [])
+      (Undecided (Act (invoke_act m))) looks lands (sym held_is) opens
+      (λ carries. record {
+        names = names carries;
+        knows = record {
+          knows = invoking_on setup setting t e stands.legal c a.call open_now carries a.call (k ∷ []) m (record {
+            invokes = subst (λ x. InvokesBy x (k ∷ []) m) (sym call_so) (record { kind = kind_is; frame = refl; epoch = refl });
+            core = (stands.each c here).number;
+            on = record { thread = (stands.each c here).works.thread; depth = (stands.each c here).works.depth };
+            comp = gate_named setup setting t stands.legal c a.call open_now n k kind_is found;
+            at = tt;
+          });
+          all = ap (λ (xs : List Acquired). map due_of xs) (sym no_counts);
+          goes = refl;
+        };
+      })
+
+  by_depth : GoodTook setup cores t c move (landed (found_more a (k ∷ [])) (invokes_in (cores c).own kind.Gate k.frame k.arg))
+  by_depth = by (nat_le 16 (cores c).own.depth) refl
+    where
+      by : (deep : Bool) → nat_le 16 (cores c).own.depth ≡ deep
+          → GoodTook setup cores t c move (landed (found_more a (k ∷ [])) (invokes_if deep (cores c).own k.frame k.arg))
+      by true deep = full deep
+      by false shallow = starts
+
+  pub invokes_good : GoodTook setup cores t c move (landed (found_more a (k ∷ [])) (invokes_in (cores c).own k.kind k.frame k.arg))
+  invokes_good = subst (λ (j : Kind). GoodTook setup cores t c move
+      (landed (found_more a (k ∷ [])) (invokes_in (cores c).own j k.frame k.arg))) (sym kind_is) by_depth

@@ -1,0 +1,461 @@
+-- The draw of a stamp by which a core leaves a component: the call is decided, and the component below stands on top of the core's stack.
+-- The reference to the component that is left is released at the stamp.
+use Rattle.std.specs.List.{list_any}
+use Rattle.std.proofs.Common.{◌≡◌, ◌≢◌, ◌⊎◌, inl, inr, ℕ, suc, pos, negsuc, ◌+ℤ◌, max, length, take, drop, ◌+◌, ◌-◌, ◌^◌, ◌<◌, ◌≤◌, ◌==◌, ◌||◌, Bool, true, false, if◌then◌else◌, List, [], ◌∷◌, Option, Some, None, IsTrue, arith, refl, sym, ◌∙◌, ap, subst}
+use Rattle.std.proofs.Math.IntN.{pos-+ℤ-pos, +ℤ_assoc, +ℤ_invr, +ℤ_idr}
+use Rattle.std.proofs.lemmas.Bool.{cases_eq, eq-eqb, ne_eqb, false≢true}
+use Rattle.spk_nums.specs.Setting.{Setting, IsSetting}
+use Rattle.spk_nums.specs.declared.replies.Reply.{Reply}
+use Rattle.spk_nums.specs.declared.replies.Reply.TheVariants as reply
+use Rattle.spk_nums.specs.declared.replies.Value.TheVariants as value
+use Rattle.tcap_words.specs.Stack.{word_of_stack}
+use Rattle.tcap_words.specs.Thread.{ThreadFits, word_of_thread}
+use Rattle.tcap_words.specs.declared.thread_word.ThreadWord.TheVariants.{Running}
+use Rattle.tcap_words.proofs.StackLemmas as stacks
+use Rattle.tcap_words.proofs.ThreadLemmas as threads
+use Rattle.word_map.specs.Word.{Word, EntryAt, CountAt, FlushAt, ClockAt}
+use Rattle.word_map.specs.Moves.{Move, AddOf, word_of, told_of}
+use Rattle.kernel_rules.specs.State.{CompFields, ThreadFields, Comp, Thread, Kernel, Thing, PlaceOf, FrameOf, NumberOf, Grace, State, first_of_stack, comp_in, comp_of, thread_of, put}
+use Rattle.kernel_rules.specs.Rules.{Found, IsFoundAnd, frames_of}
+use Rattle.kernel_rules.specs.References.{times, refs}
+use Rattle.kernel_rules.specs.InvocationCalls.{pops}
+use Rattle.kernel_rules.specs.CallRelation.{MayReply, change_of, changed, counted, begins_in, ends_by, flushes_by}
+use Rattle.kernel_rules.specs.GracePeriods.{same_thing, new_grace}
+use Rattle.kernel_rules.proofs.Sums.{times_cons}
+use Rattle.kernel_history.specs.Discipline.{changes_threads, raises_clock}
+use Rattle.kernel_history.specs.Graces.{KeepsTime}
+use Rattle.kernel_history.specs.Marking.{marked_by}
+use Rattle.kernel_history.specs.ObjectWords.{at_height}
+use Rattle.kernel_history.specs.Stamps.{begins_in as begins_then, ends_in, flushes_in, begins_at, ends_at, flushes_at, stamp, clock, flush_of, flush_stored}
+use Rattle.kernel_history.specs.Trace.{Step, Trace, Open, phase, state_after, state_decided_in, last_left}
+use Rattle.kernel_history.proofs.AloneCalls.{ok_first}
+use Rattle.kernel_history.proofs.Steps.{stamp-begins, stamp-kept, flush_of-own, flush_stored-own, flush_stored-other}
+use Rattle.stage_quiet.specs.Clocks.{drawn_stamp}
+use Rattle.stage_pins.specs.Counts.{later}
+use Rattle.stage_pins.specs.Held.{stamp_of_change}
+use Rattle.stage_thread.specs.declared.stack.Pop.TheVariants as pop
+use Rattle.call_acts.specs.declared.invocations.Returning.{Returning}
+use Rattle.call_acts.specs.declared.invocations.ReturningAt.{ReturningAt}
+use Rattle.call_acts.specs.declared.invocations.ReturningAt.TheVariants.{LoadBelow, LoadTable, LoadPages, Draw}
+use Rattle.call_acts.specs.declared.own.Own.{Own}
+use Rattle.call_acts.specs.declared.own.OwnChange.TheVariants.{Works}
+use Rattle.call_acts.specs.declared.work.Act.TheVariants.{Return as return_act}
+use Rattle.call_acts.specs.declared.work.Tail.{Tail}
+use Rattle.call_acts.specs.declared.work.Tail.TheVariants.{Pop}
+use Rattle.call_acts.specs.declared.work.Work.TheVariants.{Act}
+use Rattle.call_acts.specs.Acts.{took_returning, took_returning_at}
+use Rattle.call_acts.specs.Invocations.{returning_at, returning_move, left_to}
+use Rattle.call_acts.specs.OwnChanges.{own_changed}
+use Rattle.call_steps.specs.Cores.{own_decided}
+use Rattle.call_steps.specs.declared.stages.Stage.{Stage}
+use Rattle.call_steps.specs.declared.stages.Stage.TheVariants.{Undecided, Decided}
+use Rattle.call_steps.specs.declared.stages.ActiveCall.{ActiveCall}
+use Rattle.call_steps.specs.Steps.{landed}
+use Rattle.call_steps.specs.View.{Core}
+use Rattle.core_invariant.specs.Components.{IsBelow, HasLoadedBelow, KnowsReturning, below_of}
+use Rattle.core_invariant.specs.CountWords.{IsWithin}
+use Rattle.core_invariant.specs.Holding.{Holding, keeps_bare, holds_counts}
+use Rattle.core_invariant.specs.Words.{WordIs}
+use Rattle.core_invariant.specs.Knows.{due_of, flushing_in, KnowsUndecided, WorksIn}
+use Rattle.core_invariant.specs.Stands.{holds_at, holds_in, holds, held_by, times_of, counted_in, Stands}
+use Rattle.core_invariant.proofs.Bare.{counts_bare}
+use Rattle.core_invariant.proofs.Draws.{raised}
+use Rattle.core_invariant.proofs.Flushing.{open_flushed}
+use Rattle.core_invariant.proofs.Good.{spares_other}
+use Rattle.core_invariant.proofs.Lent.{lent_elsewhere}
+use Rattle.core_invariant.proofs.Loads.{inner, next_at}
+use Rattle.core_invariant.proofs.OwnChanges.{decides_timed}
+use Rattle.core_invariant.proofs.Refusals.{GoodTook, not_spent}
+use Rattle.core_invariant.proofs.Users.{spares_none}
+use Rattle.core_invariant.proofs.WordFrames.{marks_own, carry_marks}
+use Rattle.core_invariant.proofs.Writes.{same_marks, clock_small}
+use Rattle.count_invariant.proofs.CapChanges.{counts_commit, counts_sum, dues_of}
+use Rattle.thread_invariant.proofs.EntryMarks.{counts_apart}
+use Rattle.thread_invariant.proofs.CompWords.{holds_comp}
+use Rattle.thread_invariant.proofs.Heights.{above_top, beside_top}
+use Rattle.thread_invariant.proofs.Returns.{opens, is_open, room, return_fits, deep, change, nothing_gone, return_held, loaded_at, load_below_good, load_table_good, load_pages_good}
+use Rattle.thread_invariant.proofs.OwnStack.{own_thread, split_stack}
+use Rattle.thread_invariant.proofs.Restacks.{IsRestack, frame_away, core_now, limits, whose, refs_now, grows, more_room, alike, restack_words, restack_lent}
+use Rattle.thread_invariant.proofs.Stacked.{stacked}
+use Rattle.thread_invariant.proofs.Stacks.{kept_here, kept_there, kept_is}
+
+comp_no_thread : (k : CompFields) (u : ThreadFields) → Kernel (Comp k) ≡ Kernel (Thread u) → ⊥
+comp_no_thread k u h = cc
+
+-- A count that falls by one.
+one_less : (m n : ℕ) → n + 1 ≡ m → pos n ≡ pos m +ℤ negsuc 0
+one_less m n is = sym (ap (λ (k : ℕ). pos k +ℤ negsuc 0) (sym is) ∙ ap (λ z. z +ℤ negsuc 0) (sym (pos-+ℤ-pos n 1)) ∙ +ℤ_assoc (pos n)
+    (pos 1) (negsuc 0) ∙ ap (λ z. pos n +ℤ z) (+ℤ_invr (pos 1)) ∙ +ℤ_idr (pos n))
+
+-- How often a frame is named alone.
+once : (f : ℕ) → times f (f ∷ []) ≡ 1
+once f = times_cons f f [] ∙ ap (λ b. (if b then 1 else 0) + 0) (eq-eqb f f refl)
+
+never : (g f : ℕ) → g ≢ f → times g (f ∷ []) ≡ 0
+never g f other = times_cons g f [] ∙ ap (λ b. (if b then 1 else 0) + 0) (ne_eqb f g (λ h. other (sym h)))
+
+module _ (setup : Setting) (setting : IsSetting setup) (cores : ℕ → Core) (t : Trace) (stands : Stands setup cores t) (c : ℕ)
+    (here : c < setup.cores)
+    (a : ActiveCall) (active : (cores c).active ≡ Some a) (m : Returning) (stage_is : a.stage ≡ Undecided (Act (return_act m)))
+    (has : KnowsUndecided setup t c (cores c).own.table a (Act (return_act m))) (comp table pages : ℕ)
+    (is : m.at ≡ Draw comp table pages) (now_at : ℕ) (drawn_is : now_at ≡ clock setup t) where
+  abbrev s : State
+  s = state_after setup t
+
+  abbrev x : ℕ
+  x = clock setup t
+
+  abbrev knows : KnowsReturning s c a.call m
+  knows = has.knows.knows
+
+  abbrev r : Reply
+  r = reply.Ok value.Nothing
+
+  abbrev move : Move
+  move = AddOf ClockAt 1
+
+  abbrev old : List ℕ
+  old = (thread_of s c).stack
+
+  abbrev fs : List ℕ
+  fs = drop 1 (thread_of s c).stack
+
+  abbrev height : ℕ
+  height = m.depth - 1
+
+  abbrev thread_word : ℕ
+  thread_word = word_of_thread (Running m.core (m.depth - 1))
+
+  abbrev place_word : ℕ
+  place_word = word_of_stack (record { 0 = None })
+
+  abbrev tail : Tail
+  tail = Pop (pop.AtThread m.thread m.core m.depth)
+
+  abbrev stage : Stage
+  stage = Decided r (Some now_at) tail
+
+  abbrev own' : Own
+  own' = own_decided (own_changed (cores c).own (Works comp table pages (m.depth - 1))) r
+
+  abbrev after : Core
+  after = record { own = own'; active = Some (next_at a a.found stage) }
+
+  abbrev e : Step
+  e = inner setup setting cores t stands c here a active move (Some r) None
+
+  abbrev s' : State
+  s' = state_after setup (e ∷ t)
+
+  opened : phase t c ≡ Open a.call
+  opened = is_open setup setting cores t stands c here a active m stage_is has
+
+  two : 2 ≤ length (thread_of s c).stack
+  two = deep setup setting cores t stands c here a active m stage_is has
+
+  split : (thread_of s c).stack ≡ m.top ∷ drop 1 (thread_of s c).stack
+  split = split_stack (thread_of s c).stack (let some = two in omega (arith, some))
+      ∙ ap (λ (f : ℕ). f ∷ drop 1 (thread_of s c).stack) (sym knows.top)
+
+  length_is : length (drop 1 (thread_of s c).stack) + 1 ≡ length (thread_of s c).stack
+  length_is = let all : length (thread_of s c).stack ≡ length (m.top ∷ drop 1 (thread_of s c).stack) = ap length split in
+      omega (arith, all)
+
+  some_depth : 2 ≤ m.depth
+  some_depth = (return_fits setup setting cores t stands c here a active m stage_is has).some_depth
+
+  most_depth : m.depth ≤ 16
+  most_depth = (return_fits setup setting cores t stands c here a active m stage_is has).most_depth
+
+  depth_now : m.depth - 1 ≡ length (drop 1 (thread_of s c).stack)
+  depth_now = let same = knows.on.depth in let one = length_is in let some = some_depth in omega (arith, same, one, some)
+
+  loaded : HasLoadedBelow s c (Draw comp table pages)
+  loaded = loaded_at setup setting cores t stands c here a active m stage_is has (Draw comp table pages) is
+
+  changes_so : change_of s c a.call ≡ Found (pops s c)
+  changes_so = change setup setting cores t stands c here a active m stage_is has
+
+  abbrev things : List Thing
+  things = frames_of (take 1 (thread_of s c).stack)
+
+  abbrev graces : Thing → Grace
+  graces y = if list_any (same_thing y) things then new_grace s y else s.grace y
+
+  now : s' ≡ stacked s c fs graces
+  now = ap (λ p. state_decided_in p r s c) opened ∙ ap (λ y. counted (changed s y) c) changes_so
+
+  things_are : frames_of (take 1 (thread_of s c).stack) ≡ FrameOf m.top ∷ []
+  things_are = ap (λ st. frames_of (take 1 st)) split
+
+  begins : (y : Thing) → begins_at setup t e y ≡ list_any (same_thing y) (FrameOf m.top ∷ [])
+  begins y = ap (λ p. begins_then (Some r) p s c y) opened ∙ ap (λ z. begins_in z y) changes_so
+      ∙ ap (list_any (same_thing y)) things_are
+
+  none_ends : (y : Thing) → ends_at t e y ≡ false
+  none_ends y = ap (λ p. ends_in (Some r) p y) opened ∙ ap (λ z. ends_by z y) knows.call_is
+
+  no_flush : flushes_at t e ≡ false
+  no_flush = ap (flushes_in (Some r)) opened ∙ ap flushes_by knows.call_is
+
+  stamp_begins : (y : Thing) → list_any (same_thing y) (FrameOf m.top ∷ []) ≡ true → stamp setup (e ∷ t) y ≡ x
+  stamp_begins y at = stamp-begins setup e t y (begins y ∙ at)
+
+  stamp_stays : (y : Thing) → list_any (same_thing y) (FrameOf m.top ∷ []) ≡ false → stamp setup (e ∷ t) y ≡ stamp setup t y
+  stamp_stays y at = stamp-kept setup e t y (begins y ∙ at) (none_ends y)
+
+  the_frame : list_any (same_thing (FrameOf m.top)) (FrameOf m.top ∷ []) ≡ true
+  the_frame = ap (λ b. b || false) (eq-eqb m.top m.top refl)
+
+  a_frame : (f : ℕ) → f ≢ m.top → list_any (same_thing (FrameOf f)) (FrameOf m.top ∷ []) ≡ false
+  a_frame f other = ap (λ b. b || false) (ne_eqb f m.top other)
+
+  stored_same : (d : ℕ) → flush_stored (e ∷ t) d ≡ flush_stored t d
+  stored_same d = elim (cases_eq d c) [
+    | inl own ↦ flush_stored-own d e t own
+    | inr other ↦ flush_stored-other d e t other
+  ]
+
+  held_before : holds (cores c) ≡ holds_counts None a.counts
+  held_before = ap holds_in active ∙ return_held setup setting cores t stands c here a active m stage_is has
+
+  abbrev rest : Holding
+  rest = holds_counts (Some (Some now_at)) a.counts
+
+  abbrev beside : Holding
+  beside = keeps_bare m.thread m.depth place_word rest
+
+  apart_place : EntryAt m.thread m.depth ≢ EntryAt m.thread 0
+  apart_place h = let zero = same_index m.thread m.depth 0 h in let some = some_depth in omega (arith, zero, some)
+    where
+      same_index : (f i j : ℕ) → EntryAt f i ≡ EntryAt f j → i ≡ j
+      same_index f i j h = cc
+
+  place_index : m.depth ≡ suc (m.depth - 1)
+  place_index = let some = some_depth in omega (arith, some)
+
+  keeps_first : (holds after).bare m.thread 0 ≡ Some thread_word
+  keeps_first = kept_here m.thread 0 thread_word beside
+
+  keeps_place : (holds after).bare m.thread (suc (m.depth - 1)) ≡ Some place_word
+  keeps_place = subst (λ (n : ℕ). (holds after).bare m.thread n ≡ Some place_word) place_index
+      (kept_there m.thread 0 thread_word beside m.thread m.depth apart_place ∙ kept_here m.thread m.depth place_word rest)
+
+  none_some : (v : ℕ) → None ≡ Some v → ⊥
+  none_some v h = cc
+
+  only_kept : (f i v : ℕ) → (holds after).bare f i ≡ Some v
+      → (f ≡ (s.core c).thread) × (((i ≡ 0) × (v ≡ thread_word)) ⊎ ((i ≡ suc (m.depth - 1)) × (v ≡ place_word)))
+  only_kept f i v kept = elim (kept_is m.thread 0 thread_word beside f i v kept) [
+    | inl at ↦ (at.0 ∙ knows.on.thread, inl (at.1, at.2))
+    | inr below ↦ elim (kept_is m.thread m.depth place_word rest f i v below) [
+      | inl at ↦ (at.0 ∙ knows.on.thread, inr (at.1 ∙ place_index, at.2))
+      | inr none ↦ absurd (none_some v (sym (counts_bare (Some (Some now_at)) a.counts f i) ∙ none))
+    ]
+  ]
+
+  thread_fits : ThreadFits (Running m.core (m.depth - 1))
+  thread_fits = (
+    (let own = knows.core in let below : c < setup.cores = here in let most = setting.most_cores in omega (arith, own, below, most)),
+    ((let some = some_depth in omega (arith, some)), (let most = most_depth in omega (arith, most))),
+  )
+
+  restack : IsRestack setup t e c after fs height graces
+  restack = record {
+    now = now;
+    some = (let same = depth_now in let some = some_depth in omega (arith, same, some));
+    heights = λ h other. sym (beside_top m.top fs h (λ same. other (same ∙ sym depth_now))) ∙ ap (λ st. at_height st h) (sym split);
+    thread_word = thread_word;
+    place_word = place_word;
+    kept_thread = subst (λ (n : ℕ). (holds after).bare n 0 ≡ Some thread_word) knows.on.thread keeps_first;
+    kept_place = subst (λ (n : ℕ). (holds after).bare n (suc (m.depth - 1)) ≡ Some place_word) knows.on.thread keeps_place;
+    only = only_kept;
+    says_thread = threads.spelling.reads (Running m.core (m.depth - 1)) thread_fits
+        ∙ ap (λ (d : ℕ). Some (Running d (m.depth - 1))) knows.core ∙ ap (λ (n : ℕ). Some (Running c n)) depth_now;
+    says_place = stacks.spelling.reads (record { 0 = None }) tt
+        ∙ ap (λ (o : Option ℕ). Some (record { 0 = o }))
+        (sym (above_top fs (m.depth - 1) (let same = depth_now in omega (arith, same))));
+    places = λ f i. stamp_stays (PlaceOf f i) refl;
+    numbers = λ l. stamp_stays (NumberOf l) refl;
+    flushes = stored_same;
+  }
+
+  still : (w : Word) → (holds after).marks w ≡ (holds (cores c)).marks w
+  still w = same_marks (Some (Some now_at)) None a.counts w ∙ sym (ap (λ h. h.marks w) held_before)
+
+  none_kept : (f i : ℕ) → (holds (cores c)).bare f i ≡ None
+  none_kept f i = ap (λ h. h.bare f i) held_before ∙ counts_bare None a.counts f i
+
+  none_marked : (f i : ℕ) → (holds (cores c)).marks (EntryAt f i) ≡ false
+  none_marked f i = ap (λ h. h.marks (EntryAt f i)) held_before ∙ counts_apart None a.counts f i
+
+  no_entry : (f i : ℕ) → ClockAt ≢ EntryAt f i
+  no_entry f i h = cc
+
+  no_count : (f d : ℕ) → CountAt f d ≢ ClockAt
+  no_count f d h = cc
+
+  -- the core works in the component below
+  not_thread : comp ≢ (s.core c).thread
+  not_thread same = comp_no_thread (comp_in (s.frame comp)) (thread_of s c)
+      (sym (holds_comp setup setting cores t stands comp loaded.0.comp.comp)
+      ∙ ap s.frame same ∙ own_thread setup setting t stands.legal c here)
+
+  comp_now : comp_of s' c ≡ comp_in (s.frame comp)
+  comp_now = ap (λ u. comp_in (s'.frame (first_of_stack u.stack)))
+      (whose setup setting cores t stands c here a active move r after fs height graces restack)
+      ∙ ap (λ (f : ℕ). comp_in (s'.frame f)) (sym loaded.0.is)
+      ∙ ap comp_in (frame_away setup setting cores t stands c here a active move r after fs height graces restack comp not_thread)
+
+  works : WorksIn own' s' c
+  works =
+      let was_in = (stands.each c here).works in
+      let core = core_now setup setting cores t stands c here a active move r after fs height graces restack in
+      let stack = whose setup setting cores t stands c here a active move r after fs height graces restack in
+      record {
+        thread = was_in.thread ∙ ap (λ k. k.thread) (sym core);
+        depth = depth_now ∙ ap (λ u. length u.stack) (sym stack);
+        comp = loaded.0.is ∙ ap (λ u. first_of_stack u.stack) (sym stack);
+        table = loaded.1 ∙ ap (λ k. k.table) (sym comp_now);
+        pages = loaded.2 ∙ ap (λ k. k.pages) (sym comp_now);
+        tcap = was_in.tcap ∙ ap (λ k. k.tcap) (sym core);
+        cached = was_in.cached ∙ ap (λ k. k.cached) (sym core);
+        owed = was_in.owed ∙ ap (λ k. k.owed) (sym core);
+        spent = was_in.spent ∙ ap (λ k. k.spent) (sym core);
+        made = (let own = was_in.made in let more : (s'.core c).counted ≡ (s.core c).counted + 1 = ap (λ k. k.counted) core in
+            omega (arith, own, more));
+      }
+
+  -- it releases the reference to the top
+  one_small : IsWithin (negsuc 0) 1
+  one_small = omega arith
+
+  few : length (dues_of (negsuc 0) (m.top ∷ [])) ≤ 1
+  few = omega arith
+
+  drawn_small : later 0 (Some now_at) < 2 ^ 28
+  drawn_small = let low = clock_small setup setting cores t stands in let same = drawn_is in omega arith
+
+  dues_are : dues_of (negsuc 0) (m.top ∷ []) ≡ Rattle.std.proofs.Common.map due_of a.counts
+  dues_are = ap (Rattle.call_acts.specs.Acts.returning_dues m.top) (sym is) ∙ has.knows.all
+
+  falls : (f : ℕ) → refs s' f + times f (m.top ∷ []) ≡ refs s f
+  falls f =
+      let all = refs_now setup setting cores t stands c here a active move r after fs height graces restack f in
+      let was : times f (thread_of s c).stack ≡ times f (m.top ∷ drop 1 (thread_of s c).stack) = ap (times f) split in
+      let top = times_cons f m.top (drop 1 (thread_of s c).stack) in
+      let alone = times_cons f m.top [] in
+      omega (arith, all, was, top, alone)
+
+  kept : (f : ℕ) → times f (m.top ∷ []) ≡ 0 → (refs s' f ≡ refs s f) × (stamp setup (e ∷ t) (FrameOf f) ≡ stamp setup t (FrameOf f))
+  kept f none = ((let less = falls f in omega (arith, less, none)), stamp_stays (FrameOf f) (a_frame f apart))
+    where
+      apart : f ≢ m.top
+      apart same = let one : times f (m.top ∷ []) ≡ 1 = ap (λ (n : ℕ). times n (m.top ∷ [])) same ∙ once m.top in
+          omega (arith, one, none)
+
+  changes : (f : ℕ) → times f (m.top ∷ []) ≡ 1 → (pos (refs s' f) ≡ pos (refs s f) +ℤ negsuc 0)
+      × (stamp setup (e ∷ t) (FrameOf f) ≡ max (stamp setup t (FrameOf f)) (later 0 (stamp_of_change (negsuc 0) (Some now_at))))
+  changes f one = (
+    one_less (refs s f) (refs s' f) (let less = falls f in omega (arith, less, one)),
+    ap (λ (n : ℕ). stamp setup (e ∷ t) (FrameOf n)) its ∙ stamp_begins (FrameOf m.top) the_frame
+        ∙ latest (stamp setup t (FrameOf f)) (stands.graces (FrameOf f)).past,
+  )
+    where
+      its : f ≡ m.top
+      its = elim (cases_eq f m.top) [
+        | inl same ↦ same
+        | inr other ↦ absurd (let none = never f m.top other in omega (arith, one, none))
+      ]
+
+      latest : (y : ℕ) → y < x → x ≡ max y (max 0 now_at)
+      latest y past = let same = drawn_is in omega (arith, past, same)
+
+  commits : (w : Word) → (holds_counts None a.counts).marks w ≡ true
+      → WordIs s' (times_of setup (e ∷ t)) w ((holds_counts (Some (Some now_at)) a.counts).stands w)
+  commits = counts_commit setup setting cores t stands c here a active (negsuc 0) one_small (Some now_at) drawn_small (m.top ∷ []) few
+      dues_are move r after still
+      (λ f d. (ap (λ h. h.marks (CountAt f d)) held_before, ap (λ h. h.stands (CountAt f d)) held_before)) (λ f d. refl)
+      (alike setup setting cores t stands c here a active move r after fs height graces restack) refl refl no_count
+      (more_room setup setting cores t stands c here a active move r after fs height graces restack)
+
+  held : (w : Word) → marked_by setup t w ≡ Some c → WordIs s' (times_of setup (e ∷ t)) w ((holds after).stands w)
+  held w mark = commits w (sym (ap (λ h. h.marks w) held_before) ∙ (stands.marks w c).owned mark)
+
+  clock_now : clock setup (e ∷ t) ≡ clock setup t + 1
+  clock_now = raised setup setting cores t stands c here a active r stage ((cores c).own.made + 1)
+
+  time : KeepsTime setup t e
+  time = record {
+    rises = (let b = clock_now in omega arith);
+    draws = λ y at. (refl, (let b = clock_now in omega arith));
+    flushes = λ at. absurd (false≢true (sym no_flush ∙ at));
+  }
+
+  permitted : MayReply s c a.call r
+  permitted = (
+    not_spent setup (cores c) t c (stands.each c here) (room setup setting cores t stands c here a active m stage_is has),
+    subst (λ y. IsFoundAnd y (λ z. z.value ≡ value.Nothing)) (sym changes_so) refl,
+  )
+
+  left_good : GoodTook setup cores t c move (landed a (left_to m comp table pages now_at))
+  left_good lands =
+      let marks = carry_marks setup cores t e after still
+      (alike setup setting cores t stands c here a active move r after fs height graces restack) refl refl stands.marks in
+      let low = clock_small setup setting cores t stands in
+      decides_timed setup setting cores t stands c here a active move r own' stage
+      (record { core = refl; layout = refl; limit = refl; epochs = refl; exit = refl })
+      (subst (λ (n : ℕ). n < 2 ^ 64) (sym clock_now) (omega arith))
+      (record { moves = (subst (λ y. IsTrue (raises_clock y)) (sym knows.call_is) refl, refl); near = inl tt }) lands
+      (opens setup setting cores t stands c here a active m stage_is has) refl
+      (marks_own setup cores t e after (λ w there. still w) stands.marks marks)
+      (λ d mark other. absurd (none_some d mark))
+      time
+      (let d = stands.draws in let b = clock_now in
+      let more = grows setup setting cores t stands c here a active move r after fs height graces restack in omega (arith, d, b, more))
+      (λ done. flush_stored-own c e t refl
+      ∙ (stands.each c here).flushed (ap flushing_in active ∙ open_flushed a.call a.stage
+      (opens setup setting cores t stands c here a active m stage_is has)) ∙ sym
+      (flush_of-own c e t refl ∙ ap (λ b. if b then clock setup t else flush_of t c) no_flush))
+      (spares_other setup t e (λ f i h. no_entry f i h)) (inr (spares_none setup t e (λ f. none_ends (FrameOf f))))
+      works marks
+      (restack_words setup setting cores t stands c here a active move r after fs height graces restack still none_kept none_marked no_entry
+      refl
+      refl tt held)
+      (restack_lent setup setting cores t stands c here a active move r after fs height graces restack still none_kept none_marked no_entry
+      refl refl)
+      (lent_elsewhere cores e (λ f i h. no_entry f i h))
+      (counts_sum setup setting cores t stands c here a active (negsuc 0) one_small (Some now_at) drawn_small (m.top ∷ []) few dues_are
+      move r
+      after still (λ f d. (ap (λ h. h.marks (CountAt f d)) held_before, ap (λ h. h.stands (CountAt f d)) held_before)) (λ f d. refl)
+      (alike setup setting cores t stands c here a active move r after fs height graces restack) refl refl no_count
+      (ap (λ l. l.cores) (limits setup setting cores t stands c here a active move r after fs height graces restack)) kept changes)
+      (record {
+        call = a.call;
+        is_open = opened;
+        permitted = permitted;
+        justified = nothing_gone setup setting cores t stands c here a active m stage_is has e;
+      })
+      (λ is_alone. ok_first s c a.call value.Nothing permitted)
+      (record { threads = ap changes_threads knows.call_is; core = knows.core })
+
+-- A step by which a core leaves a component is good.
+pub returning_good : (setup : Setting) → IsSetting setup → (cores : ℕ → Core) (t : Trace) → Stands setup cores t → (c : ℕ) → c < setup.cores
+    → (a : ActiveCall) → (cores c).active ≡ Some a → (m : Returning) → a.stage ≡ Undecided (Act (return_act m))
+    → KnowsUndecided setup t c (cores c).own.table a (Act (return_act m))
+    → GoodTook setup cores t c (returning_move m)
+    (landed a (took_returning m (told_of (returning_move m) (last_left setup t (word_of (returning_move m))))))
+returning_good setup setting cores t stands c here a active m stage_is has = by m.at refl
+  where
+    drawn : drawn_stamp (clock setup t) ≡ clock setup t
+    drawn = let low = clock_small setup setting cores t stands in let some = stands.some_time in omega arith
+
+    by : (at : ReturningAt) → m.at ≡ at
+        → GoodTook setup cores t c (returning_at m.thread m.depth at)
+        (landed a (took_returning_at m at (told_of (returning_at m.thread m.depth at)
+        (last_left setup t (word_of (returning_at m.thread m.depth at))))))
+    by LoadBelow is = load_below_good setup setting cores t stands c here a active m stage_is has is
+    by (LoadTable comp) is = load_table_good setup setting cores t stands c here a active m stage_is has comp is
+    by (LoadPages comp table) is = load_pages_good setup setting cores t stands c here a active m stage_is has comp table is
+    by (Draw comp table pages) is =
+        left_good setup setting cores t stands c here a active m stage_is has comp table pages is (drawn_stamp (clock setup t)) drawn

@@ -1,0 +1,15 @@
+pub mod Stores
+pub mod Stacks
+pub mod Heights
+pub mod CompWords
+pub mod OwnStack
+pub mod EntryMarks
+pub mod OwnWords
+pub mod Stacked
+pub mod Restacks
+pub mod InvokeCalls
+pub mod InvokeStarts
+pub mod Invokes
+pub mod Entered
+pub mod Returns
+pub mod Left

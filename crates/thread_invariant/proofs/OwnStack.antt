@@ -1,0 +1,66 @@
+-- A core's own thread, and the components on its stack.
+use Rattle.std.proofs.Common.{◌≡◌, ◌<◌, ◌≤◌, inl, ℕ, List, [], ◌∷◌, length, IsTrue, arith, refl, sym, ap, subst}
+use Rattle.std.proofs.lemmas.Bool.{false≢true}
+use Rattle.spk_nums.specs.Setting.{Setting, IsSetting}
+use Rattle.spk_nums.specs.declared.kinds.Kind.TheVariants as kind
+use Rattle.kernel_rules.specs.State.{Frame, Kernel, Thread, State, first_of_stack, thread_in, thread_of}
+use Rattle.kernel_rules.specs.Fitting.{fits}
+use Rattle.kernel_rules.specs.References.{times, frame_names, refs}
+use Rattle.kernel_rules.proofs.Sound.{IsSound, IsStack, IsObjectGood}
+use Rattle.kernel_rules.proofs.SoundRemovals.{below_by}
+use Rattle.kernel_rules.proofs.SoundRuns.{opened}
+use Rattle.kernel_rules.proofs.Stays.{object_named}
+use Rattle.kernel_rules.proofs.Sums.{times_cons, times_first}
+use Rattle.kernel_history.specs.Events.{events_of}
+use Rattle.kernel_history.specs.Legal.{IsLegal}
+use Rattle.kernel_history.specs.Trace.{Trace, state_after}
+use Rattle.kernel_history.proofs.Stays.{sound_of}
+use Rattle.core_invariant.specs.Components.{HasComp, below_of}
+use Rattle.core_invariant.proofs.Sounds.{limits_of}
+
+thread_fields : (x : Frame) → IsTrue (fits kind.Thread x) → x ≡ Kernel (Thread (thread_in x))
+thread_fields (Kernel (Thread k)) fit = refl
+thread_fields _ fit = absurd (false≢true fit)
+
+-- A stack that is not empty has a top, and what is below it.
+pub split_stack : (fs : List ℕ) → 1 ≤ length fs → fs ≡ first_of_stack fs ∷ Rattle.std.proofs.Common.drop 1 fs
+split_stack [] some = absurd (omega (arith, some))
+split_stack (f ∷ fs) some = refl
+
+module _ (setup : Setting) (setting : IsSetting setup) (t : Trace) (legal : IsLegal setup t) (c : ℕ) (here : c < setup.cores) where
+  abbrev s : State
+  s = state_after setup t
+
+  sound : IsSound s (opened (events_of t))
+  sound = sound_of setup setting t legal
+
+  below : c < s.limits.cores
+  below = subst (λ (n : ℕ). c < n) (sym (ap (λ l. l.cores) (limits_of setup t))) here
+
+  fit : IsTrue (fits kind.Thread (s.frame (s.core c).thread))
+  fit = (sound.cores c below).0
+
+  pub own_thread : s.frame (s.core c).thread ≡ Kernel (Thread (thread_of s c))
+  own_thread = thread_fields (s.frame (s.core c).thread) fit
+
+  pub thread_below : (s.core c).thread < s.limits.frames
+  thread_below = below_by s (opened (events_of t)) (s.core c).thread sound (fits kind.Thread) refl fit
+
+  own_comps : IsStack s (thread_of s c).stack
+  own_comps = subst (IsObjectGood s) own_thread (sound.objects (s.core c).thread)
+
+  is_on : (f : ℕ) → 1 ≤ times f (thread_of s c).stack → 0 < refs s f
+  is_on f named = object_named s (opened (events_of t)) (s.core c).thread f sound
+      (subst (λ fs. 1 ≤ times f fs) (sym (ap frame_names own_thread)) named)
+
+  -- the component below the top is there, and referenced
+  pub below_comp : 2 ≤ length (thread_of s c).stack → HasComp s c (below_of (thread_of s c).stack)
+  below_comp = by (thread_of s c).stack own_comps is_on
+    where
+      by : (fs : List ℕ) → IsStack s fs → ((f : ℕ) → 1 ≤ times f fs → 0 < refs s f) → 2 ≤ length fs → HasComp s c (below_of fs)
+      by [] is named deep = absurd (omega (arith, deep))
+      by (f ∷ []) is named deep = absurd (omega (arith, deep))
+      by (f ∷ g ∷ fs) is named deep = record {
+        comp = is.1.0;
+        guarded = inl (named g (let p = times_cons g f (g ∷ fs) in let q = times_first g fs in omega (arith, p, q)));
+      }

@@ -1,0 +1,57 @@
+-- What the words of a core's own thread say, while the core has nothing to store there.
+use Rattle.std.proofs.Common.{◌≡◌, ◌≢◌, ◌<◌, inl, inr, ℕ, false, Option, Some, None, refl, sym, ◌∙◌, ap, subst}
+use Rattle.std.proofs.lemmas.Bool.{cases_eq}
+use Rattle.spk_nums.specs.Setting.{Setting, IsSetting}
+use Rattle.word_map.specs.Word.{EntryAt}
+use Rattle.kernel_rules.specs.State.{PlaceOf, State, thread_in, thread_of}
+use Rattle.kernel_history.specs.Stamps.{stamp}
+use Rattle.kernel_history.specs.Trace.{Trace, state_after, last_left}
+use Rattle.call_steps.specs.View.{Core}
+use Rattle.core_invariant.specs.Holding.{settled_by}
+use Rattle.core_invariant.specs.Words.{IsFrameWord, IsThreadWord, count_room}
+use Rattle.core_invariant.specs.Stands.{holds, held_by, Stands}
+use Rattle.core_invariant.proofs.Bare.{none_kept}
+use Rattle.core_invariant.proofs.Lent.{runs_on_own}
+use Rattle.thread_invariant.proofs.EntryMarks.{thread_unmarked}
+use Rattle.thread_invariant.proofs.OwnStack.{own_thread}
+
+module _ (setup : Setting) (setting : IsSetting setup) (cores : ℕ → Core) (t : Trace) (stands : Stands setup cores t) (c : ℕ)
+    (here : c < setup.cores) (none : (f i : ℕ) → (holds (cores c)).bare f i ≡ None)
+    (mine : (f i : ℕ) → (holds (cores c)).marks (EntryAt f i) ≡ false) where
+  abbrev s : State
+  s = state_after setup t
+
+  abbrev thread : ℕ
+  thread = ((state_after setup t).core c).thread
+
+  -- no core keeps a word of it
+  unkept : (i d : ℕ) → (held_by cores d).bare ((state_after setup t).core c).thread i ≡ None
+  unkept i d = elim (cases_eq d c) [
+    | inl own ↦ ap (λ (b : ℕ). (held_by cores b).bare ((state_after setup t).core c).thread i) own
+        ∙ none ((state_after setup t).core c).thread i
+    | inr other ↦ by other ((held_by cores d).bare ((state_after setup t).core c).thread i) refl
+  ]
+    where
+      same_core : (x y : ℕ) → Some x ≡ Some y → x ≡ y
+      same_core x y h = cc
+
+      by : d ≢ c → (o : Option ℕ) → (held_by cores d).bare ((state_after setup t).core c).thread i ≡ o
+          → (held_by cores d).bare ((state_after setup t).core c).thread i ≡ None
+      by other None free = free
+      by other (Some u) kept =
+          let l = stands.lent d ((state_after setup t).core c).thread i u kept in
+          absurd (other (same_core d c (sym (runs_on_own setup setting cores t stands d l.core)
+          ∙ ap (λ (g : ℕ). (thread_in ((state_after setup t).frame g)).runs_on) l.thread
+          ∙ runs_on_own setup setting cores t stands c here)))
+
+  pub thread_says : (i : ℕ) → IsThreadWord (thread_of s c) i (last_left setup t (EntryAt ((state_after setup t).core c).thread i))
+  thread_says i =
+      subst (λ x. IsFrameWord s.limits.frames (count_room s) x (s.place thread i) (stamp setup t (PlaceOf thread i)) i
+      (last_left setup t (EntryAt thread i))) (own_thread setup setting t stands.legal c here)
+      (subst (λ (n : ℕ). IsFrameWord s.limits.frames (count_room s) (s.frame thread) (s.place thread i)
+      (stamp setup t (PlaceOf thread i)) i n)
+      (none_kept 8 (held_by cores) thread i (last_left setup t (EntryAt thread i)) (unkept i))
+      (subst (λ o. IsFrameWord s.limits.frames (count_room s) (s.frame thread) (s.place thread i) (stamp setup t (PlaceOf thread i)) i
+      (settled_by o (held_by cores) (EntryAt thread i) (last_left setup t (EntryAt thread i))))
+      (thread_unmarked setup setting cores t stands c here i (mine thread i))
+      (stands.words (EntryAt thread i))))

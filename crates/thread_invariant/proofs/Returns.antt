@@ -1,0 +1,244 @@
+-- The loads by which a core that leaves a component reads the component below it are good.
+use Rattle.std.specs.Prelude.{IsSome}
+use Rattle.std.proofs.Common.{◌≡◌, inl, ℕ, suc, ◌<◌, ◌≤◌, ◌+◌, ◌-◌, ◌==◌, ◌++◌, map, length, drop, nat_le, nat_lt, Bool, true, false, if◌then◌else◌, List, [], ◌∷◌, Option, Some, None, IsTrue, arith, refl, sym, ◌∙◌, ap, subst}
+use Rattle.std.proofs.lemmas.Bool.{lt-leb, lt-ltb}
+use Rattle.std.proofs.lemmas.List.Elements.{All-nil}
+use Rattle.spk_nums.specs.Setting.{Setting, IsSetting}
+use Rattle.spk_nums.specs.declared.replies.Reply.TheVariants as reply
+use Rattle.tcap_words.specs.Stack.{stack_of_word}
+use Rattle.word_map.specs.Word.{EntryAt}
+use Rattle.word_map.specs.Moves.{LoadOf}
+use Rattle.kernel_rules.specs.State.{CompFields, State, first_of_stack, comp_in, thread_of}
+use Rattle.kernel_rules.specs.Access.{Slot}
+use Rattle.kernel_rules.specs.Rules.{Found, unless, first_of}
+use Rattle.kernel_rules.specs.InvocationCalls.{pops}
+use Rattle.kernel_rules.specs.CallRelation.{rule_of, change_of}
+use Rattle.kernel_history.specs.Footprint.{is_one_of, frames_near}
+use Rattle.kernel_history.specs.Justified.{HasReached}
+use Rattle.kernel_history.specs.ObjectWords.{at_height}
+use Rattle.kernel_history.specs.Trace.{Step, Trace, Open, phase, state_after, last_left, own_left}
+use Rattle.kernel_history.specs.Ways.{ways}
+use Rattle.kernel_history.proofs.Carries.{Carries}
+use Rattle.stage_pins.specs.declared.held.Acquired.{Acquired}
+use Rattle.call_acts.specs.declared.invocations.Returning.{Returning}
+use Rattle.call_acts.specs.declared.invocations.ReturningAt.{ReturningAt}
+use Rattle.call_acts.specs.declared.invocations.ReturningAt.TheVariants.{LoadBelow, LoadTable, LoadPages, Draw}
+use Rattle.call_acts.specs.declared.work.Act.{Act as ActOf}
+use Rattle.call_acts.specs.declared.work.Act.TheVariants.{Return as return_act}
+use Rattle.call_acts.specs.declared.work.Work.TheVariants.{Act}
+use Rattle.call_acts.specs.declared.work.WorkStep.TheVariants.{Goes}
+use Rattle.call_acts.specs.Invocations.{ReturningFits, frame_in, frame_of_stack, below_in}
+use Rattle.call_acts.specs.Acts.{dues, returning_dues, next_work, meets_below, meets_below_table, meets_below_pages}
+use Rattle.call_steps.specs.declared.stages.Stage.TheVariants.{Undecided}
+use Rattle.call_steps.specs.declared.stages.ActiveCall.{ActiveCall}
+use Rattle.call_steps.specs.Fits.{StageFits, HasRoom}
+use Rattle.call_steps.specs.Steps.{landed}
+use Rattle.call_steps.specs.View.{Core}
+use Rattle.core_invariant.specs.Components.{HasComp, IsBelow, HasLoadedBelow, KnowsReturning, below_of}
+use Rattle.core_invariant.specs.Holding.{holds_counts}
+use Rattle.core_invariant.specs.Knows.{due_of, KnowsUndecided, phase_at}
+use Rattle.core_invariant.specs.Stands.{holds_at, holds_in, holds, Stands}
+use Rattle.core_invariant.proofs.Bare.{counts_bare}
+use Rattle.core_invariant.proofs.Carries.{names_on, returning_on}
+use Rattle.core_invariant.proofs.Loads.{OnlyLooks, step_to, next_at, call_is, is_active, loads_on}
+use Rattle.core_invariant.proofs.Refusals.{GoodTook}
+use Rattle.count_invariant.proofs.Acquiring.{knows_next, next_holds, one_apart}
+use Rattle.count_invariant.proofs.StackCounts.{stack_near, thread_near, below_one}
+use Rattle.thread_invariant.proofs.EntryMarks.{counts_apart}
+use Rattle.thread_invariant.proofs.CompWords.{comp_says, table_below, pages_below, comp_below}
+use Rattle.thread_invariant.proofs.Heights.{at_below}
+use Rattle.thread_invariant.proofs.Invokes.{frame_shown}
+use Rattle.thread_invariant.proofs.OwnStack.{below_comp}
+use Rattle.thread_invariant.proofs.OwnWords.{thread_says}
+
+-- The component below the top of a stack, by its height.
+height_below : (fs : List ℕ) (h : ℕ) → 2 ≤ length fs → h + 2 ≡ length fs → at_height fs h ≡ Some (below_of fs)
+height_below [] h deep is = absurd (omega (arith, deep))
+height_below (f ∷ []) h deep is = absurd (omega (arith, deep))
+height_below (f ∷ g ∷ fs) h deep is = ap (at_height (f ∷ g ∷ fs)) same ∙ at_below f g fs
+  where
+    same : h ≡ length fs
+    same = omega (arith, is)
+
+module _ (setup : Setting) (setting : IsSetting setup) (cores : ℕ → Core) (t : Trace) (stands : Stands setup cores t) (c : ℕ)
+    (here : c < setup.cores)
+    (a : ActiveCall) (active : (cores c).active ≡ Some a) (m : Returning) (stage_is : a.stage ≡ Undecided (Act (return_act m)))
+    (has : KnowsUndecided setup t c (cores c).own.table a (Act (return_act m))) where
+  abbrev s : State
+  s = state_after setup t
+
+  abbrev stack : List ℕ
+  stack = (thread_of s c).stack
+
+  abbrev below : ℕ
+  below = below_of (thread_of s c).stack
+
+  abbrev knows : KnowsReturning s c a.call m
+  knows = has.knows.knows
+
+  pub opens : phase_at a.call a.stage ≡ Open a.call
+  opens = ap (phase_at a.call) stage_is
+
+  pub is_open : phase t c ≡ Open a.call
+  is_open = (call_is setup setting cores t stands c here a active).phase ∙ opens
+
+  pub room : (cores c).own.made < (cores c).own.limit
+  room = subst (HasRoom (cores c).own.made (cores c).own.limit) stage_is (is_active setup setting cores t stands c here a active).room
+
+  pub return_fits : ReturningFits (cores c).own.layout m
+  return_fits = subst (StageFits (cores c).own.layout) stage_is (is_active setup setting cores t stands c here a active).stage
+
+  pub deep : 2 ≤ length (thread_of s c).stack
+  deep = let some = return_fits.some_depth in let same = knows.on.depth in omega (arith, some, same)
+
+  -- what is left of its rule
+  pub change : change_of s c a.call ≡ Found (pops s c)
+  change = ap (change_of s c) knows.call_is
+      ∙ ap (λ b. unless (first_of (if b then Some reply.Bottom else None) None) (pops s c))
+      (lt-leb (length (thread_of s c).stack) 1 (let more = deep in omega (arith, more)))
+
+  pub nothing_gone : (e : Step) → HasReached (e ∷ t) c (ways s c (rule_of s c a.call))
+  nothing_gone e = subst (λ x. HasReached (e ∷ t) c (ways s c (rule_of s c x))) (sym knows.call_is)
+      (All-nil (λ (x : Slot). IsSome (own_left (e ∷ t) c (EntryAt x.node x.index))))
+
+  pub return_held : holds_in (Some a) ≡ holds_counts None a.counts
+  return_held = ap (λ s. holds_at s a.counts) stage_is
+
+  none_kept : (f i : ℕ) → (holds (cores c)).bare f i ≡ None
+  none_kept f i = ap (λ h. h.bare f i) (ap holds_in active ∙ return_held) ∙ counts_bare None a.counts f i
+
+  none_marked : (f i : ℕ) → (holds (cores c)).marks (EntryAt f i) ≡ false
+  none_marked f i = ap (λ h. h.marks (EntryAt f i)) (ap holds_in active ∙ return_held) ∙ counts_apart None a.counts f i
+
+  frames_are : m.frames ≡ setup.frames
+  frames_are = return_fits.frames ∙ ap (λ l. l.frames) (stands.each c here).shape
+
+  dues_at : (at : ReturningAt) → m.at ≡ at → returning_dues m.top at ≡ map due_of a.counts
+  dues_at at is = ap (returning_dues m.top) (sym is) ∙ has.knows.all
+
+  pub loaded_at : (at : ReturningAt) → m.at ≡ at → HasLoadedBelow s c at
+  loaded_at at is = subst (HasLoadedBelow s c) is knows.at
+
+  looks_at : (f i : ℕ) → is_one_of f (frames_near s c a.call) ≡ true → OnlyLooks setup t c a.call (LoadOf (EntryAt f i))
+  looks_at f i near = record { of_call = record { moves = refl; near = inl near }; kept = refl; apart = λ d. refl }
+
+  below_near : (comp : ℕ) → IsBelow s c comp → is_one_of comp (frames_near s c a.call) ≡ true
+  below_near comp at = stack_near s c a.call comp
+      (subst (λ (n : ℕ). is_one_of n (thread_of s c).stack ≡ true) (sym at.is) (below_one (thread_of s c).stack deep))
+
+  abbrev load : ℕ → ℕ → Step
+  load f i = step_to c None (LoadOf (EntryAt f i)) (last_left setup t (EntryAt f i)) None None
+
+  -- it goes on to the next load
+  goes_on_to : (f i : ℕ) → is_one_of f (frames_near s c a.call) ≡ true → (at : ReturningAt) → HasLoadedBelow s c at
+      → returning_dues m.top at ≡ map due_of a.counts
+      → GoodTook setup cores t c (LoadOf (EntryAt f i)) (landed a (Goes (Act (return_act (record m { at = at })))))
+  goes_on_to f i near at now due lands =
+      loads_on setup setting cores t stands c here a active (LoadOf (EntryAt f i)) a.found
+      (Undecided (Act (return_act (record m { at = at })))) (looks_at f i near) lands (sym return_held) opens
+      (λ carries. record {
+        names = names_on setup setting t (load f i) stands.legal c a.call is_open carries (cores c).own.table a.plan a.found has.names;
+        knows = record {
+          knows = returning_on setup setting t (load f i) stands.legal c a.call is_open carries a.call (record m { at = at })
+              (record { call_is = knows.call_is; core = knows.core; on = knows.on; top = knows.top; at = now });
+          all = due;
+          goes = refl;
+        };
+      })
+
+  pub load_below_good : m.at ≡ LoadBelow
+      → GoodTook setup cores t c (LoadOf (EntryAt m.thread (m.depth - 1)))
+      (landed a (meets_below m (below_in m.frames (last_left setup t (EntryAt m.thread (m.depth - 1))))))
+  load_below_good is = subst (λ o. GoodTook setup cores t c (LoadOf (EntryAt m.thread (m.depth - 1))) (landed a (meets_below m o)))
+      (sym shown)
+      (goes_on_to m.thread (m.depth - 1) (thread_near s c a.call m.thread (sym knows.on.thread)) (LoadTable below) at_below_it
+      (dues_at LoadBelow is))
+    where
+      has_comp : HasComp s c below
+      has_comp = below_comp setup setting t stands.legal c here deep
+
+      at_below_it : IsBelow s c below
+      at_below_it = record { is = refl; comp = has_comp }
+
+      index : m.depth - 1 ≡ suc (m.depth - 2)
+      index = let some = return_fits.some_depth in omega (arith, some)
+
+      low : m.depth - 2 < 16
+      low = let most = return_fits.most_depth in let some = return_fits.some_depth in omega (arith, most, some)
+
+      height : m.depth - 2 + 2 ≡ length (thread_of s c).stack
+      height = let some = return_fits.some_depth in let same = knows.on.depth in omega (arith, some, same)
+
+      small : below < m.frames
+      small = let within = comp_below setup setting cores t stands below has_comp.comp in
+          let same = frames_are in omega (arith, within, same)
+
+      says : stack_of_word (last_left setup t (EntryAt m.thread (m.depth - 1))) ≡ Some (record { 0 = Some below })
+      says = ap (λ (n : ℕ). stack_of_word (last_left setup t (EntryAt m.thread n))) index
+          ∙ ap (λ (f : ℕ). stack_of_word (last_left setup t (EntryAt f (suc (m.depth - 2))))) knows.on.thread
+          ∙ thread_says setup setting cores t stands c here none_kept none_marked (suc (m.depth - 2)) low
+          ∙ ap (λ (o : Option ℕ). Some (record { 0 = o })) (height_below (thread_of s c).stack (m.depth - 2) deep height)
+
+      shown : below_in m.frames (last_left setup t (EntryAt m.thread (m.depth - 1))) ≡ Some below
+      shown = ap (frame_of_stack m.frames) says ∙ ap (λ b. if b then Some below else None) (lt-ltb below m.frames small)
+
+  pub load_table_good : (comp : ℕ) → m.at ≡ LoadTable comp
+      → GoodTook setup cores t c (LoadOf (EntryAt comp 0)) (landed a (meets_below_table m comp (frame_in m.frames (last_left setup t
+      (EntryAt comp 0)))))
+  load_table_good comp is =
+      let at = loaded_at (LoadTable comp) is in
+      subst (λ o. GoodTook setup cores t c (LoadOf (EntryAt comp 0)) (landed a (meets_below_table m comp o)))
+      (sym (frame_shown m.frames (last_left setup t (EntryAt comp 0)) (comp_in (s.frame comp)).table
+      (comp_says setup setting cores t stands comp at.comp.comp 0)
+      (let low = table_below setup setting cores t stands comp at.comp.comp in let same = frames_are in omega (arith, low, same))))
+      (goes_on_to comp 0 (below_near comp at) (LoadPages comp (comp_in (s.frame comp)).table) (at, refl) (dues_at (LoadTable comp) is))
+
+  none_of : (xs : List Acquired) → [] ≡ map due_of xs → xs ≡ []
+  none_of [] h = refl
+  none_of (x ∷ xs) h = absurd (cc)
+
+  -- the count of the top comes next
+  module _ (comp table : ℕ) (is : m.at ≡ LoadPages comp table) where
+    abbrev pages : ℕ
+    pages = (comp_in (s.frame comp)).pages
+
+    abbrev act : ActOf
+    act = return_act (record m { at = Draw comp table pages })
+
+    at_pages : HasLoadedBelow s c (LoadPages comp table)
+    at_pages = loaded_at (LoadPages comp table) is
+
+    no_counts : a.counts ≡ []
+    no_counts = none_of a.counts (dues_at (LoadPages comp table) is)
+
+    counts_next : GoodTook setup cores t c (LoadOf (EntryAt comp 1)) (landed a (Goes (next_work m.core 0 act)))
+    counts_next lands =
+        let e : Step = load comp 1 in
+        loads_on setup setting cores t stands c here a active (LoadOf (EntryAt comp 1)) a.found (Undecided (next_work m.core 0 act))
+        (looks_at comp 1 (below_near comp at_pages.0)) lands
+        (next_holds m.core 0 act (holds_counts None a.counts) ∙ sym return_held) opens
+        (λ carries. record {
+          names = names_on setup setting t e stands.legal c a.call is_open carries (cores c).own.table a.plan a.found has.names;
+          knows = knows_next setup (e ∷ t) c (cores c).own.table (next_at a a.found (Undecided (next_work m.core 0 act))) m.core act
+              (dues act)
+              knows.core
+              (returning_on setup setting t e stands.legal c a.call is_open carries a.call (record m { at = Draw comp table pages })
+              (record {
+                call_is = knows.call_is;
+                core = knows.core;
+                on = knows.on;
+                top = knows.top;
+                at = (at_pages.0, at_pages.1, refl);
+              }))
+              (ap (λ (xs : List Acquired). map due_of xs ++ dues act) (sym no_counts)) (one_apart (dues act) (omega arith)) 0
+              (ap (λ (xs : List Acquired). length xs) (sym no_counts)) refl refl;
+        })
+
+    pub load_pages_good : GoodTook setup cores t c (LoadOf (EntryAt comp 1)) (landed a (meets_below_pages m comp table
+        (frame_in m.frames (last_left setup t (EntryAt comp 1)))))
+    load_pages_good = subst (λ o. GoodTook setup cores t c (LoadOf (EntryAt comp 1)) (landed a (meets_below_pages m comp table o)))
+        (sym (frame_shown m.frames (last_left setup t (EntryAt comp 1)) (comp_in (s.frame comp)).pages
+        (comp_says setup setting cores t stands comp at_pages.0.comp.comp 1)
+        (let low = pages_below setup setting cores t stands comp at_pages.0.comp.comp in
+        let same = frames_are in omega (arith, low, same))))
+        counts_next

@@ -1,0 +1,2 @@
+pub mod IdleThreads
+pub mod Steps

@@ -1,0 +1,66 @@
+-- A step of a tick keeps the invariant, whichever it is.
+use Rattle.std.specs.Prelude.{min}
+use Rattle.std.proofs.Common.{◌≡◌, ℕ, ◌<◌, ◌==◌, Bool, true, false, Some, refl, sym, subst}
+use Rattle.spk_nums.specs.Setting.{Setting, IsSetting}
+use Rattle.tcap_words.specs.Head.{word_of_head, head_of_word}
+use Rattle.word_map.specs.Word.{EntryAt}
+use Rattle.word_map.specs.Moves.{LoadOf, CompareOf, word_of, told_of}
+use Rattle.kernel_history.specs.Trace.{Trace, state_after, last_left}
+use Rattle.stage_tcap.specs.Heads.{head, debited}
+use Rattle.stage_tcap.specs.Charging.{charge_move, after_head, head_end, charged_end}
+use Rattle.stage_tcap.specs.declared.charge.Charge.{Charge}
+use Rattle.stage_tcap.specs.declared.charge.Charge.TheVariants.{AtLoad, AtCompare}
+use Rattle.call_acts.specs.Ticks.{took_charge, took_tick}
+use Rattle.call_acts.specs.declared.work.Act.TheVariants.{Tick as tick_act}
+use Rattle.call_acts.specs.declared.work.Work.TheVariants.{Act}
+use Rattle.call_steps.specs.declared.stages.Stage.TheVariants.{Undecided}
+use Rattle.call_steps.specs.declared.stages.ActiveCall.{ActiveCall}
+use Rattle.call_steps.specs.Steps.{landed}
+use Rattle.call_steps.specs.View.{Core}
+use Rattle.core_invariant.specs.Knows.{ChargesBy, HasHead, KnowsUndecided}
+use Rattle.core_invariant.specs.Stands.{Stands}
+use Rattle.core_invariant.proofs.Refusals.{GoodTook}
+use Rattle.time_invariant.proofs.TickCalls.{tick_of}
+use Rattle.time_invariant.proofs.Ticks.{here_is, load_good, won_good, lost_good}
+
+-- A step of a tick is good.
+pub tick_good : (setup : Setting) → IsSetting setup → (cores : ℕ → Core) (t : Trace) → Stands setup cores t → (c : ℕ) → c < setup.cores
+    → (a : ActiveCall) → (cores c).active ≡ Some a → (charge_at : Charge) → a.stage ≡ Undecided (Act (tick_act charge_at))
+    → KnowsUndecided setup t c (cores c).own.table a (Act (tick_act charge_at))
+    → GoodTook setup cores t c (charge_move charge_at)
+    (landed a (took_tick charge_at (told_of (charge_move charge_at) (last_left setup t (word_of (charge_move charge_at))))))
+tick_good setup setting cores t stands c here a active (AtLoad tcap ticks) is has =
+    subst (λ (f : ℕ). GoodTook setup cores t c (LoadOf (EntryAt f 0))
+    (landed a (took_charge ticks (after_head f ticks (head_of_word (last_left setup t (EntryAt f 0))))
+    (head_end (head_of_word (last_left setup t (EntryAt f 0)))))))
+    (sym (here_is setup setting cores t stands c here a active (AtLoad tcap ticks) is has tcap ticks refl))
+    (load_good setup setting cores t stands c here a active (AtLoad tcap ticks) is has tcap ticks refl)
+tick_good setup setting cores t stands c here a active (AtCompare tcap ticks budget version) is has = by (own_frame has.knows.knows.charges)
+  where
+    own_frame : ChargesBy (state_after setup t) c a.call (AtCompare tcap ticks budget version) → tcap ≡ ((state_after setup t).core c).tcap
+    own_frame h = (tick_of (state_after setup t) c a.call (AtCompare tcap ticks budget version) h).charged.tcap
+
+    Goal : ℕ → Type 0
+    Goal f = GoodTook setup cores t c (CompareOf (EntryAt f 0) (word_of_head (head budget version))
+        (word_of_head (debited (head budget version) (min ticks budget))))
+        (landed a (took_charge ticks (AtCompare tcap ticks budget version)
+        (charged_end (last_left setup t (EntryAt f 0) == word_of_head (head budget version)) (min ticks budget))))
+
+    by : tcap ≡ ((state_after setup t).core c).tcap → Goal tcap
+    by same = subst Goal (sym same) (by_test (last_left setup t (EntryAt ((state_after setup t).core c).tcap 0)
+        == word_of_head (head budget version)) refl)
+      where
+        met : HasHead t c ((state_after setup t).core c).tcap budget version
+        met = subst (λ (f : ℕ). HasHead t c f budget version) same has.knows.knows.at
+
+        by_test : (equal : Bool)
+            → (last_left setup t (EntryAt ((state_after setup t).core c).tcap 0) == word_of_head (head budget version)) ≡ equal
+            → GoodTook setup cores t c (CompareOf (EntryAt ((state_after setup t).core c).tcap 0) (word_of_head (head budget version))
+            (word_of_head (debited (head budget version) (min ticks budget))))
+            (landed a (took_charge ticks (AtCompare tcap ticks budget version) (charged_end equal (min ticks budget))))
+        by_test true equal =
+            won_good setup setting cores t stands c here a active (AtCompare tcap ticks budget version) is has tcap ticks budget version
+            refl met equal
+        by_test false other =
+            lost_good setup setting cores t stands c here a active (AtCompare tcap ticks budget version) is has budget version met
+            (word_of_head (debited (head budget version) (min ticks budget))) other

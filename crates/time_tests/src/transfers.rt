@@ -1,0 +1,233 @@
+//! `transfer` and `test`. After the look-ups of their two names they load head A (6) and mark it (7), load list A (8 to 15), head B
+//! (16) and list B (17 to 24), and then compare head B, or load it again, which decides (25); then head A is stored (26).
+
+use crate::ticks::{is_left, tables};
+use core_kernel::FreeGate;
+use speck_run::Status;
+use std::test::Fail;
+use test_machine::{AMPLE, FROM_ENTRIES, MACHINE, TO_ENTRIES, answers, runs};
+
+#[test]
+fn a_transfer_moves_ticks_and_is_short_by_its_own_budget(rt: HostRuntime) -> Result<(), Fail> {
+    let alloc = rt.alloc();
+    let machine = "speck 1\ncores 2\nframes 32\ngrant 5 0 1\ngrant 100 0 1\n";
+    let lines = "core 0\ntick 8\ntransfer 13 12 10\ntick 0\ntransfer 12 13 50\n";
+    let replies =
+        "0.1 tick 8 = ok 5\n0.2 transfer 13 12 10 = ok\n0.3 tick 0 = ok 3\n0.4 transfer 12 13 50 = short 7\n";
+    let script = format!(in alloc; "{machine}{lines}")?;
+    let left = tables(alloc, (7, 90), (8, 0), (0, 0))?;
+    let left = left.replace(alloc, "total 200\n", "total 105\n")?;
+    let text = format!(in alloc; "{replies}{left}")?;
+    for command in ["replay", "plain"] {
+        assert!(rt;
+            answers(
+                &rt,
+                alloc,
+                &[command],
+                script.as_bytes(),
+                &AMPLE,
+                Status::Done,
+                &text
+            )?,
+            "{command}"
+        );
+    }
+    assert!(rt; runs(&rt, alloc, &FreeGate, &script, Status::Done, &text)?);
+    Ok(())
+}
+
+#[test]
+fn transfers_of_no_ticks_of_all_and_of_one_more(rt: HostRuntime) -> Result<(), Fail> {
+    let alloc = rt.alloc();
+    let lines =
+        "core 0\ntransfer 12 13 0\ntransfer 12 13 100\ntransfer 12 13 1\ntransfer 13 12 201\ntransfer 13 12 200\ntransfer 12 12 1\ntransfer 12 0 1\n";
+    let replies =
+        "0.1 transfer 12 13 0 = ok\n0.2 transfer 12 13 100 = ok\n0.3 transfer 12 13 1 = short 0\n0.4 transfer 13 12 201 = short 200\n0.5 transfer 13 12 200 = ok\n0.6 transfer 12 12 1 = same\n0.7 transfer 12 0 1 = wrong-cap\n";
+    let left = tables(alloc, (200, 0), (0, 0), (0, 0))?;
+    assert!(rt; is_left(&rt, alloc, lines, replies, &left)?);
+    Ok(())
+}
+
+#[test]
+fn a_test_tells_which_is_better_and_moves_nothing(rt: HostRuntime) -> Result<(), Fail> {
+    let alloc = rt.alloc();
+    // With one list the two are as good as each other, until one has no budget.
+    let lines =
+        "core 0\ntest 12 13\ntest 13 12\ntransfer 12 13 100\ntest 12 13\ntest 13 12\ntest 13 13\n";
+    let replies =
+        "0.1 test 12 13 = ok stays\n0.2 test 13 12 = ok stays\n0.3 transfer 12 13 100 = ok\n0.4 test 12 13 = ok stays\n0.5 test 13 12 = ok preempts\n0.6 test 13 13 = same\n";
+    let left = tables(alloc, (0, 200), (0, 0), (0, 0))?;
+    assert!(rt; is_left(&rt, alloc, lines, replies, &left)?);
+    // With other schedulers each preempts the other, and no tick goes from one to the other.
+    let machine = "speck 1\ncores 2\nframes 32\ngrant 100 0 1\ngrant 100 1 7\n";
+    let lines =
+        "core 0\ntest 12 13\ntest 13 12\ntransfer 12 13 1\ntransfer 12 13 101\ntest 12 13\n";
+    let replies =
+        "0.1 test 12 13 = ok preempts\n0.2 test 13 12 = ok preempts\n0.3 transfer 12 13 1 = unlike\n0.4 transfer 12 13 101 = short 100\n0.5 test 12 13 = ok preempts\n";
+    let script = format!(in alloc; "{machine}{lines}")?;
+    let start = format!(in alloc; "{TO_ENTRIES}{FROM_ENTRIES}")?;
+    let left = start.replace(
+        alloc,
+        "frame 7 tcap refs 2\n  budget 100\n  quality 0 1\n",
+        "frame 7 tcap refs 2\n  budget 100\n  quality 1 7\n",
+    )?;
+    let text = format!(in alloc; "{replies}{left}")?;
+    for command in ["replay", "plain"] {
+        assert!(rt;
+            answers(
+                &rt,
+                alloc,
+                &[command],
+                script.as_bytes(),
+                &AMPLE,
+                Status::Done,
+                &text
+            )?,
+            "{command}"
+        );
+    }
+    Ok(())
+}
+
+#[test]
+fn transfers_in_both_directions_meet(rt: HostRuntime) -> Result<(), Fail> {
+    let alloc = rt.alloc();
+    let lists = "core 0\ntransfer 12 13 10\ncore 1\ntransfer 13 12 5\n";
+    let rows = [
+        // Core 0 has decided, and its head is still to be stored; then nothing of it is.
+        (
+            "0! 1. 0.",
+            "0.1 transfer 12 13 10 = ok\n1.1 transfer 13 12 5 = busy 0\n",
+            (90, 110),
+        ),
+        (
+            "0. 1.",
+            "0.1 transfer 12 13 10 = ok\n1.1 transfer 13 12 5 = ok\n",
+            (95, 105),
+        ),
+        (
+            "1. 0.",
+            "1.1 transfer 13 12 5 = ok\n0.1 transfer 12 13 10 = ok\n",
+            (95, 105),
+        ),
+        // Core 0 is ready; core 1 meets its mark, gives its own head back as it was, and core 0 finds that unchanged.
+        (
+            "0< 1. 0.",
+            "1.1 transfer 13 12 5 = busy 0\n0.1 transfer 12 13 10 = ok\n",
+            (90, 110),
+        ),
+        // Each has marked its own first head, and each meets the other's.
+        (
+            "0 0 0 0 0 0 0 1 1 1 1 1 1 1 0! 1! 0. 1.",
+            "0.1 transfer 12 13 10 = busy 1\n1.1 transfer 13 12 5 = busy 0\n",
+            (100, 100),
+        ),
+    ];
+    for (order, replies, budgets) in rows {
+        let lines = format!(in alloc; "{lists}order\n{order}\n")?;
+        let left = tables(alloc, budgets, (0, 0), (0, 0))?;
+        assert!(rt; is_left(&rt, alloc, &lines, replies, &left)?, "{order}");
+    }
+    Ok(())
+}
+
+#[test]
+fn a_head_that_changes_is_lost(rt: HostRuntime) -> Result<(), Fail> {
+    let alloc = rt.alloc();
+    let rows = [
+        // A tick of B's core changes B's head.
+        (
+            "transfer 12 13 10",
+            "tick 7",
+            "0< 1. 0.",
+            "1.1 tick 7 = ok 7\n0.1 transfer 12 13 10 = raced\n",
+            (100, 93),
+            (0, 0),
+            (7, 0),
+        ),
+        (
+            "test 12 13",
+            "tick 7",
+            "0< 1. 0.",
+            "1.1 tick 7 = ok 7\n0.1 test 12 13 = raced\n",
+            (100, 93),
+            (0, 0),
+            (7, 0),
+        ),
+        // A tick of no ticks changes it too; a load before head B does not meet it.
+        (
+            "test 12 13",
+            "tick 0",
+            "0< 1. 0.",
+            "1.1 tick 0 = ok 0\n0.1 test 12 13 = raced\n",
+            (100, 100),
+            (0, 0),
+            (0, 0),
+        ),
+        (
+            "test 12 13",
+            "tick 7",
+            "0 0 0 0 0 0 0 0 1. 0.",
+            "1.1 tick 7 = ok 7\n0.1 test 12 13 = ok stays\n",
+            (100, 93),
+            (0, 0),
+            (7, 0),
+        ),
+        // A tick whose head was loaded loses it to a transfer, and meets a mark; its ticks are owed.
+        (
+            "tick 7",
+            "transfer 12 13 10",
+            "0< 1. 0.",
+            "1.1 transfer 12 13 10 = ok\n0.1 tick 7 = raced\n",
+            (90, 110),
+            (0, 7),
+            (0, 0),
+        ),
+        (
+            "tick 7",
+            "transfer 12 13 10",
+            "1! 0. 1.",
+            "1.1 transfer 12 13 10 = ok\n0.1 tick 7 = busy 1\n",
+            (90, 110),
+            (0, 7),
+            (0, 0),
+        ),
+        (
+            "tick 7",
+            "test 12 13",
+            "1< 0. 1.",
+            "0.1 tick 7 = busy 1\n1.1 test 12 13 = ok stays\n",
+            (100, 100),
+            (0, 7),
+            (0, 0),
+        ),
+        // A test gives head A back in the version in which it found it, so a tick that has loaded it is not lost.
+        (
+            "tick 7",
+            "test 12 13",
+            "0< 1. 0.",
+            "1.1 test 12 13 = ok stays\n0.1 tick 7 = ok 7\n",
+            (93, 100),
+            (7, 0),
+            (0, 0),
+        ),
+        (
+            "test 12 13",
+            "test 13 12",
+            "0< 1. 0.",
+            "1.1 test 13 12 = busy 0\n0.1 test 12 13 = ok stays\n",
+            (100, 100),
+            (0, 0),
+            (0, 0),
+        ),
+    ];
+    for (first, second, order, replies, budgets, zero, one) in rows {
+        let lines = format!(in alloc; "core 0\n{first}\ncore 1\n{second}\norder\n{order}\n")?;
+        let left = tables(alloc, budgets, zero, one)?;
+        assert!(rt;
+            is_left(&rt, alloc, &lines, replies, &left)?,
+            "{first}, {second}: {order}"
+        );
+    }
+    Ok(())
+}
