@@ -2,7 +2,7 @@
 -- its settled value, and all that is said of words is said of settled ones. So a step that only marks a word, or gives it
 -- back, changes nothing that is said. A core may also keep a word that carries no mark, where it alone may store it: this settles to what
 -- the core has still to store there.
-use Rattle.std.specs.Prelude.{◌≡◌, ℕ, zero, suc, Bool, true, false, List, [], ◌∷◌, Option, Some, None, if◌then◌else◌, ◌==◌, ◌&&◌}
+use Rattle.std.specs.Prelude.{◌≡◌, ℕ, zero, suc, Bool, true, false, List, [], ◌∷◌, Option, Some, None, if◌then◌else◌, ◌==◌, ◌&&◌, nat_le}
 use Rattle.spk_nums.specs.Setting.{Setting}
 use Rattle.frame_words.specs.Count.{word_of_count}
 use Rattle.word_map.specs.Word.{Word, EntryAt, FrameAt, CountAt, CoreAt, FlushAt, LiveAt, ClockAt, same_word}
@@ -44,6 +44,14 @@ keeps_bare f i x h = record {
   marks = h.marks;
   stands = h.stands;
   bare = λ g j. if g == f && j == i then Some x else h.bare g j;
+}
+
+-- The words of a list in frame f are kept without a mark, from this one to the eighth, and settle to these.
+abbrev pub keeps_list : ℕ → ℕ → (ℕ → ℕ) → Holding → Holding
+keeps_list f from words h = record {
+  marks = h.marks;
+  stands = h.stands;
+  bare = λ g j. if g == f && (nat_le from j && nat_le j 8) then Some (words j) else h.bare g j;
 }
 
 -- One word more is still to be stored, without a mark.

@@ -1,12 +1,12 @@
 -- What a call on two temporal capabilities knows where it stands, and which steps on the words of a temporal capability it relies on.
-use Rattle.std.specs.Prelude.{◌≡◌, ◌≢◌, ◌⊎◌, ◌<◌, ◌≤◌, ◌==◌, ◌&&◌, not, ℕ, zero, suc, Bool, true, false, IsTrue, IsSome, List, [], ◌∷◌, ◌^◌, ◌+◌, Option, Some, None, if◌then◌else◌}
+use Rattle.std.specs.Prelude.{◌≡◌, ◌≢◌, ◌⊎◌, ◌<◌, ◌≤◌, ◌==◌, ◌&&◌, not, ℕ, zero, suc, Bool, true, false, IsTrue, IsSome, List, [], ◌∷◌, ◌^◌, ◌+◌, Option, Some, None, if◌then◌else◌, slice_get}
 use Rattle.spk_nums.specs.Setting.{Setting}
 use Rattle.spk_nums.specs.Capability.{Capability}
 use Rattle.spk_nums.specs.declared.kinds.Kind.TheVariants.{Tcap as tcap_kind}
 use Rattle.spk_nums.specs.declared.calls.Call.{Call}
 use Rattle.spk_nums.specs.declared.calls.Call.TheVariants as call_as
 use Rattle.tcap_words.specs.Head.{HeadFits, word_of_head, head_of_word}
-use Rattle.tcap_words.specs.Quality.{quality_of_word}
+use Rattle.tcap_words.specs.Quality.{QualityFits, quality_of_word}
 use Rattle.tcap_words.specs.declared.head_word.HeadWord.{HeadWord}
 use Rattle.word_map.specs.Word.{Word, EntryAt, FrameAt, CountAt, CoreAt, FlushAt, LiveAt, ClockAt}
 use Rattle.word_map.specs.Moves.{word_of, left_of}
@@ -161,17 +161,29 @@ pub record StoresA (setup : Setting) (t : Trace) (p : Pair) : Type 0 where
   pub few : p.head_a.version + 1 < 2 ^ 28
   pub clean : list_changed t p.a ≡ false
 
-abbrev pub KnowsStoresAt : Setting → Trace → Pair → PairAt → Type 0
-KnowsStoresAt setup t p LoadA = ⊥
-KnowsStoresAt setup t p MarkA = ⊥
-KnowsStoresAt setup t p (ListA n) = ⊥
-KnowsStoresAt setup t p LoadB = ⊥
-KnowsStoresAt setup t p (ListB n) = ⊥
-KnowsStoresAt setup t p CompareB = ⊥
-KnowsStoresAt setup t p (AgainB r) = ⊥
-KnowsStoresAt setup t p (StoreList n) = ⊥
-KnowsStoresAt setup t p StoreB = ⊥
-KnowsStoresAt setup t p (StoreA moved v) = StoresA setup t p
+-- So is the head of B, which carries the core's mark too, and words of its list, each of which is spelled.
+pub record StoresB (setup : Setting) (t : Trace) (c : ℕ) (call : Call) (p : Pair) : Type 0 where
+  pub a : StoresA setup t p
+  pub raw : last_left setup t (EntryAt p.b 0) ≡ word_of_head (marked p.core p.head_b)
+  pub fits : HeadFits p.head_b
+  pub bare : p.head_b.mark ≡ None
+  pub few : p.head_b.version + 1 < 2 ^ 28
+  pub near : WasAt (IsNearIn c call (EntryAt p.b 0)) setup t c
+  pub tcap : HasTcap (state_after setup t) c p.b
+  pub differ : p.a ≢ p.b
+  pub spelled : (i : ℕ) → QualityFits (record { 0 = slice_get (in_order p.list_b) i })
+
+abbrev pub KnowsStoresAt : Setting → Trace → ℕ → Call → Pair → PairAt → Type 0
+KnowsStoresAt setup t c call p LoadA = ⊥
+KnowsStoresAt setup t c call p MarkA = ⊥
+KnowsStoresAt setup t c call p (ListA n) = ⊥
+KnowsStoresAt setup t c call p LoadB = ⊥
+KnowsStoresAt setup t c call p (ListB n) = ⊥
+KnowsStoresAt setup t c call p CompareB = ⊥
+KnowsStoresAt setup t c call p (AgainB r) = ⊥
+KnowsStoresAt setup t c call p (StoreList n) = (1 ≤ n) × (n ≤ 8) × StoresB setup t c call p
+KnowsStoresAt setup t c call p StoreB = StoresB setup t c call p
+KnowsStoresAt setup t c call p (StoreA moved v) = StoresA setup t p
 
 -- What a decided call knows that has still to store the words of two temporal capabilities.
 pub record KnowsShared (setup : Setting) (t : Trace) (c : ℕ) (call : Call) (p : Pair) : Type 0 where
@@ -179,4 +191,4 @@ pub record KnowsShared (setup : Setting) (t : Trace) (c : ℕ) (call : Call) (p 
   pub core : p.core ≡ c
   pub near : WasAt (IsNearIn c call (EntryAt p.a 0)) setup t c
   pub tcap_a : HasTcap (state_after setup t) c p.a
-  pub at : KnowsStoresAt setup t p p.at
+  pub at : KnowsStoresAt setup t c call p p.at

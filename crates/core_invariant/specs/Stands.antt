@@ -44,12 +44,14 @@ use Rattle.call_acts.specs.declared.work.Work.TheVariants.{Lookup, Read, Scan, A
 use Rattle.call_acts.specs.declared.work.Tail.{Tail}
 use Rattle.call_acts.specs.declared.work.Tail.TheVariants.{Nothing, Quiesce, Unmark, StoreDead, StoreFlush, Release, StoreLive, Push, Pop, Share as share_tail, StoreRunning, StoreIdle}
 use Rattle.tcap_words.specs.Head.{word_of_head}
-use Rattle.stage_tcap.specs.Pairs.{amount_of, left_a}
+use Rattle.stage_tcap.specs.Heads.{credited}
+use Rattle.stage_tcap.specs.Lists.{in_order}
+use Rattle.stage_tcap.specs.Pairs.{amount_of, left_a, word_of_list}
 use Rattle.stage_tcap.specs.declared.pair.Pair.{Pair}
 use Rattle.stage_tcap.specs.declared.pair.PairAt.{PairAt}
 use Rattle.stage_tcap.specs.declared.pair.PairAt.TheVariants.{LoadA, MarkA, ListA, LoadB, ListB, CompareB, AgainB, StoreList, StoreB, StoreA}
 use Rattle.call_steps.specs.View.{Core}
-use Rattle.core_invariant.specs.Holding.{Holding, nothing, holds_counts, holds_closed, holds_drawn, settled, MarkIs, keeps, will_store, keeps_bare}
+use Rattle.core_invariant.specs.Holding.{Holding, nothing, holds_counts, holds_closed, holds_drawn, settled, MarkIs, keeps, will_store, keeps_bare, keeps_list}
 use Rattle.core_invariant.specs.Frozen.{holds_untyping, holds_release}
 use Rattle.core_invariant.specs.Threads.{holds_switching, holds_running, holds_idle}
 use Rattle.core_invariant.specs.Words.{Times, WordIs, CountsAre}
@@ -118,6 +120,13 @@ holds_share p (StoreList n) h = h
 holds_share p StoreB h = h
 holds_share p (StoreA moved v) h = h
 
+-- The heads of both, once a delegation is decided: each stands for what is still to be stored, and so do the words of the second's list.
+abbrev pub holds_heads : Pair → Holding → Holding
+holds_heads p h = keeps (EntryAt p.b 0) (word_of_head (credited p.head_b (amount_of p.what))) (holds_head p true h)
+
+abbrev pub holds_list : Pair → ℕ → Holding → Holding
+holds_list p entry h = keeps_list p.b entry (word_of_list (in_order p.list_b)) (holds_heads p h)
+
 abbrev pub holds_shared : Pair → PairAt → Holding → Holding
 holds_shared p LoadA h = h
 holds_shared p MarkA h = h
@@ -126,8 +135,8 @@ holds_shared p LoadB h = h
 holds_shared p (ListB n) h = h
 holds_shared p CompareB h = h
 holds_shared p (AgainB r) h = h
-holds_shared p (StoreList n) h = h
-holds_shared p StoreB h = h
+holds_shared p (StoreList n) h = holds_list p n h
+holds_shared p StoreB h = holds_heads p h
 holds_shared p (StoreA moved v) h = holds_head p moved h
 
 -- The words that a call has marked beside the counts that it acquires, at an act and at a tail.
