@@ -391,8 +391,8 @@ fn a_foreign_byte_and_one_line_too_many_are_told(rt: HostRuntime) -> Result<(), 
     Ok(())
 }
 
-// Lines in their printed form, with calls that are not supported.
-const UNBUILT: &str =
+// Lines in their printed form.
+const PRINTED: &str =
     "calls 2\nepochs 1\ncore 1\nmake tcap 65535 8 1 65535 63 16777215\ntransfer 12 13 4000000000\norder\n0< 1! 0. 1\n";
 
 #[test]
@@ -405,7 +405,7 @@ fn scripts_are_printed_in_one_form(rt: HostRuntime) -> Result<(), Fail> {
             "core 0\nlook 007\n",
             "calls 4194304\nepochs 65535\ncore 0\nlook 7\n",
         ),
-        (UNBUILT, UNBUILT),
+        (PRINTED, PRINTED),
     ];
     for (lines, printed) in rows {
         let input = format!(in alloc; "{MACHINE}{lines}")?;
