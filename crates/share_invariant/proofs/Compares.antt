@@ -55,7 +55,7 @@ use Rattle.core_invariant.specs.Words.{IsFrameWord, WordIs, count_room}
 use Rattle.core_invariant.proofs.Bare.{counts_bare}
 use Rattle.core_invariant.proofs.Calm.{IsPlain, plain_begins, plain_stamp, plain_flush, plain_exit}
 use Rattle.core_invariant.proofs.CountSums.{counted_refs}
-use Rattle.core_invariant.proofs.Lent.{is_thread, unlent_word}
+use Rattle.core_invariant.proofs.Lent.{unlent_head_word}
 use Rattle.core_invariant.proofs.Loads.{IsOfCall, next_at, core_at, core_is, inner}
 use Rattle.core_invariant.proofs.Refusals.{GoodTook, not_spent}
 use Rattle.core_invariant.proofs.Sounds.{limits_of}
@@ -600,7 +600,7 @@ module _ (setup : Setting) (setting : IsSetting setup) (cores : ℕ → Core) (t
         bare bare_now (subst (λ (n : ℕ). n < 2 ^ 64) (sym leaves_it) (spelling.small new_head new_fits)) of_call lands opens refl
         (λ w. ap (λ b. if same_word w at_a then true else b) (same_marks (Some None) None a.counts w) ∙ sym (ap (λ h. h.marks w) held))
         (λ g i. counts_bare (Some None) a.counts g i ∙ sym (ap (λ h. h.bare g i) held ∙ counts_bare None a.counts g i))
-        (unlent_word setup cores t stands p.b 0 (ap is_thread tcap_b.is)) alike_now (plain_begins setup t e plain)
+        (unlent_head_word setup cores t stands p.b tcap_b.fields tcap_b.is) alike_now (plain_begins setup t e plain)
         (spares_one setup t e p.b 0 qb refl tcap_b.is turns) (inr (spares_none setup t e (λ f. plain.ends (FrameOf f)))) rises works stays
         now_says commits
         (sums_keep setup t e (held_by cores) (held_by (put cores c after))
