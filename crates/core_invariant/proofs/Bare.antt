@@ -1,5 +1,5 @@
 -- What is kept without a mark: what the words settle to where a step leaves what is kept, or where no core keeps a word.
-use Rattle.std.proofs.Common.{◌≡◌, ◌≢◌, ◌<◌, ℕ, zero, suc, List, [], ◌∷◌, Option, Some, None, arith, refl, sym, ◌∙◌, ap, inl, inr}
+use Rattle.std.proofs.Common.{◌≡◌, ◌≢◌, ◌<◌, ℕ, zero, suc, List, [], ◌∷◌, true, Option, Some, None, arith, refl, sym, ◌∙◌, ap, inl, inr}
 use Rattle.std.proofs.lemmas.Bool.{cases_eq}
 use Rattle.word_map.specs.Word.{Word, EntryAt, FrameAt, CountAt, CoreAt, FlushAt, LiveAt, ClockAt}
 use Rattle.kernel_rules.specs.State.{put}
@@ -81,12 +81,21 @@ core_bare cores c after f i same d = elim (cases_eq d c) [
   | inr other ↦ ap (λ k. (holds k).bare f i) (put_other cores c after d other)
 ]
 
--- After a step its core keeps without a mark what it kept, but for the word of the step, which it has given back.
+-- After a step its core keeps without a mark what it kept, but for the word of the step, which it has given back; and where it has marked the
+-- first word of a frame of which it keeps a word still, it holds that still.
 pub record AsBefore (before after : Holding) (w : Word) : Type 0 where
   pub there : (f i : ℕ) → EntryAt f i ≢ w → after.bare f i ≡ before.bare f i
   pub here : (f i : ℕ) → EntryAt f i ≡ w → after.bare f i ≡ None
+  pub head : (f i v : ℕ) → after.bare f i ≡ Some v → before.marks (EntryAt f 0) ≡ true → after.marks (EntryAt f 0) ≡ true
+
+none_some : (v : ℕ) → None ≡ Some v → ⊥
+none_some v h = cc
 
 -- It keeps none, before and after.
 pub as_none : (before after : Holding) (w : Word) → ((f i : ℕ) → before.bare f i ≡ None) → ((f i : ℕ) → after.bare f i ≡ None)
     → AsBefore before after w
-as_none before after w none none' = record { there = λ f i apart. none' f i ∙ sym (none f i); here = λ f i same. none' f i }
+as_none before after w none none' = record {
+  there = λ f i apart. none' f i ∙ sym (none f i);
+  here = λ f i same. none' f i;
+  head = λ f i v is. absurd (none_some v (sym (none' f i) ∙ is));
+}

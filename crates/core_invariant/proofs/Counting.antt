@@ -25,7 +25,7 @@ use Rattle.core_invariant.proofs.Sums.{sums_stay}
 use Rattle.core_invariant.proofs.Calm.{calm_same, calm_words, none_stored, IsPlain, plain_time, plain_exit, plain_flushed}
 use Rattle.core_invariant.proofs.Flushing.{still_flushed}
 use Rattle.core_invariant.proofs.Bare.{AsBefore}
-use Rattle.core_invariant.proofs.Lent.{SparesLent, keeps_given, lent_calm}
+use Rattle.core_invariant.proofs.Lent.{SparesLent, keeps_given, lent_still}
 use Rattle.core_invariant.proofs.Good.{IsGood, SparesBlanks}
 use Rattle.core_invariant.proofs.Users.{spares_none}
 use Rattle.core_invariant.proofs.Loads.{Lands, IsOfCall, core_at, core_is, call_is, in_call, inner, inner_within, inner_disciplined, inner_near}
@@ -93,7 +93,7 @@ module _ (setup : Setting) (setting : IsSetting setup) (cores : ℕ → Core) (t
         words = hold_words setup cores t e after (λ g. refl) elsewhere bares now unowned settles
             (λ v. calm_words setup t e (calm_same (state_after setup t) c) plain v (λ g i h. refl) (λ b h. (refl, plain_exit t e refl b)))
             stands.words;
-        lent = lent_calm setup cores t stands e after (keeps_given setup cores t e after bares) (calm_same (state_after setup t) c);
+        lent = lent_still setup cores t stands e after (keeps_given setup cores t e after bares) refl marks;
         spares = spares;
         sums = sums_stay setup t e (held_by cores) (held_by (put cores c after))
             (λ g b. settled_stays setup cores t e after (λ g. refl) elsewhere bares now unowned settles (CountAt g b))

@@ -21,7 +21,7 @@ use Rattle.core_invariant.specs.Knows.{phase_at, Knows, WorksIn, CoreIs, flushin
 use Rattle.core_invariant.specs.Stands.{holds, held_by, times_of, counted_in, SumIs, Stands}
 use Rattle.core_invariant.proofs.WordFrames.{ReadsAlike, StaysSaid, marks_own, carry_marks, carry_words}
 use Rattle.core_invariant.proofs.Calm.{plain_exit}
-use Rattle.core_invariant.proofs.Lent.{keeps_there, lent_on, lent_elsewhere}
+use Rattle.core_invariant.proofs.Lent.{lent_open, lent_elsewhere}
 use Rattle.core_invariant.proofs.Carries.{counts_on}
 use Rattle.core_invariant.proofs.Flushing.{open_flushed}
 use Rattle.core_invariant.proofs.Good.{IsGood, spares_other}
@@ -94,8 +94,7 @@ module _ (setup : Setting) (setting : IsSetting setup) (cores : ℕ → Core) (t
         counted = spared setup t e a.call ((call_is setup setting cores t stands c here a active).phase ∙ opens) counted;
         marks = marks;
         words = carry_words setup cores t e after still alike refl refl bares (λ x. refl) same tt held stands.words;
-        lent = lent_on setup cores t stands e after (keeps_there setup cores t e after bares (λ f i h. absurd (no_entry_word f i h))) alike
-            (cores c).own made is.works works;
+        lent = lent_open setup cores t e after a a.call active opens (λ f i v kept. sym (bares f i) ∙ kept);
         spares = lent_elsewhere cores e (λ f i h. cc);
         sums = sums;
         draws = (let d = stands.draws in let b = raised in let g = more in omega arith);

@@ -580,7 +580,7 @@ module _ (setup : Setting) (setting : IsSetting setup) (cores : ℕ → Core) (t
     lent = λ d f i v is. elim (cases_eq d e.core) [
       | inl own ↦ subst (λ (b : ℕ). IsLent setup (e ∷ t) b f i) (sym own)
           (good.lent f i v (sym (ap (λ k. (holds k).bare f i) (put_same cores e.core after d own)) ∙ is))
-      | inr other ↦ lent_other setup setting cores t stands e good.follows good.spares d f i v other
+      | inr other ↦ lent_other setup setting cores t stands e good.follows good.disciplined.keeps good.spares d f i v other
           (sym (ap (λ k. (holds k).bare f i) (put_other cores e.core after d other)) ∙ is)
     ];
     sums = good.sums;

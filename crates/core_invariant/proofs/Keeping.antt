@@ -17,7 +17,7 @@ use Rattle.core_invariant.specs.Holding.{bare_value, settled_by, settled}
 use Rattle.core_invariant.specs.Words.{WordIs}
 use Rattle.core_invariant.specs.Stands.{holds, held_by, times_of, Stands}
 use Rattle.core_invariant.proofs.Bare.{own_kept, same_value, core_bare, free_value}
-use Rattle.core_invariant.proofs.Lent.{runs_on_own}
+use Rattle.core_invariant.proofs.Lent.{runs_on_own, runs_no_tcap, lent_thread}
 use Rattle.core_invariant.proofs.WordFrames.{ReadsAlike, StaysSaid, others_settled, own_settled}
 
 none_some : (v : ℕ) → None ≡ Some v → ⊥
@@ -44,10 +44,14 @@ module _ (setup : Setting) (setting : IsSetting setup) (cores : ℕ → Core) (t
       by None free = free
       by (Some u) kept =
           let l = stands.lent b f i u kept in
+          let runs : (thread_in ((state_after setup t).frame f)).runs_on ≡ Some e.core =
+          ap (λ (g : ℕ). (thread_in ((state_after setup t).frame g)).runs_on) (sym (own_thread f i v is).0)
+          ∙ runs_on_own setup setting cores t stands e.core below in
+          let w = lent_thread setup t b f i l (runs_no_tcap ((state_after setup t).frame f) e.core runs) in
           absurd (other (same_number b e.core
           (sym (runs_on_own setup setting cores t stands b l.core)
-          ∙ ap (λ (g : ℕ). (thread_in ((state_after setup t).frame g)).runs_on) (l.thread ∙ sym (own_thread f i v is).0)
-          ∙ runs_on_own setup setting cores t stands e.core below)))
+          ∙ ap (λ (g : ℕ). (thread_in ((state_after setup t).frame g)).runs_on) w.thread
+          ∙ runs)))
 
   -- what is kept settles to its value
   kept_settled : (f i v : ℕ) → (holds after).bare f i ≡ Some v → settled setup (held_by (put cores e.core after)) (e ∷ t) (EntryAt f i) ≡ v

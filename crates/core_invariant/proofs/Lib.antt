@@ -3,12 +3,13 @@ pub mod Sounds
 pub mod Ranges
 pub mod WordFrames
 pub mod Bare
-pub mod Lent
 pub mod Freezing
 pub mod Swept
 pub mod ThreadHolds
+pub mod ActBares
 pub mod Pairs
 pub mod Tcaps
+pub mod Lent
 pub mod Claimed
 -- What calls know.
 pub mod Carries

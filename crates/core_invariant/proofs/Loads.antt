@@ -45,7 +45,7 @@ use Rattle.core_invariant.proofs.Flushing.{still_flushed, open_flushed}
 use Rattle.core_invariant.proofs.Good.{IsGood, spares_kept}
 use Rattle.core_invariant.proofs.Users.{spares_none}
 use Rattle.core_invariant.proofs.Calm.{IsCalm, calm_same, calm_counted, calm_own, calm_words, counted_rises, stored_by, IsPlain, plain_time, plain_exit, BeginsNone, plain_begins, none_flushed}
-use Rattle.core_invariant.proofs.Lent.{keeps_loads, lent_calm, lent_kept}
+use Rattle.core_invariant.proofs.Lent.{keeps_loads, lent_still, lent_open, lent_kept}
 
 -- A step of core c.
 abbrev pub step_to : ℕ → Option Call → Move → ℕ → Option Reply → Option Reply → Step
@@ -243,9 +243,8 @@ module _ (setup : Setting) (setting : IsSetting setup) (cores : ℕ → Core) (t
         words = load_words setup cores t e after still (λ g. refl) looks.kept
             (λ v. calm_words setup t e (calm_same (state_after setup t) c) plain v (λ g i h. refl) (λ d h. (refl, plain_exit t e refl d)))
             stands.words;
-        lent = lent_calm setup cores t stands e after
-            (keeps_loads setup cores t e after still (load_keeps setup cores t e after still (λ g. refl) looks.kept))
-            (calm_same (state_after setup t) c);
+        lent = lent_still setup cores t stands e after
+            (keeps_loads setup cores t e after still (load_keeps setup cores t e after still (λ g. refl) looks.kept)) refl marks;
         spares = lent_kept cores e looks.kept;
         sums = sums_stay setup t e (held_by cores) (held_by (put cores c after))
             (λ f d. settled_on setup cores t e after still (λ g. refl) (CountAt f d)
@@ -320,8 +319,7 @@ module _ (setup : Setting) (setting : IsSetting setup) (cores : ℕ → Core) (t
         words = load_words setup cores t e after still calm.frame looks.kept
             (λ v. calm_words setup t e calm plain v (λ g i h. ap (λ s. s.place g i) now)
             (λ d h. (decided-inside (Some r) (phase t c) (state_after setup t) c d, plain_exit t e refl d))) stands.words;
-        lent = lent_calm setup cores t stands e after
-            (keeps_loads setup cores t e after still (load_keeps setup cores t e after still calm.frame looks.kept)) calm;
+        lent = lent_open setup cores t e after a a.call active opens (λ f i v kept. sym (ap (λ h. h.bare f i) still) ∙ kept);
         spares = lent_kept cores e looks.kept;
         sums = sums_stay setup t e (held_by cores) (held_by (put cores c after))
             (λ f d. settled_on setup cores t e after still calm.frame (CountAt f d)

@@ -18,7 +18,7 @@ use Rattle.core_invariant.specs.Holding.{settled_by}
 use Rattle.core_invariant.specs.Words.{PlaceIs, IsFrameWord, count_room}
 use Rattle.core_invariant.specs.Stands.{held_by, Stands}
 use Rattle.core_invariant.proofs.Sounds.{limits_of}
-use Rattle.core_invariant.proofs.Lent.{unlent_value, node_no_thread}
+use Rattle.core_invariant.proofs.Lent.{unlent_value, node_keeps_none}
 
 -- The word of a place carries the mark of a core.
 pub record IsMarked (setup : Setting) (t : Trace) (f i : ℕ) : Type 0 where
@@ -70,7 +70,7 @@ place_reads setup cores t stands f i node below = by_mark (marked_by setup t (En
           (stamp setup t (PlaceOf f i)) i (last_left setup t (EntryAt f i)) node below
           (subst (λ (n : ℕ). IsFrameWord (state_after setup t).limits.frames (count_room (state_after setup t)) ((state_after setup t).frame f)
           ((state_after setup t).place f i) (stamp setup t (PlaceOf f i)) i n)
-          (unlent_value setup cores t stands f (node_no_thread ((state_after setup t).frame f) node) i (last_left setup t (EntryAt f i)))
+          (unlent_value setup cores t stands f (node_keeps_none ((state_after setup t).frame f) node) i (last_left setup t (EntryAt f i)))
           (subst (λ o. IsFrameWord (state_after setup t).limits.frames (count_room (state_after setup t)) ((state_after setup t).frame f) ((state_after setup t).place f i)
           (stamp setup t (PlaceOf f i)) i
           (settled_by o (held_by cores) (EntryAt f i) (last_left setup t (EntryAt f i)))) is (stands.words (EntryAt f i)))));

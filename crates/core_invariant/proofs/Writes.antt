@@ -40,7 +40,7 @@ use Rattle.core_invariant.specs.Stands.{is_done, holds_at, holds_in, holds, held
 use Rattle.core_invariant.proofs.WordFrames.{marks_own, settled_on, write_marks, write_words, ReadsAlike, reads_alike, StaysSaid, word_stays, carry_marks, carry_words}
 use Rattle.core_invariant.proofs.Sums.{sums_stay}
 use Rattle.core_invariant.proofs.Bare.{IsNotKept, free_value, counts_bare}
-use Rattle.core_invariant.proofs.Lent.{keeps_there, lent_on, lent_calm, lent_free, lent_elsewhere}
+use Rattle.core_invariant.proofs.Lent.{keeps_there, lent_still, lent_open, lent_none, lent_free, lent_elsewhere}
 use Rattle.core_invariant.specs.Holding.{nothing, count_of, holds_counts, settled}
 use Rattle.stage_pins.specs.declared.held.Acquired.{Acquired}
 use Rattle.call_steps.specs.Fits.{CountsAt}
@@ -173,8 +173,7 @@ module _ (setup : Setting) (setting : IsSetting setup) (cores : ℕ → Core) (t
           marks = marks;
           words = carry_words setup cores t e after still alike was now bares
               (λ x. free_value (held_by cores) (word_of move) x unlent) same new commits stands.words;
-          lent = lent_on setup cores t stands e after (keeps_there setup cores t e after bares unlent) alike (cores c).own made
-              (core_is setup setting cores t stands c here a active).works works;
+          lent = lent_open setup cores t e after a a.call active opens (λ f i v kept. sym (bares f i) ∙ kept);
           spares = lent_free cores e unlent;
           sums = sums;
           draws = (let d = stands.draws in let b = plain.same in let g = rises in omega arith);
@@ -320,8 +319,7 @@ module _ (setup : Setting) (setting : IsSetting setup) (cores : ℕ → Core) (t
               (left_of move (last_left setup t (word_of move)))
               (calm_words setup t e (calm_same (state_after setup t) c) plain (word_of move) (λ g i h. refl)
               (λ d h. (refl, plain_exit t e refl d))) new) stands.words;
-          lent = lent_calm setup cores t stands e after (keeps_there setup cores t e after (λ f i. ap (λ h. h.bare f i) still) unlent)
-              (calm_same (state_after setup t) c);
+          lent = lent_still setup cores t stands e after (keeps_there setup cores t e after still unlent) refl marks;
           spares = lent_free cores e unlent;
           sums = sums_stay setup t e (held_by cores) (held_by (put cores c after))
               (λ f d. settled_on setup cores t e after still (λ g. refl) (CountAt f d)
@@ -390,8 +388,7 @@ module _ (setup : Setting) (setting : IsSetting setup) (cores : ℕ → Core) (t
               (core_reads false x (omega arith) ∙ ap (λ b. Some (record { inside = b; stamp = x })) (sym inside)
               ∙ ap (λ (y : ℕ). Some (record { inside = ((state_after setup (e ∷ t)).core c).inside; stamp = y })) (sym out))
               stands.words;
-          lent = lent_calm setup cores t stands e after
-              (keeps_there setup cores t e after (λ f i. ap (λ h. h.bare f i) still) (λ f i h. absurd (no_entry_word f i c h))) calm;
+          lent = lent_none setup (e ∷ t) c after (λ f i. refl);
           spares = lent_elsewhere cores e (λ f i h. cc);
           sums = sums_stay setup t e (held_by cores) (held_by (put cores c after))
               (λ f d. settled_on setup cores t e after still calm.frame (CountAt f d)
@@ -496,8 +493,7 @@ module _ (setup : Setting) (setting : IsSetting setup) (cores : ℕ → Core) (t
             (sym inside)
             ∙ ap (λ (y : ℕ). Some (record { inside = ((state_after setup (e ∷ t)).core c).inside; stamp = y })) (sym last))
             stands.words;
-        lent = lent_calm setup cores t stands e after
-            (keeps_there setup cores t e after (λ f i. ap (λ h. h.bare f i) still) (λ f i h. absurd (no_entry_word f i c h))) calm;
+        lent = lent_none setup (e ∷ t) c after (λ f i. ap (λ h. h.bare f i) bare);
         spares = lent_elsewhere cores e (λ f i h. cc);
         sums = sums_stay setup t e (held_by cores) (held_by (put cores c after))
             (λ f d. settled_on setup cores t e after still calm.frame (CountAt f d)

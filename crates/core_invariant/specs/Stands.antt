@@ -15,7 +15,7 @@ use Rattle.stage_thread.specs.declared.stack.Push.TheVariants as push
 use Rattle.stage_thread.specs.declared.stack.Pop.{Pop as PopOf}
 use Rattle.stage_thread.specs.declared.stack.Pop.TheVariants as pop
 use Rattle.frame_words.specs.declared.live_word.LiveWord.TheVariants.{Dead}
-use Rattle.std.specs.Prelude.{◌≡◌, ◌+◌, ◌-◌, ◌<◌, ◌≤◌, ℕ, Bool, true, false, List, [], length, Option, Some, None}
+use Rattle.std.specs.Prelude.{◌≡◌, ◌⊎◌, ◌+◌, ◌-◌, ◌<◌, ◌≤◌, ℕ, Bool, true, false, List, [], length, Option, Some, None}
 use Rattle.spk_nums.specs.Setting.{Setting}
 use Rattle.frame_words.specs.Count.{count_of_word}
 use Rattle.frame_words.specs.declared.count_word.CountWord.{CountWord}
@@ -54,6 +54,7 @@ use Rattle.call_steps.specs.View.{Core}
 use Rattle.core_invariant.specs.Holding.{Holding, nothing, holds_counts, holds_closed, holds_drawn, settled, MarkIs, keeps, will_store, keeps_bare, keeps_list}
 use Rattle.core_invariant.specs.Frozen.{holds_untyping, holds_release}
 use Rattle.core_invariant.specs.Threads.{holds_switching, holds_running, holds_idle}
+use Rattle.core_invariant.specs.Shares.{HasTcap}
 use Rattle.core_invariant.specs.Words.{Times, WordIs, CountsAre}
 use Rattle.core_invariant.specs.Knows.{CoreIs, HasPassed, HasFlushed}
 
@@ -228,14 +229,24 @@ pub record SaysRunning (d word : ℕ) : Type 0 where
   pub depth : ℕ
   pub says : thread_of_word word ≡ Some (Running d depth)
 
--- What a core keeps without a mark is a word of its current thread, which no other core steps on but to leave it as found; it carries no
--- mark, and the thread's first word says that it runs on the core.
-pub record IsLent (setup : Setting) (t : Trace) (d f i : ℕ) : Type 0 where
-  pub core : d < setup.cores
+-- A word of the core's current thread, whose first word says that it runs on the core.
+pub record IsOfThread (setup : Setting) (t : Trace) (d f i : ℕ) : Type 0 where
   pub thread : ((state_after setup t).core d).thread ≡ f
   pub stack : 1 ≤ length (thread_of (state_after setup t) d).stack
-  pub unmarked : marked_by setup t (EntryAt f i) ≡ None
   pub says : i ≡ 0 → SaysRunning d (last_left setup t (EntryAt f i))
+
+-- A word of the list of a temporal capability, whose head carries the core's mark and which no other core may retype.
+pub record IsOfList (setup : Setting) (t : Trace) (d f i : ℕ) : Type 0 where
+  pub list : 1 ≤ i
+  pub tcap : HasTcap (state_after setup t) d f
+  pub head : marked_by setup t (EntryAt f 0) ≡ Some d
+
+-- What a core keeps without a mark is a word of its current thread, or of a list that it has still to store: no other core steps on it but
+-- to leave it as found, and it carries no mark.
+pub record IsLent (setup : Setting) (t : Trace) (d f i : ℕ) : Type 0 where
+  pub core : d < setup.cores
+  pub unmarked : marked_by setup t (EntryAt f i) ≡ None
+  pub word : IsOfThread setup t d f i ⊎ IsOfList setup t d f i
 
 -- The cores stand for the trace.
 pub record Stands (setup : Setting) (cores : ℕ → Core) (t : Trace) : Type 0 where
@@ -251,7 +262,7 @@ pub record Stands (setup : Setting) (cores : ℕ → Core) (t : Trace) : Type 0 
   pub marks : (w : Word) (d : ℕ) → MarkIs setup (held_by cores) t w d
   pub marked : (w : Word) (d : ℕ) → marked_by setup t w ≡ Some d → HasMarked setup t w d
   pub words : (w : Word) → WordIs (state_after setup t) (times_of setup t) w (settled setup (held_by cores) t w)
-  -- a core keeps no word without a mark but those of its own thread
+  -- a core keeps no word without a mark but those of its own thread, and those of a list that it has still to store
   pub lent : (d f i v : ℕ) → (held_by cores d).bare f i ≡ Some v → IsLent setup t d f i
   -- the settled counts of each frame sum to the references to it
   pub sums : (f : ℕ) → SumIs setup (held_by cores) t f
