@@ -76,16 +76,16 @@ module _ (setup : Setting) (setting : IsSetting setup) (cores : ℕ → Core) (t
   abbrev compare : Move
   compare = CompareOf at old new
 
-  both : HasBoth setup t c now_p CompareB
+  abbrev both : HasBoth setup t c now_p CompareB
   both = has.knows.knows.at
 
   pub held : holds_in (Some a) ≡ holds_head now_p false (holds_counts None a.counts)
   held = calls.held_is setup setting cores t stands c here a active now_p stage_is has
 
-  tcap_a : TcapOf (s.frame p.a)
+  abbrev tcap_a : TcapOf (s.frame p.a)
   tcap_a = calls.tcap_a setup setting cores t stands c here a active now_p stage_is has
 
-  tcap_b : TcapOf (s.frame p.b)
+  abbrev tcap_b : TcapOf (s.frame p.b)
   tcap_b = calls.tcap_b setup setting cores t stands c here a active now_p stage_is has
 
   room : (cores c).own.made < (cores c).own.limit
@@ -160,10 +160,10 @@ module _ (setup : Setting) (setting : IsSetting setup) (cores : ℕ → Core) (t
   -- The word is as it was read.
   module _ (equal : (was == old) ≡ true) where
     abbrev qa : TcapFields
-    qa = (calls.tcap_a setup setting cores t stands c here a active now_p stage_is has).fields
+    qa = tcap_a.fields
 
     abbrev qb : TcapFields
-    qb = (calls.tcap_b setup setting cores t stands c here a active now_p stage_is has).fields
+    qb = tcap_b.fields
 
     same : was ≡ old
     same = eqb-true was old equal

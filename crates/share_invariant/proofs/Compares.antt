@@ -55,7 +55,7 @@ use Rattle.core_invariant.specs.Words.{IsFrameWord, WordIs, count_room}
 use Rattle.core_invariant.proofs.Bare.{counts_bare}
 use Rattle.core_invariant.proofs.Calm.{IsPlain, plain_begins, plain_stamp, plain_flush, plain_exit}
 use Rattle.core_invariant.proofs.CountSums.{counted_refs}
-use Rattle.core_invariant.proofs.Lent.{is_thread, unlent_word}
+use Rattle.core_invariant.proofs.Lent.{unlent_head_word}
 use Rattle.core_invariant.proofs.Loads.{IsOfCall, next_at, core_at, core_is, inner}
 use Rattle.core_invariant.proofs.Refusals.{GoodTook, not_spent}
 use Rattle.core_invariant.proofs.Sounds.{limits_of}
@@ -104,16 +104,16 @@ module _ (setup : Setting) (setting : IsSetting setup) (cores : ℕ → Core) (t
   abbrev compare : Move
   compare = CompareOf at old (word_of_head new_head)
 
-  both : HasBoth setup t c now_p CompareB
+  abbrev both : HasBoth setup t c now_p CompareB
   both = has.knows.knows.at
 
   held : holds_in (Some a) ≡ holds_head now_p false (holds_counts None a.counts)
   held = calls.held_is setup setting cores t stands c here a active now_p stage_is has
 
-  tcap_a : TcapOf (s.frame p.a)
+  abbrev tcap_a : TcapOf (s.frame p.a)
   tcap_a = calls.tcap_a setup setting cores t stands c here a active now_p stage_is has
 
-  tcap_b : TcapOf (s.frame p.b)
+  abbrev tcap_b : TcapOf (s.frame p.b)
   tcap_b = calls.tcap_b setup setting cores t stands c here a active now_p stage_is has
 
   abbrev qa : TcapFields
@@ -337,7 +337,7 @@ module _ (setup : Setting) (setting : IsSetting setup) (cores : ℕ → Core) (t
         (compared.of_call setup setting cores t stands c here a active what_p stage_is has) lands opens refl
         (λ w. ap (λ b. if same_word w at_a then true else b) (same_marks (Some None) None a.counts w) ∙ sym (ap (λ h. h.marks w) held))
         (λ g i. counts_bare (Some None) a.counts g i ∙ sym (ap (λ h. h.bare g i) held ∙ counts_bare None a.counts g i))
-        (unlent_word setup cores t stands p.b 0 (ap is_thread tcap_b.is)) alike_now (plain_begins setup t e plain)
+        (unlent_head_word setup cores t stands p.b qb tcap_b.is) alike_now (plain_begins setup t e plain)
         (spares_one setup t e p.b 0 qb refl tcap_b.is turns) (inr (spares_none setup t e (λ f. plain.ends (FrameOf f))))
         (moves.rises setup setting cores t stands c here a active compare p.a p.b qa qb qa_less qb_more is_moved)
         (moves.works setup setting cores t stands c here a active compare p.a p.b qa qb qa_less qb_more is_moved) stays

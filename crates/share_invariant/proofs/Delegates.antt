@@ -147,16 +147,16 @@ module _ (setup : Setting) (setting : IsSetting setup) (cores : ℕ → Core) (t
   abbrev list : List (ℕ × ℕ)
   list = in_order p.list_b
 
-  both : HasBoth setup t c now_p CompareB
+  abbrev both : HasBoth setup t c now_p CompareB
   both = has.knows.knows.at
 
   held : holds_in (Some a) ≡ holds_head now_p false (holds_counts None a.counts)
   held = compared.held setup setting cores t stands c here a active what_p stage_is has
 
-  tcap_a : TcapOf (s.frame p.a)
+  abbrev tcap_a : TcapOf (s.frame p.a)
   tcap_a = calls.tcap_a setup setting cores t stands c here a active now_p stage_is has
 
-  tcap_b : TcapOf (s.frame p.b)
+  abbrev tcap_b : TcapOf (s.frame p.b)
   tcap_b = calls.tcap_b setup setting cores t stands c here a active now_p stage_is has
 
   abbrev qa : TcapFields

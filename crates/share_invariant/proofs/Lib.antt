@@ -6,7 +6,11 @@ pub mod HeadsB
 pub mod MarksA
 pub mod Marking
 pub mod ListsKnown
+pub mod Compared
+pub mod Moved
+pub mod Turned
 pub mod Compares
+pub mod Delegates
 pub mod Agains
 pub mod Stores
 pub mod Shares

@@ -20,10 +20,10 @@ use Rattle.call_steps.specs.Steps.{landed, went_with, GoesOn}
 use Rattle.call_steps.specs.View.{Core}
 use Rattle.core_invariant.specs.Knows.{KnowsUndecided, KnowsTail}
 use Rattle.core_invariant.specs.Stands.{Stands}
-use Rattle.core_invariant.proofs.Loads.{is_active}
 use Rattle.core_invariant.proofs.Refusals.{GoodTook}
-use Rattle.share_invariant.proofs.Agains.{no_delegation, again_good}
+use Rattle.share_invariant.proofs.Agains.{again_good}
 use Rattle.share_invariant.proofs.Compares.{compare_good}
+use Rattle.share_invariant.proofs.Delegates.{delegate_good}
 use Rattle.share_invariant.proofs.HeadsA.{load_a_good, list_a_good}
 use Rattle.share_invariant.proofs.HeadsB.{load_b_good, list_b_good}
 use Rattle.share_invariant.proofs.MarksA.{mark_a_good}
@@ -46,8 +46,7 @@ module _ (setup : Setting) (setting : IsSetting setup) (cores : ℕ → Core) (t
           → KnowsUndecided setup t c (cores c).own.table a (Act (share_act (record p { what = what; at = CompareB })))
           → ShareGood (record p { what = what; at = CompareB })
       compares (Transfer m) is has = compare_good setup setting cores t stands c here a active p m is has
-      compares (Delegate m) is has = absurd (no_delegation a.call a.found (record p { what = Delegate m; at = CompareB })
-          has.knows.knows.shares (is_active setup setting cores t stands c here a active).built m refl)
+      compares (Delegate m) is has = delegate_good setup setting cores t stands c here a active p m is has
       compares Test is has = absurd (test_judges CompareB has.knows.knows.at.judges)
 
       by : (what : PairWork) (at : PairAt) → a.stage ≡ Undecided (Act (share_act (record p { what = what; at = at })))
