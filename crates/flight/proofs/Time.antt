@@ -1,5 +1,5 @@
 -- The time of a machine is that of the sequential kernel, whose laws hold of each legal trace; and heads say it.
-use Rattle.core_invariant.proofs.Lent.{is_thread, unlent_value}
+use Rattle.core_invariant.proofs.Lent.{unlent_head_value}
 use Rattle.std.proofs.Common.{◌≡◌, ℕ, ◌+◌, ◌∷◌, [], ◌&&◌, ◌==◌, Bool, true, false, Option, Some, None, if◌then◌else◌, refl, sym, ◌∙◌, ap, subst}
 use Rattle.spk_nums.specs.Setting.{Setting, IsSetting}
 use Rattle.tcap_words.specs.Head.{head_of_word}
@@ -19,7 +19,7 @@ use Rattle.core_invariant.specs.Words.{HeadIs, IsFrameWord, count_room}
 use Rattle.flight.specs.Made.{IsMade, cores_after}
 use Rattle.flight.specs.Time.{TimeIsKept, TicksAreCounted, HeadsSay, ListsSay, TellsOf, TestsTell}
 use Rattle.flight.proofs.Made.{made_stands}
-use Rattle.share_invariant.proofs.ShareSteps.{list_says}
+use Rattle.share_invariant.proofs.ShareSteps.{list_plain}
 use Rattle.spk_nums.specs.Capability.{Capability}
 use Rattle.spk_nums.specs.declared.calls.Call.{Call}
 use Rattle.spk_nums.specs.declared.calls.Call.TheVariants.{Test}
@@ -51,7 +51,7 @@ heads_say setup setting t made f q is unmarked = record { version = says.version
 
     says : HeadIs q (count_room (state_after setup t)) (head_of_word (last_left setup t (EntryAt f 0)))
     says = subst (λ (n : ℕ). HeadIs q (count_room (state_after setup t)) (head_of_word n))
-        (unlent_value setup (cores_after setup t) t stands f (ap is_thread is) 0 (last_left setup t (EntryAt f 0)))
+        (unlent_head_value setup (cores_after setup t) t stands f q is (last_left setup t (EntryAt f 0)))
         (subst (λ o. HeadIs q (count_room (state_after setup t)) (head_of_word (settled_by o (held_by (cores_after setup t)) (EntryAt f 0) (last_left setup t (EntryAt f 0)))))
         unmarked
         (subst (λ x. IsFrameWord (state_after setup t).limits.frames (count_room (state_after setup t)) x ((state_after setup t).place f 0) (stamp setup t (PlaceOf f 0)) 0
@@ -59,7 +59,7 @@ heads_say setup setting t made f q is unmarked = record { version = says.version
 
 pub lists_say : ListsSay
 lists_say setup setting t made f q is unmarked j low =
-    list_says setup setting (cores_after setup t) t (made_stands setup setting t made) f q is j low
+    list_plain setup setting (cores_after setup t) t (made_stands setup setting t made) f q is unmarked j low
 
 -- What is answered to a test is what its rule answers.
 told_by : (s : State) (c x y : ℕ) (v : Value) → IsFoundAnd (change_of s c (Test x y)) (λ change. change.value ≡ v) → TellsOf s c x y v

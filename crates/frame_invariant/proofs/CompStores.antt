@@ -68,7 +68,7 @@ use Rattle.frame_invariant.proofs.CompNumbers.{no_number}
 use Rattle.frame_words.proofs.CompLemmas as comps
 use Rattle.spk_nums.specs.declared.calls.Make.TheVariants as make
 use Rattle.core_invariant.proofs.Bare.{as_none, counts_bare}
-use Rattle.core_invariant.proofs.Lent.{is_thread, unlent_word, lent_elsewhere}
+use Rattle.core_invariant.proofs.Lent.{may_keep, unlent_word, lent_elsewhere}
 
 none_some : (d : ℕ) → None ≡ Some d → ⊥
 none_some d h = cc
@@ -393,7 +393,7 @@ module _ (setup : Setting) (setting : IsSetting setup) (cores : ℕ → Core) (t
         near = inl (comp_near a.call a.found m of now c);
       })
       (λ b. refl) (λ h. cc) (λ g b h. cc) lands
-      (stored_holds (nat_lt n 2) ∙ sym held_store) (unlent_word setup cores t stands f n (ap is_thread blank)) opens_now
+      (stored_holds (nat_lt n 2) ∙ sym held_store) (unlent_word setup cores t stands f n (ap may_keep blank)) opens_now
       (subst (λ x. IsFrameWord now.limits.frames (count_room now) x (now.place f n) (stamp setup t (PlaceOf f n)) n (words n)) (sym blank) tt)
       (spares_blank setup t e f n refl blank own_mark)
       (λ carries. record {

@@ -113,7 +113,7 @@ use Rattle.frame_invariant.proofs.CompStores.{held_fill, at_fill, frame_marked, 
 use Rattle.frame_invariant.proofs.CompMarks.{load_good, mark_good}
 use Rattle.frame_words.proofs.LiveLemmas as lives_words
 use Rattle.core_invariant.proofs.Bare.{counts_bare}
-use Rattle.core_invariant.proofs.Lent.{is_thread, unlent_value, unlent_word, node_no_thread}
+use Rattle.core_invariant.proofs.Lent.{may_keep, unlent_value, unlent_word, node_keeps_none}
 
 abbrev due_by : ℕ → ℕ → Due
 due_by f n = record { frame = f; change = pos n }
@@ -486,7 +486,7 @@ module _ (setup : Setting) (setting : IsSetting setup) (cores : ℕ → Core) (t
         settled_is : settled setup (held_by cores) t (EntryAt g i) ≡ last_left setup t (EntryAt f i)
         settled_is = ap (λ (h : ℕ). settled setup (held_by cores) t (EntryAt h i)) same
             ∙ ap (λ o. settled_by o (held_by cores) (EntryAt f i) (last_left setup t (EntryAt f i))) (no_mark i)
-            ∙ unlent_value setup cores t stands f (ap is_thread blank) i (last_left setup t (EntryAt f i))
+            ∙ unlent_value setup cores t stands f (ap may_keep blank) i (last_left setup t (EntryAt f i))
 
     stays : (w : Word) → w ≢ EntryAt node index → marked_by setup t w ≢ Some c → StaysSaid setup cores t e w
     stays (EntryAt g i) there free = elim (cases_eq g f) [
@@ -727,7 +727,7 @@ module _ (setup : Setting) (setting : IsSetting setup) (cores : ℕ → Core) (t
         refl
         same_held
         (λ g i. counts_bare (Some None) a.counts g i ∙ sym (ap (λ h. h.bare g i) held ∙ counts_bare None a.counts g i))
-        (unlent_word setup cores t stands node index (node_no_thread (s.frame node) in_node))
+        (unlent_word setup cores t stands node index (node_keeps_none (s.frame node) in_node))
         alike begins_none (spares_node setup t e node index refl in_node)
         (inl (ap untypes (calls.is setup setting cores t stands c here a active m stage_is has).call_is)) rises works stays
         (subst (WordIs s' (times_of setup (e ∷ t)) (EntryAt node index)) (sym leaves_it) word_now) commits sums_are

@@ -1,7 +1,7 @@
 -- The decision of a call that makes an object: the compare of its target, where it is won, makes the frame that object, and puts its
 -- capability there.
 use Rattle.core_invariant.proofs.Bare.{counts_bare}
-use Rattle.core_invariant.proofs.Lent.{is_thread, unlent_value, unlent_word, node_no_thread}
+use Rattle.core_invariant.proofs.Lent.{may_keep, unlent_value, unlent_word, node_keeps_none}
 use Rattle.std.specs.Prelude.{if◌then◌else◌, pos, All}
 use Rattle.std.proofs.Common.{◌≡◌, List, Bool, true, false, Some, None, refl, ℕ, ◌<◌, ◌^◌, ◌==◌, arith, ◌≢◌, ◌+◌, sym, ◌&&◌, [], ◌∷◌, ap, ◌∙◌, subst, ◌≤◌, IsTrue, ◌⊎◌, inl, inr, max, map, ◌+ℤ◌}
 use Rattle.std.proofs.lemmas.List.Elements.{All-nil, All-cons, All-head, All-tail}
@@ -416,7 +416,7 @@ module _ (setup : Setting) (setting : IsSetting setup) (cores : ℕ → Core) (t
         settled_is : settled setup (held_by cores) t (EntryAt g i) ≡ last_left setup t (EntryAt f i)
         settled_is = ap (λ (h : ℕ). settled setup (held_by cores) t (EntryAt h i)) same
             ∙ ap (λ o. settled_by o (held_by cores) (EntryAt f i) (last_left setup t (EntryAt f i))) (no_mark i)
-            ∙ unlent_value setup cores t stands f (ap is_thread blank) i (last_left setup t (EntryAt f i))
+            ∙ unlent_value setup cores t stands f (ap may_keep blank) i (last_left setup t (EntryAt f i))
 
     stays : (w : Word) → w ≢ EntryAt node index → marked_by setup t w ≢ Some c → StaysSaid setup cores t e w
     stays (EntryAt g i) there free = elim (cases_eq g f) [
@@ -582,7 +582,7 @@ module _ (setup : Setting) (setting : IsSetting setup) (cores : ℕ → Core) (t
         refl
         same_held
         (λ g i. counts_bare (Some None) a.counts g i ∙ sym (ap (λ h. h.bare g i) held ∙ counts_bare None a.counts g i))
-        (unlent_word setup cores t stands node index (node_no_thread (s.frame node) in_node))
+        (unlent_word setup cores t stands node index (node_keeps_none (s.frame node) in_node))
         alike begins_none (spares_node setup t e node index refl in_node)
         (inl (made_types a.call a.found m knows.makes)) rises works stays
         (subst (WordIs s' (times_of setup (e ∷ t)) (EntryAt node index)) (sym leaves_it) word_now) commits sums_are

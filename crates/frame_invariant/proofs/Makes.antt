@@ -1,7 +1,7 @@
 -- The steps by which a call makes a node, up to its decision: the load of the frame's word, the compare that marks it, the stores of its
 -- places, and a compare of the target that is lost; and the store that gives the frame's word back.
 use Rattle.core_invariant.proofs.Bare.{as_none, counts_bare}
-use Rattle.core_invariant.proofs.Lent.{is_thread, unlent_word, lent_elsewhere}
+use Rattle.core_invariant.proofs.Lent.{may_keep, unlent_word, lent_elsewhere}
 use Rattle.std.specs.Prelude.{if◌then◌else◌, List}
 use Rattle.std.proofs.Common.{◌≡◌, ◌≤◌, Bool, true, false, cond, Option, Some, None, refl, ℕ, ◌<◌, ◌^◌, ◌==◌, arith, ◌≢◌, ◌+◌, sym, nat_lt, ◌&&◌, [], ◌∷◌, ◌++◌, length, ap, ◌∙◌, subst, IsTrue, inl, inr, not, is_some, map}
 use Rattle.std.proofs.lemmas.Bool.{lt-ltb, eqb-true, eqb-false, ltb-false, cases_eq, eq-eqb, false≢true}
@@ -507,7 +507,7 @@ module _ (setup : Setting) (setting : IsSetting setup) (cores : ℕ → Core) (t
         (record { moves = makes_in_blank a.call a.found m knows.makes (s.frame f) blank; near = inl near })
         (λ b. refl) (λ h. cc) (λ g b h. cc) lands
         (stored_holds m.object f word n (holds_counts None a.counts) ∙ sym held_store)
-        (unlent_word setup cores t stands f n (ap is_thread blank)) opens
+        (unlent_word setup cores t stands f n (ap may_keep blank)) opens
         (subst (λ x. IsFrameWord s.limits.frames (count_room s) x (s.place f n) (stamp setup t (PlaceOf f n)) n new_word) (sym blank) tt)
         (spares_blank setup t e f n refl blank own_mark)
         (λ carries. record {

@@ -1,7 +1,7 @@
 -- The steps of a killing before its draw are good: the loads of the component's word and of its number's word, and the compare that marks
 -- the number, which is lost to another core or holds it for the call.
 use Rattle.core_invariant.proofs.Bare.{as_none, counts_bare}
-use Rattle.core_invariant.proofs.Lent.{is_thread, unlent_value, lent_elsewhere}
+use Rattle.core_invariant.proofs.Lent.{may_keep, unlent_value, lent_elsewhere}
 use Rattle.std.proofs.Common.{◌≡◌, ◌≢◌, inl, ℕ, ◌+◌, ◌++◌, ◌^◌, ◌<◌, ◌==◌, map, length, Bool, true, false, if◌then◌else◌, List, [], ◌∷◌, Option, Some, None, IsTrue, arith, refl, sym, ◌∙◌, ap, subst}
 use Rattle.std.proofs.lemmas.Bool.{eqb-true, eqb-false, eq-eqb, false≢true}
 use Rattle.spk_nums.specs.Setting.{Setting, IsSetting}
@@ -81,7 +81,7 @@ module _ (setup : Setting) (setting : IsSetting setup) (cores : ℕ → Core) (t
       (calls.holds_comp setup setting cores t stands c here a active f by LoadComp stage_is has)
       (subst (λ (n : ℕ). IsFrameWord s.limits.frames (count_room s) (s.frame f) (s.place f 2) (stamp setup t (PlaceOf f 2)) 2 n)
       (unlent_value setup cores t stands f
-      (ap is_thread (calls.holds_comp setup setting cores t stands c here a active f by LoadComp stage_is has)) 2 was)
+      (ap may_keep (calls.holds_comp setup setting cores t stands c here a active f by LoadComp stage_is has)) 2 was)
       (subst (λ o. IsFrameWord s.limits.frames (count_room s) (s.frame f) (s.place f 2) (stamp setup t (PlaceOf f 2)) 2
       (settled_by o (held_by cores) (EntryAt f 2) was)) unmarked (stands.words (EntryAt f 2))))
 

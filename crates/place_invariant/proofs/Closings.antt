@@ -1,7 +1,7 @@
 -- The entry of a removal is closed and given back: the compare that marks it is lost to another core or holds it for the call, and the
 -- store of a decided removal leaves the quiescing entry for which it stood.
 use Rattle.core_invariant.proofs.Bare.{as_none, counts_bare}
-use Rattle.core_invariant.proofs.Lent.{unlent_value, unlent_word, unlent_after, node_no_thread, lent_free}
+use Rattle.core_invariant.proofs.Lent.{unlent_value, unlent_word, unlent_after, node_keeps_none, lent_free}
 use Rattle.core_invariant.proofs.Good.{spares_node}
 use Rattle.std.proofs.Common.{◌≡◌, ◌≢◌, inl, inr, ℕ, ◌^◌, ◌<◌, ◌==◌, ◌∷◌, [], Bool, true, false, List, Option, Some, None, arith, refl, sym, ◌∙◌, ap, subst, IsTrue, if◌then◌else◌}
 use Rattle.std.proofs.lemmas.Bool.{eqb-true, eqb-false, eq-eqb}
@@ -217,7 +217,7 @@ module _ (setup : Setting) (setting : IsSetting setup) (cores : ℕ → Core) (t
           ∙ ap (λ k. (holds k).stands at) (put_same cores c after c refl)
           ∙ ap (λ b. if b then word_of_entry (entry.Held cap) else (holds_counts None a.counts).stands at) (same_same at)
           ∙ spells.1 ∙ sym same ∙ sym (ap (λ o. settled_by o (held_by cores) at was) unmarked
-          ∙ unlent_value setup cores t stands node (node_no_thread (s.frame node) in_node) index was))
+          ∙ unlent_value setup cores t stands node (node_keeps_none (s.frame node) in_node) index was))
           opens
           (λ carries. record {
             names = names_on setup setting t e stands.legal c a.call is_open carries (cores c).own.table a.plan a.found has.names;
@@ -231,7 +231,7 @@ module _ (setup : Setting) (setting : IsSetting setup) (cores : ℕ → Core) (t
           (counts_on setup t e c a.call (λ own. refl) a.counts (call_is setup setting cores t stands c here a active).counts)
           (call_is setup setting cores t stands c here a active).apart
           (spares_node setup t e node index refl in_node)
-          (lent_free cores e (unlent_word setup cores t stands node index (node_no_thread (s.frame node) in_node)))
+          (lent_free cores e (unlent_word setup cores t stands node index (node_keeps_none (s.frame node) in_node)))
 
     pub close_good : GoodTook setup cores t c compare (landed a
         (took_close cap (close_at (was == word) node index word by) (close_compared (was == word))))
@@ -297,11 +297,11 @@ module _ (setup : Setting) (setting : IsSetting setup) (cores : ℕ → Core) (t
         (λ b other is. other (sym (some_inj c b (sym own_mark ∙ is))))
         (ap (λ b. settled_by (if b then Some c else None) (held_by (put cores c after)) at stored)
         (no_entry (done_by r drawn) a.counts node index)
-        ∙ unlent_after setup cores t stands c after node index (node_no_thread (s.frame node) has.relies.node)
+        ∙ unlent_after setup cores t stands c after node index (node_keeps_none (s.frame node) has.relies.node)
         (counts_bare (done_by r drawn) a.counts node index) stored ∙ sym settles)
         (ap (phase_at a.call) stage_is)
         (λ carries. tt)
         (counts_on setup t e c a.call (λ own. refl) a.counts (call_is setup setting cores t stands c here a active).counts)
         (call_is setup setting cores t stands c here a active).apart
         (spares_node setup t e node index refl has.relies.node)
-        (lent_free cores e (unlent_word setup cores t stands node index (node_no_thread (s.frame node) has.relies.node)))
+        (lent_free cores e (unlent_word setup cores t stands node index (node_keeps_none (s.frame node) has.relies.node)))

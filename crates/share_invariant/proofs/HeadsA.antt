@@ -39,7 +39,7 @@ use Rattle.core_invariant.proofs.Loads.{step_to}
 use Rattle.core_invariant.proofs.Pairs.{marked_on}
 use Rattle.core_invariant.proofs.Refusals.{GoodTook, ticks_at, refuses_busy}
 use Rattle.share_invariant.proofs.ShareCalls as calls
-use Rattle.share_invariant.proofs.ShareSteps.{mark_is, head_says, list_says, loading, load_goes}
+use Rattle.share_invariant.proofs.ShareSteps.{mark_is, head_says, a_list, loading, load_goes}
 
 -- The load of head A.
 module _ (setup : Setting) (setting : IsSetting setup) (cores : ℕ → Core) (t : Trace) (stands : Stands setup cores t) (c : ℕ)
@@ -185,7 +185,8 @@ module _ (setup : Setting) (setting : IsSetting setup) (cores : ℕ → Core) (t
       → GoodTook setup cores t c (LoadOf word_at)
       (landed a (took_shared (record p { list_a = next_list; at = at_read o (a_next (nat_lt (suc n) 8) (suc n)) }) (list_end o)))
   by_quality None is = absurd (none_quality _
-      (sym is ∙ list_says setup setting cores t stands p.a tcap_here.fields tcap_here.is n low))
+      (sym is ∙ a_list setup setting cores t stands c here a active list_p stage_is has n has.knows.knows.at.0
+      (calls.held_is setup setting cores t stands c here a active list_p stage_is has) n low))
   by_quality (Some v) is = by_more (nat_lt (suc n) 8) refl
 
   pub list_a_good : GoodTook setup cores t c (LoadOf word_at) (landed a (took_share list_p found))

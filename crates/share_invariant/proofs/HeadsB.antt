@@ -1,5 +1,5 @@
 -- The load of the head of the second of two temporal capabilities, and the loads of its list.
-use Rattle.std.proofs.Common.{◌≡◌, ◌≢◌, ◌⊎◌, inl, inr, ℕ, zero, suc, ◌+◌, ◌<◌, nat_lt, Bool, true, false, if◌then◌else◌, List, ◌∷◌, Option, Some, None, IsSome, arith, refl, sym, ◌∙◌, ap, subst}
+use Rattle.std.proofs.Common.{◌≡◌, ◌≢◌, ◌⊎◌, inl, inr, ℕ, zero, suc, ◌+◌, ◌<◌, nat_lt, Bool, true, false, if◌then◌else◌, List, ◌∷◌, Option, Some, None, IsSome, is_some, arith, refl, sym, ◌∙◌, ap, subst}
 use Rattle.std.proofs.lemmas.Bool.{eq-eqb, ltb-false, false≢true}
 use Rattle.spk_nums.specs.Setting.{Setting, IsSetting}
 use Rattle.spk_nums.specs.Capability.{Capability}
@@ -50,7 +50,7 @@ use Rattle.core_invariant.proofs.Pairs.{marked_on, seen_on, tcap_mark, left_same
 use Rattle.core_invariant.proofs.Refusals.{GoodTook, not_spent}
 use Rattle.core_invariant.proofs.Tcaps.{TcapOf}
 use Rattle.share_invariant.proofs.ShareCalls as calls
-use Rattle.share_invariant.proofs.ShareSteps.{mark_is, head_says, list_says, loading, load_goes, load_decides}
+use Rattle.share_invariant.proofs.ShareSteps.{mark_is, head_says, list_plain, loading, load_goes, load_decides}
 
 -- Such a call charges no ticks.
 pub owes_share : (s : State) (c : ℕ) (call : Call) (ks : List Capability) (p : Pair) → SharesBy call ks p → owed_by s c call ≡ s
@@ -156,7 +156,8 @@ module _ (setup : Setting) (setting : IsSetting setup) (cores : ℕ → Core) (t
             later = omega arith;
             same = λ is. inl has.knows.knows.at.1;
             valid = λ j low. subst IsSome (sym (ap quality_of_word (word_kept (EntryAt p.b (suc j)))
-                ∙ list_says setup setting cores t stands p.b tcap.fields tcap.is j low)) refl;
+                ∙ list_plain setup setting cores t stands p.b tcap.fields tcap.is
+                (mark_is setup setting cores t stands p.b tcap.fields tcap.is was ∙ ap head_mark reads) j low)) refl;
           };
         },
       )
@@ -353,8 +354,7 @@ module _ (setup : Setting) (setting : IsSetting setup) (cores : ℕ → Core) (t
         list_b = found_list;
         at = at_read o (b_next (nat_lt (suc n) 8) (suc n) (record p { list_b = found_list; at = ListB (suc n) }));
       }) (list_end o)))
-  by_quality None is = absurd (none_quality _
-      (sym is ∙ list_says setup setting cores t stands p.b tcap_here.fields tcap_here.is n low))
+  by_quality None is = absurd (false≢true (sym (ap is_some is) ∙ has.knows.knows.at.1.seen.valid n low))
   by_quality (Some v) is = by_more (nat_lt (suc n) 8) refl
 
   pub list_b_good : GoodTook setup cores t c (LoadOf word_at) (landed a (took_share list_p found))

@@ -44,7 +44,7 @@ use Rattle.core_invariant.proofs.Carries.{own_kept}
 use Rattle.core_invariant.proofs.Tcaps.{TcapOf}
 use Rattle.share_invariant.proofs.ListsRead.{reads_whole}
 use Rattle.share_invariant.proofs.ShareCalls as calls
-use Rattle.share_invariant.proofs.ShareSteps.{mark_is, head_says, list_says, a_says}
+use Rattle.share_invariant.proofs.ShareSteps.{mark_is, head_says, list_plain, a_says, a_list}
 
 -- The numbers of temporal capabilities after a legal trace.
 pub ranges_of : (setup : Setting) → IsSetting setup → (t : Trace) → IsLegal setup t → InRanges (state_after setup t)
@@ -96,10 +96,11 @@ module _ (setup : Setting) (setting : IsSetting setup) (cores : ℕ → Core) (t
   says_a = a_says setup setting cores t stands c here a active p stage_is has 8 both.a held
 
   list_a_is : p.list_a ≡ Some tcap_a.fields.qualities
+  unfolding tcap_a
   list_a_is =
       let range = range_of setup setting cores t stands p.a tcap_a.fields tcap_a.is in
       both.a.list ∙ reads_whole tcap_a.fields.qualities (list_word setup t p.a) range.pairs range.most
-      (λ j low. list_says setup setting cores t stands p.a tcap_a.fields tcap_a.is j low)
+      (a_list setup setting cores t stands c here a active p stage_is has 8 both.a held)
 
   -- head B, where it is as it was read
   module _ (equal : last_left setup t (EntryAt p.b 0) ≡ word_of_head p.head_b) where
@@ -135,7 +136,7 @@ module _ (setup : Setting) (setting : IsSetting setup) (cores : ℕ → Core) (t
           list_a = list_a_is ∙ ap (λ x. Some (tcap_in x).qualities) (sym tcap_a.is);
           list_b = read_is both.b.seen.same
               ∙ reads_whole tcap_b.fields.qualities (list_word setup t p.b) range.pairs range.most
-              (λ j low. list_says setup setting cores t stands p.b tcap_b.fields tcap_b.is j low)
+              (list_plain setup setting cores t stands p.b tcap_b.fields tcap_b.is bare_b)
               ∙ ap (λ x. Some (tcap_in x).qualities) (sym tcap_b.is);
           budget_a = ap (λ v. v.budget) head_a ∙ ap (λ x. (tcap_in x).budget) (sym tcap_a.is);
           budget_b = ap (λ v. v.budget) head_b ∙ ap (λ x. (tcap_in x).budget) (sym tcap_b.is);

@@ -28,7 +28,7 @@ use Rattle.core_invariant.proofs.Bare.{AsBefore}
 use Rattle.core_invariant.proofs.Calm.{IsCalm, calm_counted, calm_words, counted_rises, none_stored, IsPlain, plain_time, plain_exit, plain_begins}
 use Rattle.core_invariant.proofs.Flushing.{open_flushed}
 use Rattle.core_invariant.proofs.Good.{IsGood, SparesBlanks}
-use Rattle.core_invariant.proofs.Lent.{SparesLent, keeps_given, lent_calm}
+use Rattle.core_invariant.proofs.Lent.{SparesLent, given_kept, lent_open}
 use Rattle.core_invariant.proofs.Loads.{Lands, IsOfCall, next_at, core_at, core_is, call_is, in_call, inner, inner_within, inner_disciplined, inner_near, inner_works, inner_own}
 use Rattle.core_invariant.proofs.Sums.{sums_stay}
 use Rattle.core_invariant.proofs.Users.{spares_none}
@@ -104,7 +104,8 @@ module _ (setup : Setting) (setting : IsSetting setup) (cores : ℕ → Core) (t
         words = hold_words setup cores t e after calm.frame elsewhere bares now unowned settles
             (λ v. calm_words setup t e calm plain v (λ g i h. ap (λ s. s.place g i) after_it)
             (λ d h. (decided-inside (Some r) (phase t c) (state_after setup t) c d, plain_exit t e refl d))) stands.words;
-        lent = lent_calm setup cores t stands e after (keeps_given setup cores t e after bares) calm;
+        lent = lent_open setup cores t e after a a.call active opens
+            (given_kept (holds (cores c)) (holds after) (word_of move) bares);
         spares = spares;
         sums = sums_stay setup t e (held_by cores) (held_by (put cores c after))
             (λ g b. settled_stays setup cores t e after calm.frame elsewhere bares now unowned settles (CountAt g b))

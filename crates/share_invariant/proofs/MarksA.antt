@@ -51,7 +51,7 @@ use Rattle.core_invariant.proofs.Bare.{as_none, counts_bare}
 use Rattle.core_invariant.proofs.Carries.{names_on, counts_on}
 use Rattle.core_invariant.proofs.Counting as counters
 use Rattle.core_invariant.proofs.Good.{Spared, SparesBlanks}
-use Rattle.core_invariant.proofs.Lent.{is_thread, unlent_value, unlent_word, lent_free}
+use Rattle.core_invariant.proofs.Lent.{unlent_head_value, unlent_head_word, lent_free}
 use Rattle.core_invariant.proofs.Loads.{IsOfCall, core_at, core_is, call_is, inner}
 use Rattle.core_invariant.proofs.Refusals.{GoodTook, ticks_at, not_spent, refuses_raced}
 use Rattle.core_invariant.proofs.Tcaps.{TcapOf}
@@ -301,7 +301,7 @@ module _ (setup : Setting) (setting : IsSetting setup) (cores : ℕ → Core) (t
           };
         })
         (spares_one setup t e p.a 0 q refl tcap.is (turns e refl refl refl))
-        (lent_free cores e (unlent_word setup cores t stands p.a 0 (ap is_thread tcap.is)))
+        (lent_free cores e (unlent_head_word setup cores t stands p.a tcap.fields tcap.is))
       where
         settles : (after : Core) → (holds after).marks at ≡ true → (holds after).stands at ≡ old
             → settled_by (if (holds after).marks at then Some c else None) (held_by (put cores c after)) at (left_of compare was)
@@ -309,7 +309,7 @@ module _ (setup : Setting) (setting : IsSetting setup) (cores : ℕ → Core) (t
         settles after marks stands_for =
             ap (λ b. settled_by (if b then Some c else None) (held_by (put cores c after)) at (left_of compare was)) marks
             ∙ ap (λ k. (holds k).stands at) (put_same cores c after c refl)
-            ∙ stands_for ∙ sym same ∙ sym (unlent_value setup cores t stands p.a (ap is_thread tcap.is) 0 was)
+            ∙ stands_for ∙ sym same ∙ sym (unlent_head_value setup cores t stands p.a tcap.fields tcap.is was)
             ∙ sym (ap (λ o. settled_by o (held_by cores) at was) bare)
 
     -- it is no less: the head is marked
@@ -342,7 +342,7 @@ module _ (setup : Setting) (setting : IsSetting setup) (cores : ℕ → Core) (t
         (ap (λ b. settled_by (if b then Some c else None) (held_by (put cores c after)) at (left_of compare was)) marks_it
         ∙ ap (λ k. (holds k).stands at) (put_same cores c after c refl)
         ∙ ap (λ b. if b then old else (holds_counts None a.counts).stands at) (same_same at)
-        ∙ sym same ∙ sym (unlent_value setup cores t stands p.a (ap is_thread tcap.is) 0 was)
+        ∙ sym same ∙ sym (unlent_head_value setup cores t stands p.a tcap.fields tcap.is was)
         ∙ sym (ap (λ o. settled_by o (held_by cores) at was) bare))
         (calls.opens setup setting cores t stands c here a active mark_p stage_is has)
         (λ carries. record {
@@ -372,7 +372,7 @@ module _ (setup : Setting) (setting : IsSetting setup) (cores : ℕ → Core) (t
         (counts_on setup t e c a.call (λ own. refl) a.counts (call_is setup setting cores t stands c here a active).counts)
         (call_is setup setting cores t stands c here a active).apart
         (spares_one setup t e p.a 0 q refl tcap.is (turns e refl refl refl))
-        (lent_free cores e (unlent_word setup cores t stands p.a 0 (ap is_thread tcap.is)))
+        (lent_free cores e (unlent_head_word setup cores t stands p.a tcap.fields tcap.is))
 
   pub mark_a_good : GoodTook setup cores t c compare (landed a (took_share mark_p was))
   mark_a_good = by_same (was == old) refl

@@ -48,7 +48,8 @@ use Rattle.core_invariant.specs.Shares.{HasTcap, HasMarkedA, IsShared, SharesBy,
 use Rattle.core_invariant.specs.Stands.{holds_share, holds_at, holds_in, holds, held_by, Stands}
 use Rattle.core_invariant.proofs.Carries.{names_on}
 use Rattle.core_invariant.proofs.CountSums.{counted_refs}
-use Rattle.core_invariant.proofs.Lent.{is_thread, unlent_value}
+use Rattle.core_invariant.proofs.ActBares.{open_bare}
+use Rattle.core_invariant.proofs.Lent.{unlent_head_value, unlent_list_value}
 use Rattle.core_invariant.proofs.Loads.{OnlyLooks, Lands, step_to, next_at, core_at, inner, loads_on, decides_with}
 use Rattle.core_invariant.proofs.Pairs.{marked_on}
 use Rattle.core_invariant.proofs.Refusals.{GoodTook}
@@ -100,7 +101,7 @@ module _ (setup : Setting) (setting : IsSetting setup) (cores : ℕ → Core) (t
     pub head_says : marked_by setup t (EntryAt f 0) ≡ None → HeadIs q (count_room s) (head_of_word (last_left setup t (EntryAt f 0)))
     head_says bare =
         subst (λ (n : ℕ). HeadIs q (count_room s) (head_of_word n))
-        (unlent_value setup cores t stands f (ap is_thread is) 0 (last_left setup t (EntryAt f 0)))
+        (unlent_head_value setup cores t stands f q is (last_left setup t (EntryAt f 0)))
         (subst (λ o. HeadIs q (count_room s)
         (head_of_word (settled_by o (held_by cores) (EntryAt f 0) (last_left setup t (EntryAt f 0))))) bare
         (subst (λ x. IsFrameWord s.limits.frames (count_room s) x (s.place f 0) (stamp setup t (PlaceOf f 0)) 0
@@ -120,15 +121,25 @@ module _ (setup : Setting) (setting : IsSetting setup) (cores : ℕ → Core) (t
     list_bare j x = ap (λ y. mark_in_frame y (suc j) x) is
         ∙ ap (λ b. if b then head_mark (head_of_word x) else None) (ne_eqb (suc j) 0 (λ h. absurd (omega (arith, h))))
 
+    -- of which none is kept without a mark by the core that has marked the head
     pub list_says : (j : ℕ) → j < 8
+        → ((d : ℕ) → marked_by setup t (EntryAt f 0) ≡ Some d → (held_by cores d).bare f (suc j) ≡ None)
         → quality_of_word (last_left setup t (EntryAt f (suc j))) ≡ Some (record { 0 = slice_get q.qualities j })
-    list_says j low =
+    list_says j low marker =
         subst (λ (n : ℕ). quality_of_word n ≡ Some (record { 0 = slice_get q.qualities j }))
-        (unlent_value setup cores t stands f (ap is_thread is) (suc j) (last_left setup t (EntryAt f (suc j))))
+        (unlent_list_value setup cores t stands f q is (suc j) (last_left setup t (EntryAt f (suc j))) (λ d some mark. marker d mark))
         (subst (λ o. quality_of_word (settled_by o (held_by cores) (EntryAt f (suc j)) (last_left setup t (EntryAt f (suc j))))
         ≡ Some (record { 0 = slice_get q.qualities j })) (list_bare j (last_left setup t (EntryAt f (suc j))))
         (subst (λ x. IsFrameWord s.limits.frames (count_room s) x (s.place f (suc j)) (stamp setup t (PlaceOf f (suc j))) (suc j)
         (settled setup (held_by cores) t (EntryAt f (suc j)))) is (stands.words (EntryAt f (suc j))) low))
+
+    -- so no core has that
+    pub list_plain : marked_by setup t (EntryAt f 0) ≡ None → (j : ℕ) → j < 8
+        → quality_of_word (last_left setup t (EntryAt f (suc j))) ≡ Some (record { 0 = slice_get q.qualities j })
+    list_plain bare j low = list_says j low (λ d mark. absurd (not_none d (sym bare ∙ mark)))
+      where
+        not_none : (d : ℕ) → None ≡ Some d → ⊥
+        not_none d h = cc
 
 -- The steps of the call.
 module _ (setup : Setting) (setting : IsSetting setup) (cores : ℕ → Core) (t : Trace) (stands : Stands setup cores t) (c : ℕ)
@@ -197,6 +208,17 @@ module _ (setup : Setting) (setting : IsSetting setup) (cores : ℕ → Core) (t
         (marked_says setup setting cores t stands p.a fields_a
         (calls.tcap_a setup setting cores t stands c here a active p stage_is has).is c own_mark)
 
+    -- and so are the words of its list
+    pub a_list : (j : ℕ) → j < 8
+        → quality_of_word (last_left setup t (EntryAt p.a (suc j))) ≡ Some (record { 0 = slice_get fields_a.qualities j })
+    a_list j low =
+        list_says setup setting cores t stands p.a fields_a (calls.tcap_a setup setting cores t stands c here a active p stage_is has).is j low
+        (λ d mark. subst (λ (b : ℕ). (held_by cores b).bare p.a (suc j) ≡ None) (same_core d (sym own_mark ∙ mark))
+        (ap (λ o. (holds_in o).bare p.a (suc j)) active ∙ open_bare a a.call opens_at p.a (suc j)))
+      where
+        same_core : (d : ℕ) → Some c ≡ Some d → c ≡ d
+        same_core d h = cc
+
     same_head : (v u : HeadWord) → Some v ≡ Some u → v ≡ u
     same_head v u h = cc
 
@@ -224,7 +246,7 @@ module _ (setup : Setting) (setting : IsSetting setup) (cores : ℕ → Core) (t
               (subst (λ (f : ℕ). IsTrue (is_one_of f (frames_near before c a.call))) (sym first)
               (calls.near_a setup setting cores t stands c here a active p stage_is has)));
           tcap_a = subst (HasTcap (state_after setup (e ∷ t)) c) (sym first) tcap;
-          at = subst (Rattle.core_invariant.specs.Shares.KnowsStoresAt setup (e ∷ t) q) (sym at_is) (record {
+          at = subst (Rattle.core_invariant.specs.Shares.KnowsStoresAt setup (e ∷ t) c a.call q) (sym at_is) (record {
             raw = ap (λ (f : ℕ). last_left setup (e ∷ t) (EntryAt f 0)) first ∙ on.raw
                 ∙ ap (λ (b : ℕ). word_of_head (marked b p.head_a)) (sym core) ∙ ap (λ h. word_of_head (marked q.core h)) (sym head);
             fits = subst HeadFits (sym head) marked_a.fits;

@@ -31,7 +31,7 @@ use Rattle.core_invariant.specs.Stands.{done_by, holds_at, holds_in, holds, held
 use Rattle.core_invariant.proofs.Bare.{as_none, counts_bare}
 use Rattle.core_invariant.proofs.Carries.{counts_on}
 use Rattle.core_invariant.proofs.Counting as counters
-use Rattle.core_invariant.proofs.Lent.{is_thread, unlent_word, lent_free}
+use Rattle.core_invariant.proofs.Lent.{unlent_head_word, lent_free}
 use Rattle.core_invariant.proofs.Loads.{IsOfCall, core_at, call_is, inner}
 use Rattle.core_invariant.proofs.Refusals.{GoodTook}
 use Rattle.core_invariant.proofs.Tcaps.{TcapOf, tcap_of}
@@ -160,7 +160,7 @@ module _ (setup : Setting) (setting : IsSetting setup) (cores : ℕ → Core) (t
       (counts_on setup t e c a.call (λ own. refl) a.counts (call_is setup setting cores t stands c here a active).counts)
       (call_is setup setting cores t stands c here a active).apart
       (spares_one setup t e p.a 0 tcap.fields refl tcap.is (turns e refl refl refl))
-      (lent_free cores e (unlent_word setup cores t stands p.a 0 (ap is_thread tcap.is)))
+      (lent_free cores e (unlent_head_word setup cores t stands p.a tcap.fields tcap.is))
     where
       same_core : (b : ℕ) → Some b ≡ Some c → b ≡ c
       same_core b h = cc
@@ -174,5 +174,5 @@ module _ (setup : Setting) (setting : IsSetting setup) (cores : ℕ → Core) (t
             | inl own ↦ ap (λ k. (holds k).bare f i) (Rattle.kernel_rules.proofs.Within.put_same cores c after d own)
                 ∙ counts_bare (done_by r drawn) a.counts f i
             | inr other ↦ ap (λ k. (holds k).bare f i) (Rattle.kernel_rules.proofs.Within.put_other cores c after d other)
-                ∙ unlent_word setup cores t stands p.a 0 (ap is_thread tcap.is) f i is d
+                ∙ unlent_head_word setup cores t stands p.a tcap.fields tcap.is f i is d
           ]

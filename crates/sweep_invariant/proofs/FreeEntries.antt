@@ -57,11 +57,12 @@ use Rattle.call_steps.specs.View.{Core}
 use Rattle.core_invariant.specs.Holding.{Holding, holds_counts, holds_closed, holds_drawn, keeps, kept_below, settled, settled_by}
 use Rattle.core_invariant.specs.Frozen.{holds_untyping}
 use Rattle.core_invariant.specs.Knows.{KnowsAct, KnowsAt, KnowsClose, KnowsStore, KnowsTail, KnowsWork, CallIs, phase_at}
-use Rattle.core_invariant.specs.Shares.{KnowsShare, KnowsShared}
-use Rattle.core_invariant.specs.Stands.{Stands, holds, held_by, holds_act, holds_at, holds_comp, holds_head, holds_in, holds_killing, holds_making, holds_pop, holds_push, holds_share, holds_shared, holds_stage, holds_tail, holds_work, is_done}
+use Rattle.core_invariant.specs.Shares.{KnowsShare, KnowsShared, KnowsStoresAt}
+use Rattle.core_invariant.specs.Stands.{Stands, holds, held_by, holds_act, holds_at, holds_comp, holds_head, holds_heads, holds_in, holds_killing, holds_making, holds_pop, holds_push, holds_share, holds_shared, holds_stage, holds_tail, holds_work, is_done}
 use Rattle.core_invariant.specs.Threads.{KnowsSwitch, holds_switching}
 use Rattle.core_invariant.proofs.Carries.{slot_relies}
 use Rattle.core_invariant.proofs.Freezing.{release_entry}
+use Rattle.core_invariant.proofs.Lent.{lent_unmarked}
 
 none_some : (x : ℕ) → None ≡ Some x → ⊥
 none_some x h = cc
@@ -125,18 +126,6 @@ module _ (f i : ℕ) where
   share_entry p StoreB h other = refl
   share_entry p (StoreA moved v) h other = refl
 
-  shared_entry : (p : Pair) (at : PairAt) (h : Holding) → p.a ≢ f → Same (holds_shared p at h) h
-  shared_entry p LoadA h other = refl
-  shared_entry p MarkA h other = refl
-  shared_entry p (ListA n) h other = refl
-  shared_entry p LoadB h other = refl
-  shared_entry p (ListB n) h other = refl
-  shared_entry p CompareB h other = refl
-  shared_entry p (AgainB r) h other = refl
-  shared_entry p (StoreList n) h other = refl
-  shared_entry p StoreB h other = refl
-  shared_entry p (StoreA moved v) h other = keep_other p.a 0 (h.marks (EntryAt f i)) f i other
-
   switch_entry : (m : Switching) (at : SwitchAt) (h : Holding) → m.old ≢ f → Rattle.core_invariant.specs.Threads.claimed_by at ≢ f
       → Same (holds_switching m at h) h
   switch_entry m (switch_at.Claim (AtLoad g core)) h old new = refl
@@ -161,14 +150,6 @@ module _ (setup : Setting) (setting : IsSetting setup) (cores : ℕ → Core) (t
       let one : 1 ≤ times f (f ∷ (s.core d).tcap ∷ []) = times_first f ((s.core d).tcap ∷ []) in
       let at : times f (f ∷ (s.core d).tcap ∷ []) ≡ 0 = ap (λ n. times f (n ∷ (s.core d).tcap ∷ [])) (sym same) ∙ none in
       omega (arith, one, at)
-
-  -- none keeps a word of it without a mark
-  pub none_kept : (d i : ℕ) → (held_by cores d).bare f i ≡ None
-  none_kept d i = by ((held_by cores d).bare f i) refl
-    where
-      by : (o : Option ℕ) → (held_by cores d).bare f i ≡ o → o ≡ None
-      by None is = refl
-      by (Some v) is = let lent = stands.lent d f i v is in absurd (no_thread d lent.core lent.thread)
 
   module _ (d : ℕ) (here : d < setup.cores) (waits_not : (s.grace (FrameOf f)).waits d ≡ false) where
     apart : (g : ℕ) → IsGuarded s d g → g ≢ f
@@ -210,6 +191,23 @@ module _ (setup : Setting) (setting : IsSetting setup) (cores : ℕ → Core) (t
           switch_entry f i m m.at h (λ same. no_thread d here (sym knows.leaves.thread ∙ same))
           (apart (Rattle.core_invariant.specs.Threads.claimed_by m.at) knows.thread.guarded)
 
+      heads_entry : (p : Pair) (h : Holding) → p.a ≢ f → p.b ≢ f → Same f i (holds_heads p h) h
+      heads_entry p h first second = keep_other p.b 0 (if f == p.a && i == 0 then true else h.marks (EntryAt f i)) f i second
+          ∙ keep_other p.a 0 (h.marks (EntryAt f i)) f i first
+
+      shared_entry : (call : Call) (p : Pair) (at : PairAt) → KnowsStoresAt setup t d call p at → (h : Holding) → p.a ≢ f
+          → Same f i (holds_shared p at h) h
+      shared_entry call p LoadA knows h other = refl
+      shared_entry call p MarkA knows h other = refl
+      shared_entry call p (ListA n) knows h other = refl
+      shared_entry call p LoadB knows h other = refl
+      shared_entry call p (ListB n) knows h other = refl
+      shared_entry call p CompareB knows h other = refl
+      shared_entry call p (AgainB r) knows h other = refl
+      shared_entry call p (StoreList n) knows h other = heads_entry p h other (apart p.b knows.2.tcap.guarded)
+      shared_entry call p StoreB knows h other = heads_entry p h other (apart p.b knows.tcap.guarded)
+      shared_entry call p (StoreA moved v) knows h other = keep_other p.a 0 (h.marks (EntryAt f i)) f i other
+
       tail_entry : (call : Call) (counts : List Acquired) (tail : Tail) → KnowsTail setup t d call counts tail → (h : Holding)
           → Same f i (holds_tail tail h) h
       tail_entry call counts Nothing knows h = refl
@@ -221,7 +219,7 @@ module _ (setup : Setting) (setting : IsSetting setup) (cores : ℕ → Core) (t
       tail_entry call counts (StoreLive l live g word) knows h = refl
       tail_entry call counts (Push p) knows h = push_entry f i p h
       tail_entry call counts (Pop p) knows h = pop_entry f i p h
-      tail_entry call counts (share_tail p) knows h = shared_entry f i p p.at h (apart p.a knows.tcap_a.guarded)
+      tail_entry call counts (share_tail p) knows h = shared_entry call p p.at knows.at h (apart p.a knows.tcap_a.guarded)
       tail_entry call counts (StoreRunning g core depth old old_depth) knows h =
           keep_other g 0 (if f == old && i == 0 then true else h.marks (EntryAt f i)) f i (λ same. no_thread d here (sym knows.own ∙ same))
           ∙ keep_other old 0 (h.marks (EntryAt f i)) f i (apart old knows.rest.thread.guarded)
@@ -268,6 +266,16 @@ module _ (setup : Setting) (setting : IsSetting setup) (cores : ℕ → Core) (t
         by : (o : Option ℕ) → marked_by setup t (EntryAt f i) ≡ o → o ≡ None
         by None is = refl
         by (Some d) is = absurd (false≢true (sym (held_none d i) ∙ (stands.marks (EntryAt f i) d).owned is))
+
+    -- none keeps a word of it without a mark
+    none_kept : (d i : ℕ) → (held_by cores d).bare f i ≡ None
+    none_kept d i = by ((held_by cores d).bare f i) refl
+      where
+        by : (o : Option ℕ) → (held_by cores d).bare f i ≡ o → o ≡ None
+        by None is = refl
+        by (Some v) is =
+            let l = stands.lent d f i v is in
+            absurd (no_thread d l.core (lent_unmarked setup cores t stands d f i l (held_none d 0)).thread)
 
     -- and each settles to what it is
     pub entry_settles : (i : ℕ) → settled setup (held_by cores) t (EntryAt f i) ≡ last_left setup t (EntryAt f i)

@@ -30,7 +30,7 @@ use Rattle.core_invariant.proofs.Bare.{AsBefore}
 use Rattle.core_invariant.proofs.Calm.{IsCalm, calm_counted, calm_words, counted_rises, none_stored, IsPlain, plain_begins, plain_exit, none_time, none_flushed}
 use Rattle.core_invariant.proofs.Flushing.{open_flushed}
 use Rattle.core_invariant.proofs.Good.{IsGood, spares_other}
-use Rattle.core_invariant.proofs.Lent.{keeps_given, lent_calm, lent_elsewhere}
+use Rattle.core_invariant.proofs.Lent.{given_kept, lent_open, lent_elsewhere}
 use Rattle.core_invariant.proofs.Loads.{IsOfCall, Lands, next_at, core_at, core_is, call_is, inner, inner_works}
 use Rattle.core_invariant.proofs.OwnChanges as owning
 use Rattle.core_invariant.proofs.Sums.{sums_stay}
@@ -103,7 +103,7 @@ module _ (setup : Setting) (setting : IsSetting setup) (cores : ℕ → Core) (t
       (hold_words setup cores t e after calm.frame elsewhere bares now unowned settles
       (λ v. calm_words setup t e calm plain v (λ g i h. ap (λ s. s.place g i) after_is)
       (λ d h. (decided-inside (Some r) (phase t c) (state_after setup t) c d, plain_exit t e refl d))) stands.words)
-      (lent_calm setup cores t stands e after (keeps_given setup cores t e after bares) calm)
+      (lent_open setup cores t e after a a.call active opens (given_kept (holds (cores c)) (holds after) (word_of move) bares))
       (lent_elsewhere cores e no_entry)
       (sums_stay setup t e (held_by cores) (held_by (put cores c after))
       (λ f d. settled_stays setup cores t e after calm.frame elsewhere bares now unowned settles (CountAt f d))

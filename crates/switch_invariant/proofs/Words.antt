@@ -1,6 +1,6 @@
 -- What the first word of a thread shows where it carries no mark, who may keep it, and what the words of a claimed thread show.
 use Rattle.std.proofs.Common.{◌≡◌, ◌≢◌, ◌<◌, ◌≤◌, inl, inr, ℕ, List, [], ◌∷◌, length, Option, Some, None, IsTrue, arith, refl, sym, ◌∙◌, ap, subst}
-use Rattle.std.proofs.lemmas.Bool.{cases_eq}
+use Rattle.std.proofs.lemmas.Bool.{cases_eq, false≢true}
 use Rattle.spk_nums.specs.Setting.{Setting, IsSetting}
 use Rattle.spk_nums.specs.declared.kinds.Kind.TheVariants as kind
 use Rattle.tcap_words.specs.Thread.{thread_of_word}
@@ -23,10 +23,11 @@ use Rattle.kernel_history.proofs.Stays.{sound_of}
 use Rattle.call_steps.specs.View.{Core}
 use Rattle.core_invariant.specs.Components.{HasComp}
 use Rattle.core_invariant.specs.Holding.{settled_by}
-use Rattle.core_invariant.specs.Stands.{held_by, IsLent, SaysRunning, Stands}
+use Rattle.core_invariant.specs.Stands.{held_by, IsOfThread, SaysRunning, Stands}
 use Rattle.core_invariant.specs.Words.{IsFrameWord, IsThreadWord, count_room}
 use Rattle.core_invariant.proofs.Bare.{none_kept}
-use Rattle.core_invariant.proofs.Lent.{runs_on_own}
+use Rattle.core_invariant.proofs.Lent.{lent_thread, runs_on_own}
+use Rattle.core_invariant.proofs.Tcaps.{is_tcap}
 use Rattle.switch_invariant.proofs.ThreadWords.{same_some, thread_is}
 
 -- What the first word of a thread shows, by the core on which it runs.
@@ -65,11 +66,14 @@ module _ (setup : Setting) (setting : IsSetting setup) (cores : ℕ → Core) (t
       (subst (λ o. IsFrameWord s.limits.frames (count_room s) (s.frame f) (s.place f i) (stamp setup t (PlaceOf f i)) i
       (settled_by o (held_by cores) (EntryAt f i) (last_left setup t (EntryAt f i)))) mark (stands.words (EntryAt f i)))
 
+  kept_of_thread : (d i v : ℕ) → (held_by cores d).bare f i ≡ Some v → IsOfThread setup t d f i
+  kept_of_thread d i v is = lent_thread setup t d f i (stands.lent d f i v is) (λ tcap. false≢true (ap is_tcap (sym frame_is) ∙ tcap))
+
   -- a core that keeps a word of it runs it
   keeper_runs : (d i v : ℕ) → (held_by cores d).bare f i ≡ Some v → (thread_in ((state_after setup t).frame f)).runs_on ≡ Some d
   keeper_runs d i v is =
-      let l : IsLent setup t d f i = stands.lent d f i v is in
-      ap (λ (g : ℕ). (thread_in (s.frame g)).runs_on) (sym l.thread) ∙ runs_on_own setup setting cores t stands d l.core
+      ap (λ (g : ℕ). (thread_in (s.frame g)).runs_on) (sym (kept_of_thread d i v is).thread)
+      ∙ runs_on_own setup setting cores t stands d (stands.lent d f i v is).core
 
   -- so none keeps a word of one that runs on none, or on another core
   pub no_keeper : (d i : ℕ) → (thread_in ((state_after setup t).frame f)).runs_on ≢ Some d → (held_by cores d).bare f i ≡ None
@@ -92,7 +96,7 @@ module _ (setup : Setting) (setting : IsSetting setup) (cores : ℕ → Core) (t
   shows (Some d) so bare = by ((held_by cores d).bare f 0) refl
     where
       by : (o : Option ℕ) → (held_by cores d).bare f 0 ≡ o → SaysRunning d (last_left setup t (EntryAt f 0))
-      by (Some v) is = (stands.lent d f 0 v is).says refl
+      by (Some v) is = (kept_of_thread d 0 v is).says refl
       by None is = record {
         depth = length fields.stack;
         says = plain_says 0 bare none ∙ ap (λ r. Some (thread_value r (length fields.stack))) so;

@@ -19,7 +19,7 @@ use Rattle.call_steps.specs.View.{Core}
 use Rattle.core_invariant.specs.Holding.{settled_by}
 use Rattle.core_invariant.specs.Stands.{held_by, Stands}
 use Rattle.core_invariant.specs.Words.{IsCompWord, IsFrameWord, count_room}
-use Rattle.core_invariant.proofs.Lent.{is_thread, unlent_value}
+use Rattle.core_invariant.proofs.Lent.{may_keep, unlent_value}
 use Rattle.core_invariant.proofs.Sounds.{limits_of}
 use Rattle.live_invariant.proofs.Numbers.{comp_is}
 
@@ -36,7 +36,7 @@ module _ (setup : Setting) (setting : IsSetting setup) (cores : ℕ → Core) (t
       subst (λ x. IsFrameWord s.limits.frames (count_room s) x (s.place f i) (stamp setup t (PlaceOf f i)) i
       (last_left setup t (EntryAt f i))) holds_comp
       (subst (λ (n : ℕ). IsFrameWord s.limits.frames (count_room s) (s.frame f) (s.place f i) (stamp setup t (PlaceOf f i)) i n)
-      (unlent_value setup cores t stands f (ap is_thread holds_comp) i (last_left setup t (EntryAt f i)))
+      (unlent_value setup cores t stands f (ap may_keep holds_comp) i (last_left setup t (EntryAt f i)))
       (subst (λ o. IsFrameWord s.limits.frames (count_room s) (s.frame f) (s.place f i) (stamp setup t (PlaceOf f i)) i
       (settled_by o (held_by cores) (EntryAt f i) (last_left setup t (EntryAt f i)))) unmarked (stands.words (EntryAt f i))))
     where

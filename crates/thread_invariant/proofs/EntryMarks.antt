@@ -4,14 +4,15 @@ use Rattle.std.proofs.Common.{◌≡◌, ◌≢◌, ◌⊎◌, ◌<◌, ◌^◌,
 use Rattle.std.proofs.lemmas.Bool.{false≢true, cases_eq, cases_lt, ne_eqb}
 use Rattle.spk_nums.specs.Setting.{Setting, IsSetting}
 use Rattle.spk_nums.specs.declared.kinds.Kind.TheVariants as kind
+use Rattle.spk_nums.specs.declared.calls.Call.{Call}
 use Rattle.tcap_words.specs.Thread.{word_of_thread, thread_of_word}
 use Rattle.tcap_words.specs.declared.thread_word.ThreadWord.TheVariants.{Idle, Running}
 use Rattle.tcap_words.proofs.ThreadLemmas as threads
 use Rattle.word_map.specs.Word.{Word, EntryAt, FrameAt}
 use Rattle.call_acts.specs.declared.comps.CompMaking.{CompMaking}
-use Rattle.kernel_rules.specs.State.{Frame, Kernel, Thread, Tcap, PlaceOf, State, thread_in, thread_of}
+use Rattle.kernel_rules.specs.State.{Frame, Kernel, Table, Leaf, Pages, Pleaf, Thread, Tcap, PlaceOf, State, thread_in, thread_of}
 use Rattle.kernel_rules.specs.Fitting.{fits}
-use Rattle.kernel_rules.specs.Relies.{Relies}
+use Rattle.kernel_rules.specs.Relies.{Relies, is_node}
 use Rattle.kernel_history.specs.Marks.{mark_in_frame, thread_mark}
 use Rattle.kernel_history.specs.Marking.{marked_by}
 use Rattle.kernel_history.specs.ObjectWords.{thread_value}
@@ -55,15 +56,28 @@ use Rattle.core_invariant.specs.Holding.{Holding, nothing, keeps, holds_counts, 
 use Rattle.core_invariant.specs.Threads.{holds_idle, holds_switching, claimed_by, KnowsSwitch}
 use Rattle.core_invariant.specs.Words.{IsFrameWord, count_room}
 use Rattle.core_invariant.specs.Knows.{KnowsAct, KnowsWork, KnowsTail, KnowsAt, CallIs, phase_at}
-use Rattle.core_invariant.specs.Stands.{holds_act, holds_making, holds_killing, holds_comp, holds_share, holds_shared, holds_head, holds_work, holds_tail, is_done, holds_at, holds_in, holds, held_by, Stands}
+use Rattle.core_invariant.specs.Shares.{KnowsStoresAt}
+use Rattle.core_invariant.specs.Stands.{holds_act, holds_making, holds_killing, holds_comp, holds_share, holds_shared, holds_head, holds_heads, holds_work, holds_tail, is_done, holds_at, holds_in, holds, held_by, Stands}
 use Rattle.core_invariant.proofs.Carries.{slot_relies}
 use Rattle.core_invariant.proofs.Freezing.{release_entry}
-use Rattle.core_invariant.proofs.Lent.{is_thread, node_no_thread, runs_on_own}
+use Rattle.core_invariant.proofs.Lent.{runs_on_own}
 use Rattle.thread_invariant.proofs.OwnStack.{own_thread}
 
 pub counts_apart : (fate : Option (Option ℕ)) (xs : List Acquired) (f i : ℕ) → (holds_counts fate xs).marks (EntryAt f i) ≡ false
 counts_apart fate [] f i = refl
 counts_apart fate (x ∷ xs) f i = counts_apart fate xs f i
+
+-- Whether a frame has a thread: it is then none of a node, and of no temporal capability.
+abbrev is_thread : Frame → Bool
+is_thread (Kernel (Thread k)) = true
+is_thread _ = false
+
+node_no_thread : (x : Frame) → IsTrue (is_node x) → is_thread x ≡ false
+node_no_thread (Kernel Table) node = refl
+node_no_thread (Kernel Leaf) node = refl
+node_no_thread (Kernel Pages) node = refl
+node_no_thread (Kernel Pleaf) node = refl
+node_no_thread _ node = absurd (false≢true node)
 
 tcap_no_thread : (x : Frame) → IsTrue (fits kind.Tcap x) → is_thread x ≡ false
 tcap_no_thread (Kernel (Tcap q)) fit = refl
@@ -149,18 +163,23 @@ module _ (setup : Setting) (setting : IsSetting setup) (cores : ℕ → Core) (t
   shares p pair.StoreB h not below = below
   shares p (pair.StoreA moved v) h not below = below
 
-  shared : (p : Pair) (at : PairAt) (h : Holding) → is_thread ((state_after setup t).frame p.a) ≡ false → Claimed h
-      → Claimed (holds_shared p at h)
-  shared p pair.LoadA h not below = below
-  shared p pair.MarkA h not below = below
-  shared p (pair.ListA n) h not below = below
-  shared p pair.LoadB h not below = below
-  shared p (pair.ListB n) h not below = below
-  shared p pair.CompareB h not below = below
-  shared p (pair.AgainB r) h not below = below
-  shared p (pair.StoreList n) h not below = below
-  shared p pair.StoreB h not below = below
-  shared p (pair.StoreA moved v) h not below = no_thread h p.a 0 _ below not
+  heads : (p : Pair) (h : Holding) → is_thread ((state_after setup t).frame p.a) ≡ false → is_thread ((state_after setup t).frame p.b) ≡ false
+      → Claimed h → Claimed (holds_heads p h)
+  heads p h not_a not_b below = no_thread (holds_head p true h) p.b 0 _ (no_thread h p.a 0 _ below not_a) not_b
+
+  shared : (call : Call) (p : Pair) (at : PairAt) (h : Holding) → is_thread ((state_after setup t).frame p.a) ≡ false
+      → KnowsStoresAt setup t d call p at → Claimed h → Claimed (holds_shared p at h)
+  shared call p pair.LoadA h not has below = below
+  shared call p pair.MarkA h not has below = below
+  shared call p (pair.ListA n) h not has below = below
+  shared call p pair.LoadB h not has below = below
+  shared call p (pair.ListB n) h not has below = below
+  shared call p pair.CompareB h not has below = below
+  shared call p (pair.AgainB r) h not has below = below
+  shared call p (pair.StoreList n) h not has below =
+      heads p h not (tcap_no_thread ((state_after setup t).frame p.b) has.2.tcap.tcap) below
+  shared call p pair.StoreB h not has below = heads p h not (tcap_no_thread ((state_after setup t).frame p.b) has.tcap.tcap) below
+  shared call p (pair.StoreA moved v) h not has below = no_thread h p.a 0 _ below not
 
   making : (g : ℕ) (at : MakingAt) (h : Holding) → (holds_making g at h).marks (EntryAt f i) ≡ h.marks (EntryAt f i)
   making g making_load h = refl
@@ -230,7 +249,8 @@ module _ (setup : Setting) (setting : IsSetting setup) (cores : ℕ → Core) (t
     by_tail (Push (push.AtThread g core depth)) h has free = none (holds_tail (Push (push.AtThread g core depth)) h) free
     by_tail (Pop (pop.AtThread g core depth)) h has free = none (holds_tail (Pop (pop.AtThread g core depth)) h) free
     by_tail (Pop (pop.AtStack g depth)) h has free = none (holds_tail (Pop (pop.AtStack g depth)) h) free
-    by_tail (Share p) h has free = shared p p.at h (tcap_no_thread ((state_after setup t).frame p.a) has.tcap_a.tcap) (none h free)
+    by_tail (Share p) h has free =
+        shared a.call p p.at h (tcap_no_thread ((state_after setup t).frame p.a) has.tcap_a.tcap) has.at (none h free)
     by_tail (StoreRunning g core depth old old_depth) h has free =
         runs (holds_idle old old_depth h) g _ (idle h old old_depth (none h free)) has.own
     by_tail (StoreIdle g depth) h has free = idle h g depth (none h free)

@@ -11,7 +11,7 @@ use Rattle.core_invariant.specs.Holding.{settled_by}
 use Rattle.core_invariant.specs.Words.{IsFrameWord, IsThreadWord, count_room}
 use Rattle.core_invariant.specs.Stands.{holds, held_by, Stands}
 use Rattle.core_invariant.proofs.Bare.{none_kept}
-use Rattle.core_invariant.proofs.Lent.{runs_on_own}
+use Rattle.core_invariant.proofs.Lent.{lent_thread, runs_no_tcap, runs_on_own}
 use Rattle.thread_invariant.proofs.EntryMarks.{thread_unmarked}
 use Rattle.thread_invariant.proofs.OwnStack.{own_thread}
 
@@ -40,9 +40,10 @@ module _ (setup : Setting) (setting : IsSetting setup) (cores : ℕ → Core) (t
       by other None free = free
       by other (Some u) kept =
           let l = stands.lent d ((state_after setup t).core c).thread i u kept in
+          let runs = runs_on_own setup setting cores t stands c here in
+          let w = lent_thread setup t d thread i l (runs_no_tcap ((state_after setup t).frame thread) c runs) in
           absurd (other (same_core d c (sym (runs_on_own setup setting cores t stands d l.core)
-          ∙ ap (λ (g : ℕ). (thread_in ((state_after setup t).frame g)).runs_on) l.thread
-          ∙ runs_on_own setup setting cores t stands c here)))
+          ∙ ap (λ (g : ℕ). (thread_in ((state_after setup t).frame g)).runs_on) w.thread ∙ runs)))
 
   pub thread_says : (i : ℕ) → IsThreadWord (thread_of s c) i (last_left setup t (EntryAt ((state_after setup t).core c).thread i))
   thread_says i =

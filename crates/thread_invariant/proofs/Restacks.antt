@@ -241,13 +241,15 @@ module _ (setup : Setting) (setting : IsSetting setup) (cores : ℕ → Core) (t
     pub restack_lent : (f i v : ℕ) → (holds after).bare f i ≡ Some v → IsLent setup (e ∷ t) c f i
     restack_lent f i v is = record {
       core = here;
-      thread = ap (λ k. k.thread) core_now ∙ (own_kept f i v is).0;
-      stack = subst (λ k. 1 ≤ length k.stack) (sym whose) r.some;
       unmarked = alike (EntryAt f i) ∙ ap (mark_of s (EntryAt f i)) (last_left-there setup (EntryAt f i) e t (λ h. apart f i (sym h)))
           ∙ (own_kept f i v is).1;
-      says = λ first. subst (SaysRunning c)
-          (sym (last_left-there setup (EntryAt f i) e t (λ h. apart f i (sym h))
-          ∙ ap (λ (n : ℕ). last_left setup t (EntryAt n i)) (r.only f i v is).0
-          ∙ ap (λ (n : ℕ). last_left setup t (EntryAt (s.core c).thread n)) first))
-          says;
+      word = inl (record {
+        thread = ap (λ k. k.thread) core_now ∙ (own_kept f i v is).0;
+        stack = subst (λ k. 1 ≤ length k.stack) (sym whose) r.some;
+        says = λ first. subst (SaysRunning c)
+            (sym (last_left-there setup (EntryAt f i) e t (λ h. apart f i (sym h))
+            ∙ ap (λ (n : ℕ). last_left setup t (EntryAt n i)) (r.only f i v is).0
+            ∙ ap (λ (n : ℕ). last_left setup t (EntryAt (s.core c).thread n)) first))
+            says;
+      });
     }

@@ -75,7 +75,7 @@ same_index f i g j h = cc
 -- The word of a step is given back, and what else is kept stays.
 given : (f i x : ℕ) (h : Holding) → ((g j : ℕ) → EntryAt g j ≡ EntryAt f i → h.bare g j ≡ None)
     → AsBefore (keeps_bare f i x h) h (EntryAt f i)
-given f i x h none = record { there = λ g j apart. sym (kept_there f i x h g j apart); here = none }
+given f i x h none = record { there = λ g j apart. sym (kept_there f i x h g j apart); here = none; head = λ g j v kept mark. mark }
 
 -- Beside one word more of the same frame.
 one_more : (f i x k y : ℕ) (fate : Option (Option ℕ)) (xs : List Acquired) → i ≢ k → (g j : ℕ) → EntryAt g j ≡ EntryAt f i

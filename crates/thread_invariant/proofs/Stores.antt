@@ -22,12 +22,12 @@ use Rattle.call_steps.specs.Steps.{GoesOn, went_with}
 use Rattle.call_steps.specs.View.{Core}
 use Rattle.core_invariant.specs.Holding.{Holding, holds_counts, settled_by}
 use Rattle.core_invariant.specs.Knows.{phase_at, KnowsTail}
-use Rattle.core_invariant.specs.Stands.{done_by, holds_tail, holds_at, holds_in, holds, held_by, IsLent, Stands}
+use Rattle.core_invariant.specs.Stands.{done_by, holds_tail, holds_at, holds_in, holds, held_by, IsLent, IsOfThread, Stands}
 use Rattle.core_invariant.proofs.Bare.{AsBefore, none_kept}
 use Rattle.core_invariant.proofs.Carries.{counts_on}
 use Rattle.core_invariant.proofs.Counting as counters
 use Rattle.core_invariant.proofs.Good.{Spared}
-use Rattle.core_invariant.proofs.Lent.{one_keeper, own_value}
+use Rattle.core_invariant.proofs.Lent.{lent_unmarked, one_keeper, own_value}
 use Rattle.core_invariant.proofs.Loads.{core_at, inner, call_is}
 use Rattle.core_invariant.proofs.Refusals.{GoodTook}
 
@@ -96,8 +96,12 @@ module _ (setup : Setting) (setting : IsSetting setup) (cores : ℕ → Core) (t
     lent : IsLent setup t c f i
     lent = stands.lent c f i v is_kept
 
+    of_thread : IsOfThread setup t c f i
+    of_thread = lent_unmarked setup cores t stands c f i lent
+        (ap (λ h. h.marks (EntryAt f 0)) was_held ∙ (before (EntryAt f 0)).0 ∙ counts_apart (done_by r drawn) a.counts f 0)
+
     frame_is : s.frame f ≡ Kernel (Thread (thread_in (s.frame f)))
-    frame_is = thread_is (s.frame f) (subst (λ (g : ℕ). 1 ≤ length (thread_in (s.frame g)).stack) lent.thread lent.stack)
+    frame_is = thread_is (s.frame f) (subst (λ (g : ℕ). 1 ≤ length (thread_in (s.frame g)).stack) of_thread.thread of_thread.stack)
 
     others : (d : ℕ) → d ≢ c → (held_by cores d).bare f i ≡ None
     others d other = by ((held_by cores d).bare f i) refl
@@ -117,7 +121,7 @@ module _ (setup : Setting) (setting : IsSetting setup) (cores : ℕ → Core) (t
 
     near : is_one_of f (frames_near s c a.call) ≡ true
     near = one_left f (frames_own s c) _ (ap (λ b. b || is_one_of f ((s.core c).tcap ∷ ((thread_of s c).stack ++
-        ((comp_of s c).table ∷ (comp_of s c).pages ∷ [])))) (eq-eqb (s.core c).thread f lent.thread))
+        ((comp_of s c).table ∷ (comp_of s c).pages ∷ [])))) (eq-eqb (s.core c).thread f of_thread.thread))
 
     same_frame : (g j : ℕ) → EntryAt f i ≡ EntryAt g j → f ≡ g
     same_frame g j h = cc

@@ -1,7 +1,7 @@
 -- The steps of a tick are good: the load of the head of its core's temporal capability, and the compare, which is lost to another core or
 -- charges the ticks that are due.
 use Rattle.core_invariant.proofs.Bare.{counts_bare}
-use Rattle.core_invariant.proofs.Lent.{is_thread, unlent_value, unlent_word, lent_none, lent_kept, lent_free}
+use Rattle.core_invariant.proofs.Lent.{unlent_head_value, unlent_head_word, lent_none, lent_kept, lent_free}
 use Rattle.std.specs.Prelude.{min, IsSome}
 use Rattle.std.proofs.lemmas.List.Elements.{All-nil}
 use Rattle.std.proofs.Common.{◌≡◌, ◌≢◌, inl, inr, ℕ, zero, suc, map, ◌+◌, ◌-◌, ◌*◌, ◌^◌, ◌<◌, ◌≤◌, ◌==◌, true, false, List, [], ◌∷◌, length, Option, Some, None, arith, refl, sym, ◌∙◌, ap, subst, if◌then◌else◌}
@@ -155,7 +155,7 @@ module _ (setup : Setting) (setting : IsSetting setup) (cores : ℕ → Core) (t
 
   -- what the head's word shows, where no core has marked it
   head_says : marked_by setup t at ≡ None → HeadIs q (count_room s) (head_of_word was)
-  head_says unmarked = subst (λ (n : ℕ). HeadIs q (count_room s) (head_of_word n)) (unlent_value setup cores t stands f (ap is_thread tcap.is) 0 was)
+  head_says unmarked = subst (λ (n : ℕ). HeadIs q (count_room s) (head_of_word n)) (unlent_head_value setup cores t stands f q tcap.is was)
       (subst (λ o. HeadIs q (count_room s) (head_of_word (settled_by o (held_by cores) at was))) unmarked
       (subst (λ x. IsFrameWord s.limits.frames (count_room s) x (s.place f 0) (stamp setup t (PlaceOf f 0)) 0 (settled setup (held_by cores) t at))
       tcap.is (stands.words at)))
@@ -759,10 +759,10 @@ module _ (setup : Setting) (setting : IsSetting setup) (cores : ℕ → Core) (t
         (carry_words setup cores t e_won after_won still_won alike_won unmarked bare_now
         (λ g i. counts_bare (Some None) a.counts g i
         ∙ sym (ap (λ h. h.bare g i) (ap holds_in active ∙ held_is) ∙ counts_bare None a.counts g i))
-        (unlent_value setup cores t stands f (ap is_thread tcap.is) 0) stays_won now_says
+        (unlent_head_value setup cores t stands f q tcap.is) stays_won now_says
         (λ w own. absurd (free_of w own)) stands.words)
         (lent_none setup (e_won ∷ t) c after_won (counts_bare (Some None) a.counts))
-        (lent_free cores e_won (unlent_word setup cores t stands f 0 (ap is_thread tcap.is)))
+        (lent_free cores e_won (unlent_head_word setup cores t stands f q tcap.is))
         (sums_keep setup t e_won (held_by cores) (held_by (put cores c after_won))
         (λ g d. others_settled setup cores t e_won after_won still_won alike_won unmarked bare_now (CountAt g d) (no_count g d)
         (free_of (CountAt g d)) refl)

@@ -48,7 +48,7 @@ use Rattle.core_invariant.proofs.Refusals.{GoodTook}
 use Rattle.live_invariant.proofs.KillStarts.{comp_named}
 use Rattle.live_invariant.proofs.Numbers.{comp_is}
 use Rattle.count_invariant.proofs.Acquiring.{plan_leads}
-use Rattle.core_invariant.proofs.Lent.{is_thread, unlent_value}
+use Rattle.core_invariant.proofs.Lent.{may_keep, unlent_value}
 
 -- It is a component, which no other core may retype.
 pub reads_comp : (setup : Setting) → IsSetting setup → (t : Trace) → IsLegal setup t → (c : ℕ) (call : Call) → phase t c ≡ Open call
@@ -110,7 +110,7 @@ module _ (setup : Setting) (setting : IsSetting setup) (cores : ℕ → Core) (t
   says_life : comp_of_word was ≡ Some life
   says_life = subst (λ x. IsFrameWord s.limits.frames (count_room s) x (s.place f 2) (stamp setup t (PlaceOf f 2)) 2 was) holds_comp
       (subst (λ (n : ℕ). IsFrameWord s.limits.frames (count_room s) (s.frame f) (s.place f 2) (stamp setup t (PlaceOf f 2)) 2 n)
-      (unlent_value setup cores t stands f (ap is_thread holds_comp) 2 was)
+      (unlent_value setup cores t stands f (ap may_keep holds_comp) 2 was)
       (subst (λ o. IsFrameWord s.limits.frames (count_room s) (s.frame f) (s.place f 2) (stamp setup t (PlaceOf f 2)) 2
       (settled_by o (held_by cores) (EntryAt f 2) was)) unmarked (stands.words (EntryAt f 2))))
 
