@@ -1,6 +1,6 @@
 -- The compare of the head of the second of two temporal capabilities: it is lost, and the first is given back; and what the call knows of
 -- both where it is won.
-use Rattle.std.proofs.Common.{◌≡◌, ◌≢◌, inl, inr, ℕ, ◌+◌, ◌-◌, ◌<◌, ◌≤◌, ◌^◌, ◌==◌, Bool, true, false, if◌then◌else◌, List, ◌∷◌, length, Some, None, arith, refl, sym, ◌∙◌, ap, subst}
+use Rattle.std.proofs.Common.{◌≡◌, ◌≢◌, inl, inr, ℕ, ◌+◌, ◌-◌, ◌<◌, ◌≤◌, ◌^◌, ◌==◌, Bool, true, false, if◌then◌else◌, List, length, Some, None, arith, refl, sym, ◌∙◌, ap, subst}
 use Rattle.std.specs.Prelude.{min}
 use Rattle.std.proofs.lemmas.Bool.{eq-eqb, eqb-true, eqb-false, false≢true}
 use Rattle.spk_nums.specs.Setting.{Setting, IsSetting}
@@ -12,13 +12,13 @@ use Rattle.tcap_words.proofs.HeadLemmas.{spelling}
 use Rattle.word_map.specs.Word.{Word, EntryAt, CountAt, same_word}
 use Rattle.word_map.specs.Moves.{Move, CompareOf, left_of}
 use Rattle.word_map.proofs.WordLemmas.{same_word-true}
-use Rattle.kernel_rules.specs.State.{TcapFields, PlaceOf, State, tcap_in}
+use Rattle.kernel_rules.specs.State.{TcapFields, State, tcap_in}
 use Rattle.kernel_rules.specs.TimeCalls.{tcap_at}
 use Rattle.kernel_rules.specs.CallRelation.{rule_of, counted}
 use Rattle.kernel_history.specs.Discipline.{changes_in_frame}
 use Rattle.kernel_history.specs.Justified.{HasRacedHead, IsRaceLost}
 use Rattle.kernel_history.specs.Marking.{marked_by}
-use Rattle.kernel_history.specs.Trace.{Step, Trace, Open, phase, state_after, last_left}
+use Rattle.kernel_history.specs.Trace.{Step, Trace, state_after, last_left}
 use Rattle.kernel_history.proofs.Laws.{not_changed}
 use Rattle.stage_tcap.specs.Heads.{raised, debited, credited}
 use Rattle.stage_tcap.specs.Pairs.{PairFits, amount_of, next_b, again_end, giving_back}
@@ -32,7 +32,7 @@ use Rattle.call_steps.specs.declared.stages.ActiveCall.{ActiveCall}
 use Rattle.call_steps.specs.Steps.{landed}
 use Rattle.call_steps.specs.View.{Core}
 use Rattle.core_invariant.specs.Holding.{holds_counts}
-use Rattle.core_invariant.specs.Knows.{KnowsUndecided, phase_at}
+use Rattle.core_invariant.specs.Knows.{KnowsUndecided}
 use Rattle.core_invariant.specs.Shares.{HasBoth}
 use Rattle.core_invariant.specs.Stands.{holds_in, holds_head, Stands}
 use Rattle.core_invariant.specs.Words.{HeadIs, count_room}

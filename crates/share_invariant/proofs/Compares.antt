@@ -1,40 +1,28 @@
 -- The compare of the head of the second of two temporal capabilities: it is lost, and the first is given back, or it carries out a transfer.
-use Rattle.std.proofs.Common.{◌≡◌, ◌≢◌, ◌⊎◌, inl, inr, ℕ, zero, suc, ◌||◌, ◌+◌, ◌-◌, ◌*◌, ◌<◌, ◌≤◌, ◌^◌, ◌==◌, ◌&&◌, not, nat_lt, Bool, true, false, if◌then◌else◌, List, [], ◌∷◌, length, Option, Some, None, IsTrue, IsSome, arith, refl, sym, ◌∙◌, ap, subst}
-use Rattle.std.specs.Prelude.{min}
-use Rattle.std.proofs.lemmas.Bool.{cases_eq, eq-eqb, eqb-true, eqb-false, le-ltb, false≢true}
+use Rattle.std.proofs.Common.{◌≡◌, ◌≢◌, inl, inr, ℕ, ◌+◌, ◌-◌, ◌<◌, ◌≤◌, ◌^◌, ◌==◌, not, nat_lt, Bool, true, false, if◌then◌else◌, [], ◌∷◌, Some, None, arith, refl, sym, ◌∙◌, ap, subst}
+use Rattle.std.proofs.lemmas.Bool.{le-ltb}
 use Rattle.spk_nums.specs.Setting.{Setting, IsSetting}
-use Rattle.spk_nums.specs.WordSteps.{left_if}
 use Rattle.spk_nums.specs.declared.replies.Reply.TheVariants as reply
 use Rattle.spk_nums.specs.declared.replies.Value.TheVariants as value
 use Rattle.tcap_words.specs.Head.{HeadFits, word_of_head, head_of_word}
 use Rattle.tcap_words.specs.declared.head_word.HeadWord.{HeadWord}
 use Rattle.tcap_words.proofs.HeadLemmas.{spelling}
-use Rattle.word_map.specs.Word.{Word, EntryAt, FrameAt, CountAt, CoreAt, FlushAt, LiveAt, ClockAt, same_word}
+use Rattle.word_map.specs.Word.{Word, EntryAt, CountAt, same_word}
 use Rattle.word_map.specs.Moves.{Move, CompareOf, left_of}
 use Rattle.word_map.proofs.WordLemmas.{same_same}
-use Rattle.kernel_rules.specs.State.{Core as CoreFields, Frame, Kernel, Tcap, TcapFields, PlaceOf, FrameOf, NumberOf, State, put, with_frame, thread_in, comp_in, tcap_in, thread_of, comp_of, first_of_stack}
+use Rattle.kernel_rules.specs.State.{Kernel, Tcap, TcapFields, PlaceOf, FrameOf, State, put, tcap_in}
 use Rattle.kernel_rules.specs.Access.{found as named_by}
-use Rattle.kernel_rules.specs.References.{sum_below, refs, frame_names, times}
-use Rattle.kernel_rules.specs.Relies.{IsGuarded}
 use Rattle.kernel_rules.specs.Rules.{Found, IsFoundAnd, unless, first_of, first_cause, leaves}
-use Rattle.kernel_rules.specs.TimeCalls.{tcap_at, with_tcap, with_budget, moved, is_short, are_unlike, are_alike}
-use Rattle.kernel_rules.specs.CallRelation.{rule_of, change_of, changed, counted, MayReply, begins_in as begun_by}
-use Rattle.kernel_rules.proofs.Refs.{frame_refs}
-use Rattle.kernel_rules.proofs.Sums.{sum_one}
-use Rattle.kernel_rules.proofs.Within.{put_same, put_other}
-use Rattle.kernel_history.specs.Discipline.{changes_in_frame}
-use Rattle.kernel_history.specs.Justified.{HasRacedHead, IsRaceLost}
-use Rattle.kernel_history.specs.Marks.{mark_of, mark_in_frame, head_mark}
+use Rattle.kernel_rules.specs.TimeCalls.{tcap_at, moved, is_short, are_unlike, are_alike}
+use Rattle.kernel_rules.specs.CallRelation.{change_of, changed, counted, MayReply, begins_in as begun_by}
+use Rattle.kernel_history.specs.Marks.{mark_of, head_mark}
 use Rattle.kernel_history.specs.Marking.{marked_by}
-use Rattle.kernel_history.specs.ObjectWords.{frame_value}
 use Rattle.kernel_history.specs.Stamps.{begins_in, ends_in, flushes_in, stamp}
 use Rattle.kernel_history.specs.Trace.{Step, Trace, Open, phase, state_after, last_left, state_decided_in}
 use Rattle.kernel_history.proofs.AloneCalls.{ok_first}
-use Rattle.kernel_history.proofs.Inside.{decided-inside}
-use Rattle.kernel_history.proofs.Laws.{not_changed}
-use Rattle.stage_tcap.specs.Heads.{raised, debited, credited}
+use Rattle.stage_tcap.specs.Heads.{debited, credited}
 use Rattle.stage_tcap.specs.Lists.{in_order, same_list}
-use Rattle.stage_tcap.specs.Pairs.{again_end, compared_after, by_alike, giving_back}
+use Rattle.stage_tcap.specs.Pairs.{again_end, compared_after, by_alike}
 use Rattle.stage_tcap.specs.declared.pair.Pair.{Pair}
 use Rattle.stage_tcap.specs.declared.pair.PairAt.TheVariants.{CompareB, AgainB, StoreA}
 use Rattle.stage_tcap.specs.declared.pair.PairWork.TheVariants.{Transfer}
@@ -47,24 +35,21 @@ use Rattle.call_steps.specs.declared.stages.Stage.TheVariants.{Undecided, Decide
 use Rattle.call_steps.specs.declared.stages.ActiveCall.{ActiveCall}
 use Rattle.call_steps.specs.Steps.{landed}
 use Rattle.call_steps.specs.View.{Core}
-use Rattle.core_invariant.specs.Holding.{holds_counts, settled}
-use Rattle.core_invariant.specs.Knows.{KnowsUndecided, WorksIn}
+use Rattle.core_invariant.specs.Holding.{holds_counts}
+use Rattle.core_invariant.specs.Knows.{KnowsUndecided}
 use Rattle.core_invariant.specs.Shares.{list_changed, TurnsHead, SparesTcap, HasTcap, HasBoth}
-use Rattle.core_invariant.specs.Stands.{holds_at, holds_in, holds_head, holds, held_by, times_of, counted_in, Stands}
+use Rattle.core_invariant.specs.Stands.{holds_at, holds_in, holds_head, holds, held_by, times_of, Stands}
 use Rattle.core_invariant.specs.Words.{IsFrameWord, WordIs, count_room}
 use Rattle.core_invariant.proofs.Bare.{counts_bare}
-use Rattle.core_invariant.proofs.Calm.{IsPlain, plain_begins, plain_stamp, plain_flush, plain_exit}
-use Rattle.core_invariant.proofs.CountSums.{counted_refs}
+use Rattle.core_invariant.proofs.Calm.{IsPlain, plain_begins}
 use Rattle.core_invariant.proofs.Lent.{unlent_head_word}
-use Rattle.core_invariant.proofs.Loads.{IsOfCall, next_at, core_at, core_is, inner}
+use Rattle.core_invariant.proofs.Loads.{next_at, core_at, core_is, inner}
 use Rattle.core_invariant.proofs.Refusals.{GoodTook, not_spent}
-use Rattle.core_invariant.proofs.Sounds.{limits_of}
 use Rattle.core_invariant.proofs.Sums.{sums_keep}
 use Rattle.core_invariant.proofs.Tcaps.{TcapOf}
 use Rattle.core_invariant.proofs.Users.{spares_none}
-use Rattle.core_invariant.proofs.WordFrames.{SameFor, ReadsAlike, StaysSaid, others_settled, word_stays}
-use Rattle.core_invariant.proofs.Writes.{same_marks, room_left, decides_writing}
-use Rattle.share_invariant.proofs.HeadsB.{owes_share}
+use Rattle.core_invariant.proofs.WordFrames.{ReadsAlike, StaysSaid, others_settled}
+use Rattle.core_invariant.proofs.Writes.{same_marks, decides_writing}
 use Rattle.share_invariant.proofs.Compared as compared
 use Rattle.share_invariant.proofs.ListsKnown as known
 use Rattle.share_invariant.proofs.ListsKnown.{AreRead, same_alike, all_gone}
@@ -73,7 +58,7 @@ use Rattle.share_invariant.proofs.Moved as moves
 use Rattle.share_invariant.proofs.Moved.{IsMoved, with_both}
 use Rattle.share_invariant.proofs.ShareCalls as calls
 use Rattle.share_invariant.proofs.ShareCalls.{causes_of, change_by}
-use Rattle.share_invariant.proofs.ShareSteps.{mark_is, own_mark, load_decides, stores_a}
+use Rattle.share_invariant.proofs.ShareSteps.{mark_is, stores_a}
 
 module _ (setup : Setting) (setting : IsSetting setup) (cores : ℕ → Core) (t : Trace) (stands : Stands setup cores t) (c : ℕ)
     (here : c < setup.cores)

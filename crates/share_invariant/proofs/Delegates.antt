@@ -1,6 +1,6 @@
 -- The compare of the head of the second of two temporal capabilities carries out a delegation: it marks that head, and the call has still to
 -- store the merged list and both heads.
-use Rattle.std.proofs.Common.{◌≡◌, ◌≢◌, inl, inr, ℕ, zero, suc, ◌+◌, ◌-◌, ◌<◌, ◌≤◌, ◌^◌, ◌==◌, ◌&&◌, nat_lt, nat_le, Bool, true, false, if◌then◌else◌, List, [], ◌∷◌, length, slice_get, Option, Some, None, IsTrue, arith, refl, sym, ◌∙◌, ap, subst}
+use Rattle.std.proofs.Common.{◌≡◌, ◌≢◌, inl, inr, ℕ, zero, suc, ◌+◌, ◌-◌, ◌<◌, ◌≤◌, ◌^◌, ◌==◌, ◌&&◌, nat_lt, nat_le, Bool, true, false, if◌then◌else◌, List, [], ◌∷◌, length, slice_get, Option, Some, None, arith, refl, sym, ◌∙◌, ap, subst}
 use Rattle.std.proofs.lemmas.Bool.{and_parts, and_from, eq-eqb, eqb-true, le-leb, leb-true, le-ltb}
 use Rattle.spk_nums.specs.Setting.{Setting, IsSetting}
 use Rattle.spk_nums.specs.Merging.{merged}
@@ -8,7 +8,7 @@ use Rattle.spk_nums.specs.Qualities.{IsQualityList}
 use Rattle.spk_nums.specs.declared.replies.Reply.TheVariants as reply
 use Rattle.spk_nums.specs.declared.replies.Value.TheVariants as value
 use Rattle.tcap_words.specs.Head.{HeadFits, word_of_head, head_of_word}
-use Rattle.tcap_words.specs.Quality.{QualityFits, word_of_quality, quality_of_word}
+use Rattle.tcap_words.specs.Quality.{QualityFits}
 use Rattle.tcap_words.specs.declared.head_word.HeadWord.{HeadWord}
 use Rattle.tcap_words.proofs.HeadLemmas.{spelling}
 use Rattle.tcap_words.proofs.QualityLemmas as qualities
@@ -53,7 +53,7 @@ use Rattle.core_invariant.specs.Stands.{holds_in, holds_head, holds, held_by, ti
 use Rattle.core_invariant.specs.Words.{IsFrameWord, WordIs, count_room}
 use Rattle.core_invariant.proofs.Bare.{counts_bare}
 use Rattle.core_invariant.proofs.Calm.{IsPlain, plain_begins}
-use Rattle.core_invariant.proofs.Lent.{SparesLent, lent_free, unlent_list, unlent_head_word}
+use Rattle.core_invariant.proofs.Lent.{lent_free, unlent_list, unlent_head_word}
 use Rattle.core_invariant.proofs.Loads.{next_at, core_at, core_is, inner}
 use Rattle.core_invariant.proofs.OwnChanges.{decides_changing}
 use Rattle.core_invariant.proofs.Pairs.{marked_on}
@@ -263,7 +263,7 @@ module _ (setup : Setting) (setting : IsSetting setup) (cores : ℕ → Core) (t
         (sym is.shared.first)
         ∙ ap (λ (f : ℕ). first_of (if nat_lt 8 (length (merged_list s p.a f)) then Some reply.TooMany else None) None)
         (sym is.shared.second)
-        ∙ ap (λ b. first_of (if b then Some reply.TooMany else None) None) (le-ltb (length (merged_list s p.a p.b)) 8 few)
+        ∙ ap (λ b. first_of (if b then Some reply.TooMany else None) None) (le-ltb 8 (length (merged_list s p.a p.b)) few)
       where
         not_short : nat_lt (tcap_at s p.a).budget m ≡ false
         not_short = ap (λ x. nat_lt (tcap_in x).budget m) tcap_a.is
@@ -356,8 +356,11 @@ module _ (setup : Setting) (setting : IsSetting setup) (cores : ℕ → Core) (t
           free = λ d. ap (λ (n : ℕ). (held_by cores d).bare n (suc j)) is_in.frame ∙ unkept (suc j) d;
         }
           where
+            index : EntryAt g (suc j) ≡ EntryAt p.b 0 → suc j ≡ 0
+            index h = cc
+
             apart : EntryAt g (suc j) ≡ EntryAt p.b 0 → ⊥
-            apart h = let same : suc j ≡ 0 = cc in omega (arith, same)
+            apart h = let same = index h in omega (arith, same)
 
     marks : (w : Word) (d : ℕ) → MarkIs setup (held_by (put cores c after)) (e ∷ t) w d
     marks = turned.turned_marks setup setting cores t stands e after here alike elsewhere bare marked_now marks_it
@@ -393,10 +396,10 @@ module _ (setup : Setting) (setting : IsSetting setup) (cores : ℕ → Core) (t
         (compared.credited_is setup setting cores t stands c here a active what_p stage_is has equal (count_room s') room_more list few_list)
 
     apart_heads : at_a ≢ at
-    apart_heads h = differ frame_is
+    apart_heads h = differ (frame_is h)
       where
-        frame_is : p.a ≡ p.b
-        frame_is = cc
+        frame_is : at_a ≡ at → p.a ≡ p.b
+        frame_is h = cc
 
     own_says : (w : Word) → marked_by setup (e ∷ t) w ≡ Some c → WordIs s' (times_of setup (e ∷ t)) w ((holds after).stands w)
     own_says w mark = elim (cases_word w at) [
@@ -457,11 +460,11 @@ module _ (setup : Setting) (setting : IsSetting setup) (cores : ℕ → Core) (t
           clean = on.clean;
         }
       where
+        frame_is : (i : ℕ) → EntryAt p.a i ≡ EntryAt p.b 0 → p.a ≡ p.b
+        frame_is i h = cc
+
         apart : (i : ℕ) → EntryAt p.a i ≡ EntryAt p.b 0 → ⊥
-        apart i h = differ frame_is
-          where
-            frame_is : p.a ≡ p.b
-            frame_is = cc
+        apart i h = differ (frame_is i h)
 
     left_known : KnowsShared setup (e ∷ t) c a.call left_p
     left_known = record {

@@ -13,7 +13,7 @@ use Rattle.kernel_history.specs.Trace.{Step, Trace, state_after, last_left}
 use Rattle.kernel_history.proofs.Names.{cases_word}
 use Rattle.kernel_history.proofs.Steps.{last_left-here, last_left-there}
 use Rattle.call_steps.specs.View.{Core}
-use Rattle.core_invariant.specs.Holding.{Holding, bare_value, settled_by, settled, MarkIs}
+use Rattle.core_invariant.specs.Holding.{Holding, settled_by, settled, MarkIs}
 use Rattle.core_invariant.specs.Words.{WordIs}
 use Rattle.core_invariant.specs.Stands.{holds, held_by, times_of, Stands}
 use Rattle.core_invariant.proofs.Bare.{own_kept, same_value, core_bare}
