@@ -102,7 +102,8 @@ module _ (setup : Setting) (setting : IsSetting setup) (cores : ℕ → Core) (t
 
   -- another word is found there than was read
   pub lost_good : (was == old) ≡ false
-      → GoodTook setup cores t c compare (landed a (took_shared (record now_p { at = giving_back }) (again_end false (reply.Ok value.Nothing))))
+      → GoodTook setup cores t c compare
+      (landed a (took_shared (record now_p { at = giving_back }) (again_end false (reply.Ok value.Nothing))))
   lost_good other lands =
       load_decides setup setting cores t stands c here a active now_p stage_is has 8 both.a held compare
       (record { of_call = of_call; kept = kept; apart = λ d. refl }) reply.Raced
@@ -204,7 +205,8 @@ module _ (setup : Setting) (setting : IsSetting setup) (cores : ℕ → Core) (t
 
     -- what both heads say once the ticks are moved
     pub debited_is : (more : ℕ) → 1 + count_room s ≤ more
-        → HeadIs (record qa { budget = qa.budget - amount_of p.what }) more (head_of_word (word_of_head (debited p.head_a (amount_of p.what))))
+        → HeadIs (record qa { budget = qa.budget - amount_of p.what }) more
+        (head_of_word (word_of_head (debited p.head_a (amount_of p.what))))
     debited_is more grows = record {
       version = raised p.head_a.version;
       says = spelling.reads (debited p.head_a (amount_of p.what)) less_fits

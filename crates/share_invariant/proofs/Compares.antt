@@ -1,4 +1,4 @@
--- The compare of the head of the second of two temporal capabilities: it is lost, and the first is given back, or it carries out a transfer.
+-- The compare of the head of the second of two temporal capabilities: it carries out a transfer, or is lost.
 use Rattle.std.proofs.Common.{◌≡◌, ◌≢◌, inl, inr, ℕ, ◌+◌, ◌-◌, ◌<◌, ◌≤◌, ◌^◌, ◌==◌, not, nat_lt, Bool, true, false, if◌then◌else◌, [], ◌∷◌, Some, None, arith, refl, sym, ◌∙◌, ap, subst}
 use Rattle.std.proofs.lemmas.Bool.{le-ltb}
 use Rattle.spk_nums.specs.Setting.{Setting, IsSetting}
@@ -260,7 +260,8 @@ module _ (setup : Setting) (setting : IsSetting setup) (cores : ℕ → Core) (t
     stays : (w : Word) → w ≢ at → marked_by setup t w ≢ Some c → StaysSaid setup cores t e w
     stays w there free =
         moves.stays setup setting cores t stands c here a active compare p.a p.b qa qb qa_less qb_more is_moved refl w
-        (λ h. free (ap (marked_by setup t) h ∙ compared.mark_a setup setting cores t stands c here a active what_p stage_is has)) there (λ j h low. refl)
+        (λ h. free (ap (marked_by setup t) h ∙ compared.mark_a setup setting cores t stands c here a active what_p stage_is has)) there
+        (λ j h low. refl)
 
     now_says : WordIs s' (times_of setup (e ∷ t)) at (left_of compare was)
     now_says = subst (WordIs s' (times_of setup (e ∷ t)) at) (sym leaves_it)
@@ -296,7 +297,8 @@ module _ (setup : Setting) (setting : IsSetting setup) (cores : ℕ → Core) (t
     )
 
     tcap_left : HasTcap s' c p.a
-    tcap_left = moves.tcap_left setup setting cores t stands c here a active compare p.a p.b qa qb qa_less qb_more is_moved p.a qa_less frame_a
+    tcap_left = moves.tcap_left setup setting cores t stands c here a active compare p.a p.b qa qb qa_less qb_more is_moved p.a
+        qa_less frame_a
         has.knows.knows.tcap_a
 
     apart_a : (i : ℕ) → EntryAt p.a i ≡ EntryAt p.b 0 → left_of compare was ≡ was

@@ -1,5 +1,5 @@
--- The compare of the head of the second of two temporal capabilities carries out a delegation: it marks that head, and the call has still to
--- store the merged list and both heads.
+-- The compare of the head of the second of two temporal capabilities carries out a delegation: it marks that head, and the call has
+-- still to store the merged list and both heads.
 use Rattle.std.proofs.Common.{◌≡◌, ◌≢◌, inl, inr, ℕ, zero, suc, ◌+◌, ◌-◌, ◌<◌, ◌≤◌, ◌^◌, ◌==◌, ◌&&◌, nat_lt, nat_le, Bool, true, false, if◌then◌else◌, List, [], ◌∷◌, length, slice_get, Option, Some, None, arith, refl, sym, ◌∙◌, ap, subst}
 use Rattle.std.proofs.lemmas.Bool.{and_parts, and_from, eq-eqb, eqb-true, le-leb, leb-true, le-ltb}
 use Rattle.spk_nums.specs.Setting.{Setting, IsSetting}
@@ -25,7 +25,7 @@ use Rattle.kernel_history.specs.Footprint.{IsNearIn}
 use Rattle.kernel_history.specs.Marks.{mark_of, head_mark}
 use Rattle.kernel_history.specs.Marking.{marked_by}
 use Rattle.kernel_history.specs.Stamps.{begins_in, ends_in, flushes_in, stamp}
-use Rattle.kernel_history.specs.Trace.{Step, Trace, Open, phase, state_after, last_left, state_decided_in}
+use Rattle.kernel_history.specs.Trace.{Step, Trace, Open, phase, state_after, last_left, state_decided_in, WasAt}
 use Rattle.kernel_history.proofs.AloneCalls.{ok_first}
 use Rattle.kernel_history.proofs.Carries.{was_stays}
 use Rattle.kernel_history.proofs.Names.{cases_word, same_word-other}
@@ -214,8 +214,8 @@ module _ (setup : Setting) (setting : IsSetting setup) (cores : ℕ → Core) (t
     reads_new = spelling.reads new_head new_fits
 
     marked_now : mark_of s at (left_of compare was) ≡ Some c
-    marked_now = ap (mark_of s at) leaves_it ∙ mark_is setup setting cores t stands p.b qb tcap_b.is (word_of_head new_head) ∙ ap head_mark reads_new
-        ∙ ap (λ (d : ℕ). Some d) has.knows.knows.core
+    marked_now = ap (mark_of s at) leaves_it ∙ mark_is setup setting cores t stands p.b qb tcap_b.is (word_of_head new_head)
+        ∙ ap head_mark reads_new ∙ ap (λ (d : ℕ). Some d) has.knows.knows.core
 
     -- the merged list has room, and is kept
     some_list : (o : Option (List (ℕ × ℕ))) → p.list_b ≡ o → by_room o ≡ CompareB → o ≡ Some list
@@ -243,8 +243,10 @@ module _ (setup : Setting) (setting : IsSetting setup) (cores : ℕ → Core) (t
     fits_list : IsQualityList list
     fits_list = subst IsQualityList (sym list_is)
         (merged_list_is (tcap_at s p.a).qualities (tcap_at s p.b).qualities
-        (subst (λ x. IsQualityList (tcap_in x).qualities) (sym tcap_a.is) (known.range_of setup setting cores t stands p.a qa tcap_a.is).pairs)
-        (subst (λ x. IsQualityList (tcap_in x).qualities) (sym tcap_b.is) (known.range_of setup setting cores t stands p.b qb tcap_b.is).pairs))
+        (subst (λ x. IsQualityList (tcap_in x).qualities) (sym tcap_a.is)
+        (known.range_of setup setting cores t stands p.a qa tcap_a.is).pairs)
+        (subst (λ x. IsQualityList (tcap_in x).qualities) (sym tcap_b.is)
+        (known.range_of setup setting cores t stands p.b qb tcap_b.is).pairs))
 
     spelled : (i : ℕ) → QualityFits (record { 0 = slice_get list i })
     spelled i = pair_in_word (slice_get list i) (got_pair list i fits_list)
@@ -272,7 +274,8 @@ module _ (setup : Setting) (setting : IsSetting setup) (cores : ℕ → Core) (t
     change_is : change_of s c a.call ≡ Found (leaves (with_qualities (moved s p.a p.b m) p.b (merged_list s p.a p.b)))
     change_is = calls.change_is setup setting cores t stands c here a active now_p stage_is has
         ∙ ap (λ o. unless o (change_by s (Delegate m) is.a.frame is.b.frame)) no_cause
-        ∙ ap (λ (f : ℕ). Found (leaves (with_qualities (moved s f is.b.frame m) is.b.frame (merged_list s f is.b.frame)))) (sym is.shared.first)
+        ∙ ap (λ (f : ℕ). Found (leaves (with_qualities (moved s f is.b.frame m) is.b.frame (merged_list s f is.b.frame))))
+        (sym is.shared.first)
         ∙ ap (λ (f : ℕ). Found (leaves (with_qualities (moved s p.a f m) f (merged_list s p.a f)))) (sym is.shared.second)
 
     -- the state after it
@@ -323,7 +326,8 @@ module _ (setup : Setting) (setting : IsSetting setup) (cores : ℕ → Core) (t
     -- what it holds then
     elsewhere : (w : Word) → w ≢ at → (holds after).marks w ≡ (holds (cores c)).marks w
     elsewhere w there =
-        ap (λ b. if b then true else if same_word w at_a then true else (holds_counts (Some None) a.counts).marks w) (same_word-other w at there)
+        ap (λ b. if b then true else if same_word w at_a then true else (holds_counts (Some None) a.counts).marks w)
+        (same_word-other w at there)
         ∙ ap (λ b. if same_word w at_a then true else b) (same_marks (Some None) None a.counts w)
         ∙ sym (ap (λ h. h.marks w) held) ∙ ap (λ o. (holds_in o).marks w) (sym active)
 
@@ -368,8 +372,8 @@ module _ (setup : Setting) (setting : IsSetting setup) (cores : ℕ → Core) (t
     -- what is said of the words
     list_says : (j : ℕ) → j < 8 → WordIs s' (times_of setup (e ∷ t)) (EntryAt p.b (suc j)) (word_of_list list (suc j))
     list_says j low =
-        subst (λ x. IsFrameWord s'.limits.frames (count_room s') x (s'.place p.b (suc j)) (stamp setup (e ∷ t) (PlaceOf p.b (suc j))) (suc j)
-        (word_of_list list (suc j))) (sym frame_b)
+        subst (λ x. IsFrameWord s'.limits.frames (count_room s') x (s'.place p.b (suc j)) (stamp setup (e ∷ t) (PlaceOf p.b (suc j)))
+        (suc j) (word_of_list list (suc j))) (sym frame_b)
         (λ below. qualities.spelling.reads (record { 0 = slice_get list j }) (spelled j))
 
     keeps : (g i v : ℕ) → (holds after).bare g i ≡ Some v → WordIs s' (times_of setup (e ∷ t)) (EntryAt g i) v
@@ -393,7 +397,8 @@ module _ (setup : Setting) (setting : IsSetting setup) (cores : ℕ → Core) (t
         subst (λ x. IsFrameWord s'.limits.frames (count_room s') x (s'.place p.b 0) (stamp setup (e ∷ t) (PlaceOf p.b 0)) 0
         (word_of_head (credited p.head_b m)))
         (sym frame_b)
-        (compared.credited_is setup setting cores t stands c here a active what_p stage_is has equal (count_room s') room_more list few_list)
+        (compared.credited_is setup setting cores t stands c here a active what_p stage_is has equal (count_room s') room_more
+        list few_list)
 
     apart_heads : at_a ≢ at
     apart_heads h = differ (frame_is h)
@@ -432,9 +437,11 @@ module _ (setup : Setting) (setting : IsSetting setup) (cores : ℕ → Core) (t
             (and_from (nat_le 1 (suc j)) (nat_le (suc j) 8) (le-leb 1 (suc j) (omega arith)) (le-leb (suc j) 8 (omega (arith, low)))))
 
     words : (w : Word) → WordIs s' (times_of setup (e ∷ t)) w (settled setup (held_by (put cores c after)) (e ∷ t) w)
-    words = turned.turned_words setup setting cores t stands e after here alike elsewhere bare marked_now marks_it none taken stays own_says keeps
+    words = turned.turned_words setup setting cores t stands e after here alike elsewhere bare marked_now marks_it none taken stays
+        own_says keeps
 
-    count_same : (g d : ℕ) → settled setup (held_by (put cores c after)) (e ∷ t) (CountAt g d) ≡ settled setup (held_by cores) t (CountAt g d)
+    count_same : (g d : ℕ) → settled setup (held_by (put cores c after)) (e ∷ t) (CountAt g d)
+        ≡ settled setup (held_by cores) t (CountAt g d)
     count_same g d = turned.there_settled setup setting cores t stands e after here alike elsewhere bare marked_now marks_it none taken
         (CountAt g d) no_entry (compared.count_apart setup setting cores t stands c here a active what_p stage_is has g d)
         (λ f i h. absurd (cc))
@@ -446,7 +453,7 @@ module _ (setup : Setting) (setting : IsSetting setup) (cores : ℕ → Core) (t
     tcap_left : (f : ℕ) (q : TcapFields) → s'.frame f ≡ Kernel (Tcap q) → HasTcap s c f → HasTcap s' c f
     tcap_left = moves.tcap_left setup setting cores t stands c here a active compare p.a p.b qa qb qa_less qb_more is_moved
 
-    near : (f : ℕ) → IsNearIn c a.call (EntryAt f 0) s → Rattle.kernel_history.specs.Trace.WasAt (IsNearIn c a.call (EntryAt f 0)) setup (e ∷ t) c
+    near : (f : ℕ) → IsNearIn c a.call (EntryAt f 0) s → WasAt (IsNearIn c a.call (EntryAt f 0)) setup (e ∷ t) c
     near f now_near = was_stays (IsNearIn c a.call (EntryAt f 0)) setup t e c (λ same. refl)
         (now_was (IsNearIn c a.call (EntryAt f 0)) setup t c a.call is_open now_near)
 
