@@ -8,7 +8,7 @@ use Rattle.spk_nums.specs.Qualities.{IsQualityList}
 use Rattle.spk_nums.specs.declared.replies.Reply.TheVariants as reply
 use Rattle.spk_nums.specs.declared.replies.Value.TheVariants as value
 use Rattle.tcap_words.specs.Head.{HeadFits, word_of_head, head_of_word}
-use Rattle.tcap_words.specs.Quality.{QualityFits}
+use Rattle.tcap_words.specs.Quality.{QualityFits, word_of_quality, quality_of_word}
 use Rattle.tcap_words.specs.declared.head_word.HeadWord.{HeadWord}
 use Rattle.tcap_words.proofs.HeadLemmas.{spelling}
 use Rattle.tcap_words.proofs.QualityLemmas as qualities
@@ -374,7 +374,11 @@ module _ (setup : Setting) (setting : IsSetting setup) (cores : ℕ → Core) (t
     list_says j low =
         subst (λ x. IsFrameWord s'.limits.frames (count_room s') x (s'.place p.b (suc j)) (stamp setup (e ∷ t) (PlaceOf p.b (suc j)))
         (suc j) (word_of_list list (suc j))) (sym frame_b)
-        (λ below. qualities.spelling.reads (record { 0 = slice_get list j }) (spelled j))
+        (λ below. ap (λ (n : ℕ). quality_of_word (word_of_quality (record { 0 = slice_get list n }))) at_pair
+        ∙ qualities.spelling.reads (record { 0 = slice_get list j }) (spelled j))
+      where
+        at_pair : suc j - 1 ≡ j
+        at_pair = omega arith
 
     keeps : (g i v : ℕ) → (holds after).bare g i ≡ Some v → WordIs s' (times_of setup (e ∷ t)) (EntryAt g i) v
     keeps g i v kept = at_place i (listed_at g i v kept)
