@@ -8,6 +8,9 @@ pub mod Marking
 pub mod ListsKnown
 pub mod Compares
 pub mod Agains
+pub mod HeadStores
 pub mod Stores
+pub mod HeadBStores
+pub mod ListStores
 pub mod Shares
 pub mod ShareStarts
