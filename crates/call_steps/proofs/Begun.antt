@@ -4,7 +4,6 @@ use Rattle.std.proofs.Common.{◌≡◌, List, [], Some, None, refl, arith}
 use Rattle.stage_pins.specs.declared.held.Acquired.{Acquired}
 use Rattle.stage_pins.specs.Held.{AcquiredFits}
 use Rattle.spk_nums.specs.CallLimits.{InLimits}
-use Rattle.supported_calls.specs.Built.{IsBuilt}
 use Rattle.spk_nums.specs.Capability.{Capability}
 use Rattle.spk_nums.specs.declared.calls.Call.{Call}
 use Rattle.kernel_rules.specs.Access.{found}
@@ -17,7 +16,7 @@ use Rattle.call_steps.specs.declared.stages.Stage.TheVariants.{Enter}
 
 pub begun_fits : (own : Own) (call : Call) (found : List Capability) (counts : List Acquired) (plan : Plan) → IsOwn own → found ≡ []
     → counts ≡ [] → plan ≡ plan_for call
-    → InLimits call → IsBuilt call
+    → InLimits call
     → IsCore (record {
       own = own;
       active = Some (record {
@@ -31,11 +30,10 @@ pub begun_fits : (own : Own) (call : Call) (found : List Capability) (counts : L
             plan;
       });
     })
-begun_fits own call found counts plan h none no_counts is limits built = rw (none, no_counts, is) (record {
+begun_fits own call found counts plan h none no_counts is limits = rw (none, no_counts, is) (record {
   own = h;
   active = record {
     limits = limits;
-    built = built;
     plan = refl;
     found = tt;
     first = refl;

@@ -2,7 +2,6 @@
 use Rattle.std.proofs.Common.{◌≡◌, ℕ, ◌+◌, ◌<◌, ◌≤◌, Option, Some, refl, sym, ◌∙◌, ap, subst, arith}
 use Rattle.spk_nums.specs.Bounds.{bound_of}
 use Rattle.spk_nums.specs.CallLimits.{InLimits}
-use Rattle.supported_calls.specs.Built.{IsBuilt}
 use Rattle.spk_nums.specs.declared.replies.Reply.{Reply}
 use Rattle.kernel_rules.specs.Laws.{calls_counted}
 use Rattle.kernel_rules.specs.Access.{found}
@@ -25,7 +24,6 @@ active_on : (own : Own) (made : ℕ) (old a : ActiveCall) → IsActive own old �
     → IsActive (record own { made = made }) a
 active_on own made old a active next = record {
   limits = subst InLimits (sym next.call) active.limits;
-  built = subst IsBuilt (sym next.call) active.built;
   plan = next.plan ∙ active.plan ∙ ap plan_for (sym next.call);
   found = next.found;
   first = next.first;
@@ -183,7 +181,6 @@ active_changed : (own : Own) (change : OwnChange) (made : ℕ) (a : ActiveCall) 
     → IsActive (record (own_changed own change) { made = made }) a
 active_changed own (Ticks charged owed) made a on = record {
   limits = on.limits;
-  built = on.built;
   plan = on.plan;
   found = on.found;
   first = on.first;
@@ -195,7 +192,6 @@ active_changed own (Ticks charged owed) made a on = record {
 }
 active_changed own Empties made a on = record {
   limits = on.limits;
-  built = on.built;
   plan = on.plan;
   found = on.found;
   first = on.first;
@@ -207,7 +203,6 @@ active_changed own Empties made a on = record {
 }
 active_changed own (Works comp table pages depth) made a on = record {
   limits = on.limits;
-  built = on.built;
   plan = on.plan;
   found = on.found;
   first = on.first;
@@ -219,7 +214,6 @@ active_changed own (Works comp table pages depth) made a on = record {
 }
 active_changed own (Switches thread depth comp table pages tcap) made a on = record {
   limits = on.limits;
-  built = on.built;
   plan = on.plan;
   found = on.found;
   first = on.first;
@@ -231,7 +225,6 @@ active_changed own (Switches thread depth comp table pages tcap) made a on = rec
 }
 active_changed own (Caches item) made a on = record {
   limits = on.limits;
-  built = on.built;
   plan = on.plan;
   found = on.found;
   first = on.first;

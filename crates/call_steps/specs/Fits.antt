@@ -6,7 +6,6 @@ use Rattle.spk_nums.specs.Capability.{Capability}
 use Rattle.spk_nums.specs.declared.kinds.Kind.{Kind}
 use Rattle.spk_nums.specs.declared.calls.Call.{Call}
 use Rattle.spk_nums.specs.declared.calls.Call.TheVariants.{Gate}
-use Rattle.supported_calls.specs.Built.{IsBuilt}
 use Rattle.frame_words.specs.Comp.{CompFits}
 use Rattle.word_map.specs.Places.{Shape, IsShape}
 use Rattle.stage_look.specs.Shown.{CapNames}
@@ -165,11 +164,10 @@ CountsAt counts (Undecided work) = CountsWait counts work
 CountsAt counts (Decided r drawn tail) = Unit {0}
 CountsAt counts (Leave r stamp) = counts ≡ []
 
--- the call of a core: it is one that is carried out and goes by its plan, its stage fits the core, and the steps made and those to
--- come are within its bound
+-- the call of a core: it is in its limits and goes by its plan, its stage fits the core, and the steps made and those to come are
+-- within its bound
 pub record IsActive (own : Own) (a : ActiveCall) : Type 0 where
   pub limits : InLimits a.call
-  pub built : IsBuilt a.call
   pub plan : a.plan ≡ plan_for a.call
   pub found : FoundFits own.layout.frames a.plan a.found
   pub first : IsFirst a.stage a.found

@@ -3,7 +3,6 @@
 ghost use Rattle.std.specs.Prelude.{◌≡◌, ◌<◌, ◌≤◌, None, IsSome, IsTrue, ◌↔◌};
 ghost use Rattle.spk_nums.specs.CallLimits.{InLimits};
 ghost use Rattle.spk_nums.specs.WordSteps.{place_in};
-ghost use Rattle.supported_calls.specs.Built.{IsBuilt};
 ghost use Rattle.word_map.specs.Places.{size_of};
 ghost use Rattle.word_map.specs.Moves.{op_of};
 ghost use Rattle.kernel_rules.specs.Laws.{calls_counted};
@@ -79,12 +78,10 @@ impl CoreState {
         }
     }
 
-    /// Begins a call, which makes no step. The core is in no call, and the call is in its limits and one that is carried
-    /// out.
+    /// Begins a call, which makes no step. The core is in no call, and the call is in its limits.
     pub fn begin(&mut self, call: Call)
         requires between { self.old.active ≡ None }
         requires limits { InLimits call }
-        requires built { IsBuilt call }
         ensures state { self.new ≡ begun self.old call }
         ensures fits { IsCore self.new }
     {

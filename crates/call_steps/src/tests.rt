@@ -2,7 +2,6 @@
 
 ghost use Rattle.std.specs.Prelude.{◌<◌};
 ghost use Rattle.spk_nums.specs.CallLimits.{InLimits};
-ghost use Rattle.supported_calls.specs.Built.{IsBuilt};
 
 use crate::{Absorbed, CoreState};
 use spk_nums::{
@@ -127,7 +126,6 @@ fn call(
     changed_at: u32,
 ) -> Option<(Reply, u32, u32)>
     requires limits { InLimits call }
-    requires built { IsBuilt call }
 {
     let mut steps = no_steps();
     call_by_steps(words, calls, call, changed_at, &mut steps)
@@ -142,7 +140,6 @@ fn call_by_steps(
     steps: &mut [WordOp; 20],
 ) -> Option<(Reply, u32, u32)>
     requires limits { InLimits call }
-    requires built { IsBuilt call }
 {
     let setup = setup(calls)?;
     let mut core = CoreState::start(CoreNo::new(0), &setup);
@@ -171,14 +168,12 @@ fn call_by_steps(
 
 fn look(a: u16) -> Call
     ensures limits { InLimits result }
-    ensures built { IsBuilt result }
 {
     Call::Look { a: CapId::new(a) }
 }
 
 fn copy(a: u16, b: u16) -> Call
     ensures limits { InLimits result }
-    ensures built { IsBuilt result }
 {
     Call::Copy {
         a: CapId::new(a),
@@ -189,7 +184,6 @@ fn copy(a: u16, b: u16) -> Call
 
 fn remove(b: u16) -> Call
     ensures limits { InLimits result }
-    ensures built { IsBuilt result }
 {
     Call::Remove {
         t: CapId::new(1),
@@ -199,7 +193,6 @@ fn remove(b: u16) -> Call
 
 fn retype(f: u16) -> Call
     ensures limits { InLimits result }
-    ensures built { IsBuilt result }
 {
     Call::Retype {
         r: CapId::new(0),
@@ -225,7 +218,6 @@ fn carries_out_a_look_and_a_copy(rt: HostRuntime) {
 // What a call made alone answers, and after how many steps.
 fn answers(words: &[u64; 595], made: Call) -> Option<(Reply, u32)>
     requires limits { InLimits made }
-    requires built { IsBuilt made }
 {
     let mut words = *words;
     let (reply, steps, _) = call(&mut words, 9, made, 99)?;
@@ -435,7 +427,6 @@ fn a_retype_compares_the_word_of_an_untyped_frame(rt: HostRuntime) {
 // this word and leads to this. The count of frame 0 is at 650, the core words from 680 on, and the clock at 750.
 fn steps_alike(call: Call, rows: &[(WordOp, u64, Absorbed)]) -> Option<usize>
     requires limits { InLimits call }
-    requires built { IsBuilt call }
 {
     let mut grants = Grants::empty();
     for _ in 0..3u8 {

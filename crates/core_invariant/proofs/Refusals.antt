@@ -2,10 +2,9 @@
 use Rattle.call_acts.specs.declared.work.Tail.{Tail}
 use Rattle.std.proofs.Common.{◌≡◌, ◌≢◌, ℕ, ◌+◌, ◌<◌, Option, Bool, true, false, Some, None, arith, refl, sym, ◌∙◌, ap, subst, List, [], ◌∷◌, inl, inr}
 use Rattle.std.proofs.lemmas.Bool.{false≢true, lt-leb}
-use Rattle.supported_calls.specs.Built.{IsBuilt}
 use Rattle.spk_nums.specs.Setting.{Setting, IsSetting}
 use Rattle.spk_nums.specs.declared.calls.Call.{Call}
-use Rattle.spk_nums.specs.declared.calls.Call.TheVariants.{Look, Copy, Remove, Shrink, Unmap, Retype, Make, Tick, Gate, Kill, Call as call_gate, Ret, Grow, Flush, Map, Touch, Transfer, Test, Switch}
+use Rattle.spk_nums.specs.declared.calls.Call.TheVariants.{Look, Copy, Remove, Shrink, Unmap, Retype, Make, Tick, Gate, Kill, Call as call_gate, Ret, Grow, Flush, Map, Touch, Transfer, Delegate, Test, Switch}
 use Rattle.spk_nums.specs.declared.replies.Reply.{Reply}
 use Rattle.spk_nums.specs.declared.replies.Reply.TheVariants as reply
 use Rattle.word_map.specs.Moves.{Move, word_of}
@@ -62,28 +61,28 @@ GoodTook setup cores t c move took =
 abbrev pub NobodyWaits : State → Type 0
 NobodyWaits s = (x : Thing) (d : ℕ) → (s.grace x).waits d ≡ false
 
--- No call that is carried out owes ticks, but a tick.
-pub built_owes : (s : State) (c : ℕ) (call : Call) → IsBuilt call → ((n : ℕ) → call ≢ Tick n) → owed_by s c call ≡ s
-built_owes s c (Look a) built other = refl
-built_owes s c (Copy a u b) built other = refl
-built_owes s c (Remove u b) built other = refl
-built_owes s c (Grow u i l) built other = refl
-built_owes s c (Shrink u i) built other = refl
-built_owes s c (Map p v r f w) built other = refl
-built_owes s c (Unmap p v) built other = refl
-built_owes s c (Retype r f k) built other = refl
-built_owes s c (Make what r f u b) built other = refl
-built_owes s c (Touch v) built other = refl
-built_owes s c Flush built other = refl
-built_owes s c (Tick n) built other = absurd (other n refl)
-built_owes s c (Gate k u b) built other = refl
-built_owes s c (Kill k) built other = refl
-built_owes s c (call_gate g) built other = refl
-built_owes s c Ret built other = refl
-built_owes s c (Transfer x y m) built other = refl
-built_owes s c (Test x y) built other = refl
-built_owes s c (Switch x y) built other = refl
-built_owes s c _ built other = absurd built
+-- No call owes ticks, but a tick.
+pub only_tick_owes : (s : State) (c : ℕ) (call : Call) → ((n : ℕ) → call ≢ Tick n) → owed_by s c call ≡ s
+only_tick_owes s c (Look a) other = refl
+only_tick_owes s c (Copy a u b) other = refl
+only_tick_owes s c (Remove u b) other = refl
+only_tick_owes s c (Grow u i l) other = refl
+only_tick_owes s c (Shrink u i) other = refl
+only_tick_owes s c (Map p v r f w) other = refl
+only_tick_owes s c (Unmap p v) other = refl
+only_tick_owes s c (Retype r f k) other = refl
+only_tick_owes s c (Make what r f u b) other = refl
+only_tick_owes s c (Touch v) other = refl
+only_tick_owes s c Flush other = refl
+only_tick_owes s c (Tick n) other = absurd (other n refl)
+only_tick_owes s c (Gate k u b) other = refl
+only_tick_owes s c (Kill k) other = refl
+only_tick_owes s c (call_gate g) other = refl
+only_tick_owes s c Ret other = refl
+only_tick_owes s c (Transfer x y m) other = refl
+only_tick_owes s c (Delegate x y m) other = refl
+only_tick_owes s c (Test x y) other = refl
+only_tick_owes s c (Switch x y) other = refl
 
 -- Whether a call charges ticks where it stands.
 abbrev pub ticks_in : ActOf → Bool
@@ -269,7 +268,7 @@ module _ (setup : Setting) (setting : IsSetting setup) (cores : ℕ → Core) (t
 
   -- and owes no ticks, where it charges none
   owes_none : ticks_at a.stage ≡ false → owed_by (state_after setup t) c a.call ≡ state_after setup t
-  owes_none plain = built_owes (state_after setup t) c a.call (is_active setup setting cores t stands c here a active).built
+  owes_none plain = only_tick_owes (state_after setup t) c a.call
       (λ n of. stage_ticks setup t c (cores c).own.table n a a.stage of (is_active setup setting cores t stands c here a active).plan
       (call_is setup setting cores t stands c here a active).knows opens plain)
 
@@ -341,7 +340,7 @@ module _ (setup : Setting) (setting : IsSetting setup) (cores : ℕ → Core) (t
       (core_at (cores c) ((cores c).own.made + calls_counted r) (next_at a a.found (Decided r None tail)))
 
   owes_not : ticks_at a.stage ≡ false → owed_by (state_after setup t) c a.call ≡ state_after setup t
-  owes_not plain = built_owes (state_after setup t) c a.call (is_active setup setting cores t stands c here a active).built
+  owes_not plain = only_tick_owes (state_after setup t) c a.call
       (λ n of. stage_ticks setup t c (cores c).own.table n a a.stage of (is_active setup setting cores t stands c here a active).plan
       (call_is setup setting cores t stands c here a active).knows opens plain)
 

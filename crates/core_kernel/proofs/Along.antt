@@ -56,11 +56,11 @@ turned_shape (Some call) core = refl
 may_step : (p : CoreRun) (o : Option Call) (op : WordOp) → MayCall running p o → running.next (called running p o) ≡ Some op
     → MayStep o p.state
 may_step p None op may next = (next_some p.state p.state.active op next).1
-may_step p (Some call) op may next = record { between = next_none p.state p.state.active may.0; built = may.1.built; limits = may.1.limits }
+may_step p (Some call) op may next = record { between = next_none p.state p.state.active may.0; limits = may.1 }
 
 turned_fits : (o : Option Call) (core : Core) → MayStep o core → IsCore core → IsCore (turned o core)
 turned_fits None core may fits = fits
-turned_fits (Some call) core may fits = begun_fits core call fits may.limits may.built
+turned_fits (Some call) core may fits = begun_fits core call fits may.limits
 
 -- the core of a program that has made no step
 started_state : (c : ℕ) (setup : Setting) (p : CoreRun) (o : Option CoreRun) → o ≡ Some (run_of (started c setup) None) → o ≡ Some p

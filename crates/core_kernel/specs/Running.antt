@@ -1,6 +1,5 @@
 -- The program that a core runs at the shared table: the core's state, by which it makes each step, and the reply of its last call.
 use Rattle.std.specs.Prelude.{ℕ, Option, Some, None}
-use Rattle.supported_calls.specs.Built.{IsBuilt}
 use Rattle.spk_nums.specs.CallLimits.{InLimits}
 use Rattle.spk_nums.specs.declared.calls.Call.{Call}
 use Rattle.spk_nums.specs.declared.replies.Reply.{Reply}
@@ -13,11 +12,6 @@ use Rattle.call_steps.specs.View.{Core}
 use Rattle.call_steps.specs.Cores.{begun, move_of, absorbed, told_of_step}
 use Rattle.core_invariant.specs.Events.{returned_in}
 use Rattle.core_kernel.specs.declared.core_run.CoreRun.{CoreRun}
-
--- A call can be made: it is carried out, and within its limits.
-pub record CanCall (call : Call) : Type 0 where
-  pub built : IsBuilt call
-  pub limits : InLimits call
 
 abbrev pub run_of : Core → Option Reply → CoreRun
 run_of core last = record { state = core; last = last }
@@ -37,7 +31,7 @@ abbrev pub running : Steps CoreRun Call
 running = record {
   next = λ p. next_in p.state p.state.active;
   after = λ p n. run_of (absorbed p.state n) (answered p.last (returned_in (told_of_step p.state n)));
-  fit = λ p call. CanCall call;
+  fit = λ p call. InLimits call;
   begun = λ p call. run_of (begun p.state call) p.last;
   size = λ p. size_of p.state.own.layout;
 }

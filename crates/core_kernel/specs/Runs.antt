@@ -1,9 +1,9 @@
 -- What runners do.
 use Rattle.std.specs.Prelude.{◌≡◌, ℕ, ◌≤◌, ◌<◌, ◌^◌, Bool, true, false, List, [], ◌++◌, take, length, All}
+use Rattle.spk_nums.specs.CallLimits.{InLimits}
 use Rattle.spk_nums.specs.declared.calls.Call.{Call}
 use Rattle.spk_nums.specs.declared.replies.Reply.{Reply}
 use Rattle.kernel_history.specs.Trace.{Trace, calls_of}
-use Rattle.core_kernel.specs.Running.{CanCall}
 use Rattle.core_kernel.specs.Replies.{replies_of}
 use Rattle.core_kernel.specs.Kernel.{KernelValue, CoreSeatValue}
 use Rattle.core_kernel.specs.Calls.{HasSeen}
@@ -17,7 +17,7 @@ pub record RunnerValue : Type 0 where
 
 -- A runner's calls can be made and are fewer than 2^32, and there is room for a reply to each.
 pub record IsRunner (calls : List Call) (room : ℕ) : Type 0 where
-  pub fit : All CanCall calls
+  pub fit : All InLimits calls
   pub few : length calls < 2 ^ 32
   pub room_for_all : length calls ≤ room
 

@@ -1,5 +1,6 @@
 -- Whole lists of calls, made by threads.
 use Rattle.std.specs.Prelude.{◌≡◌, ℕ, zero, suc, ◌+◌, ◌<◌, ◌^◌, Bool, false, List, [], ◌∷◌, ◌++◌, length, slice_get, slice_index_or, Some, All}
+use Rattle.spk_nums.specs.CallLimits.{InLimits}
 use Rattle.spk_nums.specs.declared.calls.Call.{Call}
 use Rattle.spk_nums.specs.declared.replies.Reply.{Reply}
 use Rattle.spk_nums.specs.declared.replies.Decision.{Decision}
@@ -12,7 +13,6 @@ use Rattle.kernel_history.specs.Order.{HasCalls}
 use Rattle.kernel_history.specs.Text.{decisions_by}
 use Rattle.kernel_history.specs.Trace.{Trace, state_after}
 use Rattle.core_kernel.specs.declared.whole.Ran.{Ran}
-use Rattle.core_kernel.specs.Running.{CanCall}
 use Rattle.flight.specs.Histories.{IsHistory}
 use Rattle.core_kernel.specs.Kernel.{CoreSeatValue}
 use Rattle.core_kernel.specs.Runs.{RunnerValue}
@@ -33,7 +33,7 @@ decisions_below t (suc n) = decisions_below t n ++ decisions_by t n
 
 -- The calls of a list can be made, and are fewer than 2^32.
 pub record IsList (calls : List Call) : Type 0 where
-  pub fit : All CanCall calls
+  pub fit : All InLimits calls
   pub few : length calls < 2 ^ 32
 
 -- A runner that waits with this seat and this list.

@@ -1,7 +1,6 @@
 //! The kernel: its table of shared words, and the calls that seats make at it.
 
 ghost use Rattle.std.specs.Prelude.{◌≡◌, [], None};
-ghost use Rattle.supported_calls.specs.Built.{IsBuilt};
 ghost use Rattle.spk_nums.specs.CallLimits.{InLimits};
 ghost use Rattle.turn_rule.specs.Seats.{FollowsTrace};
 ghost use Rattle.core_kernel.specs.Running.{running};
@@ -46,12 +45,10 @@ impl Kernel {
         while self.table.turn(seat) {}
     }
 
-    /// Makes the call of the seat's core, and answers its reply. The call is in its limits and one that is carried out.
-    /// It takes no memory.
+    /// Makes the call of the seat's core, and answers its reply. The call is in its limits. It takes no memory.
     pub fn call(&self, seat: &mut CoreSeat, call: Call) -> Reply
         requires kernel { seat.old.kernel ≡ self.now }
         requires limits { InLimits call }
-        requires built { IsBuilt call }
         ensures makes { MakesCall seat.old call result seat.new }
         ensures seen { HasSeen seat.new }
     {

@@ -1,7 +1,7 @@
 //! A core with the calls that it is to make.
 
 ghost use Rattle.std.specs.Prelude.{◌≡◌, ◌<◌, ◌^◌, [], false, All, IfOk, vec_len};
-ghost use Rattle.core_kernel.specs.Running.{CanCall};
+ghost use Rattle.spk_nums.specs.CallLimits.{InLimits};
 
 use crate::seat::CoreSeat;
 use spk_nums::{Call, Memory, Reply};
@@ -13,7 +13,7 @@ use std::marker::Model;
 pub struct Runner {
     /// The core's seat.
     pub seat: CoreSeat,
-    /// The calls, in the order in which they are made: fewer than 2^32, in their limits, and ones that are carried out.
+    /// The calls, in the order in which they are made: fewer than 2^32, and in their limits.
     pub calls: Vec<Call>,
     /// The replies of the calls made so far. There is room for one for each call.
     pub replies: Vec<Reply>,
@@ -36,7 +36,7 @@ impl Model for Runner {
 impl Runner {
     /// The runner of a core that has made none of its calls. Only want of memory is refused.
     pub fn new(alloc: Global, seat: CoreSeat, calls: Vec<Call>) -> Result<Runner, Memory>
-        requires fit { All CanCall calls.items }
+        requires fit { All InLimits calls.items }
         requires few { vec_len calls < 2 ^ 32 }
         ensures seat { IfOk result (λ r. r.seat ≡ seat) }
         ensures calls { IfOk result (λ r. r.calls ≡ calls.items) }

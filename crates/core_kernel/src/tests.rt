@@ -1,8 +1,8 @@
 //! Tests of what no clause says: that the calls succeed, and what they answer.
 
 ghost use Rattle.std.specs.Prelude.{◌≡◌, ◌<◌, IfOk, All, length};
+ghost use Rattle.spk_nums.specs.CallLimits.{InLimits};
 ghost use Rattle.core_kernel.specs.Calls.{Extends};
-ghost use Rattle.core_kernel.specs.Running.{CanCall};
 ghost use Rattle.core_kernel.specs.Whole.{IsList};
 
 use crate::gate::{FreeGate, Gate};
@@ -17,7 +17,7 @@ use std::alloc::Global;
 
 fn look(a: u16) -> Call
     requires { a < 64 }
-    ensures { CanCall result }
+    ensures { InLimits result }
 {
     Call::Look { a: CapId::new(a) }
 }
@@ -25,7 +25,7 @@ fn look(a: u16) -> Call
 fn copy(a: u16, b: u16) -> Call
     requires source { a < 64 }
     requires target { b < 64 }
-    ensures { CanCall result }
+    ensures { InLimits result }
 {
     Call::Copy {
         a: CapId::new(a),
@@ -35,8 +35,8 @@ fn copy(a: u16, b: u16) -> Call
 }
 
 fn list(alloc: Global, first: Call, second: Call) -> Result<Vec<Call>, Memory>
-    requires first { CanCall first }
-    requires second { CanCall second }
+    requires first { InLimits first }
+    requires second { InLimits second }
     ensures { IfOk result (λ v. IsList v.items) }
 {
     match Vec::from_array(alloc, [first, second]) {

@@ -643,19 +643,15 @@ pub acquire_good : (setup : Setting) → IsSetting setup → (cores : ℕ → Co
     (pin_end pin (last_left setup t (word_of (pin_move pin))))))
 acquire_good setup setting cores t stands c here a active pin change (fill_act fill) is has =
     acquire_near setup setting cores t stands c here a active pin change (fill_act fill) is has
-    (put_counts a.call (is_active setup setting cores t stands c here a active).built a.found has.knows.knows.read fill.cap
-    has.knows.knows.puts)
-    (λ b. put_near (state_after setup t) c a.call (is_active setup setting cores t stands c here a active).built a.found
-    has.knows.knows.read fill.cap
+    (put_counts a.call a.found has.knows.knows.read fill.cap has.knows.knows.puts)
+    (λ b. put_near (state_after setup t) c a.call a.found has.knows.knows.read fill.cap
     has.knows.knows.puts (call_leads setup setting cores t stands c here a active has.names) (pin_frame pin)
     (due_named (named_by fill.cap.kind fill.cap.frame) (pos 1) (map due_of a.counts) (record { frame = pin_frame pin; change = change })
     has.knows.rest has.knows.due)) (λ e by. tt) tt refl
 acquire_good setup setting cores t stands c here a active pin change (map_act fill) is has =
     acquire_near setup setting cores t stands c here a active pin change (map_act fill) is has
-    (put_counts a.call (is_active setup setting cores t stands c here a active).built a.found None fill.cap
-    has.knows.knows.puts)
-    (λ b. put_near (state_after setup t) c a.call (is_active setup setting cores t stands c here a active).built a.found None
-    fill.cap
+    (put_counts a.call a.found None fill.cap has.knows.knows.puts)
+    (λ b. put_near (state_after setup t) c a.call a.found None fill.cap
     has.knows.knows.puts (call_leads setup setting cores t stands c here a active has.names) (pin_frame pin)
     (due_named (named_by fill.cap.kind fill.cap.frame) (pos 1) (map due_of a.counts) (record { frame = pin_frame pin; change = change })
     has.knows.rest has.knows.due)) (λ e by. tt) tt refl

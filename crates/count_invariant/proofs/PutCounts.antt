@@ -5,8 +5,7 @@ use Rattle.std.proofs.lemmas.Bool.{false≢true, eq-eqb, eqb-true, eqb-false}
 use Rattle.std.proofs.lemmas.List.Elements.{All-nil, All-cons, All-head, All-tail, All-append}
 use Rattle.spk_nums.specs.Capability.{Capability}
 use Rattle.spk_nums.specs.declared.calls.Call.{Call}
-use Rattle.spk_nums.specs.declared.calls.Call.TheVariants.{Look, Copy, Remove, Shrink, Unmap, Retype, Make as make_call, Tick, Gate, Kill, Grow, Touch, Flush, Map, Call as call_gate, Ret, Transfer, Test, Switch}
-use Rattle.supported_calls.specs.Built.{IsBuilt}
+use Rattle.spk_nums.specs.declared.calls.Call.TheVariants.{Look, Copy, Remove, Shrink, Unmap, Retype, Make as make_call, Tick, Gate, Kill, Grow, Touch, Flush, Map, Call as call_gate, Ret, Transfer, Delegate, Test, Switch}
 use Rattle.kernel_rules.specs.State.{State}
 use Rattle.kernel_rules.specs.References.{named_by}
 use Rattle.kernel_history.specs.Discipline.{counts_references}
@@ -28,28 +27,28 @@ use Rattle.count_invariant.proofs.LinkCounts.{link_near, page_near}
 use Rattle.call_acts.specs.Acts.{gate_if, gate_to, put_by}
 
 -- A call that fills its target changes references, and the frame that it names there is near it: a line a call.
-pub put_counts : (call : Call) → IsBuilt call → (ks : List Capability) (read : Option ℕ) (k : Capability) → put_by call ks read ≡ Some k
+pub put_counts : (call : Call) (ks : List Capability) (read : Option ℕ) (k : Capability) → put_by call ks read ≡ Some k
     → IsTrue (counts_references call)
-put_counts (Look a) built ks read k puts = absurd (cc)
-put_counts (Copy a u b) built ks read k puts = refl
-put_counts (Grow u i l) built ks read k puts = refl
-put_counts (Remove u b) built ks read k puts = absurd (cc)
-put_counts (Shrink u i) built ks read k puts = absurd (cc)
-put_counts (Map p v r f w) built ks read k puts = refl
-put_counts (Unmap p v) built ks read k puts = absurd (cc)
-put_counts (Retype r f j) built ks read k puts = absurd (cc)
-put_counts (make_call what r f u b) built ks read k puts = absurd (cc)
-put_counts (Touch v) built ks read k puts = absurd (cc)
-put_counts Flush built ks read k puts = absurd (cc)
-put_counts (Tick n) built ks read k puts = absurd (cc)
-put_counts (Gate n u b) built ks read k puts = refl
-put_counts (Kill n) built ks read k puts = absurd (cc)
-put_counts (call_gate n) built ks read k puts = absurd (cc)
-put_counts Ret built ks read k puts = absurd (cc)
-put_counts (Transfer x y m) built ks read k puts = absurd (cc)
-put_counts (Test x y) built ks read k puts = absurd (cc)
-put_counts (Switch x y) built ks read k puts = absurd (cc)
-put_counts call built ks read k puts = absurd built
+put_counts (Look a) ks read k puts = absurd (cc)
+put_counts (Copy a u b) ks read k puts = refl
+put_counts (Grow u i l) ks read k puts = refl
+put_counts (Remove u b) ks read k puts = absurd (cc)
+put_counts (Shrink u i) ks read k puts = absurd (cc)
+put_counts (Map p v r f w) ks read k puts = refl
+put_counts (Unmap p v) ks read k puts = absurd (cc)
+put_counts (Retype r f j) ks read k puts = absurd (cc)
+put_counts (make_call what r f u b) ks read k puts = absurd (cc)
+put_counts (Touch v) ks read k puts = absurd (cc)
+put_counts Flush ks read k puts = absurd (cc)
+put_counts (Tick n) ks read k puts = absurd (cc)
+put_counts (Gate n u b) ks read k puts = refl
+put_counts (Kill n) ks read k puts = absurd (cc)
+put_counts (call_gate n) ks read k puts = absurd (cc)
+put_counts Ret ks read k puts = absurd (cc)
+put_counts (Transfer x y m) ks read k puts = absurd (cc)
+put_counts (Delegate x y m) ks read k puts = absurd (cc)
+put_counts (Test x y) ks read k puts = absurd (cc)
+put_counts (Switch x y) ks read k puts = absurd (cc)
 
 cap_same : (j k : Capability) → Some j ≡ Some k → j ≡ k
 cap_same j k h = cc
@@ -85,27 +84,27 @@ gate_near s c n u b (j ∷ ks) (Some comp) (Some epoch) k is puts lead f names_i
         (sym (cap_same (record { kind = gate_kind; frame = comp.frame; arg = epoch }) k h)) names_it))
     by false h = absurd (cc)
 
-pub put_near : (s : State) (c : ℕ) (call : Call) → IsBuilt call → (ks : List Capability) (read : Option ℕ) (k : Capability)
+pub put_near : (s : State) (c : ℕ) (call : Call) (ks : List Capability) (read : Option ℕ) (k : Capability)
     → put_by call ks read ≡ Some k
     → Leads (LeadsIn s c) (plan_for call).names [] ks
     → (f : ℕ) → is_one_of f (named_by k.kind k.frame) ≡ true → is_one_of f (frames_near s c call) ≡ true
-put_near s c (Look a) built ks read k puts lead f names_it = absurd (cc)
-put_near s c (Copy a u b) built ks read k puts lead f names_it = near_found s c (Copy a u b) ks lead First k puts f names_it
-put_near s c (Grow u i l) built ks read k puts lead f names_it = link_near s c u i l ks k puts lead f names_it
-put_near s c (Remove u b) built ks read k puts lead f names_it = absurd (cc)
-put_near s c (Shrink u i) built ks read k puts lead f names_it = absurd (cc)
-put_near s c (Map p v r g w) built ks read k puts lead f names_it = page_near s c p v r g w (at_place ks Second) k puts f names_it
-put_near s c (Unmap p v) built ks read k puts lead f names_it = absurd (cc)
-put_near s c (Retype r g j) built ks read k puts lead f names_it = absurd (cc)
-put_near s c (make_call what r g u b) built ks read k puts lead f names_it = absurd (cc)
-put_near s c (Touch v) built ks read k puts lead f names_it = absurd (cc)
-put_near s c Flush built ks read k puts lead f names_it = absurd (cc)
-put_near s c (Tick n) built ks read k puts lead f names_it = absurd (cc)
-put_near s c (Gate n u b) built ks read k puts lead f names_it = gate_near s c n u b ks (at_place ks First) read k refl puts lead f names_it
-put_near s c (Kill n) built ks read k puts lead f names_it = absurd (cc)
-put_near s c (call_gate n) built ks read k puts lead f names_it = absurd (cc)
-put_near s c Ret built ks read k puts lead f names_it = absurd (cc)
-put_near s c (Transfer x y m) built ks read k puts lead f names_it = absurd (cc)
-put_near s c (Test x y) built ks read k puts lead f names_it = absurd (cc)
-put_near s c (Switch x y) built ks read k puts lead f names_it = absurd (cc)
-put_near s c call built ks read k puts lead f names_it = absurd built
+put_near s c (Look a) ks read k puts lead f names_it = absurd (cc)
+put_near s c (Copy a u b) ks read k puts lead f names_it = near_found s c (Copy a u b) ks lead First k puts f names_it
+put_near s c (Grow u i l) ks read k puts lead f names_it = link_near s c u i l ks k puts lead f names_it
+put_near s c (Remove u b) ks read k puts lead f names_it = absurd (cc)
+put_near s c (Shrink u i) ks read k puts lead f names_it = absurd (cc)
+put_near s c (Map p v r g w) ks read k puts lead f names_it = page_near s c p v r g w (at_place ks Second) k puts f names_it
+put_near s c (Unmap p v) ks read k puts lead f names_it = absurd (cc)
+put_near s c (Retype r g j) ks read k puts lead f names_it = absurd (cc)
+put_near s c (make_call what r g u b) ks read k puts lead f names_it = absurd (cc)
+put_near s c (Touch v) ks read k puts lead f names_it = absurd (cc)
+put_near s c Flush ks read k puts lead f names_it = absurd (cc)
+put_near s c (Tick n) ks read k puts lead f names_it = absurd (cc)
+put_near s c (Gate n u b) ks read k puts lead f names_it = gate_near s c n u b ks (at_place ks First) read k refl puts lead f names_it
+put_near s c (Kill n) ks read k puts lead f names_it = absurd (cc)
+put_near s c (call_gate n) ks read k puts lead f names_it = absurd (cc)
+put_near s c Ret ks read k puts lead f names_it = absurd (cc)
+put_near s c (Transfer x y m) ks read k puts lead f names_it = absurd (cc)
+put_near s c (Delegate x y m) ks read k puts lead f names_it = absurd (cc)
+put_near s c (Test x y) ks read k puts lead f names_it = absurd (cc)
+put_near s c (Switch x y) ks read k puts lead f names_it = absurd (cc)

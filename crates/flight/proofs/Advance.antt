@@ -170,7 +170,7 @@ module _ (setup : Setting) (setting : IsSetting setup) (cores : ℕ → Core) (t
       base = enter_good setup setting cores t stands c here call may
           (record {
             fits = after_fits (cores c).own (fresh call) (core_word true (cores c).own.exit)
-                (begun_fits (cores c) call (stands.each c here).fits may.limits may.built);
+                (begun_fits (cores c) call (stands.each c here).fits may.limits);
             is_in = here;
             is_named = refl;
           })

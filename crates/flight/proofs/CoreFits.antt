@@ -4,7 +4,6 @@ use Rattle.std.specs.Prelude.{IsSome}
 use Rattle.spk_nums.specs.Setting.{Setting, IsSetting}
 use Rattle.spk_nums.specs.CallLimits.{InLimits}
 use Rattle.spk_nums.specs.declared.calls.Call.{Call}
-use Rattle.supported_calls.specs.Built.{IsBuilt}
 use Rattle.kernel_rules.specs.Laws.{calls_counted}
 use Rattle.call_acts.specs.declared.own.Own.{Own}
 use Rattle.call_acts.specs.declared.own.OwnChange.{OwnChange}
@@ -41,9 +40,9 @@ started_fits c setting h below =
       active = tt;
     }
 
-pub begun_fits : (core : Core) (call : Call) → IsCore core → InLimits call → IsBuilt call → IsCore (begun core call)
-begun_fits core call h limits built =
-    begun.begun_fits core.own call (fresh call).found (fresh call).counts (fresh call).plan h.own refl refl refl limits built
+pub begun_fits : (core : Core) (call : Call) → IsCore core → InLimits call → IsCore (begun core call)
+begun_fits core call h limits =
+    begun.begun_fits core.own call (fresh call).found (fresh call).counts (fresh call).plan h.own refl refl refl limits
 
 -- A core after its step, and how many steps are then to come.
 record GoesFurther (own : Own) (a : ActiveCall) (after : Core) : Type 0 where

@@ -5,10 +5,9 @@ use Rattle.spk_nums.specs.Setting.{Setting, IsSetting}
 use Rattle.spk_nums.specs.declared.kinds.Kind.{Kind}
 use Rattle.spk_nums.specs.declared.calls.Call.{Call}
 use Rattle.spk_nums.specs.declared.kinds.FrameKind.TheVariants.{Untyped, User, Kernel}
-use Rattle.spk_nums.specs.declared.calls.Call.TheVariants.{Look as look_call, Copy, Remove, Shrink, Unmap, Retype, Make as make_call, Tick, Gate, Kill, Grow, Touch, Flush, Map, Call as call_gate, Ret, Transfer, Test, Switch}
+use Rattle.spk_nums.specs.declared.calls.Call.TheVariants.{Look as look_call, Copy, Remove, Shrink, Unmap, Retype, Make as make_call, Tick, Gate, Kill, Grow, Touch, Flush, Map, Call as call_gate, Ret, Transfer, Delegate, Test, Switch}
 use Rattle.spk_nums.specs.declared.calls.Make.TheVariants as make
 use Rattle.spk_nums.specs.declared.replies.Reply.TheVariants as reply
-use Rattle.supported_calls.specs.Built.{IsBuilt}
 use Rattle.word_map.specs.Word.{CoreAt}
 use Rattle.word_map.specs.Places.{IsIn as IsInShape}
 use Rattle.word_map.specs.Moves.{StoreOf}
@@ -412,46 +411,46 @@ module _ (setup : Setting) (setting : IsSetting setup) (cores : ℕ → Core) (t
 -- a call enters
 module _ (setup : Setting) (setting : IsSetting setup) (cores : ℕ → Core) (t : Trace) (stands : Stands setup cores t) (c : ℕ)
     (here : c < setup.cores) where
-  enters_first : (call : Call) (may : MayBegin call (cores c)) → IsBuilt call → is_spent (cores c).own ≡ false
+  enters_first : (call : Call) (may : MayBegin call (cores c)) → is_spent (cores c).own ≡ false
       → GoodEntry setup setting cores t stands c here call may (landed (fresh call) (next_by (cores c).own (fresh call)))
-  enters_first (look_call a) may built unspent = enters_name setup setting cores t stands c here (look_call a) may a _ refl unspent
-  enters_first (Copy a u b) may built unspent = enters_name setup setting cores t stands c here (Copy a u b) may a _ refl unspent
-  enters_first (Grow u i l) may built unspent = enters_name setup setting cores t stands c here (Grow u i l) may u _ refl unspent
-  enters_first (Remove u b) may built unspent = enters_name setup setting cores t stands c here (Remove u b) may u _ refl unspent
-  enters_first (Shrink u i) may built unspent = enters_name setup setting cores t stands c here (Shrink u i) may u _ refl unspent
-  enters_first (Map p v r f w) may built unspent = enters_name setup setting cores t stands c here (Map p v r f w) may p _ refl unspent
-  enters_first (Unmap p v) may built unspent = enters_name setup setting cores t stands c here (Unmap p v) may p _ refl unspent
-  enters_first (Retype r f Untyped) may built unspent =
+  enters_first (look_call a) may unspent = enters_name setup setting cores t stands c here (look_call a) may a _ refl unspent
+  enters_first (Copy a u b) may unspent = enters_name setup setting cores t stands c here (Copy a u b) may a _ refl unspent
+  enters_first (Grow u i l) may unspent = enters_name setup setting cores t stands c here (Grow u i l) may u _ refl unspent
+  enters_first (Remove u b) may unspent = enters_name setup setting cores t stands c here (Remove u b) may u _ refl unspent
+  enters_first (Shrink u i) may unspent = enters_name setup setting cores t stands c here (Shrink u i) may u _ refl unspent
+  enters_first (Map p v r f w) may unspent = enters_name setup setting cores t stands c here (Map p v r f w) may p _ refl unspent
+  enters_first (Unmap p v) may unspent = enters_name setup setting cores t stands c here (Unmap p v) may p _ refl unspent
+  enters_first (Retype r f Untyped) may unspent =
       enters_name setup setting cores t stands c here (Retype r f Untyped) may r _ refl unspent
-  enters_first (Retype r f User) may built unspent =
+  enters_first (Retype r f User) may unspent =
       enters_name setup setting cores t stands c here (Retype r f User) may r _ refl unspent
-  enters_first (Retype r f Kernel) may built unspent =
+  enters_first (Retype r f Kernel) may unspent =
       enters_name setup setting cores t stands c here (Retype r f Kernel) may r _ refl unspent
-  enters_first (make_call make.Table r f u b) may built unspent =
+  enters_first (make_call make.Table r f u b) may unspent =
       enters_name setup setting cores t stands c here (make_call make.Table r f u b) may r _ refl unspent
-  enters_first (make_call make.Leaf r f u b) may built unspent =
+  enters_first (make_call make.Leaf r f u b) may unspent =
       enters_name setup setting cores t stands c here (make_call make.Leaf r f u b) may r _ refl unspent
-  enters_first (make_call make.Pages r f u b) may built unspent =
+  enters_first (make_call make.Pages r f u b) may unspent =
       enters_name setup setting cores t stands c here (make_call make.Pages r f u b) may r _ refl unspent
-  enters_first (make_call make.Pleaf r f u b) may built unspent =
+  enters_first (make_call make.Pleaf r f u b) may unspent =
       enters_name setup setting cores t stands c here (make_call make.Pleaf r f u b) may r _ refl unspent
-  enters_first (make_call (make.Thread comp) r f u b) may built unspent =
+  enters_first (make_call (make.Thread comp) r f u b) may unspent =
       enters_name setup setting cores t stands c here (make_call (make.Thread comp) r f u b) may r _ refl unspent
-  enters_first (make_call (make.Tcap sched quality) r f u b) may built unspent =
+  enters_first (make_call (make.Tcap sched quality) r f u b) may unspent =
       enters_name setup setting cores t stands c here (make_call (make.Tcap sched quality) r f u b) may r _ refl unspent
-  enters_first (Touch v) may built unspent = enters_touch setup setting cores t stands c here (Touch v) may v refl unspent
-  enters_first Flush may built unspent = enters_flush setup setting cores t stands c here Flush may refl unspent
-  enters_first (make_call (make.Comp x p live) r f u b) may built unspent =
+  enters_first (Touch v) may unspent = enters_touch setup setting cores t stands c here (Touch v) may v refl unspent
+  enters_first Flush may unspent = enters_flush setup setting cores t stands c here Flush may refl unspent
+  enters_first (make_call (make.Comp x p live) r f u b) may unspent =
       enters_name setup setting cores t stands c here (make_call (make.Comp x p live) r f u b) may r _ refl unspent
-  enters_first (Tick n) may built unspent = enters_tick setup setting cores t stands c here (Tick n) may n refl unspent
-  enters_first (Gate n u b) may built unspent = enters_name setup setting cores t stands c here (Gate n u b) may n _ refl unspent
-  enters_first (Kill n) may built unspent = enters_name setup setting cores t stands c here (Kill n) may n _ refl unspent
-  enters_first (call_gate n) may built unspent = enters_name setup setting cores t stands c here (call_gate n) may n _ refl unspent
-  enters_first Ret may built unspent = enters_ret setup setting cores t stands c here Ret may refl unspent
-  enters_first (Transfer x y m) may built unspent = enters_name setup setting cores t stands c here (Transfer x y m) may x _ refl unspent
-  enters_first (Test x y) may built unspent = enters_name setup setting cores t stands c here (Test x y) may x _ refl unspent
-  enters_first (Switch x y) may built unspent = enters_name setup setting cores t stands c here (Switch x y) may x _ refl unspent
-  enters_first _ may built unspent = absurd built
+  enters_first (Tick n) may unspent = enters_tick setup setting cores t stands c here (Tick n) may n refl unspent
+  enters_first (Gate n u b) may unspent = enters_name setup setting cores t stands c here (Gate n u b) may n _ refl unspent
+  enters_first (Kill n) may unspent = enters_name setup setting cores t stands c here (Kill n) may n _ refl unspent
+  enters_first (call_gate n) may unspent = enters_name setup setting cores t stands c here (call_gate n) may n _ refl unspent
+  enters_first Ret may unspent = enters_ret setup setting cores t stands c here Ret may refl unspent
+  enters_first (Transfer x y m) may unspent = enters_name setup setting cores t stands c here (Transfer x y m) may x _ refl unspent
+  enters_first (Delegate x y m) may unspent = enters_name setup setting cores t stands c here (Delegate x y m) may x _ refl unspent
+  enters_first (Test x y) may unspent = enters_name setup setting cores t stands c here (Test x y) may x _ refl unspent
+  enters_first (Switch x y) may unspent = enters_name setup setting cores t stands c here (Switch x y) may x _ refl unspent
 
   pub enter_good : (call : Call) (may : MayBegin call (cores c))
       → GoodEntry setup setting cores t stands c here call may (took_enter (is_spent (cores c).own) (cores c).own (fresh call))
@@ -460,4 +459,4 @@ module _ (setup : Setting) (setting : IsSetting setup) (cores : ℕ → Core) (t
       by_spent : (spent : Bool) → is_spent (cores c).own ≡ spent
           → GoodEntry setup setting cores t stands c here call may (took_enter spent (cores c).own (fresh call))
       by_spent true is = enters_spent setup setting cores t stands c here call may is
-      by_spent false is = enters_first call may may.built is
+      by_spent false is = enters_first call may is

@@ -1,7 +1,6 @@
 -- The steps that the machine makes: a step of a core is a function of the core and of the word found, and where each core stands
 -- after a trace is a function of the trace. So a trace is the machine's own, or it is not.
 use Rattle.std.specs.Prelude.{◌≡◌, ◌<◌, Bool, ℕ, [], ◌∷◌, Option, Some, None, IsSome}
-use Rattle.supported_calls.specs.Built.{IsBuilt}
 use Rattle.spk_nums.specs.CallLimits.{InLimits}
 use Rattle.spk_nums.specs.Setting.{Setting}
 use Rattle.spk_nums.specs.declared.calls.Call.{Call}
@@ -22,10 +21,9 @@ abbrev pub turned : Option Call → Core → Core
 turned None core = core
 turned (Some call) core = begun core call
 
--- A core may make a step: its call is in flight; or it is between calls, and a call begins that is carried out.
+-- A core may make a step: its call is in flight; or it is between calls, and a call begins that is in its limits.
 pub record MayBegin (call : Call) (core : Core) : Type 0 where
   pub between : core.active ≡ None
-  pub built : IsBuilt call
   pub limits : InLimits call
 
 abbrev pub MayStep : Option Call → Core → Type 0

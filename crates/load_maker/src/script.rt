@@ -158,9 +158,8 @@ fn draw_order(alloc: Global, draws: &mut Draws) -> Result<Vec<Item>, AllocError>
 ///
 /// `Memory` where memory has run out.
 #[tactic(auto, unfolding(crate::specs::Loads::script_made))]
-pub fn made_script<'a>(alloc: Global, number: u32) -> Result<Script<'a>, Memory>
+pub fn made_script(alloc: Global, number: u32) -> Result<Script, Memory>
     ensures value { IfOk result (λ script. script_view script ≡ script_made number) }
-    ensures tokens { IfOk result (λ script. script.tokens.items ≡ []) }
 {
     let mut draws = Draws::from(number);
     let lists = draw_lists(alloc, &mut draws)?;
@@ -169,7 +168,6 @@ pub fn made_script<'a>(alloc: Global, number: u32) -> Result<Script<'a>, Memory>
         setup: setup(),
         lists,
         order,
-        tokens: Vec::new(alloc),
     })
 }
 

@@ -32,7 +32,7 @@ use Rattle.lone_kernel.specs.Moves.{calls_begun, GoesFurther, MovesTo, StaysIdle
 use Rattle.lone_kernel.proofs.Fits.{IsOf, is_of, seat_same, seat_there}
 
 may_step : (core : Core) (f : Turn) → CanTake f core → MayStep (enters_as f) core
-may_step core (Begins call) can = record { between = can.between; built = can.can_run.0; limits = can.can_run.1 }
+may_step core (Begins call) can = record { between = can.between; limits = can.limits }
 may_step core GoesOn can = can
 
 -- the next step of a core that takes its turn is on a word of its machine

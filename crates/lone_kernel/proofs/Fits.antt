@@ -5,6 +5,7 @@ use Rattle.std.proofs.lemmas.Bool.{cases_eq}
 use Rattle.std.proofs.lemmas.List.{length-set}
 use Rattle.std.proofs.lemmas.List.Sums.{sum_by-set}
 use Rattle.std.proofs.lemmas.Option.{slice_get_cases}
+use Rattle.spk_nums.specs.CallLimits.{InLimits}
 use Rattle.spk_nums.specs.declared.calls.Call.{Call}
 use Rattle.spk_nums.specs.Setting.{Setting}
 use Rattle.kernel_history.specs.Trace.{decision_at}
@@ -22,7 +23,7 @@ use Rattle.lone_kernel.specs.declared.seats.Seat.{Seat}
 use Rattle.lone_kernel.specs.declared.seats.Turn.{Turn}
 use Rattle.lone_kernel.specs.declared.seats.Turn.TheVariants.{Begins, GoesOn}
 use Rattle.flight.specs.Decided.{is_decided_at, is_decided_in, Turns}
-use Rattle.lone_kernel.specs.Machine.{Machine, seat_at, core_at, list_at, fresh_seat, turn_if, turn_of, turn_at, due_at, due_in, IsFitSeat, IsFit, CanRun, CanTake, core_in, begun_by, decisions_in, said_by, seat_after, found_by, stepped}
+use Rattle.lone_kernel.specs.Machine.{Machine, seat_at, core_at, list_at, fresh_seat, turn_if, turn_of, turn_at, due_at, due_in, IsFitSeat, IsFit, CanTake, core_in, begun_by, decisions_in, said_by, seat_after, found_by, stepped}
 use Rattle.lone_kernel.specs.Moves.{calls_begun, GoesFurther}
 use Rattle.flight.proofs.Phases.{took_turns}
 use Rattle.lone_kernel.proofs.Small.{steps_small}
@@ -39,7 +40,7 @@ pub record IsOf (list : List Call) (seat : Seat) (f : Turn) : Type 0 where
   pub in_call : IsSome (core_in seat.state f).active
   pub goes_on : seat.state.active ≢ None → core_in seat.state f ≡ seat.state
 
-of_call : (list : List Call) (begun due : ℕ) (state : Core) (o : Option ActiveCall) (f : Turn) → state.active ≡ o → All CanRun list →
+of_call : (list : List Call) (begun due : ℕ) (state : Core) (o : Option ActiveCall) (f : Turn) → state.active ≡ o → All InLimits list →
     begun + due ≡ length list + due_in o → begun ≤ length list → turn_if list begun o ≡ Some f →
     IsOf list (record { begun = begun; due = due; state = state }) f
 of_call list begun due state None f is calls sum low begins = elim (slice_get_cases list begun).1 [
@@ -48,7 +49,7 @@ of_call list begun due state None f is calls sum low begins = elim (slice_get_ca
       let same : Begins call ≡ f = some_inj (Begins call) f (ap (option_map Begins) (sym found.2) ∙ begins) in
       let within : begun < length list = found.1 in
       subst (λ g. IsOf list (record { begun = begun; due = due; state = state }) g) same record {
-        can = record { between = is; can_run = subst CanRun found.3 (calls begun call within) };
+        can = record { between = is; limits = subst InLimits found.3 (calls begun call within) };
         within = omega arith;
         counts = ap (λ o. calls_begun o begun) (sym is);
         due = omega arith;
@@ -69,7 +70,7 @@ of_call list begun due state (Some g) f is calls sum low begins =
       goes_on = λ some. refl;
     }
 
-pub turn_is : (setup : Setting) (list : List Call) (c : ℕ) (seat : Seat) (f : Turn) → IsFitSeat setup list c seat → All CanRun list
+pub turn_is : (setup : Setting) (list : List Call) (c : ℕ) (seat : Seat) (f : Turn) → IsFitSeat setup list c seat → All InLimits list
     → turn_of list seat ≡ Some f → IsOf list seat f
 turn_is setup list c seat f fit calls begins =
     of_call list seat.begun seat.due seat.state seat.state.active f refl calls fit.sum fit.begun begins

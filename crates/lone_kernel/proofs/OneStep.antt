@@ -3,6 +3,7 @@ use Rattle.std.proofs.Common.{◌≡◌, ℕ, ◌-◌, ◌<◌, ◌++◌, List, 
 use Rattle.std.specs.Prelude.{slice_set, All}
 use Rattle.std.proofs.lemmas.List.{length-map, get_or-map, get_or_read}
 use Rattle.spk_nums.specs.Setting.{Setting}
+use Rattle.spk_nums.specs.CallLimits.{InLimits}
 use Rattle.spk_nums.specs.declared.calls.Call.{Call}
 use Rattle.spk_nums.specs.declared.replies.Decision.{Decision}
 use Rattle.spk_nums.specs.declared.steps.WordOp.{WordOp}
@@ -19,7 +20,7 @@ use Rattle.core_invariant.specs.Events.{decided_in}
 use Rattle.call_steps.specs.declared.stages.Absorbed.{Absorbed}
 use Rattle.lone_kernel.specs.declared.seats.Seat.{Seat}
 use Rattle.lone_kernel.specs.declared.seats.Turn.{Turn}
-use Rattle.lone_kernel.specs.Machine.{Machine, fresh_seat, seat_at, core_at, list_at, turn_of, turn_at, IsFit, IsFitSeat, CanRun, core_in, begun_by, decisions_in, place_next, words_after, said_by, seat_after, found_by, stepped, MakesTurn, TakesTurn}
+use Rattle.lone_kernel.specs.Machine.{Machine, fresh_seat, seat_at, core_at, list_at, turn_of, turn_at, IsFit, IsFitSeat, core_in, begun_by, decisions_in, place_next, words_after, said_by, seat_after, found_by, stepped, MakesTurn, TakesTurn}
 
 pub makes_turn : (shape : Shape) (seat seat' : Seat) (before after : List ℕ) (said : Absorbed) (op : WordOp) (found told due : ℕ) →
     op ≡ op_of shape (move_of seat.state) → found ≡ get_or before (place_in op) 0
@@ -85,8 +86,8 @@ module _ {V : Type 0} (items : V → List Call) (setup : Setting) (words : List 
   pub fit_here : IsFitSeat setup (items v) n k
   fit_here = subst (λ l. IsFitSeat setup l n k) list_is (subst (λ s. IsFitSeat setup (list_at m n) n s) seat_is (fit.each n here))
 
-  pub calls_here : All CanRun (items v)
-  calls_here = subst (λ l. All CanRun l) list_is (fit.calls n here)
+  pub calls_here : All InLimits (items v)
+  calls_here = subst (λ l. All InLimits l) list_is (fit.calls n here)
 
   pub turn_here : (f : Turn) → turn_of (items v) k ≡ Some f → turn_at m n ≡ Some f
   turn_here f begins = ap (λ l. turn_of l (seat_at m n)) list_is ∙ ap (turn_of (items v)) seat_is ∙ begins

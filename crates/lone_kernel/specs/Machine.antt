@@ -1,6 +1,5 @@
 -- What a machine for given orders is, and one step of a core.
 use Rattle.std.specs.Prelude.{◌≡◌, ◌≢◌, Bool, true, false, ℕ, ◌+◌, ◌-◌, ◌<◌, ◌≤◌, ◌^◌, List, [], ◌++◌, length, slice_get, slice_index, slice_index_or, slice_set, Option, Some, None, option_map, All, IsSome}
-use Rattle.supported_calls.specs.Built.{IsBuilt}
 use Rattle.spk_nums.specs.CallLimits.{InLimits}
 use Rattle.spk_nums.specs.declared.calls.Call.{Call}
 use Rattle.spk_nums.specs.declared.replies.Decision.{Decision}
@@ -106,20 +105,16 @@ pub record IsFitSeat (setup : Setting) (list : List Call) (c : ℕ) (seat : Seat
   pub shape : seat.state.own.layout ≡ shape_of setup
   pub fits : IsCore seat.state
 
--- A list's call can be run: it is carried out, and within its limits.
-abbrev pub CanRun : Call → Type 0
-CanRun call = IsBuilt call × InLimits call
-
--- Lists that can be run: their calls can, and there are fewer than 2^32 in each.
+-- Lists that can be run: their calls are in their limits, and there are fewer than 2^32 in each.
 abbrev pub AreLists : List (List Call) → Type 0
-AreLists lists = All (λ list. All CanRun list × (length list < 2 ^ 32)) lists
+AreLists lists = All (λ list. All InLimits list × (length list < 2 ^ 32)) lists
 
--- The machine has a word for each place, and a list and a seat for each core of the setup; the calls of the lists can be run.
+-- The machine has a word for each place, and a list and a seat for each core of the setup; the calls of the lists are in their limits.
 pub record IsFit (m : Machine) : Type 0 where
   pub size : length m.words ≡ size_of (shape_of m.setup)
   pub lists : length m.lists ≡ m.setup.cores
   pub seats : length m.seats ≡ m.setup.cores
-  pub calls : (c : ℕ) → c < m.setup.cores → All CanRun (list_at m c)
+  pub calls : (c : ℕ) → c < m.setup.cores → All InLimits (list_at m c)
   pub each : (c : ℕ) → c < m.setup.cores → IsFitSeat m.setup (list_at m c) c (seat_at m c)
 
 -- The invocation of a call that begins at this turn.
@@ -182,10 +177,10 @@ stepped m c f = record {
 abbrev pub step_in : Machine → ℕ → Turn → Step
 step_in m c f = step_of c (enters_as f) (core_in (core_at m c) f) (found_by m c f)
 
--- A core may take a turn: it has a active call, or none and the turn's call can be run.
+-- A core may take a turn: it has an active call, or none and the turn's call is in its limits.
 pub record CanBegin (call : Call) (core : Core) : Type 0 where
   pub between : core.active ≡ None
-  pub can_run : CanRun call
+  pub limits : InLimits call
 
 abbrev pub CanTake : Turn → Core → Type 0
 CanTake (Begins call) core = CanBegin call core

@@ -20,7 +20,7 @@ ghost use Rattle.call_steps.specs.Cores.{end_of};
 ghost use Rattle.core_invariant.specs.Events.{decided_in};
 ghost use Rattle.spk_nums.specs.declared.steps.How.TheVariants.{One, Ready, Decide, Return};
 ghost use Rattle.flight.specs.Decided.{is_decided_in};
-ghost use Rattle.lone_kernel.specs.Machine.{IsFitSeat, CanRun, turn_of, begun_by, core_in, said_by, CanTake, MakesTurn, TakesTurn, seat_after, words_after, place_next, decisions_in, IsFinished, IsInCall, HasDecided, IsReady, IsThere, IsDone, list_at, seat_at, core_at, AreLists, AreFresh};
+ghost use Rattle.lone_kernel.specs.Machine.{IsFitSeat, turn_of, begun_by, core_in, said_by, CanTake, MakesTurn, TakesTurn, seat_after, words_after, place_next, decisions_in, IsFinished, IsInCall, HasDecided, IsReady, IsThere, IsDone, list_at, seat_at, core_at, AreLists, AreFresh};
 ghost use Rattle.lone_kernel.specs.Stands.{StandsFor};
 ghost use Rattle.lone_kernel.specs.Moves.{MovesBy, StepsOnce, GoesBy, GoesFurther, calls_left};
 
@@ -242,9 +242,9 @@ fn ends_of(alloc: Global, seats: &[Seat]) -> Result<Vec<CoreEnd>, AllocError>
 }
 
 impl LoneKernel {
-    /// The machine of this setup at the start, with a list of calls for each core, each of which is carried out and within
-    /// its limits; a list has fewer than 2^32. All of the machine's memory is taken here, so that no move takes any; only
-    /// want of it is refused.
+    /// The machine of this setup at the start, with a list of calls for each core, each of which is within its limits; a
+    /// list has fewer than 2^32. All of the machine's memory is taken here, so that no move takes any; only want of it is
+    /// refused.
     pub fn boot(alloc: Global, setup: &Setup, lists: Vec<Vec<Call>>) -> Result<LoneKernel, Memory>
         requires can_run { AreLists (map (λ v. v.items) lists.items) }
         requires one_each { length lists.items ≡ setup.now.cores }

@@ -126,8 +126,7 @@ module _ (setup : Setting) (setting : IsSetting setup) (cores : ℕ → Core) (t
 
   -- the place is one of a page table where flush words are scanned too
   paging : is_paging (s.frame node) ≡ page
-  paging = paging_by setup setting t stands.legal c spot.target slot spot.way.reached a.call is_open
-      (is_active setup setting cores t stands c here a active).built a.found
+  paging = paging_by setup setting t stands.legal c spot.target slot spot.way.reached a.call is_open a.found
       (subst (λ (p : Plan). Leads (LeadsIn s c) p.names [] a.found) plan_is leads)
       (ap (λ p. next_of p a.found) (sym plan_is) ∙ spot.next) ∙ sym has.knows.pages
 

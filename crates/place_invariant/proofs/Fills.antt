@@ -8,9 +8,8 @@ use Rattle.spk_nums.specs.Capability.{Capability}
 use Rattle.spk_nums.specs.Setting.{Setting, IsSetting}
 use Rattle.spk_nums.specs.declared.kinds.Kind.TheVariants as kind
 use Rattle.spk_nums.specs.declared.calls.Call.{Call}
-use Rattle.spk_nums.specs.declared.calls.Call.TheVariants.{Look, Copy, Remove, Shrink, Unmap, Retype, Make as make_call, Tick, Gate, Kill, Grow, Flush, Map, Touch, Call as call_gate, Ret, Transfer, Test, Switch}
+use Rattle.spk_nums.specs.declared.calls.Call.TheVariants.{Look, Copy, Remove, Shrink, Unmap, Retype, Make as make_call, Tick, Gate, Kill, Grow, Flush, Map, Touch, Call as call_gate, Ret, Transfer, Delegate, Test, Switch}
 use Rattle.spk_nums.specs.declared.kinds.Kind.{Kind}
-use Rattle.supported_calls.specs.Built.{IsBuilt}
 use Rattle.spk_nums.specs.declared.replies.Value.TheVariants.{Nothing}
 use Rattle.spk_nums.specs.declared.replies.Reply.TheVariants as reply
 use Rattle.entry_words.specs.declared.entry.Entry.{Entry}
@@ -477,11 +476,11 @@ maps_user setup t c (Map p v r f w) has = has.user
 maps_user setup t c call has = tt
 
 -- What a call puts at its target is what its rule puts there: a line a call that fills.
-puts_by : (s : State) (c : ℕ) (target : Target) (q : Capability) (call : Call) → IsBuilt call → (ks : List Capability)
+puts_by : (s : State) (c : ℕ) (target : Target) (q : Capability) (call : Call) (ks : List Capability)
     → Leads (LeadsIn s c) (plan_for call).names [] ks → names_after (plan_for call).names ks ≡ []
     → next_of (plan_for call) ks ≡ NextFree target → (read : Option ℕ) → ReadIs s c (reads_of call ks) read → put_by call ks read ≡ Some q
     → MapsUser s call → Puts s c call ks target q
-puts_by s c target q (Copy a u b) built (k ∷ j ∷ []) lead none next read has_read puts user =
+puts_by s c target q (Copy a u b) (k ∷ j ∷ []) lead none next read has_read puts user =
     subst (λ (q : Capability). Puts s c (Copy a u b) (k ∷ j ∷ []) target q) (cap_same k q puts)
     (subst (λ p. Puts s c (Copy a u b) (k ∷ j ∷ []) p k) (target_in (Under (found j) b) target next)
     (record {
@@ -492,26 +491,26 @@ puts_by s c target q (Copy a u b) built (k ∷ j ∷ []) lead none next read has
       ends = λ x. refl;
       flushes = refl;
     }))
-puts_by s c target q (Copy a u b) built [] lead none next read has_read puts user = absurd (not_none none)
+puts_by s c target q (Copy a u b) [] lead none next read has_read puts user = absurd (not_none none)
   where
     not_none : any_cap a ∷ of_kind kind.Table u ∷ [] ≡ [] → ⊥
     not_none h = cc
-puts_by s c target q (Copy a u b) built (k ∷ []) lead none next read has_read puts user = absurd (not_none none)
+puts_by s c target q (Copy a u b) (k ∷ []) lead none next read has_read puts user = absurd (not_none none)
   where
     not_none : of_kind kind.Table u ∷ [] ≡ [] → ⊥
     not_none h = cc
-puts_by s c target q (Copy a u b) built (k ∷ j ∷ i ∷ ks) lead none next read has_read puts user = absurd lead.1.1
-puts_by s c target q (Grow u i l) built (k ∷ j ∷ []) lead none next read has_read puts user =
+puts_by s c target q (Copy a u b) (k ∷ j ∷ i ∷ ks) lead none next read has_read puts user = absurd lead.1.1
+puts_by s c target q (Grow u i l) (k ∷ j ∷ []) lead none next read has_read puts user =
     subst (λ (q : Capability). Puts s c (Grow u i l) (k ∷ j ∷ []) target q) (cap_same (plain_cap kind.Link j.frame) q puts)
     (subst (λ p. Puts s c (Grow u i l) (k ∷ j ∷ []) p (plain_cap kind.Link j.frame)) (target_in (InRoot (found k) i) target next)
     (record { causes = []; calm = refl; rule = refl; places = refl; ends = λ x. refl; flushes = refl }))
-puts_by s c target q (Grow u i l) built [] lead none next read has_read puts user = absurd (cc)
-puts_by s c target q (Grow u i l) built (k ∷ []) lead none next read has_read puts user = absurd (cc)
-puts_by s c target q (Grow u i l) built (k ∷ j ∷ h ∷ ks) lead none next read has_read puts user = absurd lead.1.1
-puts_by s c target q (Look a) built ks lead none next read has_read puts user = absurd (cc)
-puts_by s c target q (Remove u b) built ks lead none next read has_read puts user = absurd (cc)
-puts_by s c target q (Shrink u i) built ks lead none next read has_read puts user = absurd (cc)
-puts_by s c target q (Map p v r f w) built (k ∷ j ∷ []) lead none next read has_read puts user = by (has_frame (found j) f) refl puts
+puts_by s c target q (Grow u i l) [] lead none next read has_read puts user = absurd (cc)
+puts_by s c target q (Grow u i l) (k ∷ []) lead none next read has_read puts user = absurd (cc)
+puts_by s c target q (Grow u i l) (k ∷ j ∷ h ∷ ks) lead none next read has_read puts user = absurd lead.1.1
+puts_by s c target q (Look a) ks lead none next read has_read puts user = absurd (cc)
+puts_by s c target q (Remove u b) ks lead none next read has_read puts user = absurd (cc)
+puts_by s c target q (Shrink u i) ks lead none next read has_read puts user = absurd (cc)
+puts_by s c target q (Map p v r f w) (k ∷ j ∷ []) lead none next read has_read puts user = by (has_frame (found j) f) refl puts
   where
     by : (has : Bool) → has_frame (found j) f ≡ has → (if has then Some (page_cap f w) else None) ≡ Some q
         → Puts s c (Map p v r f w) (k ∷ j ∷ []) target q
@@ -526,14 +525,14 @@ puts_by s c target q (Map p v r f w) built (k ∷ j ∷ []) lead none next read 
           flushes = refl;
         }))
     by false has is = absurd (cc)
-puts_by s c target q (Map p v r f w) built [] lead none next read has_read puts user = absurd (cc)
-puts_by s c target q (Map p v r f w) built (k ∷ []) lead none next read has_read puts user = absurd (cc)
-puts_by s c target q (Map p v r f w) built (k ∷ j ∷ h ∷ ks) lead none next read has_read puts user = absurd lead.1.1
-puts_by s c target q (Unmap p v) built ks lead none next read has_read puts user = absurd (cc)
-puts_by s c target q (Retype r f k) built ks lead none next read has_read puts user = absurd (cc)
-puts_by s c target q (make_call what r f u b) built ks lead none next read has_read puts user = absurd (cc)
-puts_by s c target q (Tick n) built ks lead none next read has_read puts user = absurd (cc)
-puts_by s c target q (Gate n u b) built (k ∷ j ∷ []) lead none next read has_read puts user =
+puts_by s c target q (Map p v r f w) [] lead none next read has_read puts user = absurd (cc)
+puts_by s c target q (Map p v r f w) (k ∷ []) lead none next read has_read puts user = absurd (cc)
+puts_by s c target q (Map p v r f w) (k ∷ j ∷ h ∷ ks) lead none next read has_read puts user = absurd lead.1.1
+puts_by s c target q (Unmap p v) ks lead none next read has_read puts user = absurd (cc)
+puts_by s c target q (Retype r f k) ks lead none next read has_read puts user = absurd (cc)
+puts_by s c target q (make_call what r f u b) ks lead none next read has_read puts user = absurd (cc)
+puts_by s c target q (Tick n) ks lead none next read has_read puts user = absurd (cc)
+puts_by s c target q (Gate n u b) (k ∷ j ∷ []) lead none next read has_read puts user =
     subst (λ (q : Capability). Puts s c (Gate n u b) (k ∷ j ∷ []) target q) (gate_is s c k q read has_read puts)
     (subst (λ p. Puts s c (Gate n u b) (k ∷ j ∷ []) p
     (record { kind = kind.Gate; frame = k.frame; arg = (comp_in (s.frame k.frame)).epoch })) (target_in (Under (found j) b) target next)
@@ -545,24 +544,24 @@ puts_by s c target q (Gate n u b) built (k ∷ j ∷ []) lead none next read has
       ends = λ x. refl;
       flushes = refl;
     }))
-puts_by s c target q (Gate n u b) built [] lead none next read has_read puts user = absurd (not_none none)
+puts_by s c target q (Gate n u b) [] lead none next read has_read puts user = absurd (not_none none)
   where
     not_none : of_kind kind.Comp n ∷ of_kind kind.Table u ∷ [] ≡ [] → ⊥
     not_none h = cc
-puts_by s c target q (Gate n u b) built (k ∷ []) lead none next read has_read puts user = absurd (not_none none)
+puts_by s c target q (Gate n u b) (k ∷ []) lead none next read has_read puts user = absurd (not_none none)
   where
     not_none : of_kind kind.Table u ∷ [] ≡ [] → ⊥
     not_none h = cc
-puts_by s c target q (Touch v) built ks lead none next read has_read puts user = absurd (cc)
-puts_by s c target q (Gate n u b) built (k ∷ j ∷ i ∷ ks) lead none next read has_read puts user = absurd lead.1.1
-puts_by s c target q Flush built ks lead none next read has_read puts user = absurd (cc)
-puts_by s c target q (Kill n) built ks lead none next read has_read puts user = absurd (cc)
-puts_by s c target q (call_gate n) built ks lead none next read has_read puts user = absurd (cc)
-puts_by s c target q Ret built ks lead none next read has_read puts user = absurd (cc)
-puts_by s c target q (Transfer x y m) built ks lead none next read has_read puts user = absurd (cc)
-puts_by s c target q (Test x y) built ks lead none next read has_read puts user = absurd (cc)
-puts_by s c target q (Switch x y) built ks lead none next read has_read puts user = absurd (cc)
-puts_by s c target q call built ks lead none next read has_read puts user = absurd built
+puts_by s c target q (Touch v) ks lead none next read has_read puts user = absurd (cc)
+puts_by s c target q (Gate n u b) (k ∷ j ∷ i ∷ ks) lead none next read has_read puts user = absurd lead.1.1
+puts_by s c target q Flush ks lead none next read has_read puts user = absurd (cc)
+puts_by s c target q (Kill n) ks lead none next read has_read puts user = absurd (cc)
+puts_by s c target q (call_gate n) ks lead none next read has_read puts user = absurd (cc)
+puts_by s c target q Ret ks lead none next read has_read puts user = absurd (cc)
+puts_by s c target q (Transfer x y m) ks lead none next read has_read puts user = absurd (cc)
+puts_by s c target q (Delegate x y m) ks lead none next read has_read puts user = absurd (cc)
+puts_by s c target q (Test x y) ks lead none next read has_read puts user = absurd (cc)
+puts_by s c target q (Switch x y) ks lead none next read has_read puts user = absurd (cc)
 
 module _ (setup : Setting) (setting : IsSetting setup) (cores : ℕ → Core) (t : Trace) (stands : Stands setup cores t) (c : ℕ)
     (here : c < setup.cores)
@@ -585,9 +584,8 @@ module _ (setup : Setting) (setting : IsSetting setup) (cores : ℕ → Core) (t
   pub fill_good : GoodTook setup cores t c (fill_move fill) (landed a
       (filled_if (last_left setup t (EntryAt fill.node fill.entry) == fill.word)))
   fill_good = compare_good setup setting cores t stands c here a fill.node fill.entry fill.word fill.cap active stage_is has
-      (puts_by (state_after setup t) c has.knows.knows.target fill.cap a.call
-      (is_active setup setting cores t stands c here a active).built
-      a.found (subst (λ (p : Plan). Leads (LeadsIn (state_after setup t) c) p.names [] a.found) plan_is
+      (puts_by (state_after setup t) c has.knows.knows.target fill.cap a.call a.found
+      (subst (λ (p : Plan). Leads (LeadsIn (state_after setup t) c) p.names [] a.found) plan_is
       (plan_leads setup setting cores t stands c here a active has.names))
       (subst (λ (p : Plan). names_after p.names a.found ≡ []) plan_is none_left)
       (ap (λ p. next_of p a.found) (sym plan_is) ∙ has.knows.knows.next)

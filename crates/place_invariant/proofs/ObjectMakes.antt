@@ -7,7 +7,6 @@ use Rattle.spk_nums.specs.declared.kinds.Kind.TheVariants as kind
 use Rattle.spk_nums.specs.declared.calls.Call.TheVariants.{Make as make_call}
 use Rattle.spk_nums.specs.declared.calls.Make.{Make}
 use Rattle.spk_nums.specs.declared.calls.Make.TheVariants as make
-use Rattle.supported_calls.specs.Built.{IsObjectMade}
 use Rattle.kernel_rules.specs.State.{Place, Free, Grace, Object, Blank, Table, Leaf, Pages, Pleaf, Thread, Tcap, Kernel, Thing, State, put}
 use Rattle.kernel_rules.specs.Start.{no_grace}
 use Rattle.kernel_rules.specs.Access.{Target, Under, found, only}
@@ -181,25 +180,25 @@ IsObject what = Unit {0}
 pub made_of : (what : Make) → IsObject what → (r f u b : ℕ) (ks : List Capability)
     → names_after (plan_for (make_call what r f u b)).names ks ≡ []
     → (R : Type 0) → ((object : NewObject) → object_made what ks ≡ Some object → R) → R
-made_of make.Table built r f u b ks none R by = by objects.Table refl
-made_of make.Leaf built r f u b ks none R by = by objects.Leaf refl
-made_of make.Pages built r f u b ks none R by = by objects.Pages refl
-made_of make.Pleaf built r f u b ks none R by = by objects.Pleaf refl
-made_of (make.Tcap sched quality) built r f u b ks none R by = by (objects.Tcap sched quality) refl
-made_of (make.Thread comp) built r f u b [] none R by = absurd (not_none none)
+made_of make.Table other r f u b ks none R by = by objects.Table refl
+made_of make.Leaf other r f u b ks none R by = by objects.Leaf refl
+made_of make.Pages other r f u b ks none R by = by objects.Pages refl
+made_of make.Pleaf other r f u b ks none R by = by objects.Pleaf refl
+made_of (make.Tcap sched quality) other r f u b ks none R by = by (objects.Tcap sched quality) refl
+made_of (make.Thread comp) other r f u b [] none R by = absurd (not_none none)
   where
     not_none : of_kind kind.Range r ∷ of_kind kind.Table u ∷ of_kind kind.Comp comp ∷ [] ≡ [] → ⊥
     not_none h = cc
-made_of (make.Thread comp) built r f u b (k ∷ []) none R by = absurd (not_none none)
+made_of (make.Thread comp) other r f u b (k ∷ []) none R by = absurd (not_none none)
   where
     not_none : of_kind kind.Table u ∷ of_kind kind.Comp comp ∷ [] ≡ [] → ⊥
     not_none h = cc
-made_of (make.Thread comp) built r f u b (k ∷ j ∷ []) none R by = absurd (not_none none)
+made_of (make.Thread comp) other r f u b (k ∷ j ∷ []) none R by = absurd (not_none none)
   where
     not_none : of_kind kind.Comp comp ∷ [] ≡ [] → ⊥
     not_none h = cc
-made_of (make.Thread comp) built r f u b (k ∷ j ∷ i ∷ ks) none R by = by (objects.Thread i.frame) refl
-made_of (make.Comp table pages live) built r f u b ks none R by = absurd built
+made_of (make.Thread comp) other r f u b (k ∷ j ∷ i ∷ ks) none R by = by (objects.Thread i.frame) refl
+made_of (make.Comp table pages live) other r f u b ks none R by = absurd other
 
 -- What such an object names is not its frame, which is blank.
 pub dues_apart : (s : State) (f : ℕ) (object : NewObject) → s.frame f ≡ Kernel Blank → HasObjects s object

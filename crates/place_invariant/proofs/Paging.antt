@@ -9,8 +9,7 @@ use Rattle.spk_nums.specs.declared.kinds.FrameKind.TheVariants as frame_kind
 use Rattle.spk_nums.specs.declared.kinds.Kind.{Kind}
 use Rattle.spk_nums.specs.declared.kinds.Kind.TheVariants as kind
 use Rattle.spk_nums.specs.declared.calls.Call.{Call}
-use Rattle.spk_nums.specs.declared.calls.Call.TheVariants.{Look, Copy, Remove, Grow, Shrink, Map, Unmap, Retype, Make as make_call, Tick, Kill, Gate, Touch, Flush, Call as call_gate, Ret, Transfer, Test, Switch}
-use Rattle.supported_calls.specs.Built.{IsBuilt}
+use Rattle.spk_nums.specs.declared.calls.Call.TheVariants.{Look, Copy, Remove, Grow, Shrink, Map, Unmap, Retype, Make as make_call, Tick, Kill, Gate, Touch, Flush, Call as call_gate, Ret, Transfer, Delegate, Test, Switch}
 use Rattle.kernel_rules.specs.State.{Table, Pages, Frame, Kernel, State}
 use Rattle.kernel_rules.specs.Access.{Slot, Named, found, root, only, Target, Under, InRoot, reached}
 use Rattle.kernel_rules.specs.Fitting.{fits, IsGood}
@@ -88,60 +87,60 @@ module _ (setup : Setting) (setting : IsSetting setup) (t : Trace) (legal : IsLe
   none_free call ks next = free_target (plan_for call) ks target next
 
   -- a line a call: the place that it fills is one of a page table exactly where `fills_page` says so
-  pub paging_by : (call : Call) → phase t c ≡ Open call → IsBuilt call → (ks : List Capability)
+  pub paging_by : (call : Call) → phase t c ≡ Open call → (ks : List Capability)
       → Leads (LeadsIn s c) (plan_for call).names [] ks → next_of (plan_for call) ks ≡ NextFree target → PagingIs call ks
-  paging_by (Copy a u b) is built (k ∷ j ∷ []) lead next =
+  paging_by (Copy a u b) is (k ∷ j ∷ []) lead next =
       ap is_paging (in_leaf setup setting t legal c (Copy a u b) is u b j at lead.1.0
       (ap (reached s c) (target_in (Under (found j) b) target next) ∙ reaches))
-  paging_by (Copy a u b) is built [] lead next = absurd (cc)
-  paging_by (Copy a u b) is built (k ∷ []) lead next = absurd (cc)
-  paging_by (Copy a u b) is built (k ∷ j ∷ i ∷ ks) lead next = absurd lead.1.1
-  paging_by (Grow u i l) is built (k ∷ j ∷ []) lead next =
+  paging_by (Copy a u b) is [] lead next = absurd (cc)
+  paging_by (Copy a u b) is (k ∷ []) lead next = absurd (cc)
+  paging_by (Copy a u b) is (k ∷ j ∷ i ∷ ks) lead next = absurd lead.1.1
+  paging_by (Grow u i l) is (k ∷ j ∷ []) lead next =
       let good : IsGood s k × IsTrue (root k.kind) = named_good s (opened (events_of t)) c u root k (sound_of setup setting t legal)
       (opened_is t c (Grow u i l) is) lead.0 in
       ap (λ (f : ℕ). is_paging (s.frame f)) (sym (in_root_node (found k) i at (nat_le i 63)
       (ap (reached s c) (target_in (InRoot (found k) i) target next) ∙ reaches)))
       ∙ root_paging k.kind (s.frame k.frame) good.1 good.0.fit
-  paging_by (Grow u i l) is built [] lead next = absurd (cc)
-  paging_by (Grow u i l) is built (k ∷ []) lead next = absurd (cc)
-  paging_by (Grow u i l) is built (k ∷ j ∷ h ∷ ks) lead next = absurd lead.1.1
-  paging_by (Map p v r f w) is built (k ∷ j ∷ []) lead next =
+  paging_by (Grow u i l) is [] lead next = absurd (cc)
+  paging_by (Grow u i l) is (k ∷ []) lead next = absurd (cc)
+  paging_by (Grow u i l) is (k ∷ j ∷ h ∷ ks) lead next = absurd lead.1.1
+  paging_by (Map p v r f w) is (k ∷ j ∷ []) lead next =
       ap is_paging (in_pleaf setup setting t legal c (Map p v r f w) is p v k at lead.0
       (ap (reached s c) (target_in (Under (found k) v) target next) ∙ reaches))
-  paging_by (Map p v r f w) is built [] lead next = absurd (cc)
-  paging_by (Map p v r f w) is built (k ∷ []) lead next = absurd (cc)
-  paging_by (Map p v r f w) is built (k ∷ j ∷ h ∷ ks) lead next = absurd lead.1.1
-  paging_by (make_call (make.Comp x p live) r f u b) is built ks lead next =
+  paging_by (Map p v r f w) is [] lead next = absurd (cc)
+  paging_by (Map p v r f w) is (k ∷ []) lead next = absurd (cc)
+  paging_by (Map p v r f w) is (k ∷ j ∷ h ∷ ks) lead next = absurd lead.1.1
+  paging_by (make_call (make.Comp x p live) r f u b) is ks lead next =
       let none = none_left_of (plan_for (make_call (make.Comp x p live) r f u b)) ks target next in
       let made : IsCompMake s c r f u b x p live ks = comp_make s c r f u b x p live ks lead none in
       ap is_paging (in_leaf setup setting t legal c (make_call (make.Comp x p live) r f u b) is u b made.second at made.under
       (ap (reached s c) (target_in (Under (found made.second) b) target (sym made.next ∙ next)) ∙ reaches))
-  paging_by (make_call what r f u b) is built ks lead next =
+  paging_by (make_call what r f u b) is ks lead next =
       let none = none_left_of (plan_for (make_call what r f u b)) ks target next in
-      made_of what built r f u b ks none (PagingIs (make_call what r f u b) ks) (λ object of.
+      made_of what tt r f u b ks none (PagingIs (make_call what r f u b) ks) (λ object of.
       let make : IsObjectMake s c r f u b what object ks = object_make s c r f u b what object ks of lead none in
       ap is_paging (in_leaf setup setting t legal c (make_call what r f u b) is u b make.two.table at make.two.second
       (ap (reached s c) (target_in (Under (found make.two.table) b) target (sym make.next ∙ next)) ∙ reaches)))
-  paging_by (Gate n u b) is built (k ∷ j ∷ []) lead next =
+  paging_by (Gate n u b) is (k ∷ j ∷ []) lead next =
       ap is_paging (in_leaf setup setting t legal c (Gate n u b) is u b j at lead.1.0
       (ap (reached s c) (target_in (Under (found j) b) target next) ∙ reaches))
-  paging_by (Gate n u b) is built [] lead next = absurd (cc)
-  paging_by (Gate n u b) is built (k ∷ []) lead next = absurd (cc)
-  paging_by (Gate n u b) is built (k ∷ j ∷ i ∷ ks) lead next = absurd lead.1.1
-  paging_by (Touch v) is built ks lead next = absurd (none_free (Touch v) ks next)
-  paging_by Flush is built ks lead next = absurd (none_free Flush ks next)
-  paging_by (Look a) is built ks lead next = absurd (none_free (Look a) ks next)
-  paging_by (Remove u b) is built ks lead next = absurd (none_free (Remove u b) ks next)
-  paging_by (Shrink u i) is built ks lead next = absurd (none_free (Shrink u i) ks next)
-  paging_by (Unmap p v) is built ks lead next = absurd (none_free (Unmap p v) ks next)
-  paging_by (Retype r f frame_kind.Untyped) is built ks lead next = absurd (none_free (Retype r f frame_kind.Untyped) ks next)
-  paging_by (Retype r f frame_kind.User) is built ks lead next = absurd (none_free (Retype r f frame_kind.User) ks next)
-  paging_by (Retype r f frame_kind.Kernel) is built ks lead next = absurd (none_free (Retype r f frame_kind.Kernel) ks next)
-  paging_by (Tick n) is built ks lead next = absurd (none_free (Tick n) ks next)
-  paging_by (Kill n) is built ks lead next = absurd (none_free (Kill n) ks next)
-  paging_by (call_gate n) is built ks lead next = absurd (none_free (call_gate n) ks next)
-  paging_by Ret is built ks lead next = absurd (none_free Ret ks next)
-  paging_by (Transfer x y m) is built ks lead next = absurd (none_free (Transfer x y m) ks next)
-  paging_by (Test x y) is built ks lead next = absurd (none_free (Test x y) ks next)
-  paging_by (Switch x y) is built ks lead next = absurd (none_free (Switch x y) ks next)
-  paging_by call is built ks lead next = absurd built
+  paging_by (Gate n u b) is [] lead next = absurd (cc)
+  paging_by (Gate n u b) is (k ∷ []) lead next = absurd (cc)
+  paging_by (Gate n u b) is (k ∷ j ∷ i ∷ ks) lead next = absurd lead.1.1
+  paging_by (Touch v) is ks lead next = absurd (none_free (Touch v) ks next)
+  paging_by Flush is ks lead next = absurd (none_free Flush ks next)
+  paging_by (Look a) is ks lead next = absurd (none_free (Look a) ks next)
+  paging_by (Remove u b) is ks lead next = absurd (none_free (Remove u b) ks next)
+  paging_by (Shrink u i) is ks lead next = absurd (none_free (Shrink u i) ks next)
+  paging_by (Unmap p v) is ks lead next = absurd (none_free (Unmap p v) ks next)
+  paging_by (Retype r f frame_kind.Untyped) is ks lead next = absurd (none_free (Retype r f frame_kind.Untyped) ks next)
+  paging_by (Retype r f frame_kind.User) is ks lead next = absurd (none_free (Retype r f frame_kind.User) ks next)
+  paging_by (Retype r f frame_kind.Kernel) is ks lead next = absurd (none_free (Retype r f frame_kind.Kernel) ks next)
+  paging_by (Tick n) is ks lead next = absurd (none_free (Tick n) ks next)
+  paging_by (Kill n) is ks lead next = absurd (none_free (Kill n) ks next)
+  paging_by (call_gate n) is ks lead next = absurd (none_free (call_gate n) ks next)
+  paging_by Ret is ks lead next = absurd (none_free Ret ks next)
+  paging_by (Transfer x y m) is ks lead next = absurd (none_free (Transfer x y m) ks next)
+  paging_by (Delegate x y m) is ks lead next = absurd (none_free (Delegate x y m) ks next)
+  paging_by (Test x y) is ks lead next = absurd (none_free (Test x y) ks next)
+  paging_by (Switch x y) is ks lead next = absurd (none_free (Switch x y) ks next)

@@ -14,7 +14,6 @@ use Rattle.spk_nums.specs.declared.kinds.Kind.TheVariants as kind
 use Rattle.spk_nums.specs.declared.replies.Reply.{Reply}
 use Rattle.spk_nums.specs.declared.replies.Reply.TheVariants as reply
 use Rattle.spk_nums.specs.declared.replies.Value.TheVariants as value
-use Rattle.supported_calls.specs.Built.{IsBuilt}
 use Rattle.entry_words.specs.declared.entry.Entry.{Entry}
 use Rattle.entry_words.specs.declared.entry.Entry.TheVariants as entry
 use Rattle.entry_words.specs.EntryWord.{EntryFits, word_of_entry, entry_of_word}
@@ -101,34 +100,34 @@ target_in : (p q : Target) → NextHeld p ≡ NextHeld q → p ≡ q
 target_in p q is = cc
 
 -- It is what its rule takes away there: a line a call that removes.
-takes_by : (s : State) (c : ℕ) (target : Target) (call : Call) → IsBuilt call → (ks : List Capability)
+takes_by : (s : State) (c : ℕ) (target : Target) (call : Call) (ks : List Capability)
     → Leads (LeadsIn s c) (plan_for call).names [] ks → names_after (plan_for call).names ks ≡ []
     → next_of (plan_for call) ks ≡ NextHeld target → removes_by call ≡ true → TakesAway s c call ks target
-takes_by s c target (Remove u b) built (j ∷ []) lead none next is =
+takes_by s c target (Remove u b) (j ∷ []) lead none next is =
     subst (λ place. TakesAway s c (Remove u b) (j ∷ []) place) (target_in (Under (found j) b) target next)
     (record { rule = refl; ends = λ x. refl; flushes = refl })
-takes_by s c target (Remove u b) built [] lead none next is = absurd (not_none none)
+takes_by s c target (Remove u b) [] lead none next is = absurd (not_none none)
   where
     not_none : of_kind kind.Table u ∷ [] ≡ [] → ⊥
     not_none h = cc
-takes_by s c target (Remove u b) built (j ∷ k ∷ ks) lead none next is = absurd lead.1
-takes_by s c target (Shrink u i) built (j ∷ []) lead none next is =
+takes_by s c target (Remove u b) (j ∷ k ∷ ks) lead none next is = absurd lead.1
+takes_by s c target (Shrink u i) (j ∷ []) lead none next is =
     subst (λ place. TakesAway s c (Shrink u i) (j ∷ []) place) (target_in (InRoot (found j) i) target next)
     (record { rule = refl; ends = λ x. refl; flushes = refl })
-takes_by s c target (Shrink u i) built [] lead none next is = absurd (not_none none)
+takes_by s c target (Shrink u i) [] lead none next is = absurd (not_none none)
   where
     not_none : a_root u ∷ [] ≡ [] → ⊥
     not_none h = cc
-takes_by s c target (Shrink u i) built (j ∷ k ∷ ks) lead none next is = absurd lead.1
-takes_by s c target (Unmap p v) built (j ∷ []) lead none next is =
+takes_by s c target (Shrink u i) (j ∷ k ∷ ks) lead none next is = absurd lead.1
+takes_by s c target (Unmap p v) (j ∷ []) lead none next is =
     subst (λ place. TakesAway s c (Unmap p v) (j ∷ []) place) (target_in (Under (found j) v) target next)
     (record { rule = refl; ends = λ x. refl; flushes = refl })
-takes_by s c target (Unmap p v) built [] lead none next is = absurd (not_none none)
+takes_by s c target (Unmap p v) [] lead none next is = absurd (not_none none)
   where
     not_none : of_kind kind.Pages p ∷ [] ≡ [] → ⊥
     not_none h = cc
-takes_by s c target (Unmap p v) built (j ∷ k ∷ ks) lead none next is = absurd lead.1
-takes_by s c target call built ks lead none next is = absurd (false≢true is)
+takes_by s c target (Unmap p v) (j ∷ k ∷ ks) lead none next is = absurd lead.1
+takes_by s c target call ks lead none next is = absurd (false≢true is)
 
 -- The outcome of what is left of such a rule, where its target holds k.
 takes_it : (s : State) (c : ℕ) (target : Target) (at : Slot) (k : Capability) → reached s c target ≡ Some at → place_at s at ≡ Holds k
@@ -560,7 +559,7 @@ remove_good setup setting cores t stands c here a active (AtCompare node index w
 remove_good setup setting cores t stands c here a active (AtStore node index x) cap is has = absurd has.knows.knows
 remove_good setup setting cores t stands c here a active (AtDraw node index) cap is has =
     draw_good setup setting cores t stands c here a active node index cap is has
-    (takes_by (state_after setup t) c has.knows.knows.target a.call (is_active setup setting cores t stands c here a active).built a.found
+    (takes_by (state_after setup t) c has.knows.knows.target a.call a.found
     (subst (λ (p : Plan). Leads (LeadsIn (state_after setup t) c) p.names [] a.found) plan_is
     (plan_leads setup setting cores t stands c here a active has.names))
     (subst (λ (p : Plan). names_after p.names a.found ≡ []) plan_is none_left)

@@ -109,12 +109,12 @@ few_calls source m is =
     let few = few_from 0 no_draft b.0 (rows_of (words_of source)) b.1 none in
     few_at (length (words_of source)) b.0 (ending_of source) m b.2 (few_weaker (0 + length (rows_of (words_of source))) (length (words_of source)) b.0.lists (omega (arith, few_rows (words_of source))) few)
 
-pub few_of_tokens : (source : List ℕ) (m : Meaning) (ts : List Token) → script_of source ≡ Ok m → views ts ≡ words_of source → All (AtMost (length ts)) m.lists
-few_of_tokens source m ts is same =
-    let long : length (words_of source) ≡ length ts = sym (ap length same) ∙ length-map ts view in
-    subst (λ n. All (AtMost n) m.lists) long (few_calls source m is)
-
--- what is read has no more calls than words
-pub few_read : (source : List ℕ) (r : Result Script ReadFault) → Gives script_view r (script_of source) → IfOk r (λ s. views s.tokens.items ≡ words_of source) → IfOk r (λ s. All (AtMost (length s.tokens.items)) (lists_of s.lists.items))
-few_read source (Ok s) gives words = few_of_tokens source (script_view s) s.tokens.items gives words
+-- what is read has no more calls than bytes
+pub few_read : (source : List ℕ) (r : Result Script ReadFault) → Gives script_view r (script_of source) → IfOk r (λ s. length (words_of source) ≤ length source)
+    → IfOk r (λ s. All (AtMost (length source)) (lists_of s.lists.items))
+few_read source (Ok s) gives words = few_weaker (length (words_of source)) (length source) (lists_of s.lists.items) words (few_calls source (script_view s) gives)
 few_read source (Err e) gives words = tt
+
+-- there are as many tokens as words
+pub few_words : (source : List ℕ) (tokens : List Token) → views tokens ≡ words_of source → length tokens ≤ length source → length (words_of source) ≤ length source
+few_words source tokens same few = let long : length (words_of source) ≡ length tokens = sym (ap length same) ∙ length-map tokens view in omega arith

@@ -6,4 +6,3 @@ pub mod CallLines
 pub mod Heads
 pub mod Orders
 pub mod Readings
-pub mod Unbuilt

@@ -12,14 +12,12 @@ mod head;
 mod items;
 mod numerals;
 mod reading;
-mod unbuilt;
 
 pub use cause::{Cause, ReadFault};
 pub use items::MOST_ITEMS;
 pub use numerals::read_number;
 pub use reading::{Script, read};
 pub use spk_nums::{How, Item};
-pub use unbuilt::first_unbuilt;
 
 #[cfg(test)]
 mod tests;

@@ -15,14 +15,12 @@ use script_tokens::{ByteFault, Ending, Scanned, Token, scan};
 use spk_nums::{Call, CoreNo, Item, Make, Setup};
 use std::alloc::{AllocError, Global};
 
-/// A script: its setup, a list of calls for each core, core 0 first, the items of its order, and the
-/// words that it is made of, lent from its bytes.
+/// A script: its setup, a list of calls for each core, core 0 first, and the items of its order.
 #[derive(Debug, Drop)]
-pub struct Script<'a> {
+pub struct Script {
     pub setup: Setup,
     pub lists: Vec<Vec<Call>>,
     pub order: Vec<Item>,
-    pub tokens: Vec<Token<'a>>,
 }
 
 // What the lines so far say. Each core that a machine may have has a list.
@@ -132,7 +130,7 @@ fn setup_of(head: &Head) -> Setup
 }
 
 // How many tokens at the front stand in a line.
-pub fn line_length(tokens: &[Token], line: u32) -> usize
+fn line_length(tokens: &[Token], line: u32) -> usize
     ensures value { result ≡ words_in line (views tokens.now) }
     ensures within { result ≤ length tokens.now }
 {
@@ -175,11 +173,10 @@ fn fault_at(line: u32, fault: LineFault) -> ReadFault
 }
 
 // Ends a script.
-fn finish<'a>(draft: Draft, ending: Ending, tokens: Vec<Token<'a>>) -> Result<Script<'a>, ReadFault>
+fn finish(draft: Draft, ending: Ending) -> Result<Script, ReadFault>
     requires draft { IsDraft (draft_view draft) }
     requires lines { FewLines ending }
     ensures value { Gives script_view result (meaning_at (draft_view draft) ending) }
-    ensures tokens { IfOk result (λ s. s.tokens.items ≡ tokens.entry.items) }
     ensures script { IfOk result IsScript }
 {
     let line = match ending {
@@ -201,7 +198,6 @@ fn finish<'a>(draft: Draft, ending: Ending, tokens: Vec<Token<'a>>) -> Result<Sc
         setup,
         lists,
         order,
-        tokens,
     })
 }
 
@@ -213,17 +209,16 @@ fn script_fault(line: u32, cause: Cause) -> ReadFault
 
 // Reads the words of a script, and takes them line by line.
 #[tactic(auto, unfolding(crate::specs::Readings::script_of))]
-fn read_words<'a>(alloc: Global, source: &'a [u8]) -> Result<Script<'a>, ReadFault>
+fn read_words(alloc: Global, source: &[u8]) -> Result<Script, ReadFault>
     requires { length source.now < 2 ^ 32 }
     ensures value { Gives script_view result (script_of source.now) }
-    ensures tokens { IfOk result (λ s. views s.tokens.items ≡ words_of source.now) }
     ensures script { IfOk result IsScript }
-    ensures words { IfOk result (λ s. length s.tokens.items ≤ length source.now) }
+    ensures words { IfOk result (λ s. length (words_of source.now) ≤ length source.now) }
 {
     let Scanned { words, ending } = scan(alloc, source)?;
     let mut draft = no_draft(alloc)?;
     take_lines(&mut draft, &words)?;
-    finish(draft, ending, words)
+    finish(draft, ending)
 }
 
 /// Reads a script of fewer than 2^32 bytes.
@@ -233,16 +228,13 @@ fn read_words<'a>(alloc: Global, source: &'a [u8]) -> Result<Script<'a>, ReadFau
 /// `Script` where the bytes are no script, with their first fault: lines are judged one after another,
 /// and within a line the number of the line, its bytes, its first word and its arguments from left to
 /// right. `Memory` where memory has run out.
-pub fn read<'a>(alloc: Global, source: &'a [u8]) -> Result<Script<'a>, ReadFault>
+pub fn read(alloc: Global, source: &[u8]) -> Result<Script, ReadFault>
     requires { length source.now < 2 ^ 32 }
     // What is read is what the bytes say, or their first fault.
     ensures value { Gives script_view result (script_of source.now) }
-    // Its tokens are the words of the bytes.
-    ensures tokens { IfOk result (λ s. views s.tokens.items ≡ words_of source.now) }
     ensures script { IfOk result IsScript }
-    // No list has more calls than there are words, and there are no more words than bytes.
-    ensures calls { IfOk result (λ s. All (AtMost (length s.tokens.items)) (lists_of s.lists.items)) }
-    ensures words { IfOk result (λ s. length s.tokens.items ≤ length source.now) }
+    // No list has more calls than there are bytes.
+    ensures calls { IfOk result (λ s. All (AtMost (length source.now)) (lists_of s.lists.items)) }
 {
     read_words(alloc, source)
 }

@@ -40,4 +40,4 @@ lists_fit lists are k d h =
     let size = length-map lists (λ (v : Vec Call Global). v.items) in
     let list = are k [] (omega arith) in
     let same : get_or (map (λ (v : Vec Call Global). v.items) lists) k [] ≡ (get_or lists k d).items = get_or-map (λ (v : Vec Call Global). v.items) lists k d [] h in
-    rw (← same) record { fit = λ j e g. let can = list.0 j e g in record { built = can.0; limits = can.1 }; few = list.1 }
+    rw (← same) record { fit = list.0; few = list.1 }

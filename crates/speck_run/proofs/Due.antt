@@ -4,27 +4,17 @@ use Rattle.std.specs.Prelude.{◌≤◌, if◌then◌else◌, length, codes, str
 use lib.Pointwise.{pointwise}
 use Rattle.spk_nums.specs.declared.memory.Memory.{Memory as Out_of_memory}
 use Rattle.byte_ends.specs.Ends.{HasRisen, Adds}
-use Rattle.script_tokens.specs.Words.{words_of}
 use Rattle.script_reader.specs.Numerals.{number_of}
-use Rattle.script_reader.specs.Readings.{Row, Meaning, First_fault, rows_of, script_of}
-use Rattle.script_reader.specs.Unbuilt.{IsFirstUnbuilt, IsFirstUnbuiltOf}
+use Rattle.script_reader.specs.Readings.{Meaning, First_fault, script_of}
 use Rattle.load_maker.specs.Loads.{load_text}
 use Rattle.speck_run.specs.declared.words.Command.{Command}
 use Rattle.speck_run.specs.declared.words.Command.TheVariants.{Replay, Run, Plain, Print}
 use Rattle.speck_run.specs.declared.top.Answer.{Answer}
 use Rattle.speck_run.specs.declared.top.Status.{Status}
-use Rattle.speck_run.specs.declared.top.Status.TheVariants.{Done, Words, Script, ReadFault, WriteFault, Memory, TooLong, NotBuilt, Stopped}
+use Rattle.speck_run.specs.declared.top.Status.TheVariants.{Done, Words, Script, ReadFault, WriteFault, Memory, TooLong, Stopped}
 use Rattle.whole_ends.specs.Ends.{GivesAll}
-use Rattle.speck_run.specs.Script.{IsTaken, IsLeft, IsAnswer, IsMade}
-use Rattle.speck_run.specs.Top.{CommandLine, texts_of, Asked, Asks, AsksNumber, HasNumber, AsksMake, AsksLoad, IsCommand, IsMake, IsLoad, IsUnderstood, IsNumberOf, IsNumberIn, IsDue, IsDueOf, IsDueOfLoad, IsStatusOfLoad, IsSummary, LeavesLoad, IsDone, InputMakes, CarriesOut, IsStatusOf, Answers, IsAccepted, Writes, InputRuns}
-
--- There is one first line that is not carried out, or none.
-first_same : (rows : List Row) (a b : Option ℕ) → IsFirstUnbuiltOf rows a → IsFirstUnbuiltOf rows b → a ≡ b
-first_same [] a b p q = p ∙ sym q
-first_same (row ∷ rows) a b (inl p) (inl q) = first_same rows a b p.1 q.1
-first_same (row ∷ rows) a b (inl p) (inr q) = absurd (q.0 p.0)
-first_same (row ∷ rows) a b (inr p) (inl q) = absurd (p.0 q.0)
-first_same (row ∷ rows) a b (inr p) (inr q) = p.1 ∙ sym q.1
+use Rattle.speck_run.specs.Script.{AreScript, IsAnswer, IsMade}
+use Rattle.speck_run.specs.Top.{CommandLine, texts_of, Asked, Asks, AsksNumber, HasNumber, AsksMake, AsksLoad, IsCommand, IsMake, IsLoad, IsUnderstood, IsNumberOf, IsNumberIn, IsDue, IsDueOf, IsSummary, IsDone, InputMakes, CarriesOut, IsStatusOf, Answers, IsAccepted, Writes, InputRuns}
 
 abbrev Reading : Type 0
 Reading = Result Meaning First_fault
@@ -92,62 +82,41 @@ make_apart words m l =
     let loaded : first_letter (texts_of words) ≡ 108 = ap first_letter l.asks.asks in
     omega arith
 
--- An input that a command takes is a script, and no line of it is left.
-taken_fault : (command : Command) (bytes : List ℕ) (f : First_fault) → IsTaken command bytes → script_of bytes ≡ Err f → ⊥
-taken_fault c bytes f p q = let e = sym q ∙ p.is_script in cc
+-- A script has no fault.
+script_fault : (bytes : List ℕ) (f : First_fault) → AreScript bytes → script_of bytes ≡ Err f → ⊥
+script_fault bytes f p q = let e = sym q ∙ p.is_script in cc
 
-taken_left : (command : Command) (bytes : List ℕ) (line : ℕ) → IsTaken command bytes → IsLeft command bytes line → ⊥
-taken_left c bytes line p q = let e = first_same (rows_of (words_of bytes)) None (Some line) (p.supported q.calls) q.first in cc
-
-left_fault : (command : Command) (bytes : List ℕ) (line : ℕ) (f : First_fault) → IsLeft command bytes line → script_of bytes ≡ Err f → ⊥
-left_fault c bytes line f p q = let e = sym q ∙ p.is_script in cc
-
-left_same : (command : Command) (bytes : List ℕ) (line line' : ℕ) → IsLeft command bytes line → IsLeft command bytes line' → NotBuilt line ≡ NotBuilt line'
-left_same c bytes line line' p q = let e = first_same (rows_of (words_of bytes)) (Some line) (Some line') p.first q.first in cc
-
--- An input has one status under a command.
-status_same : (command : Command) (bytes : List ℕ) (s s' : Status) → IsStatusOf command bytes s → IsStatusOf command bytes s' → s ≡ s'
-status_same c bytes Done Done p q = refl
-status_same c bytes Done Words p q = absurd q
-status_same c bytes Done (Script line' cause') p q = absurd (taken_fault c bytes _ p.1 q.1)
-status_same c bytes Done ReadFault p q = absurd q
-status_same c bytes Done WriteFault p q = absurd q
-status_same c bytes Done Memory p q = absurd q
-status_same c bytes Done TooLong p q = absurd (omega (arith, p.0, q))
-status_same c bytes Done (NotBuilt line') p q = absurd (taken_left c bytes line' p.1 q.1)
-status_same c bytes Done Stopped p q = absurd q
-status_same c bytes Words s' p q = absurd p
-status_same c bytes (Script line cause) Done p q = absurd (taken_fault c bytes _ q.1 p.1)
-status_same c bytes (Script line cause) Words p q = absurd q
-status_same c bytes (Script line cause) (Script line' cause') p q = ap (λ (f : First_fault). Script f.line f.cause) (same_fault _ _ (script_of bytes) p.1 q.1)
-status_same c bytes (Script line cause) ReadFault p q = absurd q
-status_same c bytes (Script line cause) WriteFault p q = absurd q
-status_same c bytes (Script line cause) Memory p q = absurd q
-status_same c bytes (Script line cause) TooLong p q = absurd (omega (arith, p.0, q))
-status_same c bytes (Script line cause) (NotBuilt line') p q = absurd (left_fault c bytes line' _ q.1 p.1)
-status_same c bytes (Script line cause) Stopped p q = absurd q
-status_same c bytes ReadFault s' p q = absurd p
-status_same c bytes WriteFault s' p q = absurd p
-status_same c bytes Memory s' p q = absurd p
-status_same c bytes TooLong Done p q = absurd (omega (arith, p, q.0))
-status_same c bytes TooLong Words p q = absurd q
-status_same c bytes TooLong (Script line' cause') p q = absurd (omega (arith, p, q.0))
-status_same c bytes TooLong ReadFault p q = absurd q
-status_same c bytes TooLong WriteFault p q = absurd q
-status_same c bytes TooLong Memory p q = absurd q
-status_same c bytes TooLong TooLong p q = refl
-status_same c bytes TooLong (NotBuilt line') p q = absurd (omega (arith, p, q.0))
-status_same c bytes TooLong Stopped p q = absurd q
-status_same c bytes (NotBuilt line) Done p q = absurd (taken_left c bytes line q.1 p.1)
-status_same c bytes (NotBuilt line) Words p q = absurd q
-status_same c bytes (NotBuilt line) (Script line' cause') p q = absurd (left_fault c bytes line _ p.1 q.1)
-status_same c bytes (NotBuilt line) ReadFault p q = absurd q
-status_same c bytes (NotBuilt line) WriteFault p q = absurd q
-status_same c bytes (NotBuilt line) Memory p q = absurd q
-status_same c bytes (NotBuilt line) TooLong p q = absurd (omega (arith, p.0, q))
-status_same c bytes (NotBuilt line) (NotBuilt line') p q = left_same c bytes line line' p.1 q.1
-status_same c bytes (NotBuilt line) Stopped p q = absurd q
-status_same c bytes Stopped s' p q = absurd p
+-- An input has one status.
+status_same : (bytes : List ℕ) (s s' : Status) → IsStatusOf bytes s → IsStatusOf bytes s' → s ≡ s'
+status_same bytes Done Done p q = refl
+status_same bytes Done Words p q = absurd q
+status_same bytes Done (Script line' cause') p q = absurd (script_fault bytes _ p.1 q.1)
+status_same bytes Done ReadFault p q = absurd q
+status_same bytes Done WriteFault p q = absurd q
+status_same bytes Done Memory p q = absurd q
+status_same bytes Done TooLong p q = absurd (omega (arith, p.0, q))
+status_same bytes Done Stopped p q = absurd q
+status_same bytes Words s' p q = absurd p
+status_same bytes (Script line cause) Done p q = absurd (script_fault bytes _ q.1 p.1)
+status_same bytes (Script line cause) Words p q = absurd q
+status_same bytes (Script line cause) (Script line' cause') p q = ap (λ (f : First_fault). Script f.line f.cause) (same_fault _ _ (script_of bytes) p.1 q.1)
+status_same bytes (Script line cause) ReadFault p q = absurd q
+status_same bytes (Script line cause) WriteFault p q = absurd q
+status_same bytes (Script line cause) Memory p q = absurd q
+status_same bytes (Script line cause) TooLong p q = absurd (omega (arith, p.0, q))
+status_same bytes (Script line cause) Stopped p q = absurd q
+status_same bytes ReadFault s' p q = absurd p
+status_same bytes WriteFault s' p q = absurd p
+status_same bytes Memory s' p q = absurd p
+status_same bytes TooLong Done p q = absurd (omega (arith, p, q.0))
+status_same bytes TooLong Words p q = absurd q
+status_same bytes TooLong (Script line' cause') p q = absurd (omega (arith, p, q.0))
+status_same bytes TooLong ReadFault p q = absurd q
+status_same bytes TooLong WriteFault p q = absurd q
+status_same bytes TooLong Memory p q = absurd q
+status_same bytes TooLong TooLong p q = refl
+status_same bytes TooLong Stopped p q = absurd q
+status_same bytes Stopped s' p q = absurd p
 
 -- What is due for an input that was read to its end is due.
 pub due_input : (words : CommandLine) (left left' : Option (List ℕ)) (f f' : ℕ) (command : Command) (bytes : List ℕ) (s : Status) (text : List ℕ) → Asks words command →
@@ -167,17 +136,13 @@ due_input words left left' f f' command bytes ReadFault text asks input small d 
 due_input words left left' f f' command bytes WriteFault text asks input small d = absurd d
 due_input words left left' f f' command bytes Memory text asks input small d = absurd d
 due_input words left left' f f' command bytes TooLong text asks input small d = absurd d
-due_input words left left' f f' command bytes (NotBuilt line) text asks input small d = (
-  inl record { command = command; asks = asks; bytes = bytes; input = input; small = small; leaves = d.0 },
-  d.1,
-)
 due_input words left left' f f' command bytes Stopped text asks input small d = (
   record {
     asks = subst (Asks words) d.0 asks;
     bytes = bytes;
     input = input;
     small = small;
-    takes = subst (λ (c : Command). IsTaken c bytes) d.0 d.1;
+    is_script = d.1;
   },
   d.2,
 )
@@ -196,53 +161,49 @@ answer_of_input words left left' f f' command given bytes (Ok answer) asks input
     due_input words left left' f f' command given answer.status (string_bytes answer.text) asks input small (subst (λ b. IsDueOf command b answer.status (string_bytes answer.text)) same d)
 answer_of_input words left left' f f' command given bytes (Err e) asks input small same d = tt
 
--- What a command makes of an input, it makes of one that it takes.
-made_taken : (command : Command) (bytes text : List ℕ) → IsMade command (IsAnswer command) bytes text → IsTaken command bytes
-made_taken c bytes text d = record { script = d.script; is_script = d.is_script; supported = d.supported }
+-- What a command makes of an input, it makes of a script.
+made_script : (Is : Meaning → List ℕ → Type 0) (bytes text : List ℕ) → IsMade Is bytes text → AreScript bytes
+made_script Is bytes text d = record { script = d.script; is_script = d.is_script }
 
 module _ (words : CommandLine) (command : Command) (asks : Asks words command) where
   -- With the command that the words are.
   makes_as : (left left' : Option (List ℕ)) (f f' : ℕ) (text : List ℕ) → IsDone (record { words = words; left = left; left' = left'; faults = f; faults' = f' }) text →
-      InputMakes command (IsAnswer command) left left' text
-  makes_as left left' f f' text (inl d) = subst (λ (c : Command). InputMakes c (IsAnswer c) left left' text) (asks_same words d.command command d.asks asks) d.makes
+      InputMakes (IsAnswer command) left left' text
+  makes_as left left' f f' text (inl d) = subst (λ (c : Command). InputMakes (IsAnswer c) left left' text) (asks_same words d.command command d.asks asks) d.makes
   makes_as left left' f f' text (inr (inl d)) = absurd (asks_apart (codes "make") words command asks record { number = d.number; asks = d.asks })
   makes_as left left' f f' text (inr (inr d)) = absurd (asks_apart (codes "load") words command asks record { number = d.number; asks = d.asks })
 
   -- What is due for an input that the source tells.
   status_due : (left : List ℕ) (left' : Option (List ℕ)) (f f' : ℕ) (s : Status) (text : List ℕ) →
-      IsDue (record { words = words; left = Some left; left' = left'; faults = f; faults' = f' }) s text → IsStatusOf command left s ⊎ ((s ≡ Stopped) ⊎ (s ≡ ReadFault))
+      IsDue (record { words = words; left = Some left; left' = left'; faults = f; faults' = f' }) s text → IsStatusOf left s ⊎ ((s ≡ Stopped) ⊎ (s ≡ ReadFault))
   status_due left left' f f' Done text d =
       let a = makes_as (Some left) left' f f' text d in
-      inl (subst (λ (l : List ℕ). IsStatusOf command l Done) a.input.all (a.small, made_taken command a.bytes text a.made))
+      inl (subst (λ (l : List ℕ). IsStatusOf l Done) a.input.all (a.small, made_script (IsAnswer command) a.bytes text a.made))
   status_due left left' f f' Words text d = absurd (d.0 (inl (record { command = command; asks = asks })))
-  status_due left left' f f' (Script line cause) text (i, d, t) = inl (subst (λ (l : List ℕ). IsStatusOf command l (Script line cause)) d.input.all (d.small, d.fault))
+  status_due left left' f f' (Script line cause) text (i, d, t) = inl (subst (λ (l : List ℕ). IsStatusOf l (Script line cause)) d.input.all (d.small, d.fault))
   status_due left left' f f' ReadFault text d = inr (inr refl)
   status_due left left' f f' Stopped text d = inr (inl refl)
   status_due left left' f f' WriteFault text d = absurd d
   status_due left left' f f' Memory text d = absurd d
   status_due left left' f f' TooLong text (i, d, t) = inl (omega (arith, d.there))
-  status_due left left' f f' (NotBuilt line) text (inr d, t) = absurd (asks_apart (codes "load") words command asks record { number = d.number; asks = d.asks })
-  status_due left left' f f' (NotBuilt line) text (inl d, t) =
-      inl (subst (λ (c : Command). IsStatusOf c left (NotBuilt line)) (asks_same words d.command command d.asks asks)
-      (subst (λ (l : List ℕ). IsStatusOf d.command l (NotBuilt line)) d.input.all (d.small, d.leaves)))
 
-  answers_of : (left : List ℕ) (s : Status) → IsStatusOf command left s ⊎ ((s ≡ Stopped) ⊎ (s ≡ ReadFault)) → Answers command (Some left) s
-  answers_of left s (inl p) = λ due h. inl (status_same command left s due p h)
+  answers_of : (left : List ℕ) (s : Status) → IsStatusOf left s ⊎ ((s ≡ Stopped) ⊎ (s ≡ ReadFault)) → Answers (Some left) s
+  answers_of left s (inl p) = λ due h. inl (status_same left s due p h)
   answers_of left s (inr (inl e)) = λ due h. inr (inl e)
   answers_of left s (inr (inr e)) = λ due h. inr (inr (inl e))
 
   -- The answer with what is due, or with a fault.
   pub answers_due : (left left' : Option (List ℕ)) (f f' : ℕ) (s : Status) (text : List ℕ) →
-      IsDue (record { words = words; left = left; left' = left'; faults = f; faults' = f' }) s text → Answers command left s
+      IsDue (record { words = words; left = left; left' = left'; faults = f; faults' = f' }) s text → Answers left s
   answers_due None left' f f' s text d = tt
   answers_due (Some left) left' f f' s text d = answers_of left s (status_due left left' f f' s text d)
 
   -- An input that the command takes is done, where reading has not failed.
   pub completes : (left left' : Option (List ℕ)) (f f' : ℕ) (s : Status) (text : List ℕ) →
-      IsDue (record { words = words; left = left; left' = left'; faults = f; faults' = f' }) s text → IsAccepted command left → (s ≡ Stopped → ⊥) → (HasRisen f f' → ⊥) → s ≡ Done
+      IsDue (record { words = words; left = left; left' = left'; faults = f; faults' = f' }) s text → IsAccepted left → (s ≡ Stopped → ⊥) → (HasRisen f f' → ⊥) → s ≡ Done
   completes None left' f f' s text d accepted goes sure = absurd accepted
   completes (Some left) left' f f' s text d accepted goes sure = elim (status_due left left' f f' s text d) [
-    | inl p ↦ status_same command left s Done p accepted
+    | inl p ↦ status_same left s Done p accepted
     | inr (inl e) ↦ absurd (goes e)
     | inr (inr e) ↦ absurd (sure (subst (λ (due : Status). IsDue (record { words = words; left = Some left; left' = left'; faults = f; faults' = f' }) due text) e d).1)
   ]
@@ -250,16 +211,16 @@ module _ (words : CommandLine) (command : Command) (asks : Asks words command) w
   -- The text of a call that is done, and that the sink has taken.
   pub carried_out : (left left' : Option (List ℕ)) (f f' : ℕ) (s : Status) (text : List ℕ) (held held' : Option (List ℕ)) →
       IsDue (record { words = words; left = left; left' = left'; faults = f; faults' = f' }) s text → s ≡ Done → Adds text held held' →
-      CarriesOut command (IsAnswer command) left left' held held'
+      CarriesOut (IsAnswer command) left left' held held'
   carried_out left left' f f' s text held held' d e written = record {
     text = text;
     makes = makes_as left left' f f' text (subst (λ (due : Status). IsDue (record { words = words; left = left; left' = left'; faults = f; faults' = f' }) due text) e d);
     written = written;
   }
 
-pub answers_fault : (command : Command) (left : Option (List ℕ)) (s : Status) → (s ≡ WriteFault) ⊎ (s ≡ Memory) → Answers command left s
-answers_fault command None s e = tt
-answers_fault command (Some left) s e = λ due h. inr (inr (inr e))
+pub answers_fault : (left : Option (List ℕ)) (s : Status) → (s ≡ WriteFault) ⊎ (s ≡ Memory) → Answers left s
+answers_fault None s e = tt
+answers_fault (Some left) s e = λ due h. inr (inr (inr e))
 
 -- What is written with what is due.
 pub writes_due : (a : Asked) (held held' : Option (List ℕ)) (s : Status) (text : List ℕ) → IsDue a s text → Adds text held held' → Writes a held held' s
@@ -271,7 +232,6 @@ writes_due a held held' WriteFault text d w = absurd d
 writes_due a held held' Memory text d w = absurd d
 writes_due a held held' TooLong text d w = subst (λ (t : List ℕ). Adds t held held') d.2 w
 writes_due a held held' Stopped text d w = subst (λ (t : List ℕ). Adds t held held') d.1 w
-writes_due a held held' (NotBuilt line) text d w = subst (λ (t : List ℕ). Adds t held held') d.1 w
 
 -- A run that was stopped was asked for.
 pub stops_run : (a : Asked) (s : Status) (text : List ℕ) → IsDue a s text → s ≡ Stopped → InputRuns a.words a.left a.left'
@@ -310,8 +270,6 @@ module _ (words : CommandLine) (number : ℕ) (asks : AsksMake words number) whe
   load_due left left' f f' WriteFault text d = absurd d
   load_due left left' f f' Memory text d = absurd d
   load_due left left' f f' TooLong text d = absurd (apart d.0)
-  load_due left left' f f' (NotBuilt line) text (inl d, t) = absurd (apart record { command = d.command; asks = d.asks })
-  load_due left left' f f' (NotBuilt line) text (inr d, t) = absurd (not_load record { number = d.number; asks = d.asks })
   load_due left left' f f' Stopped text d = absurd (apart record { command = Run; asks = d.0.asks })
 
 module _ (words : CommandLine) (number : ℕ) (asks : AsksLoad words number) where
@@ -324,65 +282,22 @@ module _ (words : CommandLine) (number : ℕ) (asks : AsksLoad words number) whe
   same_load : (n : ℕ) → AsksLoad words n → n ≡ number
   same_load n other = numbers_same (codes "load") words n number other asks
 
-  -- Nothing but its summary is due, or the line of its first line that is not supported.
-  pub summary_due : (left left' : Option (List ℕ)) (f f' : ℕ) (s : Status) (text : List ℕ) → IsDue (record { words = words; left = left; left' = left'; faults = f; faults' = f' }) s text → IsDueOfLoad number s text
+  -- Nothing but its summary is due.
+  pub summary_due : (left left' : Option (List ℕ)) (f f' : ℕ) (s : Status) (text : List ℕ) → IsDue (record { words = words; left = left; left' = left'; faults = f; faults' = f' }) s text → (s ≡ Done) × IsSummary number text
   summary_due left left' f f' Done text (inl d) = absurd (no_script record { command = d.command; asks = d.asks })
   summary_due left left' f f' Done text (inr (inl d)) = absurd (make_apart words record { number = d.number; asks = d.asks } sums_up)
-  summary_due left left' f f' Done text (inr (inr d)) = subst (λ n. IsDueOfLoad n Done text) (same_load d.number d.asks) (d.supported, d.is_text)
+  summary_due left left' f f' Done text (inr (inr d)) = (refl, subst (λ n. IsSummary n text) (same_load d.number d.asks) d.is_text)
   summary_due left left' f f' Words text d = absurd (d.0 (inr (inr sums_up)))
   summary_due left left' f f' (Script line cause) text d = absurd (no_script d.0)
   summary_due left left' f f' ReadFault text d = absurd (no_script d.0)
   summary_due left left' f f' WriteFault text d = absurd d
   summary_due left left' f f' Memory text d = absurd d
   summary_due left left' f f' TooLong text d = absurd (no_script d.0)
-  summary_due left left' f f' (NotBuilt line) text (inl d, t) = absurd (no_script record { command = d.command; asks = d.asks })
-  summary_due left left' f f' (NotBuilt line) text (inr d, t) = subst (λ n. IsDueOfLoad n (NotBuilt line) text) (same_load d.number d.asks) (d.first, t)
   summary_due left left' f f' Stopped text d = absurd (no_script record { command = Run; asks = d.0.asks })
 
-  -- What is due for the number is due.
-  pub due_load : (left left' : Option (List ℕ)) (f f' : ℕ) (s : Status) (text : List ℕ) → IsDueOfLoad number s text → IsDue (record { words = words; left = left; left' = left'; faults = f; faults' = f' }) s text
-  due_load left left' f f' Done text d = inr (inr record { number = number; asks = asks; supported = d.0; is_text = d.1 })
-  due_load left left' f f' Words text d = absurd d
-  due_load left left' f f' (Script line cause) text d = absurd d
-  due_load left left' f f' ReadFault text d = absurd d
-  due_load left left' f f' WriteFault text d = absurd d
-  due_load left left' f f' Memory text d = absurd d
-  due_load left left' f f' TooLong text d = absurd d
-  due_load left left' f f' (NotBuilt line) text d = (inr record { number = number; asks = asks; first = d.0 }, d.1)
-  due_load left left' f f' Stopped text d = absurd d
-
-  pub answer_of_load : (left left' : Option (List ℕ)) (f f' : ℕ) (r : Result Answer Out_of_memory) → IfOk r (λ answer. IsDueOfLoad number answer.status (string_bytes answer.text)) →
+  -- An answer that is the summary is due.
+  pub answer_of_load : (left left' : Option (List ℕ)) (f f' : ℕ) (r : Result Answer Out_of_memory) → IfOk r (λ answer. answer.status ≡ Done) → IfOk r (λ answer. IsSummary number (string_bytes answer.text)) →
       IfOk r (λ answer. IsDue (record { words = words; left = left; left' = left'; faults = f; faults' = f' }) answer.status (string_bytes answer.text))
-  answer_of_load left left' f f' (Ok answer) d = due_load left left' f f' answer.status (string_bytes answer.text) d
-  answer_of_load left left' f f' (Err e) d = tt
-
--- A number's summary has one status.
-pub load_status : (number : ℕ) (s due : Status) (text : List ℕ) → IsDueOfLoad number s text → IsStatusOfLoad number due → s ≡ due
-load_status number Done Done text d h = refl
-load_status number Done (NotBuilt line) text d h = let e = first_same (rows_of (words_of (load_text number))) None (Some line) d.0 h in cc
-load_status number Done Words text d h = absurd h
-load_status number Done (Script line cause) text d h = absurd h
-load_status number Done ReadFault text d h = absurd h
-load_status number Done WriteFault text d h = absurd h
-load_status number Done Memory text d h = absurd h
-load_status number Done TooLong text d h = absurd h
-load_status number Done Stopped text d h = absurd h
-load_status number (NotBuilt line) Done text d h = let e = first_same (rows_of (words_of (load_text number))) (Some line) None d.0 h in cc
-load_status number (NotBuilt line) (NotBuilt line') text d h = let e = first_same (rows_of (words_of (load_text number))) (Some line) (Some line') d.0 h in cc
-load_status number (NotBuilt line) Words text d h = absurd h
-load_status number (NotBuilt line) (Script line' cause) text d h = absurd h
-load_status number (NotBuilt line) ReadFault text d h = absurd h
-load_status number (NotBuilt line) WriteFault text d h = absurd h
-load_status number (NotBuilt line) Memory text d h = absurd h
-load_status number (NotBuilt line) TooLong text d h = absurd h
-load_status number (NotBuilt line) Stopped text d h = absurd h
-load_status number Words due text d h = absurd d
-load_status number (Script line cause) due text d h = absurd d
-load_status number ReadFault due text d h = absurd d
-load_status number WriteFault due text d h = absurd d
-load_status number Memory due text d h = absurd d
-load_status number TooLong due text d h = absurd d
-load_status number Stopped due text d h = absurd d
-
-pub summary_done : (number : ℕ) (s : Status) (text : List ℕ) → IsDueOfLoad number s text → s ≡ Done → IsSummary number text
-summary_done number s text d e = (subst (λ (due : Status). IsDueOfLoad number due text) e d).1
+  answer_of_load left left' f f' (Ok answer) done is = subst (λ (due : Status). IsDue (record { words = words; left = left; left' = left'; faults = f; faults' = f' }) due (string_bytes answer.text)) (sym done)
+      (inr (inr record { number = number; asks = asks; is_text = is }))
+  answer_of_load left left' f f' (Err e) done is = tt

@@ -1,5 +1,5 @@
 -- The theorem on the summary of given steps.
-use Rattle.std.specs.Prelude.{◌≡◌, ℕ, List, Some, None, string_bytes}
+use Rattle.std.specs.Prelude.{◌≡◌, ℕ, List, string_bytes}
 use Rattle.spk_nums.specs.declared.calls.Call.{Call}
 use Rattle.spk_nums.specs.declared.steps.Item.{Item}
 use Rattle.spk_nums.specs.Setting.{Setting}
@@ -9,10 +9,9 @@ use Rattle.kernel_history.specs.Order.{HasCalls, Follows}
 use Rattle.flight.specs.Made.{ready_after}
 use Rattle.flight.specs.Histories.{IsHistory}
 use Rattle.script_reader.specs.Readings.{Meaning}
-use Rattle.script_reader.specs.Unbuilt.{IsFirstUnbuilt}
 use Rattle.load_summary.specs.Summaries.{summary_text}
 use Rattle.speck_run.specs.declared.summary.Summed.{Summed}
-use Rattle.speck_run.specs.declared.summary.Summed.TheVariants.{Done, NoScript, Left}
+use Rattle.speck_run.specs.declared.summary.Summed.TheVariants.{Done, NoScript}
 use Rattle.speck_run.specs.Script.{IsScript, IsFirstFault}
 
 -- There is one trace that is a history of the machine, has the calls of the lists once and in order, and follows the order; and the
@@ -24,15 +23,13 @@ pub record GivenSummary (setup : Setting) (lists : List (List Call)) (items : Li
   pub order : Follows (ready_after setup) lists items trace
   pub is_text : text ≡ summary_text (decisions_of trace) (ticks (state_after setup trace))
 
--- The bytes are a script each of whose lines is supported today, and the text is the summary of its steps.
+-- The bytes are a script, and the text is the summary of its steps.
 pub record IsSummaryOf (bytes text : List ℕ) : Type 0 where
   pub script : Meaning
   pub is_script : IsScript bytes script
-  pub supported : IsFirstUnbuilt bytes None
   pub is_text : GivenSummary script.setup script.lists script.order text
 
 -- What became of bytes that were to be summed up.
 abbrev pub IsSummedUp : List ℕ → Summed → Type 0
 IsSummedUp bytes (Done text) = IsSummaryOf bytes (string_bytes text)
 IsSummedUp bytes (NoScript line cause) = IsFirstFault bytes line cause
-IsSummedUp bytes (Left line) = IsFirstUnbuilt bytes (Some line)

@@ -10,15 +10,14 @@ use Rattle.script_reader.specs.declared.cause.Cause.{Cause}
 use Rattle.script_reader.specs.Causes.{cause_text}
 use Rattle.script_reader.specs.Numerals.{number_of}
 use Rattle.script_reader.specs.Readings.{Meaning}
-use Rattle.script_reader.specs.Unbuilt.{IsFirstUnbuilt}
 use Rattle.load_maker.specs.Loads.{script_made, load_text}
 use Rattle.speck_run.specs.declared.words.Command.{Command}
 use Rattle.speck_run.specs.declared.words.Command.TheVariants.{Replay, Run, Plain, Print}
 use Rattle.speck_run.specs.declared.top.Status.{Status}
-use Rattle.speck_run.specs.declared.top.Status.TheVariants.{Done, Words, Script, ReadFault, WriteFault, Memory, TooLong, NotBuilt, Stopped}
+use Rattle.speck_run.specs.declared.top.Status.TheVariants.{Done, Words, Script, ReadFault, WriteFault, Memory, TooLong, Stopped}
 use Rattle.whole_ends.specs.Ends.{Gives, GivesAll, AddsFront}
 use Rattle.speck_run.specs.Summary.{GivenSummary}
-use Rattle.speck_run.specs.Script.{IsFirstFault, IsAnswer, IsTaken, IsLeft, IsMade}
+use Rattle.speck_run.specs.Script.{IsFirstFault, IsAnswer, AreScript, IsMade}
 
 -- A command line: the words after the program's name.
 abbrev pub CommandLine : Type 0
@@ -84,12 +83,12 @@ abbrev pub IsCommandOf : CommandLine → Option Command → Type 0
 IsCommandOf words (Some command) = Asks words command
 IsCommandOf words None = IsCommand words → ⊥
 
--- The source has given its input to the end, at most 1,048,576 bytes; the command takes it, and the text is this of it.
-pub record InputMakes (command : Command) (Is : Meaning → List ℕ → Type 0) (left left' : Option (List ℕ)) (text : List ℕ) : Type 0 where
+-- The source has given its input to the end, at most 1,048,576 bytes; it is a script, and the text is this of it.
+pub record InputMakes (Is : Meaning → List ℕ → Type 0) (left left' : Option (List ℕ)) (text : List ℕ) : Type 0 where
   pub bytes : List ℕ
   pub input : GivesAll bytes left left'
   pub small : length bytes ≤ 1048576
-  pub made : IsMade command Is bytes text
+  pub made : IsMade Is bytes text
 
 -- The source has given its input to the end, at most 1,048,576 bytes; it is no script, and this is its first fault.
 pub record InputFaults (left left' : Option (List ℕ)) (line : ℕ) (cause : Cause) : Type 0 where
@@ -98,28 +97,18 @@ pub record InputFaults (left left' : Option (List ℕ)) (line : ℕ) (cause : Ca
   pub small : length bytes ≤ 1048576
   pub fault : IsFirstFault bytes line cause
 
--- The words ask for a command that leaves the input, which the source has given to the end, at most 1,048,576 bytes: this
--- line of it is the first that is not supported today.
-pub record InputLeft (words : CommandLine) (left left' : Option (List ℕ)) (line : ℕ) : Type 0 where
-  pub command : Command
-  pub asks : Asks words command
-  pub bytes : List ℕ
-  pub input : GivesAll bytes left left'
-  pub small : length bytes ≤ 1048576
-  pub leaves : IsLeft command bytes line
-
--- The words ask for `run`, which takes the input, and the source has given it to the end, at most 1,048,576 bytes.
+-- The words ask for `run`, and the source has given its input to the end, at most 1,048,576 bytes, which is a script.
 pub record InputRuns (words : CommandLine) (left left' : Option (List ℕ)) : Type 0 where
   pub asks : Asks words Run
   pub bytes : List ℕ
   pub input : GivesAll bytes left left'
   pub small : length bytes ≤ 1048576
-  pub takes : IsTaken Run bytes
+  pub is_script : AreScript bytes
 
--- The command takes the input, and the sink has taken a whole text, which is this of the script that the input is.
-pub record CarriesOut (command : Command) (Is : Meaning → List ℕ → Type 0) (left left' held held' : Option (List ℕ)) : Type 0 where
+-- The input is a script, and the sink has taken a whole text, which is this of that script.
+pub record CarriesOut (Is : Meaning → List ℕ → Type 0) (left left' held held' : Option (List ℕ)) : Type 0 where
   pub text : List ℕ
-  pub makes : InputMakes command Is left left' text
+  pub makes : InputMakes Is left left' text
   pub written : Adds text held held'
 
 -- The line that is written for a status, or the text for `Done`.
@@ -135,9 +124,6 @@ long_line = codes "too long\n"
 abbrev pub script_line : ℕ → Cause → List ℕ
 script_line line cause = codes "line " ++ (decimal line ++ (codes ": " ++ (cause_text cause ++ codes "\n")))
 
-abbrev pub not_built_line : ℕ → List ℕ
-not_built_line line = codes "line " ++ (decimal line ++ codes ": not built yet\n")
-
 -- What a call was asked and what its source gave.
 pub record Asked : Type 0 where
   pub words : CommandLine
@@ -150,7 +136,7 @@ pub record Asked : Type 0 where
 pub record IsTextOf (a : Asked) (text : List ℕ) : Type 0 where
   pub command : Command
   pub asks : Asks a.words command
-  pub makes : InputMakes command (IsAnswer command) a.left a.left' text
+  pub makes : InputMakes (IsAnswer command) a.left a.left' text
 
 -- The words ask for the script of a number, and the text is its text.
 pub record MakesText (words : CommandLine) (text : List ℕ) : Type 0 where
@@ -162,18 +148,11 @@ pub record MakesText (words : CommandLine) (text : List ℕ) : Type 0 where
 abbrev pub IsSummary : ℕ → List ℕ → Type 0
 IsSummary number text = GivenSummary (script_made number).setup (script_made number).lists (script_made number).order text
 
--- The words ask for the summary of the script of a number, each of whose lines is supported today, and the text is that summary.
+-- The words ask for the summary of the script of a number, and the text is that summary.
 pub record SumsUp (words : CommandLine) (text : List ℕ) : Type 0 where
   pub number : ℕ
   pub asks : AsksLoad words number
-  pub supported : IsFirstUnbuilt (load_text number) None
   pub is_text : IsSummary number text
-
--- The words ask for the summary of the script of a number of which this line is the first that is not supported today.
-pub record LeavesLoad (words : CommandLine) (line : ℕ) : Type 0 where
-  pub number : ℕ
-  pub asks : AsksLoad words number
-  pub first : IsFirstUnbuilt (load_text number) (Some line)
 
 -- The text is that for which the words ask.
 abbrev pub IsDone : Asked → List ℕ → Type 0
@@ -187,32 +166,17 @@ IsDue a Words text = (IsUnderstood a.words → ⊥) × (text ≡ words_line)
 IsDue a ReadFault text = IsCommand a.words × HasRisen a.faults a.faults' × (text ≡ read_line)
 IsDue a TooLong text = IsCommand a.words × Gives 1048577 a.left a.left' × (text ≡ long_line)
 IsDue a (Script line cause) text = IsCommand a.words × InputFaults a.left a.left' line cause × (text ≡ script_line line cause)
-IsDue a (NotBuilt line) text = (InputLeft a.words a.left a.left' line ⊎ LeavesLoad a.words line) × (text ≡ not_built_line line)
 IsDue a Stopped text = InputRuns a.words a.left a.left' × (text ≡ [])
 IsDue a WriteFault text = ⊥
 IsDue a Memory text = ⊥
 
 -- What is due under a command for an input that was read to its end: what the command makes of it, or nothing where a run was
--- stopped, or the line of its first fault, or that of the first line that is not supported today.
+-- stopped, or the line of its first fault.
 abbrev pub IsDueOf : Command → List ℕ → Status → List ℕ → Type 0
-IsDueOf command bytes Done text = IsMade command (IsAnswer command) bytes text
-IsDueOf command bytes Stopped text = (command ≡ Run) × IsTaken command bytes × (text ≡ [])
+IsDueOf command bytes Done text = IsMade (IsAnswer command) bytes text
+IsDueOf command bytes Stopped text = (command ≡ Run) × AreScript bytes × (text ≡ [])
 IsDueOf command bytes (Script line cause) text = IsFirstFault bytes line cause × (text ≡ script_line line cause)
-IsDueOf command bytes (NotBuilt line) text = IsLeft command bytes line × (text ≡ not_built_line line)
 IsDueOf command bytes _ text = ⊥
-
--- The status of `load` and a number where nothing fails: its script is left at the first line that is not supported today, or it
--- is done.
-abbrev pub IsStatusOfLoad : ℕ → Status → Type 0
-IsStatusOfLoad number Done = IsFirstUnbuilt (load_text number) None
-IsStatusOfLoad number (NotBuilt line) = IsFirstUnbuilt (load_text number) (Some line)
-IsStatusOfLoad number _ = ⊥
-
--- What is due for `load` and a number: the summary, or the line of the first line that is not supported today.
-abbrev pub IsDueOfLoad : ℕ → Status → List ℕ → Type 0
-IsDueOfLoad number Done text = IsFirstUnbuilt (load_text number) None × IsSummary number text
-IsDueOfLoad number (NotBuilt line) text = IsFirstUnbuilt (load_text number) (Some line) × (text ≡ not_built_line line)
-IsDueOfLoad number _ text = ⊥
 
 -- The sink has taken the summary of the script of a number.
 pub record WritesSummary (number : ℕ) (held held' : Option (List ℕ)) : Type 0 where
@@ -240,19 +204,17 @@ Writes a held held' Words = Adds words_line held held'
 Writes a held held' ReadFault = Adds read_line held held'
 Writes a held held' TooLong = Adds long_line held held'
 Writes a held held' (Script line cause) = Adds (script_line line cause) held held'
-Writes a held held' (NotBuilt line) = Adds (not_built_line line) held held'
 Writes a held held' Stopped = Adds [] held held'
 Writes a held held' WriteFault = WritesFront a held held'
 Writes a held held' Memory = held' ≡ held
 
--- The status that an input has under a command where nothing fails: it is too long; or it is no script, and has a first
--- fault; or it is a script that the command leaves; or the command takes it.
-abbrev pub IsStatusOf : Command → List ℕ → Status → Type 0
-IsStatusOf command bytes TooLong = 1048576 < length bytes
-IsStatusOf command bytes (Script line cause) = (length bytes ≤ 1048576) × IsFirstFault bytes line cause
-IsStatusOf command bytes (NotBuilt line) = (length bytes ≤ 1048576) × IsLeft command bytes line
-IsStatusOf command bytes Done = (length bytes ≤ 1048576) × IsTaken command bytes
-IsStatusOf command bytes _ = ⊥
+-- The status that an input has where nothing fails: it is too long; or it is no script, and has a first fault; or it is a
+-- script.
+abbrev pub IsStatusOf : List ℕ → Status → Type 0
+IsStatusOf bytes TooLong = 1048576 < length bytes
+IsStatusOf bytes (Script line cause) = (length bytes ≤ 1048576) × IsFirstFault bytes line cause
+IsStatusOf bytes Done = (length bytes ≤ 1048576) × AreScript bytes
+IsStatusOf bytes _ = ⊥
 
 -- The status is this one, unless a write has failed or memory has run out.
 abbrev pub IsUnlessUnwritten : Status → Status → Type 0
@@ -262,15 +224,15 @@ IsUnlessUnwritten due status = (status ≡ due) ⊎ ((status ≡ WriteFault) ⊎
 abbrev pub IsUnlessFault : Status → Status → Type 0
 IsUnlessFault due status = (status ≡ due) ⊎ ((status ≡ Stopped) ⊎ IsUnlessUnwritten ReadFault status)
 
--- The status is that of the input under the command, where the source tells it, unless something has failed.
-abbrev pub Answers : Command → Option (List ℕ) → Status → Type 0
-Answers command None status = Unit {0}
-Answers command (Some left) status = (due : Status) → IsStatusOf command left due → IsUnlessFault due status
+-- The status is that of the input, where the source tells it, unless something has failed.
+abbrev pub Answers : Option (List ℕ) → Status → Type 0
+Answers None status = Unit {0}
+Answers (Some left) status = (due : Status) → IsStatusOf left due → IsUnlessFault due status
 
--- The source tells at most 1,048,576 bytes that the command takes.
-abbrev pub IsAccepted : Command → Option (List ℕ) → Type 0
-IsAccepted command None = ⊥
-IsAccepted command (Some left) = (length left ≤ 1048576) × IsTaken command left
+-- The source tells at most 1,048,576 bytes, which are a script.
+abbrev pub IsAccepted : Option (List ℕ) → Type 0
+IsAccepted None = ⊥
+IsAccepted (Some left) = (length left ≤ 1048576) × AreScript left
 
 -- The text is written and the status stands, or the sink has failed and holds the text's front.
 abbrev pub Finishes : Status → List ℕ → ℕ → ℕ → Option (List ℕ) → Option (List ℕ) → Status → Type 0
@@ -286,5 +248,4 @@ status_number ReadFault = 4
 status_number WriteFault = 5
 status_number Memory = 6
 status_number TooLong = 7
-status_number (NotBuilt line) = 8
 status_number Stopped = 9

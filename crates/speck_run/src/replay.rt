@@ -11,8 +11,8 @@ use std::alloc::Global;
 use table_report::report;
 
 /// Takes the items of the order, then runs each core out, and answers the text of the trace that this makes: its reply
-/// lines, then its tables. There is a list for each core, each of fewer than 2^32 calls that are carried out and within
-/// their limits; only want of memory is refused.
+/// lines, then its tables. There is a list for each core, each of fewer than 2^32 calls that are within their limits;
+/// only want of memory is refused.
 pub fn replay(
     alloc: Global,
     setup: &Setup,

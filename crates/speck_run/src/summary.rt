@@ -6,7 +6,7 @@ ghost use Rattle.speck_run.specs.Summary.{GivenSummary, IsSummedUp};
 use crate::orders::{follow, run_rest};
 use load_summary::{push_counts, push_total};
 use lone_kernel::LoneKernel;
-use script_reader::{Cause, ReadFault, Script, first_unbuilt, read};
+use script_reader::{Cause, ReadFault, Script, read};
 use spk_nums::{Call, Item, Memory, Setup};
 use std::alloc::Global;
 use table_report::total;
@@ -18,14 +18,12 @@ pub enum Summed {
     Done { text: String },
     /// It is no script, and this is its first fault.
     NoScript { line: u32, cause: Cause },
-    /// It is a script with a call that is not supported today; this is the line of the first.
-    Left { line: u32 },
 }
 
 // Takes the items of the order, then runs each core out, and answers the summary of the trace that this makes: how often
 // each reply came, how many calls there were, and the total of the budgets and the ticks spent, as the final words and the
-// cores show it. There is a list for each core, each of fewer than 2^32 calls that are carried out and within their limits;
-// only want of memory is refused.
+// cores show it. There is a list for each core, each of fewer than 2^32 calls that are within their limits; only want of
+// memory is refused.
 fn summarize(
     alloc: Global,
     setup: &Setup,
@@ -60,14 +58,10 @@ pub fn sum_up(alloc: Global, bytes: &[u8]) -> Result<Summed, Memory>
         Err(ReadFault::Memory) => return Err(Memory),
         Err(ReadFault::Script { line, cause }) => return Ok(Summed::NoScript { line, cause }),
     };
-    if let Some(line) = first_unbuilt(&script.tokens) {
-        return Ok(Summed::Left { line });
-    }
     let Script {
         setup,
         lists,
         order,
-        ..
     } = script;
     let text = summarize(alloc, &setup, lists, &order)?;
     Ok(Summed::Done { text })

@@ -12,7 +12,7 @@ ghost use Rattle.load_maker.specs.Loads.{load_text};
 ghost use Rattle.speck_run.specs.declared.words.Command.{Command};
 ghost use Rattle.speck_run.specs.declared.words.Command.TheVariants as commands;
 ghost use Rattle.whole_ends.specs.Ends.{Gives, GivesAll, GivesAtMost};
-ghost use Rattle.speck_run.specs.Top.{Asks, AsksMake, AsksLoad, IsCommand, IsMake, IsLoad, IsUnderstood, IsDue, IsDueOf, IsDueOfLoad, IsStatusOfLoad, InputFaults, InputLeft, LeavesLoad, InputRuns, IsRunOf, CarriesOut, WritesSummary, Writes, Answers, IsUnlessUnwritten, IsAccepted, Finishes, script_line, not_built_line, status_number};
+ghost use Rattle.speck_run.specs.Top.{Asks, AsksMake, AsksLoad, IsCommand, IsMake, IsLoad, IsUnderstood, IsDue, IsDueOf, IsSummary, InputFaults, InputRuns, IsRunOf, CarriesOut, WritesSummary, Writes, Answers, IsUnlessUnwritten, IsAccepted, Finishes, script_line, status_number};
 
 use crate::replay::replay;
 use crate::runs::run_lists;
@@ -23,7 +23,7 @@ use core_kernel::Gate;
 use load_maker::load_script;
 use plain_run::plain;
 use script_printer::print;
-use script_reader::{Cause, ReadFault, Script, first_unbuilt, read};
+use script_reader::{Cause, ReadFault, Script, read};
 use spk_nums::Memory;
 use std::alloc::Global;
 use std::thread::Threads;
@@ -46,8 +46,6 @@ pub enum Status {
     Memory,
     /// The source gave more than 1,048,576 bytes.
     TooLong,
-    /// The input of `replay` or `run` is a script with a call that is not supported; this is the line of the first.
-    NotBuilt { line: u32 },
     /// The gate has stopped a core of a `run`.
     Stopped,
 }
@@ -65,7 +63,6 @@ impl Status {
             Status::WriteFault => 5,
             Status::Memory => 6,
             Status::TooLong => 7,
-            Status::NotBuilt { .. } => 8,
             Status::Stopped => 9,
         }
     }
@@ -95,18 +92,6 @@ fn refuse(alloc: Global, line: u32, cause: Cause) -> Result<Answer, Memory>
     let text = format!(in alloc; "line {line}: {cause}\n")?;
     Ok(Answer {
         status: Status::Script { line, cause },
-        text,
-    })
-}
-
-// The answer to a script whose first line that is not supported is this.
-fn leave(alloc: Global, line: u32) -> Result<Answer, Memory>
-    ensures status { IfOk result (λ answer. answer.status ≡ Status.NotBuilt line) }
-    ensures text { IfOk result (λ answer. string_bytes answer.text ≡ not_built_line line) }
-{
-    let text = format!(in alloc; "line {line}: not built yet\n")?;
-    Ok(Answer {
-        status: Status::NotBuilt { line },
         text,
     })
 }
@@ -143,8 +128,7 @@ fn answer_run<R: Threads + Sync, G: Gate>(
     }
 }
 
-// What is due for an input that was read to its end. A script is printed, and its calls are made
-// alone, whatever its lines say.
+// What is due for an input that was read to its end.
 fn judge_input<R: Threads + Sync, G: Gate>(
     rt: &R,
     alloc: Global,
@@ -169,9 +153,6 @@ fn judge_input<R: Threads + Sync, G: Gate>(
         let text = plain(alloc, &script.setup, &script.lists)?;
         return Ok(made(text));
     }
-    if let Some(line) = first_unbuilt(&script.tokens) {
-        return leave(alloc, line);
-    }
     if matches!(command, Command::Run) {
         return answer_run(rt, alloc, gate, &script);
     }
@@ -179,7 +160,6 @@ fn judge_input<R: Threads + Sync, G: Gate>(
         setup,
         lists,
         order,
-        ..
     } = script;
     let text = replay(alloc, &setup, lists, &order)?;
     Ok(made(text))
@@ -218,9 +198,10 @@ fn judge_command<R: Threads + Sync, G: Gate, S: Source>(
     }
 }
 
-// What is due for the summary of the script of a number. A script that has a call that is not supported today is left.
+// The answer that is the summary of the script of a number.
 fn answer_load(alloc: Global, number: u32) -> Result<Answer, Memory>
-    ensures { IfOk result (λ answer. IsDueOfLoad number answer.status (string_bytes answer.text)) }
+    ensures status { IfOk result (λ answer. answer.status ≡ Status.Done) }
+    ensures text { IfOk result (λ answer. IsSummary number (string_bytes answer.text)) }
 {
     let script = load_script(alloc, number)?;
     // A made script is far shorter than an input may be, so memory has run out before it is not.
@@ -229,7 +210,6 @@ fn answer_load(alloc: Global, number: u32) -> Result<Answer, Memory>
     }
     match sum_up(alloc, script.as_bytes())? {
         Summed::Done { text } => Ok(made(text)),
-        Summed::Left { line } => leave(alloc, line),
         Summed::NoScript { line: _, cause: _ } => unreachable!(),
     }
 }
@@ -282,12 +262,11 @@ fn finish<K: Sink>(sink: &mut K, answer: &Answer) -> Status
 /// Words other than `replay`, `run`, `plain` or `print` alone, and `make` and `load` with a number
 /// from 0 to 4,294,967,295, are `Words`, and nothing is read. Under `make` and `load` nothing is read
 /// either, and the status is `Done`: `make` writes the text of the number's script, and `load` takes
-/// the steps of that script as `replay` does and writes their summary, or leaves it as `replay` does.
+/// the steps of that script as `replay` does and writes their summary.
 /// A source that fails is `ReadFault`, and one that gives a byte past 1,048,576 is `TooLong`; no more
 /// than that byte is taken. An input that is no script is `Script`, with its first fault. Under
-/// `replay` and `run` a script that has a call that is not supported is `NotBuilt`, at the line of the
-/// first such call; else the script's steps are taken and their text is written, the reply lines
-/// and the tables, and the status is `Done`. `run` makes each core's calls in a thread of its own
+/// `replay` and `run` the script's steps are taken and their text is written, the reply lines and
+/// the tables, and the status is `Done`. `run` makes each core's calls in a thread of its own
 /// where one can be made, and asks the gate before each call: where the gate stops a core, which a
 /// free one never does, the status is `Stopped` and nothing is written. Under `plain` the calls of
 /// each script are made alone, core 0's first, whatever its order says; their text is written, the
@@ -306,16 +285,16 @@ pub fn speck<R: Threads + Sync, G: Gate, S: Source, K: Sink>(
 ) -> Status
     // What each command has written where it is done.
     ensures replay { Asks words.now commands.Replay → result ≡ Status.Done
-        → CarriesOut commands.Replay (λ script text. GivenSteps script.setup script.lists script.order text)
+        → CarriesOut (λ script text. GivenSteps script.setup script.lists script.order text)
         (S.left source.old) (S.left source.new) (K.held sink.old) (K.held sink.new) }
     ensures run { Asks words.now commands.Run → result ≡ Status.Done
-        → CarriesOut commands.Run (λ script text. TakenSteps script.setup script.lists text)
+        → CarriesOut (λ script text. TakenSteps script.setup script.lists text)
         (S.left source.old) (S.left source.new) (K.held sink.old) (K.held sink.new) }
     ensures plain { Asks words.now commands.Plain → result ≡ Status.Done
-        → CarriesOut commands.Plain (λ script text. text ≡ plain_text script.setup (list_of script.lists))
+        → CarriesOut (λ script text. text ≡ plain_text script.setup (list_of script.lists))
         (S.left source.old) (S.left source.new) (K.held sink.old) (K.held sink.new) }
     ensures print { Asks words.now commands.Print → result ≡ Status.Done
-        → CarriesOut commands.Print (λ script text. text ≡ printed script)
+        → CarriesOut (λ script text. text ≡ printed script)
         (S.left source.old) (S.left source.new) (K.held sink.old) (K.held sink.new) }
     ensures make { (number : ℕ) → AsksMake words.now number → result ≡ Status.Done
         → Adds (load_text number) (K.held sink.old) (K.held sink.new) }
@@ -327,16 +306,13 @@ pub fn speck<R: Threads + Sync, G: Gate, S: Source, K: Sink>(
     ensures words { result ≡ Status.Words → IsUnderstood words.now → ⊥ }
     ensures other_words { (IsUnderstood words.now → ⊥) → IsUnlessUnwritten Status.Words result }
     ensures made { (number : ℕ) → AsksMake words.now number → IsUnlessUnwritten Status.Done result }
-    ensures loaded { (number : ℕ) (due : Status) → AsksLoad words.now number → IsStatusOfLoad number due
-        → IsUnlessUnwritten due result }
+    ensures loaded { (number : ℕ) → AsksLoad words.now number → IsUnlessUnwritten Status.Done result }
     ensures unread { (IsCommand words.now → ⊥) → source.new ≡ source.old }
 
     // Then reading, then the script.
-    ensures answers { (command : Command) → Asks words.now command → Answers command (S.left source.old) result }
+    ensures answers { IsCommand words.now → Answers (S.left source.old) result }
     ensures script { (line : ℕ) (cause : Cause) → result ≡ Status.Script line cause
         → IsCommand words.now × InputFaults (S.left source.old) (S.left source.new) line cause }
-    ensures not_built { (line : ℕ) → result ≡ Status.NotBuilt line
-        → InputLeft words.now (S.left source.old) (S.left source.new) line ⊎ LeavesLoad words.now line }
     // A run is stopped by a gate that is not free alone.
     ensures stopped { result ≡ Status.Stopped
         → InputRuns words.now (S.left source.old) (S.left source.new) × (G.is_free gate.now ≡ true → ⊥) }
@@ -364,7 +340,7 @@ pub fn speck<R: Threads + Sync, G: Gate, S: Source, K: Sink>(
     ensures failed_write { K.faults sink.old < K.faults sink.new → result ≡ Status.WriteFault }
     ensures sure_sink { ((k : K) → K.faults k ≡ 0) → result ≡ Status.WriteFault → ⊥ }
     ensures complete { (command : Command) → Asks words.now command
-        → IsAccepted command (S.left source.old)
+        → IsAccepted (S.left source.old)
         → (command ≡ commands.Run → G.is_free gate.now ≡ true)
         → (HasRisen (S.faults source.old) (S.faults source.new) → ⊥)
         → (HasRisen (K.faults sink.old) (K.faults sink.new) → ⊥)

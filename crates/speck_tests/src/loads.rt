@@ -161,22 +161,17 @@ fn summary_of(alloc: Global, text: &str) -> Result<String, Fail> {
     Ok(summary)
 }
 
-// While some call of the script is not supported, `load` and `replay` answer the same.
 #[test]
 fn a_load_sums_up_what_replay_writes(rt: HostRuntime) -> Result<(), Fail> {
     let alloc = rt.alloc();
     for number in ["1", "5"] {
         let (_, script) = written(&rt, alloc, &["make", number], b"", &[])?;
         let (status, text) = written(&rt, alloc, &["replay"], &script, &[])?;
-        let (same, summary) = written(&rt, alloc, &["load", number], b"", &[1])?;
-        assert!(rt; same == status, "{number}");
-        if status == Status::Done {
-            let text = from_utf8(&text).unwrap_or("");
-            let wanted = summary_of(alloc, text)?;
-            assert!(rt; summary.as_slice() == wanted.as_bytes(), "{number}");
-        } else {
-            assert!(rt; summary.as_slice() == text.as_slice(), "{number}");
-        }
+        let (loaded, summary) = written(&rt, alloc, &["load", number], b"", &[1])?;
+        assert!(rt; status == Status::Done && loaded == Status::Done, "{number}");
+        let text = from_utf8(&text).unwrap_or("");
+        let wanted = summary_of(alloc, text)?;
+        assert!(rt; summary.as_slice() == wanted.as_bytes(), "{number}");
     }
     Ok(())
 }

@@ -2,7 +2,6 @@ use spk_nums::{
     Call, CapId, CoreNo, CoreSet, FrameArg, Grant, Grants, Make, Qualities, Setup, Translations,
     in_limits,
 };
-use supported_calls::is_built;
 
 fn granted(cores: u8) -> Grants {
     let mut grants = Grants::empty();
@@ -72,19 +71,4 @@ fn calls_know_their_limits(rt: HostRuntime) {
     assert!(rt; !in_limits(&make));
     assert!(rt; in_limits(&Call::Tick { n: 1_000_000 }));
     assert!(rt; !in_limits(&Call::Tick { n: 1_000_001 }));
-    assert!(rt; is_built(&Call::Look { a: CapId::new(63) }));
-    assert!(rt;
-        is_built(&Call::Look {
-            a: CapId::new(65_535)
-        })
-    );
-    assert!(rt;
-        is_built(&Call::Remove {
-            t: id,
-            b: CapId::new(65_535)
-        })
-    );
-    assert!(rt; is_built(&Call::Ret));
-    assert!(rt; is_built(&Call::Switch { h: id, q: id }));
-    assert!(rt; !is_built(&Call::Delegate { a: id, b: id, m: 5 }));
 }

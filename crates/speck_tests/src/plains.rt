@@ -1,4 +1,4 @@
-//! The top call under `plain`: calls of one core, and of one core after another.
+//! The top call under `plain` and `replay`: calls of one core, and of one core after another.
 //!
 //! A row is a call with its reply. The reply lines of all rows must come first, in order, and then the tables.
 
@@ -29,10 +29,15 @@ fn add_core(
     Ok(())
 }
 
-// What `plain` writes of a script; none where it is not done.
-fn plain_of<R: Threads + Sync>(rt: &R, alloc: Global, script: &str) -> Result<Vec<u8>, Fail> {
+// What a command writes of a script; none where it is not done.
+fn text_of<R: Threads + Sync>(
+    rt: &R,
+    alloc: Global,
+    command: &str,
+    script: &str,
+) -> Result<Vec<u8>, Fail> {
     let mut words = Vec::new(alloc);
-    let word = String::from_str(alloc, "plain")?;
+    let word = String::from_str(alloc, command)?;
     words.push(word)?;
     let bytes = Vec::from_slice(alloc, script.as_bytes())?;
     let none = Vec::new(alloc);
@@ -54,8 +59,8 @@ fn has(bytes: &[u8], piece: &str) -> bool {
         .any(|x| x == piece.as_bytes())
 }
 
-// Whether the calls of the cores, core 0's first, are answered so after the head of a script; the tables then begin with the
-// root of the table, have these pieces, and end so.
+// Whether the calls of the cores, core 0's first, are answered so after the head of a script, under `plain` and under `replay`;
+// the tables then begin with the root of the table, have these pieces, and end so.
 fn is_answered<R: Threads + Sync>(
     rt: &R,
     alloc: Global,
@@ -70,13 +75,14 @@ fn is_answered<R: Threads + Sync>(
         add_core(&mut script, &mut text, core, rows)?;
     }
     text.push_str("frame 0 table refs 2\n  0 link 1\n")?;
-    let bytes = plain_of(rt, alloc, &script)?;
-    for piece in pieces {
-        if !has(&bytes, piece) {
+    for command in ["plain", "replay"] {
+        let bytes = text_of(rt, alloc, command, &script)?;
+        let is_whole = bytes.starts_with(text.as_bytes()) && bytes.ends_with(last.as_bytes());
+        if !is_whole || !pieces.iter().all(|piece| has(&bytes, piece)) {
             return Ok(false);
         }
     }
-    Ok(bytes.starts_with(text.as_bytes()) && bytes.ends_with(last.as_bytes()))
+    Ok(true)
 }
 
 #[test]

@@ -47,24 +47,6 @@ const COPIES: &str = "core 0\ncopy 0 1 20\ncore 1\ncopy 0 1 20\n";
 
 const COPIED: &str = "  20 range 8 24\n";
 
-// Whether the script of these lines is told that this line is the first that is not supported.
-fn is_not_built<R: Threads + Sync>(
-    rt: &R,
-    alloc: Global,
-    lines: &str,
-    line: u32,
-) -> Result<bool, Fail> {
-    let text = format!(in alloc; "line {line}: not built yet\n")?;
-    replays(
-        rt,
-        alloc,
-        lines,
-        &AMPLE,
-        Status::NotBuilt { line },
-        text.as_str(),
-    )
-}
-
 // Whether these bytes are told that they are no script, with this first fault.
 fn is_refused<R: Threads + Sync>(
     rt: &R,
@@ -348,35 +330,6 @@ fn spaces_and_comments_are_passed_over(rt: HostRuntime) -> Result<(), Fail> {
 }
 
 #[test]
-fn the_first_line_that_is_not_built_is_told(rt: HostRuntime) -> Result<(), Fail> {
-    let rows = [
-        ("core 0\ndelegate 12 13 5\n", 7),
-        (
-            "core 0\nlook 64\ncopy 0 2 64\nlook 65535\ndelegate 12 13 5\n",
-            10,
-        ),
-        (
-            "core 1\nlook 0\n\ncore 0\nremove 1 20\ndelegate 12 13 5\n",
-            11,
-        ),
-        ("core 0\ndelegate 12 13 5\norder\n0\n", 7),
-        (
-            "core 0\nmake table 0 8 1 20\nmake leaf 0 8 1 20\nmake pages 0 8 1 20\nmake pleaf 0 8 1 20\nmake thread 0 8 1 20 3\nmake tcap 0 8 1 20 0 5\ndelegate 12 13 5\n",
-            13,
-        ),
-        ("core 0\nmake comp 0 8 1 21 1 2 7\ndelegate 12 13 5\n", 8),
-        ("calls 4194304\nepochs 1\ncore 0\ndelegate 12 13 5\n", 9),
-    ];
-    for (lines, line) in rows {
-        assert!(rt;
-            is_not_built(&rt, rt.alloc(), lines, line)?,
-            "at line {line}"
-        );
-    }
-    Ok(())
-}
-
-#[test]
 fn the_first_fault_of_a_script_is_told(rt: HostRuntime) -> Result<(), Fail> {
     let alloc = rt.alloc();
     let rows = [
@@ -402,7 +355,6 @@ fn the_first_fault_of_a_script_is_told(rt: HostRuntime) -> Result<(), Fail> {
 #[test]
 fn a_fault_of_a_call_is_told_at_its_line(rt: HostRuntime) -> Result<(), Fail> {
     let alloc = rt.alloc();
-    // A call that is not supported stands before each fault: the fault is told all the same.
     let rows = [
         ("look", 7, Cause::S3, "S3 missing word"),
         ("look x", 7, Cause::S1, "S1 bad number"),
@@ -439,8 +391,8 @@ fn a_foreign_byte_and_one_line_too_many_are_told(rt: HostRuntime) -> Result<(), 
     Ok(())
 }
 
-// Lines in their printed form, with calls that are not supported.
-const UNBUILT: &str =
+// Lines in their printed form.
+const PRINTED: &str =
     "calls 2\nepochs 1\ncore 1\nmake tcap 65535 8 1 65535 63 16777215\ntransfer 12 13 4000000000\norder\n0< 1! 0. 1\n";
 
 #[test]
@@ -453,7 +405,7 @@ fn scripts_are_printed_in_one_form(rt: HostRuntime) -> Result<(), Fail> {
             "core 0\nlook 007\n",
             "calls 4194304\nepochs 65535\ncore 0\nlook 7\n",
         ),
-        (UNBUILT, UNBUILT),
+        (PRINTED, PRINTED),
     ];
     for (lines, printed) in rows {
         let input = format!(in alloc; "{MACHINE}{lines}")?;

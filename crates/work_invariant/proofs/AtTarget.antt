@@ -9,12 +9,11 @@ use Rattle.spk_nums.specs.declared.kinds.FrameKind.TheVariants as frame_kind
 use Rattle.spk_nums.specs.declared.kinds.Kind.{Kind}
 use Rattle.spk_nums.specs.declared.kinds.Kind.TheVariants as kind
 use Rattle.spk_nums.specs.declared.calls.Call.{Call}
-use Rattle.spk_nums.specs.declared.calls.Call.TheVariants.{Look as look_call, Copy, Remove, Shrink, Unmap, Retype, Make as make_call, Tick, Gate, Kill, Grow, Flush, Map, Touch, Call as call_gate, Ret, Transfer, Test, Switch}
+use Rattle.spk_nums.specs.declared.calls.Call.TheVariants.{Look as look_call, Copy, Remove, Shrink, Unmap, Retype, Make as make_call, Tick, Gate, Kill, Grow, Flush, Map, Touch, Call as call_gate, Ret, Transfer, Delegate, Test, Switch}
 use Rattle.spk_nums.specs.declared.calls.Make.{Make}
 use Rattle.spk_nums.specs.declared.calls.Make.TheVariants as make
 use Rattle.spk_nums.specs.CallLimits.{InLimits}
 use Rattle.spk_nums.specs.declared.kinds.PageFlags.{PageFlags}
-use Rattle.supported_calls.specs.Built.{IsBuilt}
 use Rattle.entry_words.specs.EntryWord.{EntryFits, entry_of_word}
 use Rattle.entry_words.specs.declared.entry.Entry.TheVariants as entry
 use Rattle.kernel_rules.specs.State.{State}
@@ -270,7 +269,7 @@ gate_of s c comp read has fits = record {
 link_fits : (leaf : Capability) → EntryFits (entry.Held leaf) → EntryFits (entry.Held (plain_cap kind.Link leaf.frame))
 link_fits leaf fits = (fits.0, omega arith, omega arith)
 
-pub begins_free : (own : Own) (call : Call) → IsBuilt call → InLimits call → own.layout.frames ≤ 512 → (spot : Spot)
+pub begins_free : (own : Own) (call : Call) → InLimits call → own.layout.frames ≤ 512 → (spot : Spot)
     → (plan_for call).target ≡ Free spot
     → (s : State) (plan : Plan) (ks : List Capability) (read : Option ℕ) (c : ℕ) → own.core ≡ c
     → names_after (plan_for call).names ks ≡ [] → Leads (LeadsIn s c) (plan_for call).names [] ks
@@ -279,115 +278,118 @@ pub begins_free : (own : Own) (call : Call) → IsBuilt call → InLimits call �
     → f < own.layout.frames)
     → ReadIs s c (reads_of call ks) read
     → (at : Found) → Begins own call plan ks read c at
-begins_free own (look_call a) built limits small spot to s plan ks read c core none leads fits within reads at = absurd (not_free to)
+begins_free own (look_call a) limits small spot to s plan ks read c core none leads fits within reads at = absurd (not_free to)
   where
     not_free : Nowhere ≡ Free spot → ⊥
     not_free h = cc
-begins_free own (Copy a u b) built limits small spot to s plan [] read c core none leads fits within reads at = absurd (not_none none)
+begins_free own (Copy a u b) limits small spot to s plan [] read c core none leads fits within reads at = absurd (not_none none)
   where
     not_none : any_cap a ∷ of_kind kind.Table u ∷ [] ≡ [] → ⊥
     not_none h = cc
-begins_free own (Copy a u b) built limits small spot to s plan (k ∷ ks) read c core none leads fits within reads at =
+begins_free own (Copy a u b) limits small spot to s plan (k ∷ ks) read c core none leads fits within reads at =
     begins_fill own plan read c core at (Copy a u b) (k ∷ ks) k refl (fits First k refl) refl (λ setup t. tt)
-begins_free own (Grow u i l) built limits small spot to s plan [] read c core none leads fits within reads at = absurd (not_none none)
+begins_free own (Grow u i l) limits small spot to s plan [] read c core none leads fits within reads at = absurd (not_none none)
   where
     not_none : a_root u ∷ a_leaf l ∷ [] ≡ [] → ⊥
     not_none h = cc
-begins_free own (Grow u i l) built limits small spot to s plan (k ∷ []) read c core none leads fits within reads at = absurd (not_none none)
+begins_free own (Grow u i l) limits small spot to s plan (k ∷ []) read c core none leads fits within reads at = absurd (not_none none)
   where
     not_none : a_leaf l ∷ [] ≡ [] → ⊥
     not_none h = cc
-begins_free own (Grow u i l) built limits small spot to s plan (k ∷ j ∷ ks) read c core none leads fits within reads at =
+begins_free own (Grow u i l) limits small spot to s plan (k ∷ j ∷ ks) read c core none leads fits within reads at =
     begins_fill own plan read c core at (Grow u i l) (k ∷ j ∷ ks) (plain_cap kind.Link j.frame) refl
     (link_fits j (fits Second j refl)) refl (λ setup t. tt)
-begins_free own (Map p v r f w) built limits small spot to s plan [] read c core none leads fits within reads at = absurd (not_none none)
+begins_free own (Map p v r f w) limits small spot to s plan [] read c core none leads fits within reads at = absurd (not_none none)
   where
     not_none : of_kind kind.Pages p ∷ of_kind kind.Range r ∷ [] ≡ [] → ⊥
     not_none h = cc
-begins_free own (Map p v r f w) built limits small spot to s plan (k ∷ []) read c core none leads fits within reads at = absurd (not_none none)
+begins_free own (Map p v r f w) limits small spot to s plan (k ∷ []) read c core none leads fits within reads at = absurd (not_none none)
   where
     not_none : of_kind kind.Range r ∷ [] ≡ [] → ⊥
     not_none h = cc
-begins_free own (Map p v r f w) built limits small spot to s plan (k ∷ j ∷ ks) read c core none leads fits within reads at =
+begins_free own (Map p v r f w) limits small spot to s plan (k ∷ j ∷ ks) read c core none leads fits within reads at =
     begins_map own plan read c core at p v r f w k j ks limits small (within r f j leads.1.0)
-begins_free own (Remove u b) built limits small spot to s plan ks read c core none leads fits within reads at = absurd (not_free to)
+begins_free own (Remove u b) limits small spot to s plan ks read c core none leads fits within reads at = absurd (not_free to)
   where
     not_free : Held (spot_of.Under First b) ≡ Free spot → ⊥
     not_free h = cc
-begins_free own (Shrink u i) built limits small spot to s plan ks read c core none leads fits within reads at = absurd (not_free to)
+begins_free own (Shrink u i) limits small spot to s plan ks read c core none leads fits within reads at = absurd (not_free to)
   where
     not_free : Held (spot_of.InRoot First i) ≡ Free spot → ⊥
     not_free h = cc
-begins_free own (Unmap p v) built limits small spot to s plan ks read c core none leads fits within reads at = absurd (not_free to)
+begins_free own (Unmap p v) limits small spot to s plan ks read c core none leads fits within reads at = absurd (not_free to)
   where
     not_free : Held (spot_of.Under First v) ≡ Free spot → ⊥
     not_free h = cc
-begins_free own (Retype r f frame_kind.Untyped) built limits small spot to s plan ks read c core none leads fits within reads at = absurd
+begins_free own (Retype r f frame_kind.Untyped) limits small spot to s plan ks read c core none leads fits within reads at = absurd
     (not_target to)
   where
     not_target : Nowhere ≡ Free spot → ⊥
     not_target h = cc
-begins_free own (Retype r f frame_kind.User) built limits small spot to s plan ks read c core none leads fits within reads at = absurd (not_target to)
+begins_free own (Retype r f frame_kind.User) limits small spot to s plan ks read c core none leads fits within reads at = absurd (not_target to)
   where
     not_target : Nowhere ≡ Free spot → ⊥
     not_target h = cc
-begins_free own (Retype r f frame_kind.Kernel) built limits small spot to s plan ks read c core none leads fits within reads at = absurd
+begins_free own (Retype r f frame_kind.Kernel) limits small spot to s plan ks read c core none leads fits within reads at = absurd
     (not_target to)
   where
     not_target : Nowhere ≡ Free spot → ⊥
     not_target h = cc
-begins_free own (make_call (make.Comp x p live) r f u b) built limits small spot to s plan ks read c core none leads fits within reads at =
+begins_free own (make_call (make.Comp x p live) r f u b) limits small spot to s plan ks read c core none leads fits within reads at =
     let of : IsCompMake s c r f u b x p live ks = comp_make s c r f u b x p live ks leads none in
     subst (λ ks. Begins own (make_call (make.Comp x p live) r f u b) plan ks read c at) (sym of.found_is)
     (begins_comp own plan read c core at x p live r f u b of.range of.second of.table of.pages (within r f of.range of.first))
-begins_free own (make_call what r f u b) built limits small spot to s plan ks read c core none leads fits within reads at =
-    made_of what built r f u b ks none (Begins own (make_call what r f u b) plan ks read c at) (λ object is.
+begins_free own (make_call what r f u b) limits small spot to s plan ks read c core none leads fits within reads at =
+    made_of what tt r f u b ks none (Begins own (make_call what r f u b) plan ks read c at) (λ object is.
     let two : TwoFound s c r u ks = (object_make s c r f u b what object ks is leads none).two in
     subst (λ ks. Begins own (make_call what r f u b) plan ks read c at) (sym two.found_is)
     (begins_make own plan read c core at what r f u b object two.range (two.table ∷ two.rest)
     (subst (λ ks. object_made what ks ≡ Some object) two.found_is is) (within r f two.range two.first)))
-begins_free own (Touch v) built limits small spot to s plan ks read c core none leads fits within reads at = absurd (not_target to)
+begins_free own (Touch v) limits small spot to s plan ks read c core none leads fits within reads at = absurd (not_target to)
   where
     not_target : own_page v ≡ Free spot → ⊥
     not_target h = cc
-begins_free own Flush built limits small spot to s plan ks read c core none leads fits within reads at = absurd (not_target to)
+begins_free own Flush limits small spot to s plan ks read c core none leads fits within reads at = absurd (not_target to)
   where
     not_target : Nowhere ≡ Free spot → ⊥
     not_target h = cc
-begins_free own (Tick n) built limits small spot to s plan ks read c core none leads fits within reads at = absurd (not_target to)
+begins_free own (Tick n) limits small spot to s plan ks read c core none leads fits within reads at = absurd (not_target to)
   where
     not_target : Nowhere ≡ Free spot → ⊥
     not_target h = cc
-begins_free own (Gate n u b) built limits small spot to s plan [] read c core none leads fits within reads at = absurd (not_none none)
+begins_free own (Gate n u b) limits small spot to s plan [] read c core none leads fits within reads at = absurd (not_none none)
   where
     not_none : of_kind kind.Comp n ∷ of_kind kind.Table u ∷ [] ≡ [] → ⊥
     not_none h = cc
-begins_free own (Gate n u b) built limits small spot to s plan (k ∷ ks) read c core none leads fits within reads at =
+begins_free own (Gate n u b) limits small spot to s plan (k ∷ ks) read c core none leads fits within reads at =
     let gate : GateOf k read = gate_of s c k read reads (fits First k refl) in
     begins_fill own plan read c core at (Gate n u b) (k ∷ ks) gate.cap (ap (λ o. fills_with own o false (Some at)) gate.is) gate.fits gate.is
     (λ setup t. tt)
-begins_free own (Kill n) built limits small spot to s plan ks read c core none leads fits within reads at = absurd (not_target to)
+begins_free own (Kill n) limits small spot to s plan ks read c core none leads fits within reads at = absurd (not_target to)
   where
     not_target : Nowhere ≡ Free spot → ⊥
     not_target h = cc
-begins_free own (call_gate n) built limits small spot to s plan ks read c core none leads fits within reads at = absurd (not_target to)
+begins_free own (call_gate n) limits small spot to s plan ks read c core none leads fits within reads at = absurd (not_target to)
   where
     not_target : Nowhere ≡ Free spot → ⊥
     not_target h = cc
-begins_free own Ret built limits small spot to s plan ks read c core none leads fits within reads at = absurd (not_target to)
+begins_free own Ret limits small spot to s plan ks read c core none leads fits within reads at = absurd (not_target to)
   where
     not_target : Nowhere ≡ Free spot → ⊥
     not_target h = cc
-begins_free own (Transfer x y m) built limits small spot to s plan ks read c core none leads fits within reads at = absurd (not_target to)
+begins_free own (Transfer x y m) limits small spot to s plan ks read c core none leads fits within reads at = absurd (not_target to)
   where
     not_target : Nowhere ≡ Free spot → ⊥
     not_target h = cc
-begins_free own (Test x y) built limits small spot to s plan ks read c core none leads fits within reads at = absurd (not_target to)
+begins_free own (Delegate x y m) limits small spot to s plan ks read c core none leads fits within reads at = absurd (not_target to)
   where
     not_target : Nowhere ≡ Free spot → ⊥
     not_target h = cc
-begins_free own (Switch x y) built limits small spot to s plan ks read c core none leads fits within reads at = absurd (not_target to)
+begins_free own (Test x y) limits small spot to s plan ks read c core none leads fits within reads at = absurd (not_target to)
   where
     not_target : Nowhere ≡ Free spot → ⊥
     not_target h = cc
-begins_free own call built limits small spot to s plan ks read c core none leads fits within reads at = absurd built
+begins_free own (Switch x y) limits small spot to s plan ks read c core none leads fits within reads at = absurd (not_target to)
+  where
+    not_target : Nowhere ≡ Free spot → ⊥
+    not_target h = cc

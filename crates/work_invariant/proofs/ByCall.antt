@@ -3,11 +3,10 @@ use Rattle.std.proofs.Common.{◌≡◌, ℕ, nat_le, nat_lt, ◌&&◌, Bool, tr
 use Rattle.std.proofs.lemmas.Bool.{leb-false, lt-ltb}
 use Rattle.spk_nums.specs.Capability.{Capability}
 use Rattle.spk_nums.specs.declared.calls.Call.{Call}
-use Rattle.spk_nums.specs.declared.calls.Call.TheVariants.{Look as look_call, Copy, Remove, Shrink, Unmap, Retype, Make as make_call, Tick, Gate, Kill, Grow, Flush, Map, Touch, Call as call_gate, Ret, Transfer, Test, Switch}
+use Rattle.spk_nums.specs.declared.calls.Call.TheVariants.{Look as look_call, Copy, Remove, Shrink, Unmap, Retype, Make as make_call, Tick, Gate, Kill, Grow, Flush, Map, Touch, Call as call_gate, Ret, Transfer, Delegate, Test, Switch}
 use Rattle.spk_nums.specs.declared.calls.Make.{Make}
 use Rattle.spk_nums.specs.declared.calls.Make.TheVariants as make
 use Rattle.spk_nums.specs.declared.kinds.FrameKind.TheVariants as frame_kind
-use Rattle.supported_calls.specs.Built.{IsBuilt}
 use Rattle.spk_nums.specs.declared.replies.Value.TheVariants.{Cap}
 use Rattle.spk_nums.specs.declared.replies.Reply.TheVariants as reply
 use Rattle.kernel_rules.specs.State.{State, Thing, Holds, PlaceOf}
@@ -75,32 +74,32 @@ make_target (make.Tcap sched quality) r u b = refl
 make_target (make.Comp table pages live) r u b = refl
 
 -- A call whose target is a page of its own has no names.
-pub own_unnamed : (call : Call) → IsBuilt call → (v : ℕ) → (plan_for call).target ≡ own_page v → (plan_for call).names ≡ []
-own_unnamed (look_call a) built v is = absurd (cc)
-own_unnamed (Copy a u b) built v is = absurd (cc)
-own_unnamed (Grow u i l) built v is = absurd (cc)
-own_unnamed (Remove u b) built v is = absurd (cc)
-own_unnamed (Shrink u i) built v is = absurd (cc)
-own_unnamed (Map p n r f w) built v is = absurd (cc)
-own_unnamed (Unmap p n) built v is = absurd (cc)
-own_unnamed (Retype r f frame_kind.Untyped) built v is = absurd (cc)
-own_unnamed (Retype r f frame_kind.User) built v is = absurd (cc)
-own_unnamed (Retype r f frame_kind.Kernel) built v is = absurd (cc)
-own_unnamed (make_call what r f u b) built v is = absurd (not_own (sym (make_target what r u b) ∙ is))
+pub own_unnamed : (call : Call) (v : ℕ) → (plan_for call).target ≡ own_page v → (plan_for call).names ≡ []
+own_unnamed (look_call a) v is = absurd (cc)
+own_unnamed (Copy a u b) v is = absurd (cc)
+own_unnamed (Grow u i l) v is = absurd (cc)
+own_unnamed (Remove u b) v is = absurd (cc)
+own_unnamed (Shrink u i) v is = absurd (cc)
+own_unnamed (Map p n r f w) v is = absurd (cc)
+own_unnamed (Unmap p n) v is = absurd (cc)
+own_unnamed (Retype r f frame_kind.Untyped) v is = absurd (cc)
+own_unnamed (Retype r f frame_kind.User) v is = absurd (cc)
+own_unnamed (Retype r f frame_kind.Kernel) v is = absurd (cc)
+own_unnamed (make_call what r f u b) v is = absurd (not_own (sym (make_target what r u b) ∙ is))
   where
     not_own : Free (spot_of.Under Second b) ≡ own_page v → ⊥
     not_own h = cc
-own_unnamed (Touch w) built v is = refl
-own_unnamed Flush built v is = absurd (cc)
-own_unnamed (Tick n) built v is = absurd (cc)
-own_unnamed (Gate k u b) built v is = absurd (cc)
-own_unnamed (Kill n) built v is = absurd (cc)
-own_unnamed (call_gate n) built v is = absurd (cc)
-own_unnamed Ret built v is = absurd (cc)
-own_unnamed (Transfer x y m) built v is = absurd (cc)
-own_unnamed (Test x y) built v is = absurd (cc)
-own_unnamed (Switch x y) built v is = absurd (cc)
-own_unnamed call built v is = absurd built
+own_unnamed (Touch w) v is = refl
+own_unnamed Flush v is = absurd (cc)
+own_unnamed (Tick n) v is = absurd (cc)
+own_unnamed (Gate k u b) v is = absurd (cc)
+own_unnamed (Kill n) v is = absurd (cc)
+own_unnamed (call_gate n) v is = absurd (cc)
+own_unnamed Ret v is = absurd (cc)
+own_unnamed (Transfer x y m) v is = absurd (cc)
+own_unnamed (Delegate x y m) v is = absurd (cc)
+own_unnamed (Test x y) v is = absurd (cc)
+own_unnamed (Switch x y) v is = absurd (cc)
 
 -- A target is somewhere.
 pub free_somewhere : (spot : Spot) → Free spot ≡ Nowhere → ⊥
@@ -132,84 +131,87 @@ pub record BeginsRemoval (own : Own) (call : Call) (ks : List Capability) : Type
   pub removes : removes_by call ≡ true
   pub act : (f : Found) → act_begun own call ks None (Some f) ≡ removes_at own.core (Some f)
 
-pub begins_removal : (own : Own) (call : Call) → IsBuilt call → (spot : Spot) → (plan_for call).target ≡ Held spot → (ks : List Capability)
+pub begins_removal : (own : Own) (call : Call) (spot : Spot) → (plan_for call).target ≡ Held spot → (ks : List Capability)
     → BeginsRemoval own call ks
-begins_removal own (look_call a) built spot to ks = absurd (not_held to)
+begins_removal own (look_call a) spot to ks = absurd (not_held to)
   where
     not_held : Nowhere ≡ Held spot → ⊥
     not_held h = cc
-begins_removal own (Copy a u b) built spot to ks = absurd (not_held to)
+begins_removal own (Copy a u b) spot to ks = absurd (not_held to)
   where
     not_held : Free (spot_of.Under Second b) ≡ Held spot → ⊥
     not_held h = cc
-begins_removal own (Grow u i l) built spot to ks = absurd (not_held to)
+begins_removal own (Grow u i l) spot to ks = absurd (not_held to)
   where
     not_held : Free (spot_of.InRoot First i) ≡ Held spot → ⊥
     not_held h = cc
-begins_removal own (Remove u b) built spot to ks = record { removes = refl; act = λ f. refl }
-begins_removal own (Shrink u i) built spot to ks = record { removes = refl; act = λ f. refl }
-begins_removal own (Map p v r f w) built spot to ks = absurd (not_held to)
+begins_removal own (Remove u b) spot to ks = record { removes = refl; act = λ f. refl }
+begins_removal own (Shrink u i) spot to ks = record { removes = refl; act = λ f. refl }
+begins_removal own (Map p v r f w) spot to ks = absurd (not_held to)
   where
     not_held : Free (spot_of.Under First v) ≡ Held spot → ⊥
     not_held h = cc
-begins_removal own (Unmap p v) built spot to ks = record { removes = refl; act = λ f. refl }
-begins_removal own (Retype r f frame_kind.Untyped) built spot to ks = absurd (not_target to)
+begins_removal own (Unmap p v) spot to ks = record { removes = refl; act = λ f. refl }
+begins_removal own (Retype r f frame_kind.Untyped) spot to ks = absurd (not_target to)
   where
     not_target : Nowhere ≡ Held spot → ⊥
     not_target h = cc
-begins_removal own (Retype r f frame_kind.User) built spot to ks = absurd (not_target to)
+begins_removal own (Retype r f frame_kind.User) spot to ks = absurd (not_target to)
   where
     not_target : Nowhere ≡ Held spot → ⊥
     not_target h = cc
-begins_removal own (Retype r f frame_kind.Kernel) built spot to ks = absurd (not_target to)
+begins_removal own (Retype r f frame_kind.Kernel) spot to ks = absurd (not_target to)
   where
     not_target : Nowhere ≡ Held spot → ⊥
     not_target h = cc
-begins_removal own (make_call what r f u b) built spot to ks = absurd (not_held (sym (make_target what r u b) ∙ to))
+begins_removal own (make_call what r f u b) spot to ks = absurd (not_held (sym (make_target what r u b) ∙ to))
   where
     not_held : Free (spot_of.Under Second b) ≡ Held spot → ⊥
     not_held h = cc
-begins_removal own (Touch v) built spot to ks = absurd (not_held to)
+begins_removal own (Touch v) spot to ks = absurd (not_held to)
   where
     not_held : own_page v ≡ Held spot → ⊥
     not_held h = cc
-begins_removal own Flush built spot to ks = absurd (not_held to)
+begins_removal own Flush spot to ks = absurd (not_held to)
   where
     not_held : Nowhere ≡ Held spot → ⊥
     not_held h = cc
-begins_removal own (Tick n) built spot to ks = absurd (not_held to)
+begins_removal own (Tick n) spot to ks = absurd (not_held to)
   where
     not_held : Nowhere ≡ Held spot → ⊥
     not_held h = cc
-begins_removal own (Gate k u b) built spot to ks = absurd (not_held to)
+begins_removal own (Gate k u b) spot to ks = absurd (not_held to)
   where
     not_held : Free (spot_of.Under Second b) ≡ Held spot → ⊥
     not_held h = cc
-begins_removal own (Kill n) built spot to ks = absurd (not_held to)
+begins_removal own (Kill n) spot to ks = absurd (not_held to)
   where
     not_held : Nowhere ≡ Held spot → ⊥
     not_held h = cc
-begins_removal own (call_gate n) built spot to ks = absurd (not_held to)
+begins_removal own (call_gate n) spot to ks = absurd (not_held to)
   where
     not_held : Nowhere ≡ Held spot → ⊥
     not_held h = cc
-begins_removal own Ret built spot to ks = absurd (not_held to)
+begins_removal own Ret spot to ks = absurd (not_held to)
   where
     not_held : Nowhere ≡ Held spot → ⊥
     not_held h = cc
-begins_removal own (Transfer x y m) built spot to ks = absurd (not_held to)
+begins_removal own (Transfer x y m) spot to ks = absurd (not_held to)
   where
     not_held : Nowhere ≡ Held spot → ⊥
     not_held h = cc
-begins_removal own (Test x y) built spot to ks = absurd (not_held to)
+begins_removal own (Delegate x y m) spot to ks = absurd (not_held to)
   where
     not_held : Nowhere ≡ Held spot → ⊥
     not_held h = cc
-begins_removal own (Switch x y) built spot to ks = absurd (not_held to)
+begins_removal own (Test x y) spot to ks = absurd (not_held to)
   where
     not_held : Nowhere ≡ Held spot → ⊥
     not_held h = cc
-begins_removal own call built spot to ks = absurd built
+begins_removal own (Switch x y) spot to ks = absurd (not_held to)
+  where
+    not_held : Nowhere ≡ Held spot → ⊥
+    not_held h = cc
 
 -- A look that has found its capability answers it.
 module _ (s : State) (c a : ℕ) (k : Capability) (is : named s c a any ≡ Found_it k) where

@@ -6,8 +6,7 @@ use Rattle.spk_nums.specs.Capability.{Capability}
 use Rattle.spk_nums.specs.Setting.{Setting, IsSetting}
 use Rattle.spk_nums.specs.declared.kinds.Kind.{Kind}
 use Rattle.spk_nums.specs.declared.calls.Call.{Call}
-use Rattle.spk_nums.specs.declared.calls.Call.TheVariants.{Look as look_call, Copy, Remove, Shrink, Unmap, Retype, Make as make_call, Tick, Gate, Kill, Grow, Touch, Flush, Map, Call as call_gate, Ret, Transfer, Test, Switch}
-use Rattle.supported_calls.specs.Built.{IsBuilt}
+use Rattle.spk_nums.specs.declared.calls.Call.TheVariants.{Look as look_call, Copy, Remove, Shrink, Unmap, Retype, Make as make_call, Tick, Gate, Kill, Grow, Touch, Flush, Map, Call as call_gate, Ret, Transfer, Delegate, Test, Switch}
 use Rattle.spk_nums.specs.declared.replies.Reply.{Reply}
 use Rattle.spk_nums.specs.declared.replies.Reply.TheVariants as reply
 use Rattle.entry_words.specs.declared.entry.Entry.{Entry}
@@ -56,7 +55,7 @@ use Rattle.spk_nums.specs.declared.kinds.Kind.TheVariants.{Range as range_kind, 
 use Rattle.kernel_rules.proofs.Sound.{only_is}
 use Rattle.work_invariant.proofs.AtName.{IsTypedBy, one_name, ranges_good, looked_good}
 use Rattle.live_invariant.proofs.KillStarts.{kills_good}
-use Rattle.share_invariant.proofs.ShareStarts.{transfers_good, tests_good}
+use Rattle.share_invariant.proofs.ShareStarts.{transfers_good, delegates_good, tests_good}
 use Rattle.switch_invariant.proofs.SwitchStarts.{switches_good}
 use Rattle.call_acts.specs.declared.work.WorkStep.TheVariants.{Goes}
 use Rattle.stage_pins.specs.declared.held.Acquired.{Acquired}
@@ -241,10 +240,10 @@ module _ (setup : Setting) (setting : IsSetting setup) (cores : ℕ → Core) (t
     is_named none = let h : name ∷ rest ≡ [] = sym left ∙ ap (λ (ns : List Name). names_after ns a.found) none ∙ none_after a.found in cc
 
     -- a look answers what its name has led to
-    acts_at_name : (call : Call) → a.call ≡ call → IsBuilt call → (plan_for call).target ≡ Nowhere → names_after a.plan.names more ≡ []
+    acts_at_name : (call : Call) → a.call ≡ call → (plan_for call).target ≡ Nowhere → names_after a.plan.names more ≡ []
         → GoodTook setup cores t c (LoadOf (EntryAt at.node at.index))
         (landed (found_more a more) (act_begun (cores c).own call more None None))
-    acts_at_name (look_call n) is built nowhere none =
+    acts_at_name (look_call n) is nowhere none =
         let plan_look : a.plan ≡ plan_for (look_call n) = plan_is ∙ ap plan_for is in
         let only_one = one_name a.plan.names (any_cap n) name rest a.found k.kind (ap (λ (p : Plan). p.names) plan_look) left wanted in
         let more_is : more ≡ k ∷ [] = ap (λ ks. ks ++ k ∷ []) only_one.0 in
@@ -254,22 +253,22 @@ module _ (setup : Setting) (setting : IsSetting setup) (cores : ℕ → Core) (t
         (landed (found_more a ks) (act_begun (cores c).own (look_call n) ks None None))) (sym more_is)
         (looked_good setup setting cores t stands c here a active opens held_is no_counts room at looks n
         (subst (λ (m : ℕ). Arrives setup t c (own_in table m) at) (ap (λ (x : Name). x.number) only_one.1) arrives) k named_it is)
-    acts_at_name (Copy b u v) is built nowhere none = absurd (free_somewhere (spot_of.Under Second v) nowhere)
-    acts_at_name (Grow u i l) is built nowhere none = absurd (free_somewhere (spot_of.InRoot First i) nowhere)
-    acts_at_name (Remove u v) is built nowhere none = absurd (held_somewhere (spot_of.Under First v) nowhere)
-    acts_at_name (Shrink u i) is built nowhere none = absurd (held_somewhere (spot_of.InRoot First i) nowhere)
-    acts_at_name (Map p v r f w) is built nowhere none = absurd (free_somewhere (spot_of.Under First v) nowhere)
-    acts_at_name (Unmap p v) is built nowhere none = absurd (held_somewhere (spot_of.Under First v) nowhere)
-    acts_at_name (Retype r f frame_kind.Untyped) is built nowhere none =
+    acts_at_name (Copy b u v) is nowhere none = absurd (free_somewhere (spot_of.Under Second v) nowhere)
+    acts_at_name (Grow u i l) is nowhere none = absurd (free_somewhere (spot_of.InRoot First i) nowhere)
+    acts_at_name (Remove u v) is nowhere none = absurd (held_somewhere (spot_of.Under First v) nowhere)
+    acts_at_name (Shrink u i) is nowhere none = absurd (held_somewhere (spot_of.InRoot First i) nowhere)
+    acts_at_name (Map p v r f w) is nowhere none = absurd (free_somewhere (spot_of.Under First v) nowhere)
+    acts_at_name (Unmap p v) is nowhere none = absurd (held_somewhere (spot_of.Under First v) nowhere)
+    acts_at_name (Retype r f frame_kind.Untyped) is nowhere none =
         range_at_name r f frame_kind.Untyped is refl (inr (refl, refl))
-    acts_at_name (Retype r f frame_kind.User) is built nowhere none =
+    acts_at_name (Retype r f frame_kind.User) is nowhere none =
         range_at_name r f frame_kind.User is refl (inl ((λ h. cc), refl))
-    acts_at_name (Retype r f frame_kind.Kernel) is built nowhere none =
+    acts_at_name (Retype r f frame_kind.Kernel) is nowhere none =
         range_at_name r f frame_kind.Kernel is refl (inl ((λ h. cc), refl))
-    acts_at_name (make_call what r f u b) is built nowhere none =
+    acts_at_name (make_call what r f u b) is nowhere none =
         absurd (free_somewhere (spot_of.Under Second b) (sym (make_target what r u b) ∙ nowhere))
-    acts_at_name (Gate n u b) is built nowhere none = absurd (free_somewhere (spot_of.Under Second b) nowhere)
-    acts_at_name (Kill n) is built nowhere none =
+    acts_at_name (Gate n u b) is nowhere none = absurd (free_somewhere (spot_of.Under Second b) nowhere)
+    acts_at_name (Kill n) is nowhere none =
         let plan_kill : a.plan ≡ plan_for (Kill n) = plan_is ∙ ap plan_for is in
         let only_one = one_name a.plan.names (of_kind comp_kind n) name rest a.found k.kind (ap (λ (p : Plan). p.names) plan_kill) left
         wanted in
@@ -281,7 +280,7 @@ module _ (setup : Setting) (setting : IsSetting setup) (cores : ℕ → Core) (t
         (subst (λ (ks : List Capability). Leads (LeadsIn s c) (of_kind comp_kind n ∷ []) [] ks) more_is
         (subst (λ (p : Plan). Leads (LeadsIn s c) p.names [] more) plan_kill leads_then)).0
         (λ carries. subst (λ (ks : List Capability). NamesAre setup (e ∷ t) c table a.plan ks) more_is (names_then carries)))
-    acts_at_name (call_gate n) is built nowhere none =
+    acts_at_name (call_gate n) is nowhere none =
         let plan_call : a.plan ≡ plan_for (call_gate n) = plan_is ∙ ap plan_for is in
         let only_one = one_name a.plan.names (of_kind gate_kind n) name rest a.found k.kind (ap (λ (p : Plan). p.names) plan_call) left
         wanted in
@@ -294,28 +293,29 @@ module _ (setup : Setting) (setting : IsSetting setup) (cores : ℕ → Core) (t
         (subst (λ (p : Plan). Leads (LeadsIn s c) p.names [] more) plan_call leads_then)).0
         (subst (λ (ks : List Capability). Leads (LeadsIn s c) a.plan.names [] ks) more_is leads_then)
         (λ carries. subst (λ (ks : List Capability). NamesAre setup (e ∷ t) c table a.plan ks) more_is (names_then carries)))
-    acts_at_name Ret is built nowhere none = absurd (is_named (ap (λ (p : Plan). p.names) (plan_is ∙ ap plan_for is)))
-    acts_at_name (Touch v) is built nowhere none = absurd (own_somewhere v nowhere)
-    acts_at_name Flush is built nowhere none = absurd (is_named (ap (λ (p : Plan). p.names) (plan_is ∙ ap plan_for is)))
-    acts_at_name (Tick n) is built nowhere none = absurd (is_named (ap (λ (p : Plan). p.names) (plan_is ∙ ap plan_for is)))
-    acts_at_name (Transfer x y m) is built nowhere none =
+    acts_at_name Ret is nowhere none = absurd (is_named (ap (λ (p : Plan). p.names) (plan_is ∙ ap plan_for is)))
+    acts_at_name (Touch v) is nowhere none = absurd (own_somewhere v nowhere)
+    acts_at_name Flush is nowhere none = absurd (is_named (ap (λ (p : Plan). p.names) (plan_is ∙ ap plan_for is)))
+    acts_at_name (Tick n) is nowhere none = absurd (is_named (ap (λ (p : Plan). p.names) (plan_is ∙ ap plan_for is)))
+    acts_at_name (Transfer x y m) is nowhere none =
         transfers_good setup setting cores t stands c here a active opens held_is no_counts room goes_by (LoadOf (EntryAt at.node at.index))
         looks more leads_then none names_then x y m is
-    acts_at_name (Test x y) is built nowhere none =
+    acts_at_name (Delegate x y m) is nowhere none =
+        delegates_good setup setting cores t stands c here a active opens held_is no_counts room goes_by (LoadOf (EntryAt at.node at.index))
+        looks more leads_then none names_then x y m is
+    acts_at_name (Test x y) is nowhere none =
         tests_good setup setting cores t stands c here a active opens held_is no_counts room goes_by (LoadOf (EntryAt at.node at.index))
         looks more leads_then none names_then x y is
-    acts_at_name (Switch x y) is built nowhere none =
+    acts_at_name (Switch x y) is nowhere none =
         switches_good setup setting cores t stands c here a active opens held_is no_counts (LoadOf (EntryAt at.node at.index))
         looks more leads_then none names_then x y is
-    acts_at_name call is built nowhere none = absurd built
 
     -- the name is found
     found_good : GoodTook setup cores t c (LoadOf (EntryAt at.node at.index)) (named_one (cores c).own a (Finds k))
     found_good = subst (λ ks. GoodTook setup cores t c (LoadOf (EntryAt at.node at.index))
         (landed (found_more a ks) (what_next (cores c).own (found_more a ks)))) (sym (pushed_one a.found k few))
         (next_good setup setting cores t stands c here a active opens held_is no_counts room at looks more leads_then uses_then names_then is_named
-        (λ nowhere none. acts_at_name a.call refl (is_active setup setting cores t stands c here a active).built
-        (ap (λ (p : Plan). p.target) (sym plan_is) ∙ nowhere) none))
+        (λ nowhere none. acts_at_name a.call refl (ap (λ (p : Plan). p.target) (sym plan_is) ∙ nowhere) none))
       where
         few : length a.found < 4
         few =
@@ -400,8 +400,7 @@ module _ (setup : Setting) (setting : IsSetting setup) (cores : ℕ → Core) (t
     -- the act with which the call begins at the place
     begins_with : (at : Slot) (v : Entry)
         → Begins (cores c).own a.call a.plan a.found a.read c (found_at at.node at.index (last_left setup t (EntryAt at.node at.index)) v)
-    begins_with at v = begins_free (cores c).own a.call (is_active setup setting cores t stands c here a active).built
-        (is_active setup setting cores t stands c here a active).limits
+    begins_with at v = begins_free (cores c).own a.call (is_active setup setting cores t stands c here a active).limits
         (subst (λ (n : ℕ). n ≤ 512) (sym (ap (λ x. x.frames) (stands.each c here).shape)) setting.most_frames)
         spot (ap (λ (p : Plan). p.target) (sym plan_is) ∙ to) s a.plan a.found a.read c (stands.each c here).number
         (subst (λ (p : Plan). names_after p.names a.found ≡ []) plan_is none)
@@ -583,7 +582,7 @@ module _ (setup : Setting) (setting : IsSetting setup) (cores : ℕ → Core) (t
     first_held r h = first a.found leads r (subst (λ x. NextRefused s c (own_pages s c) x r) (sym next_held) h)
 
     begins_by : BeginsRemoval (cores c).own a.call a.found
-    begins_by = begins_removal (cores c).own a.call (is_active setup setting cores t stands c here a active).built spot
+    begins_by = begins_removal (cores c).own a.call spot
         (ap (λ (p : Plan). p.target) (sym plan_is) ∙ to) a.found
 
     removes_next : (at : Slot) (arrives : Arrives setup t c held_target at) (k : Capability)

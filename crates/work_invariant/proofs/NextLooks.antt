@@ -243,7 +243,7 @@ module _ (setup : Setting) (setting : IsSetting setup) (cores : ℕ → Core) (t
   target_good named (Held spot) to none acts = held_good spot to none (next_end a.plan more (Held spot) none to)
   target_good named (own_page v) to none acts =
       absurd (named (ap (λ (p : Plan). p.names) plan_is
-      ∙ own_unnamed a.call (is_active setup setting cores t stands c here a active).built v (ap (λ (p : Plan). p.target) (sym plan_is) ∙ to)))
+      ∙ own_unnamed a.call v (ap (λ (p : Plan). p.target) (sym plan_is) ∙ to)))
 
   pub next_good : (a.plan.names ≡ [] → ⊥) → (a.plan.target ≡ Nowhere → names_after a.plan.names more ≡ []
       → GoodTook setup cores t c (LoadOf (EntryAt at.node at.index))

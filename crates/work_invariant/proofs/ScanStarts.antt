@@ -71,8 +71,7 @@ module _ (setup : Setting) (setting : IsSetting setup) (cores : ℕ → Core) (t
     drawn = since.drawn;
     past = (let p = (stands.graces removed).past in let q = since.same in omega arith);
     unpaged = λ is. unpaged_flushed setup setting t stands.legal stands.graces at.node at.index x arrives.leaf.node
-        (paging_by setup setting t stands.legal c target at arrives.reached a.call is_open
-        (is_active setup setting cores t stands c here a active).built a.found
+        (paging_by setup setting t stands.legal c target at arrives.reached a.call is_open a.found
         (subst (λ (p : Plan). Leads (LeadsIn (state_after setup t) c) p.names [] a.found) plan_is leads)
         (ap (λ p. next_of p a.found) (sym plan_is) ∙ next_free) ∙ is) since.drawn;
     now = scanned t refl refl (was_while_open (IsRemoved removed) setup t c a.call is_open since.removed);

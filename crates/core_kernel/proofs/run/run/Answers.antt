@@ -1,6 +1,6 @@
 use Rattle.std.proofs.Common.{arith, ◌≡◌, ◌∙◌, ◌≤◌, ◌<◌, refl, true, length, get_or, vec_capacity, ap, sym, subst}
 use Rattle.std.proofs.lemmas.List.Elements.{All-get_or}
-use Rattle.core_kernel.specs.Running.{CanCall}
+use Rattle.spk_nums.specs.CallLimits.{InLimits}
 use Rattle.core_kernel.specs.Runs.{RunnerValue, IsRunner, MakesCalls}
 use Rattle.core_kernel.proofs.Lanes.{made_none, made_more, stops_held, stops_last, not_true}
 use Rattle.core_kernel.proofs.run.run.Goals as goal
@@ -62,18 +62,7 @@ call-reply-requires-clause-limits g c =
     let low : c.loop-made.made < length r.calls.items = omega arith in
     let at : x ≡ get_or r.calls.items c.loop-made.made x = c.index.ensures
     ∙ ap (λ l. get_or l c.loop-made.made x) c.loop-made.invariant.made.list in
-    (subst CanCall (sym at) (All-get_or CanCall r.calls.items c.loop-made.made x low c.runner.invariant.fit)).limits
-
-pub call-reply-requires-clause-built : goal.call-reply-requires-clause-built
-call-reply-requires-clause-built g c =
-    let r = c.runner.inside in
-    let x = c.index.result.now in
-    let end : c.len-made-end.result ≡ length r.calls.items = c.len-made-end.ensures ∙ r.calls.ok.0 in
-    let test : c.loop-made.made < c.len-made-end.result = c.loop-made-test.true in
-    let low : c.loop-made.made < length r.calls.items = omega arith in
-    let at : x ≡ get_or r.calls.items c.loop-made.made x = c.index.ensures
-    ∙ ap (λ l. get_or l c.loop-made.made x) c.loop-made.invariant.made.list in
-    (subst CanCall (sym at) (All-get_or CanCall r.calls.items c.loop-made.made x low c.runner.invariant.fit)).built
+    subst InLimits (sym at) (All-get_or InLimits r.calls.items c.loop-made.made x low c.runner.invariant.fit)
 
 pub keep-requires : goal.keep-requires
 keep-requires g c =

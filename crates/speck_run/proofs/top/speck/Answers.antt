@@ -3,7 +3,7 @@ use Rattle.speck_run.specs.declared.words.Command.TheVariants as commands
 use Rattle.speck_run.specs.declared.top.Status.TheVariants.{Stopped}
 use Rattle.byte_ends.specs.Ends.{Adds}
 use Rattle.speck_run.specs.Top.{Asked, Answers, Writes}
-use Rattle.speck_run.proofs.Due.{answers_due, answers_fault, asks_same, carried_out, completes, load_due, load_status, stops_run, summary_due, writes_due}
+use Rattle.speck_run.proofs.Due.{answers_due, answers_fault, asks_same, carried_out, completes, load_due, stops_run, summary_due, writes_due}
 use Rattle.speck_run.proofs.top.speck.Goals as goal
 
 pub returns-in-Ok-clause-replay : goal.returns-in-Ok-clause-replay
@@ -64,19 +64,30 @@ returns-in-Ok-clause-made g c number asks =
       | inr p ↦ inr (inl p.0)
     ]
 
-pub returns-in-Ok-clause-loaded : goal.returns-in-Ok-clause-loaded
-returns-in-Ok-clause-loaded g c number due asks is =
+pub returns-in-Ok-clause-load : goal.returns-in-Ok-clause-load
+returns-in-Ok-clause-load g c number asks done =
     elim c.finish.ensures [
-      | inl p ↦ inl (p.0 ∙ load_status number c.in-Ok.answer.status due _ (summary_due c.args.words.now number asks (g.S.Source.left c.args.source.now) _ _ _ c.in-Ok.answer.status _ c.in-Ok.ensures.due) is)
+      | inl p ↦ record {
+        text = _;
+        is_text = (summary_due c.args.words.now number asks (g.S.Source.left c.args.source.now) _ _ _ c.in-Ok.answer.status _ c.in-Ok.ensures.due).1;
+        written = p.2;
+      }
+      | inr p ↦ let wrong = sym p.0 ∙ done in cc
+    ]
+
+pub returns-in-Ok-clause-loaded : goal.returns-in-Ok-clause-loaded
+returns-in-Ok-clause-loaded g c number asks =
+    elim c.finish.ensures [
+      | inl p ↦ inl (p.0 ∙ (summary_due c.args.words.now number asks (g.S.Source.left c.args.source.now) _ _ _ c.in-Ok.answer.status _ c.in-Ok.ensures.due).0)
       | inr p ↦ inr (inl p.0)
     ]
 
 pub returns-in-Ok-clause-answers : goal.returns-in-Ok-clause-answers
-returns-in-Ok-clause-answers g c command asks =
+returns-in-Ok-clause-answers g c asked =
     let left = g.S.Source.left c.args.source.now in
     elim c.finish.ensures [
-      | inl p ↦ subst (Answers command left) (sym p.0) (answers_due c.args.words.now command asks left _ _ _ c.in-Ok.answer.status _ c.in-Ok.ensures.due)
-      | inr p ↦ answers_fault command left c.finish.result (inl p.0)
+      | inl p ↦ subst (Answers left) (sym p.0) (answers_due c.args.words.now asked.command asked.asks left _ _ _ c.in-Ok.answer.status _ c.in-Ok.ensures.due)
+      | inr p ↦ answers_fault left c.finish.result (inl p.0)
     ]
 
 pub returns-in-Ok-clause-complete : goal.returns-in-Ok-clause-complete
