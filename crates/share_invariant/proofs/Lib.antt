@@ -12,6 +12,9 @@ pub mod Turned
 pub mod Compares
 pub mod Delegates
 pub mod Agains
+pub mod HeadStores
 pub mod Stores
+pub mod HeadBStores
+pub mod ListStores
 pub mod Shares
 pub mod ShareStarts

@@ -26,6 +26,8 @@ use Rattle.share_invariant.proofs.Compares.{compare_good}
 use Rattle.share_invariant.proofs.Delegates.{delegate_good}
 use Rattle.share_invariant.proofs.HeadsA.{load_a_good, list_a_good}
 use Rattle.share_invariant.proofs.HeadsB.{load_b_good, list_b_good}
+use Rattle.share_invariant.proofs.HeadBStores.{store_b_good}
+use Rattle.share_invariant.proofs.ListStores.{store_list_good}
 use Rattle.share_invariant.proofs.MarksA.{mark_a_good}
 use Rattle.share_invariant.proofs.Stores.{store_a_good}
 
@@ -82,6 +84,6 @@ module _ (setup : Setting) (setting : IsSetting setup) (cores : ℕ → Core) (t
       by (ListB n) is has = absurd has.at
       by CompareB is has = absurd has.at
       by (AgainB x) is has = absurd has.at
-      by (StoreList n) is has = absurd has.at
-      by StoreB is has = absurd has.at
+      by (StoreList n) is has = store_list_good setup setting cores t stands c here a active r drawn p n is has
+      by StoreB is has = store_b_good setup setting cores t stands c here a active r drawn p is has
       by (StoreA moved v) is has = store_a_good setup setting cores t stands c here a active r drawn p moved v is has
