@@ -186,10 +186,10 @@ module _ (setup : Setting) (setting : IsSetting setup) (cores : ℕ → Core) (t
     rest = holds_counts (done_by r drawn) a.counts
 
     knows : StoresB setup t c a.call (record p { at = StoreList (suc j) })
-    knows = has.at.1.1
+    knows = has.at.2
 
     last : suc j ≤ 8
-    last = has.at.1.0
+    last = has.at.1
 
     tcap : TcapOf (s.frame p.b)
     tcap = tcap_of (s.frame p.b) knows.tcap.tcap
@@ -237,7 +237,7 @@ module _ (setup : Setting) (setting : IsSetting setup) (cores : ℕ → Core) (t
     of_call = record { moves = ap (changes_in_frame a.call) tcap.is ∙ has.budgets; near = inr knows.near }
 
     spelled : SparesTcap setup t e p.b (suc j)
-    spelled = inr (own_mark, subst IsSome (sym (spelling.reads (record { 0 = slice_get (in_order p.list_b) (suc j - 1) }) fits)) tt)
+    spelled = inr (own_mark, subst IsSome (sym (spelling.reads (record { 0 = slice_get (in_order p.list_b) (suc j - 1) }) fits)) refl)
 
     known : KnowsStoresAt setup (e ∷ t) c a.call (record p { at = store_next more (suc j) }) (store_next more (suc j))
     known = by more more_is
