@@ -1,6 +1,6 @@
 -- Who keeps a word without a mark: the core whose current thread has it, or the one whose mark the head carries of the temporal capability
 -- whose list has it. So no word has two keepers, and another word settles to itself where it carries no mark.
-use Rattle.std.proofs.Common.{◌≡◌, ◌≢◌, ◌≤◌, ◌<◌, ◌×◌, ◌⊎◌, inl, inr, ℕ, suc, [], ◌∷◌, length, Bool, true, false, Option, Some, None, IsTrue, if◌then◌else◌, arith, refl, sym, ◌∙◌, ap, subst}
+use Rattle.std.proofs.Common.{◌≡◌, ◌≢◌, ◌≤◌, ◌<◌, ◌⊎◌, inl, inr, ℕ, suc, [], ◌∷◌, length, Bool, true, false, Option, Some, None, IsTrue, if◌then◌else◌, arith, refl, sym, ◌∙◌, ap, subst}
 use Rattle.std.proofs.lemmas.Bool.{false≢true, ne_eqb}
 use Rattle.spk_nums.specs.Setting.{Setting, IsSetting}
 use Rattle.spk_nums.specs.declared.calls.Call.{Call}

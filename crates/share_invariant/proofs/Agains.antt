@@ -1,30 +1,26 @@
 -- The second load of the head of the second of two temporal capabilities: it has changed, or it is as it was read, and the call is decided.
-use Rattle.std.proofs.Common.{◌≡◌, inl, inr, ℕ, ◌<◌, ◌≤◌, ◌==◌, not, nat_lt, Bool, true, false, if◌then◌else◌, List, [], ◌∷◌, Option, Some, None, refl, sym, ◌∙◌, ap, subst}
-use Rattle.std.proofs.lemmas.Bool.{eq-eqb, eqb-true, eqb-false, le-ltb}
+use Rattle.std.proofs.Common.{◌≡◌, inl, inr, ℕ, ◌<◌, ◌≤◌, ◌==◌, not, nat_lt, nat_le, Bool, true, false, if◌then◌else◌, List, [], ◌∷◌, length, Option, Some, None, arith, refl, sym, ◌∙◌, ap, subst}
+use Rattle.std.proofs.lemmas.Bool.{eq-eqb, eqb-true, eqb-false, le-ltb, leb-false, lt-ltb}
 use Rattle.spk_nums.specs.Setting.{Setting, IsSetting}
-use Rattle.spk_nums.specs.Capability.{Capability}
 use Rattle.spk_nums.specs.Merging.{preempts_by}
-use Rattle.spk_nums.specs.declared.calls.Call.{Call}
-use Rattle.spk_nums.specs.declared.calls.Call.TheVariants as call_as
 use Rattle.spk_nums.specs.declared.replies.Reply.{Reply}
 use Rattle.spk_nums.specs.declared.replies.Reply.TheVariants as reply
 use Rattle.spk_nums.specs.declared.replies.Value.{Value}
 use Rattle.spk_nums.specs.declared.replies.Value.TheVariants as value
-use Rattle.supported_calls.specs.Built.{IsBuilt}
 use Rattle.tcap_words.specs.Head.{word_of_head}
 use Rattle.word_map.specs.Word.{Word, EntryAt}
 use Rattle.word_map.specs.Moves.{LoadOf}
 use Rattle.kernel_rules.specs.State.{State}
 use Rattle.kernel_rules.specs.Access.{found as named_by}
 use Rattle.kernel_rules.specs.Rules.{Found, Refused, Does, RuleMay, IsFoundAnd, unless, first_of, first_cause, answers}
-use Rattle.kernel_rules.specs.TimeCalls.{tcap_at, is_short, are_unlike, are_alike, preemption, preempts}
+use Rattle.kernel_rules.specs.TimeCalls.{tcap_at, is_short, are_unlike, are_alike, are_many, merged_list, preemption, preempts}
 use Rattle.kernel_rules.specs.CallRelation.{rule_of, change_of, changed, counted, MayReply, begins_in as begun_by, are_calls_spent}
 use Rattle.kernel_history.specs.Justified.{HasRacedHead, IsRaceLost}
 use Rattle.kernel_history.specs.Trace.{Step, Trace, state_after, last_left}
 use Rattle.kernel_history.proofs.AloneCalls.{ok_first, refused_first}
 use Rattle.kernel_history.proofs.Laws.{not_changed}
-use Rattle.stage_tcap.specs.Lists.{in_order, same_list}
-use Rattle.stage_tcap.specs.Pairs.{again_end, again_value, value_of, by_alike, judged, whole_b}
+use Rattle.stage_tcap.specs.Lists.{in_order, same_list, merge_of, merged_if}
+use Rattle.stage_tcap.specs.Pairs.{again_end, again_value, value_of, by_alike, by_room, judged, whole_b}
 use Rattle.spk_nums.specs.declared.steps.StageEnd.TheVariants as ends
 use Rattle.stage_tcap.specs.declared.pair.Pair.{Pair}
 use Rattle.stage_tcap.specs.declared.pair.PairAt.TheVariants.{CompareB, AgainB, StoreA}
@@ -39,9 +35,9 @@ use Rattle.call_steps.specs.Steps.{landed}
 use Rattle.call_steps.specs.View.{Core}
 use Rattle.core_invariant.specs.Holding.{holds_counts}
 use Rattle.core_invariant.specs.Knows.{KnowsUndecided}
-use Rattle.core_invariant.specs.Shares.{HasBoth, SharesBy}
+use Rattle.core_invariant.specs.Shares.{HasBoth}
 use Rattle.core_invariant.specs.Stands.{holds_in, holds_head, Stands}
-use Rattle.core_invariant.proofs.Loads.{OnlyLooks, core_is, inner, is_active}
+use Rattle.core_invariant.proofs.Loads.{OnlyLooks, core_is, inner}
 use Rattle.core_invariant.proofs.Refusals.{GoodTook, not_spent}
 use Rattle.core_invariant.proofs.Tcaps.{TcapOf}
 use Rattle.share_invariant.proofs.HeadsB.{owes_share}
@@ -51,18 +47,16 @@ use Rattle.share_invariant.proofs.ShareCalls as calls
 use Rattle.share_invariant.proofs.ShareCalls.{causes_of, change_by}
 use Rattle.share_invariant.proofs.ShareSteps.{loading, load_decides}
 
--- A delegation is not carried out today.
-pub no_delegation : (call : Call) (ks : List Capability) (p : Pair) → SharesBy call ks p → IsBuilt call → (m : ℕ) → p.what ≡ Delegate m → ⊥
-no_delegation (call_as.Transfer x y n) (a ∷ b ∷ []) p is built m what_is = absurd (apart (sym is.work ∙ what_is))
+-- A list that has no room is one of more than 8.
+no_room : (xs : List (ℕ × ℕ)) → merged_if (nat_le (length xs) 8) xs ≡ None → nat_lt 8 (length xs) ≡ true
+no_room xs none = lt-ltb 8 (length xs) (by (nat_le (length xs) 8) refl none)
   where
-    apart : Transfer n ≡ Delegate m → ⊥
-    apart h = cc
-no_delegation (call_as.Delegate x y n) (a ∷ b ∷ []) p is built m what_is = built
-no_delegation (call_as.Test x y) (a ∷ b ∷ []) p is built m what_is = absurd (apart (sym is.work ∙ what_is))
-  where
-    apart : Test ≡ Delegate m → ⊥
-    apart h = cc
-no_delegation call ks p is built m what_is = absurd is
+    some_none : Some xs ≡ None → ⊥
+    some_none h = cc
+
+    by : (b : Bool) → nat_le (length xs) 8 ≡ b → merged_if b xs ≡ None → 8 < length xs
+    by true told h = absurd (some_none h)
+    by false told h = let more = leb-false (length xs) 8 told in omega (arith, more)
 
 module _ (setup : Setting) (setting : IsSetting setup) (cores : ℕ → Core) (t : Trace) (stands : Stands setup cores t) (c : ℕ)
     (here : c < setup.cores)
@@ -192,6 +186,53 @@ module _ (setup : Setting) (setting : IsSetting setup) (cores : ℕ → Core) (t
           ∙ ap (λ w. unless (first_cause s c (causes_of s w (named_by is.a) (named_by is.b))) (change_by s w is.a.frame is.b.frame)) what_is
           ∙ first_unlike)) lands
 
+    -- a delegation of which the merged list has no room
+    module _ (m : ℕ) (what_is : p.what ≡ Delegate m) (none : p.list_b ≡ None) where
+      many : nat_lt 8 (length (merged_list s p.a p.b)) ≡ true
+      many = no_room (merged_list s p.a p.b)
+          (ap (λ xs. merge_of (in_order xs) (tcap_at s p.b).qualities) (sym read.list_a)
+          ∙ ap (λ ys. merge_of (in_order p.list_a) (in_order ys)) (sym read.list_b)
+          ∙ ap (λ w. whole_b w (in_order p.list_a) (in_order both.read)) (sym what_is) ∙ sym both.whole ∙ none)
+
+      many_named : nat_lt 8 (length (merged_list s is.a.frame is.b.frame)) ≡ true
+      many_named = ap (λ (f : ℕ). nat_lt 8 (length (merged_list s f is.b.frame))) (sym is.shared.first)
+          ∙ ap (λ (f : ℕ). nat_lt 8 (length (merged_list s p.a f))) (sym is.shared.second) ∙ many
+
+      is_enough : nat_lt (tcap_at s is.a.frame).budget m ≡ false
+      is_enough = ap (λ (f : ℕ). nat_lt (tcap_at s f).budget m) (sym is.shared.first)
+          ∙ ap (λ (n : ℕ). nat_lt n m) (sym read.budget_a)
+          ∙ le-ltb p.head_a.budget m (subst (λ w. Rattle.stage_tcap.specs.Pairs.amount_of w ≤ p.head_a.budget) what_is both.a.enough)
+
+      may_many : RuleMay s c (Does (causes_of s (Delegate m) (named_by is.a) (named_by is.b)) (change_by s (Delegate m) is.a.frame is.b.frame))
+          reply.TooMany
+      may_many = inr (inr (inl (many_named, refl)))
+
+      first_many : unless (first_cause s c (causes_of s (Delegate m) (named_by is.a) (named_by is.b)))
+          (change_by s (Delegate m) is.a.frame is.b.frame) ≡ Refused reply.TooMany
+      first_many =
+          ap (λ b. unless (first_of (if b then Some reply.Same else None)
+          (first_cause s c (is_short s (named_by is.a) m ∷ are_many s (named_by is.a) (named_by is.b) ∷ [])))
+          (change_by s (Delegate m) is.a.frame is.b.frame))
+          (calls.not_same setup setting cores t stands c here a active now_p stage_is has)
+          ∙ ap (λ b. unless (first_of (if b then Some (reply.Short (tcap_at s is.a.frame).budget) else None)
+          (first_cause s c (are_many s (named_by is.a) (named_by is.b) ∷ []))) (change_by s (Delegate m) is.a.frame is.b.frame)) is_enough
+          ∙ ap (λ b. unless (first_of (if b then Some reply.TooMany else None) None) (change_by s (Delegate m) is.a.frame is.b.frame)) many_named
+
+      many_good : Decides value.Nothing reply.TooMany
+      many_good lands =
+          load_decides setup setting cores t stands c here a active now_p stage_is has 8 both.a held (LoadOf at) load reply.TooMany
+          (record p { at = StoreA false value.Nothing }) value.Nothing refl refl refl refl (sym held)
+          refl refl (λ x. refl) (λ x. refl) refl (
+            unspent,
+            calls.may setup setting cores t stands c here a active now_p stage_is has reply.TooMany
+                (subst (λ w. RuleMay s c (Does (causes_of s w (named_by is.a) (named_by is.b)) (change_by s w is.a.frame is.b.frame)) reply.TooMany)
+                (sym what_is) may_many),
+          ) tt
+          (λ is_alone. refused_first s c a.call reply.TooMany unspent
+          (calls.change_is setup setting cores t stands c here a active now_p stage_is has
+          ∙ ap (λ w. unless (first_cause s c (causes_of s w (named_by is.a) (named_by is.b))) (change_by s w is.a.frame is.b.frame)) what_is
+          ∙ first_many)) lands
+
     -- a test is answered
     module _ (what_is : p.what ≡ Test) where
       abbrev tells : Bool
@@ -254,8 +295,15 @@ module _ (setup : Setting) (setting : IsSetting setup) (cores : ℕ → Core) (t
         by_lists true told = absurd (not_compare (sym (ap by_alike told) ∙ judges))
         by_lists false told = subst (λ x. Decides (value_of x) x) (reply_of reply.Unlike r (sym (ap by_alike told) ∙ judges))
             (unlike_good m what_is told)
-    by_work (Delegate m) what_is judges = absurd (no_delegation a.call a.found now_p has.knows.knows.shares
-        (is_active setup setting cores t stands c here a active).built m what_is)
+    by_work (Delegate m) what_is judges = by_list p.list_b refl
+      where
+        not_compare : CompareB ≡ AgainB r → ⊥
+        not_compare h = cc
+
+        by_list : (o : Option (List (ℕ × ℕ))) → p.list_b ≡ o → Decides (value_of r) r
+        by_list None none = subst (λ x. Decides (value_of x) x) (reply_of reply.TooMany r (sym (ap by_room none) ∙ judges))
+            (many_good m what_is none)
+        by_list (Some xs) some = absurd (not_compare (sym (ap by_room some) ∙ judges))
     by_work Test what_is judges = subst (λ x. Decides (value_of x) x) (reply_of _ r judges) (answered_good what_is)
 
   pub again_good : GoodTook setup cores t c (LoadOf at) (landed a (took_share now_p was))

@@ -6,8 +6,15 @@ pub mod HeadsB
 pub mod MarksA
 pub mod Marking
 pub mod ListsKnown
+pub mod Compared
+pub mod Moved
+pub mod Turned
 pub mod Compares
+pub mod Delegates
 pub mod Agains
+pub mod HeadStores
 pub mod Stores
+pub mod HeadBStores
+pub mod ListStores
 pub mod Shares
 pub mod ShareStarts

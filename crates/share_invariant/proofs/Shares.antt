@@ -1,5 +1,5 @@
 -- A step of a call on two temporal capabilities is good, and so is a step that gives the first one's head back.
-use Rattle.std.proofs.Common.{◌≡◌, ℕ, zero, suc, ◌<◌, Option, Some, refl}
+use Rattle.std.proofs.Common.{◌≡◌, ℕ, zero, suc, ◌<◌, Option, Some}
 use Rattle.spk_nums.specs.Setting.{Setting, IsSetting}
 use Rattle.spk_nums.specs.declared.replies.Reply.{Reply}
 use Rattle.word_map.specs.Moves.{word_of, told_of}
@@ -20,12 +20,14 @@ use Rattle.call_steps.specs.Steps.{landed, went_with, GoesOn}
 use Rattle.call_steps.specs.View.{Core}
 use Rattle.core_invariant.specs.Knows.{KnowsUndecided, KnowsTail}
 use Rattle.core_invariant.specs.Stands.{Stands}
-use Rattle.core_invariant.proofs.Loads.{is_active}
 use Rattle.core_invariant.proofs.Refusals.{GoodTook}
-use Rattle.share_invariant.proofs.Agains.{no_delegation, again_good}
+use Rattle.share_invariant.proofs.Agains.{again_good}
 use Rattle.share_invariant.proofs.Compares.{compare_good}
+use Rattle.share_invariant.proofs.Delegates.{delegate_good}
 use Rattle.share_invariant.proofs.HeadsA.{load_a_good, list_a_good}
 use Rattle.share_invariant.proofs.HeadsB.{load_b_good, list_b_good}
+use Rattle.share_invariant.proofs.HeadBStores.{store_b_good}
+use Rattle.share_invariant.proofs.ListStores.{store_list_good}
 use Rattle.share_invariant.proofs.MarksA.{mark_a_good}
 use Rattle.share_invariant.proofs.Stores.{store_a_good}
 
@@ -46,8 +48,7 @@ module _ (setup : Setting) (setting : IsSetting setup) (cores : ℕ → Core) (t
           → KnowsUndecided setup t c (cores c).own.table a (Act (share_act (record p { what = what; at = CompareB })))
           → ShareGood (record p { what = what; at = CompareB })
       compares (Transfer m) is has = compare_good setup setting cores t stands c here a active p m is has
-      compares (Delegate m) is has = absurd (no_delegation a.call a.found (record p { what = Delegate m; at = CompareB })
-          has.knows.knows.shares (is_active setup setting cores t stands c here a active).built m refl)
+      compares (Delegate m) is has = delegate_good setup setting cores t stands c here a active p m is has
       compares Test is has = absurd (test_judges CompareB has.knows.knows.at.judges)
 
       by : (what : PairWork) (at : PairAt) → a.stage ≡ Undecided (Act (share_act (record p { what = what; at = at })))
@@ -83,6 +84,6 @@ module _ (setup : Setting) (setting : IsSetting setup) (cores : ℕ → Core) (t
       by (ListB n) is has = absurd has.at
       by CompareB is has = absurd has.at
       by (AgainB x) is has = absurd has.at
-      by (StoreList n) is has = absurd has.at
-      by StoreB is has = absurd has.at
+      by (StoreList n) is has = store_list_good setup setting cores t stands c here a active r drawn p n is has
+      by StoreB is has = store_b_good setup setting cores t stands c here a active r drawn p is has
       by (StoreA moved v) is has = store_a_good setup setting cores t stands c here a active r drawn p moved v is has

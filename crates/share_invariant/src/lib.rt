@@ -7,6 +7,9 @@
 //! **The move.** A transfer is decided by the compare that puts the ticks in B. From then on A's head stands for what is still to be
 //! stored there.
 //!
+//! **The list.** A delegation is decided by the compare that marks the head of B. From then on both heads, and the words of B's list,
+//! stand for what is still to be stored there; the words of the list carry no mark, but no other core steps on them under the mark.
+//!
 //! The lemmas stand in this crate's proofs.
 //!
 //! See docs/PROOF.md, 'Two temporal capabilities'.

@@ -1,0 +1,75 @@
+-- A delegation, whose list is stored, gives the head of the second of two temporal capabilities back with the ticks.
+use Rattle.std.proofs.Common.{◌≡◌, ◌≢◌, inl, ℕ, ◌<◌, true, if◌then◌else◌, Option, Some, None, arith, refl, sym, ◌∙◌, ap}
+use Rattle.spk_nums.specs.Setting.{Setting, IsSetting}
+use Rattle.spk_nums.specs.declared.replies.Reply.{Reply}
+use Rattle.spk_nums.specs.declared.replies.Value.TheVariants as value
+use Rattle.tcap_words.specs.Head.{HeadFits, word_of_head}
+use Rattle.tcap_words.specs.declared.head_word.HeadWord.{HeadWord}
+use Rattle.word_map.specs.Word.{EntryAt}
+use Rattle.word_map.specs.Moves.{Move, StoreOf}
+use Rattle.kernel_history.specs.Trace.{Step, Trace}
+use Rattle.kernel_history.proofs.Names.{same_word-other}
+use Rattle.stage_tcap.specs.Heads.{marked, credited}
+use Rattle.stage_tcap.specs.Pairs.{amount_of}
+use Rattle.stage_tcap.specs.declared.pair.Pair.{Pair}
+use Rattle.stage_tcap.specs.declared.pair.PairAt.TheVariants.{StoreB, StoreA}
+use Rattle.call_acts.specs.declared.work.Tail.TheVariants.{Share as share_tail}
+use Rattle.call_steps.specs.declared.stages.Stage.TheVariants.{Decided}
+use Rattle.call_steps.specs.declared.stages.ActiveCall.{ActiveCall}
+use Rattle.call_steps.specs.Steps.{went_with, GoesOn}
+use Rattle.call_steps.specs.View.{Core}
+use Rattle.core_invariant.specs.Holding.{holds_counts}
+use Rattle.core_invariant.specs.Knows.{KnowsTail}
+use Rattle.core_invariant.specs.Shares.{StoresB}
+use Rattle.core_invariant.specs.Stands.{done_by, Stands}
+use Rattle.core_invariant.proofs.Bare.{counts_bare}
+use Rattle.core_invariant.proofs.Loads.{inner}
+use Rattle.core_invariant.proofs.Refusals.{GoodTook}
+use Rattle.share_invariant.proofs.HeadStores.{counts_free, a_stored, shared_on, head_good}
+
+module _ (setup : Setting) (setting : IsSetting setup) (cores : ℕ → Core) (t : Trace) (stands : Stands setup cores t) (c : ℕ)
+    (here : c < setup.cores)
+    (a : ActiveCall) (active : (cores c).active ≡ Some a) (r : Reply) (drawn : Option ℕ) (p : Pair)
+    (stage_is : a.stage ≡ Decided r drawn (share_tail (record p { at = StoreB })))
+    (has : KnowsTail setup t c a.call a.counts (share_tail (record p { at = StoreB }))) where
+  abbrev final : HeadWord
+  final = credited p.head_b (amount_of p.what)
+
+  abbrev store : Move
+  store = StoreOf (EntryAt p.b 0) (word_of_head final)
+
+  abbrev e : Step
+  e = inner setup setting cores t stands c here a active store None None
+
+  knows : StoresB setup t c a.call (record p { at = StoreB })
+  knows = has.at
+
+  final_fits : HeadFits final
+  final_fits = (omega (arith), tt, (let few = knows.few in omega (arith, few)))
+
+  other_word : EntryAt p.b 0 ≢ EntryAt p.a 0
+  other_word h = knows.differ (sym (same_frame p.b p.a h))
+    where
+      same_frame : (f g : ℕ) → EntryAt f 0 ≡ EntryAt g 0 → f ≡ g
+      same_frame f g h = cc
+
+  pub store_b_good : GoodTook setup cores t c store
+      (GoesOn (went_with a a.counts (Decided r drawn (share_tail (record p { at = StoreA true value.Nothing })))))
+  store_b_good =
+      head_good setup setting cores t stands c here a active r drawn (share_tail (record p { at = StoreB }))
+      (share_tail (record p { at = StoreA true value.Nothing })) stage_is p.b p.head_b final (record {
+        budgets = has.budgets;
+        near = knows.near;
+        tcap = knows.tcap;
+        raw = knows.raw ∙ ap (λ (b : ℕ). word_of_head (marked b p.head_b)) has.core;
+        fits = knows.fits;
+        next_fits = final_fits;
+        next_bare = refl;
+        rises = inl (let few = knows.few in omega (arith, few));
+        held = refl;
+        free = ap (λ b. if b then true else (holds_counts (done_by r drawn) a.counts).marks (EntryAt p.b 0))
+            (same_word-other (EntryAt p.b 0) (EntryAt p.a 0) other_word) ∙ counts_free (done_by r drawn) a.counts p.b 0;
+        none = counts_bare (done_by r drawn) a.counts;
+      })
+      (shared_on setup t e c a.call (record p { at = StoreB }) (StoreA true value.Nothing) refl refl has
+      (a_stored setup t e (record p { at = StoreB }) (StoreA true value.Nothing) 0 refl knows.differ knows.a))
