@@ -7,7 +7,7 @@
 
 use std::alloc::Global;
 use std::test::Fail;
-use test_machine::{is_typed, tables};
+use test_machine::{leads_to, steps, tables};
 
 // The steps of a look, of a blank frame's retype, of a copy, of a removal and of a make.
 const LOOK_STEPS: usize = 5;
@@ -26,15 +26,6 @@ const UNTYPED: (&str, &str) = ("", "");
 const RELEASED: (&str, &str) = ("", "frame 8 leaf refs 0\n");
 
 const HELD: (&str, &str) = ("  20 leaf 8\n", "frame 8 leaf refs 1\n");
-
-// So many single steps of this core, as items of an order.
-fn steps(alloc: Global, core: u8, number: usize) -> Result<String, Fail> {
-    let mut items = String::new(alloc);
-    for _ in 0..number {
-        write!(items, "{core} ")?;
-    }
-    Ok(items)
-}
 
 #[test]
 fn a_frame_is_made_untyped_once_its_capability_is_removed_and_the_remover_has_left(
@@ -73,7 +64,7 @@ fn a_frame_is_made_untyped_once_its_capability_is_removed_and_the_remover_has_le
             "0.1 retype 0 8 kernel = ok\n0.2 make leaf 0 8 1 20 = ok\n{replies}"
         )?;
         let typed = tables(alloc, left.0, left.1)?;
-        assert!(rt; is_typed(&rt, alloc, &lines, &replies, &typed)?, "{number}");
+        assert!(rt; leads_to(&rt, alloc, &lines, &replies, &typed)?, "{number}");
     }
     Ok(())
 }
@@ -88,7 +79,7 @@ fn a_frame_is_refused_while_it_is_referenced_and_made_untyped_after_the_removal(
     let replies =
         "0.1 retype 0 8 kernel = ok\n0.2 make leaf 0 8 1 20 = ok\n1.1 retype 0 8 untyped = referenced 1\n1.2 look 20 = ok leaf 8\n0.3 remove 1 20 = ok\n1.3 retype 0 8 untyped = ok\n";
     let typed = tables(alloc, "", "")?;
-    assert!(rt; is_typed(&rt, alloc, lines, replies, &typed)?);
+    assert!(rt; leads_to(&rt, alloc, lines, replies, &typed)?);
     Ok(())
 }
 
@@ -136,7 +127,7 @@ fn a_released_frame_is_quiescing_until_the_look_of_another_core_has_left(
             let lines = format!(in alloc; "{lists}order\n0. 0. {first}0. {more}0. 1. 0.\n")?;
             let replies = look_replies(alloc, before, before + after)?;
             assert!(rt;
-                is_typed(&rt, alloc, &lines, &replies, &untyped)?,
+                leads_to(&rt, alloc, &lines, &replies, &untyped)?,
                 "{before} {after}"
             );
         }
@@ -175,7 +166,7 @@ fn a_core_that_has_left_since_the_removal_keeps_no_frame_quiescing(
         let lines = format!(in alloc; "{lists}order\n{order}\n")?;
         let replies = format!(in alloc; "{made}{replies}")?;
         let typed = tables(alloc, left.0, left.1)?;
-        assert!(rt; is_typed(&rt, alloc, &lines, &replies, &typed)?, "{order}");
+        assert!(rt; leads_to(&rt, alloc, &lines, &replies, &typed)?, "{order}");
     }
     Ok(())
 }
@@ -254,7 +245,7 @@ fn a_make_is_busy_in_a_frame_that_a_retype_has_marked(rt: HostRuntime) -> Result
             let replies = met_replies(alloc, one, &first, &second, is_first)?;
             let typed = tables(alloc, left.0, left.1)?;
             assert!(rt;
-                is_typed(&rt, alloc, &lines, &replies, &typed)?,
+                leads_to(&rt, alloc, &lines, &replies, &typed)?,
                 "{one} {number}"
             );
         }
@@ -291,7 +282,7 @@ fn a_retype_is_busy_at_the_mark_of_a_make_and_at_its_count(rt: HostRuntime) -> R
             let replies = met_replies(alloc, one, &first, &second, is_first)?;
             let typed = tables(alloc, left.0, left.1)?;
             assert!(rt;
-                is_typed(&rt, alloc, &lines, &replies, &typed)?,
+                leads_to(&rt, alloc, &lines, &replies, &typed)?,
                 "{one} {number}"
             );
         }
@@ -321,7 +312,7 @@ fn the_copies_of_two_cores_are_counted_together_by_a_retype(rt: HostRuntime) -> 
         let lines = format!(in alloc; "{lists}order\n0. 0. 0. {items}0. 1. 0. 0. 0. 1. 0.\n")?;
         let replies = format!(in alloc; "{made}{raced}{more}")?;
         assert!(rt;
-            is_typed(&rt, alloc, &lines, &replies, &untyped)?,
+            leads_to(&rt, alloc, &lines, &replies, &untyped)?,
             "{number}"
         );
     }
@@ -364,7 +355,7 @@ fn a_copy_changes_a_count_that_a_retype_has_loaded_and_stops_at_one_that_it_has_
         let lines = format!(in alloc; "{lists}{order}\n")?;
         let replies = format!(in alloc; "{made}{replies}")?;
         let typed = tables(alloc, left.0, left.1)?;
-        assert!(rt; is_typed(&rt, alloc, &lines, &replies, &typed)?, "{order}");
+        assert!(rt; leads_to(&rt, alloc, &lines, &replies, &typed)?, "{order}");
     }
     Ok(())
 }
@@ -388,7 +379,7 @@ fn two_cores_make_fill_and_empty_a_node_in_turn_and_make_another_of_its_frame(
     ];
     for order in orders {
         let lines = format!(in alloc; "{lists}order\n{order}\n")?;
-        assert!(rt; is_typed(&rt, alloc, &lines, replies, &typed)?, "{order}");
+        assert!(rt; leads_to(&rt, alloc, &lines, replies, &typed)?, "{order}");
     }
     Ok(())
 }
@@ -405,6 +396,6 @@ fn a_page_node_is_made_untyped_once_both_cores_have_flushed(rt: HostRuntime) -> 
         "  20 leaf 8\n",
         "frame 8 leaf refs 1\nframe 9 user refs 0\n",
     )?;
-    assert!(rt; is_typed(&rt, alloc, lines, replies, &typed)?);
+    assert!(rt; leads_to(&rt, alloc, lines, replies, &typed)?);
     Ok(())
 }

@@ -2,12 +2,10 @@
 //! of a list that is being stored. A test loads head A (6) and marks it (7), loads list A (8 to 15), head B (16), list B (17 to 24) and
 //! head B again, which decides (25), stores head A (26) and leaves (27 and 28).
 
-use crate::delegations::{
-    BOTH, DELEGATE_STEPS, OTHER, OWN, TWO_SCHEDULERS, lists_left, steps, writes,
-};
+use crate::delegations::{BOTH, DELEGATE_STEPS, OTHER, OWN, TWO_SCHEDULERS, lists_left};
 use crate::ticks::tables;
 use std::test::Fail;
-use test_machine::MACHINE;
+use test_machine::{MACHINE, steps, writes};
 
 // The steps of a test.
 const TEST_STEPS: usize = 28;
@@ -39,7 +37,7 @@ fn a_test_finds_both_lists_as_before_a_delegation_or_as_after_it(
                 format!(in alloc; "1.1 {test} = {answer}\n{moved}{left}")?
             };
             assert!(rt;
-                writes(&rt, alloc, "replay", &script, &text)?,
+                writes(&rt, alloc, &["replay"], &script, &text)?,
                 "{test} {number}"
             );
         }
@@ -73,7 +71,7 @@ fn a_delegation_is_busy_at_the_head_that_a_test_has_marked(rt: HostRuntime) -> R
                 format!(in alloc; "{zero}1.1 {test} = {answer}\n{left}")?
             };
             assert!(rt;
-                writes(&rt, alloc, "replay", &script, &text)?,
+                writes(&rt, alloc, &["replay"], &script, &text)?,
                 "{test} {number}"
             );
         }
@@ -115,7 +113,7 @@ fn a_reader_of_a_list_that_is_being_stored_is_raced_or_busy(rt: HostRuntime) -> 
                 format!(in alloc; "{made}{moved}1.1 test 20 13 = {answer}\n{left}")?
             };
             assert!(rt;
-                writes(&rt, alloc, "replay", &script, &text)?,
+                writes(&rt, alloc, &["replay"], &script, &text)?,
                 "{one} {zero}"
             );
         }
@@ -150,7 +148,7 @@ fn a_list_read_word_by_word_beside_its_stores_is_not_judged(rt: HostRuntime) -> 
             "{TWO_SCHEDULERS}{first}{loaded}{decided}{items}1. 0. 1.\n"
         )?;
         let text = format!(in alloc; "{made}{replies}{left}")?;
-        assert!(rt; writes(&rt, alloc, "replay", &script, &text)?, "{pair}");
+        assert!(rt; writes(&rt, alloc, &["replay"], &script, &text)?, "{pair}");
     }
     Ok(())
 }
@@ -190,7 +188,10 @@ fn a_tick_of_the_second_temporal_capability_loses_or_stops_a_delegation(
         )?;
         let left = tables(alloc, budgets, (0, 0), charged)?;
         let text = format!(in alloc; "{replies}{left}")?;
-        assert!(rt; writes(&rt, alloc, "replay", &script, &text)?, "{number}");
+        assert!(rt;
+            writes(&rt, alloc, &["replay"], &script, &text)?,
+            "{number}"
+        );
     }
     Ok(())
 }
@@ -238,7 +239,7 @@ fn delegations_in_both_directions_meet(rt: HostRuntime) -> Result<(), Fail> {
         let script = format!(in alloc; "{TWO_SCHEDULERS}{lists}{order}\n")?;
         let left = lists_left(alloc, budgets, lists_of)?;
         let text = format!(in alloc; "{replies}{left}")?;
-        assert!(rt; writes(&rt, alloc, "replay", &script, &text)?, "{order}");
+        assert!(rt; writes(&rt, alloc, &["replay"], &script, &text)?, "{order}");
     }
     Ok(())
 }

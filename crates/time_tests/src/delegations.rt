@@ -7,8 +7,7 @@ use core_kernel::FreeGate;
 use speck_run::Status;
 use std::alloc::Global;
 use std::test::Fail;
-use std::thread::Threads;
-use test_machine::{AMPLE, MACHINE, answers, runs};
+use test_machine::{COMMANDS, MACHINE, runs, steps, writes};
 
 /// The steps of a delegation that is carried out.
 pub(crate) const DELEGATE_STEPS: usize = 37;
@@ -23,15 +22,6 @@ pub(crate) const OWN: &str = "  quality 0 1\n";
 pub(crate) const OTHER: &str = "  quality 1 7\n";
 
 pub(crate) const BOTH: &str = "  quality 0 1\n  quality 1 7\n";
-
-/// So many single steps of this core, as items of an order.
-pub(crate) fn steps(alloc: Global, core: u8, number: usize) -> Result<String, Fail> {
-    let mut items = String::new(alloc);
-    for _ in 0..number {
-        write!(items, "{core} ")?;
-    }
-    Ok(items)
-}
 
 /// The tables of the start with these budgets and lists of the temporal capabilities 12 and 13.
 pub(crate) fn lists_left(
@@ -51,38 +41,6 @@ pub(crate) fn lists_left(
     Ok(text)
 }
 
-/// Whether the script under this command writes this text.
-pub(crate) fn writes<R: Threads + Sync>(
-    rt: &R,
-    alloc: Global,
-    command: &str,
-    script: &str,
-    text: &str,
-) -> Result<bool, Fail> {
-    answers(
-        rt,
-        alloc,
-        &[command],
-        script.as_bytes(),
-        &AMPLE,
-        Status::Done,
-        text,
-    )
-}
-
-// Whether it does under `replay`, `plain` and `run`.
-fn writes_each_way<R: Threads + Sync>(
-    rt: &R,
-    alloc: Global,
-    script: &str,
-    text: &str,
-) -> Result<bool, Fail> {
-    let replayed = writes(rt, alloc, "replay", script, text)?;
-    let plain = writes(rt, alloc, "plain", script, text)?;
-    let ran = writes(rt, alloc, "run", script, text)?;
-    Ok(replayed && plain && ran)
-}
-
 #[test]
 fn a_delegation_moves_ticks_and_merges_the_lists(rt: HostRuntime) -> Result<(), Fail> {
     let alloc = rt.alloc();
@@ -93,7 +51,7 @@ fn a_delegation_moves_ticks_and_merges_the_lists(rt: HostRuntime) -> Result<(), 
     let left = lists_left(alloc, (0, 200), (BOTH, BOTH))?;
     let script = format!(in alloc; "{TWO_SCHEDULERS}{lines}")?;
     let text = format!(in alloc; "{replies}{left}")?;
-    assert!(rt; writes_each_way(&rt, alloc, &script, &text)?);
+    assert!(rt; writes(&rt, alloc, &COMMANDS, &script, &text)?);
     // Of two qualities of one scheduler the larger number stays, whoever delegates.
     let lines =
         "core 0\nretype 0 8 kernel\nmake tcap 0 8 1 20 0 5\ndelegate 12 20 10\ndelegate 20 13 4\n";
@@ -108,7 +66,7 @@ fn a_delegation_moves_ticks_and_merges_the_lists(rt: HostRuntime) -> Result<(), 
     )?;
     let script = format!(in alloc; "{MACHINE}{lines}")?;
     let text = format!(in alloc; "{replies}{left}")?;
-    assert!(rt; writes_each_way(&rt, alloc, &script, &text)?);
+    assert!(rt; writes(&rt, alloc, &COMMANDS, &script, &text)?);
     Ok(())
 }
 
@@ -137,7 +95,7 @@ fn a_delegation_that_is_refused_moves_nothing(rt: HostRuntime) -> Result<(), Fai
     for (lines, replies) in rows {
         let script = format!(in alloc; "{TWO_SCHEDULERS}{lines}")?;
         let text = format!(in alloc; "{replies}{left}")?;
-        assert!(rt; writes_each_way(&rt, alloc, &script, &text)?, "{lines}");
+        assert!(rt; writes(&rt, alloc, &COMMANDS, &script, &text)?, "{lines}");
     }
     Ok(())
 }
@@ -171,7 +129,7 @@ fn a_delegation_decides_at_the_compare_of_the_second_head(rt: HostRuntime) -> Re
                 format!(in alloc; "{made}{next}{other}{left}")?
             };
             assert!(rt;
-                writes(&rt, alloc, "replay", &script, &text)?,
+                writes(&rt, alloc, &["replay"], &script, &text)?,
                 "{call} {number}"
             );
         }
@@ -240,7 +198,7 @@ fn a_merged_list_has_at_most_eight_schedulers(rt: HostRuntime) -> Result<(), Fai
         "0.24 delegate 27 13 0 = too-many\n0.25 delegate 27 13 1 = short 0\n0.26 delegate 13 27 5 = too-many\n0.27 delegate 20 13 0 = ok\n0.28 transfer 13 12 5 = unlike\n";
     let script = format!(in alloc; "{MACHINE}{first}{lines}")?;
     let text = format!(in alloc; "{made}{replies}{left}")?;
-    assert!(rt; writes_each_way(&rt, alloc, &script, &text)?);
+    assert!(rt; writes(&rt, alloc, &COMMANDS, &script, &text)?);
     Ok(())
 }
 
@@ -265,7 +223,10 @@ fn a_list_that_would_be_too_long_is_judged_by_the_head_that_was_found(
             "{MACHINE}{first}delegate 27 13 0\ndelegate 27 13 0\ncore 1\ntick 7\norder\n{whole}{items}1. 0.\n"
         )?;
         let text = format!(in alloc; "{made}{replies}{again}{left}")?;
-        assert!(rt; writes(&rt, alloc, "replay", &script, &text)?, "{number}");
+        assert!(rt;
+            writes(&rt, alloc, &["replay"], &script, &text)?,
+            "{number}"
+        );
     }
     Ok(())
 }

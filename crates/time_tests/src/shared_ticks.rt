@@ -1,10 +1,10 @@
 //! `tick` of two cores on one temporal capability, that of core 0: core 1 switches to it, as a thread that is made in frame 8 and
 //! entry 20. The first three steps of a tick are its own: it enters, loads the head, and compares it, which decides.
 
-use crate::ticks::{is_left, tables};
+use crate::ticks::tables;
 use std::alloc::Global;
 use std::test::Fail;
-use test_machine::place_of;
+use test_machine::{leads_to, place_of};
 
 // The orders of six steps of two cores.
 const ORDERS: u8 = 64;
@@ -96,7 +96,7 @@ fn of_two_ticks_of_one_temporal_capability_one_is_carried_out_in_each_order_of_t
             }
             let lines = format!(in alloc; "{lists}{items}0. 1. 0. 1.\n")?;
             let replies = replies_of(alloc, first, is_lost)?;
-            assert!(rt; is_left(&rt, alloc, &lines, &replies, &left)?, "{order:?}");
+            assert!(rt; leads_to(&rt, alloc, &lines, &replies, &left)?, "{order:?}");
             orders += 1;
             if is_lost {
                 races += 1;
@@ -150,7 +150,7 @@ fn two_cores_spend_one_budget_and_owe_the_rest(rt: HostRuntime) -> Result<(), Fa
         let lines = format!(in alloc; "{lists}{order}\n")?;
         let replies = format!(in alloc; "{MADE}{replies}")?;
         let left = shared(alloc, 0, zero, one)?;
-        assert!(rt; is_left(&rt, alloc, &lines, &replies, &left)?, "{order}");
+        assert!(rt; leads_to(&rt, alloc, &lines, &replies, &left)?, "{order}");
     }
     Ok(())
 }
