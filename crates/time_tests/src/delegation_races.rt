@@ -53,13 +53,14 @@ fn a_delegation_is_busy_at_the_head_that_a_test_has_marked(rt: HostRuntime) -> R
     for test in ["test 12 13", "test 13 12"] {
         // The delegation comes whole after so many steps of the test.
         for number in 0..TEST_STEPS + 1 {
-            let (delegate, answer, is_first, left) = match number {
-                0..6 => ("ok", "ok stays", false, &moved),
-                6 => ("ok", "raced", false, &moved),
-                7..25 => ("busy 1", "ok preempts", false, &start),
-                25 => ("busy 1", "ok preempts", true, &start),
-                _ => ("ok", "ok preempts", true, &moved),
+            let (delegate, answer, is_first) = match number {
+                0..6 => ("ok", "ok stays", false),
+                6 => ("ok", "raced", false),
+                7..25 => ("busy 1", "ok preempts", false),
+                25 => ("busy 1", "ok preempts", true),
+                _ => ("ok", "ok preempts", true),
             };
+            let left = if delegate == "ok" { &moved } else { &start };
             let items = steps(alloc, 1, number)?;
             let script = format!(in alloc;
                 "{TWO_SCHEDULERS}core 0\ndelegate 12 13 10\ncore 1\n{test}\norder\n{items}0. 1.\n"
@@ -96,7 +97,7 @@ fn a_reader_of_a_list_that_is_being_stored_is_raced_or_busy(rt: HostRuntime) -> 
         "frame 8 tcap refs 1\n  budget 10\n  quality 0 5\nlive 0",
     )?;
     // The test has not loaded the head of 13, or has, with none, some or all of the words of its list.
-    for one in [0, 15, 16, 17, 20, 24] {
+    for one in [0_usize, 15, 16, 17, 20, 24] {
         let before = steps(alloc, 1, one)?;
         for zero in 0..DELEGATE_STEPS + 1 {
             let (answer, is_first) = match zero {

@@ -107,12 +107,13 @@ fn a_delegation_decides_at_the_compare_of_the_second_head(rt: HostRuntime) -> Re
     let start = lists_left(alloc, (100, 100), (OWN, OTHER))?;
     // The call, its reply, the step that decides it, and its steps.
     let rows = [
-        ("delegate 12 13 10", "ok", 25, DELEGATE_STEPS),
+        ("delegate 12 13 10", "ok", 25_u8, 37_u8),
         ("delegate 12 13 101", "short 100", 7, 10),
         ("delegate 12 12 10", "same", 5, 7),
     ];
     for (call, reply, decides, last) in rows {
         let left = if reply == "ok" { &moved } else { &start };
+        let (decides, last) = (usize::from(decides), usize::from(last));
         // A look of core 1, and the next one of core 0, which decides at its third step, show it.
         for number in 0..last + 4 {
             let items = steps(alloc, 0, number)?;
@@ -146,31 +147,31 @@ fn eight_schedulers(alloc: Global) -> Result<(String, String, String), Fail> {
     let mut calls = 0_u32;
     for sched in 1_u32..9 {
         let (frame, slot) = (7 + sched, 19 + sched);
+        calls = calls.wrapping_add(1);
         write!(lines, "retype 0 {frame} kernel\n")?;
+        write!(replies, "0.{calls} retype 0 {frame} kernel = ok\n")?;
+        calls = calls.wrapping_add(1);
         write!(lines, "make tcap 0 {frame} 1 {slot} {sched} 9\n")?;
-        write!(replies, "0.{} retype 0 {frame} kernel = ok\n", calls + 1)?;
         write!(
             replies,
-            "0.{} make tcap 0 {frame} 1 {slot} {sched} 9 = ok\n",
-            calls + 2
+            "0.{calls} make tcap 0 {frame} 1 {slot} {sched} 9 = ok\n"
         )?;
+        if sched < 8 {
+            calls = calls.wrapping_add(1);
+            write!(lines, "delegate {slot} 13 0\n")?;
+            write!(replies, "0.{calls} delegate {slot} 13 0 = ok\n")?;
+        }
         write!(
             frames,
             "frame {frame} tcap refs 1\n  budget 0\n  quality {sched} 9\n"
         )?;
-        calls += 2;
-        if sched < 8 {
-            calls += 1;
-            write!(lines, "delegate {slot} 13 0\n")?;
-            write!(replies, "0.{calls} delegate {slot} 13 0 = ok\n")?;
-        }
     }
     Ok((lines, replies, frames))
 }
 
-// The tables where 13 has eight schedulers, these frames are made, and core 1 has spent these ticks.
-fn full_list_left(alloc: Global, frames: &str, spent: u32) -> Result<String, Fail> {
-    let left = tables(alloc, (100, 100 - spent), (0, 0), (spent, 0))?;
+// The tables where 13 has eight schedulers and this budget, these frames are made, and core 1 has spent these ticks.
+fn full_list_left(alloc: Global, frames: &str, budget: u32, spent: u32) -> Result<String, Fail> {
+    let left = tables(alloc, (100, budget), (0, 0), (spent, 0))?;
     let mut entries = String::from_str(alloc, "  13 tcap 7\n")?;
     let mut list = String::from_str(alloc, OWN)?;
     for sched in 1_u32..9 {
@@ -190,7 +191,7 @@ fn full_list_left(alloc: Global, frames: &str, spent: u32) -> Result<String, Fai
 fn a_merged_list_has_at_most_eight_schedulers(rt: HostRuntime) -> Result<(), Fail> {
     let alloc = rt.alloc();
     let (first, made, frames) = eight_schedulers(alloc)?;
-    let left = full_list_left(alloc, &frames, 0)?;
+    let left = full_list_left(alloc, &frames, 100, 0)?;
     // The ninth is one too many, in both directions; one that the list names already is none.
     let lines =
         "delegate 27 13 0\ndelegate 27 13 1\ndelegate 13 27 5\ndelegate 20 13 0\ntransfer 13 12 5\n";
@@ -208,7 +209,7 @@ fn a_list_that_would_be_too_long_is_judged_by_the_head_that_was_found(
 ) -> Result<(), Fail> {
     let alloc = rt.alloc();
     let (first, made, frames) = eight_schedulers(alloc)?;
-    let left = full_list_left(alloc, &frames, 7)?;
+    let left = full_list_left(alloc, &frames, 93, 7)?;
     let whole = "0. 0. 0. 0. 0. 0. 0. 0. 0. 0. 0. 0. 0. 0. 0. 0. 0. 0. 0. 0. 0. 0. 0. ";
     let again = "0.25 delegate 27 13 0 = too-many\n";
     // Core 1 changes the head after so many steps: before it is loaded, before it is loaded again, and after that.

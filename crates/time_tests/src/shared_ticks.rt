@@ -85,8 +85,8 @@ fn of_two_ticks_of_one_temporal_capability_one_is_carried_out_in_each_order_of_t
     let lists = format!(in alloc; "{MAKES}tick 40\ntick 0\n{SWITCHES}tick 7\ntick 0\n{FIRST}")?;
     // What was lost is owed, and the next tick charges it.
     let left = shared(alloc, 53, (40, 0), (7, 0))?;
-    let mut orders = 0;
-    let mut races = 0;
+    let mut orders = 0_u32;
+    let mut races = 0_u32;
     for number in 0..ORDERS {
         let order = order_of(number);
         if let Some((first, is_lost)) = rule(&order) {
@@ -97,9 +97,9 @@ fn of_two_ticks_of_one_temporal_capability_one_is_carried_out_in_each_order_of_t
             let lines = format!(in alloc; "{lists}{items}0. 1. 0. 1.\n")?;
             let replies = replies_of(alloc, first, is_lost)?;
             assert!(rt; leads_to(&rt, alloc, &lines, &replies, &left)?, "{order:?}");
-            orders += 1;
+            orders = orders.wrapping_add(1);
             if is_lost {
-                races += 1;
+                races = races.wrapping_add(1);
             }
         }
     }
