@@ -278,7 +278,7 @@ module _ (setup : Setting) (setting : IsSetting setup) (cores : ℕ → Core) (t
 
     commits : (w : Word) → marked_by setup t w ≡ Some c
         → WordIs s' (times_of setup (e ∷ t)) w ((holds_at stage a.counts).stands w)
-    commits w own = subst (λ (v : Word). WordIs s' (times_of setup (e ∷ t)) v ((holds_at stage a.counts).stands v)) 
+    commits w own = subst (λ (v : Word). WordIs s' (times_of setup (e ∷ t)) v ((holds_at stage a.counts).stands v))
         (sym (compared.only_a setup setting cores t stands c here a active what_p stage_is has w own))
         (subst (WordIs s' (times_of setup (e ∷ t)) at_a)
         (sym (ap (λ b. if b then word_of_head (debited p.head_a m) else (holds_counts (Some None) a.counts).stands at_a) (same_same at_a)))

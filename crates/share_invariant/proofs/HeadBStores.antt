@@ -1,5 +1,5 @@
 -- A delegation, whose list is stored, gives the head of the second of two temporal capabilities back with the ticks.
-use Rattle.std.proofs.Common.{◌≡◌, ◌≢◌, ◌∷◌, inl, ℕ, ◌<◌, true, if◌then◌else◌, Option, Some, None, arith, refl, sym, ◌∙◌, ap, subst}
+use Rattle.std.proofs.Common.{◌≡◌, ◌≢◌, inl, ℕ, ◌<◌, true, if◌then◌else◌, Option, Some, None, arith, refl, sym, ◌∙◌, ap}
 use Rattle.spk_nums.specs.Setting.{Setting, IsSetting}
 use Rattle.spk_nums.specs.declared.replies.Reply.{Reply}
 use Rattle.spk_nums.specs.declared.replies.Value.TheVariants as value

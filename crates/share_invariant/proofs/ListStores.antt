@@ -4,8 +4,7 @@ use Rattle.std.proofs.lemmas.Bool.{cases_eq, cases_lt, eq-eqb, ne_eqb, le-leb, l
 use Rattle.spk_nums.specs.Setting.{Setting, IsSetting}
 use Rattle.spk_nums.specs.declared.calls.Call.{Call}
 use Rattle.spk_nums.specs.declared.replies.Reply.{Reply}
-use Rattle.tcap_words.specs.Quality.{QualityFits, quality_of_word}
-use Rattle.tcap_words.specs.declared.quality_word.QualityWord.{QualityWord}
+use Rattle.tcap_words.specs.Quality.{QualityFits}
 use Rattle.tcap_words.proofs.QualityLemmas.{spelling}
 use Rattle.word_map.specs.Word.{Word, EntryAt}
 use Rattle.word_map.specs.Moves.{Move, StoreOf, word_of}

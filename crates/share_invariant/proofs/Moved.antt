@@ -103,7 +103,8 @@ pub record IsMoved (setup : Setting) (t : Trace) (e : Step) (f g : ℕ) (q r q' 
 module _ (setup : Setting) (setting : IsSetting setup) (cores : ℕ → Core) (t : Trace) (stands : Stands setup cores t) (c : ℕ)
     (here : c < setup.cores)
     (a : ActiveCall) (active : (cores c).active ≡ Some a) (move : Move) (f g : ℕ) (q r q' r' : TcapFields)
-    (is : IsMoved setup t (inner setup setting cores t stands c here a active move (Some (reply.Ok value.Nothing)) None) f g q r q' r') where
+    (is : IsMoved setup t (inner setup setting cores t stands c here a active move (Some (reply.Ok value.Nothing)) None) f g q r q'
+    r') where
   abbrev e : Step
   e = inner setup setting cores t stands c here a active move (Some (reply.Ok value.Nothing)) None
 

@@ -1,5 +1,5 @@
 -- A step of a call on two temporal capabilities is good, and so is a step that gives the first one's head back.
-use Rattle.std.proofs.Common.{◌≡◌, ℕ, zero, suc, ◌<◌, Option, Some, refl}
+use Rattle.std.proofs.Common.{◌≡◌, ℕ, zero, suc, ◌<◌, Option, Some}
 use Rattle.spk_nums.specs.Setting.{Setting, IsSetting}
 use Rattle.spk_nums.specs.declared.replies.Reply.{Reply}
 use Rattle.word_map.specs.Moves.{word_of, told_of}
