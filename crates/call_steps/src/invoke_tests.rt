@@ -3,8 +3,11 @@
 
 ghost use Rattle.std.specs.Prelude.{◌≡◌, ◌<◌, ◌≤◌, [], ◌∷◌};
 ghost use Rattle.call_steps.specs.Fits.{StageFits};
-ghost use Rattle.call_steps.specs.declared.stages.Stage.TheVariants.{Undecided};
-ghost use Rattle.call_acts.specs.declared.work.Work.TheVariants.{Act as act_work};
+ghost use Rattle.call_steps.specs.declared.stages.Stage.TheVariants.{Undecided, Decided};
+ghost use Rattle.call_acts.specs.declared.work.Work.TheVariants.{Act as act_work, Lookup};
+ghost use Rattle.stage_look.specs.declared.look.Look.TheVariants.{AtLeaf};
+ghost use Rattle.spk_nums.specs.declared.replies.Reply.TheVariants.{Ok};
+ghost use Rattle.spk_nums.specs.declared.replies.Value.TheVariants.{Nothing};
 ghost use Rattle.call_acts.specs.declared.invocations.InvokingAt.TheVariants.{LoadLive};
 
 use crate::steps::stage_op;
@@ -30,8 +33,8 @@ const DIED: u64 = 0x50_0000_000b;
 
 // A core 0 of a machine of 8 frames, at this depth of its thread's stack.
 fn own_at(layout: Layout, depth: u8) -> Own
-    ensures layout { result.now.layout ≡ layout.now }
-    ensures core { result.now.core ≡ 0 }
+    ensures layout { result.layout ≡ layout }
+    ensures core { result.core ≡ 0 }
 {
     Own {
         core: CoreNo::new(0),
@@ -54,7 +57,7 @@ fn own_at(layout: Layout, depth: u8) -> Own
 
 // The step that a call makes at this stage, what is told where it finds this word, and where the call then stands.
 fn step(layout: &Layout, depth: u8, call: Call, stage: Stage, found: u64) -> (WordOp, Told, Stage)
-    requires fits { StageFits layout.now stage.now }
+    requires fits { StageFits layout.now stage }
     requires cores { layout.now.cores ≤ 8 }
     requires some { 0 < layout.now.cores }
 {
@@ -79,8 +82,8 @@ fn call() -> Call {
 }
 
 // The entering of the component in frame 6 through a gate of the epoch 2, at depth 1.
-fn invoke(at: InvokingAt) -> Act
-    ensures { result ≡ Act.Invoke (record { comp = 6; epoch = 2; thread = 4; depth = 1; core = 0; frames = 8; at = at }) }
+fn invoke(at: &InvokingAt) -> Act
+    ensures { result ≡ Act.Invoke (record { comp = 6; epoch = 2; thread = 4; depth = 1; core = 0; frames = 8; at = at.now }) }
 {
     Act::Invoke {
         invoking: Invoking {
@@ -90,14 +93,14 @@ fn invoke(at: InvokingAt) -> Act
             depth: 1,
             core: CoreNo::new(0),
             frames: 8,
-            at,
+            at: *at,
         },
     }
 }
 
 // The leaving of the component in frame 6, at depth 2.
-fn leave(at: ReturningAt) -> Act
-    ensures { result ≡ Act.Return (record { top = 6; thread = 4; depth = 2; core = 0; frames = 8; at = at }) }
+fn leave(at: &ReturningAt) -> Act
+    ensures { result ≡ Act.Return (record { top = 6; thread = 4; depth = 2; core = 0; frames = 8; at = at.now }) }
 {
     Act::Return {
         returning: Returning {
@@ -106,7 +109,7 @@ fn leave(at: ReturningAt) -> Act
             depth: 2,
             core: CoreNo::new(0),
             frames: 8,
-            at,
+            at: *at,
         },
     }
 }
@@ -133,11 +136,13 @@ fn at_live() -> InvokingAt
     }
 }
 
-fn decided(drawn: Option<Stamp>, tail: Tail) -> Stage {
+fn decided(drawn: &Option<Stamp>, tail: &Tail) -> Stage
+    ensures { result ≡ Decided (Ok Nothing) drawn.now tail.now }
+{
     Stage::Decided {
         reply: Reply::Ok(Value::Nothing),
-        drawn,
-        tail,
+        drawn: *drawn,
+        tail: *tail,
     }
 }
 
@@ -150,43 +155,38 @@ fn a_call_loads_the_component_and_acquires_its_count_before_it_looks_whether_it_
         let pages = FrameNo::new(2);
         let at_pages = InvokingAt::LoadPages { table };
         let at_comp = InvokingAt::LoadComp { table, pages };
-        assert_eq!(rt;
-            step(&layout, 1, call(), acts(invoke(InvokingAt::LoadTable)), 0),
-            (
-                WordOp::Load { at: 384 },
-                Told::Going,
-                acts(invoke(at_pages))
-            )
-        );
-        assert_eq!(rt;
-            step(&layout, 1, call(), acts(invoke(at_pages)), 2),
-            (WordOp::Load { at: 385 }, Told::Going, acts(invoke(at_comp)))
-        );
+        let at = step(&layout, 1, call(), acts(invoke(&InvokingAt::LoadTable)), 0);
+        let next = acts(invoke(&at_pages));
+        assert_eq!(rt; at, (WordOp::Load { at: 384 }, Told::Going, next));
+        let at = step(&layout, 1, call(), acts(invoke(&at_pages)), 2);
+        let next = acts(invoke(&at_comp));
+        assert_eq!(rt; at, (WordOp::Load { at: 385 }, Told::Going, next));
         let acquires = Stage::Undecided {
             work: Work::Acquire {
                 pin: Pin::new(FrameNo::new(6), CoreNo::new(0)),
                 change: 1,
-                act: invoke(at_live()),
+                act: invoke(&at_live()),
             },
         };
-        assert_eq!(rt;
-            step(&layout, 1, call(), acts(invoke(at_comp)), 129),
-            (WordOp::Load { at: 386 }, Told::Going, acquires)
-        );
+        let at = step(&layout, 1, call(), acts(invoke(&at_comp)), 129);
+        let next = acquires;
+        assert_eq!(rt; at, (WordOp::Load { at: 386 }, Told::Going, next));
         // A frame past the machine's is none of its place.
         let refused = Stage::Decided {
             reply: Reply::Raced,
             drawn: None,
             tail: Tail::Nothing,
         };
+        let at = step(&layout, 1, call(), acts(invoke(&InvokingAt::LoadTable)), 8);
+        let next = refused;
         assert_eq!(rt;
-            step(&layout, 1, call(), acts(invoke(InvokingAt::LoadTable)), 8),
+            at,
             (
                 WordOp::Load { at: 384 },
                 Told::Decided {
                     reply: Reply::Raced
                 },
-                refused
+                next
             )
         );
     }
@@ -195,11 +195,15 @@ fn a_call_loads_the_component_and_acquires_its_count_before_it_looks_whether_it_
 #[test]
 fn a_call_decides_at_the_word_of_the_liveness_number_and_pushes(rt: HostRuntime) {
     if let Some(layout) = Layout::new(1, 8) {
-        let push = Push::new(FrameNo::new(THREAD), CoreNo::new(0), 1, FrameNo::new(6));
-        let then = Push::AtThread {
-            thread: FrameNo::new(THREAD),
-            core: CoreNo::new(0),
-            depth: 1,
+        let pushes = Tail::Push {
+            push: Push::new(FrameNo::new(THREAD), CoreNo::new(0), 1, FrameNo::new(6)),
+        };
+        let deepens = Tail::Push {
+            push: Push::AtThread {
+                thread: FrameNo::new(THREAD),
+                core: CoreNo::new(0),
+                depth: 1,
+            },
         };
         let works = OwnChange::Works {
             comp: FrameNo::new(6),
@@ -211,45 +215,18 @@ fn a_call_decides_at_the_word_of_the_liveness_number_and_pushes(rt: HostRuntime)
             reply: Reply::Ok(Value::Nothing),
             change: works,
         };
-        assert_eq!(rt;
-            step(&layout, 1, call(), acts(invoke(at_live())), LIVES),
-            (
-                WordOp::Load { at: 531 },
-                told,
-                decided(None, Tail::Push { push })
-            )
-        );
+        let at = step(&layout, 1, call(), acts(invoke(&at_live())), LIVES);
+        let next = decided(&None, &pushes);
+        assert_eq!(rt; at, (WordOp::Load { at: 531 }, told, next));
         // The component above the top, then the depth.
         let above = WordOp::Store { at: 258, word: 13 };
-        assert_eq!(rt;
-            step(
-                &layout,
-                2,
-                call(),
-                Stage::Decided {
-                    reply: Reply::Ok(Value::Nothing),
-                    drawn: None,
-                    tail: Tail::Push { push }
-                },
-                13
-            ),
-            (above, Told::Going, decided(None, Tail::Push { push: then }))
-        );
+        let at = step(&layout, 2, call(), decided(&None, &pushes), 13);
+        let next = decided(&None, &deepens);
+        assert_eq!(rt; at, (above, Told::Going, next));
         let deeper = WordOp::Store { at: 256, word: 65 };
-        assert_eq!(rt;
-            step(
-                &layout,
-                2,
-                call(),
-                Stage::Decided {
-                    reply: Reply::Ok(Value::Nothing),
-                    drawn: None,
-                    tail: Tail::Push { push: then }
-                },
-                65
-            ),
-            (deeper, Told::Going, decided(None, Tail::Nothing))
-        );
+        let at = step(&layout, 2, call(), decided(&None, &deepens), 65);
+        let next = decided(&None, &Tail::Nothing);
+        assert_eq!(rt; at, (deeper, Told::Going, next));
         // Another epoch lives there, or none does.
         for word in [LIVES_BEFORE, DIED, 0] {
             let dead = Stage::Decided {
@@ -257,12 +234,14 @@ fn a_call_decides_at_the_word_of_the_liveness_number_and_pushes(rt: HostRuntime)
                 drawn: None,
                 tail: Tail::Nothing,
             };
+            let at = step(&layout, 1, call(), acts(invoke(&at_live())), word);
+            let next = dead;
             assert_eq!(rt;
-                step(&layout, 1, call(), acts(invoke(at_live())), word),
+                at,
                 (
                     WordOp::Load { at: 531 },
                     Told::Decided { reply: Reply::Dead },
-                    dead
+                    next
                 ),
                 "at {word:#x}"
             );
@@ -277,35 +256,36 @@ fn a_ret_loads_the_component_below_draws_a_stamp_and_pops(rt: HostRuntime) {
         let at_table = ReturningAt::LoadTable { comp };
         let at_pages = ReturningAt::LoadPages { comp, table };
         let at_draw = ReturningAt::Draw { comp, table, pages };
-        assert_eq!(rt;
-            step(
-                &layout,
-                2,
-                Call::Ret,
-                acts(leave(ReturningAt::LoadBelow)),
-                7
-            ),
-            (WordOp::Load { at: 257 }, Told::Going, acts(leave(at_table)))
+        let at = step(
+            &layout,
+            2,
+            Call::Ret,
+            acts(leave(&ReturningAt::LoadBelow)),
+            7,
         );
-        assert_eq!(rt;
-            step(&layout, 2, Call::Ret, acts(leave(at_table)), 0),
-            (WordOp::Load { at: 192 }, Told::Going, acts(leave(at_pages)))
-        );
+        let next = acts(leave(&at_table));
+        assert_eq!(rt; at, (WordOp::Load { at: 257 }, Told::Going, next));
+        let at = step(&layout, 2, Call::Ret, acts(leave(&at_table)), 0);
+        let next = acts(leave(&at_pages));
+        assert_eq!(rt; at, (WordOp::Load { at: 192 }, Told::Going, next));
         let acquires = Stage::Undecided {
             work: Work::Acquire {
                 pin: Pin::new(FrameNo::new(6), CoreNo::new(0)),
                 change: -1,
-                act: leave(at_draw),
+                act: leave(&at_draw),
             },
         };
-        assert_eq!(rt;
-            step(&layout, 2, Call::Ret, acts(leave(at_pages)), 2),
-            (WordOp::Load { at: 193 }, Told::Going, acquires)
-        );
-        let pop = Pop::new(FrameNo::new(THREAD), CoreNo::new(0), 2);
-        let then = Pop::AtStack {
-            thread: FrameNo::new(THREAD),
-            depth: 2,
+        let at = step(&layout, 2, Call::Ret, acts(leave(&at_pages)), 2);
+        let next = acquires;
+        assert_eq!(rt; at, (WordOp::Load { at: 193 }, Told::Going, next));
+        let pops = Tail::Pop {
+            pop: Pop::new(FrameNo::new(THREAD), CoreNo::new(0), 2),
+        };
+        let clears = Tail::Pop {
+            pop: Pop::AtStack {
+                thread: FrameNo::new(THREAD),
+                depth: 2,
+            },
         };
         let stamp = Some(Stamp::new(9));
         let told = Told::Changed {
@@ -317,51 +297,19 @@ fn a_ret_loads_the_component_below_draws_a_stamp_and_pops(rt: HostRuntime) {
                 depth: 1,
             },
         };
-        assert_eq!(rt;
-            step(&layout, 2, Call::Ret, acts(leave(at_draw)), 9),
-            (
-                WordOp::Add { at: 594, by: 1 },
-                told,
-                decided(stamp, Tail::Pop { pop })
-            )
-        );
+        let at = step(&layout, 2, Call::Ret, acts(leave(&at_draw)), 9);
+        let next = decided(&stamp, &pops);
+        assert_eq!(rt; at, (WordOp::Add { at: 594, by: 1 }, told, next));
         // The depth, then the place of what was the top.
+        let at = step(&layout, 1, Call::Ret, decided(&stamp, &pops), 33);
+        let next = decided(&stamp, &clears);
         assert_eq!(rt;
-            step(
-                &layout,
-                1,
-                Call::Ret,
-                Stage::Decided {
-                    reply: Reply::Ok(Value::Nothing),
-                    drawn: stamp,
-                    tail: Tail::Pop { pop }
-                },
-                33
-            ),
-            (
-                WordOp::Store { at: 256, word: 33 },
-                Told::Going,
-                decided(stamp, Tail::Pop { pop: then })
-            )
+            at,
+            (WordOp::Store { at: 256, word: 33 }, Told::Going, next)
         );
-        assert_eq!(rt;
-            step(
-                &layout,
-                1,
-                Call::Ret,
-                Stage::Decided {
-                    reply: Reply::Ok(Value::Nothing),
-                    drawn: stamp,
-                    tail: Tail::Pop { pop: then }
-                },
-                0
-            ),
-            (
-                WordOp::Store { at: 258, word: 0 },
-                Told::Going,
-                decided(stamp, Tail::Nothing)
-            )
-        );
+        let at = step(&layout, 1, Call::Ret, decided(&stamp, &clears), 0);
+        let next = decided(&stamp, &Tail::Nothing);
+        assert_eq!(rt; at, (WordOp::Store { at: 258, word: 0 }, Told::Going, next));
     }
 }
 
@@ -382,14 +330,16 @@ fn a_ret_at_the_bottom_is_refused_at_its_first_step(rt: HostRuntime) {
             drawn: None,
             tail: Tail::Nothing,
         };
+        let at = enters_ret(&layout, 1);
+        let next = bottom;
         assert_eq!(rt;
-            enters_ret(&layout, 1),
+            at,
             (
                 enters,
                 Told::Decided {
                     reply: Reply::Bottom
                 },
-                bottom
+                next
             )
         );
         let at = enters_ret(&layout, 2);
@@ -397,16 +347,22 @@ fn a_ret_at_the_bottom_is_refused_at_its_first_step(rt: HostRuntime) {
     }
 }
 
+// Before the load of the entry to which its name leads.
+fn looks() -> Stage
+    ensures { result ≡ Undecided (Lookup (AtLeaf 1 20)) }
+{
+    let look = Look::AtLeaf {
+        leaf: FrameNo::new(1),
+        number: CapId::new(20),
+    };
+    Stage::Undecided {
+        work: Work::Lookup { look },
+    }
+}
+
 #[test]
 fn a_call_at_depth_16_is_refused_where_its_gate_is_found(rt: HostRuntime) {
     if let Some(layout) = Layout::new(1, 8) {
-        let look = Look::AtLeaf {
-            leaf: FrameNo::new(1),
-            number: CapId::new(20),
-        };
-        let looks = Stage::Undecided {
-            work: Work::Lookup { look },
-        };
         // A gate to the component in frame 6, of the epoch 2.
         let gate = 0x2_0199;
         let deep = Stage::Decided {
@@ -414,21 +370,18 @@ fn a_call_at_depth_16_is_refused_where_its_gate_is_found(rt: HostRuntime) {
             drawn: None,
             tail: Tail::Nothing,
         };
+        let at = step(&layout, 16, call(), looks(), gate);
+        let next = deep;
         assert_eq!(rt;
-            step(&layout, 16, call(), looks, gate),
+            at,
             (
                 WordOp::Load { at: 84 },
                 Told::Decided { reply: Reply::Deep },
-                deep
+                next
             )
         );
-        assert_eq!(rt;
-            step(&layout, 1, call(), looks, gate),
-            (
-                WordOp::Load { at: 84 },
-                Told::Going,
-                acts(invoke(InvokingAt::LoadTable))
-            )
-        );
+        let at = step(&layout, 1, call(), looks(), gate);
+        let next = acts(invoke(&InvokingAt::LoadTable));
+        assert_eq!(rt; at, (WordOp::Load { at: 84 }, Told::Going, next));
     }
 }

@@ -2,7 +2,7 @@
 
 ghost use Rattle.std.specs.Prelude.{◌≡◌, ◌<◌, ◌≤◌};
 ghost use Rattle.call_steps.specs.Fits.{StageFits};
-ghost use Rattle.call_steps.specs.declared.stages.Stage.TheVariants.{Undecided};
+ghost use Rattle.call_steps.specs.declared.stages.Stage.TheVariants.{Undecided, Decided};
 ghost use Rattle.call_acts.specs.declared.work.Work.TheVariants.{Act as act_work};
 ghost use Rattle.call_acts.specs.declared.switches.SwitchAt.TheVariants.{Leave, Draw};
 
@@ -41,8 +41,8 @@ const COMP_3: u64 = 7;
 
 // The core 0 of a machine of 8 frames.
 fn own_at(layout: Layout) -> Own
-    ensures layout { result.now.layout ≡ layout.now }
-    ensures core { result.now.core ≡ 0 }
+    ensures layout { result.layout ≡ layout }
+    ensures core { result.core ≡ 0 }
 {
     Own {
         core: CoreNo::new(0),
@@ -65,7 +65,7 @@ fn own_at(layout: Layout) -> Own
 
 // The step that a switch makes at this stage, what is told where it finds this word, and where the call then stands.
 fn step(layout: &Layout, stage: Stage, found: u64) -> (WordOp, Told, Stage)
-    requires fits { StageFits layout.now stage.now }
+    requires fits { StageFits layout.now stage }
     requires cores { layout.now.cores ≤ 8 }
     requires some { 0 < layout.now.cores }
 {
@@ -90,8 +90,8 @@ fn step(layout: &Layout, stage: Stage, found: u64) -> (WordOp, Told, Stage)
 }
 
 // The switch to the thread, which stands here.
-fn switch(at: SwitchAt) -> Act
-    ensures { result ≡ Act.Switch (record { core = 0; frames = 8; tcap = 7; old = 4; old_depth = 1; old_tcap = 5; at = at }) }
+fn switch(at: &SwitchAt) -> Act
+    ensures { result ≡ Act.Switch (record { core = 0; frames = 8; tcap = 7; old = 4; old_depth = 1; old_tcap = 5; at = at.now }) }
 {
     Act::Switch {
         switching: Switching {
@@ -101,7 +101,7 @@ fn switch(at: SwitchAt) -> Act
             old: FrameNo::new(OLD),
             old_depth: 1,
             old_tcap: FrameNo::new(OLD_TCAP),
-            at,
+            at: *at,
         },
     }
 }
@@ -146,13 +146,20 @@ fn draws() -> SwitchAt
     }
 }
 
-fn decided(reply: Reply, drawn: Option<Stamp>, tail: Tail) -> Stage {
-    Stage::Decided { reply, drawn, tail }
+fn decided(reply: &Reply, drawn: &Option<Stamp>, tail: &Tail) -> Stage
+    ensures { result ≡ Decided reply.now drawn.now tail.now }
+{
+    Stage::Decided {
+        reply: *reply,
+        drawn: *drawn,
+        tail: *tail,
+    }
 }
 
 // Refused with this reply, and this to store.
-fn refused(op: WordOp, reply: Reply, tail: Tail) -> (WordOp, Told, Stage) {
-    (op, Told::Decided { reply }, decided(reply, None, tail))
+fn refused(op: &WordOp, reply: &Reply, tail: &Tail) -> (WordOp, Told, Stage) {
+    let told = Told::Decided { reply: *reply };
+    (*op, told, decided(reply, &None, tail))
 }
 
 #[test]
@@ -177,50 +184,33 @@ fn a_switch_claims_the_thread_and_loads_its_component_before_it_acquires_counts(
             to: claimed(),
             table: FrameNo::new(0),
         };
-        assert_eq!(rt;
-            step(&layout, acts(switch(at_load)), IDLE),
-            (
-                WordOp::Load { at: 384 },
-                Told::Going,
-                acts(switch(at_compare))
-            )
-        );
+        let at = step(&layout, acts(switch(&at_load)), IDLE);
+        let next = acts(switch(&at_compare));
+        assert_eq!(rt; at, (WordOp::Load { at: 384 }, Told::Going, next));
         let compare = WordOp::Compare {
             at: 384,
             expected: IDLE,
             word: CLAIMED,
         };
-        assert_eq!(rt;
-            step(&layout, acts(switch(at_compare)), IDLE),
-            (compare, Told::Going, acts(switch(at_stack)))
-        );
-        assert_eq!(rt;
-            step(&layout, acts(switch(at_stack)), COMP_3),
-            (
-                WordOp::Load { at: 385 },
-                Told::Going,
-                acts(switch(at_table))
-            )
-        );
-        assert_eq!(rt;
-            step(&layout, acts(switch(at_table)), 0),
-            (
-                WordOp::Load { at: 192 },
-                Told::Going,
-                acts(switch(at_pages))
-            )
-        );
+        let at = step(&layout, acts(switch(&at_compare)), IDLE);
+        let next = acts(switch(&at_stack));
+        assert_eq!(rt; at, (compare, Told::Going, next));
+        let at = step(&layout, acts(switch(&at_stack)), COMP_3);
+        let next = acts(switch(&at_table));
+        assert_eq!(rt; at, (WordOp::Load { at: 385 }, Told::Going, next));
+        let at = step(&layout, acts(switch(&at_table)), 0);
+        let next = acts(switch(&at_pages));
+        assert_eq!(rt; at, (WordOp::Load { at: 192 }, Told::Going, next));
         let acquires = Stage::Undecided {
             work: Work::Acquire {
                 pin: Pin::new(thread, core),
                 change: 1,
-                act: switch(leaves()),
+                act: switch(&leaves()),
             },
         };
-        assert_eq!(rt;
-            step(&layout, acts(switch(at_pages)), 2),
-            (WordOp::Load { at: 193 }, Told::Going, acquires)
-        );
+        let at = step(&layout, acts(switch(&at_pages)), 2);
+        let next = acquires;
+        assert_eq!(rt; at, (WordOp::Load { at: 193 }, Told::Going, next));
     }
 }
 
@@ -234,14 +224,12 @@ fn a_switch_is_refused_by_a_thread_that_runs_or_is_claimed_and_gives_back_one_th
             claim: Claim::new(thread, core),
         };
         let load = WordOp::Load { at: 384 };
-        assert_eq!(rt;
-            step(&layout, acts(switch(at_load)), RUNNING_ON_1),
-            refused(load, Reply::Running(CoreNo::new(1)), Tail::Nothing)
-        );
-        assert_eq!(rt;
-            step(&layout, acts(switch(at_load)), CLAIMED_BY_1),
-            refused(load, Reply::Busy(CoreNo::new(1)), Tail::Nothing)
-        );
+        let at = step(&layout, acts(switch(&at_load)), RUNNING_ON_1);
+        let next = refused(&load, &Reply::Running(CoreNo::new(1)), &Tail::Nothing);
+        assert_eq!(rt; at, next);
+        let at = step(&layout, acts(switch(&at_load)), CLAIMED_BY_1);
+        let next = refused(&load, &Reply::Busy(CoreNo::new(1)), &Tail::Nothing);
+        assert_eq!(rt; at, next);
         let at_compare = SwitchAt::Claim {
             claim: Claim::AtCompare {
                 thread,
@@ -254,29 +242,22 @@ fn a_switch_is_refused_by_a_thread_that_runs_or_is_claimed_and_gives_back_one_th
             expected: IDLE,
             word: CLAIMED,
         };
-        assert_eq!(rt;
-            step(&layout, acts(switch(at_compare)), RUNNING_ON_1),
-            refused(compare, Reply::Raced, Tail::Nothing)
-        );
+        let at = step(&layout, acts(switch(&at_compare)), RUNNING_ON_1);
+        let next = refused(&compare, &Reply::Raced, &Tail::Nothing);
+        assert_eq!(rt; at, next);
         // A frame past the machine's is none of its place.
         let gives_back = Tail::StoreIdle { thread, depth: 1 };
         let at_table = SwitchAt::LoadTable { to: claimed() };
-        assert_eq!(rt;
-            step(&layout, acts(switch(at_table)), 8),
-            refused(WordOp::Load { at: 192 }, Reply::Raced, gives_back)
-        );
+        let at = step(&layout, acts(switch(&at_table)), 8);
+        let next = refused(&WordOp::Load { at: 192 }, &Reply::Raced, &gives_back);
+        assert_eq!(rt; at, next);
         let idle = WordOp::Store {
             at: 384,
             word: IDLE,
         };
-        assert_eq!(rt;
-            step(&layout, decided(Reply::Raced, None, gives_back), IDLE),
-            (
-                idle,
-                Told::Going,
-                decided(Reply::Raced, None, Tail::Nothing)
-            )
-        );
+        let at = step(&layout, decided(&Reply::Raced, &None, &gives_back), IDLE);
+        let next = decided(&Reply::Raced, &None, &Tail::Nothing);
+        assert_eq!(rt; at, (idle, Told::Going, next));
     }
 }
 
@@ -288,14 +269,13 @@ fn a_switch_leaves_its_thread_draws_a_stamp_and_stores_both_threads(rt: HostRunt
             at: 256,
             word: CLAIMED,
         };
-        assert_eq!(rt;
-            step(&layout, acts(switch(leaves())), CLAIMED),
-            (leave, Told::Going, acts(switch(draws())))
-        );
+        let at = step(&layout, acts(switch(&leaves())), CLAIMED);
+        let next = acts(switch(&draws()));
+        assert_eq!(rt; at, (leave, Told::Going, next));
         let ok = Reply::Ok(Value::Nothing);
         let stamp = Some(Stamp::new(9));
         let told = Told::Changed {
-            reply: ok,
+            reply: Reply::Ok(Value::Nothing),
             change: OwnChange::Switches {
                 thread,
                 depth: 1,
@@ -312,14 +292,9 @@ fn a_switch_leaves_its_thread_draws_a_stamp_and_stores_both_threads(rt: HostRunt
             old,
             old_depth: 1,
         };
-        assert_eq!(rt;
-            step(&layout, acts(switch(draws())), 9),
-            (
-                WordOp::Add { at: 594, by: 1 },
-                told,
-                decided(ok, stamp, runs)
-            )
-        );
+        let at = step(&layout, acts(switch(&draws())), 9);
+        let next = decided(&ok, &stamp, &runs);
+        assert_eq!(rt; at, (WordOp::Add { at: 594, by: 1 }, told, next));
         let running = WordOp::Store {
             at: 384,
             word: RUNNING,
@@ -328,18 +303,16 @@ fn a_switch_leaves_its_thread_draws_a_stamp_and_stores_both_threads(rt: HostRunt
             thread: old,
             depth: 1,
         };
-        assert_eq!(rt;
-            step(&layout, decided(ok, stamp, runs), RUNNING),
-            (running, Told::Going, decided(ok, stamp, rests))
-        );
+        let at = step(&layout, decided(&ok, &stamp, &runs), RUNNING);
+        let next = decided(&ok, &stamp, &rests);
+        assert_eq!(rt; at, (running, Told::Going, next));
         let idle = WordOp::Store {
             at: 256,
             word: IDLE,
         };
-        assert_eq!(rt;
-            step(&layout, decided(ok, stamp, rests), IDLE),
-            (idle, Told::Going, decided(ok, stamp, Tail::Nothing))
-        );
+        let at = step(&layout, decided(&ok, &stamp, &rests), IDLE);
+        let next = decided(&ok, &stamp, &Tail::Nothing);
+        assert_eq!(rt; at, (idle, Told::Going, next));
     }
 }
 

@@ -1,14 +1,13 @@
 -- No list of a script has more calls than the script has words.
 use Rattle.std.proofs.Common.{◌≡◌, ℕ, suc, ◌+◌, ◌≤◌, eqb, List, [], ◌∷◌, ◌++◌, length, All, IfOk, Result, Ok, Err, refl, sym, ap, subst, ◌∙◌, arith, inl, inr}
 use Rattle.std.proofs.lemmas.Bool.{cases_Bool, cases_lt}
-use Rattle.std.proofs.lemmas.List.{get_or_past, length_push, length-map}
+use Rattle.std.proofs.lemmas.List.{get_or_past, length_push}
 use Rattle.std.proofs.lemmas.List.Elements.{All-set, All-get_or, All-weaker, All-take, All-replicate}
 use Rattle.spk_nums.specs.declared.calls.Call.{Call}
 use Rattle.script_tokens.specs.declared.scanning.Ending.{Ending}
 use Rattle.script_tokens.specs.declared.scanning.Ending.TheVariants.{Whole, Fault}
 use Rattle.script_tokens.specs.declared.scanning.ByteFault.TheVariants.{NotAscii, TooManyLines}
-use Rattle.script_tokens.specs.declared.token.Token.{Token}
-use Rattle.script_tokens.specs.Words.{Word, view, views, words_of, ending_of}
+use Rattle.script_tokens.specs.Words.{Word, words_of, ending_of}
 use Rattle.script_reader.specs.declared.cause.Cause.{Cause}
 use Rattle.script_reader.specs.declared.head.Line.{Line}
 use Rattle.script_reader.specs.declared.head.Line.TheVariants as line
@@ -114,7 +113,3 @@ pub few_read : (source : List ℕ) (r : Result Script ReadFault) → Gives scrip
     → IfOk r (λ s. All (AtMost (length source)) (lists_of s.lists.items))
 few_read source (Ok s) gives words = few_weaker (length (words_of source)) (length source) (lists_of s.lists.items) words (few_calls source (script_view s) gives)
 few_read source (Err e) gives words = tt
-
--- there are as many tokens as words
-pub few_words : (source : List ℕ) (tokens : List Token) → views tokens ≡ words_of source → length tokens ≤ length source → length (words_of source) ≤ length source
-few_words source tokens same few = let long : length (words_of source) ≡ length tokens = sym (ap length same) ∙ length-map tokens view in omega arith
