@@ -10,8 +10,7 @@ use core_kernel::FreeGate;
 use speck_run::Status;
 use std::alloc::Global;
 use std::test::Fail;
-use std::thread::Threads;
-use test_machine::{AMPLE, FROM_ENTRIES, MACHINE, TO_ENTRIES, replays, runs};
+use test_machine::{FROM_ENTRIES, MACHINE, TO_ENTRIES, leads_to, runs, steps};
 
 // The steps of a make of a component that is carried out, without a scan.
 const STEPS: usize = 32;
@@ -50,19 +49,6 @@ fn tables(alloc: Global, shown: &Shown<'_>) -> Result<String, Fail> {
     Ok(text)
 }
 
-// Whether the script of these lines ends with these reply lines and these tables.
-fn ends<R: Threads + Sync>(
-    rt: &R,
-    alloc: Global,
-    lines: &str,
-    replies: &str,
-    shown: &Shown<'_>,
-) -> Result<bool, Fail> {
-    let tables = tables(alloc, shown)?;
-    let text = format!(in alloc; "{replies}{tables}")?;
-    replays(rt, alloc, lines, &AMPLE, Status::Done, &text)
-}
-
 const START: &str = "live 0 epoch 1 frame 3\n";
 
 #[test]
@@ -77,7 +63,7 @@ fn a_component_is_made_in_the_next_epoch_of_its_number(rt: HostRuntime) -> Resul
         lives: "live 0 epoch 1 frame 3\nlive 1 epoch 1 frame 8\n",
         refs: (3, 3, 4),
     };
-    assert!(rt; ends(&rt, alloc, lines, replies, &made)?);
+    assert!(rt; leads_to(&rt, alloc, lines, replies, &tables(alloc, &made)?)?);
     // The number of a component that was killed.
     let lines = "core 0\nretype 0 8 kernel\nkill 3\nmake comp 0 8 1 20 1 2 0\nkill 20\n";
     let replies =
@@ -88,7 +74,7 @@ fn a_component_is_made_in_the_next_epoch_of_its_number(rt: HostRuntime) -> Resul
         lives: "dead 0 epoch 2\n",
         refs: (3, 3, 3),
     };
-    assert!(rt; ends(&rt, alloc, lines, replies, &again)?);
+    assert!(rt; leads_to(&rt, alloc, lines, replies, &tables(alloc, &again)?)?);
     Ok(())
 }
 
@@ -144,7 +130,10 @@ fn a_number_that_is_not_taken_gives_the_frame_back(rt: HostRuntime) -> Result<()
             lives,
             refs: (2, 2, refs),
         };
-        assert!(rt; ends(&rt, alloc, lines, replies, &shown)?, "{lines}");
+        assert!(rt;
+            leads_to(&rt, alloc, lines, replies, &tables(alloc, &shown)?)?,
+            "{lines}"
+        );
     }
     Ok(())
 }
@@ -152,15 +141,9 @@ fn a_number_that_is_not_taken_gives_the_frame_back(rt: HostRuntime) -> Result<()
 // A script in which both cores make a component of number 1, core 1 with a table and pages of its own, where core 0's make has made so
 // many steps when core 1's comes whole.
 fn two_makes(alloc: Global, zero: usize) -> Result<String, Fail> {
-    let mut order = String::new(alloc);
-    for _ in 0..6 {
-        write!(order, "0. ")?;
-    }
-    for _ in 0..zero {
-        write!(order, "0 ")?;
-    }
+    let items = steps(alloc, 0, zero)?;
     let text = format!(in alloc;
-        "core 0\nretype 0 8 kernel\nretype 0 9 kernel\nretype 0 10 kernel\nmake table 0 10 1 22\nretype 0 11 kernel\nmake pages 0 11 1 23\nmake comp 0 8 1 20 1 2 1\ncore 1\nmake comp 0 9 1 21 22 23 1\norder\n{order}1. 0.\n"
+        "core 0\nretype 0 8 kernel\nretype 0 9 kernel\nretype 0 10 kernel\nmake table 0 10 1 22\nretype 0 11 kernel\nmake pages 0 11 1 23\nmake comp 0 8 1 20 1 2 1\ncore 1\nmake comp 0 9 1 21 22 23 1\norder\n0. 0. 0. 0. 0. 0. {items}1. 0.\n"
     )?;
     Ok(text)
 }
@@ -198,9 +181,9 @@ fn of_two_components_one_takes_the_number(rt: HostRuntime) -> Result<(), Fail> {
         )?;
         let lines = two_makes(alloc, zero)?;
         let is = if zero < 21 {
-            ends(&rt, alloc, &lines, &replies, &one_made)?
+            leads_to(&rt, alloc, &lines, &replies, &tables(alloc, &one_made)?)?
         } else {
-            ends(&rt, alloc, &lines, &replies, &zero_made)?
+            leads_to(&rt, alloc, &lines, &replies, &tables(alloc, &zero_made)?)?
         };
         assert!(rt; is, "{zero}");
     }

@@ -4,12 +4,12 @@
 //! 8), acquires the count of the component's frame (9 and 10), fills the place, which decides (11), commits the count (12) and leaves (13
 //! and 14). Where the place is quiescing the other core's word is loaded after 8.
 
+use crate::shared::{order_of, tables};
 use core_kernel::FreeGate;
 use speck_run::Status;
 use std::alloc::Global;
 use std::test::Fail;
-use std::thread::Threads;
-use test_machine::{AMPLE, FROM_ENTRIES, MACHINE, TO_ENTRIES, replays, runs};
+use test_machine::{MACHINE, leads_to, runs};
 
 // The steps of a gate and of a kill that are carried out.
 const STEPS: usize = 14;
@@ -19,61 +19,23 @@ const KILL_STEPS: usize = 13;
 // The entry line of a gate that is made.
 const ADDED: &str = "  20 gate 3 1\n";
 
-// The tables of the start with these entry lines added, so many references to the component, and its number live or dead.
-fn tables(alloc: Global, added: &str, refs: u32, lives: bool) -> Result<String, Fail> {
-    let start = format!(in alloc; "{TO_ENTRIES}{added}{FROM_ENTRIES}")?;
-    let counted = format!(in alloc; "comp refs {refs}")?;
-    let text = start.replace(alloc, "comp refs 4", &counted)?;
-    let text = if lives {
-        text
-    } else {
-        text.replace(alloc, "live 0 epoch 1 frame 3", "dead 0 epoch 1")?
-    };
-    Ok(text)
-}
-
-// Whether the script of these lines ends with these reply lines and these tables.
-fn ends<R: Threads + Sync>(
-    rt: &R,
-    alloc: Global,
-    lines: &str,
-    replies: &str,
-    tables: &str,
-) -> Result<bool, Fail> {
-    let text = format!(in alloc; "{replies}{tables}")?;
-    replays(rt, alloc, lines, &AMPLE, Status::Done, &text)
-}
-
-// An order in which core 0 makes so many steps, then core 1 so many, then core 0 goes on to its end, and then core 1.
-fn order_of(alloc: Global, zero: usize, one: usize) -> Result<String, Fail> {
-    let mut items = String::new(alloc);
-    for _ in 0..zero {
-        write!(items, "0 ")?;
-    }
-    for _ in 0..one {
-        write!(items, "1 ")?;
-    }
-    write!(items, "0. 1.")?;
-    Ok(items)
-}
-
 #[test]
 fn a_gate_carries_its_component_and_the_epoch(rt: HostRuntime) -> Result<(), Fail> {
     let alloc = rt.alloc();
     let lines = "core 0\ngate 3 1 20\nlook 20\n";
     let replies = "0.1 gate 3 1 20 = ok\n0.2 look 20 = ok gate 3 1\n";
-    assert!(rt; ends(&rt, alloc, lines, replies, &tables(alloc, ADDED, 5, true)?)?);
+    assert!(rt; leads_to(&rt, alloc, lines, replies, &tables(alloc, ADDED, 5, true)?)?);
     // By another capability of the component, in a place from which a capability was removed, and of a component that is dead.
     let lines =
         "core 0\ncopy 3 1 21\ngate 21 1 20\nremove 1 21\ngate 3 1 21\nkill 3\ngate 3 1 22\n";
     let replies =
         "0.1 copy 3 1 21 = ok\n0.2 gate 21 1 20 = ok\n0.3 remove 1 21 = ok\n0.4 gate 3 1 21 = ok\n0.5 kill 3 = ok\n0.6 gate 3 1 22 = ok\n";
     let added = "  20 gate 3 1\n  21 gate 3 1\n  22 gate 3 1\n";
-    assert!(rt; ends(&rt, alloc, lines, replies, &tables(alloc, added, 6, false)?)?);
+    assert!(rt; leads_to(&rt, alloc, lines, replies, &tables(alloc, added, 6, false)?)?);
     // A gate is copied and removed as each capability.
     let lines = "core 0\ngate 3 1 21\ncopy 21 1 20\nremove 1 21\n";
     let replies = "0.1 gate 3 1 21 = ok\n0.2 copy 21 1 20 = ok\n0.3 remove 1 21 = ok\n";
-    assert!(rt; ends(&rt, alloc, lines, replies, &tables(alloc, ADDED, 5, true)?)?);
+    assert!(rt; leads_to(&rt, alloc, lines, replies, &tables(alloc, ADDED, 5, true)?)?);
     Ok(())
 }
 
@@ -105,11 +67,11 @@ fn a_gate_that_is_refused_changes_nothing(rt: HostRuntime) -> Result<(), Fail> {
     for (call, reply) in rows {
         let lines = format!(in alloc; "core 0\n{call}\n")?;
         let replies = format!(in alloc; "0.1 {call} = {reply}\n")?;
-        assert!(rt; ends(&rt, alloc, &lines, &replies, &start)?, "{call}");
+        assert!(rt; leads_to(&rt, alloc, &lines, &replies, &start)?, "{call}");
     }
     let lines = "calls 1\ncore 0\nlook 0\ngate 3 1 20\n";
     let replies = "0.1 look 0 = ok range 8 24\n0.2 gate 3 1 20 = calls-spent\n";
-    assert!(rt; ends(&rt, alloc, lines, replies, &start)?);
+    assert!(rt; leads_to(&rt, alloc, lines, replies, &start)?);
     Ok(())
 }
 
@@ -126,7 +88,7 @@ fn a_gate_decides_at_its_compare(rt: HostRuntime) -> Result<(), Fail> {
         } else {
             "0.1 gate 3 1 20 = ok\n1.1 look 20 = ok gate 3 1\n"
         };
-        assert!(rt; ends(&rt, alloc, &lines, replies, &made)?, "{order}");
+        assert!(rt; leads_to(&rt, alloc, &lines, replies, &made)?, "{order}");
     }
     // A number past the last is refused where the table is found, at the fifth step, and one without a slot at the seventh.
     for (slot, decides) in [("4096", 5), ("64", 7)] {
@@ -142,7 +104,7 @@ fn a_gate_decides_at_its_compare(rt: HostRuntime) -> Result<(), Fail> {
                 format!(in alloc; "{gate}1.1 look 20 = empty\n")?
             };
             assert!(rt;
-                ends(&rt, alloc, &lines, &replies, &tables(alloc, "", 4, true)?)?,
+                leads_to(&rt, alloc, &lines, &replies, &tables(alloc, "", 4, true)?)?,
                 "{order}"
             );
         }
@@ -158,7 +120,7 @@ fn a_gate_waits_for_those_who_may_use_its_place(rt: HostRuntime) -> Result<(), F
         "core 0\ncopy 0 1 20\nremove 1 20\ngate 3 1 20\ngate 3 1 20\ncore 1\nlook 0\norder\n0. 1 0. 0. 1. 0.\n";
     let replies =
         "0.1 copy 0 1 20 = ok\n0.2 remove 1 20 = ok\n0.3 gate 3 1 20 = quiescing 1\n1.1 look 0 = ok range 8 24\n0.4 gate 3 1 20 = ok\n";
-    assert!(rt; ends(&rt, alloc, lines, replies, &tables(alloc, ADDED, 5, true)?)?);
+    assert!(rt; leads_to(&rt, alloc, lines, replies, &tables(alloc, ADDED, 5, true)?)?);
     Ok(())
 }
 
@@ -189,7 +151,7 @@ fn a_gate_and_a_copy_meet_at_one_place(rt: HostRuntime) -> Result<(), Fail> {
             "core 0\ngate 3 1 20\ncore 1\ncopy 0 1 20\norder\n{order}\n"
         )?;
         assert!(rt;
-            ends(
+            leads_to(
                 &rt,
                 alloc,
                 &lines,
@@ -229,7 +191,7 @@ fn a_component_found_before_its_removal_has_its_gate(rt: HostRuntime) -> Result<
             "core 0\ncopy 3 1 21\nremove 1 21\ncore 1\ngate 21 1 20\norder\n{order}\n"
         )?;
         assert!(rt;
-            ends(
+            leads_to(
                 &rt,
                 alloc,
                 &lines,
@@ -399,7 +361,10 @@ fn a_gate_and_a_kill_of_its_component_meet_at_its_count(rt: HostRuntime) -> Resu
                 (false, false) => ("", 4),
             };
             let left = tables(alloc, added, refs, !end.kill)?;
-            assert!(rt; ends(&rt, alloc, &lines, &end.replies, &left)?, "{order}");
+            assert!(rt;
+                leads_to(&rt, alloc, &lines, &end.replies, &left)?,
+                "{order}"
+            );
             if end.replies.contains("raced") {
                 races = races.wrapping_add(1);
             }

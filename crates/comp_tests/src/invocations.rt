@@ -8,12 +8,12 @@
 //! (5 and 6), draws its stamp, which decides (7), stores the depth and clears the place (8 and 9), commits the count (10) and leaves (11
 //! and 12).
 
+use crate::shared::{self, order_of};
 use core_kernel::FreeGate;
 use speck_run::Status;
 use std::alloc::Global;
 use std::test::Fail;
-use std::thread::Threads;
-use test_machine::{AMPLE, FROM_ENTRIES, MACHINE, TO_ENTRIES, answers, replays, runs};
+use test_machine::{MACHINE, leads_to, leads_to_each_way, runs, steps};
 
 // The steps of a call and of a return that are carried out.
 const CALL_STEPS: usize = 14;
@@ -38,71 +38,12 @@ struct Left<'a> {
 }
 
 fn tables(alloc: Global, left: &Left) -> Result<String, Fail> {
-    let start = format!(in alloc; "{TO_ENTRIES}{}{FROM_ENTRIES}", left.added)?;
-    let counted = format!(in alloc; "comp refs {}", left.refs)?;
-    let text = start.replace(alloc, "comp refs 4", &counted)?;
+    let text = shared::tables(alloc, left.added, left.refs, left.lives)?;
     let zero = format!(in alloc; "frame 4 thread refs 2\n  stack {}\n", left.zero)?;
     let text = text.replace(alloc, "frame 4 thread refs 2\n  stack 3\n", &zero)?;
     let one = format!(in alloc; "frame 5 thread refs 2\n  stack {}\n", left.one)?;
     let text = text.replace(alloc, "frame 5 thread refs 2\n  stack 3\n", &one)?;
-    let text = if left.lives {
-        text
-    } else {
-        text.replace(alloc, "live 0 epoch 1 frame 3", "dead 0 epoch 1")?
-    };
     Ok(text)
-}
-
-// Whether the script of these lines ends with these reply lines, and leaves this.
-fn ends<R: Threads + Sync>(
-    rt: &R,
-    alloc: Global,
-    lines: &str,
-    replies: &str,
-    left: &Left,
-) -> Result<bool, Fail> {
-    let tables = tables(alloc, left)?;
-    let text = format!(in alloc; "{replies}{tables}")?;
-    replays(rt, alloc, lines, &AMPLE, Status::Done, &text)
-}
-
-// Whether it does so under `plain` and under `run` too.
-fn ends_each_way<R: Threads + Sync>(
-    rt: &R,
-    alloc: Global,
-    lines: &str,
-    replies: &str,
-    left: &Left,
-) -> Result<bool, Fail> {
-    let tables = tables(alloc, left)?;
-    let text = format!(in alloc; "{replies}{tables}")?;
-    let script = format!(in alloc; "{MACHINE}{lines}")?;
-    let plain = answers(
-        rt,
-        alloc,
-        &["plain"],
-        script.as_bytes(),
-        &AMPLE,
-        Status::Done,
-        &text,
-    )?;
-    let ran = runs(rt, alloc, &FreeGate, &script, Status::Done, &text)?;
-    let replayed = replays(rt, alloc, lines, &AMPLE, Status::Done, &text)?;
-    Ok(plain && ran && replayed)
-}
-
-// An order in which core 0 makes these calls whole and then so many steps, then core 1 so many, then core 0 goes on to the end of its call, and
-// then core 1.
-fn order_of(alloc: Global, whole: &str, zero: usize, one: usize) -> Result<String, Fail> {
-    let mut items = String::from_str(alloc, whole)?;
-    for _ in 0..zero {
-        write!(items, "0 ")?;
-    }
-    for _ in 0..one {
-        write!(items, "1 ")?;
-    }
-    write!(items, "0. 1.")?;
-    Ok(items)
 }
 
 #[test]
@@ -125,7 +66,7 @@ fn a_stack_holds_sixteen_components(rt: HostRuntime) -> Result<(), Fail> {
         zero: &stack,
         one: "3",
     };
-    assert!(rt; ends_each_way(&rt, alloc, &lines, &replies, &full)?);
+    assert!(rt; leads_to_each_way(&rt, alloc, &lines, &replies, &tables(alloc, &full)?)?);
     for number in 19_u32..34 {
         write!(lines, "ret\n")?;
         write!(replies, "0.{number} ret = ok\n")?;
@@ -142,7 +83,7 @@ fn a_stack_holds_sixteen_components(rt: HostRuntime) -> Result<(), Fail> {
         zero: "3",
         one: "3",
     };
-    assert!(rt; ends_each_way(&rt, alloc, &lines, &replies, &empty)?);
+    assert!(rt; leads_to_each_way(&rt, alloc, &lines, &replies, &tables(alloc, &empty)?)?);
     Ok(())
 }
 
@@ -173,7 +114,7 @@ fn a_call_that_is_refused_enters_nothing(rt: HostRuntime) -> Result<(), Fail> {
     };
     for (lines, replies) in rows {
         assert!(rt;
-            ends_each_way(&rt, alloc, lines, replies, &start)?,
+            leads_to_each_way(&rt, alloc, lines, replies, &tables(alloc, &start)?)?,
             "{lines}"
         );
     }
@@ -188,7 +129,7 @@ fn a_call_that_is_refused_enters_nothing(rt: HostRuntime) -> Result<(), Fail> {
         zero: "3",
         one: "3",
     };
-    assert!(rt; ends_each_way(&rt, alloc, lines, replies, &killed)?);
+    assert!(rt; leads_to_each_way(&rt, alloc, lines, replies, &tables(alloc, &killed)?)?);
     Ok(())
 }
 
@@ -211,12 +152,15 @@ fn a_call_decides_at_the_word_of_its_number(rt: HostRuntime) -> Result<(), Fail>
             zero: stack,
             one: "3",
         };
-        let order = order_of(alloc, "0. ", zero, OTHER_STEPS)?;
+        let order = order_of(alloc, zero, OTHER_STEPS)?;
         let lines = format!(in alloc;
-            "core 0\ngate 3 1 20\ncall 20\ncore 1\nkill 3\norder\n{order}\n"
+            "core 0\ngate 3 1 20\ncall 20\ncore 1\nkill 3\norder\n0. {order}\n"
         )?;
         let replies = format!(in alloc; "0.1 gate 3 1 20 = ok\n{replies}")?;
-        assert!(rt; ends(&rt, alloc, &lines, &replies, &left)?, "{order}");
+        assert!(rt;
+            leads_to(&rt, alloc, &lines, &replies, &tables(alloc, &left)?)?,
+            "{order}"
+        );
     }
     Ok(())
 }
@@ -254,7 +198,10 @@ fn a_gate_found_before_its_removal_leads_on(rt: HostRuntime) -> Result<(), Fail>
             zero: "3",
             one,
         };
-        assert!(rt; ends(&rt, alloc, &lines, replies, &left)?, "{order}");
+        assert!(rt;
+            leads_to(&rt, alloc, &lines, replies, &tables(alloc, &left)?)?,
+            "{order}"
+        );
     }
     Ok(())
 }
@@ -280,16 +227,15 @@ fn a_call_and_a_copy_of_its_component_meet_at_its_count(rt: HostRuntime) -> Resu
             zero: stack,
             one: "3",
         };
-        let mut order = String::from_str(alloc, "0. ")?;
-        for _ in 0..zero {
-            write!(order, "0 ")?;
-        }
-        write!(order, "1. 1. 0.")?;
+        let items = steps(alloc, 0, zero)?;
         let lines = format!(in alloc;
-            "core 0\ngate 3 1 20\ncall 20\ncore 1\ncopy 3 1 21\nremove 1 21\norder\n{order}\n"
+            "core 0\ngate 3 1 20\ncall 20\ncore 1\ncopy 3 1 21\nremove 1 21\norder\n0. {items}1. 1. 0.\n"
         )?;
         let replies = format!(in alloc; "0.1 gate 3 1 20 = ok\n{first}{second}")?;
-        assert!(rt; ends(&rt, alloc, &lines, &replies, &left)?, "{order}");
+        assert!(rt;
+            leads_to(&rt, alloc, &lines, &replies, &tables(alloc, &left)?)?,
+            "{zero}"
+        );
     }
     Ok(())
 }
@@ -314,12 +260,15 @@ fn a_return_and_a_copy_of_its_component_meet_at_its_count(rt: HostRuntime) -> Re
             zero: stack,
             one: "3",
         };
-        let order = order_of(alloc, "0. 0. ", zero, OTHER_STEPS)?;
+        let order = order_of(alloc, zero, OTHER_STEPS)?;
         let lines = format!(in alloc;
-            "core 0\ngate 3 1 20\ncall 20\nret\ncore 1\ncopy 3 1 21\norder\n{order}\n"
+            "core 0\ngate 3 1 20\ncall 20\nret\ncore 1\ncopy 3 1 21\norder\n0. 0. {order}\n"
         )?;
         let replies = format!(in alloc; "0.1 gate 3 1 20 = ok\n0.2 call 20 = ok\n{replies}")?;
-        assert!(rt; ends(&rt, alloc, &lines, &replies, &left)?, "{order}");
+        assert!(rt;
+            leads_to(&rt, alloc, &lines, &replies, &tables(alloc, &left)?)?,
+            "{order}"
+        );
     }
     Ok(())
 }

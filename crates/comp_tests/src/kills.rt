@@ -4,53 +4,15 @@
 //! and 7), closes the number (8), draws its stamp, which decides (9), stores the number dead (10), commits the count (11) and leaves (12
 //! and 13).
 
+use crate::shared::{order_of, tables};
 use core_kernel::FreeGate;
 use speck_run::Status;
 use std::alloc::Global;
 use std::test::Fail;
-use std::thread::Threads;
-use test_machine::{AMPLE, FROM_ENTRIES, MACHINE, TO_ENTRIES, replays, runs};
+use test_machine::{MACHINE, leads_to, runs};
 
 // The steps of a kill that is carried out.
 const STEPS: usize = 13;
-
-// The tables of the start with these entry lines added, so many references to the component, and its number live or dead.
-fn tables(alloc: Global, added: &str, refs: u32, lives: bool) -> Result<String, Fail> {
-    let start = format!(in alloc; "{TO_ENTRIES}{added}{FROM_ENTRIES}")?;
-    let counted = format!(in alloc; "comp refs {refs}")?;
-    let text = start.replace(alloc, "comp refs 4", &counted)?;
-    let text = if lives {
-        text
-    } else {
-        text.replace(alloc, "live 0 epoch 1 frame 3", "dead 0 epoch 1")?
-    };
-    Ok(text)
-}
-
-// Whether the script of these lines ends with these reply lines and these tables.
-fn ends<R: Threads + Sync>(
-    rt: &R,
-    alloc: Global,
-    lines: &str,
-    replies: &str,
-    tables: &str,
-) -> Result<bool, Fail> {
-    let text = format!(in alloc; "{replies}{tables}")?;
-    replays(rt, alloc, lines, &AMPLE, Status::Done, &text)
-}
-
-// An order in which core 0 makes so many steps, then core 1 so many, then core 0 goes on to its end.
-fn order_of(alloc: Global, zero: usize, one: usize) -> Result<String, Fail> {
-    let mut items = String::new(alloc);
-    for _ in 0..zero {
-        write!(items, "0 ")?;
-    }
-    for _ in 0..one {
-        write!(items, "1 ")?;
-    }
-    write!(items, "0.")?;
-    Ok(items)
-}
 
 #[test]
 fn a_component_is_killed_once(rt: HostRuntime) -> Result<(), Fail> {
@@ -59,13 +21,13 @@ fn a_component_is_killed_once(rt: HostRuntime) -> Result<(), Fail> {
     let lines = "core 0\nkill 3\nkill 3\nlook 3\nlook 0\n";
     let replies =
         "0.1 kill 3 = ok\n0.2 kill 3 = dead\n0.3 look 3 = ok comp 3\n0.4 look 0 = ok range 8 24\n";
-    assert!(rt; ends(&rt, alloc, lines, replies, &tables(alloc, "", 3, false)?)?);
+    assert!(rt; leads_to(&rt, alloc, lines, replies, &tables(alloc, "", 3, false)?)?);
     // By another capability of it, which is not removed by the kill.
     let lines = "core 0\ncopy 3 1 20\nkill 20\nkill 3\ncore 1\nkill 20\nlook 20\n";
     let replies =
         "0.1 copy 3 1 20 = ok\n0.2 kill 20 = ok\n0.3 kill 3 = dead\n1.1 kill 20 = dead\n1.2 look 20 = ok comp 3\n";
     assert!(rt;
-        ends(
+        leads_to(
             &rt,
             alloc,
             lines,
@@ -95,7 +57,7 @@ fn a_kill_that_is_refused_kills_nothing(rt: HostRuntime) -> Result<(), Fail> {
     ];
     let start = tables(alloc, "", 4, true)?;
     for (lines, replies) in rows {
-        assert!(rt; ends(&rt, alloc, lines, replies, &start)?, "{lines}");
+        assert!(rt; leads_to(&rt, alloc, lines, replies, &start)?, "{lines}");
     }
     Ok(())
 }
@@ -113,7 +75,7 @@ fn a_kill_decides_at_its_draw(rt: HostRuntime) -> Result<(), Fail> {
         } else {
             "0.1 kill 3 = ok\n1.1 look 3 = ok comp 3\n"
         };
-        assert!(rt; ends(&rt, alloc, &lines, replies, &killed)?, "{order}");
+        assert!(rt; leads_to(&rt, alloc, &lines, replies, &killed)?, "{order}");
     }
     Ok(())
 }
@@ -145,7 +107,7 @@ fn a_component_found_before_its_removal_is_killed(rt: HostRuntime) -> Result<(),
             "core 0\ncopy 3 1 20\nremove 1 20\ncore 1\nkill 20\norder\n{order}\n"
         )?;
         assert!(rt;
-            ends(
+            leads_to(
                 &rt,
                 alloc,
                 &lines,
@@ -174,7 +136,7 @@ fn a_kill_and_a_copy_of_the_component_meet_at_its_count(rt: HostRuntime) -> Resu
         let order = order_of(alloc, zero, STEPS)?;
         let lines = format!(in alloc; "core 0\nkill 3\ncore 1\ncopy 3 1 20\norder\n{order}\n")?;
         assert!(rt;
-            ends(
+            leads_to(
                 &rt,
                 alloc,
                 &lines,
@@ -206,7 +168,7 @@ fn a_kill_and_a_copy_of_the_component_meet_at_its_count(rt: HostRuntime) -> Resu
         let order = order_of(alloc, zero, STEPS)?;
         let lines = format!(in alloc; "core 0\ncopy 3 1 20\ncore 1\nkill 3\norder\n{order}\n")?;
         assert!(rt;
-            ends(
+            leads_to(
                 &rt,
                 alloc,
                 &lines,
@@ -364,9 +326,9 @@ fn of_two_kills_of_one_component_one_is_carried_out(rt: HostRuntime) -> Result<(
     for zero in 0..STEPS + 1 {
         for one in 0..STEPS + 1 {
             let order = order_of(alloc, zero, one)?;
-            let lines = format!(in alloc; "core 0\nkill 3\ncore 1\nkill 3\norder\n{order} 1.\n")?;
+            let lines = format!(in alloc; "core 0\nkill 3\ncore 1\nkill 3\norder\n{order}\n")?;
             let replies = reply_lines(alloc, zero, one)?;
-            assert!(rt; ends(&rt, alloc, &lines, &replies, &killed)?, "{order}");
+            assert!(rt; leads_to(&rt, alloc, &lines, &replies, &killed)?, "{order}");
             if replies.contains("raced") {
                 races = races.wrapping_add(1);
             }
@@ -385,7 +347,7 @@ fn of_two_kills_of_one_component_one_is_carried_out(rt: HostRuntime) -> Result<(
         for zero in from..to {
             let order = order_of(alloc, zero, STEPS)?;
             let lines = format!(in alloc; "core 0\nkill 3\ncore 1\nkill 3\norder\n{order}\n")?;
-            assert!(rt; ends(&rt, alloc, &lines, replies, &killed)?, "{order}");
+            assert!(rt; leads_to(&rt, alloc, &lines, replies, &killed)?, "{order}");
         }
     }
     Ok(())

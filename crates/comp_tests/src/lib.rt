@@ -12,4 +12,6 @@ mod invocations;
 #[cfg(test)]
 mod kills;
 #[cfg(test)]
+mod shared;
+#[cfg(test)]
 mod switches;

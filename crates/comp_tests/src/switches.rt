@@ -10,8 +10,7 @@ use core_kernel::FreeGate;
 use speck_run::Status;
 use std::alloc::Global;
 use std::test::Fail;
-use std::thread::Threads;
-use test_machine::{AMPLE, FROM_ENTRIES, MACHINE, TO_ENTRIES, answers, replays, runs};
+use test_machine::{FROM_ENTRIES, MACHINE, TO_ENTRIES, leads_to, leads_to_each_way, runs, steps};
 
 // The steps of a switch that is carried out, to the temporal capability of the core.
 const STEPS: usize = 22;
@@ -66,61 +65,13 @@ fn tables(alloc: Global, left: &Left) -> Result<String, Fail> {
     Ok(text)
 }
 
-// Whether the script of these lines ends with these reply lines, and leaves this.
-fn ends<R: Threads + Sync>(
-    rt: &R,
-    alloc: Global,
-    lines: &str,
-    replies: &str,
-    left: &Left,
-) -> Result<bool, Fail> {
-    let tables = tables(alloc, left)?;
-    let text = format!(in alloc; "{replies}{tables}")?;
-    replays(rt, alloc, lines, &AMPLE, Status::Done, &text)
-}
-
-// Whether it does so under `plain` and under `run` too.
-fn ends_each_way<R: Threads + Sync>(
-    rt: &R,
-    alloc: Global,
-    lines: &str,
-    replies: &str,
-    left: &Left,
-) -> Result<bool, Fail> {
-    let tables = tables(alloc, left)?;
-    let text = format!(in alloc; "{replies}{tables}")?;
-    let script = format!(in alloc; "{MACHINE}{lines}")?;
-    let plain = answers(
-        rt,
-        alloc,
-        &["plain"],
-        script.as_bytes(),
-        &AMPLE,
-        Status::Done,
-        &text,
-    )?;
-    let ran = runs(rt, alloc, &FreeGate, &script, Status::Done, &text)?;
-    let replayed = replays(rt, alloc, lines, &AMPLE, Status::Done, &text)?;
-    Ok(plain && ran && replayed)
-}
-
-// An order in which core 0 makes the thread and then so many steps of its switch, then core 1 its call, and then core 0 goes on to its end.
-fn order_of(alloc: Global, zero: usize) -> Result<String, Fail> {
-    let mut items = String::from_str(alloc, "0. 0. ")?;
-    for _ in 0..zero {
-        write!(items, "0 ")?;
-    }
-    write!(items, "1. 0.")?;
-    Ok(items)
-}
-
 #[test]
 fn a_thread_that_runs_is_refused(rt: HostRuntime) -> Result<(), Fail> {
     let alloc = rt.alloc();
     let lines = "core 0\nswitch 5 12\nswitch 4 12\nswitch 4 13\n";
     let replies =
         "0.1 switch 5 12 = running 1\n0.2 switch 4 12 = running 0\n0.3 switch 4 13 = running 0\n";
-    assert!(rt; ends_each_way(&rt, alloc, lines, replies, &START)?);
+    assert!(rt; leads_to_each_way(&rt, alloc, lines, replies, &tables(alloc, &START)?)?);
     Ok(())
 }
 
@@ -143,7 +94,7 @@ fn a_switch_that_is_refused_changes_nothing(rt: HostRuntime) -> Result<(), Fail>
     ];
     for (lines, replies) in rows {
         assert!(rt;
-            ends_each_way(&rt, alloc, lines, replies, &START)?,
+            leads_to_each_way(&rt, alloc, lines, replies, &tables(alloc, &START)?)?,
             "{lines}"
         );
     }
@@ -164,7 +115,7 @@ fn a_core_goes_on_as_an_idle_thread(rt: HostRuntime) -> Result<(), Fail> {
         zero: "thread 8 tcap 6",
         ..START
     };
-    assert!(rt; ends_each_way(&rt, alloc, &lines, &replies, &left)?);
+    assert!(rt; leads_to_each_way(&rt, alloc, &lines, &replies, &tables(alloc, &left)?)?);
     Ok(())
 }
 
@@ -186,7 +137,7 @@ fn a_core_goes_on_with_another_temporal_capability(rt: HostRuntime) -> Result<()
         zero: "thread 4 tcap 9",
         ..START
     };
-    assert!(rt; ends_each_way(&rt, alloc, &lines, &replies, &left)?);
+    assert!(rt; leads_to_each_way(&rt, alloc, &lines, &replies, &tables(alloc, &left)?)?);
     Ok(())
 }
 
@@ -210,8 +161,7 @@ fn what_a_core_leaves_is_released(rt: HostRuntime) -> Result<(), Fail> {
     let text = tables(alloc, &left)?;
     let text = text.replace(alloc, "  4 thread 4\n", "")?;
     let text = text.replace(alloc, "  12 tcap 6\n", "")?;
-    let text = format!(in alloc; "{replies}{text}")?;
-    assert!(rt; replays(&rt, alloc, &lines, &AMPLE, Status::Done, &text)?);
+    assert!(rt; leads_to(&rt, alloc, &lines, &replies, &text)?);
     Ok(())
 }
 
@@ -253,15 +203,18 @@ fn two_cores_switch_to_one_thread(rt: HostRuntime) -> Result<(), Fail> {
         one: "thread 8 tcap 7",
         ..zero
     };
-    for steps in 0..STEPS + 1 {
-        let order = order_of(alloc, steps)?;
+    for number in 0..STEPS + 1 {
+        let items = steps(alloc, 0, number)?;
         let lines = format!(in alloc;
-            "{MAKES}switch 20 12\ncore 1\nswitch 20 13\norder\n{order}\n"
+            "{MAKES}switch 20 12\ncore 1\nswitch 20 13\norder\n0. 0. {items}1. 0.\n"
         )?;
-        let (replies, wins) = met_at(steps);
+        let (replies, wins) = met_at(number);
         let left = if wins { &zero } else { &one };
         let replies = format!(in alloc; "{MADE}{replies}")?;
-        assert!(rt; ends(&rt, alloc, &lines, &replies, left)?, "{order}");
+        assert!(rt;
+            leads_to(&rt, alloc, &lines, &replies, &tables(alloc, left)?)?,
+            "{number}"
+        );
     }
     Ok(())
 }
@@ -284,28 +237,28 @@ fn a_core_goes_on_as_the_thread_that_another_has_left(rt: HostRuntime) -> Result
         one: "thread 5 tcap 7",
         ..taken
     };
-    for steps in 0..STEPS + 1 {
-        let order = order_of(alloc, steps)?;
+    for number in 0..STEPS + 1 {
+        let items = steps(alloc, 0, number)?;
         let lines = format!(in alloc;
-            "{MAKES}switch 20 12\ncore 1\nswitch 4 13\norder\n{order}\n"
+            "{MAKES}switch 20 12\ncore 1\nswitch 4 13\norder\n0. 0. {items}1. 0.\n"
         )?;
-        let replies = if steps < 15 {
+        let replies = if number < 15 {
             "1.1 switch 4 13 = running 0\n0.3 switch 20 12 = ok\n"
-        } else if steps < 16 {
+        } else if number < 16 {
             "1.1 switch 4 13 = busy 0\n0.3 switch 20 12 = ok\n"
-        } else if steps < 20 {
-            // till the thread is stored as idle, and then till its count is committed
+        } else if number < 20 {
+            // until the thread is stored as idle, and then until its count is committed
             "0.3 switch 20 12 = ok\n1.1 switch 4 13 = busy 0\n"
         } else {
             "0.3 switch 20 12 = ok\n1.1 switch 4 13 = ok\n"
         };
         let replies = format!(in alloc; "{MADE}{replies}")?;
-        let is = if steps < 20 {
-            ends(&rt, alloc, &lines, &replies, &left)?
+        let is = if number < 20 {
+            leads_to(&rt, alloc, &lines, &replies, &tables(alloc, &left)?)?
         } else {
-            ends(&rt, alloc, &lines, &replies, &taken)?
+            leads_to(&rt, alloc, &lines, &replies, &tables(alloc, &taken)?)?
         };
-        assert!(rt; is, "{order}");
+        assert!(rt; is, "{number}");
     }
     Ok(())
 }

@@ -10,4 +10,6 @@ mod object_makes;
 #[cfg(test)]
 mod retypes;
 #[cfg(test)]
+mod untyping_races;
+#[cfg(test)]
 mod untypings;

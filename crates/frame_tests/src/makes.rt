@@ -8,7 +8,7 @@ use speck_run::Status;
 use std::alloc::Global;
 use std::test::Fail;
 use std::thread::Threads;
-use test_machine::{AMPLE, MACHINE, answers, is_typed, place_of, runs, tables};
+use test_machine::{MACHINE, leads_to, leads_to_each_way, place_of, runs, steps, tables};
 
 // One more than the steps of a make that scans nothing.
 const PAST: usize = 81;
@@ -18,46 +18,9 @@ const NODES: [&str; 4] = ["table", "leaf", "pages", "pleaf"];
 // The orders of eight steps of two cores.
 const ORDERS: u32 = 256;
 
-// So many single steps of this core, as items of an order.
-fn steps(alloc: Global, core: u8, number: usize) -> Result<String, Fail> {
-    let mut items = String::new(alloc);
-    for _ in 0..number {
-        write!(items, "{core} ")?;
-    }
-    Ok(items)
-}
-
-// Whether the script of these lines, in which one core has calls, ends with these reply lines and tables by each of these commands.
-fn is_made<R: Threads + Sync>(
-    rt: &R,
-    alloc: Global,
-    commands: &[&str],
-    lines: &str,
-    replies: &str,
-    tables: &str,
-) -> Result<bool, Fail> {
-    let script = format!(in alloc; "{MACHINE}{lines}")?;
-    let text = format!(in alloc; "{replies}{tables}")?;
-    for command in commands.iter() {
-        if !answers(
-            rt,
-            alloc,
-            &[*command],
-            script.as_bytes(),
-            &AMPLE,
-            Status::Done,
-            &text,
-        )? {
-            return Ok(false);
-        }
-    }
-    Ok(true)
-}
-
 #[test]
 fn a_blank_kernel_frame_is_made_a_node_once(rt: HostRuntime) -> Result<(), Fail> {
     let alloc = rt.alloc();
-    let commands = ["replay", "run", "plain"];
     for node in NODES {
         // The node stays with its frame when the last capability that leads to it is removed.
         let lines = format!(in alloc;
@@ -70,7 +33,7 @@ fn a_blank_kernel_frame_is_made_a_node_once(rt: HostRuntime) -> Result<(), Fail>
         let frame = format!(in alloc; "frame 8 {node} refs 1\n")?;
         let made = tables(alloc, &entry, &frame)?;
         assert!(rt;
-            is_made(&rt, alloc, &commands, &lines, &replies, &made)?,
+            leads_to_each_way(&rt, alloc, &lines, &replies, &made)?,
             "{node}"
         );
         let lines = format!(in alloc; "{lines}remove 1 21\nmake {node} 0 8 1 21\n")?;
@@ -80,7 +43,7 @@ fn a_blank_kernel_frame_is_made_a_node_once(rt: HostRuntime) -> Result<(), Fail>
         let frame = format!(in alloc; "frame 8 {node} refs 0\n")?;
         let made = tables(alloc, "", &frame)?;
         assert!(rt;
-            is_made(&rt, alloc, &commands, &lines, &replies, &made)?,
+            leads_to_each_way(&rt, alloc, &lines, &replies, &made)?,
             "{node}"
         );
     }
@@ -119,7 +82,7 @@ fn is_decided_at<R: Threads + Sync>(
         } else {
             &behind
         };
-        if !is_typed(rt, alloc, &lines, replies, tables)? {
+        if !leads_to(rt, alloc, &lines, replies, tables)? {
             return Ok(false);
         }
     }
@@ -162,7 +125,7 @@ fn a_make_that_is_refused_makes_nothing(rt: HostRuntime) -> Result<(), Fail> {
     let lines = "calls 1\ncore 0\nretype 0 8 kernel\nmake leaf 0 8 1 20\n";
     let replies = "0.1 retype 0 8 kernel = ok\n0.2 make leaf 0 8 1 20 = calls-spent\n";
     let left = tables(alloc, "", "frame 8 kernel refs 0\n")?;
-    assert!(rt; is_typed(&rt, alloc, lines, replies, &left)?);
+    assert!(rt; leads_to(&rt, alloc, lines, replies, &left)?);
     Ok(())
 }
 
@@ -194,16 +157,7 @@ fn a_new_node_holds_nothing(rt: HostRuntime) -> Result<(), Fail> {
         "  20 table 8\n  21 pages 9\n  22 leaf 10\n",
         "frame 8 table refs 1\nframe 9 pages refs 1\nframe 10 leaf refs 1\n",
     )?;
-    assert!(rt;
-        is_made(
-            &rt,
-            alloc,
-            &["replay", "run", "plain"],
-            lines,
-            replies,
-            &made
-        )?
-    );
+    assert!(rt; leads_to_each_way(&rt, alloc, lines, replies, &made)?);
     Ok(())
 }
 
@@ -219,16 +173,7 @@ fn a_new_table_with_a_new_leaf_is_filled_and_emptied(rt: HostRuntime) -> Result<
         "  20 table 8\n  21 leaf 9\n",
         "frame 8 table refs 1\n  1 link 9\nframe 9 leaf refs 2\n  5 range 8 24\n",
     )?;
-    assert!(rt;
-        is_made(
-            &rt,
-            alloc,
-            &["replay", "run", "plain"],
-            lines,
-            replies,
-            &made
-        )?
-    );
+    assert!(rt; leads_to_each_way(&rt, alloc, lines, replies, &made)?);
     Ok(())
 }
 
@@ -254,7 +199,7 @@ fn first_unlike<R: Threads + Sync>(
         let items = steps(alloc, 0, number)?;
         let lines = format!(in alloc; "{lists}order\n{before} {items}1. 0.\n")?;
         let made = tables(alloc, row.2, row.3)?;
-        if !is_typed(rt, alloc, &lines, row.1, &made)? {
+        if !leads_to(rt, alloc, &lines, row.1, &made)? {
             return Ok(Some(number));
         }
     }
@@ -402,7 +347,7 @@ fn a_frame_that_is_given_back_is_busy_until_its_count_is_committed(
         let lines = format!(in alloc;
             "core 0\nretype 0 8 kernel\nmake leaf 0 8 1 20\ncore 1\ncopy 0 1 20\nmake table 0 8 1 21\nmake table 0 8 1 21\norder\n0. {stores}1. {items}1. 0. 1.\n"
         )?;
-        assert!(rt; is_typed(&rt, alloc, &lines, replies, &made)?, "{number}");
+        assert!(rt; leads_to(&rt, alloc, &lines, replies, &made)?, "{number}");
     }
     Ok(())
 }
@@ -507,7 +452,7 @@ fn a_make_waits_for_the_core_that_removes_what_its_target_held(
             "core 0\nretype 0 8 kernel\ncopy 0 1 20\nmake leaf 0 8 1 20\ncore 1\nremove 1 20\norder\n0. 0. {items}0. 1.\n"
         )?;
         let left = tables(alloc, added, frames)?;
-        assert!(rt; is_typed(&rt, alloc, &lines, replies, &left)?, "{number}");
+        assert!(rt; leads_to(&rt, alloc, &lines, replies, &left)?, "{number}");
     }
     Ok(())
 }
@@ -574,7 +519,7 @@ fn a_make_finds_a_frame_that_a_retype_has_typed_in_each_order_of_their_steps(
                 "core 0\nmake leaf 0 8 1 20\ncore 1\nretype 0 8 kernel\norder\n0 0 0 0 0 0 1 1 1 {items}\n"
             )?;
             let made = tables(alloc, added, frame)?;
-            assert!(rt; is_typed(&rt, alloc, &lines, replies, &made)?, "{order:?}");
+            assert!(rt; leads_to(&rt, alloc, &lines, replies, &made)?, "{order:?}");
         }
     }
     assert_eq!(rt; orders.len(), 70);
@@ -612,7 +557,7 @@ fn is_marked_by<R: Threads + Sync>(
         "0.1 retype 0 8 kernel = ok\n{loses} = {other}\n{wins} = ok\n"
     )?;
     let made = tables(alloc, added, frame)?;
-    is_typed(rt, alloc, &lines, &replies, &made)
+    leads_to(rt, alloc, &lines, &replies, &made)
 }
 
 #[test]
@@ -681,7 +626,7 @@ fn is_filled_by<R: Threads + Sync>(
         "0.1 retype 0 8 kernel = ok\n0.2 retype 0 9 kernel = ok\n{decided}"
     )?;
     let made = tables(alloc, added, frames)?;
-    is_typed(rt, alloc, &lines, &replies, &made)
+    leads_to(rt, alloc, &lines, &replies, &made)
 }
 
 #[test]

@@ -10,7 +10,7 @@ use speck_run::Status;
 use std::alloc::Global;
 use std::test::Fail;
 use std::thread::Threads;
-use test_machine::{AMPLE, MACHINE, answers, is_typed, runs, tables};
+use test_machine::{MACHINE, leads_to, leads_to_each_way, runs, steps, tables};
 
 const TCAP: &str = "frame 8 tcap refs 1\n  budget 0\n  quality 5 7\n";
 
@@ -24,41 +24,6 @@ fn refers(alloc: Global, comp: u8, added: &str, frames: &str) -> Result<String, 
     Ok(text)
 }
 
-// So many single steps of this core, as items of an order.
-fn steps(alloc: Global, core: u8, number: usize) -> Result<String, Fail> {
-    let mut items = String::new(alloc);
-    for _ in 0..number {
-        write!(items, "{core} ")?;
-    }
-    Ok(items)
-}
-
-// Whether the script of these lines ends with these reply lines and tables by each command.
-fn is_made<R: Threads + Sync>(
-    rt: &R,
-    alloc: Global,
-    lines: &str,
-    replies: &str,
-    tables: &str,
-) -> Result<bool, Fail> {
-    let script = format!(in alloc; "{MACHINE}{lines}")?;
-    let text = format!(in alloc; "{replies}{tables}")?;
-    for command in ["replay", "run", "plain"] {
-        if !answers(
-            rt,
-            alloc,
-            &[command],
-            script.as_bytes(),
-            &AMPLE,
-            Status::Done,
-            &text,
-        )? {
-            return Ok(false);
-        }
-    }
-    Ok(true)
-}
-
 #[test]
 fn a_blank_kernel_frame_is_made_a_temporal_capability_once(rt: HostRuntime) -> Result<(), Fail> {
     let alloc = rt.alloc();
@@ -67,7 +32,7 @@ fn a_blank_kernel_frame_is_made_a_temporal_capability_once(rt: HostRuntime) -> R
     let replies =
         "0.1 retype 0 8 kernel = ok\n0.2 make tcap 0 8 1 20 5 7 = ok\n0.3 look 20 = ok tcap 8\n0.4 make tcap 0 8 1 21 5 7 = frame-kind\n0.5 make thread 0 8 1 21 3 = frame-kind\n0.6 retype 0 8 user = frame-kind\n0.7 copy 20 1 21 = ok\n0.8 remove 1 20 = ok\n0.9 look 21 = ok tcap 8\n";
     let made = tables(alloc, "  21 tcap 8\n", TCAP)?;
-    assert!(rt; is_made(&rt, alloc, lines, replies, &made)?);
+    assert!(rt; leads_to_each_way(&rt, alloc, lines, replies, &made)?);
     // The greatest scheduler and the greatest quality.
     let lines = "core 1\nretype 0 31 kernel\nmake tcap 0 31 1 63 63 16777215\n";
     let replies = "1.1 retype 0 31 kernel = ok\n1.2 make tcap 0 31 1 63 63 16777215 = ok\n";
@@ -76,7 +41,7 @@ fn a_blank_kernel_frame_is_made_a_temporal_capability_once(rt: HostRuntime) -> R
         "  63 tcap 31\n",
         "frame 31 tcap refs 1\n  budget 0\n  quality 63 16777215\n",
     )?;
-    assert!(rt; is_made(&rt, alloc, lines, replies, &made)?);
+    assert!(rt; leads_to_each_way(&rt, alloc, lines, replies, &made)?);
     Ok(())
 }
 
@@ -95,7 +60,7 @@ fn a_blank_kernel_frame_is_made_a_thread_once(rt: HostRuntime) -> Result<(), Fai
         "frame 8 thread refs 1\n  stack 3\nframe 9 thread refs 0\n  stack 3\n",
     )?;
     let made = made.replace(alloc, "  3 comp 3\n", "")?;
-    assert!(rt; is_made(&rt, alloc, lines, replies, &made)?);
+    assert!(rt; leads_to_each_way(&rt, alloc, lines, replies, &made)?);
     Ok(())
 }
 
@@ -131,7 +96,7 @@ fn is_decided_at<R: Threads + Sync>(
         } else {
             &behind
         };
-        if !is_typed(rt, alloc, &lines, replies, tables)? {
+        if !leads_to(rt, alloc, &lines, replies, tables)? {
             return Ok(false);
         }
     }
@@ -216,7 +181,7 @@ fn first_unlike<R: Threads + Sync>(
         };
         let items = steps(alloc, 0, number)?;
         let lines = format!(in alloc; "{lists}order\n0. {items}1. 0.\n")?;
-        if !is_typed(rt, alloc, &lines, row.1, row.2)? {
+        if !leads_to(rt, alloc, &lines, row.1, row.2)? {
             return Ok(Some(number));
         }
     }
@@ -311,7 +276,7 @@ fn a_make_that_finds_a_count_of_its_object_busy_gives_back_all_that_it_holds(
         let lines = format!(in alloc;
             "core 0\nretype 0 8 kernel\nmake thread 0 8 1 20 3\nmake thread 0 8 1 20 3\ncore 1\ncopy 3 1 21\norder\n0. {items}0. 1. 0.\n"
         )?;
-        assert!(rt; is_typed(&rt, alloc, &lines, replies, &made)?, "{number}");
+        assert!(rt; leads_to(&rt, alloc, &lines, replies, &made)?, "{number}");
     }
     Ok(())
 }

@@ -7,7 +7,7 @@ use speck_run::Status;
 use std::alloc::Global;
 use std::test::Fail;
 use std::thread::Threads;
-use test_machine::{MACHINE, is_typed, place_of, runs, tables};
+use test_machine::{MACHINE, leads_to, place_of, runs, tables};
 
 // The steps of a retype that is carried out, of which the load of the frame's word is the fourth and the compare the fifth.
 const STEPS: usize = 7;
@@ -24,7 +24,7 @@ fn an_untyped_frame_of_a_range_is_typed_once(rt: HostRuntime) -> Result<(), Fail
     let replies =
         "0.1 retype 0 8 user = ok\n0.2 retype 0 31 kernel = ok\n0.3 retype 0 8 user = frame-kind\n0.4 retype 0 8 kernel = frame-kind\n0.5 retype 0 31 user = frame-kind\n0.6 retype 0 31 kernel = frame-kind\n";
     let typed = tables(alloc, "", "frame 8 user refs 0\nframe 31 kernel refs 0\n")?;
-    assert!(rt; is_typed(&rt, alloc, lines, replies, &typed)?);
+    assert!(rt; leads_to(&rt, alloc, lines, replies, &typed)?);
     // A copy of the range has the same frames, also where the range is removed.
     let lines =
         "core 0\ncopy 0 1 20\nremove 1 0\nretype 20 9 kernel\nretype 0 10 user\nretype 20 10 user\nretype 20 9 user\n";
@@ -36,7 +36,7 @@ fn an_untyped_frame_of_a_range_is_typed_once(rt: HostRuntime) -> Result<(), Fail
         "frame 9 kernel refs 0\nframe 10 user refs 0\n",
     )?;
     let moved = typed.replace(alloc, "  0 range 8 24\n", "")?;
-    assert!(rt; is_typed(&rt, alloc, lines, replies, &moved)?);
+    assert!(rt; leads_to(&rt, alloc, lines, replies, &moved)?);
     Ok(())
 }
 
@@ -61,7 +61,7 @@ fn a_retype_that_is_refused_types_nothing(rt: HostRuntime) -> Result<(), Fail> {
     ];
     let start = tables(alloc, "", "")?;
     for (lines, replies) in rows {
-        assert!(rt; is_typed(&rt, alloc, lines, replies, &start)?, "{lines}");
+        assert!(rt; leads_to(&rt, alloc, lines, replies, &start)?, "{lines}");
     }
     Ok(())
 }
@@ -92,7 +92,7 @@ fn a_range_found_before_its_removal_has_its_frames(rt: HostRuntime) -> Result<()
             "core 0\ncopy 0 1 20\nremove 1 20\ncore 1\nretype 20 8 user\norder\n{order}\n"
         )?;
         let typed = tables(alloc, "", frames)?;
-        assert!(rt; is_typed(&rt, alloc, &lines, replies, &typed)?, "{order}");
+        assert!(rt; leads_to(&rt, alloc, &lines, replies, &typed)?, "{order}");
     }
     Ok(())
 }
@@ -155,7 +155,7 @@ fn is_carried_out<R: Threads + Sync>(
     let replies = format!(in alloc; "{wins} = ok\n{loses} = {other}\n")?;
     let frame = format!(in alloc; "frame 8 {kind} refs 0\n")?;
     let typed = tables(alloc, "", &frame)?;
-    is_typed(rt, alloc, &lines, &replies, &typed)
+    leads_to(rt, alloc, &lines, &replies, &typed)
 }
 
 #[test]
@@ -217,13 +217,13 @@ fn two_retypes_of_one_frame_meet_at_its_word_alone(rt: HostRuntime) -> Result<()
     for (order, replies, frames) in rows {
         let lines = format!(in alloc; "{lists}order\n{order}\n")?;
         let typed = tables(alloc, "", frames)?;
-        assert!(rt; is_typed(&rt, alloc, &lines, replies, &typed)?, "{order}");
+        assert!(rt; leads_to(&rt, alloc, &lines, replies, &typed)?, "{order}");
     }
     // Another frame of the range has another word.
     let lines = "core 0\nretype 0 8 user\ncore 1\nretype 0 9 kernel\norder\n0< 1< 1! 0!\n";
     let replies = "1.1 retype 0 9 kernel = ok\n0.1 retype 0 8 user = ok\n";
     let typed = tables(alloc, "", user)?;
-    assert!(rt; is_typed(&rt, alloc, lines, replies, &typed)?);
+    assert!(rt; leads_to(&rt, alloc, lines, replies, &typed)?);
     Ok(())
 }
 

@@ -2,7 +2,7 @@
 
 use std::alloc::Global;
 use std::test::Fail;
-use test_machine::{is_typed, tables};
+use test_machine::{leads_to, tables};
 
 #[test]
 fn a_frame_without_reference_is_made_untyped_and_typed_again(rt: HostRuntime) -> Result<(), Fail> {
@@ -32,7 +32,7 @@ fn a_frame_without_reference_is_made_untyped_and_typed_again(rt: HostRuntime) ->
     ];
     for (lines, replies, added, frames) in rows {
         let typed = tables(alloc, added, frames)?;
-        assert!(rt; is_typed(&rt, alloc, lines, replies, &typed)?, "{lines}");
+        assert!(rt; leads_to(&rt, alloc, lines, replies, &typed)?, "{lines}");
     }
     Ok(())
 }
@@ -62,7 +62,7 @@ fn a_frame_is_made_untyped_where_no_other_core_may_use_it(rt: HostRuntime) -> Re
     for (more, other, order, replies, frames) in rows {
         let lines = format!(in alloc; "core 0\n{made}{more}core 1\n{other}order\n{order}\n")?;
         let typed = tables(alloc, "", frames)?;
-        assert!(rt; is_typed(&rt, alloc, &lines, replies, &typed)?, "{order}");
+        assert!(rt; leads_to(&rt, alloc, &lines, replies, &typed)?, "{order}");
     }
     Ok(())
 }

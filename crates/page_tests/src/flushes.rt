@@ -4,7 +4,7 @@ use core_kernel::FreeGate;
 use speck_run::Status;
 use std::alloc::Global;
 use std::test::Fail;
-use test_machine::{FROM_ENTRIES, MACHINE, TO_ENTRIES, is_counted, is_done, is_typed, runs};
+use test_machine::{FROM_ENTRIES, MACHINE, TO_ENTRIES, is_counted, is_done, leads_to, runs};
 
 const ZERO: &str = "0.1 flush = ok\n";
 
@@ -123,7 +123,7 @@ fn a_removal_is_carried_out_at_each_step_of_a_flush(rt: HostRuntime) -> Result<(
         } else {
             format!(in alloc; "{ZERO}{remove}")?
         };
-        assert!(rt; is_typed(&rt, alloc, &lines, &replies, &left)?, "{order}");
+        assert!(rt; leads_to(&rt, alloc, &lines, &replies, &left)?, "{order}");
     }
     Ok(())
 }

@@ -2,12 +2,12 @@
 //! and 8), compares the root entry, which decides (9), commits the count (10) and leaves (11 and 12). Where the entry is quiescing it scans
 //! between 6 and 7: the other core's word, and for a page table then the flush words of both cores.
 
-use crate::shared::{Added, ends, items_of, order_of, steps, tables};
+use crate::shared::{Added, ends, items_of, order_of, tables};
 use core_kernel::FreeGate;
 use speck_run::Status;
 use std::alloc::Global;
 use std::test::Fail;
-use test_machine::{AMPLE, MACHINE, answers, place_of, runs};
+use test_machine::{COMMANDS, MACHINE, place_of, runs, steps, writes};
 
 // A leaf in frame 8, named by 20, and a leaf of a page table in frame 9, named by 21.
 const LEAVES: &str =
@@ -41,20 +41,7 @@ fn both_kinds_of_root_take_a_leaf_of_theirs(rt: HostRuntime) -> Result<(), Fail>
     let made = tables(alloc, &added)?;
     let counted = made.replace(alloc, "comp refs 4", "comp refs 5")?;
     let text = format!(in alloc; "{replies}{counted}")?;
-    for command in ["replay", "run", "plain"] {
-        assert!(rt;
-            answers(
-                &rt,
-                alloc,
-                &[command],
-                script.as_bytes(),
-                &AMPLE,
-                Status::Done,
-                &text
-            )?,
-            "{command}"
-        );
-    }
+    assert!(rt; writes(&rt, alloc, &COMMANDS, &script, &text)?);
     Ok(())
 }
 

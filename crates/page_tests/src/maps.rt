@@ -2,11 +2,11 @@
 //! 9), loads the frame's word (10), compares the place, which decides (11), commits the count (12) and leaves (13 and 14). Where the place is
 //! quiescing it scans between 7 and 8: the other core's word, then the flush words of both cores.
 
-use crate::shared::{Added, ends, items_of, order_of, steps, tables};
+use crate::shared::{Added, ends, items_of, order_of, tables};
 use core_kernel::FreeGate;
 use speck_run::Status;
 use std::test::Fail;
-use test_machine::{MACHINE, place_of, runs};
+use test_machine::{MACHINE, place_of, runs, steps};
 
 // A leaf of the page table in frame 8, linked in its first entry, and a user frame 9.
 const PAGES: &str =

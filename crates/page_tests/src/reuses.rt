@@ -2,8 +2,9 @@
 //! (1), looks up its range (2 and 3), loads and marks the frame's word (4 and 5), freezes its counter (6 and 7), draws, which decides (8),
 //! clears the counter (9), stores the frame's word (10) and leaves (11 and 12).
 
-use crate::shared::{Added, ends, steps};
+use crate::shared::{Added, ends};
 use std::test::Fail;
+use test_machine::steps;
 
 // A leaf of the page table in frame 8, linked in its first entry, and a user frame 9.
 const PAGES: &str =

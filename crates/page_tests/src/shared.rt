@@ -1,10 +1,9 @@
 //! What the tests of grows and maps share: tables with links and pages, and orders of single steps.
 
-use speck_run::Status;
 use std::alloc::Global;
 use std::test::Fail;
 use std::thread::Threads;
-use test_machine::{AMPLE, FROM_ENTRIES, MACHINE, TO_ENTRIES, answers};
+use test_machine::{FROM_ENTRIES, MACHINE, TO_ENTRIES, writes};
 
 /// What the tables of the start have besides: the entries of the table's root, of its leaf and of the pages' root, and what is in frames 8
 /// and on.
@@ -43,29 +42,7 @@ pub fn ends<R: Threads + Sync>(
     let script = format!(in alloc; "{MACHINE}{lines}")?;
     let tables = tables(alloc, added)?;
     let text = format!(in alloc; "{replies}{tables}")?;
-    for command in commands.iter() {
-        if !answers(
-            rt,
-            alloc,
-            &[*command],
-            script.as_bytes(),
-            &AMPLE,
-            Status::Done,
-            &text,
-        )? {
-            return Ok(false);
-        }
-    }
-    Ok(true)
-}
-
-/// The items by which a core makes so many steps.
-pub fn steps(alloc: Global, core: u8, number: usize) -> Result<String, Fail> {
-    let mut items = String::new(alloc);
-    for _ in 0..number {
-        write!(items, "{core} ")?;
-    }
-    Ok(items)
+    writes(rt, alloc, commands, &script, &text)
 }
 
 /// The order of two cores that is this number's: bit by bit the core that steps next, where core 1 makes so many of the steps, of which

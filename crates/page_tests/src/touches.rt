@@ -1,13 +1,13 @@
 //! `touch`. A touch enters (1), loads the root entry of its page, which answers a translation that is cached (2), loads the page's entry,
 //! which else decides (3), and leaves (4 and 5).
 
-use crate::shared::{Added, items_of, order_of, steps, tables};
+use crate::shared::{Added, items_of, order_of, tables};
 use core_kernel::FreeGate;
 use speck_run::Status;
 use std::alloc::Global;
 use std::test::Fail;
 use std::thread::Threads;
-use test_machine::{AMPLE, MACHINE, answers, place_of, runs};
+use test_machine::{MACHINE, place_of, runs, steps, writes};
 
 // A leaf of the page table in frame 8, linked in its first entry, and the user frames 9 and 10, of which 9 is mapped in page 0.
 const PAGES: &str =
@@ -61,20 +61,7 @@ fn is_answered<R: Threads + Sync>(
     text: &str,
 ) -> Result<bool, Fail> {
     let script = format!(in alloc; "{MACHINE}{lines}")?;
-    for command in commands.iter() {
-        if !answers(
-            rt,
-            alloc,
-            &[*command],
-            script.as_bytes(),
-            &AMPLE,
-            Status::Done,
-            text,
-        )? {
-            return Ok(false);
-        }
-    }
-    Ok(true)
+    writes(rt, alloc, commands, &script, text)
 }
 
 #[test]

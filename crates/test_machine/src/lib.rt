@@ -7,6 +7,9 @@ mod orders;
 mod start_tables;
 mod top_call;
 
-pub use orders::place_of;
+pub use orders::{place_of, steps};
 pub use start_tables::{FROM_ENTRIES, MACHINE, TO_ENTRIES, tables};
-pub use top_call::{AMPLE, Ends, answers, is_counted, is_done, is_typed, list_of, replays, runs};
+pub use top_call::{
+    AMPLE, COMMANDS, Ends, answers, is_counted, is_done, leads_to, leads_to_each_way, list_of,
+    replays, runs, writes,
+};

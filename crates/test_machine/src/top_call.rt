@@ -8,6 +8,9 @@ use std::alloc::Global;
 use std::test::Fail;
 use std::thread::Threads;
 
+/// The commands that carry a script out.
+pub const COMMANDS: [&str; 3] = ["replay", "plain", "run"];
+
 /// How bytes are moved: the most a read and a write, and the calls that fail.
 #[derive(Clone, Copy)]
 pub struct Ends {
@@ -97,7 +100,7 @@ pub fn is_counted<R: Threads + Sync>(
 }
 
 /// Whether the script of these lines ends with these reply lines and these tables.
-pub fn is_typed<R: Threads + Sync>(
+pub fn leads_to<R: Threads + Sync>(
     rt: &R,
     alloc: Global,
     lines: &str,
@@ -106,6 +109,43 @@ pub fn is_typed<R: Threads + Sync>(
 ) -> Result<bool, Fail> {
     let text = format!(in alloc; "{replies}{tables}")?;
     replays(rt, alloc, lines, &AMPLE, Status::Done, &text)
+}
+
+/// Whether it does by each command, where one core has calls or the cores' calls do not meet.
+pub fn leads_to_each_way<R: Threads + Sync>(
+    rt: &R,
+    alloc: Global,
+    lines: &str,
+    replies: &str,
+    tables: &str,
+) -> Result<bool, Fail> {
+    let script = format!(in alloc; "{MACHINE}{lines}")?;
+    let text = format!(in alloc; "{replies}{tables}")?;
+    writes(rt, alloc, &COMMANDS, &script, &text)
+}
+
+/// Whether each of these commands ends and writes this text for this script.
+pub fn writes<R: Threads + Sync>(
+    rt: &R,
+    alloc: Global,
+    commands: &[&str],
+    script: &str,
+    text: &str,
+) -> Result<bool, Fail> {
+    for command in commands.iter() {
+        if !answers(
+            rt,
+            alloc,
+            &[*command],
+            script.as_bytes(),
+            &AMPLE,
+            Status::Done,
+            text,
+        )? {
+            return Ok(false);
+        }
+    }
+    Ok(true)
 }
 
 /// Whether `run` of this script ends with this status, and the sink then holds this text.

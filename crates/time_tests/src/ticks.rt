@@ -5,8 +5,7 @@ use core_kernel::FreeGate;
 use speck_run::Status;
 use std::alloc::Global;
 use std::test::Fail;
-use std::thread::Threads;
-use test_machine::{AMPLE, FROM_ENTRIES, MACHINE, TO_ENTRIES, replays, runs};
+use test_machine::{FROM_ENTRIES, MACHINE, TO_ENTRIES, leads_to, runs};
 
 /// The tables of the start, with these budgets of the temporal capabilities 12 and 13, and these ticks spent and owed of the two cores.
 pub(crate) fn tables(
@@ -30,18 +29,6 @@ pub(crate) fn tables(
     Ok(text)
 }
 
-/// Whether the script of these lines ends with these reply lines and these tables.
-pub(crate) fn is_left<R: Threads + Sync>(
-    rt: &R,
-    alloc: Global,
-    lines: &str,
-    replies: &str,
-    tables: &str,
-) -> Result<bool, Fail> {
-    let text = format!(in alloc; "{replies}{tables}")?;
-    replays(rt, alloc, lines, &AMPLE, Status::Done, &text)
-}
-
 #[test]
 fn ticks_are_charged_as_far_as_the_budget_goes_and_the_rest_is_owed(
     rt: HostRuntime,
@@ -51,13 +38,13 @@ fn ticks_are_charged_as_far_as_the_budget_goes_and_the_rest_is_owed(
     let replies =
         "0.1 tick 40 = ok 40\n0.2 tick 70 = ok 60\n0.3 tick 0 = ok 0\n0.4 tick 1000000 = ok 0\n1.1 tick 7 = ok 7\n1.2 tick 0 = ok 0\n1.3 tick 93 = ok 93\n";
     let left = tables(alloc, (0, 0), (100, 1_000_010), (100, 0))?;
-    assert!(rt; is_left(&rt, alloc, lines, replies, &left)?);
+    assert!(rt; leads_to(&rt, alloc, lines, replies, &left)?);
     // A call that is not counted owes nothing.
     let lines = "calls 1\ncore 0\ntick 5\ntick 5\ncore 1\nlook 0\ntick 5\n";
     let replies =
         "0.1 tick 5 = ok 5\n0.2 tick 5 = calls-spent\n1.1 look 0 = ok range 8 24\n1.2 tick 5 = calls-spent\n";
     let left = tables(alloc, (95, 100), (5, 0), (0, 0))?;
-    assert!(rt; is_left(&rt, alloc, lines, replies, &left)?);
+    assert!(rt; leads_to(&rt, alloc, lines, replies, &left)?);
     Ok(())
 }
 
@@ -82,7 +69,7 @@ fn a_tick_has_five_steps_and_decides_at_the_third(rt: HostRuntime) -> Result<(),
         let lines = format!(in alloc; "{lists}order\n{order}\n")?;
         let [first, second, third] = replies;
         let replies = format!(in alloc; "{first}{second}{third}")?;
-        assert!(rt; is_left(&rt, alloc, &lines, &replies, &left)?, "{order}");
+        assert!(rt; leads_to(&rt, alloc, &lines, &replies, &left)?, "{order}");
     }
     Ok(())
 }

@@ -1,11 +1,9 @@
 //! `transfer` and `test`. After the look-ups of their two names they load head A (6) and mark it (7), load list A (8 to 15), head B
 //! (16) and list B (17 to 24), and then compare head B, or load it again, which decides (25); then head A is stored (26).
 
-use crate::ticks::{is_left, tables};
-use core_kernel::FreeGate;
-use speck_run::Status;
+use crate::ticks::tables;
 use std::test::Fail;
-use test_machine::{AMPLE, FROM_ENTRIES, MACHINE, TO_ENTRIES, answers, runs};
+use test_machine::{COMMANDS, FROM_ENTRIES, MACHINE, TO_ENTRIES, leads_to, writes};
 
 #[test]
 fn a_transfer_moves_ticks_and_is_short_by_its_own_budget(rt: HostRuntime) -> Result<(), Fail> {
@@ -18,21 +16,7 @@ fn a_transfer_moves_ticks_and_is_short_by_its_own_budget(rt: HostRuntime) -> Res
     let left = tables(alloc, (7, 90), (8, 0), (0, 0))?;
     let left = left.replace(alloc, "total 200\n", "total 105\n")?;
     let text = format!(in alloc; "{replies}{left}")?;
-    for command in ["replay", "plain"] {
-        assert!(rt;
-            answers(
-                &rt,
-                alloc,
-                &[command],
-                script.as_bytes(),
-                &AMPLE,
-                Status::Done,
-                &text
-            )?,
-            "{command}"
-        );
-    }
-    assert!(rt; runs(&rt, alloc, &FreeGate, &script, Status::Done, &text)?);
+    assert!(rt; writes(&rt, alloc, &COMMANDS, &script, &text)?);
     Ok(())
 }
 
@@ -44,7 +28,7 @@ fn transfers_of_no_ticks_of_all_and_of_one_more(rt: HostRuntime) -> Result<(), F
     let replies =
         "0.1 transfer 12 13 0 = ok\n0.2 transfer 12 13 100 = ok\n0.3 transfer 12 13 1 = short 0\n0.4 transfer 13 12 201 = short 200\n0.5 transfer 13 12 200 = ok\n0.6 transfer 12 12 1 = same\n0.7 transfer 12 0 1 = wrong-cap\n";
     let left = tables(alloc, (200, 0), (0, 0), (0, 0))?;
-    assert!(rt; is_left(&rt, alloc, lines, replies, &left)?);
+    assert!(rt; leads_to(&rt, alloc, lines, replies, &left)?);
     Ok(())
 }
 
@@ -57,7 +41,7 @@ fn a_test_tells_which_is_better_and_moves_nothing(rt: HostRuntime) -> Result<(),
     let replies =
         "0.1 test 12 13 = ok stays\n0.2 test 13 12 = ok stays\n0.3 transfer 12 13 100 = ok\n0.4 test 12 13 = ok stays\n0.5 test 13 12 = ok preempts\n0.6 test 13 13 = same\n";
     let left = tables(alloc, (0, 200), (0, 0), (0, 0))?;
-    assert!(rt; is_left(&rt, alloc, lines, replies, &left)?);
+    assert!(rt; leads_to(&rt, alloc, lines, replies, &left)?);
     // With other schedulers each preempts the other, and no tick goes from one to the other.
     let machine = "speck 1\ncores 2\nframes 32\ngrant 100 0 1\ngrant 100 1 7\n";
     let lines =
@@ -72,20 +56,7 @@ fn a_test_tells_which_is_better_and_moves_nothing(rt: HostRuntime) -> Result<(),
         "frame 7 tcap refs 2\n  budget 100\n  quality 1 7\n",
     )?;
     let text = format!(in alloc; "{replies}{left}")?;
-    for command in ["replay", "plain"] {
-        assert!(rt;
-            answers(
-                &rt,
-                alloc,
-                &[command],
-                script.as_bytes(),
-                &AMPLE,
-                Status::Done,
-                &text
-            )?,
-            "{command}"
-        );
-    }
+    assert!(rt; writes(&rt, alloc, &COMMANDS, &script, &text)?);
     Ok(())
 }
 
@@ -126,7 +97,7 @@ fn transfers_in_both_directions_meet(rt: HostRuntime) -> Result<(), Fail> {
     for (order, replies, budgets) in rows {
         let lines = format!(in alloc; "{lists}order\n{order}\n")?;
         let left = tables(alloc, budgets, (0, 0), (0, 0))?;
-        assert!(rt; is_left(&rt, alloc, &lines, replies, &left)?, "{order}");
+        assert!(rt; leads_to(&rt, alloc, &lines, replies, &left)?, "{order}");
     }
     Ok(())
 }
@@ -225,7 +196,7 @@ fn a_head_that_changes_is_lost(rt: HostRuntime) -> Result<(), Fail> {
         let lines = format!(in alloc; "core 0\n{first}\ncore 1\n{second}\norder\n{order}\n")?;
         let left = tables(alloc, budgets, zero, one)?;
         assert!(rt;
-            is_left(&rt, alloc, &lines, replies, &left)?,
+            leads_to(&rt, alloc, &lines, replies, &left)?,
             "{first}, {second}: {order}"
         );
     }
