@@ -1,7 +1,8 @@
 -- Sources and sinks in memory as contracts see them, and which of their calls fail.
 use Rattle.std.specs.Prelude.{◌≡◌, ◌⊎◌, ℕ, ◌+◌, ◌-◌, ◌^◌, ◌<◌, List, length, Contains, min}
 
--- A source in memory: the bytes that are left, the most that a read gives, the numbers of the reads that fail, the reads made so far and the faults among them.
+-- A source in memory: the bytes that are left, the most that a read gives, the numbers of the reads that fail, the reads made so far and
+-- the faults among them.
 pub record Given : Type 0 where
   pub left : List ℕ
   pub most : ℕ
@@ -14,7 +15,8 @@ pub record Served : Type 0 where
   pub left : List ℕ
   pub most : ℕ
 
--- A sink in memory: the bytes that it holds, the most that it can hold and that a write takes, the numbers of the writes that fail, the writes made so far and the faults among them.
+-- A sink in memory: the bytes that it holds, the most that it can hold and that a write takes, the numbers of the writes that fail, the
+-- writes made so far and the faults among them.
 pub record Taken : Type 0 where
   pub held : List ℕ
   pub room : ℕ

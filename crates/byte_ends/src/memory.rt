@@ -196,7 +196,10 @@ impl Sink for MemSink {
         ensures fits { IfOk result (λ k. k ≤ length piece.now) }
         ensures goes { IfOk result (λ k. k ≡ 0 → piece.now ≡ []) }
         ensures gives { IfOk result (λ k. k ≡ min (min (length piece.now) self.old.most) (self.old.room - length self.old.held)) }
-        ensures added { IfOk result (λ k. self.new ≡ record self.old { held = self.old.held ++ take k piece.now; calls = one_more self.old.calls }) }
+        ensures added { IfOk result (λ k. self.new ≡ record self.old {
+          held = self.old.held ++ take k piece.now;
+          calls = one_more self.old.calls;
+        }) }
         ensures fails { IsErr result ↔ IsBadWrite self.old piece.now }
         ensures kept { OnErr result (self.new ≡ record self.old { calls = one_more self.old.calls; faults = one_more self.old.faults }) }
         ensures failed { OnErr result (HasRisen self.old.faults self.new.faults) }

@@ -1,8 +1,7 @@
 //! Prints the table of the calls: what each looks up, where it is decided, how many steps it makes at most, and what it may
 //! answer. Names, targets, counts, deciding steps and bounds are those of `call_plans`; the rest stands in `rows`.
-//! docs/CALLS.md is what is printed.
 //!
-//! It prints docs/CALLS.md.
+//! See docs/CALLS.md, which is what it prints.
 #![tactic(auto)]
 
 mod formula;

@@ -81,7 +81,7 @@ fn ends_of(alloc: Global, programs: &[CoreRun]) -> Result<Vec<CoreEnd>, AllocErr
 
 impl Kernel {
     /// The kernel of a machine that has just booted, and a seat for each core, core 0 first. Each seat has seen the empty
-    /// trace. Only want of memory is refused.
+    /// trace. It fails only where memory runs out.
     pub fn boot(alloc: Global, setup: &Setup) -> Result<(Kernel, Vec<CoreSeat>), Memory>
         ensures setup { IfOk result (λ r. r.0.setup ≡ setup.now) }
         ensures seats { IfOk result (λ r. AreAllSeats r.0 r.1.items) }
@@ -98,7 +98,7 @@ impl Kernel {
         Ok((kernel, seats))
     }
 
-    /// The words and where each core ended, given all seats in the order of their cores. Only want of memory is refused.
+    /// The words and where each core ended, given all seats in the order of their cores. It fails only where memory runs out.
     pub fn finish(self, alloc: Global, seats: Vec<CoreSeat>) -> Result<Closed, Memory>
         requires { AreAllSeats self seats.items }
         ensures layout { IfOk result (λ closed. closed.layout ≡ shape_of self.setup) }

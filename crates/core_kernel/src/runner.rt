@@ -34,7 +34,7 @@ impl Model for Runner {
 }
 
 impl Runner {
-    /// The runner of a core that has made none of its calls. Only want of memory is refused.
+    /// The runner of a core that has made none of its calls. It fails only where memory runs out.
     pub fn new(alloc: Global, seat: CoreSeat, calls: Vec<Call>) -> Result<Runner, Memory>
         requires fit { All InLimits calls.items }
         requires few { vec_len calls < 2 ^ 32 }

@@ -105,7 +105,7 @@ fn seats_of(alloc: Global, runners: Vec<Runner>) -> Result<Vec<CoreSeat>, AllocE
 
 /// Makes the calls of each list by the core of its place, all cores at once in threads of their own where such can be
 /// made, from a machine of this setup that has just booted. None comes exactly where the gate has stopped a runner.
-/// Only want of memory is refused.
+/// It fails only where memory runs out.
 pub fn run_whole<R: Threads + Sync, G: Gate>(
     rt: &R,
     alloc: Global,

@@ -1,13 +1,16 @@
-pub mod PutCounts
+-- Acquiring and committing.
 pub mod ActBares
-pub mod StackCounts
 pub mod Acquiring
+pub mod ActHolds
+-- What a decision makes of the counts acquired.
 pub mod CountChanges
 pub mod CapChanges
-pub mod MakingCounts
-pub mod KillingCounts
+-- The counts of each act.
+pub mod PutCounts
 pub mod LinkCounts
+pub mod MakingCounts
 pub mod CompCounts
+pub mod KillingCounts
+pub mod StackCounts
 pub mod SwitchCounts
-pub mod ActHolds
 pub mod SweepCounts

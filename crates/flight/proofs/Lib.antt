@@ -15,6 +15,7 @@ pub mod Phases
 pub mod Places
 pub mod Lives
 pub mod Time
+pub mod MarkedHeads
 pub mod Pages
 pub mod Frames
 pub mod Sweeping

@@ -3,6 +3,7 @@ use Rattle.std.specs.Prelude.{◌≡◌, ℕ, suc, ◌+◌, ◌<◌, ◌∷◌, 
 use Rattle.spk_nums.specs.Setting.{Setting, IsSetting}
 use Rattle.spk_nums.specs.Capability.{Capability}
 use Rattle.spk_nums.specs.declared.kinds.Kind.TheVariants as kind
+use Rattle.spk_nums.specs.declared.calls.Call.{Call}
 use Rattle.spk_nums.specs.declared.calls.Call.TheVariants.{Test}
 use Rattle.spk_nums.specs.declared.replies.Reply.TheVariants.{Ok}
 use Rattle.spk_nums.specs.declared.replies.Value.{Value}
@@ -41,6 +42,18 @@ abbrev pub HeadsSay : Type 0
 HeadsSay = (setup : Setting) → IsSetting setup → (t : Trace) → IsMade setup t → (f : ℕ) (q : TcapFields)
     → (state_after setup t).frame f ≡ Kernel (Tcap q) → marked_by setup t (EntryAt f 0) ≡ None
     → ShowsBudget q.budget (head_of_word (last_left setup t (EntryAt f 0)))
+
+-- A head shows this budget, and the mark of this core.
+pub record ShowsMarked (core budget : ℕ) (shown : Option HeadWord) : Type 0 where
+  pub version : ℕ
+  pub says : shown ≡ Some (record { budget = budget; mark = Some core; version = version })
+
+-- At each moment the head of a temporal capability that a core has marked, in a call that is not decided, shows the core's mark and the
+-- budget still.
+abbrev pub OpenHeadsSay : Type 0
+OpenHeadsSay = (setup : Setting) → IsSetting setup → (t : Trace) → IsMade setup t → (f : ℕ) (q : TcapFields) (d : ℕ) (call : Call)
+    → (state_after setup t).frame f ≡ Kernel (Tcap q) → marked_by setup t (EntryAt f 0) ≡ Some d → phase t d ≡ Open call
+    → ShowsMarked d q.budget (head_of_word (last_left setup t (EntryAt f 0)))
 
 -- At each moment the words of a list say the list, of a temporal capability whose head no core has marked.
 abbrev pub ListsSay : Type 0

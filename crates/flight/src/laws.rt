@@ -7,7 +7,7 @@ ghost use Rattle.flight.specs.Lives.{DeadForGood};
 ghost use Rattle.flight.specs.Pages.{CachedFramesStay, CachedTillFlush, TouchesCache};
 ghost use Rattle.flight.specs.Places.{PlacesFound, ScannedCores};
 ghost use Rattle.flight.specs.Threads.{ThreadWordsSay, ThreadsRunApart};
-ghost use Rattle.flight.specs.Time.{HeadsSay, ListsSay, TestsTell, TicksAreCounted, TimeIsKept};
+ghost use Rattle.flight.specs.Time.{HeadsSay, ListsSay, OpenHeadsSay, TestsTell, TicksAreCounted, TimeIsKept};
 ghost use Rattle.flight.specs.Theorems.{Boots, StepsOn, MadeStands, SaysWords, Represents, RepresentsCounts};
 
 /// The start stands for no step.
@@ -84,6 +84,13 @@ pub fn ticks_are_counted()
 #[tactic(auto, using(crate::proofs::Time::heads_say))]
 pub fn heads_say()
     ensures { HeadsSay }
+{}
+
+/// At each moment the head of a temporal capability that a core has marked, in a call that is not decided, shows that core's mark and the
+/// budget still.
+#[tactic(auto, using(crate::proofs::MarkedHeads::open_heads_say))]
+pub fn open_heads_say()
+    ensures { OpenHeadsSay }
 {}
 
 /// At each moment the words of a list say the list, of a temporal capability whose head no core has marked.

@@ -38,7 +38,8 @@ struct Site {
 
 #[inline]
 fn push_site(text: &mut String, word: &'static str, site: Site) -> Result<(), AllocError>
-    ensures { OnOk result (string_bytes text.new ≡ string_bytes text.old ++ (word.now ++ site_text site.range site.frame site.table site.slot)) }
+    ensures { OnOk result (string_bytes text.new ≡ string_bytes text.old
+        ++ (word.now ++ site_text site.range site.frame site.table site.slot)) }
 {
     text.push_str(word)?;
     push_four_numbers(
@@ -51,7 +52,8 @@ fn push_site(text: &mut String, word: &'static str, site: Site) -> Result<(), Al
 }
 
 fn push_thread(text: &mut String, site: Site, comp: CapId) -> Result<(), AllocError>
-    ensures { OnOk result (string_bytes text.new ≡ string_bytes text.old ++ make_text (Make.Thread comp) site.range site.frame site.table site.slot) }
+    ensures { OnOk result (string_bytes text.new ≡ string_bytes text.old
+        ++ make_text (Make.Thread comp) site.range site.frame site.table site.slot) }
 {
     push_site(text, "make thread ", site)?;
     push_spaced(text, of(comp))?;

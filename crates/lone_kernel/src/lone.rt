@@ -269,7 +269,7 @@ impl LoneKernel {
         })
     }
 
-    /// The words and where each core ended. No core is in a call; only want of memory is refused. They represent the state
+    /// The words and where each core ended. No core is in a call; it fails only where memory runs out. They represent the state
     /// that each trace left for which the machine stood, and the count words the references to its frames.
     pub fn close(self, alloc: Global) -> Result<Closed, Memory>
         requires { (c : ℕ) → c < self.setup.cores → (core_at self c).active ≡ None }

@@ -96,8 +96,8 @@ fn run_lists(
 }
 
 /// Makes the calls of the lists alone, core 0's first, and answers the text of that: their reply lines, then the tables of
-/// the last state. There is a list for each core, each of fewer than 2^32 calls within their limits; only want of memory is
-/// refused.
+/// the last state. There is a list for each core, each of fewer than 2^32 calls within their limits; it fails only where
+/// memory runs out.
 pub fn plain(alloc: Global, setup: &Setup, lists: &[Vec<Call>]) -> Result<String, Memory>
     requires one_each { length lists.now ≡ setup.now.cores }
     requires can_run { AreRunnable (map (λ v. v.items) lists.now) }

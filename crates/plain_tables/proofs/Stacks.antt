@@ -24,7 +24,8 @@ all_items {A = A} xs h n all is = let few : length xs ≤ h = omega arith in tak
 pub adds_begin : (old xs : List ℕ) → Adds old old (λ f. times f (take 0 xs))
 adds_begin old xs = record { counts = λ f. let none : times f (take 0 xs) ≡ 0 = refl in omega (arith, none) }
 
-pub adds_next : (begun mid new xs : List ℕ) (h x : ℕ) → slice_get xs h ≡ Some x → Adds begun mid (λ f. times f (take h xs)) → new ≡ mid ++ x ∷ []
+pub adds_next : (begun mid new xs : List ℕ) (h x : ℕ) → slice_get xs h ≡ Some x → Adds begun mid (λ f. times f (take h xs))
+    → new ≡ mid ++ x ∷ []
     → Adds begun new (λ f. times f (take (h + 1) xs))
 adds_next begun mid new xs h x read p is = record {
   counts = λ f.
@@ -35,11 +36,13 @@ adds_next begun mid new xs h x read p is = record {
       omega (arith, a, b, d, e);
 }
 
-pub adds_stack : (begun new s : List ℕ) (h n : ℕ) → h ≡ n → n ≡ length s → Adds begun new (λ f. times f (take h (reverse s))) → Adds begun new (λ f. times f s)
+pub adds_stack : (begun new s : List ℕ) (h n : ℕ) → h ≡ n → n ≡ length s → Adds begun new (λ f. times f (take h (reverse s)))
+    → Adds begun new (λ f. times f s)
 adds_stack begun new s h n all is p = record {
   counts = λ f.
       let a = p.counts f in
-      let b : times f (take h (reverse s)) ≡ times f (reverse s) = ap (times f) (all_items (reverse s) h n all (is ∙ sym (length-reverse s))) in
+      let b : times f (take h (reverse s)) ≡ times f (reverse s) =
+      ap (times f) (all_items (reverse s) h n all (is ∙ sym (length-reverse s))) in
       let d = times_reverse f s in
       omega (arith, a, b, d);
 }
@@ -52,7 +55,8 @@ text_begin g xs = refl
 pub text_next : {A : Type 0} (g : A → List ℕ) (xs : List A) (h : ℕ) (x : A) → slice_get xs h ≡ Some x
     → flat_map g (take (h + 1) xs) ≡ flat_map g (take h xs) ++ g x
 text_next {A = A} g xs h x read =
-    ap (flat_map g) (next_item xs h x read) ∙ flat_map-append g (take h xs) (x ∷ []) ∙ ap (λ t. flat_map g (take h xs) ++ t) (append-nil (g x))
+    ap (flat_map g) (next_item xs h x read) ∙ flat_map-append g (take h xs) (x ∷ [])
+    ∙ ap (λ t. flat_map g (take h xs) ++ t) (append-nil (g x))
 
 pub text_all : {A : Type 0} (g : A → List ℕ) (xs : List A) (h n : ℕ) (new begun : List ℕ) → h ≡ n → n ≡ length xs
     → new ≡ begun ++ flat_map g (take h xs) → new ≡ begun ++ flat_map g xs

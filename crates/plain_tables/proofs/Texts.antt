@@ -29,7 +29,8 @@ abbrev pub lines_by : State → (ℕ → ℕ) → ℕ → List ℕ
 lines_by s counts n = lines_below (λ f. frame_lines f (s.frame f) (s.place f) (counts f)) n
 
 -- The tables, from the texts of their parts.
-pub whole_text : (s : State) (counts none frames numbers cores new : List ℕ) (total : ℕ) → AreCounts counts (refs s) s.limits.frames → total ≡ ticks s
+pub whole_text : (s : State) (counts none frames numbers cores new : List ℕ) (total : ℕ) → AreCounts counts (refs s) s.limits.frames
+    → total ≡ ticks s
     → none ≡ []
     → frames ≡ none ++ lines_by s (slice_index counts) s.limits.frames
     → numbers ≡ frames ++ lines_below (λ l. number_line l (s.number l)) 64
@@ -38,7 +39,8 @@ pub whole_text : (s : State) (counts none frames numbers cores new : List ℕ) (
 whole_text s counts none frames numbers cores new total counted sum empty of_frames of_numbers of_cores of_total =
     let first : frames ≡ lines_by s (refs s) s.limits.frames =
     of_frames ∙ ap (λ t. t ++ lines_by s (slice_index counts) s.limits.frames) empty
-    ∙ lines_same (λ f. frame_lines f (s.frame f) (s.place f) (slice_index counts f)) (λ f. frame_lines f (s.frame f) (s.place f) (refs s f)) s.limits.frames
+    ∙ lines_same (λ f. frame_lines f (s.frame f) (s.place f) (slice_index counts f))
+    (λ f. frame_lines f (s.frame f) (s.place f) (refs s f)) s.limits.frames
     (λ f below. ap (frame_lines f (s.frame f) (s.place f)) (counted f below)) in
     let a = lines_by s (refs s) s.limits.frames in
     let b = lines_below (λ l. number_line l (s.number l)) 64 in
@@ -87,7 +89,8 @@ same_tables t s within same =
         ∙ ap (frame_lines f (s.frame f) (s.place f)) (same_refs t s f same))
 
     numbers : lines_below (λ l. number_line l (t.number l)) 64 ≡ lines_below (λ l. number_line l (s.number l)) 64
-    numbers = lines_same (λ l. number_line l (t.number l)) (λ l. number_line l (s.number l)) 64 (λ l below. ap (number_line l) (same.number l below))
+    numbers = lines_same (λ l. number_line l (t.number l)) (λ l. number_line l (s.number l)) 64
+        (λ l below. ap (number_line l) (same.number l below))
 
     of_core : (r : State) → ℕ → List ℕ
     of_core r = λ c. core_lines c (r.core c) (first_of_stack (thread_of r c).stack)
@@ -105,6 +108,8 @@ same_tables t s within same =
 
     all : ticks t ≡ ticks s
     all =
-        let a = ap (sum_below (budget t)) few ∙ sum_same (budget s) (budget t) s.limits.frames (λ f below. ap (λ x. (tcap_in x).budget) (same.frame f below)) in
-        let b = ap (sum_below (spent t)) many ∙ sum_same (spent s) (spent t) s.limits.cores (λ c below. ap (λ (k : Core). k.spent) (same.core c below)) in
+        let a = ap (sum_below (budget t)) few
+        ∙ sum_same (budget s) (budget t) s.limits.frames (λ f below. ap (λ x. (tcap_in x).budget) (same.frame f below)) in
+        let b = ap (sum_below (spent t)) many
+        ∙ sum_same (spent s) (spent t) s.limits.cores (λ c below. ap (λ (k : Core). k.spent) (same.core c below)) in
         λ i. a i + b i

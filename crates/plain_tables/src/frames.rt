@@ -34,7 +34,8 @@ fn push_object(
     frame: FrameNo,
     object: &Object,
 ) -> Result<(), AllocError>
-    ensures { OnOk result (string_bytes text.new ≡ string_bytes text.old ++ object_lines (object_of object.now) ((state_of k.now).place frame)) }
+    ensures { OnOk result (string_bytes text.new ≡ string_bytes text.old
+        ++ object_lines (object_of object.now) ((state_of k.now).place frame)) }
 {
     match object {
         Object::Blank => Ok(()),
@@ -55,7 +56,9 @@ fn push_kernel(
     object: &Object,
     refs: u64,
 ) -> Result<(), AllocError>
-    ensures { OnOk result (string_bytes text.new ≡ string_bytes text.old ++ (frame_line frame (object_word (object_of object.now)) refs ++ object_lines (object_of object.now) ((state_of k.now).place frame))) }
+    ensures { OnOk result (string_bytes text.new ≡ string_bytes text.old
+        ++ (frame_line frame (object_word (object_of object.now)) refs
+        ++ object_lines (object_of object.now) ((state_of k.now).place frame))) }
 {
     table_lines::push_frame(text, frame, object_name(object), refs)?;
     push_object(text, k, frame, object)
@@ -69,7 +72,8 @@ fn push_frame(
     value: &Frame,
     refs: u64,
 ) -> Result<(), AllocError>
-    ensures { OnOk result (string_bytes text.new ≡ string_bytes text.old ++ frame_lines frame (frame_of value.now) ((state_of k.now).place frame) refs) }
+    ensures { OnOk result (string_bytes text.new ≡ string_bytes text.old
+        ++ frame_lines frame (frame_of value.now) ((state_of k.now).place frame) refs) }
 {
     match value {
         Frame::Untyped => Ok(()),
@@ -85,7 +89,8 @@ fn push_number(
     number: FrameNo,
     refs: u64,
 ) -> Result<(), AllocError>
-    ensures { OnOk result (string_bytes text.new ≡ string_bytes text.old ++ frame_lines number ((state_of k.now).frame number) ((state_of k.now).place number) refs) }
+    ensures { OnOk result (string_bytes text.new ≡ string_bytes text.old
+        ++ frame_lines number ((state_of k.now).frame number) ((state_of k.now).place number) refs) }
 {
     let value = k.frame(number);
     push_frame(text, k, number, &value, refs)
@@ -94,7 +99,9 @@ fn push_number(
 /// Appends the lines of all frames, to each of which there are as many references as `counts` says.
 pub fn push_frames(text: &mut String, k: &SeqKernel, counts: &[u64]) -> Result<(), AllocError>
     requires { length counts.now ≡ (state_of k.now).limits.frames }
-    ensures { OnOk result (string_bytes text.new ≡ string_bytes text.old ++ lines_below (λ f. frame_lines f ((state_of k.now).frame f) ((state_of k.now).place f) (slice_index counts.now f)) (state_of k.now).limits.frames) }
+    ensures { OnOk result (string_bytes text.new ≡ string_bytes text.old
+        ++ lines_below (λ f. frame_lines f ((state_of k.now).frame f) ((state_of k.now).place f) (slice_index counts.now f))
+        (state_of k.now).limits.frames) }
 {
     'frames: for number in 0..k.frames() {
         push_number(text, k, FrameNo::new(number), counts[usize::from(number)])?;

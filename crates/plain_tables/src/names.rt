@@ -41,7 +41,8 @@ fn push_place(names: &mut Vec<u64>, place: &Place) -> Result<(), AllocError>
 }
 
 fn push_node(names: &mut Vec<u64>, k: &SeqKernel, node: FrameNo) -> Result<(), AllocError>
-    ensures { OnOk result (Adds names.old.items names.new.items (λ f. sum_below (λ i. times f (place_names ((state_of k.now).place node i))) 64)) }
+    ensures { OnOk result (Adds names.old.items names.new.items
+        (λ f. sum_below (λ i. times f (place_names ((state_of k.now).place node i))) 64)) }
 {
     'entries: for index in 0..64 {
         let place = k.place(node, EntryNo::new(index));
@@ -52,7 +53,8 @@ fn push_node(names: &mut Vec<u64>, k: &SeqKernel, node: FrameNo) -> Result<(), A
 
 // Appends what the places of nodes name.
 fn push_nodes(names: &mut Vec<u64>, k: &SeqKernel) -> Result<(), AllocError>
-    ensures { OnOk result (Adds names.old.items names.new.items (λ f. sum_below (λ g. sum_below (λ i. times f (place_names ((state_of k.now).place g i))) 64) (state_of k.now).limits.frames)) }
+    ensures { OnOk result (Adds names.old.items names.new.items
+        (λ f. sum_below (λ g. sum_below (λ i. times f (place_names ((state_of k.now).place g i))) 64) (state_of k.now).limits.frames)) }
 {
     'frames: for frame in 0..k.frames() {
         push_node(names, k, FrameNo::new(frame))?;
@@ -113,7 +115,8 @@ fn push_frame(names: &mut Vec<u64>, frame: &Frame) -> Result<(), AllocError>
 
 // Appends what the objects of frames name.
 fn push_frames(names: &mut Vec<u64>, k: &SeqKernel) -> Result<(), AllocError>
-    ensures { OnOk result (Adds names.old.items names.new.items (λ f. sum_below (λ g. times f (frame_names ((state_of k.now).frame g))) (state_of k.now).limits.frames)) }
+    ensures { OnOk result (Adds names.old.items names.new.items
+        (λ f. sum_below (λ g. times f (frame_names ((state_of k.now).frame g))) (state_of k.now).limits.frames)) }
 {
     'frames: for frame in 0..k.frames() {
         let value = k.frame(FrameNo::new(frame));
@@ -132,7 +135,8 @@ fn push_core(names: &mut Vec<u64>, core: &Core) -> Result<(), AllocError>
 
 // Appends what the cores name.
 fn push_cores(names: &mut Vec<u64>, k: &SeqKernel) -> Result<(), AllocError>
-    ensures { OnOk result (Adds names.old.items names.new.items (λ f. sum_below (λ c. times f (core_names ((state_of k.now).core c))) (state_of k.now).limits.cores)) }
+    ensures { OnOk result (Adds names.old.items names.new.items
+        (λ f. sum_below (λ c. times f (core_names ((state_of k.now).core c))) (state_of k.now).limits.cores)) }
 {
     'cores: for core in 0..k.cores() {
         let value = k.core(CoreNo::new(core));
@@ -153,7 +157,8 @@ fn push_number(names: &mut Vec<u64>, number: &Liveness) -> Result<(), AllocError
 
 // Appends what the liveness numbers name.
 fn push_numbers(names: &mut Vec<u64>, k: &SeqKernel) -> Result<(), AllocError>
-    ensures { OnOk result (Adds names.old.items names.new.items (λ f. sum_below (λ l. times f (number_names ((state_of k.now).number l))) 64)) }
+    ensures { OnOk result (Adds names.old.items names.new.items
+        (λ f. sum_below (λ l. times f (number_names ((state_of k.now).number l))) 64)) }
 {
     'numbers: for number in 0..64 {
         let value = k.number(number);

@@ -53,7 +53,8 @@ fn push_core(
     core: CoreNo,
 ) -> Result<(), AllocError>
     requires { core < (state_of k.now).limits.cores }
-    ensures { OnOk result (string_bytes text.new ≡ string_bytes text.old ++ core_lines core ((state_of k.now).core core) (first_of_stack (thread_of (state_of k.now) core).stack)) }
+    ensures { OnOk result (string_bytes text.new ≡ string_bytes text.old
+        ++ core_lines core ((state_of k.now).core core) (first_of_stack (thread_of (state_of k.now) core).stack)) }
 {
     let value = k.core(core);
     let thread = thread_of(k, core);
@@ -70,7 +71,9 @@ fn push_core(
 
 /// Appends the lines of all cores.
 pub fn push_cores(alloc: Global, text: &mut String, k: &SeqKernel) -> Result<(), AllocError>
-    ensures { OnOk result (string_bytes text.new ≡ string_bytes text.old ++ lines_below (λ c. core_lines c ((state_of k.now).core c) (first_of_stack (thread_of (state_of k.now) c).stack)) (state_of k.now).limits.cores) }
+    ensures { OnOk result (string_bytes text.new ≡ string_bytes text.old
+        ++ lines_below (λ c. core_lines c ((state_of k.now).core c) (first_of_stack (thread_of (state_of k.now) c).stack))
+        (state_of k.now).limits.cores) }
 {
     'cores: for core in 0..k.cores() {
         push_core(alloc, text, k, CoreNo::new(core))?;

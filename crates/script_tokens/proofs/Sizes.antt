@@ -21,7 +21,8 @@ last_is b c bs = ap (λ o. cond (ends_open o) 1 0) (ap (slice_get (b ∷ c ∷ b
     one : length (b ∷ c ∷ bs) - 1 ≡ suc (length (c ∷ bs) - 1)
     one = omega arith
 
-no_more : (line b : ℕ) (bs : List ℕ) → first_fault line (b ∷ bs) ≡ None → (line ≤ 20000) × (first_fault (cond (is_feed b) (line + 1) line) bs ≡ None)
+no_more : (line b : ℕ) (bs : List ℕ) → first_fault line (b ∷ bs) ≡ None
+    → (line ≤ 20000) × (first_fault (cond (is_feed b) (line + 1) line) bs ≡ None)
 no_more line b bs e =
     elim (cases_Bool (ltb 20000 line)) [
       | inl past ↦ absurd (none_some _ (rw past at e))
@@ -49,11 +50,13 @@ lines_from line (b ∷ []) le e =
 lines_from line (b ∷ c ∷ bs) le e =
     let h = no_more line b (c ∷ bs) e in
     let within : line ≤ 20000 = h.0 in
-    let one : count_by is_feed (b ∷ c ∷ bs) ≡ cond (is_feed b) 1 0 + count_by is_feed (c ∷ bs) = sum_by-cons (λ x. cond (is_feed x) 1 0) b (c ∷ bs) in
+    let one : count_by is_feed (b ∷ c ∷ bs) ≡ cond (is_feed b) 1 0 + count_by is_feed (c ∷ bs) =
+    sum_by-cons (λ x. cond (is_feed x) 1 0) b (c ∷ bs) in
     let same = last_is b c bs in
     elim (cases_Bool (is_feed b)) [
       | inl f ↦
-          let more : line + 1 + (count_by is_feed (c ∷ bs) + open_lines (c ∷ bs)) ≤ 20001 = lines_from (line + 1) (c ∷ bs) (omega arith) (rw f at h.1) in
+          let more : line + 1 + (count_by is_feed (c ∷ bs) + open_lines (c ∷ bs)) ≤ 20001 =
+          lines_from (line + 1) (c ∷ bs) (omega arith) (rw f at h.1) in
           omega (arith, feed_one b f, one, same, more)
       | inr f ↦
           let more : line + (count_by is_feed (c ∷ bs) + open_lines (c ∷ bs)) ≤ 20001 = lines_from line (c ∷ bs) le (rw f at h.1) in
@@ -61,7 +64,8 @@ lines_from line (b ∷ c ∷ bs) le e =
     ]
 
 few_from : (source : List ℕ) (o : Option ByteFault) → first_fault 1 source ≡ o → FewLines (ending_from o (line_count source))
-few_from source None e = let n : 1 + (count_by is_feed source + open_lines source) ≤ 20001 = lines_from 1 source (omega arith) e in omega arith
+few_from source None e = let n : 1 + (count_by is_feed source + open_lines source) ≤ 20001 = lines_from 1 source (omega arith) e in
+    omega arith
 few_from source (Some f) e = tt
 
 pub few_lines : (source : List ℕ) → FewLines (ending_of source)
@@ -80,7 +84,8 @@ spans_few line here comment (b ∷ bs) =
       | inr e ↦ elim (cases_Bool (comment || is_hash b)) [
         | inl k ↦ let h = spans_few line (here + 1) true bs in rw (e, k) (omega (arith, h))
         | inr k ↦ elim (cases_Bool (is_word_byte b)) [
-          | inl w ↦ let h = spans_few line (here + 1) false bs in rw (e, k, w) (omega (arith, h, joined_few line here (here + 1) (spans line (here + 1) false bs)))
+          | inl w ↦ let h = spans_few line (here + 1) false bs in
+              rw (e, k, w) (omega (arith, h, joined_few line here (here + 1) (spans line (here + 1) false bs)))
           | inr w ↦ let h = spans_few line (here + 1) false bs in rw (e, k, w) (omega (arith, h))
         ]
       ]
@@ -88,9 +93,11 @@ spans_few line here comment (b ∷ bs) =
 
 before_few : (e : Ending) (ws : List Span) → length (before_fault e ws) ≤ length ws
 before_few (Whole lines) ws = omega arith
-before_few (Fault f) ws = let test = λ (w : Span). ltb w.line (line_of_fault f) in omega (arith, length-filter test ws, count_by-le-length test ws)
+before_few (Fault f) ws = let test = λ (w : Span). ltb w.line (line_of_fault f) in
+    omega (arith, length-filter test ws, count_by-le-length test ws)
 
 pub few_words : (source : List ℕ) (ts : List Token) → views ts ≡ words_of source → length ts ≤ length source
 few_words source ts e =
-    let long : length ts ≡ length (spans_of source) = sym (length-map ts view) ∙ ap length e ∙ length-map (spans_of source) (word_at source) in
+    let long : length ts ≡ length (spans_of source) = sym (length-map ts view) ∙ ap length e
+    ∙ length-map (spans_of source) (word_at source) in
     omega (arith, before_few (ending_of source) (spans 1 0 false source), spans_few 1 0 false source)

@@ -68,7 +68,8 @@ filter_rises test here (w ∷ ws) h =
 -- ---- one byte
 
 -- a word that goes on
-joined_on : (line start here : ℕ) (ws : List Span) → joined line start here (joined line here (here + 1) ws) ≡ joined line start (here + 1) ws
+joined_on : (line start here : ℕ) (ws : List Span)
+    → joined line start here (joined line here (here + 1) ws) ≡ joined line start (here + 1) ws
 joined_on line start here [] = rw (eq-eqb here here refl) refl
 joined_on line start here (w ∷ ws) =
     elim (cases_Bool (eqb w.start (here + 1))) [
@@ -77,7 +78,8 @@ joined_on line start here (w ∷ ws) =
     ]
 
 -- a word that ends
-joined_ends : (line start here : ℕ) (ws : List Span) → RisesFrom (here + 1) ws → joined line start here ws ≡ record { line = line; start = start; end = here } ∷ ws
+joined_ends : (line start here : ℕ) (ws : List Span) → RisesFrom (here + 1) ws
+    → joined line start here ws ≡ record { line = line; start = start; end = here } ∷ ws
 joined_ends line start here [] h = refl
 joined_ends line start here (w ∷ ws) h =
     let begins : here + 1 ≤ w.start = h.0 in
@@ -89,7 +91,8 @@ feed_no_word b e = rw (eqb-true b 10 e) refl
 hash_no_word : (b : ℕ) → is_hash b ≡ true → is_word_byte b ≡ false
 hash_no_word b e = rw (eqb-true b 35 e) refl
 
-behind_step : (p : Place) (line here b : ℕ) (bs : List ℕ) → behind p line here (b ∷ bs) ≡ ended (word_before p b) line here ++ behind (place_after p b here) (line_after line b) (here + 1) bs
+behind_step : (p : Place) (line here b : ℕ) (bs : List ℕ)
+    → behind p line here (b ∷ bs) ≡ ended (word_before p b) line here ++ behind (place_after p b here) (line_after line b) (here + 1) bs
 behind_step Between line here b bs =
     elim (cases_Bool (is_feed b)) [
       | inl e ↦ rw e refl
@@ -182,7 +185,8 @@ before_high line (w ∷ ws) h = rw (le-ltb w.line line h.0) (before_high line ws
 
 before_low : (line : ℕ) (ws : List Span) → Low line ws → before (line + 1) ws ≡ ws
 before_low line [] h = refl
-before_low line (w ∷ ws) h = let first : w.line ≤ line = h.0 in rw (lt-ltb w.line (line + 1) (omega arith)) (ap (λ (vs : List Span). w ∷ vs) (before_low line ws h.1))
+before_low line (w ∷ ws) h = let first : w.line ≤ line = h.0 in
+    rw (lt-ltb w.line (line + 1) (omega arith)) (ap (λ (vs : List Span). w ∷ vs) (before_low line ws h.1))
 
 -- ---- the pass
 
@@ -210,13 +214,15 @@ slice_get_rest xs zero = refl
 slice_get_rest [] (suc n) = refl
 slice_get_rest (x ∷ xs) (suc n) = slice_get_rest xs n
 
-fault_step : (line b : ℕ) (bs : List ℕ) → line ≤ 20000 → is_allowed b (slice_get bs 0) ≡ true → first_fault line (b ∷ bs) ≡ first_fault (line_after line b) bs
+fault_step : (line b : ℕ) (bs : List ℕ) → line ≤ 20000 → is_allowed b (slice_get bs 0) ≡ true
+    → first_fault line (b ∷ bs) ≡ first_fault (line_after line b) bs
 fault_step line b bs le ok = rw (le-ltb 20000 line le, ok) refl
 
 lines_step : (line b : ℕ) (bs : List ℕ) → line_after line b + count_by is_feed bs ≡ line + count_by is_feed (b ∷ bs)
 lines_step line b bs =
     let one : count_by is_feed (b ∷ bs) ≡ cond (is_feed b) 1 0 + count_by is_feed bs = sum_by-cons (λ x. cond (is_feed x) 1 0) b bs in
-    let step : line_after line b ≡ line + cond (is_feed b) 1 0 = elim (cases_Bool (is_feed b)) [ inl e ↦ rw e refl | inr e ↦ rw e (omega arith) ] in
+    let step : line_after line b ≡ line + cond (is_feed b) 1 0 =
+    elim (cases_Bool (is_feed b)) [ inl e ↦ rw e refl | inr e ↦ rw e (omega arith) ] in
     omega arith
 
 line_few : (line b : ℕ) → line ≤ 20000 → line_after line b ≤ 20001
@@ -225,30 +231,37 @@ line_few line b le = elim (cases_Bool (is_feed b)) [ inl e ↦ rw e (omega arith
 low_step : (line b : ℕ) (ws : List Span) → Low line ws → Low (line_after line b) ws
 low_step line b ws h = elim (cases_Bool (is_feed b)) [ inl e ↦ rw e (Low-weaker line (line + 1) ws (omega arith) h) | inr e ↦ rw e h ]
 
-cut_step : (line whole b : ℕ) (done last : List Span) → Low line (done ++ last) → High line last → before line done ≡ take whole done → whole ≤ length done
+cut_step : (line whole b : ℕ) (done last : List Span) → Low line (done ++ last) → High line last → before line done ≡ take whole done
+    → whole ≤ length done
     → before (line_after line b) (done ++ last) ≡ take (whole_after whole b (length (done ++ last))) (done ++ last)
 cut_step line whole b done last low high cut within =
     elim (cases_Bool (is_feed b)) [
       | inl e ↦ rw e (before_low line (done ++ last) low ∙ sym (take_all (length (done ++ last)) (done ++ last) (omega arith)))
-      | inr e ↦ rw e (filter-append _ done last ∙ ap (λ (x : List Span). before line done ++ x) (before_high line last high) ∙ append-nil (before line done) ∙ cut ∙ sym (take-append-le whole done last within))
+      | inr e ↦ rw e (filter-append _ done last ∙ ap (λ (x : List Span). before line done ++ x) (before_high line last high)
+          ∙ append-nil (before line done) ∙ cut ∙ sym (take-append-le whole done last within))
     ]
 
-within_step : (whole b : ℕ) (done last : List Span) → whole ≤ length done → whole_after whole b (length (done ++ last)) ≤ length (done ++ last)
+within_step : (whole b : ℕ) (done last : List Span) → whole ≤ length done
+    → whole_after whole b (length (done ++ last)) ≤ length (done ++ last)
 within_step whole b done last within =
     elim (cases_Bool (is_feed b)) [ inl e ↦ rw e (omega arith) | inr e ↦ rw e (omega (arith, length-append done last)) ]
 
-pub goes_on : (source : List ℕ) (at : ℕ) (place : Place) (line whole : ℕ) (done : List Span) (b : ℕ) → Holds source at place line whole done → at < length source → b ≡ get_or source at 0 → is_fault line b (slice_get source (at + 1)) ≡ false
-    → Holds source (at + 1) (place_after place b at) (line_after line b) (whole_after whole b (length (done ++ ended (word_before place b) line at))) (done ++ ended (word_before place b) line at)
+pub goes_on : (source : List ℕ) (at : ℕ) (place : Place) (line whole : ℕ) (done : List Span) (b : ℕ) → Holds source at place line whole done
+    → at < length source → b ≡ get_or source at 0 → is_fault line b (slice_get source (at + 1)) ≡ false
+    → Holds source (at + 1) (place_after place b at) (line_after line b)
+    (whole_after whole b (length (done ++ ended (word_before place b) line at))) (done ++ ended (word_before place b) line at)
 goes_on source at place line whole done b h lt is fine =
     let rest = drop (at + 1) source in
     let last = ended (word_before place b) line at in
     let cut : drop at source ≡ b ∷ rest = drop_more source at 0 lt ∙ ap (λ (x : ℕ). x ∷ rest) (sym is) in
-    let parts = or_parts (ltb 20000 line) (not (is_allowed b (slice_get rest 0))) (ap (is_fault line b) (slice_get_rest source (at + 1)) ∙ fine) in
+    let parts = or_parts (ltb 20000 line) (not (is_allowed b (slice_get rest 0)))
+    (ap (is_fault line b) (slice_get_rest source (at + 1)) ∙ fine) in
     let le : line ≤ 20000 = ltb-false 20000 line parts.0 in
     let next : is_allowed b (slice_get rest 0) ≡ true = not-false _ parts.1 in
     let low : Low line (done ++ last) = Low-append line done last h.low (low_ended (word_before place b) line at) in
     record {
-      words = append_assoc done last _ ∙ ap (λ (x : List Span). done ++ x) (sym (behind_step place line at b rest)) ∙ ap (λ (x : List ℕ). done ++ behind place line at x) (sym cut) ∙ h.words;
+      words = append_assoc done last _ ∙ ap (λ (x : List Span). done ++ x) (sym (behind_step place line at b rest))
+          ∙ ap (λ (x : List ℕ). done ++ behind place line at x) (sym cut) ∙ h.words;
       fault = sym (fault_step line b rest le next) ∙ ap (first_fault line) (sym cut) ∙ h.fault;
       lines = lines_step line b rest ∙ ap (λ (x : List ℕ). line + count_by is_feed x) (sym cut) ∙ h.lines;
       few = line_few line b le;
@@ -266,13 +279,15 @@ fault_here line b bs bad =
     ]
 
 fault_line : (line : ℕ) → line ≤ 20001 → line_of_fault (fault_at line) ≡ line
-fault_line line le = elim (cases_Bool (ltb 20000 line)) [ inl e ↦ let lt : 20000 < line = ltb-true 20000 line e in rw e (omega arith) | inr e ↦ rw e refl ]
+fault_line line le = elim (cases_Bool (ltb 20000 line))
+    [ inl e ↦ let lt : 20000 < line = ltb-true 20000 line e in rw e (omega arith) | inr e ↦ rw e refl ]
 
 pub record Stopped (source : List ℕ) (line whole : ℕ) (done : List Span) : Type 0 where
   pub ending : ending_of source ≡ Fault (fault_at line)
   pub words : take whole done ≡ spans_of source
 
-pub stops : (source : List ℕ) (at : ℕ) (place : Place) (line whole : ℕ) (done : List Span) (b : ℕ) → Holds source at place line whole done → at < length source → b ≡ get_or source at 0 → is_fault line b (slice_get source (at + 1)) ≡ true
+pub stops : (source : List ℕ) (at : ℕ) (place : Place) (line whole : ℕ) (done : List Span) (b : ℕ) → Holds source at place line whole done
+    → at < length source → b ≡ get_or source at 0 → is_fault line b (slice_get source (at + 1)) ≡ true
     → Stopped source line whole done
 stops source at place line whole done b h lt is bad =
     let rest = drop (at + 1) source in
@@ -280,11 +295,13 @@ stops source at place line whole done b h lt is bad =
     let wrong : is_fault line b (slice_get rest 0) ≡ true = ap (is_fault line b) (slice_get_rest source (at + 1)) ∙ bad in
     let fault : first_fault 1 source ≡ Some (fault_at line) = sym h.fault ∙ ap (first_fault line) cut ∙ fault_here line b rest wrong in
     let ending : ending_of source ≡ Fault (fault_at line) = ap (λ f. ending_from f (line_count source)) fault in
-    let kept : before_fault (ending_of source) (spans 1 0 false source) ≡ before line (spans 1 0 false source) = ap (λ e. before_fault e (spans 1 0 false source)) ending ∙ ap (λ l. before l (spans 1 0 false source)) (fault_line line h.few) in
+    let kept : before_fault (ending_of source) (spans 1 0 false source) ≡ before line (spans 1 0 false source) =
+    ap (λ e. before_fault e (spans 1 0 false source)) ending ∙ ap (λ l. before l (spans 1 0 false source)) (fault_line line h.few) in
     record {
       ending = ending;
       words = sym (kept ∙ ap (before line) (sym h.words) ∙ filter-append _ done (behind place line at (drop at source))
-          ∙ ap (λ (x : List Span). before line done ++ x) (before_high line _ (behind_high place line at (drop at source))) ∙ append-nil (before line done) ∙ h.cut);
+          ∙ ap (λ (x : List Span). before line done ++ x) (before_high line _ (behind_high place line at (drop at source)))
+          ∙ append-nil (before line done) ∙ h.cut);
     }
 
 pub record Ended (source : List ℕ) (last : ℕ) (done : List Span) : Type 0 where
@@ -292,13 +309,17 @@ pub record Ended (source : List ℕ) (last : ℕ) (done : List Span) : Type 0 wh
   pub words : done ≡ spans_of source
   pub line : last ≡ 1 + count_by is_feed source
 
-pub ends : (source : List ℕ) (at : ℕ) (place : Place) (line whole : ℕ) (done : List Span) → Holds source at place line whole done → length source ≤ at → Ended source line (done ++ ended (last_word place) line at)
+pub ends : (source : List ℕ) (at : ℕ) (place : Place) (line whole : ℕ) (done : List Span) → Holds source at place line whole done
+    → length source ≤ at → Ended source line (done ++ ended (last_word place) line at)
 ends source at place line whole done h le =
     let none : drop at source ≡ [] = drop_all at source le in
-    let ending : ending_of source ≡ Whole (line_count source) = ap (λ f. ending_from f (line_count source)) (sym h.fault ∙ ap (first_fault line) none) in
+    let ending : ending_of source ≡ Whole (line_count source) =
+    ap (λ f. ending_from f (line_count source)) (sym h.fault ∙ ap (first_fault line) none) in
     record {
       ending = ending;
-      words = ap (λ (x : List Span). done ++ x) (sym (behind_end place line at)) ∙ ap (λ (x : List ℕ). done ++ behind place line at x) (sym none) ∙ h.words ∙ sym (ap (λ e. before_fault e (spans 1 0 false source)) ending);
+      words = ap (λ (x : List Span). done ++ x) (sym (behind_end place line at))
+          ∙ ap (λ (x : List ℕ). done ++ behind place line at x) (sym none) ∙ h.words
+          ∙ sym (ap (λ e. before_fault e (spans 1 0 false source)) ending);
       line = omega (arith, ap (λ (x : List ℕ). line + count_by is_feed x) (sym none) ∙ h.lines);
     }
 
@@ -306,7 +327,8 @@ ends source at place line whole done h le =
 
 pub views_are : (source : List ℕ) (ts : List Token) → All (IsSlice source) ts → views ts ≡ map (word_at source) (map span_of ts)
 views_are source [] h = refl
-views_are source (t ∷ ts) h = let text : t.text.now ≡ slice_range source t.start t.end = All-head (IsSlice source) t ts h in rw (text, views_are source ts (All-tail (IsSlice source) t ts h)) refl
+views_are source (t ∷ ts) h = let text : t.text.now ≡ slice_range source t.start t.end = All-head (IsSlice source) t ts h in
+    rw (text, views_are source ts (All-tail (IsSlice source) t ts h)) refl
 
 pub ascend : (here : ℕ) (ts : List Token) → RisesFrom here (map span_of ts) → Ascend (views ts)
 ascend here [] h = tt
@@ -352,15 +374,19 @@ pub told : (source : List ℕ) (ts : List Token) → map span_of ts ≡ spans_of
 told source ts same texts = views_are source ts texts ∙ ap (map (word_at source)) same
 
 -- one turn of the pass
-pub turns : (source : List ℕ) (at : ℕ) (place : Place) (line whole b : ℕ) (ts us : List Token) → Turned source at place line whole ts → at < length source → b ≡ get_or source at 0 → is_fault line b (slice_get source (at + 1)) ≡ false
+pub turns : (source : List ℕ) (at : ℕ) (place : Place) (line whole b : ℕ) (ts us : List Token) → Turned source at place line whole ts
+    → at < length source → b ≡ get_or source at 0 → is_fault line b (slice_get source (at + 1)) ≡ false
     → map span_of us ≡ map span_of ts ++ ended (word_before place b) line at → All (IsSlice source) us
     → Turned source (at + 1) (place_after place b at) (line_after line b) (whole_after whole b (length us)) us
 turns source at place line whole b ts us t lt is fine new texts =
     let more = goes_on source at place line whole (map span_of ts) b t.holds lt is fine in
     let long : length (map span_of ts ++ ended (word_before place b) line at) ≡ length us = ap length (sym new) ∙ length-map us span_of in
-    let family : List Span → Type 0 = λ ws. Holds source (at + 1) (place_after place b at) (line_after line b) (whole_after whole b (length us)) ws in
+    let family : List Span → Type 0 = λ ws. Holds source (at + 1) (place_after place b at) (line_after line b)
+    (whole_after whole b (length us)) ws in
     record {
-      holds = subst family (sym new) (subst (λ n. Holds source (at + 1) (place_after place b at) (line_after line b) (whole_after whole b n) (map span_of ts ++ ended (word_before place b) line at)) long more);
+      holds = subst family (sym new) (subst
+          (λ n. Holds source (at + 1) (place_after place b at) (line_after line b) (whole_after whole b n)
+          (map span_of ts ++ ended (word_before place b) line at)) long more);
       texts = texts;
       began = began_next place b at t.began;
     }

@@ -12,7 +12,7 @@ use table_report::report;
 
 /// Takes the items of the order, then runs each core out, and answers the text of the trace that this makes: its reply
 /// lines, then its tables. There is a list for each core, each of fewer than 2^32 calls that are within their limits;
-/// only want of memory is refused.
+/// it fails only where memory runs out.
 pub fn replay(
     alloc: Global,
     setup: &Setup,

@@ -14,7 +14,7 @@ use table_report::report;
 /// Makes the script's lists, each core in a thread of its own where one can be made, and answers the text of the trace
 /// that this makes: the reply lines of core 0, then of core 1 and so on, then the tables. There is a list for each core,
 /// each of fewer than 2^32 calls that are within their limits. None comes exactly where the gate has stopped a core, so
-/// only where it is not free; only want of memory is refused.
+/// only where it is not free; it fails only where memory runs out.
 pub fn run_lists<R: Threads + Sync, G: Gate>(
     rt: &R,
     alloc: Global,

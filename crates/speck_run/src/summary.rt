@@ -22,8 +22,8 @@ pub enum Summed {
 
 // Takes the items of the order, then runs each core out, and answers the summary of the trace that this makes: how often
 // each reply came, how many calls there were, and the total of the budgets and the ticks spent, as the final words and the
-// cores show it. There is a list for each core, each of fewer than 2^32 calls that are within their limits; only want of
-// memory is refused.
+// cores show it. There is a list for each core, each of fewer than 2^32 calls that are within their limits; it fails only
+// where memory runs out.
 fn summarize(
     alloc: Global,
     setup: &Setup,
@@ -48,7 +48,7 @@ fn summarize(
 
 /// Takes the steps of a script as `replay` does, and answers their summary: a line for each reply that came, in the order of
 /// their numbers, with how often it came; then how many calls were decided, and the total of all budgets and all ticks spent.
-/// Only want of memory is refused.
+/// It fails only where memory runs out.
 pub fn sum_up(alloc: Global, bytes: &[u8]) -> Result<Summed, Memory>
     requires { length bytes.now ≤ 1048576 }
     ensures { IfOk result (λ summed. IsSummedUp bytes.now summed) }

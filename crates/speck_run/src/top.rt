@@ -17,7 +17,7 @@ ghost use Rattle.speck_run.specs.Top.{Asks, AsksMake, AsksLoad, IsCommand, IsMak
 use crate::replay::replay;
 use crate::runs::run_lists;
 use crate::summary::{Summed, sum_up};
-use crate::words::{Command, command_of, number_behind};
+use crate::words::{Command, command_of, number_after};
 use byte_ends::{Sink, Source};
 use core_kernel::Gate;
 use load_maker::load_script;
@@ -235,11 +235,11 @@ fn judge<R: Threads + Sync, G: Gate, S: Source>(
     ensures free { IfOk result (λ answer. answer.status ≡ Status.Stopped → G.is_free gate.now ≡ true → ⊥) }
     ensures steady { IfOk result (λ answer. (answer.status ≡ Status.ReadFault) ⊎ (S.faults source.new ≡ S.faults source.old)) }
 {
-    if let Some(number) = number_behind(words, "make") {
+    if let Some(number) = number_after(words, "make") {
         let text = load_script(alloc, number)?;
         return Ok(made(text));
     }
-    if let Some(number) = number_behind(words, "load") {
+    if let Some(number) = number_after(words, "load") {
         return answer_load(alloc, number);
     }
     judge_command(rt, alloc, gate, words, source)

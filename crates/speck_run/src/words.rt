@@ -56,7 +56,7 @@ fn number_in(word: &str) -> Option<u32>
 }
 
 /// The number after this word, where the words are these two; none for other words.
-pub fn number_behind(words: &Vec<String>, name: &str) -> Option<u32>
+pub fn number_after(words: &Vec<String>, name: &str) -> Option<u32>
     ensures { IsNumberOf name.now words.now result }
 {
     match words.as_slice() {

@@ -78,7 +78,7 @@ use Rattle.sweep_invariant.proofs.UntypeCalls.{untypes_on, typed_is}
 none_some : (d : ℕ) → None ≡ Some d → ⊥
 none_some d h = cc
 
--- A frame has one counter today, so none is frozen before it, and none is left after it.
+-- A frame has one counter, so none is frozen before it, and none is left after it.
 pub no_kept : (s : Shape) (kept : List CountWord) → length kept < counters_of s → kept ≡ []
 unfolding counters_of
 no_kept s [] below = refl

@@ -14,7 +14,8 @@ lines_more line n = let e : n + 1 ≡ suc n = omega arith in rw e
 pub lines_same : (a b : ℕ → List ℕ) (n : ℕ) → ((i : ℕ) → i < n → a i ≡ b i) → lines_below a n ≡ lines_below b n
 unfolding lines_below
 lines_same a b zero same = refl
-lines_same a b (suc n) same = ap (λ x. x ++ a n) (lines_same a b n (λ i h. same i (omega arith))) ∙ ap (λ x. lines_below b n ++ x) (same n (omega arith))
+lines_same a b (suc n) same = ap (λ x. x ++ a n) (lines_same a b n (λ i h. same i (omega arith)))
+    ∙ ap (λ x. lines_below b n ++ x) (same n (omega arith))
 
 -- A text goes on by one more piece.
 pub goes_on : (new mid begun seen one next : List ℕ) → new ≡ mid ++ one → mid ≡ begun ++ seen → next ≡ seen ++ one → new ≡ begun ++ next

@@ -10,7 +10,8 @@ use Rattle.kernel_history.proofs.Sums.{times_append, one_same, one_other}
 module _ (names : List ℕ) (at : ℕ) (below : at < length names) where
   -- A number stands at most once at each place.
   pub at_most : (f : ℕ) → times f (take at names) ≤ at
-  at_most f = let a = count_by-le-length (λ g. g == f) (take at names) in let b = length-take-le at names (omega (arith, below)) in omega (arith, a, b)
+  at_most f = let a = count_by-le-length (λ g. g == f) (take at names) in let b = length-take-le at names (omega (arith, below)) in
+      omega (arith, a, b)
 
   one_more : (f : ℕ) → times f (take (at + 1) names) ≡ times f (take at names) + times f (get_or names at 0 ∷ [])
   one_more f = ap (times f) (take_more names at 0 below) ∙ times_append f (take at names) (get_or names at 0 ∷ [])
@@ -22,7 +23,8 @@ module _ (names : List ℕ) (at : ℕ) (below : at < length names) where
     counts_next x size inside is f h = elim (cases_eq f (get_or names at 0)) [
       | inl same ↦
           let a : get_or (set counts (get_or names at 0) (x + 1)) f 0 ≡ x + 1 =
-          ap (λ k. get_or (set counts (get_or names at 0) (x + 1)) k 0) same ∙ get_or-set_same counts (get_or names at 0) (x + 1) 0 (omega (arith, size, inside)) in
+          ap (λ k. get_or (set counts (get_or names at 0) (x + 1)) k 0) same
+          ∙ get_or-set_same counts (get_or names at 0) (x + 1) 0 (omega (arith, size, inside)) in
           let b = one_more f in
           let d = one_same f (get_or names at 0) (sym same) in
           let e = counted f h in

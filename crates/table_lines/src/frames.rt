@@ -34,7 +34,8 @@ pub fn push_comp(
     number: u8,
     epoch: u16,
 ) -> Result<(), AllocError>
-    ensures { OnOk result (string_bytes text.new ≡ string_bytes text.old ++ comp_line (record { table = table; pages = pages; number = number; epoch = epoch })) }
+    ensures { OnOk result (string_bytes text.new ≡ string_bytes text.old
+        ++ comp_line (record { table = table; pages = pages; number = number; epoch = epoch })) }
 {
     write!(text, "  fields {table} {pages} {number} {epoch}\n")
 }

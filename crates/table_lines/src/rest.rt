@@ -50,7 +50,8 @@ fn push_translations(text: &mut String, items: &[Translation]) -> Result<(), All
 
 // Appends the first half of a core's line.
 fn push_names(text: &mut String, core: usize, end: &CoreEnd) -> Result<(), AllocError>
-    ensures { OnOk result (string_bytes text.new ≡ string_bytes text.old ++ (codes "core" ++ (number core ++ (codes " thread" ++ (number end.now.thread ++ (codes " tcap" ++ number end.now.tcap)))))) }
+    ensures { OnOk result (string_bytes text.new ≡ string_bytes text.old
+        ++ (codes "core" ++ (number core ++ (codes " thread" ++ (number end.now.thread ++ (codes " tcap" ++ number end.now.tcap)))))) }
 {
     let thread = end.thread;
     let tcap = end.tcap;
@@ -59,7 +60,9 @@ fn push_names(text: &mut String, core: usize, end: &CoreEnd) -> Result<(), Alloc
 
 // Appends the second half of a core's line.
 fn push_times(text: &mut String, end: &CoreEnd) -> Result<(), AllocError>
-    ensures { OnOk result (string_bytes text.new ≡ string_bytes text.old ++ (codes " comp" ++ (number end.now.comp ++ (codes " spent" ++ (number end.now.spent ++ (codes " owed" ++ (number end.now.owed ++ codes "\n"))))))) }
+    ensures { OnOk result (string_bytes text.new ≡ string_bytes text.old
+        ++ (codes " comp" ++ (number end.now.comp
+        ++ (codes " spent" ++ (number end.now.spent ++ (codes " owed" ++ (number end.now.owed ++ codes "\n"))))))) }
 {
     let comp = end.comp;
     let spent = end.spent;

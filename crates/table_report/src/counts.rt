@@ -13,7 +13,7 @@ use frame_words::CountWord;
 use spk_nums::{CoreNo, FrameNo};
 use word_map::Layout;
 
-// How many count words each frame has, those of core 0 on. All cores share core 0's today.
+// How many count words each frame has, those of core 0 on: all cores share core 0's.
 fn counters(layout: &Layout) -> u8
     ensures list { counters layout.now.cores ≡ range_with_len 0 result }
     ensures within { result ≤ layout.now.cores }

@@ -20,10 +20,12 @@ module _ {A : Type 0} where
   pushed [] x y zero e = inr (refl, cc)
   pushed [] x y (suc k) e = absurd (cc)
   pushed (z ∷ xs) x y zero e = inl e
-  pushed (z ∷ xs) x y (suc k) e = ⊎_elim (λ (t : slice_get xs k ≡ Some y). inl t) (λ (t : (k ≡ length xs) × (x ≡ y)). let same = t.0 in inr (omega arith, t.1)) (pushed xs x y k e)
+  pushed (z ∷ xs) x y (suc k) e = ⊎_elim (λ (t : slice_get xs k ≡ Some y). inl t)
+      (λ (t : (k ≡ length xs) × (x ≡ y)). let same = t.0 in inr (omega arith, t.1)) (pushed xs x y k e)
 
   -- a fact of each element and its place, after a push
-  pub each_pushed : (F : ℕ → A → Type 0) (xs : List A) (x : A) (n : ℕ) (l : List A) → l ≡ xs ++ x ∷ [] → length xs ≡ n → ((k : ℕ) (y : A) → slice_get xs k ≡ Some y → F k y) → F n x → (k : ℕ) (y : A) → slice_get l k ≡ Some y → F k y
+  pub each_pushed : (F : ℕ → A → Type 0) (xs : List A) (x : A) (n : ℕ) (l : List A) → l ≡ xs ++ x ∷ [] → length xs ≡ n
+      → ((k : ℕ) (y : A) → slice_get xs k ≡ Some y → F k y) → F n x → (k : ℕ) (y : A) → slice_get l k ≡ Some y → F k y
   each_pushed F xs x n l is count before here k y e = ⊎_elim (λ (t : slice_get xs k ≡ Some y). before k y t)
       (λ (t : (k ≡ length xs) × (x ≡ y)). subst (λ (z : ℕ × A). F z.0 z.1) (λ i. (sym (t.0 ∙ count) i, t.1 i)) here)
       (pushed xs x y k (subst (λ (m : List A). slice_get m k ≡ Some y) is e))
@@ -47,7 +49,8 @@ module _ {P C : Type 0} where
 
 module _ {P C : Type 0} (T : Steps P C) where
   -- a seat that is dealt
-  pub dealt : (words core n : ℕ) (start : Start P) (me : Me (Unit {0}) (View P C)) (p : P) → me.0.own ≡ part start n (n + 1) [] → me.1 ≡ [] → core ≡ n → slice_get start.programs n ≡ Some p → T.size p ≡ words → IsSeated T words core me p
+  pub dealt : (words core n : ℕ) (start : Start P) (me : Me (Unit {0}) (View P C)) (p : P) → me.0.own ≡ part start n (n + 1) [] → me.1 ≡ []
+      → core ≡ n → slice_get start.programs n ≡ Some p → T.size p ≡ words → IsSeated T words core me p
   dealt words core n start me p is no_slot at here size = record {
     live = ap (λ z. z.live) is;
     from = ap (λ z. z.from) is ∙ sym at;
@@ -68,7 +71,8 @@ module _ {P C : Type 0} (T : Steps P C) where
     pub mine : Begins x.seen v
     pub its : Begins x.seen w
 
-  pub gathered_on : (words core n : ℕ) (first v : Part P C) (one : Me (Unit {0}) (View P C)) (x : Part P C) (p : P) → first.from ≡ 0 → Stays T first n v → IsSeated T words core one p → core ≡ n → Gathers T v one.0.own one.0.own.to x
+  pub gathered_on : (words core n : ℕ) (first v : Part P C) (one : Me (Unit {0}) (View P C)) (x : Part P C) (p : P) → first.from ≡ 0
+      → Stays T first n v → IsSeated T words core one p → core ≡ n → Gathers T v one.0.own one.0.own.to x
       → Gathered first n v one.0.own x p
   gathered_on words core n first v one x p low stays seated at g =
       let s = g.stays in
@@ -79,31 +83,44 @@ module _ {P C : Type 0} (T : Steps P C) where
       let its_end = seated.end in
       let end = s.end in record {
         stays = record { live = s.live; start = s.start ∙ stays.start; from = s.from ∙ stays.from; end = omega arith; sound = s.sound };
-        before = λ k q lt was. ap (λ (z : Start P). program_after T z x.seen k) s.start ∙ program_seen T v.start x.seen v k g.own (omega arith) (omega arith) ∙ was;
-        here = ap (λ (z : Start P). program_after T z x.seen n) (sym (g.same seated.live)) ∙ program_seen T w.start x.seen w n g.other (omega arith) (omega arith)
+        before = λ k q lt was. ap (λ (z : Start P). program_after T z x.seen k) s.start
+            ∙ program_seen T v.start x.seen v k g.own (omega arith) (omega arith) ∙ was;
+        here = ap (λ (z : Start P). program_after T z x.seen n) (sym (g.same seated.live))
+            ∙ program_seen T w.start x.seen w n g.other (omega arith) (omega arith)
             ∙ ap (program_after T w.start w.seen) (sym at) ∙ seated.follows.runs;
         mine = g.own;
         its = g.other;
       }
 
   -- where one view has all cores
-  pub ends : (table : TableValue P) (s : State (Unit {0}) (View P C)) (h : Kept T table.start s) (id : ℕ) (v : View P C) → get_elem? s.views id ≡ some v → (seats : List (SeatValue P C)) → v.own.to ≡ length seats → v.own.from ≡ 0 → v.own.start ≡ table.start → length seats ≡ length table.start.programs → ((k : ℕ) (one : SeatValue P C) → slice_get seats k ≡ Some one → one.core ≡ k)
+  pub ends : (table : TableValue P) (s : State (Unit {0}) (View P C)) (h : Kept T table.start s) (id : ℕ) (v : View P C)
+      → get_elem? s.views id ≡ some v → (seats : List (SeatValue P C)) → v.own.to ≡ length seats → v.own.from ≡ 0
+      → v.own.start ≡ table.start → length seats ≡ length table.start.programs
+      → ((k : ℕ) (one : SeatValue P C) → slice_get seats k ≡ Some one → one.core ≡ k)
       → ((k : ℕ) (one : SeatValue P C) → slice_get seats k ≡ Some one → Begins v.own.seen (part table.start k (k + 1) one.seen))
-      → (words : List ℕ) → s.words ≡ words → (programs : List P) → length programs ≡ length seats → ((k : ℕ) (p : P) → slice_get programs k ≡ Some p → program_after T v.own.start v.own.seen k ≡ Some p)
+      → (words : List ℕ) → s.words ≡ words → (programs : List P) → length programs ≡ length seats
+      → ((k : ℕ) (p : P) → slice_get programs k ≡ Some p → program_after T v.own.start v.own.seen k ≡ Some p)
       → EndsAt T table seats words programs
   ends table s h id v at seats end low same all cores seen words are programs count run = let mine = (h.own id v at).begins in record {
     trace = h.trace;
     sound = h.sound;
     begins = λ k one e.
         let lt = slice_get_within seats k one e in
-        let b : Begins h.trace (part table.start k (k + 1) one.seen) = begins_on h.trace v.own (part table.start k (k + 1) one.seen) mine (seen k one e) (omega arith) (omega arith) in
-        let core = cores k one e in record { since = b.since; whole = b.whole; apart = subst (λ (c : ℕ). AreOfOthers c b.since) (sym core) (b.apart k (omega arith) (omega arith)) };
+        let b : Begins h.trace (part table.start k (k + 1) one.seen) =
+        begins_on h.trace v.own (part table.start k (k + 1) one.seen) mine (seen k one e) (omega arith) (omega arith) in
+        let core = cores k one e in record {
+          since = b.since;
+          whole = b.whole;
+          apart = subst (λ (c : ℕ). AreOfOthers c b.since) (sym core) (b.apart k (omega arith) (omega arith));
+        };
     word_count = ap length (sym are) ∙ h.count;
     word = λ i. ap (λ (l : List ℕ). get_or l i 0) (sym are) ∙ h.words i;
     program_count = count ∙ all;
     program = λ c. ⊎_elim
         (λ (t : (p : P) × (c < length programs) × (slice_get programs c ≡ Some p) × (get_or programs c p ≡ p)).
-        let lt = t.1 in t.2 ∙ sym (program_seen T table.start h.trace v.own c mine (omega arith) (omega arith) ∙ ap (λ (z : Start P). program_after T z v.own.seen c) (sym same) ∙ run c t.0 t.2))
-        (λ (t : (length programs ≤ c) × (slice_get programs c ≡ None)). let past = t.0 in t.1 ∙ sym (no_program T table.start h.trace c (slice_get_past table.start.programs c (omega arith))))
+        let lt = t.1 in t.2 ∙ sym (program_seen T table.start h.trace v.own c mine (omega arith) (omega arith)
+        ∙ ap (λ (z : Start P). program_after T z v.own.seen c) (sym same) ∙ run c t.0 t.2))
+        (λ (t : (length programs ≤ c) × (slice_get programs c ≡ None)). let past = t.0 in
+        t.1 ∙ sym (no_program T table.start h.trace c (slice_get_past table.start.programs c (omega arith))))
         (slice_get_cases programs c).1;
   }

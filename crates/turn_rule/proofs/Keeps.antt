@@ -20,8 +20,10 @@ use Rattle.turn_rule.proofs.Traces.{program_here, program_stays}
 -- a word after one was stored
 stored_at : (l : List ℕ) (at i x : ℕ) → at < length l → get_or (set l at x) i 0 ≡ (if at == i then x else get_or l i 0)
 stored_at l at i x inside = dite (ℕ_discrete at i)
-    (λ (same : at ≡ i). subst (λ (j : ℕ). get_or (set l at x) j 0 ≡ x) same (get_or-set_same l at x 0 inside) ∙ sym (ap (λ b. if b then x else get_or l i 0) (eq-eqb at i same)))
-    (λ (other : at ≢ i). get_or-set_other l at i x 0 (λ e. other (sym e)) ∙ sym (ap (λ b. if b then x else get_or l i 0) (ne_eqb at i other)))
+    (λ (same : at ≡ i). subst (λ (j : ℕ). get_or (set l at x) j 0 ≡ x) same (get_or-set_same l at x 0 inside)
+    ∙ sym (ap (λ b. if b then x else get_or l i 0) (eq-eqb at i same)))
+    (λ (other : at ≢ i). get_or-set_other l at i x 0 (λ e. other (sym e))
+    ∙ sym (ap (λ b. if b then x else get_or l i 0) (ne_eqb at i other)))
 
 module _ {P C : Type 0} where
   -- who has seen all so far
@@ -36,7 +38,8 @@ module _ {P C : Type 0} where
   }
 
   -- what fits still does, after a step of a core of another seat
-  fits_more : (start : Start P) (t : List (Entry C)) (owner : ℕ → ℕ) (j id : ℕ) (p : Part P C) (e : Entry C) → Fits start t owner j p → owner e.core ≡ id → j ≢ id → Fits start (e ∷ t) owner j p
+  fits_more : (start : Start P) (t : List (Entry C)) (owner : ℕ → ℕ) (j id : ℕ) (p : Part P C) (e : Entry C) → Fits start t owner j p
+      → owner e.core ≡ id → j ≢ id → Fits start (e ∷ t) owner j p
   fits_more start t owner j id p e f its other = record {
     same = f.same;
     begins = record {
@@ -49,11 +52,14 @@ module _ {P C : Type 0} where
 
 module _ {P C : Type 0} (T : Steps P C) where
   -- a core's program is what it was in what its seat has seen
-  pub program_seen : (start : Start P) (t : List (Entry C)) (p : Part P C) (c : ℕ) → Begins t p → p.from ≤ c → c < p.to → program_after T start t c ≡ program_after T start p.seen c
-  program_seen start t p c b low high = ap (λ (l : List (Entry C)). program_after T start l c) b.whole ∙ program_stays T start c b.since p.seen (b.apart c low high)
+  pub program_seen : (start : Start P) (t : List (Entry C)) (p : Part P C) (c : ℕ) → Begins t p → p.from ≤ c → c < p.to
+      → program_after T start t c ≡ program_after T start p.seen c
+  program_seen start t p c b low high = ap (λ (l : List (Entry C)). program_after T start l c) b.whole
+      ∙ program_stays T start c b.since p.seen (b.apart c low high)
 
 module _ {P C : Type 0} (T : Steps P C) (start : Start P) where
-  module _ (s : State (Unit {0}) (View P C)) (h : Kept T start s) (id : ℕ) (me : Me (Unit {0}) (View P C)) (at : get_elem? s.views id ≡ some me.0) (words : ℕ) (call : Option C) (op : WordOp) (due : IsDue T words me call op)
+  module _ (s : State (Unit {0}) (View P C)) (h : Kept T start s) (id : ℕ) (me : Me (Unit {0}) (View P C))
+      (at : get_elem? s.views id ≡ some me.0) (words : ℕ) (call : Option C) (op : WordOp) (due : IsDue T words me call op)
       (count : words ≡ length start.words) (small : get_or s.words (place_in op) 0 < 18446744073709551616) where
     abbrev v : Part P C
     v = me.0.own
@@ -92,22 +98,26 @@ module _ {P C : Type 0} (T : Steps P C) (start : Start P) where
     }
 
     kept : (c : List (ℕ × Unit {0})) → Kept T start (stepped s (place_in op) (left_by op n) id c w keeps)
-    kept c = let from = due.seated.from in let end = due.seated.end in let its : h.owner v.from ≡ id = mine.owns v.from (omega arith) (omega arith) in record {
-      trace = e ∷ h.trace;
-      count = length-set s.words (place_in op) (left_by op n) ∙ h.count;
-      words = λ i. let same = h.count in let inside = due.inside in stored_at s.words (place_in op) i (left_by op n) (omega arith) ∙ ap (λ (m : ℕ). if place_in op == i then left_by op n else m) (h.words i);
-      sound = (h.sound, follows);
-      owner = h.owner;
-      own = λ j u is. ⊎_elim
-          (λ (t : (j ≡ id) × (w ≡ u)). subst (λ (z : ℕ × View P C). Fits start (e ∷ h.trace) h.owner z.0 z.1.own) (λ x. (sym t.0 x, t.1 x))
-          record { same = λ _. same_start; begins = has_all v.start v.from v.to (e ∷ h.trace); owns = mine.owns })
-          (λ (t : (j ≢ id) × (get_elem? s.views j ≡ some u)). fits_more start h.trace h.owner j id u.own e (h.own j u t.1) its t.0)
-          (at_set s.views id j w u is);
-      told = λ j u is. ⊎_elim
-          (λ (t : (j ≡ id) × (w ≡ u)). subst (λ (z : ℕ × View P C). Fits start (e ∷ h.trace) h.owner z.0 z.1.told) (λ x. (sym t.0 x, t.1 x)) (fits_nothing start (e ∷ h.trace) h.owner id))
-          (λ (t : (j ≢ id) × (get_elem? s.views j ≡ some u)). fits_more start h.trace h.owner j id u.told e (h.told j u t.1) its t.0)
-          (at_set s.views id j w u is);
-    }
+    kept c = let from = due.seated.from in let end = due.seated.end in
+        let its : h.owner v.from ≡ id = mine.owns v.from (omega arith) (omega arith) in record {
+          trace = e ∷ h.trace;
+          count = length-set s.words (place_in op) (left_by op n) ∙ h.count;
+          words = λ i. let same = h.count in let inside = due.inside in
+              stored_at s.words (place_in op) i (left_by op n) (omega arith)
+              ∙ ap (λ (m : ℕ). if place_in op == i then left_by op n else m) (h.words i);
+          sound = (h.sound, follows);
+          owner = h.owner;
+          own = λ j u is. ⊎_elim
+              (λ (t : (j ≡ id) × (w ≡ u)). subst (λ (z : ℕ × View P C). Fits start (e ∷ h.trace) h.owner z.0 z.1.own) (λ x. (sym t.0 x, t.1 x))
+              record { same = λ _. same_start; begins = has_all v.start v.from v.to (e ∷ h.trace); owns = mine.owns })
+              (λ (t : (j ≢ id) × (get_elem? s.views j ≡ some u)). fits_more start h.trace h.owner j id u.own e (h.own j u t.1) its t.0)
+              (at_set s.views id j w u is);
+          told = λ j u is. ⊎_elim
+              (λ (t : (j ≡ id) × (w ≡ u)). subst (λ (z : ℕ × View P C). Fits start (e ∷ h.trace) h.owner z.0 z.1.told) (λ x. (sym t.0 x, t.1 x))
+              (fits_nothing start (e ∷ h.trace) h.owner id))
+              (λ (t : (j ≢ id) × (get_elem? s.views j ≡ some u)). fits_more start h.trace h.owner j id u.told e (h.told j u t.1) its t.0)
+              (at_set s.views id j w u is);
+        }
 
     goes : Goes T v call op (told_by op n) w.own
     goes = let from = due.seated.from in let end = due.seated.end in record {
@@ -116,19 +126,33 @@ module _ {P C : Type 0} (T : Steps P C) (start : Start P) where
       others = mine.begins.since;
       apart = mine.begins.apart v.from (omega arith) (omega arith);
       seen = ap (λ (l : List (Entry C)). e ∷ l) mine.begins.whole;
-      stays = record { live = refl; start = refl; from = refl; end = refl; sound = subst (λ (z : Start P). IsSound T z (e ∷ h.trace)) (sym same_start) (h.sound, follows) };
+      stays = record {
+        live = refl;
+        start = refl;
+        from = refl;
+        end = refl;
+        sound = subst (λ (z : Start P). IsSound T z (e ∷ h.trace)) (sym same_start) (h.sound, follows);
+      };
     }
 
   -- what `Allows` asks of a step that the program makes
-  pub goes_on : (slots id : ℕ) (me : Me (Unit {0}) (View P C)) (words : ℕ) (call : Option C) (op : WordOp) → IsDue T words me call op → words ≡ length start.words
+  pub goes_on : (slots id : ℕ) (me : Me (Unit {0}) (View P C)) (words : ℕ) (call : Option C) (op : WordOp) → IsDue T words me call op
+      → words ≡ length start.words
       → Allows (Kept T start) slots id me (place_in op) (left_by op) (λ n m. Goes T me.0.own call op (told_by op n) m.0.own × (m.1 ≡ me.1))
-  goes_on slots id me words call op due count s h _ at small =
-      (w s h id me at words call op due count small, keeps, tt, kept s h id me at words call op due count small me.1, (goes s h id me at words call op due count small, refl))
+  goes_on slots id me words call op due count s h _ at small = (
+    w s h id me at words call op due count small,
+    keeps,
+    tt,
+    kept s h id me at words call op due count small me.1,
+    (goes s h id me at words call op due count small, refl),
+  )
 
 module _ {P C : Type 0} (T : Steps P C) where
   -- after its step the seat is one again
-  pub seated_on : (words words_now core : ℕ) (me now : Me (Unit {0}) (View P C)) (p q : P) (call : Option C) (op : WordOp) (told : ℕ) → IsSeated T words core me p → MayCall T p call → T.next (called T p call) ≡ Some op
-      → Goes T me.0.own call op told now.0.own → now.1 ≡ me.1 → q ≡ T.after (called T p call) told → T.size q ≡ words_now → IsSeated T words_now core now q
+  pub seated_on : (words words_now core : ℕ) (me now : Me (Unit {0}) (View P C)) (p q : P) (call : Option C) (op : WordOp) (told : ℕ)
+      → IsSeated T words core me p → MayCall T p call → T.next (called T p call) ≡ Some op
+      → Goes T me.0.own call op told now.0.own → now.1 ≡ me.1 → q ≡ T.after (called T p call) told → T.size q ≡ words_now
+      → IsSeated T words_now core now q
   seated_on words words_now core me now p q call op told seated may next goes slots is size = let stays = goes.stays in record {
     live = stays.live;
     from = stays.from ∙ seated.from;
@@ -139,7 +163,9 @@ module _ {P C : Type 0} (T : Steps P C) where
           let v = me.0.own in
           let e : Entry C = entry v.from op goes.found call in
           let s : IsStep T p e = record { may = may; op = op; next = next; place = refl; left = refl } in
-          let others : program_after T v.start (goes.others ++ v.seen) core ≡ Some p = program_stays T v.start core goes.others v.seen (subst (λ (c : ℕ). AreOfOthers c goes.others) seated.from goes.apart) ∙ seated.follows.runs in
+          let others : program_after T v.start (goes.others ++ v.seen) core ≡ Some p =
+          program_stays T v.start core goes.others v.seen (subst (λ (c : ℕ). AreOfOthers c goes.others) seated.from goes.apart)
+          ∙ seated.follows.runs in
           ap (λ (z : Start P × List (Entry C)). program_after T z.0 z.1 core) (λ i. (stays.start i, goes.seen i))
           ∙ program_here T v.start e (goes.others ++ v.seen) core p seated.from others s
           ∙ ap (λ (n : ℕ). Some (T.after (called T p call) n)) (sym goes.told_is)

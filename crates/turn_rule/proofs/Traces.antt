@@ -40,19 +40,23 @@ module _ {P C : Type 0} (start : Start P) where
 
 module _ {P C : Type 0} (T : Steps P C) (start : Start P) where
   -- the program whose step was made has taken in what the step told, and the others are as before
-  pub program_here : (e : Entry C) (t : List (Entry C)) (c : ℕ) (p : P) → e.core ≡ c → program_after T start t c ≡ Some p → (s : IsStep T p e)
+  pub program_here : (e : Entry C) (t : List (Entry C)) (c : ℕ) (p : P) → e.core ≡ c → program_after T start t c ≡ Some p
+      → (s : IsStep T p e)
       → program_after T start (e ∷ t) c ≡ Some (T.after (called T p e.call) (told_by s.op e.found))
   program_here e t c p same was s =
       let f : P → P = λ q. after_entry T q e in
       ap (λ b. if b then option_map f (program_after T start t c) else program_after T start t c) (eq-eqb e.core c same)
       ∙ ap (option_map f) was ∙ ap (λ op. Some (told T (called T p e.call) op e.found)) s.next
 
-  pub program_elsewhere : (e : Entry C) (t : List (Entry C)) (c : ℕ) → e.core ≢ c → program_after T start (e ∷ t) c ≡ program_after T start t c
+  pub program_elsewhere : (e : Entry C) (t : List (Entry C)) (c : ℕ) → e.core ≢ c
+      → program_after T start (e ∷ t) c ≡ program_after T start t c
   program_elsewhere e t c other =
-      ap (λ b. if b then option_map (λ q. after_entry T q e) (program_after T start t c) else program_after T start t c) (ne_eqb e.core c other)
+      ap (λ b. if b then option_map (λ q. after_entry T q e) (program_after T start t c) else program_after T start t c)
+      (ne_eqb e.core c other)
 
   -- steps of other cores leave a core's program
-  pub program_stays : (c : ℕ) (since t : List (Entry C)) → AreOfOthers c since → program_after T start (since ++ t) c ≡ program_after T start t c
+  pub program_stays : (c : ℕ) (since t : List (Entry C)) → AreOfOthers c since
+      → program_after T start (since ++ t) c ≡ program_after T start t c
   program_stays c [] t h = refl
   program_stays c (e ∷ since) t h = program_elsewhere e (since ++ t) c h.0 ∙ program_stays c since t h.1
 
@@ -79,10 +83,14 @@ module _ {P C : Type 0} (T : Steps P C) (start : Start P) where
   sound_before (e ∷ since) t h = sound_before since t h.0
 
   -- what the empty trace has and each sound step keeps, a sound trace has
-  pub kept_along : (I : List (Entry C) → Type 0) → I [] → ((t : List (Entry C)) (e : Entry C) → IsSound T start t → MayFollow T start t e → I t → I (e ∷ t)) → (t : List (Entry C)) → IsSound T start t → I t
+  pub kept_along : (I : List (Entry C) → Type 0) → I []
+      → ((t : List (Entry C)) (e : Entry C) → IsSound T start t → MayFollow T start t e → I t → I (e ∷ t)) → (t : List (Entry C))
+      → IsSound T start t → I t
   kept_along I first keeps [] h = first
   kept_along I first keeps (e ∷ t) h = keeps t e h.0 h.1 (kept_along I first keeps t h.0)
 
   -- and has at each of its moments
-  pub kept_at : (I : List (Entry C) → Type 0) → I [] → ((t : List (Entry C)) (e : Entry C) → IsSound T start t → MayFollow T start t e → I t → I (e ∷ t)) → (since t : List (Entry C)) → IsSound T start (since ++ t) → I t
+  pub kept_at : (I : List (Entry C) → Type 0) → I []
+      → ((t : List (Entry C)) (e : Entry C) → IsSound T start t → MayFollow T start t e → I t → I (e ∷ t)) → (since t : List (Entry C))
+      → IsSound T start (since ++ t) → I t
   kept_at I first keeps since t h = kept_along I first keeps t (sound_before since t h)

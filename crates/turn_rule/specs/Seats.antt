@@ -50,7 +50,8 @@ module _ {P C : Type 0} (T : Steps P C) where
   abbrev pub FollowsTrace : SeatValue P C → Type 0
   FollowsTrace s = Follows T s.table.start s.seen s.core s.program
 
-  -- the seat has made the step op, at which the call, if any, began. Its trace goes on by steps of other cores and ends with this one, and the program took in the word
+  -- the seat has made the step op, at which the call, if any, began. Its trace goes on by steps of other cores and ends with this one, and
+  -- the program took in the word
   pub record MakesStep (seat : SeatValue P C) (call : Option C) (op : WordOp) (made : SeatValue P C) : Type 0 where
     pub found : ℕ
     pub others : List (Entry C)

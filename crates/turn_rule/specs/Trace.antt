@@ -52,7 +52,8 @@ module _ {P C : Type 0} (T : Steps P C) where
   -- core c's program after a trace
   abbrev pub program_after : Start P → List (Entry C) → ℕ → Option P
   program_after start [] c = slice_get start.programs c
-  program_after start (e ∷ t) c = if e.core == c then option_map (λ p. after_entry p e) (program_after start t c) else program_after start t c
+  program_after start (e ∷ t) c = if e.core == c then option_map (λ p. after_entry p e)
+      (program_after start t c) else program_after start t c
 
   -- a call may begin: the program has no next step, and the call is fit for it
   abbrev pub MayCall : P → Option C → Type 0

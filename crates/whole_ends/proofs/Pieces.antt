@@ -23,7 +23,8 @@ pub reads_given : (bytes : List ℕ) (left left' : Option (List ℕ)) → Reads 
 reads_given bytes None left' read = tt
 reads_given bytes (Some left) left' read = record { there = read.within; rest = read.rest }
 
-pub reads_most : (n : ℕ) (bytes : List ℕ) (left left' left'' : Option (List ℕ)) → length bytes ≤ n → Reads bytes left left' → left'' ≡ left' → GivesAtMost n left left''
+pub reads_most : (n : ℕ) (bytes : List ℕ) (left left' left'' : Option (List ℕ)) → length bytes ≤ n → Reads bytes left left' → left'' ≡ left'
+    → GivesAtMost n left left''
 reads_most n bytes left left' left'' small read same = record {
   given = length bytes;
   most = small;
@@ -41,7 +42,8 @@ reads_some bytes left piece buf buf' left1 left2 k read takes is =
     let short = read.within in
     record {
       within = omega (arith, length-drop (length bytes) left);
-      front = ap (λ x. x ++ piece) read.front ∙ ap (λ x. take (length bytes) left ++ x) piece_is ∙ sym (take-add (length bytes) k left) ∙ ap (λ (n : ℕ). take n left) (sym all);
+      front = ap (λ x. x ++ piece) read.front ∙ ap (λ x. take (length bytes) left ++ x) piece_is ∙ sym (take-add (length bytes) k left)
+          ∙ ap (λ (n : ℕ). take n left) (sym all);
       rest = moves.rest ∙ ap Some (drop-drop k (length bytes) left) ∙ ap (λ (n : ℕ). Some (drop n left)) (sym all);
     }
 
@@ -51,11 +53,13 @@ reads_more bytes piece buf buf' None left1 left2 k read takes is = tt
 reads_more bytes piece buf buf' (Some left) left1 left2 k read takes is = reads_some bytes left piece buf buf' left1 left2 k read takes is
 
 -- A read whose bytes were not kept.
-pub reads_lost : (bytes buf buf' : List ℕ) (left left1 left2 : Option (List ℕ)) (k n : ℕ) → Reads bytes left left1 → Takes k left1 left2 buf buf' → length bytes + length (take k buf') ≤ n →
+pub reads_lost : (bytes buf buf' : List ℕ) (left left1 left2 : Option (List ℕ)) (k n : ℕ) → Reads bytes left left1
+    → Takes k left1 left2 buf buf' → length bytes + length (take k buf') ≤ n →
     GivesAtMost n left left2
 reads_lost bytes buf buf' left left1 left2 k n read takes small =
     let piece = take k buf' in
-    reads_most n (bytes ++ piece) left left2 left2 (omega (arith, length-append bytes piece)) (reads_more bytes piece buf buf' left left1 left2 k read takes refl) refl
+    reads_most n (bytes ++ piece) left left2 left2 (omega (arith, length-append bytes piece))
+    (reads_more bytes piece buf buf' left left1 left2 k read takes refl) refl
 
 -- A read that moves nothing into a buffer with room.
 moved_none : (bytes left buf buf' : List ℕ) (left1 left2 : Option (List ℕ)) (k : ℕ) →
@@ -82,7 +86,8 @@ adds_more n k text (Some held) held1 held2 adds more =
     subst (λ o. Adds (take k (drop n text)) o held2) adds more
     ∙ ap Some (append_assoc held (take n text) (take k (drop n text)) ∙ ap (λ x. held ++ x) (sym (take-add n k text)))
 
-pub adds_piece : (n k : ℕ) (text piece : List ℕ) (held held1 held2 : Option (List ℕ)) → n ≤ length text → piece ≡ take (length text - n) (drop n text) →
+pub adds_piece : (n k : ℕ) (text piece : List ℕ) (held held1 held2 : Option (List ℕ)) → n ≤ length text
+    → piece ≡ take (length text - n) (drop n text) →
     AddsFirst n text held held1 → Adds (take k piece) held1 held2 → AddsFirst (n + k) text held held2
 adds_piece n k text piece held held1 held2 within is adds more =
     adds_more n k text held held1 held2 adds

@@ -5,4 +5,5 @@ pub frames-init : goal.frames-init
 frames-init c = begins _ _ (lines_none _)
 
 pub frames-preserved : goal.frames-preserved
-frames-preserved c = goes_on _ _ _ _ _ _ (rw (c.new.ensures, c.from.ensures) at c.in_ok-push_number.ensures) c.frames.invariant (lines_more _ _)
+frames-preserved c = goes_on _ _ _ _ _ _ (rw (c.new.ensures, c.from.ensures) at c.in_ok-push_number.ensures) c.frames.invariant
+    (lines_more _ _)

@@ -9,7 +9,8 @@ pub cores-init : goal.cores-init
 cores-init c = adds_none _ _
 
 pub cores-preserved : goal.cores-preserved
-cores-preserved c = adds_more _ _ _ _ _ c.cores.invariant (adds_piece _ _ _ (subst (λ (k : Core). c.push_core.new.names.items ≡ c.cores.names.items ++ core_names k)
+cores-preserved c = adds_more _ _ _ _ _ c.cores.invariant
+    (adds_piece _ _ _ (subst (λ (k : Core). c.push_core.new.names.items ≡ c.cores.names.items ++ core_names k)
     (c.core-value.ensures ∙ ap (state_of c.args.k.now).core c.new.ensures) c.in_ok-push_core.ensures))
 
 pub returns : goal.returns

@@ -4,4 +4,5 @@ use Rattle.table_lines.specs.Counting.{Adds}
 use Rattle.plain_tables.proofs.names.push_numbers.Given as goal
 
 abbrev pub invariant-numbers : goal.invariant-numbers
-invariant-numbers l = Adds l.initial.names.items l.names.items (λ f. sum_below (λ i. times f (number_names ((state_of l.k).number i))) l.number)
+invariant-numbers l = Adds l.initial.names.items l.names.items
+    (λ f. sum_below (λ i. times f (number_names ((state_of l.k).number i))) l.number)

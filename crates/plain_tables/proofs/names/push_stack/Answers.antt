@@ -6,7 +6,8 @@ pub heights-init : goal.heights-init
 heights-init c = adds_begin _ (reverse c.args.stack.now)
 
 pub heights-preserved : goal.heights-preserved
-heights-preserved c = adds_next _ _ _ (reverse c.args.stack.now) c.heights.height c.frame_at-frame.result c.frame_at-frame.ensures c.heights.invariant c.in_ok-push_name.ensures
+heights-preserved c = adds_next _ _ _ (reverse c.args.stack.now)
+    c.heights.height c.frame_at-frame.result c.frame_at-frame.ensures c.heights.invariant c.in_ok-push_name.ensures
 
 pub returns : goal.returns
 returns c =

@@ -5,4 +5,5 @@ pub entries-init : goal.entries-init
 entries-init c = begins _ _ (lines_none _)
 
 pub entries-preserved : goal.entries-preserved
-entries-preserved c = goes_on _ _ _ _ _ _ (rw (c.place-place.ensures, c.new.ensures) at c.in_ok-push_place.ensures) c.entries.invariant (lines_more _ _)
+entries-preserved c = goes_on _ _ _ _ _ _ (rw (c.place-place.ensures, c.new.ensures) at c.in_ok-push_place.ensures) c.entries.invariant
+    (lines_more _ _)

@@ -8,7 +8,8 @@ pub pairs-init : goal.pairs-init
 pairs-init c = begins _ _ (text_begin quality_line c.args.qualities.now)
 
 pub pairs-preserved : goal.pairs-preserved
-pairs-preserved c = goes_on _ _ _ _ _ _ c.in_ok-push_pair.ensures c.pairs.invariant (text_next quality_line c.args.qualities.now c.pairs.at c.pair_at-pair.result c.pair_at-pair.ensures)
+pairs-preserved c = goes_on _ _ _ _ _ _ c.in_ok-push_pair.ensures c.pairs.invariant
+    (text_next quality_line c.args.qualities.now c.pairs.at c.pair_at-pair.result c.pair_at-pair.ensures)
 
 pub returns : goal.returns
 returns c =

@@ -8,7 +8,8 @@ pub heights-init : goal.heights-init
 heights-init c = begins _ _ (text_begin number (reverse c.args.stack.now))
 
 pub heights-preserved : goal.heights-preserved
-heights-preserved c = goes_on _ _ _ _ _ _ c.in_ok-push_stacked.ensures c.heights.invariant (text_next number (reverse c.args.stack.now) c.heights.height c.frame_at-frame.result c.frame_at-frame.ensures)
+heights-preserved c = goes_on _ _ _ _ _ _ c.in_ok-push_stacked.ensures c.heights.invariant
+    (text_next number (reverse c.args.stack.now) c.heights.height c.frame_at-frame.result c.frame_at-frame.ensures)
 
 pub returns : goal.returns
 returns c =

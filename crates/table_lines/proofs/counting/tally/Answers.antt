@@ -31,6 +31,7 @@ names-preserved c = elim c.if-name-from.branch [
       record {
         size = ap length items ∙ c.names.invariant.size;
         counted = λ f h. ap (λ xs. get_or xs f 0) items
-            ∙ counts_past c.args.names.now c.names.at c.names-test.true c.names.counts.items c.args.frames c.names.invariant.counted (omega arith) f h;
+            ∙ counts_past c.args.names.now c.names.at c.names-test.true c.names.counts.items c.args.frames c.names.invariant.counted
+            (omega arith) f h;
       }
 ]

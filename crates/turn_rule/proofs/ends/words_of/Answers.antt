@@ -11,12 +11,15 @@ read (x ∷ xs) zero n e = some-injective x n e
 read (x ∷ xs) (suc i) n e = read xs i n e
 
 pub loop-at-preserved : goal.loop-at-preserved
-loop-at-preserved c = let i = c.loop-at.invariant in let ws = c.loop-at.words.items in let at = c.loop-at.at in let lt : at < length ws = search rules in (
-  length-set ws at c.word.result ∙ i.0,
-  below_more (λ k. get_or (set ws at c.word.result) k 0 ≡ get_or (slots_items c.args.closed.words) k 0) at
-      (λ k h. let ne : k ≢ at = omega arith in rw get_or-set_other (i.1 k h))
-      (rw get_or-set_same (sym (read (slots_items c.args.closed.words) at c.word.result c.word.ensures))),
-)
+loop-at-preserved c = let i = c.loop-at.invariant in let ws = c.loop-at.words.items in let at = c.loop-at.at in
+    let lt : at < length ws = search rules in (
+      length-set ws at c.word.result ∙ i.0,
+      below_more (λ k. get_or (set ws at c.word.result) k 0 ≡ get_or (slots_items c.args.closed.words) k 0) at
+          (λ k h. let ne : k ≢ at = omega arith in rw get_or-set_other (i.1 k h))
+          (rw get_or-set_same (sym (read (slots_items c.args.closed.words) at c.word.result c.word.ensures))),
+    )
 
 pub returns : goal.returns
-returns c = let i = c.loop-at.invariant in ext_get_or 0 c.loop-at.words.items (slots_items c.args.closed.words) (i.0 ∙ (slots_counts c.args.closed.words).0) (λ k h. i.1 k (omega arith))
+returns c = let i = c.loop-at.invariant in
+    ext_get_or 0 c.loop-at.words.items (slots_items c.args.closed.words) (i.0 ∙ (slots_counts c.args.closed.words).0)
+    (λ k h. i.1 k (omega arith))

@@ -3,4 +3,5 @@ use Rattle.std.specs.Slots.{slots_items, slots_len}
 use Rattle.turn_rule.proofs.ends.words_of.Given as goal
 
 abbrev pub invariant-loop-at : goal.invariant-loop-at
-invariant-loop-at l = (length l.words.items ≡ slots_len l.closed.words) × ((k : ℕ) → k < l.at → get_or l.words.items k 0 ≡ get_or (slots_items l.closed.words) k 0)
+invariant-loop-at l = (length l.words.items ≡ slots_len l.closed.words)
+    × ((k : ℕ) → k < l.at → get_or l.words.items k 0 ≡ get_or (slots_items l.closed.words) k 0)

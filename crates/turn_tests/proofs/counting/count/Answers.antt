@@ -17,7 +17,8 @@ loop-preserved c =
     let i = c.loop.invariant in
     let p = c.loop.seat.program in
     let some = c.turn.ensures.some.0 c.loop-test.true in
-    let step = the_some (counter_steps.next p) (c.turn.new.seat ≡ c.loop.seat) (λ op. MakesStep counter_steps c.loop.seat None op c.turn.new.seat) some c.turn.ensures.step in
+    let step = the_some (counter_steps.next p) (c.turn.new.seat ≡ c.loop.seat)
+    (λ op. MakesStep counter_steps c.loop.seat None op c.turn.new.seat) some c.turn.ensures.step in
     let left = ap (λ q. steps_left q.stage) step.1.program in
     let less = fewer_left p.stage p.wins (told_by step.0 step.1.found) some in
     let before = i.2 in

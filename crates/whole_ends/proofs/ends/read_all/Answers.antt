@@ -30,9 +30,21 @@ reading-preserved g c =
     let same = e.steady in
     let had = i.steady in
     record {
-      size = omega (arith, length-take c.in-Ok.taken (c.read.new.buf ++ drop c.min-room.result c.reading.buf), len, e.fits, length-take c.min-room.result c.reading.buf);
-      buf = omega (arith, length-append c.read.new.buf (drop c.min-room.result c.reading.buf), length-take c.min-room.result c.reading.buf, length-drop c.min-room.result c.reading.buf);
-      reads = subst (λ x. Reads x (g.S.Source.left c.args.source.now) (g.S.Source.left c.read.new.self)) (sym c.in_ok-extend_from_slice.ensures.items)
+      size = omega (
+        arith,
+        length-take c.in-Ok.taken (c.read.new.buf ++ drop c.min-room.result c.reading.buf),
+        len,
+        e.fits,
+        length-take c.min-room.result c.reading.buf,
+      );
+      buf = omega (
+        arith,
+        length-append c.read.new.buf (drop c.min-room.result c.reading.buf),
+        length-take c.min-room.result c.reading.buf,
+        length-drop c.min-room.result c.reading.buf,
+      );
+      reads = subst (λ x. Reads x (g.S.Source.left c.args.source.now) (g.S.Source.left c.read.new.self))
+          (sym c.in_ok-extend_from_slice.ensures.items)
           (reads_more c.reading.bytes.items _ _ _ _ _ _ _ i.reads e.taken piece);
       steady = omega arith;
     }
@@ -58,4 +70,5 @@ returns-clause-long g c _ =
     let k = c.len.ensures in
     let t = c.reading-test.false in
     let n : length c.reading.bytes.items ≡ 1048577 = omega arith in
-    subst (λ n. Gives n (g.S.Source.left c.args.source.now) (g.S.Source.left c.reading.source)) n (reads_given c.reading.bytes.items _ _ i.reads)
+    subst (λ n. Gives n (g.S.Source.left c.args.source.now) (g.S.Source.left c.reading.source)) n
+    (reads_given c.reading.bytes.items _ _ i.reads)

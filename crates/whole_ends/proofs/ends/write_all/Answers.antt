@@ -11,7 +11,12 @@ writing-preserved g c =
     let n = i.steady in
     let m = e.steady in
     record {
-      within = omega (arith, f, length-take (length c.args.text.now - c.writing.at) (drop c.writing.at c.args.text.now), length-drop c.writing.at c.args.text.now);
+      within = omega (
+        arith,
+        f,
+        length-take (length c.args.text.now - c.writing.at) (drop c.writing.at c.args.text.now),
+        length-drop c.writing.at c.args.text.now,
+      );
       adds = adds_piece c.writing.at c.in_ok-written.written c.args.text.now _ _ _ _ within refl i.adds e.added;
       steady = omega arith;
     }

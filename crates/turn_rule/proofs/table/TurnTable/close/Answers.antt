@@ -6,7 +6,8 @@ use Rattle.turn_rule.proofs.AllSeats.{ends}
 use Rattle.turn_rule.proofs.table.TurnTable.close.Goals as goal
 
 pub load_new_seat-requires : goal.load_new_seat-requires
-load_new_seat-requires g c = let key = c.self.inside.table.shared.key in let start = start_of key.words.value.items key.programs.value.items in
+load_new_seat-requires g c = let key = c.self.inside.table.shared.key in
+    let start = start_of key.words.value.items key.programs.value.items in
     (c.self.invariant.0, comes g.P.CoreProgram.steps start _ (view (part start 0 (length start.programs) [])) refl refl refl)
 
 pub returns : goal.returns
@@ -17,5 +18,6 @@ returns g c =
     let first = c.load_new_seat.ensures.2 in
     let joined = c.in_ok-programs.ensures in
     let kept = subst (λ (t : TableValue g.row.P.Denot). Kept T t.start last.0) c.self.view_is last.1.0 in
-    ends T c.args.self last.0 kept all.id all.me.0 last.1.1 c.args.seats.items joined.all.end (joined.all.from ∙ first.from) (joined.all.start ∙ first.start ∙ ap (λ t. t.start) c.self.view_is) c.requires.count c.requires.core joined.seen
+    ends T c.args.self last.0 kept all.id all.me.0 last.1.1 c.args.seats.items joined.all.end (joined.all.from ∙ first.from)
+    (joined.all.start ∙ first.start ∙ ap (λ t. t.start) c.self.view_is) c.requires.count c.requires.core joined.seen
     c.words_of.result.items (last.2 ∙ sym c.words_of.ensures) c.in_ok-programs.programs.items joined.count joined.programs

@@ -30,8 +30,10 @@ invariant_of-push g c =
     let core : c.len-core.result ≡ n = search rules in
     let split = c.split_seat-seat.ensures in
     let own = ap (λ z. z.0.own) split.4 ∙ ap (λ (p : Part g.row.P.Denot g.row.P-Call.Denot). (first_core (view p)).own) i.rest in
-    let size = All-get_or (λ (p : g.row.P.Denot). T.size p ≡ c.args.self.now.id.words) c.args.programs.items n c.in-Some.program turn.0 c.requires.sizes in
-    dealt T _ _ n start c.split_seat-seat.result.me c.in-Some.program own (ap (λ z. z.1) split.4) core (ap (λ l. slice_get l n) c.requires.table.1 ∙ here)
+    let size = All-get_or (λ (p : g.row.P.Denot). T.size p ≡ c.args.self.now.id.words)
+    c.args.programs.items n c.in-Some.program turn.0 c.requires.sizes in
+    dealt T _ _ n start c.split_seat-seat.result.me c.in-Some.program own (ap (λ z. z.1) split.4) core
+    (ap (λ l. slice_get l n) c.requires.table.1 ∙ here)
     (ap T.size turn.1 ∙ size ∙ sym (ap (λ z. z.words) (split.3 ∙ i.table)))
 
 pub loop-program-preserved : goal.loop-program-preserved
@@ -46,10 +48,12 @@ loop-program-preserved g c =
     let split = c.split_seat-seat.ensures in
     let own = ap (λ z. z.0.own) split.4 ∙ ap (λ (p : Part g.row.P.Denot g.row.P-Call.Denot). (first_core (view p)).own) i.rest in record {
       table = split.0 ∙ i.table;
-      rest = ap (λ z. z.0.own) split.2 ∙ ap (λ (p : Part g.row.P.Denot g.row.P-Call.Denot). (other_cores (view p)).own) i.rest ∙ ap (λ (m : ℕ). part c.args.self.now.start m (length ps) []) (sym more);
+      rest = ap (λ z. z.0.own) split.2 ∙ ap (λ (p : Part g.row.P.Denot g.row.P-Call.Denot). (other_cores (view p)).own) i.rest
+          ∙ ap (λ (m : ℕ). part c.args.self.now.start m (length ps) []) (sym more);
       count = ap length c.in_ok-push.ensures.items ∙ length_push c.loop-program.seats.items _ ∙ ap (λ (m : ℕ). m + 1) i.count ∙ sym more;
       seats =
-          let F : ℕ → SeatValue g.row.P.Denot g.row.P-Call.Denot → Type 0 = λ k s. (s.table ≡ c.args.self.now) × (s.core ≡ k) × (s.seen ≡ []) × (slice_get ps k ≡ Some s.program) in
+          let F : ℕ → SeatValue g.row.P.Denot g.row.P-Call.Denot
+          → Type 0 = λ k s. (s.table ≡ c.args.self.now) × (s.core ≡ k) × (s.seen ≡ []) × (slice_get ps k ≡ Some s.program) in
           each_pushed F c.loop-program.seats.items _ n _ c.in_ok-push.ensures.items i.count i.seats (
             (λ j. record { id = (split.3 ∙ i.table) j; start = ap (λ (p : Part g.row.P.Denot g.row.P-Call.Denot). p.start) own j }),
             core,

@@ -32,8 +32,12 @@ load-requires g c =
     let me = c.join_seat.new.seat.me in
     let live : me.0.own.live ≡ true = ap (λ z. z.0.own.live) is ∙ i.all.live in
     let core = ap (λ z. z.core) c.one.view_is ∙ c.requires.seats.core _ _ here in
-    let next : me.0.told.from ≡ me.0.own.to = ap (λ z. z.0.told.from) is ∙ c.one.invariant.from ∙ core ∙ sym i.all.end ∙ sym (ap (λ z. z.0.own.to) is) in
-    (c.join_seat.ensures.0 ∙ i.table ∙ c.requires.table.0 ∙ sym (ap (λ t. t.id) c.self.view_is), c.self.invariant.0, gathers_all g.P.CoreProgram.steps _ _ _ me live next)
+    let next : me.0.told.from ≡ me.0.own.to = ap (λ z. z.0.told.from) is ∙ c.one.invariant.from ∙ core ∙ sym i.all.end
+    ∙ sym (ap (λ z. z.0.own.to) is) in (
+      c.join_seat.ensures.0 ∙ i.table ∙ c.requires.table.0 ∙ sym (ap (λ t. t.id) c.self.view_is),
+      c.self.invariant.0,
+      gathers_all g.P.CoreProgram.steps _ _ _ me live next,
+    )
 
 pub loop-one-preserved : goal.loop-one-preserved
 loop-one-preserved g c =
@@ -49,7 +53,8 @@ loop-one-preserved g c =
     let v = c.loop-one.all.me.0.own in
     let w = c.one.inside.seat.me.0.own in
     let core = ap (λ z. z.core) c.one.view_is ∙ c.requires.seats.core _ _ here in
-    let got : Gathers T v w w.to x = subst (λ (z : View g.row.P.Denot g.row.P-Call.Denot). Gathers T z.own z.told z.told.to x) (ap (λ z. z.0) c.join_seat.ensures.2) c.load.ensures.2.0 in
+    let got : Gathers T v w w.to x = subst (λ (z : View g.row.P.Denot g.row.P-Call.Denot). Gathers T z.own z.told z.told.to x)
+    (ap (λ z. z.0) c.join_seat.ensures.2) c.load.ensures.2.0 in
     let all = gathered_on T c.one.inside.seat.table_id.words c.one.inside.core n c.args.all.now.me.0.own v c.one.inside.seat.me x c.one.inside.program c.requires.table.1 i.all c.one.invariant core got in
     let more = length_push c.loop-one.yielded one in
     let count = i.count in
@@ -61,9 +66,12 @@ loop-one-preserved g c =
       id = c.load.ensures.1 ∙ c.join_seat.ensures.1 ∙ i.id;
       all = subst (λ (k : ℕ). Stays T c.args.all.now.me.0.own k x) (sym more) all.stays;
       count = ap length c.in_ok-push.ensures.items ∙ length_push c.loop-one.programs.items _ ∙ ap (λ (k : ℕ). k + 1) i.count ∙ sym more;
-      programs = each_pushed (λ k p. program_after T x.start x.seen k ≡ Some p) c.loop-one.programs.items _ n c.push.new.self.items c.in_ok-push.ensures.items i.count
+      programs = each_pushed (λ k p. program_after T x.start x.seen k ≡ Some p)
+          c.loop-one.programs.items _ n c.push.new.self.items c.in_ok-push.ensures.items i.count
           (λ k q e. let lt = slice_get_within c.loop-one.programs.items k q e in all.before k q (omega arith) (i.programs k q e)) all.here;
-      seen = each_pushed (λ (k : ℕ) (s : Value). Begins x.seen (part start k (k + 1) s.seen)) c.loop-one.yielded one n (c.loop-one.yielded ++ one ∷ []) refl refl
-          (λ k s e. let lt = slice_get_within c.loop-one.yielded k s e in begins_on x.seen v (part start k (k + 1) s.seen) all.mine (i.seen k s e) (omega arith) (omega arith))
+      seen = each_pushed (λ (k : ℕ) (s : Value). Begins x.seen (part start k (k + 1) s.seen)) c.loop-one.yielded one n
+          (c.loop-one.yielded ++ one ∷ []) refl refl
+          (λ k s e. let lt = slice_get_within c.loop-one.yielded k s e in
+          begins_on x.seen v (part start k (k + 1) s.seen) all.mine (i.seen k s e) (omega arith) (omega arith))
           (begins_as x.seen w (part start n (n + 1) one.seen) all.its (ap (λ z. z.seen) c.one.view_is) (omega arith) (omega arith));
     }

@@ -12,8 +12,12 @@ load-requires g c =
     let count = c.self.invariant.2 in
     let due = subst (λ (o : WordOp). IsDue T c.args.self.now.id.words c.args.seat.now.me g.W.Said.call o) c.in-Load.is c.requires.due in
     let inside = due.inside in
-    let same : c.args.self.now.id.words ≡ length c.self.inside.table.shared.key.words.value.items = omega arith in
-    (c.requires.table ∙ sym (ap (λ t. t.id) c.self.view_is), omega arith, goes_on T (start_of c.self.inside.table.shared.key.words.value.items c.self.inside.table.shared.key.programs.value.items) _ _ _ _ _ (Load c.in-Load.at) due same)
+    let same : c.args.self.now.id.words ≡ length c.self.inside.table.shared.key.words.value.items = omega arith in (
+      c.requires.table ∙ sym (ap (λ t. t.id) c.self.view_is),
+      omega arith,
+      goes_on T (start_of c.self.inside.table.shared.key.words.value.items c.self.inside.table.shared.key.programs.value.items) _ _ _ _ _
+          (Load c.in-Load.at) due same,
+    )
 
 pub compare_exchange-requires : goal.compare_exchange-requires
 compare_exchange-requires g c =
@@ -22,8 +26,12 @@ compare_exchange-requires g c =
     let count = c.self.invariant.2 in
     let due = subst (λ (o : WordOp). IsDue T c.args.self.now.id.words c.args.seat.now.me g.W.Said.call o) c.in-Compare.is c.requires.due in
     let inside = due.inside in
-    let same : c.args.self.now.id.words ≡ length c.self.inside.table.shared.key.words.value.items = omega arith in
-    (c.requires.table ∙ sym (ap (λ t. t.id) c.self.view_is), omega arith, goes_on T (start_of c.self.inside.table.shared.key.words.value.items c.self.inside.table.shared.key.programs.value.items) _ _ _ _ _ (Compare c.in-Compare.at c.in-Compare.expected c.in-Compare.word) due same)
+    let same : c.args.self.now.id.words ≡ length c.self.inside.table.shared.key.words.value.items = omega arith in (
+      c.requires.table ∙ sym (ap (λ t. t.id) c.self.view_is),
+      omega arith,
+      goes_on T (start_of c.self.inside.table.shared.key.words.value.items c.self.inside.table.shared.key.programs.value.items) _ _ _ _ _
+          (Compare c.in-Compare.at c.in-Compare.expected c.in-Compare.word) due same,
+    )
 
 pub store-requires : goal.store-requires
 store-requires g c =
@@ -32,8 +40,12 @@ store-requires g c =
     let count = c.self.invariant.2 in
     let due = subst (λ (o : WordOp). IsDue T c.args.self.now.id.words c.args.seat.now.me g.W.Said.call o) c.in-Store.is c.requires.due in
     let inside = due.inside in
-    let same : c.args.self.now.id.words ≡ length c.self.inside.table.shared.key.words.value.items = omega arith in
-    (c.requires.table ∙ sym (ap (λ t. t.id) c.self.view_is), omega arith, goes_on T (start_of c.self.inside.table.shared.key.words.value.items c.self.inside.table.shared.key.programs.value.items) _ _ _ _ _ (Store c.in-Store.at c.in-Store.word) due same)
+    let same : c.args.self.now.id.words ≡ length c.self.inside.table.shared.key.words.value.items = omega arith in (
+      c.requires.table ∙ sym (ap (λ t. t.id) c.self.view_is),
+      omega arith,
+      goes_on T (start_of c.self.inside.table.shared.key.words.value.items c.self.inside.table.shared.key.programs.value.items) _ _ _ _ _
+          (Store c.in-Store.at c.in-Store.word) due same,
+    )
 
 pub fetch_add-requires : goal.fetch_add-requires
 fetch_add-requires g c =
@@ -42,5 +54,9 @@ fetch_add-requires g c =
     let count = c.self.invariant.2 in
     let due = subst (λ (o : WordOp). IsDue T c.args.self.now.id.words c.args.seat.now.me g.W.Said.call o) c.in-Add.is c.requires.due in
     let inside = due.inside in
-    let same : c.args.self.now.id.words ≡ length c.self.inside.table.shared.key.words.value.items = omega arith in
-    (c.requires.table ∙ sym (ap (λ t. t.id) c.self.view_is), omega arith, goes_on T (start_of c.self.inside.table.shared.key.words.value.items c.self.inside.table.shared.key.programs.value.items) _ _ _ _ _ (Add c.in-Add.at c.in-Add.by) due same)
+    let same : c.args.self.now.id.words ≡ length c.self.inside.table.shared.key.words.value.items = omega arith in (
+      c.requires.table ∙ sym (ap (λ t. t.id) c.self.view_is),
+      omega arith,
+      goes_on T (start_of c.self.inside.table.shared.key.words.value.items c.self.inside.table.shared.key.programs.value.items) _ _ _ _ _
+          (Add c.in-Add.at c.in-Add.by) due same,
+    )

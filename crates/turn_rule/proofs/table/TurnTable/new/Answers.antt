@@ -8,4 +8,5 @@ pub of_words-requires : goal.of_words-requires
 of_words-requires g c =
     let T = g.P.CoreProgram.steps in
     let start = start_of c.of.result.value.items c.of-2.result.value.items in
-    subst (λ (l : List ℕ). Kept T start (opening l [] (view (part start 0 (length start.programs) [])))) (ap (λ v. v.items) c.of.ensures ∙ sym c.as_slice.ensures.value) (begins T start)
+    subst (λ (l : List ℕ). Kept T start (opening l [] (view (part start 0 (length start.programs) []))))
+    (ap (λ v. v.items) c.of.ensures ∙ sym c.as_slice.ensures.value) (begins T start)

@@ -4,7 +4,7 @@ use lib.Pointwise.{pointwise}
 use Rattle.speck_run.specs.Top.{IsNumberIn}
 use Rattle.speck_run.proofs.Due.{number_told}
 use Rattle.speck_run.proofs.OneWord.{first_word, two_words}
-use Rattle.speck_run.proofs.words.number_behind.Goals as goal
+use Rattle.speck_run.proofs.words.number_after.Goals as goal
 
 pub returns-in-len2 : goal.returns-in-len2
 returns-in-len2 c =
