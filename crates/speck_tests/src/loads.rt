@@ -168,7 +168,10 @@ fn a_load_sums_up_what_replay_writes(rt: HostRuntime) -> Result<(), Fail> {
         let (_, script) = written(&rt, alloc, &["make", number], b"", &[])?;
         let (status, text) = written(&rt, alloc, &["replay"], &script, &[])?;
         let (loaded, summary) = written(&rt, alloc, &["load", number], b"", &[1])?;
-        assert!(rt; status == Status::Done && loaded == Status::Done, "{number}");
+        assert!(rt;
+            status == Status::Done && loaded == Status::Done,
+            "{number}"
+        );
         let text = from_utf8(&text).unwrap_or("");
         let wanted = summary_of(alloc, text)?;
         assert!(rt; summary.as_slice() == wanted.as_bytes(), "{number}");
