@@ -16,30 +16,34 @@ ghost use Rattle.std.specs.Prelude.{◌≡◌, ◌<◌, ◌≤◌, ◌&&◌, nat
 ghost use Rattle.word_map.specs.Places.{size_of};
 ghost use Rattle.word_map.specs.Moves.{op_of};
 ghost use Rattle.spk_nums.specs.WordSteps.{place_in};
-ghost use Rattle.call_acts.specs.WorkSteps.{refuse};
-ghost use Rattle.call_acts.specs.Acts.{gate_to, frame_named, reads_of, ActFits, act_move, took_act, act_ready, looked, acquires, next_work, fills_at, fills_with, act_begun, drawn_by, took_close, scans, stamp_in, removes_held, removes_at, types_if, types_at, starts, undo, makes_at, makes_in, kills_in, kills_at, link_to, is_pages, typing_to, maps_word, maps_frame, maps_in, maps_at, comps_in, comps_at, made_begun};
+ghost use Rattle.act_states.specs.WorkSteps.{refuse};
+ghost use Rattle.act_states.specs.Acts.{gate_to, frame_named, reads_of, ActFits, act_move, took_act, act_ready, looked, acquires, next_work, fills_at, fills_with, act_begun, drawn_by, took_close, scans, stamp_in, removes_held, removes_at, types_if, types_at, starts, undo, makes_at, makes_in, kills_in, kills_at, link_to, is_pages, typing_to, maps_word, maps_frame, maps_in, maps_at, comps_in, comps_at, made_begun};
 ghost use Rattle.call_plans.specs.Plans.{at_place};
 ghost use Rattle.call_plans.specs.declared.plans.Nth.TheVariants.{First, Second, Third, Fourth};
-ghost use Rattle.call_acts.specs.Shares.{shares_at};
+ghost use Rattle.act_states.specs.Shares.{shares_at};
 ghost use Rattle.kernel_rules.specs.Access.{found as named_by_cap};
 ghost use Rattle.kernel_rules.specs.CapabilityCalls.{has_frame};
 
-use crate::comps::{CompAt, CompMaking};
+use crate::comps::{comp_op, comp_ready, comp_took, comp_undo};
 use crate::counts::next_work;
-use crate::fills::Fill;
+use crate::fills::{fill_op, fill_took};
 use crate::flushes::{flush_op, flush_took, flushes};
-use crate::invocations::{invokes_at, returns_at};
-use crate::kills::{Killing, KillingAt};
-use crate::makings::{Making, MakingAt};
-use crate::objects::{NewObject, object_cap, object_made};
-use crate::own::Own;
-use crate::refusals::Refusal;
+use crate::invocations::{
+    invokes_at, invoking_op, invoking_ready, invoking_took, returning_op, returning_ready,
+    returning_took, returns_at,
+};
+use crate::kills::{killing_op, killing_ready, killing_took};
+use crate::makings::{making_op, making_ready, making_took, making_undo};
 use crate::shares::{is_sharing, share_op, share_took, shares_at};
-use crate::switches::switches_at;
+use crate::switches::{switches_at, switching_op, switching_ready, switching_took, switching_undo};
 use crate::ticks::{charges, is_charging, tick_op, tick_took};
-use crate::typings::{Typing, TypingAt};
-use crate::untypings::{Untyping, UntypingAt};
-use crate::work::{Act, Tail, Work, WorkStep};
+use crate::touches::{touch_op, touch_ready, touch_took};
+use crate::typings::{typing_op, typing_ready, typing_took};
+use crate::untypings::{untyping_op, untyping_ready, untyping_took, untyping_undo};
+use act_states::{
+    Act, CompAt, CompMaking, Fill, Killing, KillingAt, Making, MakingAt, NewObject, Own, Refusal,
+    Tail, Typing, TypingAt, Untyping, UntypingAt, Work, WorkStep, object_cap, object_made,
+};
 use call_plans::{Caps, Nth};
 use entry_words::Entry;
 use frame_words::FrameWord;
@@ -48,9 +52,7 @@ use spk_nums::{
     WordOp,
 };
 use stage_look::Found;
-use stage_pins::Pin;
 use stage_quiet::{Close, Quiet};
-use stage_sweep::Owned;
 use stage_tcap::PairWork;
 use word_map::Layout;
 
@@ -62,10 +64,10 @@ pub fn act_op(act: &Act, layout: &Layout) -> WordOp
     ensures below { place_in result < size_of layout.now }
 {
     match act {
-        Act::Fill { fill } => fill.next(layout),
+        Act::Fill { fill } => fill_op(fill, layout),
         Act::Remove { close, cap: _ } => close.next(layout),
-        Act::Retype { typing } => typing.next(layout),
-        Act::Make { making } => making.next(layout),
+        Act::Retype { typing } => typing_op(typing, layout),
+        Act::Make { making } => making_op(making, layout),
         Act::Map { fill } => {
             let frame = fill.cap.frame();
             WordOp::Load {
@@ -80,14 +82,14 @@ pub fn act_op(act: &Act, layout: &Layout) -> WordOp
             at: layout.entry_at(*node, *entry),
         },
         Act::Tick { charge } => tick_op(charge, layout),
-        Act::Touch { touching } => touching.next(layout),
+        Act::Touch { touching } => touch_op(touching, layout),
         Act::Flush { core } => flush_op(*core, layout),
-        Act::Kill { killing } => killing.next(layout),
-        Act::Untype { untyping } => untyping.next(layout),
-        Act::MakeComp { making } => making.next(layout),
-        Act::Invoke { invoking } => invoking.next(layout),
-        Act::Return { returning } => returning.next(layout),
-        Act::Switch { switching } => switching.next(layout),
+        Act::Kill { killing } => killing_op(killing, layout),
+        Act::Untype { untyping } => untyping_op(untyping, layout),
+        Act::MakeComp { making } => comp_op(making, layout),
+        Act::Invoke { invoking } => invoking_op(invoking, layout),
+        Act::Return { returning } => returning_op(returning, layout),
+        Act::Switch { switching } => switching_op(switching, layout),
         Act::Share { pair } => share_op(pair, layout),
     }
 }
@@ -99,25 +101,25 @@ pub fn act_took(act: &Act, layout: &Layout, found: u64) -> WorkStep
     ensures { result ≡ took_act layout.now act.now found }
 {
     match act {
-        Act::Fill { fill } => fill.take(found),
+        Act::Fill { fill } => fill_took(fill, found),
         Act::Remove { close, cap } => {
             let mut close = *close;
             let end = close.take(layout, found);
             close_took(*cap, close, &end)
         }
-        Act::Retype { typing } => typing.take(found),
-        Act::Make { making } => making.take(found),
+        Act::Retype { typing } => typing_took(typing, found),
+        Act::Make { making } => making_took(making, found),
         Act::Map { fill } => maps_word(fill, FrameWord::unpack(found)),
         Act::Outside { .. } => refuse(Refusal::OutOfRange),
         Act::Tick { charge } => tick_took(charge, layout, found),
-        Act::Touch { touching } => touching.take(layout, found),
+        Act::Touch { touching } => touch_took(touching, layout, found),
         Act::Flush { core } => flush_took(*core, layout, found),
-        Act::Kill { killing } => killing.take(found),
-        Act::Untype { untyping } => untyping.take(layout, found),
-        Act::MakeComp { making } => making.take(layout, found),
-        Act::Invoke { invoking } => invoking.take(layout, found),
-        Act::Return { returning } => returning.take(layout, found),
-        Act::Switch { switching } => switching.take(layout, found),
+        Act::Kill { killing } => killing_took(killing, found),
+        Act::Untype { untyping } => untyping_took(untyping, layout, found),
+        Act::MakeComp { making } => comp_took(making, layout, found),
+        Act::Invoke { invoking } => invoking_took(invoking, layout, found),
+        Act::Return { returning } => returning_took(returning, layout, found),
+        Act::Switch { switching } => switching_took(switching, layout, found),
         Act::Share { pair } => share_took(pair, layout, found),
     }
 }
@@ -166,19 +168,19 @@ pub fn act_ready(act: &Act) -> bool
     match act {
         Act::Fill { fill: _ } => true,
         Act::Remove { close, cap: _ } => matches!(close, Close::AtDraw { .. }),
-        Act::Retype { typing } => typing.is_ready(),
-        Act::Make { making } => making.is_ready(),
+        Act::Retype { typing } => typing_ready(typing),
+        Act::Make { making } => making_ready(making),
         Act::Map { fill: _ } => false,
         Act::Outside { .. } => false,
         Act::Tick { charge } => is_charging(charge),
-        Act::Touch { touching } => touching.is_ready(),
+        Act::Touch { touching } => touch_ready(touching),
         Act::Flush { core: _ } => true,
-        Act::Kill { killing } => killing.is_ready(),
-        Act::Untype { untyping } => untyping.is_ready(),
-        Act::MakeComp { making } => making.is_ready(),
-        Act::Invoke { invoking } => invoking.is_ready(),
-        Act::Return { returning } => returning.is_ready(),
-        Act::Switch { switching } => switching.is_ready(),
+        Act::Kill { killing } => killing_ready(killing),
+        Act::Untype { untyping } => untyping_ready(untyping),
+        Act::MakeComp { making } => comp_ready(making),
+        Act::Invoke { invoking } => invoking_ready(invoking),
+        Act::Return { returning } => returning_ready(returning),
+        Act::Switch { switching } => switching_ready(switching),
         Act::Share { pair } => is_sharing(pair),
     }
 }
@@ -420,10 +422,10 @@ pub fn undo(act: &Act) -> Tail
     ensures { result ≡ undo act.now }
 {
     match act {
-        Act::Make { making } => making.undo(),
-        Act::Untype { untyping } => untyping.undo(),
-        Act::MakeComp { making } => making.undo(),
-        Act::Switch { switching } => switching.undo(),
+        Act::Make { making } => making_undo(making),
+        Act::Untype { untyping } => untyping_undo(untyping),
+        Act::MakeComp { making } => comp_undo(making),
+        Act::Switch { switching } => switching_undo(switching),
         _ => Tail::Nothing,
     }
 }

@@ -1,16 +1,15 @@
 //! The counts that an act changes, in the order in which a call acquires them.
 
 ghost use Rattle.std.specs.Prelude.{◌≡◌, slice_get, [], ◌∷◌};
-ghost use Rattle.call_acts.specs.Acts.{cap_dues, dues, next_work, made_dues, killing_dues, invoking_dues, returning_dues};
-ghost use Rattle.call_acts.specs.Untypings.{untyping_dues, owned_dues};
-ghost use Rattle.call_acts.specs.Comps.{comp_dues, comp_due_list};
+ghost use Rattle.act_states.specs.Acts.{cap_dues, dues, next_work, made_dues, killing_dues, invoking_dues, returning_dues};
+ghost use Rattle.act_states.specs.Untypings.{untyping_dues, owned_dues};
+ghost use Rattle.act_states.specs.Comps.{comp_dues, comp_due_list};
 
-use crate::comps::{CompAt, CompMaking};
-use crate::invocations::{Invoking, InvokingAt, Returning, ReturningAt};
-use crate::kills::{Killing, KillingAt};
-use crate::makings::{Making, MakingAt};
-use crate::untypings::{Untyping, UntypingAt};
-use crate::work::{Act, Due, Work};
+use crate::switches::switching_due;
+use act_states::{
+    Act, CompAt, CompMaking, Due, Invoking, InvokingAt, Killing, KillingAt, Making, MakingAt,
+    Returning, ReturningAt, Untyping, UntypingAt, Work,
+};
 use spk_nums::{Cap, CoreNo, FrameNo, Kind};
 use stage_pins::Pin;
 use stage_sweep::Owned;
@@ -50,7 +49,7 @@ fn due(act: &Act, n: u8) -> Option<Due>
         Act::MakeComp { making } => comp_due(making, n),
         Act::Invoke { invoking } => invoking_due(invoking, n),
         Act::Return { returning } => returning_due(returning, n),
-        Act::Switch { switching } => switching.due(n),
+        Act::Switch { switching } => switching_due(switching, n),
         Act::Share { pair: _ } => None,
     }
 }

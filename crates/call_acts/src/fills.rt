@@ -9,59 +9,43 @@ ghost use Rattle.word_map.specs.Moves.{op_of};
 ghost use Rattle.spk_nums.specs.WordSteps.{place_in};
 ghost use Rattle.entry_words.specs.EntryWord.{word_of_entry};
 ghost use Rattle.entry_words.specs.declared.entry.Entry.TheVariants.{Held};
-ghost use Rattle.call_acts.specs.Fills.{FillFits, fill_move, took_fill};
+ghost use Rattle.act_states.specs.Fills.{FillFits, fill_move, took_fill};
 
-use crate::refusals::Refusal;
-use crate::work::{Tail, WorkStep};
+use act_states::{Fill, Refusal, Tail, WorkStep};
 use entry_words::Entry;
-use spk_nums::{Cap, EntryNo, FrameNo, Value, WordOp};
+use spk_nums::{Cap, Value, WordOp};
 use word_map::Layout;
 
-/// A place that is filled, between two steps.
-#[derive(Clone, Copy, PartialEq, Eq, Debug)]
-pub struct Fill {
-    /// The node that has the place.
-    pub node: FrameNo,
-    /// The place's entry in the node.
-    pub entry: EntryNo,
-    /// The word that was found there.
-    pub word: u64,
-    /// What it is to hold.
-    pub cap: Cap,
+/// The next step: the place's word is compared with the one found. The node and the frames of what it is to hold are
+/// below the layout's.
+#[inline]
+pub(crate) fn fill_op(fill: &Fill, layout: &Layout) -> WordOp
+    requires { FillFits layout.now fill.now }
+    ensures step { result ≡ op_of layout.now (fill_move fill.now) }
+    ensures below { place_in result < size_of layout.now }
+{
+    WordOp::Compare {
+        at: layout.entry_at(fill.node, fill.entry),
+        expected: fill.word,
+        word: held_word(fill.cap),
+    }
 }
 
-impl Fill {
-    /// The next step: the place's word is compared with the one found. The node and the frames of what it is to hold are
-    /// below the layout's.
-    #[inline]
-    pub fn next(&self, layout: &Layout) -> WordOp
-        requires { FillFits layout.now self.now }
-        ensures step { result ≡ op_of layout.now (fill_move self.now) }
-        ensures below { place_in result < size_of layout.now }
-    {
-        WordOp::Compare {
-            at: layout.entry_at(self.node, self.entry),
-            expected: self.word,
-            word: held_word(self.cap),
+/// Takes the word that the compare found: the call is carried out where it is the one expected, and else `raced`.
+#[inline]
+pub(crate) fn fill_took(fill: &Fill, found: u64) -> WorkStep
+    ensures { result ≡ took_fill fill.now found }
+{
+    if found == fill.word {
+        WorkStep::Answers {
+            value: Value::Nothing,
+            drawn: None,
+            tail: Tail::Nothing,
         }
-    }
-
-    /// Takes the word that the compare found: the call is carried out where it is the one expected, and else `raced`.
-    #[inline]
-    pub fn take(&self, found: u64) -> WorkStep
-        ensures { result ≡ took_fill self.now found }
-    {
-        if found == self.word {
-            WorkStep::Answers {
-                value: Value::Nothing,
-                drawn: None,
-                tail: Tail::Nothing,
-            }
-        } else {
-            WorkStep::Refuses {
-                refusal: Refusal::Raced,
-                tail: Tail::Nothing,
-            }
+    } else {
+        WorkStep::Refuses {
+            refusal: Refusal::Raced,
+            tail: Tail::Nothing,
         }
     }
 }

@@ -10,12 +10,10 @@ ghost use Rattle.word_map.specs.Places.{Shape, size_of};
 ghost use Rattle.word_map.specs.Moves.{op_of};
 ghost use Rattle.stage_quiet.specs.Flushing.{flush_move};
 ghost use Rattle.stage_quiet.specs.declared.flush_mark.FlushMark.TheVariants.{AtLoad, AtStore};
-ghost use Rattle.call_acts.specs.Flushes.{flushes, flushed_to, took_flush};
+ghost use Rattle.act_states.specs.Flushes.{flushes, flushed_to, took_flush};
 
 use crate::acts::refuse;
-use crate::own::OwnChange;
-use crate::refusals::Refusal;
-use crate::work::{Act, Tail, Work, WorkStep};
+use act_states::{Act, OwnChange, Refusal, Tail, Work, WorkStep};
 use spk_nums::{CoreNo, Reply, Stamp, Value, WordOp};
 use stage_quiet::FlushMark;
 use word_map::Layout;

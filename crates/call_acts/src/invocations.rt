@@ -15,398 +15,344 @@ ghost use Rattle.std.specs.Prelude.{◌≡◌, ◌<◌, ◌≤◌};
 ghost use Rattle.spk_nums.specs.WordSteps.{place_in};
 ghost use Rattle.word_map.specs.Places.{size_of};
 ghost use Rattle.word_map.specs.Moves.{op_of};
-ghost use Rattle.call_acts.specs.Invocations.{InvokingFits, invoking_move, is_entering, frame_in, ReturningFits, returning_move, is_leaving, enters_if, enters_number, enters_live, left_to, below_in};
-ghost use Rattle.call_acts.specs.Acts.{meets_table, meets_pages, meets_gate, took_invoking, meets_below, meets_below_table, meets_below_pages, took_returning, invokes_at, invokes_in, invokes_if, returns_at, returns_if};
+ghost use Rattle.act_states.specs.Invocations.{InvokingFits, invoking_move, is_entering, frame_in, ReturningFits, returning_move, is_leaving, enters_if, enters_number, enters_live, left_to, below_in};
+ghost use Rattle.act_states.specs.Acts.{meets_table, meets_pages, meets_gate, took_invoking, meets_below, meets_below_table, meets_below_pages, took_returning, invokes_at, invokes_in, invokes_if, returns_at, returns_if};
 
 use crate::acts::refuse;
 use crate::counts::next_work;
-use crate::own::{Own, OwnChange};
-use crate::refusals::Refusal;
-use crate::work::{Act, Tail, Work, WorkStep};
+use act_states::{
+    Act, Invoking, InvokingAt, Own, OwnChange, Refusal, Returning, ReturningAt, Tail, Work,
+    WorkStep,
+};
 use frame_words::{CompWord, LiveWord};
-use spk_nums::{Cap, CoreNo, EntryNo, FrameNo, Kind, Reply, Stamp, Value, WordOp};
+use spk_nums::{Cap, EntryNo, FrameNo, Kind, Reply, Stamp, Value, WordOp};
 use stage_quiet::drawn;
 use stage_thread::{Pop, Push};
 use tcap_words::StackWord;
 use word_map::Layout;
 
-/// Where the entering of a component stands.
-#[derive(Clone, Copy, PartialEq, Eq, Debug)]
-pub enum InvokingAt {
-    /// Before the load of the component's table.
-    LoadTable,
-    /// Before the load of its pages.
-    LoadPages {
-        table: FrameNo,
-    },
-    /// Before the load of its liveness number.
-    LoadComp {
-        table: FrameNo,
-        pages: FrameNo,
-    },
-    /// Before the load of that number's word, which decides.
-    LoadLive {
-        table: FrameNo,
-        pages: FrameNo,
-        life: CompWord,
-    },
+/// The next step. What it names is of the layout's machine.
+#[inline]
+pub(crate) fn invoking_op(invoking: &Invoking, layout: &Layout) -> WordOp
+    requires { InvokingFits layout.now invoking.now }
+    ensures step { result ≡ op_of layout.now (invoking_move invoking.now) }
+    ensures below { place_in result < size_of layout.now }
+{
+    match invoking.at {
+        InvokingAt::LoadTable => WordOp::Load {
+            at: layout.entry_at(invoking.comp, EntryNo::new(0)),
+        },
+        InvokingAt::LoadPages { table: _ } => WordOp::Load {
+            at: layout.entry_at(invoking.comp, EntryNo::new(1)),
+        },
+        InvokingAt::LoadComp { table: _, pages: _ } => WordOp::Load {
+            at: layout.entry_at(invoking.comp, EntryNo::new(2)),
+        },
+        InvokingAt::LoadLive {
+            table: _,
+            pages: _,
+            life,
+        } => WordOp::Load {
+            at: layout.live_at(life.number),
+        },
+    }
 }
 
-/// A component that a core enters through a gate, between two steps.
-#[derive(Clone, Copy, PartialEq, Eq, Debug)]
-pub struct Invoking {
-    /// The component's frame.
-    pub comp: FrameNo,
-    /// The epoch in which the gate was made.
-    pub epoch: u32,
-    /// The core's thread.
-    pub thread: FrameNo,
-    /// The depth of its stack, 1 to 15.
-    pub depth: u8,
-    /// The core.
-    pub core: CoreNo,
-    /// The frames of the machine, at most 512.
-    pub frames: u16,
-    /// Where this stands.
-    pub at: InvokingAt,
+/// Takes the word that the step found. After the loads of the component's words the count of its frame is acquired. The load of the
+/// number's word carries the call out where the number is live in the gate's epoch; a number that another core is closing is `busy`,
+/// and else the component is `dead`. A word that is none of its place is `raced`. What it names is of the layout's machine.
+#[inline]
+pub(crate) fn invoking_took(invoking: &Invoking, layout: &Layout, found: u64) -> WorkStep
+    requires { InvokingFits layout.now invoking.now }
+    ensures { result ≡ took_invoking invoking.now found }
+{
+    match invoking.at {
+        InvokingAt::LoadTable => meets_table(invoking, frame_in(invoking.frames, found)),
+        InvokingAt::LoadPages { table } => {
+            meets_pages(invoking, table, frame_in(invoking.frames, found))
+        }
+        InvokingAt::LoadComp { table, pages } => {
+            meets_gate(invoking, table, pages, CompWord::unpack(found))
+        }
+        InvokingAt::LoadLive {
+            table,
+            pages,
+            life: _,
+        } => enters_live(invoking, table, pages, LiveWord::unpack(found)),
+    }
 }
 
-/// Where the leaving of a component stands.
-#[derive(Clone, Copy, PartialEq, Eq, Debug)]
-pub enum ReturningAt {
-    /// Before the load of the component below the top.
-    LoadBelow,
-    /// Before the load of that component's table.
-    LoadTable {
-        comp: FrameNo,
-    },
-    /// Before the load of its pages.
-    LoadPages {
-        comp: FrameNo,
-        table: FrameNo,
-    },
-    /// Before the draw of the stamp.
-    Draw {
-        comp: FrameNo,
-        table: FrameNo,
-        pages: FrameNo,
-    },
+/// Whether the next step is the load of the number's word.
+#[inline]
+pub(crate) fn invoking_ready(invoking: &Invoking) -> bool
+    ensures { result ≡ is_entering invoking.now.at }
+{
+    matches!(invoking.at, InvokingAt::LoadLive { .. })
 }
 
-/// A component that a core leaves, between two steps.
-#[derive(Clone, Copy, PartialEq, Eq, Debug)]
-pub struct Returning {
-    /// The component's frame, at the top of the stack.
-    pub top: FrameNo,
-    /// The core's thread.
-    pub thread: FrameNo,
-    /// The depth of its stack, 2 to 16.
-    pub depth: u8,
-    /// The core.
-    pub core: CoreNo,
-    /// The frames of the machine, at most 512.
-    pub frames: u16,
-    /// Where this stands.
-    pub at: ReturningAt,
+// The entering that stands here.
+#[inline]
+fn invoking_at(invoking: &Invoking, at: InvokingAt) -> Act
+    ensures { result ≡ Act.Invoke (record invoking.now { at = at }) }
+{
+    Act::Invoke {
+        invoking: Invoking { at, ..*invoking },
+    }
 }
 
-impl Invoking {
-    /// The next step. What it names is of the layout's machine.
-    #[inline]
-    pub fn next(&self, layout: &Layout) -> WordOp
-        requires { InvokingFits layout.now self.now }
-        ensures step { result ≡ op_of layout.now (invoking_move self.now) }
-        ensures below { place_in result < size_of layout.now }
-    {
-        match self.at {
-            InvokingAt::LoadTable => WordOp::Load {
-                at: layout.entry_at(self.comp, EntryNo::new(0)),
+// What the load of the component's table leads to, where it shows this.
+#[inline]
+fn meets_table(invoking: &Invoking, shown: Option<FrameNo>) -> WorkStep
+    ensures { result ≡ meets_table invoking.now shown }
+{
+    match shown {
+        None => refuse(Refusal::Raced),
+        Some(table) => WorkStep::Goes {
+            work: Work::Act {
+                act: invoking_at(invoking, InvokingAt::LoadPages { table }),
             },
-            InvokingAt::LoadPages { table: _ } => WordOp::Load {
-                at: layout.entry_at(self.comp, EntryNo::new(1)),
-            },
-            InvokingAt::LoadComp { table: _, pages: _ } => WordOp::Load {
-                at: layout.entry_at(self.comp, EntryNo::new(2)),
-            },
-            InvokingAt::LoadLive {
-                table: _,
-                pages: _,
-                life,
-            } => WordOp::Load {
-                at: layout.live_at(life.number),
-            },
-        }
+        },
     }
+}
 
-    /// Takes the word that the step found. After the loads of the component's words the count of its frame is acquired. The load of the
-    /// number's word carries the call out where the number is live in the gate's epoch; a number that another core is closing is `busy`,
-    /// and else the component is `dead`. A word that is none of its place is `raced`. What it names is of the layout's machine.
-    #[inline]
-    pub fn take(&self, layout: &Layout, found: u64) -> WorkStep
-        requires { InvokingFits layout.now self.now }
-        ensures { result ≡ took_invoking self.now found }
-    {
-        match self.at {
-            InvokingAt::LoadTable => self.meets_table(frame_in(self.frames, found)),
-            InvokingAt::LoadPages { table } => {
-                self.meets_pages(table, frame_in(self.frames, found))
+// What the load of its pages leads to, where it shows this.
+#[inline]
+fn meets_pages(invoking: &Invoking, table: FrameNo, shown: Option<FrameNo>) -> WorkStep
+    ensures { result ≡ meets_pages invoking.now table shown }
+{
+    match shown {
+        None => refuse(Refusal::Raced),
+        Some(pages) => WorkStep::Goes {
+            work: Work::Act {
+                act: invoking_at(invoking, InvokingAt::LoadComp { table, pages }),
+            },
+        },
+    }
+}
+
+// What the load of its liveness number leads to, where it shows this.
+#[inline]
+fn meets_gate(
+    invoking: &Invoking,
+    table: FrameNo,
+    pages: FrameNo,
+    shown: Option<CompWord>,
+) -> WorkStep
+    ensures { result ≡ meets_gate invoking.now table pages shown }
+{
+    match shown {
+        None => refuse(Refusal::Raced),
+        Some(life) => {
+            let act = invoking_at(invoking, InvokingAt::LoadLive { table, pages, life });
+            WorkStep::Goes {
+                work: next_work(invoking.core, 0, &act),
             }
-            InvokingAt::LoadComp { table, pages } => {
-                self.meets_gate(table, pages, CompWord::unpack(found))
-            }
-            InvokingAt::LoadLive {
-                table,
-                pages,
-                life: _,
-            } => self.enters_live(table, pages, LiveWord::unpack(found)),
-        }
-    }
-
-    /// Whether the next step is the load of the number's word.
-    #[inline]
-    pub fn is_ready(&self) -> bool
-        ensures { result ≡ is_entering self.now.at }
-    {
-        matches!(self.at, InvokingAt::LoadLive { .. })
-    }
-
-    // The entering that stands here.
-    #[inline]
-    fn at(&self, at: InvokingAt) -> Act
-        ensures { result ≡ Act.Invoke (record self.now { at = at }) }
-    {
-        Act::Invoke {
-            invoking: Invoking { at, ..*self },
-        }
-    }
-
-    // What the load of the component's table leads to, where it shows this.
-    #[inline]
-    fn meets_table(&self, shown: Option<FrameNo>) -> WorkStep
-        ensures { result ≡ meets_table self.now shown }
-    {
-        match shown {
-            None => refuse(Refusal::Raced),
-            Some(table) => WorkStep::Goes {
-                work: Work::Act {
-                    act: self.at(InvokingAt::LoadPages { table }),
-                },
-            },
-        }
-    }
-
-    // What the load of its pages leads to, where it shows this.
-    #[inline]
-    fn meets_pages(&self, table: FrameNo, shown: Option<FrameNo>) -> WorkStep
-        ensures { result ≡ meets_pages self.now table shown }
-    {
-        match shown {
-            None => refuse(Refusal::Raced),
-            Some(pages) => WorkStep::Goes {
-                work: Work::Act {
-                    act: self.at(InvokingAt::LoadComp { table, pages }),
-                },
-            },
-        }
-    }
-
-    // What the load of its liveness number leads to, where it shows this.
-    #[inline]
-    fn meets_gate(&self, table: FrameNo, pages: FrameNo, shown: Option<CompWord>) -> WorkStep
-        ensures { result ≡ meets_gate self.now table pages shown }
-    {
-        match shown {
-            None => refuse(Refusal::Raced),
-            Some(life) => {
-                let act = self.at(InvokingAt::LoadLive { table, pages, life });
-                WorkStep::Goes {
-                    work: next_work(self.core, 0, &act),
-                }
-            }
-        }
-    }
-
-    // What the load of the number's word leads to, where it shows this.
-    #[inline]
-    fn enters_live(&self, table: FrameNo, pages: FrameNo, shown: Option<LiveWord>) -> WorkStep
-        ensures { result ≡ enters_live self.now table pages shown }
-    {
-        match shown {
-            None => refuse(Refusal::Raced),
-            Some(shown) => self.enters_number(table, pages, &shown),
-        }
-    }
-
-    #[inline]
-    fn enters_number(&self, table: FrameNo, pages: FrameNo, shown: &LiveWord) -> WorkStep
-        ensures { result ≡ enters_number self.now table pages shown.now }
-    {
-        match shown {
-            LiveWord::Free => refuse(Refusal::Dead),
-            LiveWord::Live { epoch, frame: _ } => {
-                self.enters_if(table, pages, u32::from(*epoch) == self.epoch)
-            }
-            LiveWord::Closing { epoch: _, by } => refuse(Refusal::Busy(*by)),
-            LiveWord::Dead { epoch: _, stamp: _ } => refuse(Refusal::Dead),
-        }
-    }
-
-    #[inline]
-    fn enters_if(&self, table: FrameNo, pages: FrameNo, lives: bool) -> WorkStep
-        ensures { result ≡ enters_if self.now table pages lives }
-    {
-        if lives {
-            WorkStep::Changes {
-                reply: Reply::Ok(Value::Nothing),
-                change: OwnChange::Works {
-                    comp: self.comp,
-                    table,
-                    pages,
-                    depth: self.depth.saturating_add(1),
-                },
-                drawn: None,
-                tail: Tail::Push {
-                    push: Push::new(self.thread, self.core, self.depth, self.comp),
-                },
-            }
-        } else {
-            refuse(Refusal::Dead)
         }
     }
 }
 
-impl Returning {
-    /// The next step. What it names is of the layout's machine.
-    #[inline]
-    pub fn next(&self, layout: &Layout) -> WordOp
-        requires { ReturningFits layout.now self.now }
-        ensures step { result ≡ op_of layout.now (returning_move self.now) }
-        ensures below { place_in result < size_of layout.now }
-    {
-        match self.at {
-            ReturningAt::LoadBelow => WordOp::Load {
-                at: layout.entry_at(self.thread, EntryNo::new(u16::from(self.depth) - 1)),
-            },
-            ReturningAt::LoadTable { comp } => WordOp::Load {
-                at: layout.entry_at(comp, EntryNo::new(0)),
-            },
-            ReturningAt::LoadPages { comp, table: _ } => WordOp::Load {
-                at: layout.entry_at(comp, EntryNo::new(1)),
-            },
-            ReturningAt::Draw {
-                comp: _,
-                table: _,
-                pages: _,
-            } => WordOp::Add {
-                at: layout.clock_at(),
-                by: 1,
-            },
+// What the load of the number's word leads to, where it shows this.
+#[inline]
+fn enters_live(
+    invoking: &Invoking,
+    table: FrameNo,
+    pages: FrameNo,
+    shown: Option<LiveWord>,
+) -> WorkStep
+    ensures { result ≡ enters_live invoking.now table pages shown }
+{
+    match shown {
+        None => refuse(Refusal::Raced),
+        Some(shown) => enters_number(invoking, table, pages, &shown),
+    }
+}
+
+#[inline]
+fn enters_number(invoking: &Invoking, table: FrameNo, pages: FrameNo, shown: &LiveWord) -> WorkStep
+    ensures { result ≡ enters_number invoking.now table pages shown.now }
+{
+    match shown {
+        LiveWord::Free => refuse(Refusal::Dead),
+        LiveWord::Live { epoch, frame: _ } => {
+            enters_if(invoking, table, pages, u32::from(*epoch) == invoking.epoch)
         }
+        LiveWord::Closing { epoch: _, by } => refuse(Refusal::Busy(*by)),
+        LiveWord::Dead { epoch: _, stamp: _ } => refuse(Refusal::Dead),
     }
+}
 
-    /// Takes the word that the step found. After the loads the count of the top's frame is acquired. The draw carries the call out, with
-    /// the clock found as its stamp. A word that is none of its place is `raced`. What it names is of the layout's machine.
-    #[inline]
-    pub fn take(&self, layout: &Layout, found: u64) -> WorkStep
-        requires { ReturningFits layout.now self.now }
-        ensures { result ≡ took_returning self.now found }
-    {
-        match self.at {
-            ReturningAt::LoadBelow => self.meets_below(below_in(self.frames, found)),
-            ReturningAt::LoadTable { comp } => {
-                self.meets_table(comp, frame_in(self.frames, found))
-            }
-            ReturningAt::LoadPages { comp, table } => {
-                self.meets_pages(comp, table, frame_in(self.frames, found))
-            }
-            ReturningAt::Draw { comp, table, pages } => {
-                self.left_to(comp, table, pages, drawn(found))
-            }
-        }
-    }
-
-    /// Whether the next step draws the stamp.
-    #[inline]
-    pub fn is_ready(&self) -> bool
-        ensures { result ≡ is_leaving self.now.at }
-    {
-        matches!(self.at, ReturningAt::Draw { .. })
-    }
-
-    // The leaving that stands here.
-    #[inline]
-    fn at(&self, at: ReturningAt) -> Act
-        ensures { result ≡ Act.Return (record self.now { at = at }) }
-    {
-        Act::Return {
-            returning: Returning { at, ..*self },
-        }
-    }
-
-    // What the load of the component below the top leads to, where it shows this.
-    #[inline]
-    fn meets_below(&self, shown: Option<FrameNo>) -> WorkStep
-        ensures { result ≡ meets_below self.now shown }
-    {
-        match shown {
-            None => refuse(Refusal::Raced),
-            Some(comp) => WorkStep::Goes {
-                work: Work::Act {
-                    act: self.at(ReturningAt::LoadTable { comp }),
-                },
-            },
-        }
-    }
-
-    // What the load of its table leads to, where it shows this.
-    #[inline]
-    fn meets_table(&self, comp: FrameNo, shown: Option<FrameNo>) -> WorkStep
-        ensures { result ≡ meets_below_table self.now comp shown }
-    {
-        match shown {
-            None => refuse(Refusal::Raced),
-            Some(table) => WorkStep::Goes {
-                work: Work::Act {
-                    act: self.at(ReturningAt::LoadPages { comp, table }),
-                },
-            },
-        }
-    }
-
-    // What the load of its pages leads to, where it shows this.
-    #[inline]
-    fn meets_pages(&self, comp: FrameNo, table: FrameNo, shown: Option<FrameNo>) -> WorkStep
-        ensures { result ≡ meets_below_pages self.now comp table shown }
-    {
-        match shown {
-            None => refuse(Refusal::Raced),
-            Some(pages) => {
-                let act = self.at(ReturningAt::Draw { comp, table, pages });
-                WorkStep::Goes {
-                    work: next_work(self.core, 0, &act),
-                }
-            }
-        }
-    }
-
-    // The call is carried out: the core works in the component below, and the top is still to be popped.
-    #[inline]
-    fn left_to(&self, comp: FrameNo, table: FrameNo, pages: FrameNo, stamp: Stamp) -> WorkStep
-        ensures { result ≡ left_to self.now comp table pages stamp }
-    {
+#[inline]
+fn enters_if(invoking: &Invoking, table: FrameNo, pages: FrameNo, lives: bool) -> WorkStep
+    ensures { result ≡ enters_if invoking.now table pages lives }
+{
+    if lives {
         WorkStep::Changes {
             reply: Reply::Ok(Value::Nothing),
             change: OwnChange::Works {
-                comp,
+                comp: invoking.comp,
                 table,
                 pages,
-                depth: self.depth.saturating_sub(1),
+                depth: invoking.depth.saturating_add(1),
             },
-            drawn: Some(stamp),
-            tail: Tail::Pop {
-                pop: Pop::new(self.thread, self.core, self.depth),
+            drawn: None,
+            tail: Tail::Push {
+                push: Push::new(
+                    invoking.thread,
+                    invoking.core,
+                    invoking.depth,
+                    invoking.comp,
+                ),
             },
         }
+    } else {
+        refuse(Refusal::Dead)
+    }
+}
+
+/// The next step. What it names is of the layout's machine.
+#[inline]
+pub(crate) fn returning_op(returning: &Returning, layout: &Layout) -> WordOp
+    requires { ReturningFits layout.now returning.now }
+    ensures step { result ≡ op_of layout.now (returning_move returning.now) }
+    ensures below { place_in result < size_of layout.now }
+{
+    match returning.at {
+        ReturningAt::LoadBelow => WordOp::Load {
+            at: layout.entry_at(
+                returning.thread,
+                EntryNo::new(u16::from(returning.depth) - 1),
+            ),
+        },
+        ReturningAt::LoadTable { comp } => WordOp::Load {
+            at: layout.entry_at(comp, EntryNo::new(0)),
+        },
+        ReturningAt::LoadPages { comp, table: _ } => WordOp::Load {
+            at: layout.entry_at(comp, EntryNo::new(1)),
+        },
+        ReturningAt::Draw {
+            comp: _,
+            table: _,
+            pages: _,
+        } => WordOp::Add {
+            at: layout.clock_at(),
+            by: 1,
+        },
+    }
+}
+
+/// Takes the word that the step found. After the loads the count of the top's frame is acquired. The draw carries the call out, with
+/// the clock found as its stamp. A word that is none of its place is `raced`. What it names is of the layout's machine.
+#[inline]
+pub(crate) fn returning_took(returning: &Returning, layout: &Layout, found: u64) -> WorkStep
+    requires { ReturningFits layout.now returning.now }
+    ensures { result ≡ took_returning returning.now found }
+{
+    match returning.at {
+        ReturningAt::LoadBelow => meets_below(returning, below_in(returning.frames, found)),
+        ReturningAt::LoadTable { comp } => {
+            meets_below_table(returning, comp, frame_in(returning.frames, found))
+        }
+        ReturningAt::LoadPages { comp, table } => {
+            meets_below_pages(returning, comp, table, frame_in(returning.frames, found))
+        }
+        ReturningAt::Draw { comp, table, pages } => {
+            left_to(returning, comp, table, pages, drawn(found))
+        }
+    }
+}
+
+/// Whether the next step draws the stamp.
+#[inline]
+pub(crate) fn returning_ready(returning: &Returning) -> bool
+    ensures { result ≡ is_leaving returning.now.at }
+{
+    matches!(returning.at, ReturningAt::Draw { .. })
+}
+
+// The leaving that stands here.
+#[inline]
+fn returning_at(returning: &Returning, at: ReturningAt) -> Act
+    ensures { result ≡ Act.Return (record returning.now { at = at }) }
+{
+    Act::Return {
+        returning: Returning { at, ..*returning },
+    }
+}
+
+// What the load of the component below the top leads to, where it shows this.
+#[inline]
+fn meets_below(returning: &Returning, shown: Option<FrameNo>) -> WorkStep
+    ensures { result ≡ meets_below returning.now shown }
+{
+    match shown {
+        None => refuse(Refusal::Raced),
+        Some(comp) => WorkStep::Goes {
+            work: Work::Act {
+                act: returning_at(returning, ReturningAt::LoadTable { comp }),
+            },
+        },
+    }
+}
+
+// What the load of its table leads to, where it shows this.
+#[inline]
+fn meets_below_table(returning: &Returning, comp: FrameNo, shown: Option<FrameNo>) -> WorkStep
+    ensures { result ≡ meets_below_table returning.now comp shown }
+{
+    match shown {
+        None => refuse(Refusal::Raced),
+        Some(table) => WorkStep::Goes {
+            work: Work::Act {
+                act: returning_at(returning, ReturningAt::LoadPages { comp, table }),
+            },
+        },
+    }
+}
+
+// What the load of its pages leads to, where it shows this.
+#[inline]
+fn meets_below_pages(
+    returning: &Returning,
+    comp: FrameNo,
+    table: FrameNo,
+    shown: Option<FrameNo>,
+) -> WorkStep
+    ensures { result ≡ meets_below_pages returning.now comp table shown }
+{
+    match shown {
+        None => refuse(Refusal::Raced),
+        Some(pages) => {
+            let act = returning_at(returning, ReturningAt::Draw { comp, table, pages });
+            WorkStep::Goes {
+                work: next_work(returning.core, 0, &act),
+            }
+        }
+    }
+}
+
+// The call is carried out: the core works in the component below, and the top is still to be popped.
+#[inline]
+fn left_to(
+    returning: &Returning,
+    comp: FrameNo,
+    table: FrameNo,
+    pages: FrameNo,
+    stamp: Stamp,
+) -> WorkStep
+    ensures { result ≡ left_to returning.now comp table pages stamp }
+{
+    WorkStep::Changes {
+        reply: Reply::Ok(Value::Nothing),
+        change: OwnChange::Works {
+            comp,
+            table,
+            pages,
+            depth: returning.depth.saturating_sub(1),
+        },
+        drawn: Some(stamp),
+        tail: Tail::Pop {
+            pop: Pop::new(returning.thread, returning.core, returning.depth),
+        },
     }
 }
 

@@ -16,164 +16,137 @@ ghost use Rattle.frame_words.specs.Live.{word_of_live, live_of_word};
 ghost use Rattle.frame_words.specs.declared.live_word.LiveWord.TheVariants.{Closing, Dead};
 ghost use Rattle.word_map.specs.Places.{size_of};
 ghost use Rattle.word_map.specs.Moves.{op_of};
-ghost use Rattle.call_acts.specs.Kills.{KillingFits, killing_move, is_killing, dead_move};
-ghost use Rattle.call_acts.specs.Acts.{meets_comp, meets_live, meets_number, meets_life, took_killing, drawn_dead};
+ghost use Rattle.act_states.specs.Kills.{KillingFits, killing_move, is_killing, dead_move};
+ghost use Rattle.act_states.specs.Acts.{meets_comp, meets_live, meets_number, meets_life, took_killing, drawn_dead};
 
 use crate::acts::refuse;
 use crate::counts::next_work;
-use crate::refusals::Refusal;
-use crate::work::{Act, Tail, Work, WorkStep};
+use act_states::{Act, Killing, KillingAt, Refusal, Tail, Work, WorkStep};
 use frame_words::{CompWord, LiveWord};
-use spk_nums::{CoreNo, EntryNo, FrameNo, Stamp, Value, WordOp};
+use spk_nums::{CoreNo, EntryNo, Stamp, Value, WordOp};
 use stage_quiet::drawn;
 use word_map::Layout;
 
-/// Where the killing of a component stands.
-#[derive(Clone, Copy, PartialEq, Eq, Debug)]
-pub enum KillingAt {
-    /// Before the load of the component's word.
-    LoadComp,
-    /// Before the load of its number's word.
-    LoadLive { life: CompWord },
-    /// Before the compare that marks the number's word, which was this and says that the component lives.
-    Close { life: CompWord, word: u64 },
-    /// The number's word is marked, and was this. Before the draw of the stamp.
-    Draw { life: CompWord, word: u64 },
-}
-
-/// A component that is killed, between two steps.
-#[derive(Clone, Copy, PartialEq, Eq, Debug)]
-pub struct Killing {
-    /// The component's frame.
-    pub comp: FrameNo,
-    /// The core that kills it.
-    pub core: CoreNo,
-    /// Where this stands.
-    pub at: KillingAt,
-}
-
-impl Killing {
-    /// The next step. What it names is of the layout's machine.
-    #[inline]
-    pub fn next(&self, layout: &Layout) -> WordOp
-        requires { KillingFits layout.now self.now }
-        ensures step { result ≡ op_of layout.now (killing_move self.now) }
-        ensures below { place_in result < size_of layout.now }
-    {
-        match self.at {
-            KillingAt::LoadComp => WordOp::Load {
-                at: layout.entry_at(self.comp, EntryNo::new(2)),
-            },
-            KillingAt::LoadLive { life } => WordOp::Load {
-                at: layout.live_at(life.number),
-            },
-            KillingAt::Close { life, word } => WordOp::Compare {
-                at: layout.live_at(life.number),
-                expected: word,
-                word: closing_word(life.epoch, self.core),
-            },
-            KillingAt::Draw { life: _, word: _ } => WordOp::Add {
-                at: layout.clock_at(),
-                by: 1,
-            },
-        }
+/// The next step. What it names is of the layout's machine.
+#[inline]
+pub(crate) fn killing_op(killing: &Killing, layout: &Layout) -> WordOp
+    requires { KillingFits layout.now killing.now }
+    ensures step { result ≡ op_of layout.now (killing_move killing.now) }
+    ensures below { place_in result < size_of layout.now }
+{
+    match killing.at {
+        KillingAt::LoadComp => WordOp::Load {
+            at: layout.entry_at(killing.comp, EntryNo::new(2)),
+        },
+        KillingAt::LoadLive { life } => WordOp::Load {
+            at: layout.live_at(life.number),
+        },
+        KillingAt::Close { life, word } => WordOp::Compare {
+            at: layout.live_at(life.number),
+            expected: word,
+            word: closing_word(life.epoch, killing.core),
+        },
+        KillingAt::Draw { life: _, word: _ } => WordOp::Add {
+            at: layout.clock_at(),
+            by: 1,
+        },
     }
+}
 
-    /// Takes the word that the step found: a number that another core is closing is `busy`, one that is not live in the component's epoch
-    /// `dead`. A lost compare is `raced`. After the load of the number's word the count of the component's frame is acquired. The draw
-    /// carries the call out, with the clock found as its stamp.
-    #[inline]
-    pub fn take(&self, found: u64) -> WorkStep
-        ensures { result ≡ took_killing self.now found }
-    {
-        match self.at {
-            KillingAt::LoadComp => self.meets_comp(CompWord::unpack(found)),
-            KillingAt::LoadLive { life } => self.meets_live(life, found, LiveWord::unpack(found)),
-            KillingAt::Close { life, word } => {
-                if found == word {
-                    WorkStep::Goes {
-                        work: Work::Act {
-                            act: self.at(KillingAt::Draw { life, word }),
-                        },
-                    }
-                } else {
-                    refuse(Refusal::Raced)
+/// Takes the word that the step found: a number that another core is closing is `busy`, one that is not live in the component's epoch
+/// `dead`. A lost compare is `raced`. After the load of the number's word the count of the component's frame is acquired. The draw
+/// carries the call out, with the clock found as its stamp.
+#[inline]
+pub(crate) fn killing_took(killing: &Killing, found: u64) -> WorkStep
+    ensures { result ≡ took_killing killing.now found }
+{
+    match killing.at {
+        KillingAt::LoadComp => meets_comp(killing, CompWord::unpack(found)),
+        KillingAt::LoadLive { life } => meets_live(killing, life, found, LiveWord::unpack(found)),
+        KillingAt::Close { life, word } => {
+            if found == word {
+                WorkStep::Goes {
+                    work: Work::Act {
+                        act: killing_at(killing, KillingAt::Draw { life, word }),
+                    },
                 }
+            } else {
+                refuse(Refusal::Raced)
             }
-            KillingAt::Draw { life, word: _ } => drawn_dead(life, drawn(found)),
         }
+        KillingAt::Draw { life, word: _ } => drawn_dead(life, drawn(found)),
     }
+}
 
-    /// Whether the next step draws the stamp.
-    #[inline]
-    pub fn is_ready(&self) -> bool
-        ensures { result ≡ is_killing self.now.at }
-    {
-        matches!(self.at, KillingAt::Draw { .. })
+/// Whether the next step draws the stamp.
+#[inline]
+pub(crate) fn killing_ready(killing: &Killing) -> bool
+    ensures { result ≡ is_killing killing.now.at }
+{
+    matches!(killing.at, KillingAt::Draw { .. })
+}
+
+// The killing that stands here.
+#[inline]
+fn killing_at(killing: &Killing, at: KillingAt) -> Act
+    ensures { result ≡ Act.Kill (record killing.now { at = at }) }
+{
+    Act::Kill {
+        killing: Killing { at, ..*killing },
     }
+}
 
-    // The killing that stands here.
-    #[inline]
-    fn at(&self, at: KillingAt) -> Act
-        ensures { result ≡ Act.Kill (record self.now { at = at }) }
-    {
-        Act::Kill {
-            killing: Killing { at, ..*self },
-        }
-    }
-
-    // What the load of the component's word leads to, where it shows this.
-    #[inline]
-    fn meets_comp(&self, shown: Option<CompWord>) -> WorkStep
-        ensures { result ≡ meets_comp self.now shown }
-    {
-        match shown {
-            None => refuse(Refusal::Raced),
-            Some(life) => WorkStep::Goes {
-                work: Work::Act {
-                    act: self.at(KillingAt::LoadLive { life }),
-                },
+// What the load of the component's word leads to, where it shows this.
+#[inline]
+fn meets_comp(killing: &Killing, shown: Option<CompWord>) -> WorkStep
+    ensures { result ≡ meets_comp killing.now shown }
+{
+    match shown {
+        None => refuse(Refusal::Raced),
+        Some(life) => WorkStep::Goes {
+            work: Work::Act {
+                act: killing_at(killing, KillingAt::LoadLive { life }),
             },
-        }
+        },
     }
+}
 
-    // What the load of its number's word leads to, where it shows this.
-    #[inline]
-    fn meets_live(&self, life: CompWord, word: u64, shown: Option<LiveWord>) -> WorkStep
-        ensures { result ≡ meets_live self.now life word shown }
-    {
-        match shown {
-            None => refuse(Refusal::Raced),
-            Some(shown) => self.meets_number(life, word, &shown),
-        }
+// What the load of its number's word leads to, where it shows this.
+#[inline]
+fn meets_live(killing: &Killing, life: CompWord, word: u64, shown: Option<LiveWord>) -> WorkStep
+    ensures { result ≡ meets_live killing.now life word shown }
+{
+    match shown {
+        None => refuse(Refusal::Raced),
+        Some(shown) => meets_number(killing, life, word, &shown),
     }
+}
 
-    #[inline]
-    fn meets_number(&self, life: CompWord, word: u64, shown: &LiveWord) -> WorkStep
-        ensures { result ≡ meets_number self.now life word shown.now }
-    {
-        match shown {
-            LiveWord::Free => refuse(Refusal::Dead),
-            LiveWord::Live { epoch, frame: _ } => {
-                self.meets_life(life, word, *epoch == life.epoch)
-            }
-            LiveWord::Closing { epoch: _, by } => refuse(Refusal::Busy(*by)),
-            LiveWord::Dead { epoch: _, stamp: _ } => refuse(Refusal::Dead),
+#[inline]
+fn meets_number(killing: &Killing, life: CompWord, word: u64, shown: &LiveWord) -> WorkStep
+    ensures { result ≡ meets_number killing.now life word shown.now }
+{
+    match shown {
+        LiveWord::Free => refuse(Refusal::Dead),
+        LiveWord::Live { epoch, frame: _ } => {
+            meets_life(killing, life, word, *epoch == life.epoch)
         }
+        LiveWord::Closing { epoch: _, by } => refuse(Refusal::Busy(*by)),
+        LiveWord::Dead { epoch: _, stamp: _ } => refuse(Refusal::Dead),
     }
+}
 
-    #[inline]
-    fn meets_life(&self, life: CompWord, word: u64, lives: bool) -> WorkStep
-        ensures { result ≡ meets_life self.now life word lives }
-    {
-        if lives {
-            let act = self.at(KillingAt::Close { life, word });
-            WorkStep::Goes {
-                work: next_work(self.core, 0, &act),
-            }
-        } else {
-            refuse(Refusal::Dead)
+#[inline]
+fn meets_life(killing: &Killing, life: CompWord, word: u64, lives: bool) -> WorkStep
+    ensures { result ≡ meets_life killing.now life word lives }
+{
+    if lives {
+        let act = killing_at(killing, KillingAt::Close { life, word });
+        WorkStep::Goes {
+            work: next_work(killing.core, 0, &act),
         }
+    } else {
+        refuse(Refusal::Dead)
     }
 }
 

@@ -1,4 +1,6 @@
-//! What a call does between its look-ups and its decision: its act, the counts that the act changes, and the scan before it.
+//! What a call does between its look-ups and its decision, as code: its act, the counts that the act changes, and the scan before it.
+//!
+//! Each function computes one of `act_states`, where the types and the definitions stand.
 //!
 //! **Work.** An undecided call looks up what its plan names, each name in order and then the target: one program for all calls
 //! (`lookups`). Then its act begins, which is a call's own (`acts`). A step of the work goes on, refuses or answers. A refusal is
@@ -13,8 +15,8 @@
 //!
 //! **Grow.** A link to the leaf is put at a root entry as a copy puts its capability, and the leaf's count is acquired. An entry of a page
 //! table that is quiescing waits for flushes too: after the other cores all flush words are scanned, the own one among them, since a
-//! core may
-//! go on by a translation until it flushes.
+//! core
+//! may go on by a translation until it flushes.
 //!
 //! **Map.** The count of the frame is acquired, and the frame's word is loaded, which says that it is a user frame and that no core has marked
 //! it; then the place is filled with the mapping as a copy fills its target. A place that is quiescing waits for flushes too.
@@ -75,9 +77,9 @@
 //!
 //! **Refusals.** A refusal decides at the first step by which it is known and every earlier cause is judged: of each name in
 //! written order `no-slot`, `empty` and `wrong-cap`, then of the target `no-slot` and `occupied`, then what the act asks:
-//! `out-of-range` of a frame that is not in the range, and `frame-kind` of one that is not untyped, or for an object not blank; `dead` of a component that does
-//! not live, and of the number of one that is made `occupied`, `quiescing` and `epochs-spent`; `running` of a thread that runs. A lost
-//! compare is `raced`.
+//! `out-of-range` of a frame that is not in the range, and `frame-kind` of one that is not untyped, or for an object not blank; `dead` of a
+//! component that does not live, and of the number of one that is made `occupied`, `quiescing` and `epochs-spent`; `running` of a thread
+//! that runs. A lost compare is `raced`.
 //!
 //! **A call more** adds a line to each function of `acts`: where its act begins, which counts it changes, the act's next step, what
 //! it takes, whether that step decides.
@@ -92,36 +94,21 @@ mod fills;
 mod flushes;
 mod invocations;
 mod kills;
-mod laws;
 mod lookups;
 mod makings;
-mod objects;
-mod own;
-mod refusals;
 mod shares;
 mod switches;
 mod ticks;
 mod touches;
 mod typings;
 mod untypings;
-mod work;
 
 pub use acts::{act_op, act_ready, act_took, begin_act, reads_of, refuse, starts, undo};
-pub use comps::{CompAt, CompMaking, LastEpoch};
 pub use counts::next_work;
-pub use fills::Fill;
 pub use flushes::flushed_op;
-pub use invocations::{Invoking, InvokingAt, Returning, ReturningAt};
-pub use kills::{Killing, KillingAt, dead_op};
-pub use laws::refusals_are_replies;
-pub use lookups::{Met, frame_of, met_free, met_held, met_name};
-pub use makings::{Making, MakingAt};
-pub use objects::NewObject;
-pub use own::{Own, OwnChange};
-pub use refusals::Refusal;
+pub use kills::dead_op;
+pub use lookups::{frame_of, met_free, met_held, met_name};
 pub use shares::{shared_more, shared_op};
-pub use switches::{SwitchAt, Switching, idle_op, running_op};
-pub use touches::{Touching, begin_touch};
-pub use typings::{Typing, TypingAt};
-pub use untypings::{Release, Untyping, UntypingAt};
-pub use work::{Act, Due, Tail, Work, WorkStep};
+pub use switches::{idle_op, running_op};
+pub use touches::begin_touch;
+pub use untypings::{release_op, release_took};

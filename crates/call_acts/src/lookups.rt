@@ -7,25 +7,14 @@
 ghost use Rattle.std.specs.Prelude.{◌≡◌, ◌<◌, ◌≤◌, []};
 ghost use Rattle.call_plans.specs.GoesBy.{earlier, wants};
 ghost use Rattle.call_plans.specs.After.{with_found};
-ghost use Rattle.call_acts.specs.Lookups.{met_name, met_free, met_held};
+ghost use Rattle.act_states.specs.Lookups.{met_name, met_free, met_held};
 
 use crate::acts::{begin_act, refuse};
-use crate::own::Own;
-use crate::refusals::Refusal;
-use crate::work::WorkStep;
+use act_states::{Met, Own, Refusal, WorkStep};
 use call_plans::{Caps, Nth, Wanted};
 use entry_words::Entry;
-use spk_nums::{Call, Cap, FrameNo};
+use spk_nums::{Call, FrameNo};
 use stage_look::Found;
-
-/// What a name has led to.
-#[derive(Clone, Copy, PartialEq, Eq, Debug)]
-pub enum Met {
-    /// A capability that is wanted.
-    Finds { cap: Cap },
-    /// A refusal.
-    Refused { refusal: Refusal },
-}
 
 /// The frame to which an earlier name has led, or frame 0.
 #[inline]

@@ -14,187 +14,158 @@ ghost use Rattle.spk_nums.specs.WordSteps.{place_in};
 ghost use Rattle.frame_words.specs.Frame.{word_of_frame, frame_of_word};
 ghost use Rattle.word_map.specs.Places.{size_of};
 ghost use Rattle.word_map.specs.Moves.{op_of};
-ghost use Rattle.call_acts.specs.Makings.{MakingFits, marked, made, making_move, undo_at, is_filling, stored};
-ghost use Rattle.call_acts.specs.Acts.{meets_blank, meets_making, took_making, published};
+ghost use Rattle.act_states.specs.Makings.{MakingFits, marked, made, making_move, undo_at, is_filling, stored};
+ghost use Rattle.act_states.specs.Acts.{meets_blank, meets_making, took_making, published};
 
 use crate::acts::refuse;
 use crate::counts::next_work;
-use crate::fills::Fill;
-use crate::objects::NewObject;
-use crate::refusals::Refusal;
-use crate::work::{Act, Tail, Work, WorkStep};
+use crate::fills::fill_op;
+use act_states::{Act, Fill, Making, MakingAt, NewObject, Refusal, Tail, Work, WorkStep};
 use frame_words::FrameWord;
-use spk_nums::{CoreNo, EntryNo, FrameKind, FrameNo, Obj, Value, WordOp};
+use spk_nums::{CoreNo, EntryNo, FrameKind, Obj, Value, WordOp};
 use word_map::Layout;
 
-/// Where a making stands.
-#[derive(Clone, Copy, PartialEq, Eq, Debug)]
-pub enum MakingAt {
-    /// Before the load of the frame's word.
-    Load,
-    /// Before the compare that marks the frame, with the word found, which says that it is a blank kernel frame and not marked.
-    Mark { word: u64 },
-    /// The frame is marked, and its word was this. Before the store of this word of the object.
-    Store { word: u64, entry: EntryNo },
-    /// The frame is marked, and its word was this. Before the compare of the target.
-    Fill { word: u64 },
-}
-
-/// An object that is made, between two steps.
-#[derive(Clone, Copy, PartialEq, Eq, Debug)]
-pub struct Making {
-    /// The frame.
-    pub frame: FrameNo,
-    /// What is made.
-    pub object: NewObject,
-    /// The core that makes it.
-    pub core: CoreNo,
-    /// The target's place, and the capability that is put there.
-    pub fill: Fill,
-    /// Where this stands.
-    pub at: MakingAt,
-}
-
-impl Making {
-    /// The next step. What it names is of the layout's machine.
-    #[inline]
-    pub fn next(&self, layout: &Layout) -> WordOp
-        requires { MakingFits layout.now self.now }
-        ensures step { result ≡ op_of layout.now (making_move self.now) }
-        ensures below { place_in result < size_of layout.now }
-    {
-        match self.at {
-            MakingAt::Load => WordOp::Load {
-                at: layout.frame_at(self.frame),
-            },
-            MakingAt::Mark { word } => WordOp::Compare {
-                at: layout.frame_at(self.frame),
-                expected: word,
-                word: marked_word(self.core),
-            },
-            MakingAt::Store { word: _, entry } => WordOp::Store {
-                at: layout.entry_at(self.frame, entry),
-                word: self.object.word(entry),
-            },
-            MakingAt::Fill { word: _ } => self.fill.next(layout),
-        }
+/// The next step. What it names is of the layout's machine.
+#[inline]
+pub(crate) fn making_op(making: &Making, layout: &Layout) -> WordOp
+    requires { MakingFits layout.now making.now }
+    ensures step { result ≡ op_of layout.now (making_move making.now) }
+    ensures below { place_in result < size_of layout.now }
+{
+    match making.at {
+        MakingAt::Load => WordOp::Load {
+            at: layout.frame_at(making.frame),
+        },
+        MakingAt::Mark { word } => WordOp::Compare {
+            at: layout.frame_at(making.frame),
+            expected: word,
+            word: marked_word(making.core),
+        },
+        MakingAt::Store { word: _, entry } => WordOp::Store {
+            at: layout.entry_at(making.frame, entry),
+            word: making.object.word(entry),
+        },
+        MakingAt::Fill { word: _ } => fill_op(&making.fill, layout),
     }
+}
 
-    /// Takes the word that the step found: a frame that another core has marked is `busy`, one that is no blank kernel frame
-    /// `frame-kind`. A lost compare is `raced`. After the mark the object's counts are acquired.
-    #[inline]
-    pub fn take(&self, found: u64) -> WorkStep
-        ensures { result ≡ took_making self.now found }
-    {
-        match self.at {
-            MakingAt::Load => self.meets(found, FrameWord::unpack(found)),
-            MakingAt::Mark { word } => {
-                if found == word {
-                    let act = self.at(MakingAt::Store {
+/// Takes the word that the step found: a frame that another core has marked is `busy`, one that is no blank kernel frame
+/// `frame-kind`. A lost compare is `raced`. After the mark the object's counts are acquired.
+#[inline]
+pub(crate) fn making_took(making: &Making, found: u64) -> WorkStep
+    ensures { result ≡ took_making making.now found }
+{
+    match making.at {
+        MakingAt::Load => meets(making, found, FrameWord::unpack(found)),
+        MakingAt::Mark { word } => {
+            if found == word {
+                let act = making_at(
+                    making,
+                    MakingAt::Store {
                         word,
                         entry: EntryNo::new(0),
-                    });
-                    WorkStep::Goes {
-                        work: next_work(self.core, 0, &act),
-                    }
-                } else {
-                    refuse(Refusal::Raced)
+                    },
+                );
+                WorkStep::Goes {
+                    work: next_work(making.core, 0, &act),
                 }
+            } else {
+                refuse(Refusal::Raced)
             }
-            MakingAt::Store { word, entry } => WorkStep::Goes {
-                work: Work::Act {
-                    act: self.at(stored(self.object, word, entry)),
-                },
-            },
-            MakingAt::Fill { word } => self.published(word, found == self.fill.word),
         }
+        MakingAt::Store { word, entry } => WorkStep::Goes {
+            work: Work::Act {
+                act: making_at(making, stored(making.object, word, entry)),
+            },
+        },
+        MakingAt::Fill { word } => published(making, word, found == making.fill.word),
     }
+}
 
-    /// Whether the next step is the compare of the target.
-    #[inline]
-    pub fn is_ready(&self) -> bool
-        ensures { result ≡ is_filling self.now.at }
-    {
-        matches!(self.at, MakingAt::Fill { .. })
+/// Whether the next step is the compare of the target.
+#[inline]
+pub(crate) fn making_ready(making: &Making) -> bool
+    ensures { result ≡ is_filling making.now.at }
+{
+    matches!(making.at, MakingAt::Fill { .. })
+}
+
+/// What a refused call has still to store: the frame's word as it was found, where the frame is marked.
+#[inline]
+pub(crate) fn making_undo(making: &Making) -> Tail
+    ensures { result ≡ undo_at making.now.frame making.now.at }
+{
+    match making.at {
+        MakingAt::Load => Tail::Nothing,
+        MakingAt::Mark { word: _ } => Tail::Nothing,
+        MakingAt::Store { word, entry: _ } => Tail::Unmark {
+            frame: making.frame,
+            word,
+        },
+        MakingAt::Fill { word } => Tail::Unmark {
+            frame: making.frame,
+            word,
+        },
     }
+}
 
-    /// What a refused call has still to store: the frame's word as it was found, where the frame is marked.
-    #[inline]
-    pub fn undo(&self) -> Tail
-        ensures { result ≡ undo_at self.now.frame self.now.at }
-    {
-        match self.at {
-            MakingAt::Load => Tail::Nothing,
-            MakingAt::Mark { word: _ } => Tail::Nothing,
-            MakingAt::Store { word, entry: _ } => Tail::Unmark {
-                frame: self.frame,
+// The making that stands here.
+#[inline]
+fn making_at(making: &Making, at: MakingAt) -> Act
+    ensures { result ≡ Act.Make (record making.now { at = at }) }
+{
+    Act::Make {
+        making: Making { at, ..*making },
+    }
+}
+
+// What the load leads to, where the word shows this.
+#[inline]
+fn meets(making: &Making, word: u64, shown: Option<FrameWord>) -> WorkStep
+    ensures { result ≡ meets_making making.now word shown }
+{
+    match shown {
+        None => refuse(Refusal::Raced),
+        Some(shown) => meets_frame(making, word, &shown),
+    }
+}
+
+#[inline]
+fn meets_frame(making: &Making, word: u64, shown: &FrameWord) -> WorkStep
+    ensures { result ≡ meets_blank making.now word shown.now.kind shown.now.object shown.now.mark }
+{
+    match (shown.mark, shown.kind, shown.object) {
+        (Some(by), _, _) => refuse(Refusal::Busy(by)),
+        (None, FrameKind::Kernel, Obj::Blank) => WorkStep::Goes {
+            work: Work::Act {
+                act: making_at(making, MakingAt::Mark { word }),
+            },
+        },
+        _ => refuse(Refusal::FrameKind),
+    }
+}
+
+// What the compare of the target leads to.
+#[inline]
+fn published(making: &Making, word: u64, equal: bool) -> WorkStep
+    ensures { result ≡ published making.now word equal }
+{
+    if equal {
+        WorkStep::Answers {
+            value: Value::Nothing,
+            drawn: None,
+            tail: Tail::Unmark {
+                frame: making.frame,
+                word: made_word(making.object),
+            },
+        }
+    } else {
+        WorkStep::Refuses {
+            refusal: Refusal::Raced,
+            tail: Tail::Unmark {
+                frame: making.frame,
                 word,
             },
-            MakingAt::Fill { word } => Tail::Unmark {
-                frame: self.frame,
-                word,
-            },
-        }
-    }
-
-    // The making that stands here.
-    #[inline]
-    fn at(&self, at: MakingAt) -> Act
-        ensures { result ≡ Act.Make (record self.now { at = at }) }
-    {
-        Act::Make {
-            making: Making { at, ..*self },
-        }
-    }
-
-    // What the load leads to, where the word shows this.
-    #[inline]
-    fn meets(&self, word: u64, shown: Option<FrameWord>) -> WorkStep
-        ensures { result ≡ meets_making self.now word shown }
-    {
-        match shown {
-            None => refuse(Refusal::Raced),
-            Some(shown) => self.meets_frame(word, &shown),
-        }
-    }
-
-    #[inline]
-    fn meets_frame(&self, word: u64, shown: &FrameWord) -> WorkStep
-        ensures { result ≡ meets_blank self.now word shown.now.kind shown.now.object shown.now.mark }
-    {
-        match (shown.mark, shown.kind, shown.object) {
-            (Some(by), _, _) => refuse(Refusal::Busy(by)),
-            (None, FrameKind::Kernel, Obj::Blank) => WorkStep::Goes {
-                work: Work::Act {
-                    act: self.at(MakingAt::Mark { word }),
-                },
-            },
-            _ => refuse(Refusal::FrameKind),
-        }
-    }
-
-    // What the compare of the target leads to.
-    #[inline]
-    fn published(&self, word: u64, equal: bool) -> WorkStep
-        ensures { result ≡ published self.now word equal }
-    {
-        if equal {
-            WorkStep::Answers {
-                value: Value::Nothing,
-                drawn: None,
-                tail: Tail::Unmark {
-                    frame: self.frame,
-                    word: made_word(self.object),
-                },
-            }
-        } else {
-            WorkStep::Refuses {
-                refusal: Refusal::Raced,
-                tail: Tail::Unmark {
-                    frame: self.frame,
-                    word,
-                },
-            }
         }
     }
 }

@@ -13,11 +13,10 @@ ghost use Rattle.spk_nums.specs.WordSteps.{place_in};
 ghost use Rattle.word_map.specs.Places.{size_of};
 ghost use Rattle.word_map.specs.Moves.{op_of};
 ghost use Rattle.stage_tcap.specs.Pairs.{PairFits, pair_move};
-ghost use Rattle.call_acts.specs.Shares.{shared, took_shared, took_share, is_carried, is_sharing, stores_more, after_share, SharedFits, shares_if, shares_at};
+ghost use Rattle.act_states.specs.Shares.{shared, took_shared, took_share, is_carried, is_sharing, stores_more, after_share, SharedFits, shares_if, shares_at};
 
 use crate::acts::refuse;
-use crate::refusals::Refusal;
-use crate::work::{Act, Tail, Work, WorkStep};
+use act_states::{Act, Refusal, Tail, Work, WorkStep};
 use spk_nums::{Cap, CoreNo, FrameNo, Reply, StageEnd, Value, WordOp};
 use stage_tcap::{Pair, PairAt, PairWork};
 use word_map::Layout;

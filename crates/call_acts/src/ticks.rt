@@ -10,10 +10,9 @@ ghost use Rattle.spk_nums.specs.WordSteps.{place_in};
 ghost use Rattle.word_map.specs.Places.{size_of};
 ghost use Rattle.word_map.specs.Moves.{op_of};
 ghost use Rattle.stage_tcap.specs.Charging.{ChargeFits, charge_move, charge_end, charge_after};
-ghost use Rattle.call_acts.specs.Ticks.{ticks_of, charged_in, owes, took_charge, took_tick, charges, is_charging};
+ghost use Rattle.act_states.specs.Ticks.{ticks_of, charged_in, owes, took_charge, took_tick, charges, is_charging};
 
-use crate::own::{Own, OwnChange};
-use crate::work::{Act, Tail, Work, WorkStep};
+use act_states::{Act, Own, OwnChange, Tail, Work, WorkStep};
 use spk_nums::{Reply, StageEnd, Value, WordOp};
 use stage_tcap::Charge;
 use word_map::Layout;

@@ -12,13 +12,11 @@ ghost use Rattle.word_map.specs.Places.{size_of};
 ghost use Rattle.word_map.specs.Moves.{op_of};
 ghost use Rattle.stage_look.specs.Lookup.{look_move};
 ghost use Rattle.kernel_rules.specs.MemoryCalls.{translation_of, translated};
-ghost use Rattle.call_acts.specs.Touches.{TouchFits, fault_of, mapping_of, meets_page, touch_end, took_touch, is_at_page, is_answering, touches};
-ghost use Rattle.call_acts.specs.declared.work.WorkStep.TheVariants.{Answers};
+ghost use Rattle.act_states.specs.Touches.{TouchFits, fault_of, mapping_of, meets_page, touch_end, took_touch, is_at_page, is_answering, touches};
+ghost use Rattle.act_states.specs.declared.work.WorkStep.TheVariants.{Answers};
 
 use crate::acts::refuse;
-use crate::own::{Own, OwnChange};
-use crate::refusals::Refusal;
-use crate::work::{Act, Tail, Work, WorkStep};
+use act_states::{Act, Own, OwnChange, Refusal, Tail, Touching, Work, WorkStep};
 use entry_words::Entry;
 use spk_nums::{
     Cap, CapId, FrameNo, PageFlags, PageNo, Reply, StageEnd, Translation, Translations, Value,
@@ -27,109 +25,92 @@ use spk_nums::{
 use stage_look::{Found, Look};
 use word_map::Layout;
 
-/// A page that is touched, between two steps.
-#[derive(Clone, Copy, PartialEq, Eq, Debug)]
-pub struct Touching {
-    /// The look-up of its entry.
-    pub look: Look,
-    /// The root of the core's pages.
-    pub pages: FrameNo,
-    /// The page.
-    pub page: PageNo,
-    /// The frames of the machine.
-    pub frames: u16,
-    /// The translation of the page that the core has cached.
-    pub cached: Option<Translation>,
+/// The next load. Its frame is below the layout's.
+#[inline]
+pub(crate) fn touch_op(touching: &Touching, layout: &Layout) -> WordOp
+    requires { TouchFits layout.now touching.now }
+    ensures step { result ≡ op_of layout.now (look_move touching.now.look) }
+    ensures below { place_in result < size_of layout.now }
+{
+    touching.look.next(layout)
 }
 
-impl Touching {
-    /// The next load. Its frame is below the layout's.
-    #[inline]
-    pub(crate) fn next(&self, layout: &Layout) -> WordOp
-        requires { TouchFits layout.now self.now }
-        ensures step { result ≡ op_of layout.now (look_move self.now.look) }
-        ensures below { place_in result < size_of layout.now }
-    {
-        self.look.next(layout)
-    }
-
-    /// Takes the word that the load found: no link at the root entry, and nothing at the page's, is `fault`, and an entry that another
-    /// core has closed `busy`. The frames are the layout's.
-    #[inline]
-    pub(crate) fn take(&self, layout: &Layout, found: u64) -> WorkStep
-        requires { TouchFits layout.now self.now }
-        ensures { result ≡ took_touch self.now found }
-    {
-        match &self.cached {
-            Some(item) => answers(item),
-            None => {
-                let mut look = self.look;
-                let end = look.take(layout, found);
-                self.met(look, &end)
-            }
+/// Takes the word that the load found: no link at the root entry, and nothing at the page's, is `fault`, and an entry that another
+/// core has closed `busy`. The frames are the layout's.
+#[inline]
+pub(crate) fn touch_took(touching: &Touching, layout: &Layout, found: u64) -> WorkStep
+    requires { TouchFits layout.now touching.now }
+    ensures { result ≡ took_touch touching.now found }
+{
+    match &touching.cached {
+        Some(item) => answers(item),
+        None => {
+            let mut look = touching.look;
+            let end = look.take(layout, found);
+            touch_met(touching, look, &end)
         }
     }
+}
 
-    // What is taken from a step of the look-up, which stands here after it.
-    #[inline]
-    fn met(&self, look: Look, end: &StageEnd<Found>) -> WorkStep
-        ensures { result ≡ touch_end self.now look end.now }
-    {
-        match end {
-            StageEnd::Going => WorkStep::Goes {
-                work: Work::Act {
-                    act: Act::Touch {
-                        touching: Touching { look, ..*self },
-                    },
+// What is taken from a step of the look-up, which stands here after it.
+#[inline]
+fn touch_met(touching: &Touching, look: Look, end: &StageEnd<Found>) -> WorkStep
+    ensures { result ≡ touch_end touching.now look end.now }
+{
+    match end {
+        StageEnd::Going => WorkStep::Goes {
+            work: Work::Act {
+                act: Act::Touch {
+                    touching: Touching { look, ..*touching },
                 },
             },
-            StageEnd::Decided(reply) => refuse(fault_of(reply)),
-            StageEnd::Done(found) => self.meets(&found.value),
-            StageEnd::Refuse(reply) => refuse(fault_of(reply)),
-        }
+        },
+        StageEnd::Decided(reply) => refuse(fault_of(reply)),
+        StageEnd::Done(found) => meets_page(touching, &found.value),
+        StageEnd::Refuse(reply) => refuse(fault_of(reply)),
     }
+}
 
-    // What is taken from the page's entry.
-    #[inline]
-    fn meets(&self, entry: &Entry) -> WorkStep
-        ensures { result ≡ meets_page self.now entry.now }
-    {
-        match entry {
-            Entry::Free => refuse(Refusal::Fault),
-            Entry::Held(cap) => {
-                let item = self.mapping_of(cap);
-                WorkStep::Changes {
-                    reply: Reply::Ok(translated(&item)),
-                    change: OwnChange::Caches { item },
-                    drawn: None,
-                    tail: Tail::Nothing,
-                }
+// What is taken from the page's entry.
+#[inline]
+fn meets_page(touching: &Touching, entry: &Entry) -> WorkStep
+    ensures { result ≡ meets_page touching.now entry.now }
+{
+    match entry {
+        Entry::Free => refuse(Refusal::Fault),
+        Entry::Held(cap) => {
+            let item = mapping_of(touching, cap);
+            WorkStep::Changes {
+                reply: Reply::Ok(translated(&item)),
+                change: OwnChange::Caches { item },
+                drawn: None,
+                tail: Tail::Nothing,
             }
-            Entry::Closing { by: _ } => refuse(Refusal::Raced),
-            Entry::Quiescing { stamp: _ } => refuse(Refusal::Fault),
         }
+        Entry::Closing { by: _ } => refuse(Refusal::Raced),
+        Entry::Quiescing { stamp: _ } => refuse(Refusal::Fault),
     }
+}
 
-    // The translation that a mapping tells.
-    #[inline]
-    fn mapping_of(&self, cap: &Cap) -> Translation
-        ensures { result ≡ mapping_of self.now cap.now }
-    {
-        Translation {
-            pages: self.pages,
-            page: self.page,
-            frame: cap.frame(),
-            flags: PageFlags::of_bits((cap.arg() % 4) as u8),
-        }
+// The translation that a mapping tells.
+#[inline]
+fn mapping_of(touching: &Touching, cap: &Cap) -> Translation
+    ensures { result ≡ mapping_of touching.now cap.now }
+{
+    Translation {
+        pages: touching.pages,
+        page: touching.page,
+        frame: cap.frame(),
+        flags: PageFlags::of_bits((cap.arg() % 4) as u8),
     }
+}
 
-    /// Whether the next load is the one that decides `ok`.
-    #[inline]
-    pub(crate) fn is_ready(&self) -> bool
-        ensures { result ≡ is_answering self.now }
-    {
-        self.cached.is_some() || is_at_page(&self.look)
-    }
+/// Whether the next load is the one that decides `ok`.
+#[inline]
+pub(crate) fn touch_ready(touching: &Touching) -> bool
+    ensures { result ≡ is_answering touching.now }
+{
+    touching.cached.is_some() || is_at_page(&touching.look)
 }
 
 // Whether the next load is that of the page's entry.
@@ -231,4 +212,4 @@ fn translation_of(cached: &Translations, pages: FrameNo, page: PageNo) -> Option
 }
 
 ghost use Rattle.std.specs.Prelude.{None};
-ghost use Rattle.call_acts.specs.declared.work.Tail.TheVariants.{Nothing};
+ghost use Rattle.act_states.specs.declared.work.Tail.TheVariants.{Nothing};

@@ -19,293 +19,262 @@ ghost use Rattle.spk_nums.specs.WordSteps.{place_in};
 ghost use Rattle.frame_words.specs.Frame.{FrameFits, word_of_frame, frame_of_word};
 ghost use Rattle.word_map.specs.Places.{size_of};
 ghost use Rattle.word_map.specs.Moves.{op_of};
-ghost use Rattle.call_acts.specs.Typings.{typed};
-ghost use Rattle.call_acts.specs.Untypings.{UntypingFits, ReleaseFits, held_by, untyping_move, untyping_undo, is_drawing, release_of, release_move, release_after, thaw_left_by};
-ghost use Rattle.call_acts.specs.Acts.{meets_untyped, meets_untyping, sweeps_if, took_sweep, drawn_untyped, took_untyping};
+ghost use Rattle.act_states.specs.Typings.{typed};
+ghost use Rattle.act_states.specs.Untypings.{UntypingFits, ReleaseFits, held_by, untyping_move, untyping_undo, is_drawing, release_of, release_move, release_after, thaw_left_by};
+ghost use Rattle.act_states.specs.Acts.{meets_untyped, meets_untyping, sweeps_if, took_sweep, drawn_untyped, took_untyping};
 ghost use Rattle.spk_nums.specs.declared.kinds.FrameKind.TheVariants.{Untyped};
 ghost use Rattle.stage_sweep.specs.Freeze.{swept_of};
-ghost use Rattle.call_acts.specs.declared.work.WorkStep.TheVariants.{Refuses};
+ghost use Rattle.act_states.specs.declared.work.WorkStep.TheVariants.{Refuses};
 
 use crate::acts::refuse;
 use crate::counts::next_work;
-use crate::refusals::Refusal;
-use crate::work::{Act, Tail, Work, WorkStep};
+use act_states::{Act, Refusal, Release, Tail, Untyping, UntypingAt, Work, WorkStep};
 use frame_words::FrameWord;
 use spk_nums::{CoreNo, FrameKind, FrameNo, Obj, StageEnd, Stamp, Value, WordOp};
 use stage_quiet::drawn;
 use stage_sweep::{Sweep, Swept, Thaw};
 use word_map::Layout;
 
-/// Where the untyping of a frame stands.
-#[derive(Clone, Copy, PartialEq, Eq, Debug)]
-pub enum UntypingAt {
-    /// Before the load of the frame's word.
-    Load,
-    /// Before the compare that marks the frame, with the word found, which says that the frame is this, and not marked.
-    Mark { word: u64, shown: FrameWord },
-    /// The frame is marked, and its word was this. In the sweep of its counters and of its object.
-    Sweep { word: u64, sweep: Sweep },
-    /// The frame is marked, and its word was this; its counters are frozen, and its object is empty. Before the draw of the stamp.
-    Draw { word: u64, swept: Swept },
+/// The next step. What it names is of the layout's machine.
+#[inline]
+pub(crate) fn untyping_op(untyping: &Untyping, layout: &Layout) -> WordOp
+    requires { UntypingFits layout.now untyping.now }
+    ensures step { result ≡ op_of layout.now (untyping_move untyping.now) }
+    ensures below { place_in result < size_of layout.now }
+{
+    match &untyping.at {
+        UntypingAt::Load => WordOp::Load {
+            at: layout.frame_at(untyping.frame),
+        },
+        UntypingAt::Mark { word, shown } => WordOp::Compare {
+            at: layout.frame_at(untyping.frame),
+            expected: *word,
+            word: held_word(untyping.core, shown.kind, shown.object),
+        },
+        UntypingAt::Sweep { word: _, sweep } => sweep.next(layout),
+        UntypingAt::Draw { word: _, swept: _ } => WordOp::Add {
+            at: layout.clock_at(),
+            by: 1,
+        },
+    }
 }
 
-/// A frame that is made untyped, between two steps.
-#[derive(Clone, Copy, PartialEq, Eq, Debug)]
-pub struct Untyping {
-    /// The frame.
-    pub frame: FrameNo,
-    /// The core that makes it untyped.
-    pub core: CoreNo,
-    /// Where this stands.
-    pub at: UntypingAt,
+/// Takes the word that the step found: a frame that another core has marked is `busy`, one that is untyped already `frame-kind`.
+/// A lost compare is `raced`. What the sweep refuses the call refuses: `busy` a counter that a core holds, `referenced` by how many
+/// references stand, `quiescing` and `unflushed` where the frame may still be used, `not-empty` where its object holds something.
+/// After the sweep the counts of the object's own references are acquired. The draw carries the call out, with the clock found as its
+/// stamp.
+#[inline]
+pub(crate) fn untyping_took(untyping: &Untyping, layout: &Layout, found: u64) -> WorkStep
+    requires { UntypingFits layout.now untyping.now }
+    ensures { result ≡ took_untyping layout.now untyping.now found }
+{
+    match &untyping.at {
+        UntypingAt::Load => meets(untyping, found, FrameWord::unpack(found)),
+        UntypingAt::Mark { word, shown } => marks(untyping, *word, *shown, found == *word),
+        UntypingAt::Sweep { word, sweep } => {
+            let mut sweep = *sweep;
+            let end = sweep.take(layout, found);
+            sweeps(untyping, *word, &sweep, &end)
+        }
+        UntypingAt::Draw { word: _, swept } => draws(untyping, swept, drawn(found)),
+    }
 }
 
-/// What a call that has marked a frame and frozen its counters has still to store: each counter, and then the frame's word.
-#[derive(Clone, Copy, PartialEq, Eq, Debug)]
-pub struct Release {
-    /// The frame.
-    pub frame: FrameNo,
-    /// Its word, with no mark.
-    pub word: u64,
-    /// The release of the counters that are still frozen, if there are such.
-    pub thaw: Option<Thaw>,
+/// Whether the next step draws the stamp.
+#[inline]
+pub(crate) fn untyping_ready(untyping: &Untyping) -> bool
+    ensures { result ≡ is_drawing untyping.now.at }
+{
+    matches!(untyping.at, UntypingAt::Draw { .. })
 }
 
-impl Untyping {
-    /// The next step. What it names is of the layout's machine.
-    #[inline]
-    pub fn next(&self, layout: &Layout) -> WordOp
-        requires { UntypingFits layout.now self.now }
-        ensures step { result ≡ op_of layout.now (untyping_move self.now) }
-        ensures below { place_in result < size_of layout.now }
-    {
-        match &self.at {
-            UntypingAt::Load => WordOp::Load {
-                at: layout.frame_at(self.frame),
-            },
-            UntypingAt::Mark { word, shown } => WordOp::Compare {
-                at: layout.frame_at(self.frame),
-                expected: *word,
-                word: held_word(self.core, shown.kind, shown.object),
-            },
-            UntypingAt::Sweep { word: _, sweep } => sweep.next(layout),
-            UntypingAt::Draw { word: _, swept: _ } => WordOp::Add {
-                at: layout.clock_at(),
-                by: 1,
-            },
-        }
+/// What a refused call has still to store: the frozen counters and the frame's word as they were found, where the frame is marked.
+#[inline]
+pub(crate) fn untyping_undo(untyping: &Untyping) -> Tail
+    ensures { result ≡ untyping_undo untyping.now.frame untyping.now.at }
+{
+    match &untyping.at {
+        UntypingAt::Load => Tail::Nothing,
+        UntypingAt::Mark { word: _, shown: _ } => Tail::Nothing,
+        UntypingAt::Sweep { word, sweep } => Tail::Release {
+            release: release_of(untyping.frame, *word, &sweep.kept(), false),
+        },
+        UntypingAt::Draw { word, swept } => Tail::Release {
+            release: release_of(untyping.frame, *word, swept, false),
+        },
     }
+}
 
-    /// Takes the word that the step found: a frame that another core has marked is `busy`, one that is untyped already `frame-kind`.
-    /// A lost compare is `raced`. What the sweep refuses the call refuses: `busy` a counter that a core holds, `referenced` by how many
-    /// references stand, `quiescing` and `unflushed` where the frame may still be used, `not-empty` where its object holds something.
-    /// After the sweep the counts of the object's own references are acquired. The draw carries the call out, with the clock found as its
-    /// stamp.
-    #[inline]
-    pub fn take(&self, layout: &Layout, found: u64) -> WorkStep
-        requires { UntypingFits layout.now self.now }
-        ensures { result ≡ took_untyping layout.now self.now found }
-    {
-        match &self.at {
-            UntypingAt::Load => self.meets(found, FrameWord::unpack(found)),
-            UntypingAt::Mark { word, shown } => self.marks(*word, *shown, found == *word),
-            UntypingAt::Sweep { word, sweep } => {
-                let mut sweep = *sweep;
-                let end = sweep.take(layout, found);
-                self.sweeps(*word, &sweep, &end)
-            }
-            UntypingAt::Draw { word: _, swept } => self.draws(swept, drawn(found)),
-        }
+// The untyping that stands here.
+#[inline]
+fn untyping_at(untyping: &Untyping, at: &UntypingAt) -> Act
+    ensures { result ≡ Act.Untype (record untyping.now { at = at.now }) }
+{
+    Act::Untype {
+        untyping: Untyping {
+            frame: untyping.frame,
+            core: untyping.core,
+            at: *at,
+        },
     }
+}
 
-    /// Whether the next step draws the stamp.
-    #[inline]
-    pub fn is_ready(&self) -> bool
-        ensures { result ≡ is_drawing self.now.at }
-    {
-        matches!(self.at, UntypingAt::Draw { .. })
+// What the load leads to, where the word shows this.
+#[inline]
+fn meets(untyping: &Untyping, word: u64, shown: Option<FrameWord>) -> WorkStep
+    ensures { result ≡ meets_untyping untyping.now word shown }
+{
+    match shown {
+        None => refuse(Refusal::Raced),
+        Some(shown) => meets_frame(untyping, word, &shown),
     }
+}
 
-    /// What a refused call has still to store: the frozen counters and the frame's word as they were found, where the frame is marked.
-    #[inline]
-    pub fn undo(&self) -> Tail
-        ensures { result ≡ untyping_undo self.now.frame self.now.at }
-    {
-        match &self.at {
-            UntypingAt::Load => Tail::Nothing,
-            UntypingAt::Mark { word: _, shown: _ } => Tail::Nothing,
-            UntypingAt::Sweep { word, sweep } => Tail::Release {
-                release: Release::of(self.frame, *word, &sweep.kept(), false),
-            },
-            UntypingAt::Draw { word, swept } => Tail::Release {
-                release: Release::of(self.frame, *word, swept, false),
-            },
-        }
-    }
-
-    // The untyping that stands here.
-    #[inline]
-    fn at(&self, at: &UntypingAt) -> Act
-        ensures { result ≡ Act.Untype (record self.now { at = at.now }) }
-    {
-        Act::Untype {
-            untyping: Untyping {
-                frame: self.frame,
-                core: self.core,
-                at: *at,
-            },
-        }
-    }
-
-    // What the load leads to, where the word shows this.
-    #[inline]
-    fn meets(&self, word: u64, shown: Option<FrameWord>) -> WorkStep
-        ensures { result ≡ meets_untyping self.now word shown }
-    {
-        match shown {
-            None => refuse(Refusal::Raced),
-            Some(shown) => self.meets_frame(word, &shown),
-        }
-    }
-
-    #[inline]
-    fn meets_frame(&self, word: u64, shown: &FrameWord) -> WorkStep
-        ensures { result ≡ meets_untyped self.now word shown.now shown.now.kind shown.now.mark }
-    {
-        match (shown.mark, shown.kind) {
-            (Some(by), _) => refuse(Refusal::Busy(by)),
-            (None, FrameKind::Untyped) => refuse(Refusal::FrameKind),
-            (None, _) => WorkStep::Goes {
-                work: Work::Act {
-                    act: self.at(&UntypingAt::Mark {
+#[inline]
+fn meets_frame(untyping: &Untyping, word: u64, shown: &FrameWord) -> WorkStep
+    ensures { result ≡ meets_untyped untyping.now word shown.now shown.now.kind shown.now.mark }
+{
+    match (shown.mark, shown.kind) {
+        (Some(by), _) => refuse(Refusal::Busy(by)),
+        (None, FrameKind::Untyped) => refuse(Refusal::FrameKind),
+        (None, _) => WorkStep::Goes {
+            work: Work::Act {
+                act: untyping_at(
+                    untyping,
+                    &UntypingAt::Mark {
                         word,
                         shown: *shown,
-                    }),
-                },
+                    },
+                ),
             },
-        }
-    }
-
-    // What the compare that marks the frame leads to: its sweep begins.
-    #[inline]
-    fn marks(&self, word: u64, shown: FrameWord, equal: bool) -> WorkStep
-        ensures { result ≡ sweeps_if self.now word shown equal }
-    {
-        if equal {
-            let sweep = Sweep::new(self.frame, shown, self.core);
-            WorkStep::Goes {
-                work: Work::Act {
-                    act: self.at(&UntypingAt::Sweep { word, sweep }),
-                },
-            }
-        } else {
-            refuse(Refusal::Raced)
-        }
-    }
-
-    // What a step of the sweep leads to, which stands here after it.
-    #[inline]
-    fn sweeps(&self, word: u64, sweep: &Sweep, end: &StageEnd<Swept>) -> WorkStep
-        ensures { result ≡ took_sweep self.now word sweep.now end.now }
-    {
-        match end {
-            StageEnd::Going => WorkStep::Goes {
-                work: Work::Act {
-                    act: self.at(&UntypingAt::Sweep {
-                        word,
-                        sweep: *sweep,
-                    }),
-                },
-            },
-            StageEnd::Decided(reply) => self.gives_back(Refusal::of(reply), word, sweep),
-            StageEnd::Done(swept) => {
-                let act = self.at(&UntypingAt::Draw {
-                    word,
-                    swept: *swept,
-                });
-                WorkStep::Goes {
-                    work: next_work(self.core, 0, &act),
-                }
-            }
-            StageEnd::Refuse(reply) => self.gives_back(Refusal::of(reply), word, sweep),
-        }
-    }
-
-    // A call whose sweep is refused stores what the sweep has frozen, and the frame's word, as they were found.
-    #[inline]
-    fn gives_back(&self, refusal: Refusal, word: u64, sweep: &Sweep) -> WorkStep
-        ensures { result ≡ Refuses refusal (Tail.Release (release_of self.now.frame word (swept_of sweep.now) false)) }
-    {
-        WorkStep::Refuses {
-            refusal,
-            tail: Tail::Release {
-                release: Release::of(self.frame, word, &sweep.kept(), false),
-            },
-        }
-    }
-
-    // The call is carried out with this stamp: the counters are to be cleared, and the frame to be untyped.
-    #[inline]
-    fn draws(&self, swept: &Swept, stamp: Stamp) -> WorkStep
-        ensures { result ≡ drawn_untyped self.now.frame swept.now stamp }
-    {
-        WorkStep::Answers {
-            value: Value::Nothing,
-            drawn: Some(stamp),
-            tail: Tail::Release {
-                release: Release::of(self.frame, untyped_word(), swept, true),
-            },
-        }
+        },
     }
 }
 
-impl Release {
-    // The release of what a sweep has frozen, cleared or as it was found, and of the frame with this word.
-    #[inline]
-    fn of(frame: FrameNo, word: u64, swept: &Swept, clear: bool) -> Release
-        ensures { result ≡ release_of frame word swept.now clear }
-    {
-        Release {
-            frame,
-            word,
-            thaw: Thaw::new(swept, clear),
-        }
-    }
-
-    /// The next step, a store. What it names is of the layout's machine.
-    #[inline]
-    pub fn next(&self, layout: &Layout) -> WordOp
-        requires { ReleaseFits layout.now self.now }
-        ensures step { result ≡ op_of layout.now (release_move self.now) }
-        ensures below { place_in result < size_of layout.now }
-    {
-        match &self.thaw {
-            None => WordOp::Store {
-                at: layout.frame_at(self.frame),
-                word: self.word,
+// What the compare that marks the frame leads to: its sweep begins.
+#[inline]
+fn marks(untyping: &Untyping, word: u64, shown: FrameWord, equal: bool) -> WorkStep
+    ensures { result ≡ sweeps_if untyping.now word shown equal }
+{
+    if equal {
+        let sweep = Sweep::new(untyping.frame, shown, untyping.core);
+        WorkStep::Goes {
+            work: Work::Act {
+                act: untyping_at(untyping, &UntypingAt::Sweep { word, sweep }),
             },
-            Some(thaw) => thaw.next(layout),
         }
+    } else {
+        refuse(Refusal::Raced)
     }
+}
 
-    /// What is still to be stored after that step: after the frame's word nothing.
-    #[inline]
-    pub fn take(&self, layout: &Layout, found: u64) -> Tail
-        requires { ReleaseFits layout.now self.now }
-        ensures { result ≡ release_after self.now }
-    {
-        match &self.thaw {
-            None => Tail::Nothing,
-            Some(thaw) => {
-                let mut thaw = *thaw;
-                let end = thaw.take(layout, found);
-                Tail::Release {
-                    release: Release {
-                        frame: self.frame,
-                        word: self.word,
-                        thaw: thaw_left_by(&thaw, &end),
+// What a step of the sweep leads to, which stands here after it.
+#[inline]
+fn sweeps(untyping: &Untyping, word: u64, sweep: &Sweep, end: &StageEnd<Swept>) -> WorkStep
+    ensures { result ≡ took_sweep untyping.now word sweep.now end.now }
+{
+    match end {
+        StageEnd::Going => WorkStep::Goes {
+            work: Work::Act {
+                act: untyping_at(
+                    untyping,
+                    &UntypingAt::Sweep {
+                        word,
+                        sweep: *sweep,
                     },
-                }
+                ),
+            },
+        },
+        StageEnd::Decided(reply) => gives_back(untyping, Refusal::of(reply), word, sweep),
+        StageEnd::Done(swept) => {
+            let act = untyping_at(
+                untyping,
+                &UntypingAt::Draw {
+                    word,
+                    swept: *swept,
+                },
+            );
+            WorkStep::Goes {
+                work: next_work(untyping.core, 0, &act),
+            }
+        }
+        StageEnd::Refuse(reply) => gives_back(untyping, Refusal::of(reply), word, sweep),
+    }
+}
+
+// A call whose sweep is refused stores what the sweep has frozen, and the frame's word, as they were found.
+#[inline]
+fn gives_back(untyping: &Untyping, refusal: Refusal, word: u64, sweep: &Sweep) -> WorkStep
+    ensures { result ≡ Refuses refusal (Tail.Release (release_of untyping.now.frame word (swept_of sweep.now) false)) }
+{
+    WorkStep::Refuses {
+        refusal,
+        tail: Tail::Release {
+            release: release_of(untyping.frame, word, &sweep.kept(), false),
+        },
+    }
+}
+
+// The call is carried out with this stamp: the counters are to be cleared, and the frame to be untyped.
+#[inline]
+fn draws(untyping: &Untyping, swept: &Swept, stamp: Stamp) -> WorkStep
+    ensures { result ≡ drawn_untyped untyping.now.frame swept.now stamp }
+{
+    WorkStep::Answers {
+        value: Value::Nothing,
+        drawn: Some(stamp),
+        tail: Tail::Release {
+            release: release_of(untyping.frame, untyped_word(), swept, true),
+        },
+    }
+}
+
+// The release of what a sweep has frozen, cleared or as it was found, and of the frame with this word.
+#[inline]
+fn release_of(frame: FrameNo, word: u64, swept: &Swept, clear: bool) -> Release
+    ensures { result ≡ release_of frame word swept.now clear }
+{
+    Release {
+        frame,
+        word,
+        thaw: Thaw::new(swept, clear),
+    }
+}
+
+/// The next step, a store. What it names is of the layout's machine.
+#[inline]
+pub fn release_op(release: &Release, layout: &Layout) -> WordOp
+    requires { ReleaseFits layout.now release.now }
+    ensures step { result ≡ op_of layout.now (release_move release.now) }
+    ensures below { place_in result < size_of layout.now }
+{
+    match &release.thaw {
+        None => WordOp::Store {
+            at: layout.frame_at(release.frame),
+            word: release.word,
+        },
+        Some(thaw) => thaw.next(layout),
+    }
+}
+
+/// What is still to be stored after that step: after the frame's word nothing.
+#[inline]
+pub fn release_took(release: &Release, layout: &Layout, found: u64) -> Tail
+    requires { ReleaseFits layout.now release.now }
+    ensures { result ≡ release_after release.now }
+{
+    match &release.thaw {
+        None => Tail::Nothing,
+        Some(thaw) => {
+            let mut thaw = *thaw;
+            let end = thaw.take(layout, found);
+            Tail::Release {
+                release: Release {
+                    frame: release.frame,
+                    word: release.word,
+                    thaw: thaw_left_by(&thaw, &end),
+                },
             }
         }
     }

@@ -6,15 +6,15 @@ ghost use Rattle.spk_nums.specs.WordSteps.{place_in};
 ghost use Rattle.word_map.specs.Places.{size_of};
 ghost use Rattle.word_map.specs.Moves.{op_of};
 ghost use Rattle.kernel_rules.specs.Laws.{calls_counted};
-ghost use Rattle.call_steps.specs.Cores.{started, end_of, begun, move_of, ready_of, absorbed, told_of_step};
-ghost use Rattle.call_steps.specs.Fits.{IsCore, steps_left};
+ghost use Rattle.call_stages.specs.Cores.{started, end_of, begun, move_of, ready_of, absorbed, told_of_step};
+ghost use Rattle.call_stages.specs.Fits.{IsCore, steps_left};
 
-use crate::stages::{Absorbed, ActiveCall, Stage, Told};
-use crate::steps::stage_op;
-use call_acts::Own;
+use crate::steps::{absorb, is_ready, stage_op};
+use act_states::Own;
 #[cfg(test)]
-use call_acts::{Act, Untyping, UntypingAt, Work};
+use act_states::{Act, Untyping, UntypingAt, Work};
 use call_plans::{Caps, plan_of};
+use call_stages::{Absorbed, ActiveCall, Stage, Told};
 use spk_nums::{Call, CoreEnd, CoreNo, FrameNo, Reply, Setup, Stamp, Translations, WordOp};
 #[cfg(test)]
 use spk_nums::{CapId, FrameArg, Make};
@@ -30,11 +30,11 @@ pub struct CoreState {
 }
 
 impl Model for CoreState {
-    ghost use Rattle.call_steps.specs.View.{Core};
+    ghost use Rattle.call_stages.specs.View.{Core};
 
     ghost Value = { Core };
 
-    ghost use Rattle.call_steps.specs.Fits.{IsCore};
+    ghost use Rattle.call_stages.specs.Fits.{IsCore};
 
     ghost view = { λ s. record { own = s.own; active = s.active } };
 
@@ -151,7 +151,7 @@ impl CoreState {
         ensures { result ≡ ready_of self.now }
     {
         match &self.active {
-            Some(active) => active.is_ready(),
+            Some(active) => is_ready(active),
             None => unreachable!(),
         }
     }
@@ -167,7 +167,7 @@ impl CoreState {
         ensures fits { IsCore self.new }
     {
         let told = match &mut self.active {
-            Some(active) => active.absorb(&self.own, found),
+            Some(active) => absorb(active, &self.own, found),
             None => unreachable!(),
         };
         match told {

@@ -2,18 +2,18 @@
 //! core is told.
 
 ghost use Rattle.std.specs.Prelude.{◌≡◌, ◌<◌, ◌≤◌, [], ◌∷◌};
-ghost use Rattle.call_steps.specs.Fits.{StageFits};
-ghost use Rattle.call_steps.specs.declared.stages.Stage.TheVariants.{Undecided, Decided};
-ghost use Rattle.call_acts.specs.declared.work.Work.TheVariants.{Act as act_work, Lookup};
+ghost use Rattle.call_stages.specs.Fits.{StageFits};
+ghost use Rattle.call_stages.specs.declared.stages.Stage.TheVariants.{Undecided, Decided};
+ghost use Rattle.act_states.specs.declared.work.Work.TheVariants.{Act as act_work, Lookup};
 ghost use Rattle.stage_look.specs.declared.look.Look.TheVariants.{AtLeaf};
 ghost use Rattle.spk_nums.specs.declared.replies.Reply.TheVariants.{Ok};
 ghost use Rattle.spk_nums.specs.declared.replies.Value.TheVariants.{Nothing};
-ghost use Rattle.call_acts.specs.declared.invocations.InvokingAt.TheVariants.{LoadLive};
+ghost use Rattle.act_states.specs.declared.invocations.InvokingAt.TheVariants.{LoadLive};
 
-use crate::steps::stage_op;
-use crate::{ActiveCall, Stage, Told};
-use call_acts::{Act, Invoking, InvokingAt, Own, OwnChange, Returning, ReturningAt, Tail, Work};
+use crate::steps::{absorb, stage_op};
+use act_states::{Act, Invoking, InvokingAt, Own, OwnChange, Returning, ReturningAt, Tail, Work};
 use call_plans::{Caps, plan_of};
+use call_stages::{ActiveCall, Stage, Told};
 use frame_words::CompWord;
 use spk_nums::{Call, CapId, CoreNo, FrameNo, Reply, Stamp, Translations, Value, WordOp};
 use stage_look::Look;
@@ -73,7 +73,7 @@ fn step(layout: &Layout, depth: u8, call: Call, stage: Stage, found: u64) -> (Wo
         call,
         plan: plan_of(&call),
     };
-    let told = active.absorb(&own, found);
+    let told = absorb(&mut active, &own, found);
     (op, told, active.stage)
 }
 

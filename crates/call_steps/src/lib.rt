@@ -1,4 +1,6 @@
-//! The steps of calls: one atomic step after another, as code and as functions of plain values.
+//! The steps of calls: one atomic step after another, as code.
+//!
+//! Each function computes one of `call_stages`, where the types and the definitions stand.
 //!
 //! **The life of a call.** It enters, is undecided, is decided, and leaves, and these four stages are the same for all calls. The
 //! first step stores the core word with inside set and the stamp of the last exit. A call that is decided has its reply, and
@@ -32,8 +34,6 @@
 mod core_state;
 #[cfg(test)]
 mod invoke_tests;
-mod laws;
-mod stages;
 mod steps;
 #[cfg(test)]
 mod switch_tests;
@@ -43,6 +43,5 @@ mod tests;
 #[cfg(test)]
 mod untype_tests;
 
+pub use call_stages::Absorbed;
 pub use core_state::CoreState;
-pub use laws::{decides_once, ready_decides, unready_refuses};
-pub use stages::{Absorbed, ActiveCall, Stage, Told};

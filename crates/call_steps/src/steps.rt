@@ -6,27 +6,27 @@ ghost use Rattle.word_map.specs.Moves.{op_of};
 ghost use Rattle.spk_nums.specs.WordSteps.{place_in};
 ghost use Rattle.call_plans.specs.After.{next_of, with_found};
 ghost use Rattle.stage_pins.specs.Held.{AllFit};
-ghost use Rattle.call_steps.specs.Tails.{tail_counts, took_tail};
-ghost use Rattle.call_steps.specs.Steps.{took_read, core_word, work_move, stage_move, went, went_with, took_scan, took_count, gives_up, landed, next_by, took_enter, took_found, took_end, took_work, took_at, took, told, call_after, is_last, decides_at_name, work_ready, is_ready, is_spent, named_one, decided, Changes};
-ghost use Rattle.call_steps.specs.Fits.{WorkFits, StageFits, IsLater, TailFits};
+ghost use Rattle.call_stages.specs.Tails.{tail_counts, took_tail};
+ghost use Rattle.call_stages.specs.Steps.{took_read, core_word, work_move, stage_move, went, went_with, took_scan, took_count, gives_up, landed, next_by, took_enter, took_found, took_end, took_work, took_at, took, told, call_after, is_last, decides_at_name, work_ready, is_ready, is_spent, named_one, decided, Changes};
+ghost use Rattle.call_stages.specs.Fits.{WorkFits, StageFits, IsLater, TailFits};
 ghost use Rattle.stage_pins.specs.Acquire.{pin_after, pin_end};
 ghost use Rattle.stage_quiet.specs.Scan.{quiet_after, quiet_end};
 ghost use Rattle.call_plans.specs.GoesBy.{place_of};
-ghost use Rattle.call_acts.specs.WorkSteps.{refuse};
-ghost use Rattle.call_acts.specs.Acts.{act_begun, reads_of};
-ghost use Rattle.call_acts.specs.Lookups.{read_first, looks_under, looks_entry, looks_at, met_free, met_held};
-ghost use Rattle.call_acts.specs.Touches.{touches};
-ghost use Rattle.call_acts.specs.declared.work.WorkStep.TheVariants.{Goes};
-ghost use Rattle.call_acts.specs.declared.work.Work.TheVariants.{Lookup, Read, Scan, Acquire};
+ghost use Rattle.act_states.specs.WorkSteps.{refuse};
+ghost use Rattle.act_states.specs.Acts.{act_begun, reads_of};
+ghost use Rattle.act_states.specs.Lookups.{read_first, looks_under, looks_entry, looks_at, met_free, met_held};
+ghost use Rattle.act_states.specs.Touches.{touches};
+ghost use Rattle.act_states.specs.declared.work.WorkStep.TheVariants.{Goes};
+ghost use Rattle.act_states.specs.declared.work.Work.TheVariants.{Lookup, Read, Scan, Acquire};
 
-use crate::stages::{ActiveCall, Stage, Told};
 use crate::tails::{commits, tail_op, took_tail};
+use act_states::{Act, Met, Own, OwnChange, Refusal, Tail, Work, WorkStep};
 use call_acts::{
-    Act, Met, Own, OwnChange, Refusal, Tail, Work, WorkStep, act_op, act_ready, act_took,
-    begin_act, begin_touch, frame_of, met_free, met_held, met_name, next_work, reads_of, refuse,
-    starts, undo,
+    act_op, act_ready, act_took, begin_act, begin_touch, frame_of, met_free, met_held, met_name,
+    next_work, reads_of, refuse, starts, undo,
 };
 use call_plans::{Decides, Next, Spot};
+use call_stages::{ActiveCall, Stage, Told};
 use frame_words::{CompWord, CoreWord};
 use spk_nums::{CapId, CoreNo, EntryNo, FrameNo, PageNo, Reply, StageEnd, Stamp, WordOp};
 use stage_look::{Found, Look};
@@ -189,517 +189,534 @@ fn count_step(own: &Own, n: u8, pin: &Pin, change: &i32, act: &Act, found: u64) 
     count_took(own.core, n, *change, act, pin, &end)
 }
 
-impl ActiveCall {
-    /// Whether the call is ready: its next step is the one that decides its `ok`, or it is decided.
-    #[inline]
-    pub fn is_ready(&self) -> bool
-        ensures { result ≡ is_ready self.now }
-    {
-        match &self.stage {
-            Stage::Enter => false,
-            Stage::Undecided { work } => self.work_ready(work),
-            Stage::Decided {
-                reply: _,
-                drawn: _,
-                tail: _,
-            } => true,
-            Stage::Leave { reply: _, stamp: _ } => true,
-        }
+/// Whether the call is ready: its next step is the one that decides its `ok`, or it is decided.
+#[inline]
+pub fn is_ready(active: &ActiveCall) -> bool
+    ensures { result ≡ is_ready active.now }
+{
+    match &active.stage {
+        Stage::Enter => false,
+        Stage::Undecided { work } => work_ready(active, work),
+        Stage::Decided {
+            reply: _,
+            drawn: _,
+            tail: _,
+        } => true,
+        Stage::Leave { reply: _, stamp: _ } => true,
     }
+}
 
-    // Whether the next step of its work is the one that decides the call's `ok`.
-    #[inline]
-    fn work_ready(&self, work: &Work) -> bool
-        ensures { result ≡ work_ready self.now.plan self.now.found work.now }
-    {
-        match work {
+// Whether the next step of its work is the one that decides the call's `ok`.
+#[inline]
+fn work_ready(active: &ActiveCall, work: &Work) -> bool
+    ensures { result ≡ work_ready active.now.plan active.now.found work.now }
+{
+    match work {
+        Work::Lookup { look } => {
+            decides_at_name(active.plan.decides)
+                && active.found.count() + 1 == active.plan.names.count()
+                && is_last(look)
+        }
+        Work::Read { comp: _, look: _ } => false,
+        Work::Scan { quiet: _, act: _ } => false,
+        Work::Acquire {
+            pin: _,
+            change: _,
+            act: _,
+        } => false,
+        Work::Act { act } => act_ready(act),
+    }
+}
+
+/// Takes the word that the call's step found; after a store this is the word stored. The call is changed in its place,
+/// and only in what the step changes. One that returns stays as it was.
+#[inline]
+pub fn absorb(active: &mut ActiveCall, own: &Own, found: u64) -> Told
+    requires core { own.now.core < own.now.layout.cores }
+    requires cores { own.now.layout.cores ≤ 8 }
+    requires fits { StageFits own.now.layout active.old.stage }
+    requires few { active.old.steps < 1000 }
+    ensures told { result ≡ told (took own.now active.old found) }
+    ensures after { active.new ≡ call_after active.old (took own.now active.old found) }
+{
+    match &active.stage {
+        Stage::Enter => enter(active, own.limit <= own.made, own),
+        Stage::Undecided { work } => match work {
             Work::Lookup { look } => {
-                decides_at_name(self.plan.decides)
-                    && self.found.count() + 1 == self.plan.names.count()
-                    && is_last(look)
+                let look = *look;
+                absorb_look(active, own, look, found)
             }
-            Work::Read { comp: _, look: _ } => false,
-            Work::Scan { quiet: _, act: _ } => false,
+            Work::Read { comp: _, look: _ } => absorb_later(active, own, found),
+            Work::Scan { quiet: _, act: _ } => absorb_later(active, own, found),
             Work::Acquire {
                 pin: _,
                 change: _,
                 act: _,
-            } => false,
-            Work::Act { act } => act_ready(act),
-        }
-    }
-
-    /// Takes the word that the call's step found; after a store this is the word stored. The call is changed in its place,
-    /// and only in what the step changes. One that returns stays as it was.
-    #[inline]
-    pub fn absorb(&mut self, own: &Own, found: u64) -> Told
-        requires core { own.now.core < own.now.layout.cores }
-        requires cores { own.now.layout.cores ≤ 8 }
-        requires fits { StageFits own.now.layout self.old.stage }
-        requires few { self.old.steps < 1000 }
-        ensures told { result ≡ told (took own.now self.old found) }
-        ensures after { self.new ≡ call_after self.old (took own.now self.old found) }
-    {
-        match &self.stage {
-            Stage::Enter => self.enter(own.limit <= own.made, own),
-            Stage::Undecided { work } => match work {
-                Work::Lookup { look } => {
-                    let look = *look;
-                    self.absorb_look(own, look, found)
-                }
-                Work::Read { comp: _, look: _ } => self.absorb_later(own, found),
-                Work::Scan { quiet: _, act: _ } => self.absorb_later(own, found),
-                Work::Acquire {
-                    pin: _,
-                    change: _,
-                    act: _,
-                } => self.absorb_later(own, found),
-                Work::Act { act: _ } => self.absorb_later(own, found),
-            },
-            Stage::Decided {
-                reply: _,
-                drawn: _,
-                tail: _,
-            } => self.absorb_later(own, found),
-            Stage::Leave { reply: _, stamp: _ } => self.absorb_later(own, found),
-        }
-    }
-
-    // The step of a call after its look-ups. It stands apart, so that a step of a look-up, which most are, has no room on the stack
-    // for what an act needs.
-    #[inline(never)]
-    fn absorb_later(&mut self, own: &Own, found: u64) -> Told
-        requires core { own.now.core < own.now.layout.cores }
-        requires cores { own.now.layout.cores ≤ 8 }
-        requires fits { StageFits own.now.layout self.old.stage }
-        requires later { IsLater self.old.stage }
-        requires few { self.old.steps < 1000 }
-        ensures told { result ≡ told (took own.now self.old found) }
-        ensures after { self.new ≡ call_after self.old (took own.now self.old found) }
-    {
-        match &self.stage {
-            Stage::Enter => unreachable!(),
-            Stage::Undecided { work } => match work {
-                Work::Lookup { look: _ } => unreachable!(),
-                Work::Read { comp: _, look } => {
-                    let look = *look;
-                    self.has_read(look, CompWord::unpack(found))
-                }
-                Work::Scan { quiet, act } => {
-                    let step = scan_step(own, quiet, act, found);
-                    self.land(&step)
-                }
-                Work::Acquire { pin, change, act } => {
-                    let n = self.counts.count();
-                    let step = count_step(own, n, pin, change, act, found);
-                    self.land(&step)
-                }
-                Work::Act { act } => {
-                    let step = act_took(act, &own.layout, found);
-                    self.land(&step)
-                }
-            },
-            Stage::Decided { reply, drawn, tail } => {
-                let (reply, drawn, tail) = (*reply, *drawn, *tail);
-                self.store(own, reply, drawn, &tail, found);
-                Told::Going
-            }
-            Stage::Leave { reply, stamp } => Told::Returned {
-                reply: *reply,
-                stamp: *stamp,
-            },
-        }
-    }
-
-    // A step of a look-up.
-    #[inline]
-    fn absorb_look(&mut self, own: &Own, look: Look, found: u64) -> Told
-        requires core { own.now.core < own.now.layout.cores }
-        requires cores { own.now.layout.cores ≤ 8 }
-        requires fits { WorkFits own.now.layout (Lookup look) }
-        requires few { self.old.steps < 1000 }
-        ensures told { result ≡ told (took_work own.now self.old (Lookup look) found) }
-        ensures after { self.new ≡ call_after self.old (took_work own.now self.old (Lookup look) found) }
-    {
-        let mut look = look;
-        let end = look.take(&own.layout, found);
-        self.looked(own, look, &end)
-    }
-
-    // A step of a call that is decided: a store, a commit, or the load of the clock.
-    #[inline]
-    fn store(&mut self, own: &Own, reply: Reply, drawn: Option<Stamp>, tail: &Tail, found: u64)
-        requires few { self.old.steps < 1000 }
-        requires fits { TailFits own.now.layout tail.now }
-        ensures { self.new ≡ went_with self.old (tail_counts tail.now self.old.counts) (took_tail reply drawn tail.now self.old.counts found) }
-    {
-        let stage = took_tail(reply, drawn, tail, &self.counts, &own.layout, found);
-        if commits(tail) {
-            self.counts.pop();
-        }
-        self.go_on(stage);
-    }
-
-    // The first step of a call.
-    #[inline]
-    fn enter(&mut self, spent: bool, own: &Own) -> Told
-        requires core { own.now.core < own.now.layout.cores }
-        requires cores { own.now.layout.cores ≤ 8 }
-        requires few { self.old.steps < 1000 }
-        ensures told { result ≡ told (took_enter spent own.now self.old) }
-        ensures after { self.new ≡ call_after self.old (took_enter spent own.now self.old) }
-    {
-        if spent {
-            self.refused(Refusal::CallsSpent)
-        } else {
-            self.look_next(own)
-        }
-    }
-
-    // A step of a look-up, which stands at `look` after it.
-    #[inline]
-    fn looked(&mut self, own: &Own, look: Look, end: &StageEnd<Found>) -> Told
-        requires core { own.now.core < own.now.layout.cores }
-        requires cores { own.now.layout.cores ≤ 8 }
-        requires few { self.old.steps < 1000 }
-        ensures told { result ≡ told (took_end own.now self.old look end.now) }
-        ensures after { self.new ≡ call_after self.old (took_end own.now self.old look end.now) }
-    {
-        match end {
-            StageEnd::Going => self.look(look),
-            StageEnd::Decided(reply) => self.refused(Refusal::of(reply)),
-            StageEnd::Done(found) => self.found_place(own, found),
-            StageEnd::Refuse(reply) => self.refused(Refusal::of(reply)),
-        }
-    }
-
-    // The place of a name or of the target was found.
-    #[inline]
-    fn found_place(&mut self, own: &Own, found: &Found) -> Told
-        requires core { own.now.core < own.now.layout.cores }
-        requires cores { own.now.layout.cores ≤ 8 }
-        requires few { self.old.steps < 1000 }
-        ensures told { result ≡ told (took_found own.now self.old (next_of self.old.plan self.old.found) found.now) }
-        ensures after { self.new ≡ call_after self.old (took_found own.now self.old (next_of self.old.plan self.old.found) found.now) }
-    {
-        match self.plan.next(&self.found) {
-            Next::Name { name } => {
-                let met = met_name(&self.found, name.wanted, &found.value);
-                self.named_one(own, &met)
-            }
-            Next::Free { spot: _ } => self.found_free(own, found),
-            Next::Held { spot: _ } => self.found_held(own, found),
-            Next::Own { page: _ } => self.refused(Refusal::Raced),
-            Next::Nothing => self.refused(Refusal::Raced),
-        }
-    }
-
-    // A name has led to this.
-    #[inline]
-    #[tactic(auto, using(crate::proofs::Landing::same_call))]
-    fn named_one(&mut self, own: &Own, met: &Met) -> Told
-        requires core { own.now.core < own.now.layout.cores }
-        requires cores { own.now.layout.cores ≤ 8 }
-        requires few { self.old.steps < 1000 }
-        ensures told { result ≡ told (named_one own.now self.old met.now) }
-        ensures after { self.new ≡ call_after self.old (named_one own.now self.old met.now) }
-    {
-        match met {
-            Met::Finds { cap } => {
-                self.found.push(*cap);
-                self.look_next(own)
-            }
-            Met::Refused { refusal } => self.refused(*refusal),
-        }
-    }
-
-    // The place of a target that is to be free was found.
-    #[inline(never)]
-    fn found_free(&mut self, own: &Own, found: &Found) -> Told
-        requires core { own.now.core < own.now.layout.cores }
-        requires cores { own.now.layout.cores ≤ 8 }
-        requires few { self.old.steps < 1000 }
-        ensures told { result ≡ told (landed self.old (met_free own.now self.old.call self.old.found self.old.read found.now found.now.value)) }
-        ensures after { self.new ≡ call_after self.old (landed self.old (met_free own.now self.old.call self.old.found self.old.read found.now found.now.value)) }
-    {
-        let step = met_free(own, &self.call, &self.found, self.read, found);
-        self.land(&step)
-    }
-
-    // The place of a target that is to be held was found.
-    #[inline(never)]
-    fn found_held(&mut self, own: &Own, found: &Found) -> Told
-        requires core { own.now.core < own.now.layout.cores }
-        requires cores { own.now.layout.cores ≤ 8 }
-        requires few { self.old.steps < 1000 }
-        ensures told { result ≡ told (landed self.old (met_held own.now self.old.call self.old.found found.now found.now.value)) }
-        ensures after { self.new ≡ call_after self.old (landed self.old (met_held own.now self.old.call self.old.found found.now found.now.value)) }
-    {
-        let step = met_held(own, &self.call, &self.found, found);
-        self.land(&step)
-    }
-
-    // What comes next of the call: a look-up, or its act.
-    #[inline]
-    fn look_next(&mut self, own: &Own) -> Told
-        requires core { own.now.core < own.now.layout.cores }
-        requires cores { own.now.layout.cores ≤ 8 }
-        requires few { self.old.steps < 1000 }
-        ensures told { result ≡ told (landed self.old (next_by own.now self.old)) }
-        ensures after { self.new ≡ call_after self.old (landed self.old (next_by own.now self.old)) }
-    {
-        match self.plan.next(&self.found) {
-            Next::Name { name } => self.look_under(own.table, name.number.number()),
-            Next::Free { spot } => self.look_free(spot),
-            Next::Held { spot } => self.look_at(spot),
-            Next::Own { page } => self.touch(own, page),
-            Next::Nothing => self.begin_act(own),
-        }
-    }
-
-    // The place of a target that is to be free is looked up, after the load of a component's word where the call reads one.
-    #[inline]
-    fn look_free(&mut self, spot: Spot) -> Told
-        requires { self.old.steps < 1000 }
-        ensures told { result ≡ told (landed self.old (read_first (reads_of self.old.call self.old.found) (looks_at (place_of (with_found [] self.old.found) spot)))) }
-        ensures after { self.new ≡ call_after self.old (landed self.old (read_first (reads_of self.old.call self.old.found) (looks_at (place_of (with_found [] self.old.found) spot)))) }
-    {
-        match reads_of(&self.call, &self.found) {
-            None => self.look_at(spot),
-            Some(comp) => self.read_at(comp, spot),
-        }
-    }
-
-    // A component's word is loaded before the place of a target is looked up.
-    #[inline(never)]
-    fn read_at(&mut self, comp: FrameNo, spot: Spot) -> Told
-        requires { self.old.steps < 1000 }
-        ensures told { result ≡ told (landed self.old (read_first (Some comp) (looks_at (place_of (with_found [] self.old.found) spot)))) }
-        ensures after { self.new ≡ call_after self.old (landed self.old (read_first (Some comp) (looks_at (place_of (with_found [] self.old.found) spot)))) }
-    {
-        match spot {
-            Spot::Under { root, number } => {
-                let root = frame_of(&self.found, root);
-                if number <= 4095 {
-                    self.read(comp, Look::place(root, CapId::new(number)))
-                } else {
-                    self.refused(Refusal::NoSlot)
-                }
-            }
-            Spot::InRoot { root, entry } => {
-                let root = frame_of(&self.found, root);
-                if entry.number() <= 63 {
-                    self.read(comp, Look::root(root, entry))
-                } else {
-                    self.refused(Refusal::NoSlot)
-                }
-            }
-        }
-    }
-
-    // The word of this component is loaded before this look-up.
-    #[inline]
-    fn read(&mut self, comp: FrameNo, look: Look) -> Told
-        requires { self.old.steps < 1000 }
-        ensures told { result ≡ told (landed self.old (Goes (Read comp look))) }
-        ensures after { self.new ≡ call_after self.old (landed self.old (Goes (Read comp look))) }
-    {
-        self.go_on(Stage::Undecided {
-            work: Work::Read { comp, look },
-        });
-        Told::Going
-    }
-
-    // A component's word was loaded, which names this, and this look-up comes next.
-    #[inline]
-    #[tactic(auto, using(crate::proofs::Landing::same_call))]
-    fn has_read(&mut self, look: Look, life: Option<CompWord>) -> Told
-        requires { self.old.steps < 1000 }
-        ensures told { result ≡ told (took_read self.old look life) }
-        ensures after { self.new ≡ call_after self.old (took_read self.old look life) }
-    {
-        match life {
-            None => self.refused(Refusal::Raced),
-            Some(life) => {
-                self.read = Some(life.epoch);
-                self.look(look)
-            }
-        }
-    }
-
-    // The act of a call without a target begins.
-    #[inline(never)]
-    fn begin_act(&mut self, own: &Own) -> Told
-        requires core { own.now.core < own.now.layout.cores }
-        requires cores { own.now.layout.cores ≤ 8 }
-        requires few { self.old.steps < 1000 }
-        ensures told { result ≡ told (landed self.old (act_begun own.now self.old.call self.old.found None None)) }
-        ensures after { self.new ≡ call_after self.old (landed self.old (act_begun own.now self.old.call self.old.found None None)) }
-    {
-        let step = begin_act(own, &self.call, &self.found, None, &None);
-        self.land(&step)
-    }
-
-    // A page of the core's own pages is touched.
-    #[inline(never)]
-    fn touch(&mut self, own: &Own, page: PageNo) -> Told
-        requires { self.old.steps < 1000 }
-        ensures told { result ≡ told (landed self.old (touches own.now page)) }
-        ensures after { self.new ≡ call_after self.old (landed self.old (touches own.now page)) }
-    {
-        let step = begin_touch(own, page);
-        self.land(&step)
-    }
-
-    // A number of the table with this root is looked up.
-    #[inline]
-    fn look_under(&mut self, root: FrameNo, number: u16) -> Told
-        requires { self.old.steps < 1000 }
-        ensures told { result ≡ told (landed self.old (looks_under (nat_le number 4095) root number)) }
-        ensures after { self.new ≡ call_after self.old (landed self.old (looks_under (nat_le number 4095) root number)) }
-    {
-        if number <= 4095 {
-            self.look(Look::place(root, CapId::new(number)))
-        } else {
-            self.refused(Refusal::NoSlot)
-        }
-    }
-
-    // An entry of this root is looked up.
-    #[inline]
-    fn look_entry(&mut self, root: FrameNo, entry: EntryNo) -> Told
-        requires { self.old.steps < 1000 }
-        ensures told { result ≡ told (landed self.old (looks_entry (nat_le entry 63) root entry)) }
-        ensures after { self.new ≡ call_after self.old (landed self.old (looks_entry (nat_le entry 63) root entry)) }
-    {
-        if entry.number() <= 63 {
-            self.look(Look::root(root, entry))
-        } else {
-            self.refused(Refusal::NoSlot)
-        }
-    }
-
-    // The place of a target is looked up.
-    #[inline]
-    fn look_at(&mut self, spot: Spot) -> Told
-        requires { self.old.steps < 1000 }
-        ensures told { result ≡ told (landed self.old (looks_at (place_of (with_found [] self.old.found) spot))) }
-        ensures after { self.new ≡ call_after self.old (landed self.old (looks_at (place_of (with_found [] self.old.found) spot))) }
-    {
-        match spot {
-            Spot::Under { root, number } => {
-                let root = frame_of(&self.found, root);
-                self.look_under(root, number)
-            }
-            Spot::InRoot { root, entry } => {
-                let root = frame_of(&self.found, root);
-                self.look_entry(root, entry)
-            }
-        }
-    }
-
-    // A look-up stands here.
-    #[inline]
-    fn look(&mut self, look: Look) -> Told
-        requires { self.old.steps < 1000 }
-        ensures told { result ≡ told (landed self.old (Goes (Lookup look))) }
-        ensures after { self.new ≡ call_after self.old (landed self.old (Goes (Lookup look))) }
-    {
-        self.go_on(Stage::Undecided {
-            work: Work::Lookup { look },
-        });
-        Told::Going
-    }
-
-    // The call is refused, with nothing to store.
-    #[inline]
-    fn refused(&mut self, refusal: Refusal) -> Told
-        requires { self.old.steps < 1000 }
-        ensures told { result ≡ told (landed self.old (refuse refusal)) }
-        ensures after { self.new ≡ call_after self.old (landed self.old (refuse refusal)) }
-    {
-        self.decide(&refusal.reply(), None, &Tail::Nothing)
-    }
-
-    // The call goes where a step of its work takes it.
-    #[inline]
-    fn land(&mut self, step: &WorkStep) -> Told
-        requires { self.old.steps < 1000 }
-        ensures told { result ≡ told (landed self.old step.now) }
-        ensures after { self.new ≡ call_after self.old (landed self.old step.now) }
-    {
-        match step {
-            WorkStep::Goes { work } => {
-                self.go_on(Stage::Undecided { work: *work });
-                Told::Going
-            }
-            WorkStep::Acquires { count, work } => {
-                self.counts.push(*count);
-                self.go_on(Stage::Undecided { work: *work });
-                Told::Going
-            }
-            WorkStep::Refuses { refusal, tail } => self.decide(&refusal.reply(), None, tail),
-            WorkStep::Answers { value, drawn, tail } => {
-                self.decide(&Reply::Ok(*value), *drawn, tail)
-            }
-            WorkStep::Changes {
-                reply,
-                change,
-                drawn,
-                tail,
-            } => self.decide_changing(reply, change, *drawn, tail),
-        }
-    }
-
-    // The call is decided with this reply, has drawn this stamp or none and has this to store, and changes this of what its core has of its
-    // own.
-    #[inline(never)]
-    fn decide_changing(
-        &mut self,
-        reply: &Reply,
-        change: &OwnChange,
-        drawn: Option<Stamp>,
-        tail: &Tail,
-    ) -> Told
-        requires { self.old.steps < 1000 }
-        ensures told { result ≡ told (Changes reply.now change.now (went self.old (Decided reply.now drawn tail.now))) }
-        ensures after { self.new ≡ went self.old (Decided reply.now drawn tail.now) }
-    {
-        self.go_on(Stage::Decided {
-            reply: *reply,
-            drawn,
-            tail: *tail,
-        });
-        Told::Changed {
-            reply: *reply,
-            change: *change,
-        }
-    }
-
-    // The call is decided with this reply, and has drawn this stamp or none.
-    #[inline]
-    fn decide(&mut self, reply: &Reply, drawn: Option<Stamp>, tail: &Tail) -> Told
-        requires { self.old.steps < 1000 }
-        ensures told { result ≡ told (decided self.old reply.now drawn tail.now) }
-        ensures after { self.new ≡ call_after self.old (decided self.old reply.now drawn tail.now) }
-    {
-        self.go_on(Stage::Decided {
-            reply: *reply,
-            drawn,
-            tail: *tail,
-        });
-        Told::Decided { reply: *reply }
-    }
-
-    // The call has made one more step, and stands at this stage.
-    #[inline]
-    fn go_on(&mut self, stage: Stage)
-        requires { self.old.steps < 1000 }
-        ensures { self.new ≡ went self.old stage }
-    {
-        self.steps += 1;
-        self.stage = stage;
+            } => absorb_later(active, own, found),
+            Work::Act { act: _ } => absorb_later(active, own, found),
+        },
+        Stage::Decided {
+            reply: _,
+            drawn: _,
+            tail: _,
+        } => absorb_later(active, own, found),
+        Stage::Leave { reply: _, stamp: _ } => absorb_later(active, own, found),
     }
 }
 
-ghost use Rattle.call_steps.specs.declared.stages.Stage.TheVariants.{Decided};
+// The step of a call after its look-ups. It stands apart, so that a step of a look-up, which most are, has no room on the stack
+// for what an act needs.
+#[inline(never)]
+fn absorb_later(active: &mut ActiveCall, own: &Own, found: u64) -> Told
+    requires core { own.now.core < own.now.layout.cores }
+    requires cores { own.now.layout.cores ≤ 8 }
+    requires fits { StageFits own.now.layout active.old.stage }
+    requires later { IsLater active.old.stage }
+    requires few { active.old.steps < 1000 }
+    ensures told { result ≡ told (took own.now active.old found) }
+    ensures after { active.new ≡ call_after active.old (took own.now active.old found) }
+{
+    match &active.stage {
+        Stage::Enter => unreachable!(),
+        Stage::Undecided { work } => match work {
+            Work::Lookup { look: _ } => unreachable!(),
+            Work::Read { comp: _, look } => {
+                let look = *look;
+                has_read(active, look, CompWord::unpack(found))
+            }
+            Work::Scan { quiet, act } => {
+                let step = scan_step(own, quiet, act, found);
+                land(active, &step)
+            }
+            Work::Acquire { pin, change, act } => {
+                let n = active.counts.count();
+                let step = count_step(own, n, pin, change, act, found);
+                land(active, &step)
+            }
+            Work::Act { act } => {
+                let step = act_took(act, &own.layout, found);
+                land(active, &step)
+            }
+        },
+        Stage::Decided { reply, drawn, tail } => {
+            let (reply, drawn, tail) = (*reply, *drawn, *tail);
+            store(active, own, reply, drawn, &tail, found);
+            Told::Going
+        }
+        Stage::Leave { reply, stamp } => Told::Returned {
+            reply: *reply,
+            stamp: *stamp,
+        },
+    }
+}
+
+// A step of a look-up.
+#[inline]
+fn absorb_look(active: &mut ActiveCall, own: &Own, look: Look, found: u64) -> Told
+    requires core { own.now.core < own.now.layout.cores }
+    requires cores { own.now.layout.cores ≤ 8 }
+    requires fits { WorkFits own.now.layout (Lookup look) }
+    requires few { active.old.steps < 1000 }
+    ensures told { result ≡ told (took_work own.now active.old (Lookup look) found) }
+    ensures after { active.new ≡ call_after active.old (took_work own.now active.old (Lookup look) found) }
+{
+    let mut look = look;
+    let end = look.take(&own.layout, found);
+    looked(active, own, look, &end)
+}
+
+// A step of a call that is decided: a store, a commit, or the load of the clock.
+#[inline]
+fn store(
+    active: &mut ActiveCall,
+    own: &Own,
+    reply: Reply,
+    drawn: Option<Stamp>,
+    tail: &Tail,
+    found: u64,
+)
+    requires few { active.old.steps < 1000 }
+    requires fits { TailFits own.now.layout tail.now }
+    ensures { active.new ≡ went_with active.old (tail_counts tail.now active.old.counts) (took_tail reply drawn tail.now active.old.counts found) }
+{
+    let stage = took_tail(reply, drawn, tail, &active.counts, &own.layout, found);
+    if commits(tail) {
+        active.counts.pop();
+    }
+    go_on(active, stage);
+}
+
+// The first step of a call.
+#[inline]
+fn enter(active: &mut ActiveCall, spent: bool, own: &Own) -> Told
+    requires core { own.now.core < own.now.layout.cores }
+    requires cores { own.now.layout.cores ≤ 8 }
+    requires few { active.old.steps < 1000 }
+    ensures told { result ≡ told (took_enter spent own.now active.old) }
+    ensures after { active.new ≡ call_after active.old (took_enter spent own.now active.old) }
+{
+    if spent {
+        refused(active, Refusal::CallsSpent)
+    } else {
+        look_next(active, own)
+    }
+}
+
+// A step of a look-up, which stands at `look` after it.
+#[inline]
+fn looked(active: &mut ActiveCall, own: &Own, look: Look, end: &StageEnd<Found>) -> Told
+    requires core { own.now.core < own.now.layout.cores }
+    requires cores { own.now.layout.cores ≤ 8 }
+    requires few { active.old.steps < 1000 }
+    ensures told { result ≡ told (took_end own.now active.old look end.now) }
+    ensures after { active.new ≡ call_after active.old (took_end own.now active.old look end.now) }
+{
+    match end {
+        StageEnd::Going => looks_up(active, look),
+        StageEnd::Decided(reply) => refused(active, Refusal::of(reply)),
+        StageEnd::Done(found) => found_place(active, own, found),
+        StageEnd::Refuse(reply) => refused(active, Refusal::of(reply)),
+    }
+}
+
+// The place of a name or of the target was found.
+#[inline]
+fn found_place(active: &mut ActiveCall, own: &Own, found: &Found) -> Told
+    requires core { own.now.core < own.now.layout.cores }
+    requires cores { own.now.layout.cores ≤ 8 }
+    requires few { active.old.steps < 1000 }
+    ensures told { result ≡ told (took_found own.now active.old (next_of active.old.plan active.old.found) found.now) }
+    ensures after { active.new ≡ call_after active.old (took_found own.now active.old (next_of active.old.plan active.old.found) found.now) }
+{
+    match active.plan.next(&active.found) {
+        Next::Name { name } => {
+            let met = met_name(&active.found, name.wanted, &found.value);
+            named_one(active, own, &met)
+        }
+        Next::Free { spot: _ } => found_free(active, own, found),
+        Next::Held { spot: _ } => found_held(active, own, found),
+        Next::Own { page: _ } => refused(active, Refusal::Raced),
+        Next::Nothing => refused(active, Refusal::Raced),
+    }
+}
+
+// A name has led to this.
+#[inline]
+#[tactic(auto, using(call_fits::proofs::Landing::same_call))]
+fn named_one(active: &mut ActiveCall, own: &Own, met: &Met) -> Told
+    requires core { own.now.core < own.now.layout.cores }
+    requires cores { own.now.layout.cores ≤ 8 }
+    requires few { active.old.steps < 1000 }
+    ensures told { result ≡ told (named_one own.now active.old met.now) }
+    ensures after { active.new ≡ call_after active.old (named_one own.now active.old met.now) }
+{
+    match met {
+        Met::Finds { cap } => {
+            active.found.push(*cap);
+            look_next(active, own)
+        }
+        Met::Refused { refusal } => refused(active, *refusal),
+    }
+}
+
+// The place of a target that is to be free was found.
+#[inline(never)]
+fn found_free(active: &mut ActiveCall, own: &Own, found: &Found) -> Told
+    requires core { own.now.core < own.now.layout.cores }
+    requires cores { own.now.layout.cores ≤ 8 }
+    requires few { active.old.steps < 1000 }
+    ensures told { result ≡ told (landed active.old (met_free own.now active.old.call active.old.found active.old.read found.now found.now.value)) }
+    ensures after { active.new ≡ call_after active.old (landed active.old (met_free own.now active.old.call active.old.found active.old.read found.now found.now.value)) }
+{
+    let step = met_free(own, &active.call, &active.found, active.read, found);
+    land(active, &step)
+}
+
+// The place of a target that is to be held was found.
+#[inline(never)]
+fn found_held(active: &mut ActiveCall, own: &Own, found: &Found) -> Told
+    requires core { own.now.core < own.now.layout.cores }
+    requires cores { own.now.layout.cores ≤ 8 }
+    requires few { active.old.steps < 1000 }
+    ensures told { result ≡ told (landed active.old (met_held own.now active.old.call active.old.found found.now found.now.value)) }
+    ensures after { active.new ≡ call_after active.old (landed active.old (met_held own.now active.old.call active.old.found found.now found.now.value)) }
+{
+    let step = met_held(own, &active.call, &active.found, found);
+    land(active, &step)
+}
+
+// What comes next of the call: a look-up, or its act.
+#[inline]
+fn look_next(active: &mut ActiveCall, own: &Own) -> Told
+    requires core { own.now.core < own.now.layout.cores }
+    requires cores { own.now.layout.cores ≤ 8 }
+    requires few { active.old.steps < 1000 }
+    ensures told { result ≡ told (landed active.old (next_by own.now active.old)) }
+    ensures after { active.new ≡ call_after active.old (landed active.old (next_by own.now active.old)) }
+{
+    match active.plan.next(&active.found) {
+        Next::Name { name } => look_under(active, own.table, name.number.number()),
+        Next::Free { spot } => look_free(active, spot),
+        Next::Held { spot } => look_at(active, spot),
+        Next::Own { page } => touch(active, own, page),
+        Next::Nothing => act_begins(active, own),
+    }
+}
+
+// The place of a target that is to be free is looked up, after the load of a component's word where the call reads one.
+#[inline]
+fn look_free(active: &mut ActiveCall, spot: Spot) -> Told
+    requires { active.old.steps < 1000 }
+    ensures told { result ≡ told (landed active.old (read_first (reads_of active.old.call active.old.found) (looks_at (place_of (with_found [] active.old.found) spot)))) }
+    ensures after { active.new ≡ call_after active.old (landed active.old (read_first (reads_of active.old.call active.old.found) (looks_at (place_of (with_found [] active.old.found) spot)))) }
+{
+    match reads_of(&active.call, &active.found) {
+        None => look_at(active, spot),
+        Some(comp) => read_at(active, comp, spot),
+    }
+}
+
+// A component's word is loaded before the place of a target is looked up.
+#[inline(never)]
+fn read_at(active: &mut ActiveCall, comp: FrameNo, spot: Spot) -> Told
+    requires { active.old.steps < 1000 }
+    ensures told { result ≡ told (landed active.old (read_first (Some comp) (looks_at (place_of (with_found [] active.old.found) spot)))) }
+    ensures after { active.new ≡ call_after active.old (landed active.old (read_first (Some comp) (looks_at (place_of (with_found [] active.old.found) spot)))) }
+{
+    match spot {
+        Spot::Under { root, number } => {
+            let root = frame_of(&active.found, root);
+            if number <= 4095 {
+                reads_first(active, comp, Look::place(root, CapId::new(number)))
+            } else {
+                refused(active, Refusal::NoSlot)
+            }
+        }
+        Spot::InRoot { root, entry } => {
+            let root = frame_of(&active.found, root);
+            if entry.number() <= 63 {
+                reads_first(active, comp, Look::root(root, entry))
+            } else {
+                refused(active, Refusal::NoSlot)
+            }
+        }
+    }
+}
+
+// The word of this component is loaded before this look-up.
+#[inline]
+fn reads_first(active: &mut ActiveCall, comp: FrameNo, look: Look) -> Told
+    requires { active.old.steps < 1000 }
+    ensures told { result ≡ told (landed active.old (Goes (Read comp look))) }
+    ensures after { active.new ≡ call_after active.old (landed active.old (Goes (Read comp look))) }
+{
+    go_on(
+        active,
+        Stage::Undecided {
+            work: Work::Read { comp, look },
+        },
+    );
+    Told::Going
+}
+
+// A component's word was loaded, which names this, and this look-up comes next.
+#[inline]
+#[tactic(auto, using(call_fits::proofs::Landing::same_call))]
+fn has_read(active: &mut ActiveCall, look: Look, life: Option<CompWord>) -> Told
+    requires { active.old.steps < 1000 }
+    ensures told { result ≡ told (took_read active.old look life) }
+    ensures after { active.new ≡ call_after active.old (took_read active.old look life) }
+{
+    match life {
+        None => refused(active, Refusal::Raced),
+        Some(life) => {
+            active.read = Some(life.epoch);
+            looks_up(active, look)
+        }
+    }
+}
+
+// The act of a call without a target begins.
+#[inline(never)]
+fn act_begins(active: &mut ActiveCall, own: &Own) -> Told
+    requires core { own.now.core < own.now.layout.cores }
+    requires cores { own.now.layout.cores ≤ 8 }
+    requires few { active.old.steps < 1000 }
+    ensures told { result ≡ told (landed active.old (act_begun own.now active.old.call active.old.found None None)) }
+    ensures after { active.new ≡ call_after active.old (landed active.old (act_begun own.now active.old.call active.old.found None None)) }
+{
+    let step = begin_act(own, &active.call, &active.found, None, &None);
+    land(active, &step)
+}
+
+// A page of the core's own pages is touched.
+#[inline(never)]
+fn touch(active: &mut ActiveCall, own: &Own, page: PageNo) -> Told
+    requires { active.old.steps < 1000 }
+    ensures told { result ≡ told (landed active.old (touches own.now page)) }
+    ensures after { active.new ≡ call_after active.old (landed active.old (touches own.now page)) }
+{
+    let step = begin_touch(own, page);
+    land(active, &step)
+}
+
+// A number of the table with this root is looked up.
+#[inline]
+fn look_under(active: &mut ActiveCall, root: FrameNo, number: u16) -> Told
+    requires { active.old.steps < 1000 }
+    ensures told { result ≡ told (landed active.old (looks_under (nat_le number 4095) root number)) }
+    ensures after { active.new ≡ call_after active.old (landed active.old (looks_under (nat_le number 4095) root number)) }
+{
+    if number <= 4095 {
+        looks_up(active, Look::place(root, CapId::new(number)))
+    } else {
+        refused(active, Refusal::NoSlot)
+    }
+}
+
+// An entry of this root is looked up.
+#[inline]
+fn look_entry(active: &mut ActiveCall, root: FrameNo, entry: EntryNo) -> Told
+    requires { active.old.steps < 1000 }
+    ensures told { result ≡ told (landed active.old (looks_entry (nat_le entry 63) root entry)) }
+    ensures after { active.new ≡ call_after active.old (landed active.old (looks_entry (nat_le entry 63) root entry)) }
+{
+    if entry.number() <= 63 {
+        looks_up(active, Look::root(root, entry))
+    } else {
+        refused(active, Refusal::NoSlot)
+    }
+}
+
+// The place of a target is looked up.
+#[inline]
+fn look_at(active: &mut ActiveCall, spot: Spot) -> Told
+    requires { active.old.steps < 1000 }
+    ensures told { result ≡ told (landed active.old (looks_at (place_of (with_found [] active.old.found) spot))) }
+    ensures after { active.new ≡ call_after active.old (landed active.old (looks_at (place_of (with_found [] active.old.found) spot))) }
+{
+    match spot {
+        Spot::Under { root, number } => {
+            let root = frame_of(&active.found, root);
+            look_under(active, root, number)
+        }
+        Spot::InRoot { root, entry } => {
+            let root = frame_of(&active.found, root);
+            look_entry(active, root, entry)
+        }
+    }
+}
+
+// A look-up stands here.
+#[inline]
+fn looks_up(active: &mut ActiveCall, look: Look) -> Told
+    requires { active.old.steps < 1000 }
+    ensures told { result ≡ told (landed active.old (Goes (Lookup look))) }
+    ensures after { active.new ≡ call_after active.old (landed active.old (Goes (Lookup look))) }
+{
+    go_on(
+        active,
+        Stage::Undecided {
+            work: Work::Lookup { look },
+        },
+    );
+    Told::Going
+}
+
+// The call is refused, with nothing to store.
+#[inline]
+fn refused(active: &mut ActiveCall, refusal: Refusal) -> Told
+    requires { active.old.steps < 1000 }
+    ensures told { result ≡ told (landed active.old (refuse refusal)) }
+    ensures after { active.new ≡ call_after active.old (landed active.old (refuse refusal)) }
+{
+    decide(active, &refusal.reply(), None, &Tail::Nothing)
+}
+
+// The call goes where a step of its work takes it.
+#[inline]
+fn land(active: &mut ActiveCall, step: &WorkStep) -> Told
+    requires { active.old.steps < 1000 }
+    ensures told { result ≡ told (landed active.old step.now) }
+    ensures after { active.new ≡ call_after active.old (landed active.old step.now) }
+{
+    match step {
+        WorkStep::Goes { work } => {
+            go_on(active, Stage::Undecided { work: *work });
+            Told::Going
+        }
+        WorkStep::Acquires { count, work } => {
+            active.counts.push(*count);
+            go_on(active, Stage::Undecided { work: *work });
+            Told::Going
+        }
+        WorkStep::Refuses { refusal, tail } => decide(active, &refusal.reply(), None, tail),
+        WorkStep::Answers { value, drawn, tail } => {
+            decide(active, &Reply::Ok(*value), *drawn, tail)
+        }
+        WorkStep::Changes {
+            reply,
+            change,
+            drawn,
+            tail,
+        } => decide_changing(active, reply, change, *drawn, tail),
+    }
+}
+
+// The call is decided with this reply, has drawn this stamp or none and has this to store, and changes this of what its core has of its
+// own.
+#[inline(never)]
+fn decide_changing(
+    active: &mut ActiveCall,
+    reply: &Reply,
+    change: &OwnChange,
+    drawn: Option<Stamp>,
+    tail: &Tail,
+) -> Told
+    requires { active.old.steps < 1000 }
+    ensures told { result ≡ told (Changes reply.now change.now (went active.old (Decided reply.now drawn tail.now))) }
+    ensures after { active.new ≡ went active.old (Decided reply.now drawn tail.now) }
+{
+    go_on(
+        active,
+        Stage::Decided {
+            reply: *reply,
+            drawn,
+            tail: *tail,
+        },
+    );
+    Told::Changed {
+        reply: *reply,
+        change: *change,
+    }
+}
+
+// The call is decided with this reply, and has drawn this stamp or none.
+#[inline]
+fn decide(active: &mut ActiveCall, reply: &Reply, drawn: Option<Stamp>, tail: &Tail) -> Told
+    requires { active.old.steps < 1000 }
+    ensures told { result ≡ told (decided active.old reply.now drawn tail.now) }
+    ensures after { active.new ≡ call_after active.old (decided active.old reply.now drawn tail.now) }
+{
+    go_on(
+        active,
+        Stage::Decided {
+            reply: *reply,
+            drawn,
+            tail: *tail,
+        },
+    );
+    Told::Decided { reply: *reply }
+}
+
+// The call has made one more step, and stands at this stage.
+#[inline]
+fn go_on(active: &mut ActiveCall, stage: Stage)
+    requires { active.old.steps < 1000 }
+    ensures { active.new ≡ went active.old stage }
+{
+    active.steps += 1;
+    active.stage = stage;
+}
+
+ghost use Rattle.call_stages.specs.declared.stages.Stage.TheVariants.{Decided};

@@ -1,15 +1,16 @@
 //! A switch, step by step over plain words: the steps, what the words found lead to, and what the core is told.
 
 ghost use Rattle.std.specs.Prelude.{◌≡◌, ◌<◌, ◌≤◌};
-ghost use Rattle.call_steps.specs.Fits.{StageFits};
-ghost use Rattle.call_steps.specs.declared.stages.Stage.TheVariants.{Undecided, Decided};
-ghost use Rattle.call_acts.specs.declared.work.Work.TheVariants.{Act as act_work};
-ghost use Rattle.call_acts.specs.declared.switches.SwitchAt.TheVariants.{Leave, Draw};
+ghost use Rattle.call_stages.specs.Fits.{StageFits};
+ghost use Rattle.call_stages.specs.declared.stages.Stage.TheVariants.{Undecided, Decided};
+ghost use Rattle.act_states.specs.declared.work.Work.TheVariants.{Act as act_work};
+ghost use Rattle.act_states.specs.declared.switches.SwitchAt.TheVariants.{Leave, Draw};
 
-use crate::steps::stage_op;
-use crate::{ActiveCall, Stage, Told};
-use call_acts::{Act, Own, OwnChange, SwitchAt, Switching, Tail, Work, next_work};
+use crate::steps::{absorb, stage_op};
+use act_states::{Act, Own, OwnChange, SwitchAt, Switching, Tail, Work};
+use call_acts::next_work;
 use call_plans::{Caps, plan_of};
+use call_stages::{ActiveCall, Stage, Told};
 use spk_nums::{Call, CapId, CoreNo, FrameNo, Reply, Stamp, Translations, Value, WordOp};
 use stage_pins::{AcquiredCounts, Pin};
 use stage_thread::{Claim, Claimed};
@@ -85,7 +86,7 @@ fn step(layout: &Layout, stage: Stage, found: u64) -> (WordOp, Told, Stage)
         call,
         plan: plan_of(&call),
     };
-    let told = active.absorb(&own, found);
+    let told = absorb(&mut active, &own, found);
     (op, told, active.stage)
 }
 

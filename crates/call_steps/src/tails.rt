@@ -4,12 +4,15 @@ ghost use Rattle.std.specs.Prelude.{◌≡◌, ◌<◌};
 ghost use Rattle.word_map.specs.Places.{size_of};
 ghost use Rattle.word_map.specs.Moves.{op_of};
 ghost use Rattle.spk_nums.specs.WordSteps.{place_in};
-ghost use Rattle.call_steps.specs.Tails.{is_ok, tail_move, stamp_of, took_tail, commits, pushed_on, popped_on};
+ghost use Rattle.call_stages.specs.Tails.{is_ok, tail_move, stamp_of, took_tail, commits, pushed_on, popped_on};
 ghost use Rattle.stage_pins.specs.Held.{AllFit};
-ghost use Rattle.call_steps.specs.Fits.{TailFits};
+ghost use Rattle.call_stages.specs.Fits.{TailFits};
 
-use crate::stages::Stage;
-use call_acts::{Tail, dead_op, flushed_op, idle_op, running_op, shared_more, shared_op};
+use act_states::Tail;
+use call_acts::{
+    dead_op, flushed_op, idle_op, release_op, release_took, running_op, shared_more, shared_op,
+};
+use call_stages::Stage;
 use spk_nums::{Reply, Stamp, WordOp};
 use stage_pins::AcquiredCounts;
 use stage_thread::{Pop, Push};
@@ -69,7 +72,7 @@ pub fn tail_op(
             }
         },
         Tail::Release { release } => match counts.first() {
-            None => release.next(layout),
+            None => release_op(release, layout),
             Some(count) => {
                 let settle = count.commit(is_ok(reply), drawn);
                 settle.next(layout)
@@ -180,7 +183,7 @@ pub fn took_tail(
             None => Stage::Decided {
                 reply,
                 drawn,
-                tail: release.take(layout, found),
+                tail: release_took(release, layout, found),
             },
             Some(_) => Stage::Decided {
                 reply,

@@ -5,7 +5,7 @@ use Rattle.word_map.specs.Word.{Word, EntryAt, FrameAt, CountAt, CoreAt, FlushAt
 use Rattle.kernel_rules.specs.State.{put}
 use Rattle.kernel_rules.proofs.Within.{put_same, put_other}
 use Rattle.stage_pins.specs.declared.held.Acquired.{Acquired}
-use Rattle.call_steps.specs.View.{Core}
+use Rattle.call_stages.specs.View.{Core}
 use Rattle.core_invariant.specs.Holding.{Holding, holds_counts, kept_or, kept_below, bare_value}
 use Rattle.core_invariant.specs.Stands.{holds, held_by}
 

@@ -16,7 +16,7 @@ use Rattle.kernel_history.specs.Trace.{Step, Trace, state_after}
 use Rattle.kernel_history.specs.Stamps.{begins_at, ends_at, flushes_at, stamp, clock, clock_seen, exit_of, exit_after, flush_of, flush_stored}
 use Rattle.kernel_history.proofs.Steps.{stamp-kept, exit_of-own, exit_of-other, flush_of-own, flush_of-other, flush_stored-own, flush_stored-other}
 use Rattle.kernel_history.specs.Graces.{KeepsTime}
-use Rattle.call_acts.specs.declared.own.Own.{Own}
+use Rattle.act_states.specs.declared.own.Own.{Own}
 use Rattle.core_invariant.specs.Words.{count_room}
 use Rattle.core_invariant.specs.Knows.{WorksIn}
 use Rattle.core_invariant.specs.Stands.{times_of, counted_in}

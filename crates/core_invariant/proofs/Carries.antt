@@ -1,18 +1,18 @@
 -- What a call knows it still knows after a step of another core, and after an own step that decides nothing: each kind of
 -- knowledge once, over the few things that such a step keeps.
-use Rattle.call_acts.specs.Objects.{last_word}
-use Rattle.call_acts.specs.declared.objects.NewObject.{NewObject}
+use Rattle.act_states.specs.Objects.{last_word}
+use Rattle.act_states.specs.declared.objects.NewObject.{NewObject}
 use Rattle.frame_words.specs.Live.{live_of_word}
 use Rattle.frame_words.specs.declared.live_word.LiveWord.{LiveWord}
 use Rattle.frame_words.specs.declared.live_word.LiveWord.TheVariants as live_word
-use Rattle.call_acts.specs.declared.comps.CompAt.{CompAt}
-use Rattle.call_acts.specs.declared.comps.CompAt.TheVariants as comp_at
-use Rattle.call_acts.specs.declared.comps.CompMaking.{CompMaking}
-use Rattle.call_acts.specs.declared.comps.LastEpoch.{LastEpoch}
-use Rattle.call_acts.specs.Comps.{comp_is_marked, comp_word_at}
-use Rattle.call_acts.specs.Makings.{is_marked}
-use Rattle.call_acts.specs.declared.makings.MakingAt.TheVariants.{Load as making_load, Mark, Store, Fill as making_fill}
-use Rattle.call_acts.specs.declared.makings.MakingAt.{MakingAt}
+use Rattle.act_states.specs.declared.comps.CompAt.{CompAt}
+use Rattle.act_states.specs.declared.comps.CompAt.TheVariants as comp_at
+use Rattle.act_states.specs.declared.comps.CompMaking.{CompMaking}
+use Rattle.act_states.specs.declared.comps.LastEpoch.{LastEpoch}
+use Rattle.act_states.specs.Comps.{comp_is_marked, comp_word_at}
+use Rattle.act_states.specs.Makings.{is_marked}
+use Rattle.act_states.specs.declared.makings.MakingAt.TheVariants.{Load as making_load, Mark, Store, Fill as making_fill}
+use Rattle.act_states.specs.declared.makings.MakingAt.{MakingAt}
 use Rattle.std.proofs.Common.{map, ◌+◌, ◌≡◌, ◌≤◌, arith, inl, inr, ℕ, ◌&&◌, nat_le, if◌then◌else◌, cond, [], ◌∷◌, ◌++◌, List, Bool, true, false, Option, Some, None, refl, ◌∙◌, ap, subst, ◌==◌, sym, IsTrue}
 use Rattle.std.specs.Prelude.{IsSome, is_some, All, length}
 use Rattle.std.proofs.lemmas.Bool.{eq-eqb, false≢true}
@@ -24,8 +24,8 @@ use Rattle.spk_nums.specs.Setting.{Setting, IsSetting}
 use Rattle.spk_nums.specs.declared.kinds.Kind.{Kind}
 use Rattle.spk_nums.specs.declared.kinds.Kind.TheVariants.{Comp as comp_kind}
 use Rattle.frame_words.specs.declared.comp_word.CompWord.{CompWord}
-use Rattle.call_acts.specs.declared.kills.KillingAt.{KillingAt}
-use Rattle.call_acts.specs.declared.kills.KillingAt.TheVariants.{LoadComp, LoadLive, Close as kill_close, Draw as kill_draw}
+use Rattle.act_states.specs.declared.kills.KillingAt.{KillingAt}
+use Rattle.act_states.specs.declared.kills.KillingAt.TheVariants.{LoadComp, LoadLive, Close as kill_close, Draw as kill_draw}
 use Rattle.spk_nums.specs.declared.calls.Call.{Call}
 use Rattle.word_map.specs.Word.{Word, EntryAt, CountAt, FrameAt, LiveAt}
 use Rattle.word_map.specs.Places.{counter_of}
@@ -49,7 +49,7 @@ use Rattle.call_plans.specs.declared.plans.Name.{Name}
 use Rattle.call_plans.specs.declared.plans.Plan.{Plan}
 use Rattle.call_plans.specs.GoesBy.{wants}
 use Rattle.call_plans.specs.After.{Leads, Next, NextName, NextFree, NextHeld, NextOwn, NextNothing, next_of}
-use Rattle.call_acts.specs.declared.fills.Fill.{Fill}
+use Rattle.act_states.specs.declared.fills.Fill.{Fill}
 use Rattle.entry_words.specs.declared.entry.Entry.{Entry}
 use Rattle.entry_words.specs.declared.entry.Entry.TheVariants as entry
 use Rattle.entry_words.specs.EntryWord.{entry_of_word}
@@ -61,23 +61,23 @@ use Rattle.stage_quiet.specs.declared.quiet.Quiet.{Quiet}
 use Rattle.stage_quiet.specs.declared.quiet.Quiet.TheVariants.{AtCore, AtFlush}
 use Rattle.stage_pins.specs.declared.pin.Pin.{Pin}
 use Rattle.stage_pins.specs.declared.pin.Pin.TheVariants.{AtLoad, AtCompare as pin_compare}
-use Rattle.call_acts.specs.declared.work.Act.{Act as ActOf}
-use Rattle.call_acts.specs.declared.work.Act.TheVariants.{Fill as fill_act, Remove as remove_act, Retype as type_act, Make as make_act, Outside, Tick as tick_act, Flush as flush_act, Kill as kill_act, Untype as untype_act, Map as map_act, MakeComp as comp_act, Invoke as invoke_act, Return as return_act, Touch as touch_act, Share as share_act, Switch as switch_act}
-use Rattle.call_acts.specs.declared.work.Work.{Work}
-use Rattle.call_acts.specs.declared.work.Work.TheVariants.{Lookup, Read, Scan, Acquire, Act}
-use Rattle.call_acts.specs.Acts.{reads_of, dues}
+use Rattle.act_states.specs.declared.work.Act.{Act as ActOf}
+use Rattle.act_states.specs.declared.work.Act.TheVariants.{Fill as fill_act, Remove as remove_act, Retype as type_act, Make as make_act, Outside, Tick as tick_act, Flush as flush_act, Kill as kill_act, Untype as untype_act, Map as map_act, MakeComp as comp_act, Invoke as invoke_act, Return as return_act, Touch as touch_act, Share as share_act, Switch as switch_act}
+use Rattle.act_states.specs.declared.work.Work.{Work}
+use Rattle.act_states.specs.declared.work.Work.TheVariants.{Lookup, Read, Scan, Acquire, Act}
+use Rattle.act_states.specs.Acts.{reads_of, dues}
 use Rattle.core_invariant.specs.Shares.{KnowsShare}
-use Rattle.call_steps.specs.declared.stages.ActiveCall.{ActiveCall}
-use Rattle.call_acts.specs.declared.work.Due.{Due}
+use Rattle.call_stages.specs.declared.stages.ActiveCall.{ActiveCall}
+use Rattle.act_states.specs.declared.work.Due.{Due}
 use Rattle.stage_tcap.specs.declared.pair.Pair.{Pair}
 use Rattle.core_invariant.specs.Knows.{is_start, due_of, IsCount, IsReached, HasFound, LookIs, LooksUp, own_in, NamesAre, LooksFor, IsScanned, MayFill, IsFill, IsRemoval, KnowsClose, KnowsAct, KnowsQuiet, KnowsStore, HasLoaded, KnowsWork, KnowsUndecided, KnowsTyping, HasMetAt, ChargesBy, HasHeadAt, KnowsTick, IsSpot, HasStored, KnowsMakingAt, HasLife, HasComp, KnowsKillingAt, KnowsDead, ReadIs, ReadBefore, scanned_for, KnowsScan, HasUser, IsUser, MayTake, TakesNumber, KnowsNumber, HasWords, KnowsCompAt, KnowsLive}
 use Rattle.stage_tcap.specs.declared.charge.Charge.{Charge}
 use Rattle.stage_tcap.specs.declared.charge.Charge.TheVariants.{AtLoad as charge_load, AtCompare as charge_compare}
-use Rattle.call_acts.specs.Ticks.{ticks_due}
+use Rattle.act_states.specs.Ticks.{ticks_due}
 use Rattle.spk_nums.specs.declared.calls.Call.TheVariants.{Map, Tick}
-use Rattle.call_acts.specs.declared.typings.Typing.{Typing}
-use Rattle.call_acts.specs.declared.typings.TypingAt.{TypingAt}
-use Rattle.call_acts.specs.declared.typings.TypingAt.TheVariants.{Load, Compare as type_compare}
+use Rattle.act_states.specs.declared.typings.Typing.{Typing}
+use Rattle.act_states.specs.declared.typings.TypingAt.{TypingAt}
+use Rattle.act_states.specs.declared.typings.TypingAt.TheVariants.{Load, Compare as type_compare}
 use Rattle.frame_words.specs.declared.count_word.CountWord.{CountWord}
 use Rattle.kernel_rules.specs.References.{frame_names}
 use Rattle.stage_sweep.specs.Counters.{latest_stamp}
@@ -86,17 +86,17 @@ use Rattle.stage_sweep.specs.declared.empty.Owned.{Owned}
 use Rattle.stage_sweep.specs.declared.sweep.Sweep.{Sweep}
 use Rattle.stage_sweep.specs.declared.sweep.SweepAt.{SweepAt}
 use Rattle.stage_sweep.specs.declared.sweep.SweepAt.TheVariants.{Load as sweep_load, Compare as sweep_compare, Scan as sweep_scan, Empty as sweep_empty}
-use Rattle.call_acts.specs.declared.untypings.UntypingAt.{UntypingAt}
-use Rattle.call_acts.specs.declared.untypings.UntypingAt.TheVariants as untype
-use Rattle.call_acts.specs.declared.invocations.Invoking.{Invoking}
-use Rattle.call_acts.specs.declared.invocations.Returning.{Returning}
-use Rattle.call_acts.specs.declared.invocations.ReturningAt.{ReturningAt}
-use Rattle.call_acts.specs.declared.invocations.ReturningAt.TheVariants as returning
+use Rattle.act_states.specs.declared.untypings.UntypingAt.{UntypingAt}
+use Rattle.act_states.specs.declared.untypings.UntypingAt.TheVariants as untype
+use Rattle.act_states.specs.declared.invocations.Invoking.{Invoking}
+use Rattle.act_states.specs.declared.invocations.Returning.{Returning}
+use Rattle.act_states.specs.declared.invocations.ReturningAt.{ReturningAt}
+use Rattle.act_states.specs.declared.invocations.ReturningAt.TheVariants as returning
 use Rattle.core_invariant.specs.Components.{IsOnThread, HasLoadedComp, KnowsInvoking, IsBelow, HasLoadedBelow, KnowsReturning, below_of}
 use Rattle.stage_thread.specs.declared.claim.Claim.TheVariants as claim
 use Rattle.stage_thread.specs.declared.claim.Claimed.{Claimed}
-use Rattle.call_acts.specs.declared.switches.SwitchAt.{SwitchAt}
-use Rattle.call_acts.specs.declared.switches.SwitchAt.TheVariants as switch_at
+use Rattle.act_states.specs.declared.switches.SwitchAt.{SwitchAt}
+use Rattle.act_states.specs.declared.switches.SwitchAt.TheVariants as switch_at
 use Rattle.core_invariant.specs.Threads.{HasThread, IsTop, HasTable, HasRoots, KnowsSwitchAt, claimed_by, is_claimed}
 use Rattle.core_invariant.specs.Sweeps.{IsQuiet, IsSwept, KnowsSweepScan, KnowsSweepAt, KnowsUntypingAt}
 use Rattle.core_invariant.proofs.Swept.{LeavesFrame, looked_on}

@@ -19,7 +19,7 @@ use Rattle.kernel_history.specs.Stamps.{is_in}
 use Rattle.kernel_history.specs.Trace.{Step, Trace, phase, state_after, last_left}
 use Rattle.kernel_history.proofs.Stays.{stays_in_other}
 use Rattle.thread_laws.proofs.Steps.{thread_stays, idle_stays}
-use Rattle.call_steps.specs.View.{Core}
+use Rattle.call_stages.specs.View.{Core}
 use Rattle.core_invariant.specs.Holding.{MarkIs, settled, settled_by}
 use Rattle.core_invariant.specs.Words.{Times, IsFrameWord, WordIs, count_room}
 use Rattle.core_invariant.specs.Stands.{holds, held_by, times_of, Stands}

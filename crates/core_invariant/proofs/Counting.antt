@@ -15,8 +15,8 @@ use Rattle.kernel_history.proofs.Carries.{Carries, carries_own}
 use Rattle.kernel_history.proofs.Names.{same_word-same, same_word-other}
 use Rattle.kernel_history.proofs.Steps.{phase-own, steps_in_call-own, last_left-there}
 use Rattle.stage_pins.specs.declared.held.Acquired.{Acquired}
-use Rattle.call_steps.specs.declared.stages.ActiveCall.{ActiveCall}
-use Rattle.call_steps.specs.View.{Core}
+use Rattle.call_stages.specs.declared.stages.ActiveCall.{ActiveCall}
+use Rattle.call_stages.specs.View.{Core}
 use Rattle.core_invariant.specs.Holding.{count_of, committed, holds_counts, AreApart, settled_by, settled}
 use Rattle.core_invariant.specs.Knows.{phase_at, Knows, IsCount, CoreIs, flushing_in}
 use Rattle.core_invariant.specs.Stands.{holds_in, holds, held_by, Stands}

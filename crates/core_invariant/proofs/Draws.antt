@@ -13,9 +13,9 @@ use Rattle.kernel_history.specs.Legal.{MayDecide}
 use Rattle.kernel_history.specs.Marking.{marked_by}
 use Rattle.kernel_history.specs.Stamps.{flushes_at, clock, flush_of}
 use Rattle.kernel_history.proofs.Steps.{phase-own, steps_in_call-own, flush_of-own, flush_stored-own}
-use Rattle.call_steps.specs.declared.stages.Stage.{Stage}
-use Rattle.call_steps.specs.declared.stages.ActiveCall.{ActiveCall}
-use Rattle.call_steps.specs.View.{Core}
+use Rattle.call_stages.specs.declared.stages.Stage.{Stage}
+use Rattle.call_stages.specs.declared.stages.ActiveCall.{ActiveCall}
+use Rattle.call_stages.specs.View.{Core}
 use Rattle.core_invariant.specs.Words.{WordIs}
 use Rattle.core_invariant.specs.Knows.{phase_at, Knows, WorksIn, CoreIs, flushing_in}
 use Rattle.core_invariant.specs.Stands.{holds, held_by, times_of, counted_in, SumIs, Stands}

@@ -1,5 +1,5 @@
 -- What a core's flush word shows: the flush that the core has stored, which is not later than its last.
-use Rattle.call_steps.specs.View.{Core}
+use Rattle.call_stages.specs.View.{Core}
 use Rattle.core_invariant.specs.Stands.{Stands}
 use Rattle.frame_words.specs.declared.flush_word.FlushWord.{FlushWord}
 use Rattle.frame_words.specs.Flush.{flush_of_word}

@@ -1,25 +1,25 @@
 -- Flushes that are decided and still to be stored. What a core holds stands for nothing at a flush word, but there: so where a step
 -- leaves what it stands for at its core's flush word, the core has its last flush stored if it had before.
-use Rattle.call_acts.specs.declared.kills.KillingAt.{KillingAt}
-use Rattle.call_acts.specs.declared.kills.KillingAt.TheVariants.{LoadComp, LoadLive, Close as kill_close, Draw as kill_draw}
-use Rattle.call_acts.specs.declared.makings.MakingAt.{MakingAt}
-use Rattle.call_acts.specs.declared.makings.MakingAt.TheVariants.{Load, Mark, Store, Fill as making_fill}
-use Rattle.call_acts.specs.declared.work.Act.{Act as ActOf}
-use Rattle.call_acts.specs.declared.work.Act.TheVariants.{Fill, Remove, Retype, Make, Map, Outside, Tick, Flush, Kill, Untype, MakeComp, Invoke, Return, Touch, Share as share_act, Switch as switch_act}
-use Rattle.call_acts.specs.declared.comps.CompMaking.{CompMaking}
-use Rattle.call_acts.specs.declared.comps.CompAt.{CompAt}
-use Rattle.call_acts.specs.declared.comps.CompAt.TheVariants as comp_at
-use Rattle.call_acts.specs.declared.work.Tail.{Tail}
-use Rattle.call_acts.specs.declared.work.Tail.TheVariants.{Nothing, Quiesce, Unmark, StoreDead, StoreFlush, StoreLive, Push, Pop, Release, Share, StoreRunning, StoreIdle}
-use Rattle.call_acts.specs.declared.work.Work.{Work}
-use Rattle.call_acts.specs.declared.work.Work.TheVariants.{Lookup, Read, Scan, Acquire, Act as act_work}
-use Rattle.call_steps.specs.declared.stages.ActiveCall.{ActiveCall}
-use Rattle.call_steps.specs.declared.stages.Stage.{Stage}
-use Rattle.call_steps.specs.declared.stages.Stage.TheVariants.{Enter, Undecided, Decided, Leave}
+use Rattle.act_states.specs.declared.kills.KillingAt.{KillingAt}
+use Rattle.act_states.specs.declared.kills.KillingAt.TheVariants.{LoadComp, LoadLive, Close as kill_close, Draw as kill_draw}
+use Rattle.act_states.specs.declared.makings.MakingAt.{MakingAt}
+use Rattle.act_states.specs.declared.makings.MakingAt.TheVariants.{Load, Mark, Store, Fill as making_fill}
+use Rattle.act_states.specs.declared.work.Act.{Act as ActOf}
+use Rattle.act_states.specs.declared.work.Act.TheVariants.{Fill, Remove, Retype, Make, Map, Outside, Tick, Flush, Kill, Untype, MakeComp, Invoke, Return, Touch, Share as share_act, Switch as switch_act}
+use Rattle.act_states.specs.declared.comps.CompMaking.{CompMaking}
+use Rattle.act_states.specs.declared.comps.CompAt.{CompAt}
+use Rattle.act_states.specs.declared.comps.CompAt.TheVariants as comp_at
+use Rattle.act_states.specs.declared.work.Tail.{Tail}
+use Rattle.act_states.specs.declared.work.Tail.TheVariants.{Nothing, Quiesce, Unmark, StoreDead, StoreFlush, StoreLive, Push, Pop, Release, Share, StoreRunning, StoreIdle}
+use Rattle.act_states.specs.declared.work.Work.{Work}
+use Rattle.act_states.specs.declared.work.Work.TheVariants.{Lookup, Read, Scan, Acquire, Act as act_work}
+use Rattle.call_stages.specs.declared.stages.ActiveCall.{ActiveCall}
+use Rattle.call_stages.specs.declared.stages.Stage.{Stage}
+use Rattle.call_stages.specs.declared.stages.Stage.TheVariants.{Enter, Undecided, Decided, Leave}
 use Rattle.stage_sweep.specs.Freeze.{swept_of}
-use Rattle.call_acts.specs.Untypings.{release_of}
-use Rattle.call_acts.specs.declared.untypings.UntypingAt.{UntypingAt}
-use Rattle.call_acts.specs.declared.untypings.UntypingAt.TheVariants as untype
+use Rattle.act_states.specs.Untypings.{release_of}
+use Rattle.act_states.specs.declared.untypings.UntypingAt.{UntypingAt}
+use Rattle.act_states.specs.declared.untypings.UntypingAt.TheVariants as untype
 use Rattle.core_invariant.specs.Frozen.{holds_untyping}
 use Rattle.core_invariant.proofs.Freezing.{release_flush}
 use Rattle.core_invariant.specs.Holding.{Holding, holds_counts, holds_closed, holds_drawn}

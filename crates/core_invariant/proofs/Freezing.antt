@@ -7,7 +7,7 @@ use Rattle.word_map.proofs.WordLemmas.{same_same}
 use Rattle.stage_sweep.specs.Release.{released, thaw_of}
 use Rattle.stage_sweep.specs.declared.sweep.Swept.{Swept}
 use Rattle.stage_sweep.specs.declared.thaw.Thaw.{Thaw}
-use Rattle.call_acts.specs.declared.untypings.Release.{Release}
+use Rattle.act_states.specs.declared.untypings.Release.{Release}
 use Rattle.core_invariant.specs.Frozen.{is_frozen, thawed, holds_thaw, holds_release}
 use Rattle.core_invariant.specs.Holding.{Holding}
 use Rattle.core_invariant.specs.Sweeps.{ThawsFrame}

@@ -26,8 +26,8 @@ use Rattle.kernel_history.specs.Events.{events_of}
 use Rattle.kernel_history.proofs.Events.{state_is, run_of}
 use Rattle.kernel_history.proofs.Stays.{own_stays_other}
 use Rattle.tcap_words.specs.Head.{head_of_word}
-use Rattle.call_steps.specs.declared.stages.ActiveCall.{ActiveCall}
-use Rattle.call_steps.specs.View.{Core}
+use Rattle.call_stages.specs.declared.stages.ActiveCall.{ActiveCall}
+use Rattle.call_stages.specs.View.{Core}
 use Rattle.core_invariant.specs.Holding.{Holding, bare_value, MarkIs}
 use Rattle.core_invariant.specs.Knows.{phase_at}
 use Rattle.core_invariant.specs.Shares.{HasTcap}

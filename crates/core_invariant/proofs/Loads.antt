@@ -1,6 +1,6 @@
 -- The ways in which a call in flight makes a step that leaves its word as found: it goes on undecided, or it is decided with a
 -- reply that leaves all as it was but the count of calls.
-use Rattle.call_acts.specs.declared.work.Tail.{Tail}
+use Rattle.act_states.specs.declared.work.Tail.{Tail}
 use Rattle.std.proofs.Common.{◌≡◌, ◌≢◌, ◌⊎◌, ℕ, ◌+◌, ◌^◌, ◌<◌, ◌≤◌, false, List, ◌∷◌, Option, Some, None, arith, refl, sym, ◌∙◌, ap, subst}
 use Rattle.spk_nums.specs.Bounds.{bound_of}
 use Rattle.spk_nums.specs.Capability.{Capability}
@@ -28,12 +28,12 @@ use Rattle.kernel_history.proofs.Carries.{Carries, carries_own}
 use Rattle.kernel_history.specs.Stamps.{begins_in, ends_in, flushes_in, flush_stored}
 use Rattle.kernel_history.proofs.Small.{last_small}
 use Rattle.kernel_history.proofs.Steps.{phase-own, steps_in_call-own}
-use Rattle.call_steps.specs.declared.stages.Stage.{Stage}
-use Rattle.call_acts.specs.declared.work.Tail.TheVariants.{Nothing}
-use Rattle.call_steps.specs.declared.stages.Stage.TheVariants.{Enter, Undecided, Decided, Leave}
-use Rattle.call_steps.specs.declared.stages.ActiveCall.{ActiveCall}
-use Rattle.call_steps.specs.View.{Core}
-use Rattle.call_steps.specs.Fits.{IsCore, IsActive, CallFits, left_at}
+use Rattle.call_stages.specs.declared.stages.Stage.{Stage}
+use Rattle.act_states.specs.declared.work.Tail.TheVariants.{Nothing}
+use Rattle.call_stages.specs.declared.stages.Stage.TheVariants.{Enter, Undecided, Decided, Leave}
+use Rattle.call_stages.specs.declared.stages.ActiveCall.{ActiveCall}
+use Rattle.call_stages.specs.View.{Core}
+use Rattle.call_stages.specs.Fits.{IsCore, IsActive, CallFits, left_at}
 use Rattle.core_invariant.specs.Knows.{phase_at, Knows, IsIn, CallIs, WorksIn, CoreIs, KnowsTail, is_flushing, flushing_in}
 use Rattle.core_invariant.specs.Stands.{done_by, holds_at, holds_in, holds, held_by, Stands}
 use Rattle.core_invariant.proofs.Markers.{phase_in, phase_call}

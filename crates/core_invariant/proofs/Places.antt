@@ -12,7 +12,7 @@ use Rattle.kernel_rules.specs.Relies.{is_node}
 use Rattle.kernel_history.specs.Marks.{entry_mark, mark_in_frame}
 use Rattle.kernel_history.specs.Trace.{Trace, state_after, last_left}
 use Rattle.kernel_history.specs.Stamps.{stamp}
-use Rattle.call_steps.specs.View.{Core}
+use Rattle.call_stages.specs.View.{Core}
 use Rattle.kernel_history.specs.Marking.{marked_by}
 use Rattle.core_invariant.specs.Holding.{settled_by}
 use Rattle.core_invariant.specs.Words.{PlaceIs, IsFrameWord, count_room}

@@ -1,5 +1,5 @@
 -- The refusals of a call at a load: each leaves all as it was, but counts the call.
-use Rattle.call_acts.specs.declared.work.Tail.{Tail}
+use Rattle.act_states.specs.declared.work.Tail.{Tail}
 use Rattle.std.proofs.Common.{◌≡◌, ◌≢◌, ℕ, ◌+◌, ◌<◌, Option, Bool, true, false, Some, None, arith, refl, sym, ◌∙◌, ap, subst, List, [], ◌∷◌, inl, inr}
 use Rattle.std.proofs.lemmas.Bool.{false≢true, lt-leb}
 use Rattle.spk_nums.specs.Setting.{Setting, IsSetting}
@@ -17,9 +17,9 @@ use Rattle.kernel_history.specs.Justified.{IsOnWay, IsRaceLost, IsHeldUp}
 use Rattle.kernel_history.specs.Alone.{IsAlone}
 use Rattle.kernel_history.proofs.AloneCalls.{refused_first, nobody_waits}
 use Rattle.kernel_history.proofs.Laws.{not_inside, not_changed}
-use Rattle.call_acts.specs.Acts.{reads_of}
-use Rattle.call_steps.specs.declared.stages.ActiveCall.{ActiveCall}
-use Rattle.call_steps.specs.declared.stages.Stage.{Stage}
+use Rattle.act_states.specs.Acts.{reads_of}
+use Rattle.call_stages.specs.declared.stages.ActiveCall.{ActiveCall}
+use Rattle.call_stages.specs.declared.stages.Stage.{Stage}
 use Rattle.call_plans.specs.declared.plans.Plan.{Plan}
 use Rattle.call_plans.specs.PlanOf.{plan_for}
 use Rattle.call_plans.specs.After.{next_of}
@@ -27,16 +27,16 @@ use Rattle.spk_nums.specs.Capability.{Capability}
 use Rattle.stage_look.specs.declared.look.Look.{Look as LookOf}
 use Rattle.stage_quiet.specs.declared.close.Close.TheVariants.{AtCompare, AtDraw, AtStore}
 use Rattle.stage_quiet.specs.declared.quiet.Quiet.TheVariants.{AtCore, AtFlush}
-use Rattle.call_acts.specs.declared.work.Act.{Act as ActOf}
-use Rattle.call_acts.specs.declared.work.Act.TheVariants.{Fill as fill_act, Remove as remove_act, Retype as type_act, Make as make_act, Outside, Tick as tick_act, Flush as flush_act, Kill as kill_act, Untype as untype_act, Map as map_act, MakeComp as comp_act, Invoke as invoke_act, Return as return_act, Touch as touch_act, Share as share_act, Switch as switch_act}
-use Rattle.call_acts.specs.declared.work.Work.{Work}
-use Rattle.call_acts.specs.declared.work.Work.TheVariants.{Lookup, Read, Scan, Acquire, Act}
-use Rattle.call_steps.specs.View.{Core}
+use Rattle.act_states.specs.declared.work.Act.{Act as ActOf}
+use Rattle.act_states.specs.declared.work.Act.TheVariants.{Fill as fill_act, Remove as remove_act, Retype as type_act, Make as make_act, Outside, Tick as tick_act, Flush as flush_act, Kill as kill_act, Untype as untype_act, Map as map_act, MakeComp as comp_act, Invoke as invoke_act, Return as return_act, Touch as touch_act, Share as share_act, Switch as switch_act}
+use Rattle.act_states.specs.declared.work.Work.{Work}
+use Rattle.act_states.specs.declared.work.Work.TheVariants.{Lookup, Read, Scan, Acquire, Act}
+use Rattle.call_stages.specs.View.{Core}
 use Rattle.kernel_rules.specs.Laws.{calls_counted}
-use Rattle.call_acts.specs.declared.work.Tail.TheVariants.{Nothing}
-use Rattle.call_steps.specs.declared.stages.Stage.TheVariants.{Enter, Undecided, Decided, Leave}
-use Rattle.call_steps.specs.Steps.{Took}
-use Rattle.call_steps.specs.Cores.{core_after, told_by}
+use Rattle.act_states.specs.declared.work.Tail.TheVariants.{Nothing}
+use Rattle.call_stages.specs.declared.stages.Stage.TheVariants.{Enter, Undecided, Decided, Leave}
+use Rattle.call_stages.specs.Steps.{Took}
+use Rattle.call_stages.specs.Cores.{core_after, told_by}
 use Rattle.kernel_history.specs.Marking.{marked_by}
 use Rattle.core_invariant.specs.Holding.{holds_counts}
 use Rattle.core_invariant.specs.Knows.{phase_at, CoreIs, KnowsTail, NamesAre, LooksFor, KnowsAct, KnowsUndecided, KnowsAt}

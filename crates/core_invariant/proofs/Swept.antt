@@ -30,8 +30,8 @@ use Rattle.stage_sweep.specs.Counters.{sum_of_counts, latest_stamp}
 use Rattle.stage_sweep.specs.Release.{released}
 use Rattle.stage_sweep.specs.declared.empty.Owned.{Owned}
 use Rattle.stage_sweep.specs.declared.sweep.Swept.{Swept}
-use Rattle.call_acts.specs.Untypings.{release_of}
-use Rattle.call_steps.specs.View.{Core}
+use Rattle.act_states.specs.Untypings.{release_of}
+use Rattle.call_stages.specs.View.{Core}
 use Rattle.core_invariant.specs.CountWords.{stamp_in, newest_of}
 use Rattle.core_invariant.specs.Frozen.{holds_release}
 use Rattle.core_invariant.specs.Holding.{Holding, settled}

@@ -6,10 +6,10 @@ use Rattle.tcap_words.specs.declared.thread_word.ThreadWord.TheVariants.{Idle, R
 use Rattle.stage_thread.specs.declared.claim.Claim.TheVariants.{AtLoad, AtCompare, AtStack}
 use Rattle.word_map.specs.Word.{Word, EntryAt, CountAt, FlushAt, same_word}
 use Rattle.word_map.proofs.WordLemmas.{same_same}
-use Rattle.call_acts.specs.Switches.{is_switching, switching_undo}
-use Rattle.call_acts.specs.declared.switches.Switching.{Switching}
-use Rattle.call_acts.specs.declared.switches.SwitchAt.{SwitchAt}
-use Rattle.call_acts.specs.declared.switches.SwitchAt.TheVariants.{Claim, LoadTable, LoadPages, Leave, Draw}
+use Rattle.act_states.specs.Switches.{is_switching, switching_undo}
+use Rattle.act_states.specs.declared.switches.Switching.{Switching}
+use Rattle.act_states.specs.declared.switches.SwitchAt.{SwitchAt}
+use Rattle.act_states.specs.declared.switches.SwitchAt.TheVariants.{Claim, LoadTable, LoadPages, Leave, Draw}
 use Rattle.core_invariant.specs.Holding.{Holding, keeps}
 use Rattle.core_invariant.specs.Stands.{holds_tail}
 use Rattle.core_invariant.specs.Threads.{holds_idle, holds_switching, claimed_by, is_claimed}

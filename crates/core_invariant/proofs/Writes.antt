@@ -26,12 +26,12 @@ use Rattle.kernel_history.specs.Stamps.{clock, exit_of}
 use Rattle.kernel_history.specs.Graces.{IsLeave}
 use Rattle.kernel_history.proofs.Inside.{decided-inside, inside-own, inside-other}
 use Rattle.kernel_history.proofs.Steps.{phase-own, steps_in_call-own, exit_of-own, exit_of-other, last_left-there}
-use Rattle.call_steps.specs.declared.stages.Stage.{Stage}
-use Rattle.call_steps.specs.declared.stages.Stage.TheVariants.{Decided, Leave}
-use Rattle.call_steps.specs.declared.stages.ActiveCall.{ActiveCall}
-use Rattle.call_steps.specs.View.{Core}
-use Rattle.call_steps.specs.Steps.{core_word}
-use Rattle.call_steps.specs.Cores.{fresh}
+use Rattle.call_stages.specs.declared.stages.Stage.{Stage}
+use Rattle.call_stages.specs.declared.stages.Stage.TheVariants.{Decided, Leave}
+use Rattle.call_stages.specs.declared.stages.ActiveCall.{ActiveCall}
+use Rattle.call_stages.specs.View.{Core}
+use Rattle.call_stages.specs.Steps.{core_word}
+use Rattle.call_stages.specs.Cores.{fresh}
 use Rattle.kernel_history.specs.Marking.{marked_by}
 use Rattle.core_invariant.specs.Words.{count_room, WordIs}
 use Rattle.core_invariant.proofs.Sounds.{limits_of}
@@ -43,7 +43,7 @@ use Rattle.core_invariant.proofs.Bare.{IsNotKept, free_value, counts_bare}
 use Rattle.core_invariant.proofs.Lent.{keeps_there, lent_still, lent_open, lent_none, lent_free, lent_elsewhere}
 use Rattle.core_invariant.specs.Holding.{nothing, count_of, holds_counts, settled}
 use Rattle.stage_pins.specs.declared.held.Acquired.{Acquired}
-use Rattle.call_steps.specs.Fits.{CountsAt}
+use Rattle.call_stages.specs.Fits.{CountsAt}
 use Rattle.std.proofs.lemmas.List.Elements.{All-nil}
 use Rattle.core_invariant.proofs.Flushing.{still_flushed, open_flushed}
 use Rattle.core_invariant.proofs.Good.{IsGood, SparesBlanks, spares_other}

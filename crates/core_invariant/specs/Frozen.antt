@@ -5,10 +5,10 @@ use Rattle.word_map.specs.Word.{Word, CountAt, FrameAt}
 use Rattle.stage_sweep.specs.Freeze.{swept_of}
 use Rattle.stage_sweep.specs.Release.{released}
 use Rattle.stage_sweep.specs.declared.thaw.Thaw.{Thaw}
-use Rattle.call_acts.specs.Untypings.{release_of}
-use Rattle.call_acts.specs.declared.untypings.Release.{Release}
-use Rattle.call_acts.specs.declared.untypings.UntypingAt.{UntypingAt}
-use Rattle.call_acts.specs.declared.untypings.UntypingAt.TheVariants.{Load, Mark, Sweep as sweep_at, Draw}
+use Rattle.act_states.specs.Untypings.{release_of}
+use Rattle.act_states.specs.declared.untypings.Release.{Release}
+use Rattle.act_states.specs.declared.untypings.UntypingAt.{UntypingAt}
+use Rattle.act_states.specs.declared.untypings.UntypingAt.TheVariants.{Load, Mark, Sweep as sweep_at, Draw}
 use Rattle.core_invariant.specs.Holding.{Holding, keeps}
 
 -- Whether a word is a counter that is frozen and still to be released.

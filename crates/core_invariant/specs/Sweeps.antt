@@ -31,10 +31,10 @@ use Rattle.stage_sweep.specs.declared.sweep.SweepAt.{SweepAt}
 use Rattle.stage_sweep.specs.declared.sweep.SweepAt.TheVariants.{Load as sweep_load, Compare, Scan, Empty}
 use Rattle.stage_sweep.specs.declared.sweep.Swept.{Swept}
 use Rattle.stage_sweep.specs.declared.thaw.Thaw.{Thaw}
-use Rattle.call_acts.specs.declared.untypings.Release.{Release}
-use Rattle.call_acts.specs.declared.untypings.UntypingAt.{UntypingAt}
-use Rattle.call_acts.specs.declared.untypings.UntypingAt.TheVariants.{Load, Mark, Sweep as sweep_at, Draw}
-use Rattle.call_acts.specs.declared.untypings.Untyping.{Untyping}
+use Rattle.act_states.specs.declared.untypings.Release.{Release}
+use Rattle.act_states.specs.declared.untypings.UntypingAt.{UntypingAt}
+use Rattle.act_states.specs.declared.untypings.UntypingAt.TheVariants.{Load, Mark, Sweep as sweep_at, Draw}
+use Rattle.act_states.specs.declared.untypings.Untyping.{Untyping}
 
 -- The call makes this frame untyped, which the range has to which its name has led.
 pub record IsUntyped (f : ℕ) (m : Untyping) (has : Bool) : Type 0 where

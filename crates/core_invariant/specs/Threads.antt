@@ -18,9 +18,9 @@ use Rattle.kernel_rules.specs.Relies.{IsGuarded}
 use Rattle.kernel_history.specs.Discipline.{changes_threads}
 use Rattle.kernel_history.specs.Footprint.{IsNearIn}
 use Rattle.kernel_history.specs.Trace.{Trace, WasAt, own_read, state_after}
-use Rattle.call_acts.specs.declared.switches.Switching.{Switching}
-use Rattle.call_acts.specs.declared.switches.SwitchAt.{SwitchAt}
-use Rattle.call_acts.specs.declared.switches.SwitchAt.TheVariants.{Claim, LoadTable, LoadPages, Leave, Draw}
+use Rattle.act_states.specs.declared.switches.Switching.{Switching}
+use Rattle.act_states.specs.declared.switches.SwitchAt.{SwitchAt}
+use Rattle.act_states.specs.declared.switches.SwitchAt.TheVariants.{Claim, LoadTable, LoadPages, Leave, Draw}
 use Rattle.core_invariant.specs.Holding.{Holding, keeps}
 use Rattle.core_invariant.specs.Components.{HasComp}
 

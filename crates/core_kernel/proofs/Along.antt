@@ -17,14 +17,14 @@ use Rattle.turn_rule.specs.declared.view.Entry.{Entry}
 use Rattle.turn_rule.specs.declared.view.Start.{Start}
 use Rattle.turn_rule.specs.Trace.{called, MayCall, word_after, program_after, MayFollow, IsSound}
 use Rattle.turn_rule.proofs.Traces.{kept_along, word_here, word_elsewhere, program_here, program_elsewhere, core_inside}
-use Rattle.call_steps.specs.declared.stages.ActiveCall.{ActiveCall}
-use Rattle.call_steps.specs.View.{Core}
-use Rattle.call_steps.specs.Fits.{IsCore}
+use Rattle.call_stages.specs.declared.stages.ActiveCall.{ActiveCall}
+use Rattle.call_stages.specs.View.{Core}
+use Rattle.call_stages.specs.Fits.{IsCore}
 use Rattle.flight.specs.Histories.{IsHistory}
 use Rattle.flight.specs.Made.{turned, MayStep, core_after, cores_after, IsMade, IsMadeStep}
 use Rattle.flight.specs.Phases.{IsWord}
 use Rattle.core_invariant.specs.Stands.{Stands}
-use Rattle.call_steps.specs.Cores.{started, move_of, absorbed}
+use Rattle.call_stages.specs.Cores.{started, move_of, absorbed}
 use Rattle.flight.proofs.ByPlace.{place_is, left_is, told_is, apart_places}
 use Rattle.flight.proofs.CoreFits.{begun_fits}
 use Rattle.flight.proofs.Made.{made_stands, made_histories}

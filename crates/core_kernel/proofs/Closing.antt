@@ -21,7 +21,7 @@ use Rattle.turn_rule.specs.Trace.{program_after, IsSound, AreOfOthers}
 use Rattle.turn_rule.specs.Seats as turns
 use Rattle.turn_rule.specs.Seats.{TableValue, SeatValue}
 use Rattle.turn_rule.proofs.Traces.{program_stays}
-use Rattle.call_steps.specs.Cores.{started, end_of}
+use Rattle.call_stages.specs.Cores.{started, end_of}
 use Rattle.flight.proofs.Alike.{like, like_counts}
 use Rattle.flight.proofs.Final.{represents, represents_counts}
 use Rattle.core_invariant.proofs.Sounds.{limits_of}

@@ -12,10 +12,10 @@ use Rattle.spk_nums.specs.WordSteps as table
 use Rattle.turn_rule.specs.Trace.{entry, called, program_after, IsSound}
 use Rattle.turn_rule.proofs.Traces.{program_stays}
 use Rattle.turn_rule.specs.Seats.{SeatValue, MakesStep, FollowsTrace}
-use Rattle.call_steps.specs.View.{Core}
-use Rattle.call_steps.specs.Fits.{steps_left}
+use Rattle.call_stages.specs.View.{Core}
+use Rattle.call_stages.specs.Fits.{steps_left}
 use Rattle.core_invariant.specs.Events.{returned_in}
-use Rattle.call_steps.specs.Cores.{move_of, absorbed, told_of_step}
+use Rattle.call_stages.specs.Cores.{move_of, absorbed, told_of_step}
 use Rattle.word_map.specs.Moves.{told_of}
 use Rattle.flight.proofs.AfterStep.{absorbed_returns}
 use Rattle.flight.proofs.CoreFits.{absorbed_fewer}

@@ -10,8 +10,8 @@ use Rattle.kernel_history.specs.FinalWords.{word_in}
 use Rattle.kernel_history.specs.Trace.{Step, Trace}
 use Rattle.turn_rule.specs.declared.view.Entry.{Entry}
 use Rattle.turn_rule.specs.declared.view.Start.{Start}
-use Rattle.call_steps.specs.View.{Core}
-use Rattle.call_steps.specs.Cores.{started}
+use Rattle.call_stages.specs.View.{Core}
+use Rattle.call_stages.specs.Cores.{started}
 use Rattle.flight.specs.Made.{turned, step_of, cores_after}
 use Rattle.core_kernel.specs.declared.core_run.CoreRun.{CoreRun}
 use Rattle.core_kernel.specs.Running.{run_of}

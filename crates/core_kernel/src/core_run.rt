@@ -1,10 +1,10 @@
 //! The program that a core runs at the shared table.
 
 ghost use Rattle.std.specs.Prelude.{◌≡◌, ◌<◌, None};
-ghost use Rattle.call_steps.specs.Cores.{started};
+ghost use Rattle.call_stages.specs.Cores.{started};
 ghost use Rattle.core_kernel.specs.Running.{run_of};
 
-use flight::{Absorbed, CoreState};
+use call_steps::{Absorbed, CoreState};
 use spk_nums::{Call, CoreNo, Reply, Setup, WordOp};
 use turn_rule::CoreProgram;
 

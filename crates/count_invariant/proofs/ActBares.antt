@@ -2,7 +2,7 @@
 use Rattle.std.proofs.Common.{◌≡◌, ℕ, List, Option, None, ◌∙◌, ap}
 use Rattle.word_map.specs.Word.{Word}
 use Rattle.stage_pins.specs.declared.held.Acquired.{Acquired}
-use Rattle.call_acts.specs.declared.work.Act.{Act as ActOf}
+use Rattle.act_states.specs.declared.work.Act.{Act as ActOf}
 use Rattle.core_invariant.specs.Holding.{Holding, holds_counts}
 use Rattle.core_invariant.specs.Stands.{holds_act}
 use Rattle.core_invariant.proofs.ActBares.{act_bare}

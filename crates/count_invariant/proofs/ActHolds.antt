@@ -2,15 +2,15 @@
 -- refusal has then to store.
 use Rattle.entry_words.specs.declared.entry.Entry.TheVariants.{Held}
 use Rattle.entry_words.specs.EntryWord.{word_of_entry}
-use Rattle.call_acts.specs.Comps.{comp_undo}
-use Rattle.call_acts.specs.Makings.{undo_at}
-use Rattle.call_acts.specs.declared.comps.CompAt.{CompAt}
-use Rattle.call_acts.specs.declared.comps.CompAt.TheVariants as comp_at
-use Rattle.call_acts.specs.Kills.{is_killing}
-use Rattle.call_acts.specs.declared.kills.KillingAt.{KillingAt}
-use Rattle.call_acts.specs.declared.kills.KillingAt.TheVariants.{LoadComp, LoadLive, Close as kill_close, Draw as kill_draw}
-use Rattle.call_acts.specs.declared.makings.MakingAt.TheVariants.{Load as making_load, Mark, Store, Fill as making_fill}
-use Rattle.call_acts.specs.declared.makings.MakingAt.{MakingAt}
+use Rattle.act_states.specs.Comps.{comp_undo}
+use Rattle.act_states.specs.Makings.{undo_at}
+use Rattle.act_states.specs.declared.comps.CompAt.{CompAt}
+use Rattle.act_states.specs.declared.comps.CompAt.TheVariants as comp_at
+use Rattle.act_states.specs.Kills.{is_killing}
+use Rattle.act_states.specs.declared.kills.KillingAt.{KillingAt}
+use Rattle.act_states.specs.declared.kills.KillingAt.TheVariants.{LoadComp, LoadLive, Close as kill_close, Draw as kill_draw}
+use Rattle.act_states.specs.declared.makings.MakingAt.TheVariants.{Load as making_load, Mark, Store, Fill as making_fill}
+use Rattle.act_states.specs.declared.makings.MakingAt.{MakingAt}
 use Rattle.std.proofs.Common.{◌≡◌, ◌≢◌, ℕ, ◌+◌, ◌++◌, ◌==◌, ◌^◌, ◌<◌, ◌≤◌, true, false, if◌then◌else◌, ◌∷◌, refl, ◌∙◌, ap, not}
 use Rattle.std.proofs.lemmas.Bool.{false≢true}
 use Rattle.frame_words.proofs.CountLemmas as counts
@@ -18,12 +18,12 @@ use Rattle.word_map.specs.Word.{Word, EntryAt, CountAt, FrameAt, LiveAt, same_wo
 use Rattle.stage_quiet.specs.declared.close.Close.{Close}
 use Rattle.stage_quiet.specs.declared.close.Close.TheVariants.{AtCompare as close_compare, AtDraw, AtStore}
 use Rattle.stage_pins.specs.Counts.{acquired}
-use Rattle.call_acts.specs.declared.work.Act.{Act as ActOf}
-use Rattle.call_acts.specs.declared.work.Act.TheVariants.{Fill as fill_act, Remove as remove_act, Retype as type_act, Make as make_act, Outside, Tick as tick_act, Kill as kill_act, MakeComp as comp_act, Map as map_act, Flush as flush_act, Untype as untype_act, Touch as touch_act, Share as share_act, Invoke as invoke_act, Return as return_act, Switch as switch_act}
-use Rattle.call_acts.specs.Acts.{undo}
-use Rattle.call_acts.specs.declared.untypings.UntypingAt.{UntypingAt}
-use Rattle.call_acts.specs.declared.untypings.UntypingAt.TheVariants as untype
-use Rattle.call_acts.specs.Untypings.{untyping_undo, release_of}
+use Rattle.act_states.specs.declared.work.Act.{Act as ActOf}
+use Rattle.act_states.specs.declared.work.Act.TheVariants.{Fill as fill_act, Remove as remove_act, Retype as type_act, Make as make_act, Outside, Tick as tick_act, Kill as kill_act, MakeComp as comp_act, Map as map_act, Flush as flush_act, Untype as untype_act, Touch as touch_act, Share as share_act, Invoke as invoke_act, Return as return_act, Switch as switch_act}
+use Rattle.act_states.specs.Acts.{undo}
+use Rattle.act_states.specs.declared.untypings.UntypingAt.{UntypingAt}
+use Rattle.act_states.specs.declared.untypings.UntypingAt.TheVariants as untype
+use Rattle.act_states.specs.Untypings.{untyping_undo, release_of}
 use Rattle.stage_sweep.specs.Freeze.{swept_of}
 use Rattle.stage_sweep.specs.Release.{thaw_of}
 use Rattle.core_invariant.specs.Frozen.{holds_untyping}

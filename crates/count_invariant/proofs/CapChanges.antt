@@ -16,9 +16,9 @@ use Rattle.kernel_history.specs.Stamps.{stamp}
 use Rattle.kernel_history.specs.Trace.{Step, Trace, state_after, last_left}
 use Rattle.stage_pins.specs.Counts.{later}
 use Rattle.stage_pins.specs.Held.{stamp_of_change}
-use Rattle.call_acts.specs.declared.work.Due.{Due}
-use Rattle.call_steps.specs.declared.stages.ActiveCall.{ActiveCall}
-use Rattle.call_steps.specs.View.{Core}
+use Rattle.act_states.specs.declared.work.Due.{Due}
+use Rattle.call_stages.specs.declared.stages.ActiveCall.{ActiveCall}
+use Rattle.call_stages.specs.View.{Core}
 use Rattle.core_invariant.specs.CountWords.{IsWithin}
 use Rattle.core_invariant.specs.Holding.{holds_counts}
 use Rattle.core_invariant.specs.Words.{count_room, WordIs}

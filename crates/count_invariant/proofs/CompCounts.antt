@@ -24,11 +24,11 @@ use Rattle.call_plans.specs.Plans.{at_place}
 use Rattle.call_plans.specs.PlanOf.{plan_for}
 use Rattle.call_plans.specs.After.{Leads, LeadsIn}
 use Rattle.stage_pins.specs.declared.held.Acquired.{Acquired}
-use Rattle.call_acts.specs.Comps.{comp_dues, comp_due_list, comp_undo, comp_meets_number}
-use Rattle.call_acts.specs.declared.comps.CompAt.{CompAt}
-use Rattle.call_acts.specs.declared.comps.CompAt.TheVariants as comp_at
-use Rattle.call_acts.specs.declared.comps.CompMaking.{CompMaking}
-use Rattle.call_acts.specs.declared.work.Due.{Due}
+use Rattle.act_states.specs.Comps.{comp_dues, comp_due_list, comp_undo, comp_meets_number}
+use Rattle.act_states.specs.declared.comps.CompAt.{CompAt}
+use Rattle.act_states.specs.declared.comps.CompAt.TheVariants as comp_at
+use Rattle.act_states.specs.declared.comps.CompMaking.{CompMaking}
+use Rattle.act_states.specs.declared.work.Due.{Due}
 use Rattle.core_invariant.specs.Knows.{KnowsTail, MakesCompBy, KnowsCompAt}
 use Rattle.count_invariant.proofs.MakingCounts.{argument_near, blank_left, named_kind, no_due}
 

@@ -24,9 +24,9 @@ use Rattle.stage_pins.specs.Counts.{unheld, later}
 use Rattle.stage_pins.specs.Held.{stamp_of_change}
 use Rattle.stage_pins.specs.declared.held.Acquired.{Acquired}
 use Rattle.stage_pins.proofs.PinLemmas.{changed_none}
-use Rattle.call_acts.specs.declared.work.Due.{Due}
-use Rattle.call_steps.specs.declared.stages.ActiveCall.{ActiveCall}
-use Rattle.call_steps.specs.View.{Core}
+use Rattle.act_states.specs.declared.work.Due.{Due}
+use Rattle.call_stages.specs.declared.stages.ActiveCall.{ActiveCall}
+use Rattle.call_stages.specs.View.{Core}
 use Rattle.core_invariant.specs.CountWords.{stamp_in, newest_of, IsWithin}
 use Rattle.core_invariant.specs.Holding.{count_of, committed, holds_counts, AreApart, settled_by, settled}
 use Rattle.core_invariant.specs.Words.{SaysCount, count_room, WordIs}

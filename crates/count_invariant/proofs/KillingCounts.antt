@@ -16,10 +16,10 @@ use Rattle.call_plans.specs.Plans.{at_place}
 use Rattle.call_plans.specs.PlanOf.{plan_for}
 use Rattle.call_plans.specs.After.{Leads, LeadsIn}
 use Rattle.plan_ways.proofs.Near.{near_found}
-use Rattle.call_acts.specs.declared.kills.KillingAt.{KillingAt}
-use Rattle.call_acts.specs.declared.kills.KillingAt.TheVariants.{LoadComp, LoadLive, Close, Draw}
-use Rattle.call_acts.specs.declared.work.Due.{Due}
-use Rattle.call_acts.specs.Acts.{killing_dues}
+use Rattle.act_states.specs.declared.kills.KillingAt.{KillingAt}
+use Rattle.act_states.specs.declared.kills.KillingAt.TheVariants.{LoadComp, LoadLive, Close, Draw}
+use Rattle.act_states.specs.declared.work.Due.{Due}
+use Rattle.act_states.specs.Acts.{killing_dues}
 use Rattle.core_invariant.specs.Knows.{KillsBy, untypes}
 use Rattle.count_invariant.proofs.MakingCounts.{no_due}
 

@@ -18,7 +18,7 @@ use Rattle.call_plans.specs.PlanOf.{plan_for}
 use Rattle.call_plans.specs.After.{Leads, LeadsIn}
 use Rattle.plan_ways.proofs.Near.{near_found}
 use Rattle.spk_nums.specs.declared.kinds.PageFlags.{PageFlags}
-use Rattle.call_acts.specs.Acts.{link_to, page_cap, page_of}
+use Rattle.act_states.specs.Acts.{link_to, page_cap, page_of}
 use Rattle.count_invariant.proofs.MakingCounts.{argument_near, named_kind}
 
 -- A leaf names its frame.

@@ -31,15 +31,15 @@ use Rattle.call_plans.specs.Plans.{at_place}
 use Rattle.call_plans.specs.PlanOf.{plan_for, of_kind as of_kind_name}
 use Rattle.call_plans.specs.After.{Leads, LeadsIn}
 use Rattle.stage_pins.specs.declared.held.Acquired.{Acquired}
-use Rattle.call_acts.specs.Acts.{made_dues}
-use Rattle.call_acts.specs.Objects.{object_names, object_dues, object_made, thread_on}
-use Rattle.call_acts.specs.Makings.{undo_at}
-use Rattle.call_acts.specs.declared.makings.Making.{Making}
-use Rattle.call_acts.specs.declared.makings.MakingAt.{MakingAt}
-use Rattle.call_acts.specs.declared.makings.MakingAt.TheVariants.{Mark, Store, Load as making_load, Fill as making_fill}
-use Rattle.call_acts.specs.declared.objects.NewObject.{NewObject}
-use Rattle.call_acts.specs.declared.objects.NewObject.TheVariants.{Table, Leaf, Pages, Pleaf, Thread, Tcap}
-use Rattle.call_acts.specs.declared.work.Due.{Due}
+use Rattle.act_states.specs.Acts.{made_dues}
+use Rattle.act_states.specs.Objects.{object_names, object_dues, object_made, thread_on}
+use Rattle.act_states.specs.Makings.{undo_at}
+use Rattle.act_states.specs.declared.makings.Making.{Making}
+use Rattle.act_states.specs.declared.makings.MakingAt.{MakingAt}
+use Rattle.act_states.specs.declared.makings.MakingAt.TheVariants.{Mark, Store, Load as making_load, Fill as making_fill}
+use Rattle.act_states.specs.declared.objects.NewObject.{NewObject}
+use Rattle.act_states.specs.declared.objects.NewObject.TheVariants.{Table, Leaf, Pages, Pleaf, Thread, Tcap}
+use Rattle.act_states.specs.declared.work.Due.{Due}
 use Rattle.core_invariant.specs.Knows.{KnowsTail, MakesBy, KnowsMakingAt, KnowsUnmark, blank_word, untypes}
 
 -- The frame of a count that is due is one that the capability names.

@@ -24,7 +24,7 @@ use Rattle.call_plans.specs.PlanOf.{plan_for}
 use Rattle.call_plans.specs.After.{Leads, LeadsIn}
 use Rattle.plan_ways.proofs.Near.{near_found}
 use Rattle.count_invariant.proofs.LinkCounts.{link_near, page_near}
-use Rattle.call_acts.specs.Acts.{gate_if, gate_to, put_by}
+use Rattle.act_states.specs.Acts.{gate_if, gate_to, put_by}
 
 -- A call that fills its target changes references, and the frame that it names there is near it: a line a call.
 pub put_counts : (call : Call) (ks : List Capability) (read : Option ℕ) (k : Capability) → put_by call ks read ≡ Some k

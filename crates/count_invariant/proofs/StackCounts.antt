@@ -17,13 +17,13 @@ use Rattle.call_plans.specs.Plans.{at_place}
 use Rattle.call_plans.specs.PlanOf.{plan_for}
 use Rattle.call_plans.specs.After.{Leads, LeadsIn}
 use Rattle.plan_ways.proofs.Near.{near_found, one_left}
-use Rattle.call_acts.specs.declared.invocations.Invoking.{Invoking}
-use Rattle.call_acts.specs.declared.invocations.InvokingAt.{InvokingAt}
-use Rattle.call_acts.specs.declared.invocations.InvokingAt.TheVariants as invoking
-use Rattle.call_acts.specs.declared.invocations.ReturningAt.{ReturningAt}
-use Rattle.call_acts.specs.declared.invocations.ReturningAt.TheVariants as returning
-use Rattle.call_acts.specs.declared.work.Due.{Due}
-use Rattle.call_acts.specs.Acts.{invoking_dues, returning_dues}
+use Rattle.act_states.specs.declared.invocations.Invoking.{Invoking}
+use Rattle.act_states.specs.declared.invocations.InvokingAt.{InvokingAt}
+use Rattle.act_states.specs.declared.invocations.InvokingAt.TheVariants as invoking
+use Rattle.act_states.specs.declared.invocations.ReturningAt.{ReturningAt}
+use Rattle.act_states.specs.declared.invocations.ReturningAt.TheVariants as returning
+use Rattle.act_states.specs.declared.work.Due.{Due}
+use Rattle.act_states.specs.Acts.{invoking_dues, returning_dues}
 use Rattle.core_invariant.specs.Components.{InvokesBy, below_of}
 use Rattle.count_invariant.proofs.MakingCounts.{no_due}
 

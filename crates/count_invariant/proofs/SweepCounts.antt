@@ -28,18 +28,18 @@ use Rattle.stage_pins.specs.declared.held.Acquired.{Acquired}
 use Rattle.stage_pins.specs.declared.pin.Pin.{Pin}
 use Rattle.stage_sweep.specs.Release.{thaw_of}
 use Rattle.stage_sweep.specs.declared.sweep.Swept.{Swept}
-use Rattle.call_acts.specs.Acts.{dues, undo}
-use Rattle.call_acts.specs.Untypings.{is_drawing, released_dues, release_of, untyping_dues, untyping_undo}
-use Rattle.call_acts.specs.declared.untypings.UntypingAt.{UntypingAt}
-use Rattle.call_acts.specs.declared.untypings.UntypingAt.TheVariants as untype
-use Rattle.call_acts.specs.declared.untypings.Untyping.{Untyping}
-use Rattle.call_acts.specs.declared.work.Act.TheVariants.{Untype as untype_act}
-use Rattle.call_acts.specs.declared.work.Due.{Due}
-use Rattle.call_acts.specs.declared.work.Work.TheVariants.{Acquire}
-use Rattle.call_steps.specs.Fits.{StageFits}
-use Rattle.call_steps.specs.declared.stages.ActiveCall.{ActiveCall}
-use Rattle.call_steps.specs.declared.stages.Stage.TheVariants.{Undecided}
-use Rattle.call_steps.specs.View.{Core}
+use Rattle.act_states.specs.Acts.{dues, undo}
+use Rattle.act_states.specs.Untypings.{is_drawing, released_dues, release_of, untyping_dues, untyping_undo}
+use Rattle.act_states.specs.declared.untypings.UntypingAt.{UntypingAt}
+use Rattle.act_states.specs.declared.untypings.UntypingAt.TheVariants as untype
+use Rattle.act_states.specs.declared.untypings.Untyping.{Untyping}
+use Rattle.act_states.specs.declared.work.Act.TheVariants.{Untype as untype_act}
+use Rattle.act_states.specs.declared.work.Due.{Due}
+use Rattle.act_states.specs.declared.work.Work.TheVariants.{Acquire}
+use Rattle.call_stages.specs.Fits.{StageFits}
+use Rattle.call_stages.specs.declared.stages.ActiveCall.{ActiveCall}
+use Rattle.call_stages.specs.declared.stages.Stage.TheVariants.{Undecided}
+use Rattle.call_stages.specs.View.{Core}
 use Rattle.core_invariant.specs.Frozen.{holds_release, holds_untyping}
 use Rattle.core_invariant.specs.Holding.{Holding, holds_counts, settled, settled_by}
 use Rattle.core_invariant.specs.Knows.{KnowsTail, KnowsUnmark, KnowsUndecided, due_of, pin_frame}

@@ -31,11 +31,11 @@ use Rattle.call_plans.specs.Plans.{at_place}
 use Rattle.call_plans.specs.PlanOf.{plan_for}
 use Rattle.call_plans.specs.After.{Leads, LeadsIn}
 use Rattle.plan_ways.proofs.Near.{near_found, one_left}
-use Rattle.call_acts.specs.Switches.{switching_dues, switch_due_list, switching_undo, tcap_dues}
-use Rattle.call_acts.specs.declared.switches.Switching.{Switching}
-use Rattle.call_acts.specs.declared.switches.SwitchAt.{SwitchAt}
-use Rattle.call_acts.specs.declared.switches.SwitchAt.TheVariants.{Claim, LoadTable, LoadPages, Leave, Draw}
-use Rattle.call_acts.specs.declared.work.Due.{Due}
+use Rattle.act_states.specs.Switches.{switching_dues, switch_due_list, switching_undo, tcap_dues}
+use Rattle.act_states.specs.declared.switches.Switching.{Switching}
+use Rattle.act_states.specs.declared.switches.SwitchAt.{SwitchAt}
+use Rattle.act_states.specs.declared.switches.SwitchAt.TheVariants.{Claim, LoadTable, LoadPages, Leave, Draw}
+use Rattle.act_states.specs.declared.work.Due.{Due}
 use Rattle.core_invariant.specs.Knows.{KnowsTail}
 use Rattle.core_invariant.specs.Threads.{HasThread, KnowsIdle, LeavesOwn, SwitchesBy, claimed_by}
 use Rattle.core_invariant.proofs.Refusals.{IsRefusing}

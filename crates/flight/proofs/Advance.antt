@@ -11,19 +11,19 @@ use Rattle.word_map.specs.Moves.{LoadOf, StoreOf, word_of, told_of}
 use Rattle.kernel_history.specs.Trace.{Step, Trace, last_left}
 use Rattle.kernel_history.specs.Stamps.{clock}
 use Rattle.kernel_history.proofs.Steps.{clock_seen-own}
-use Rattle.call_acts.specs.declared.work.Tail.TheVariants.{Nothing, Quiesce, Unmark, StoreDead, StoreFlush, Release, StoreLive, Push, Pop, Share, StoreRunning, StoreIdle}
-use Rattle.call_steps.specs.declared.stages.Stage.{Stage}
-use Rattle.call_steps.specs.declared.stages.Stage.TheVariants.{Enter, Undecided, Decided, Leave}
-use Rattle.call_steps.specs.declared.stages.ActiveCall.{ActiveCall}
-use Rattle.call_steps.specs.View.{Core}
-use Rattle.call_steps.specs.Fits.{IsActive}
-use Rattle.call_steps.specs.Tails.{tail_move, stamp_if, stamp_of, took_tail, tail_counts}
+use Rattle.act_states.specs.declared.work.Tail.TheVariants.{Nothing, Quiesce, Unmark, StoreDead, StoreFlush, Release, StoreLive, Push, Pop, Share, StoreRunning, StoreIdle}
+use Rattle.call_stages.specs.declared.stages.Stage.{Stage}
+use Rattle.call_stages.specs.declared.stages.Stage.TheVariants.{Enter, Undecided, Decided, Leave}
+use Rattle.call_stages.specs.declared.stages.ActiveCall.{ActiveCall}
+use Rattle.call_stages.specs.View.{Core}
+use Rattle.call_stages.specs.Fits.{IsActive}
+use Rattle.call_stages.specs.Tails.{tail_move, stamp_if, stamp_of, took_tail, tail_counts}
 use Rattle.stage_pins.specs.declared.held.Acquired.{Acquired}
 use Rattle.core_invariant.specs.Holding.{holds_counts}
 use Rattle.count_invariant.proofs.Acquiring.{commit_good}
-use Rattle.call_steps.specs.Steps.{core_word, stage_move, Took, GoesOn, Returns, went_with, took_at, took_enter, is_spent}
-use Rattle.call_steps.specs.Cores.{fresh, begun, told_by}
-use Rattle.call_steps.specs.Cores as cores_of
+use Rattle.call_stages.specs.Steps.{core_word, stage_move, Took, GoesOn, Returns, went_with, took_at, took_enter, is_spent}
+use Rattle.call_stages.specs.Cores.{fresh, begun, told_by}
+use Rattle.call_stages.specs.Cores as cores_of
 use Rattle.core_invariant.specs.Knows.{KnowsAt, Knows, CallIs}
 use Rattle.core_invariant.specs.Stands.{done_by, holds_at, Stands}
 use Rattle.core_invariant.proofs.Good.{IsGood, stands_on}

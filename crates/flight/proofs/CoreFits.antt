@@ -5,19 +5,19 @@ use Rattle.spk_nums.specs.Setting.{Setting, IsSetting}
 use Rattle.spk_nums.specs.CallLimits.{InLimits}
 use Rattle.spk_nums.specs.declared.calls.Call.{Call}
 use Rattle.kernel_rules.specs.Laws.{calls_counted}
-use Rattle.call_acts.specs.declared.own.Own.{Own}
-use Rattle.call_acts.specs.declared.own.OwnChange.{OwnChange}
-use Rattle.call_acts.specs.declared.own.OwnChange.TheVariants.{Ticks, Empties, Works, Caches, Switches}
+use Rattle.act_states.specs.declared.own.Own.{Own}
+use Rattle.act_states.specs.declared.own.OwnChange.{OwnChange}
+use Rattle.act_states.specs.declared.own.OwnChange.TheVariants.{Ticks, Empties, Works, Caches, Switches}
 use Rattle.spk_nums.specs.declared.replies.Reply.{Reply}
-use Rattle.call_steps.specs.declared.stages.ActiveCall.{ActiveCall}
-use Rattle.call_steps.specs.View.{Core}
-use Rattle.call_steps.specs.Steps.{Took, GoesOn, Decides, Returns, Changes, took, told, call_after}
-use Rattle.call_steps.specs.Cores.{started, fresh, begun, core_after, absorbed_in, absorbed}
-use Rattle.call_steps.specs.Fits.{IsOwn, IsCore, left_of, left_for, steps_left}
-use Rattle.call_steps.proofs.LandsFit.{TookFits}
-use Rattle.call_steps.proofs.Fitting.{took_fits}
-use Rattle.call_steps.proofs.CoreFitting.{goes_on, decides_on, changes_on}
-use Rattle.call_steps.proofs.Begun as begun
+use Rattle.call_stages.specs.declared.stages.ActiveCall.{ActiveCall}
+use Rattle.call_stages.specs.View.{Core}
+use Rattle.call_stages.specs.Steps.{Took, GoesOn, Decides, Returns, Changes, took, told, call_after}
+use Rattle.call_stages.specs.Cores.{started, fresh, begun, core_after, absorbed_in, absorbed}
+use Rattle.call_stages.specs.Fits.{IsOwn, IsCore, left_of, left_for, steps_left}
+use Rattle.act_fits.proofs.LandsFit.{TookFits}
+use Rattle.call_fits.proofs.Fitting.{took_fits}
+use Rattle.call_fits.proofs.CoreFitting.{goes_on, decides_on, changes_on}
+use Rattle.call_fits.proofs.Begun as begun
 
 pub started_fits : (c : ℕ) (setting : Setting) → IsSetting setting → c < setting.cores → IsCore (started c setting)
 started_fits c setting h below =

@@ -32,24 +32,24 @@ use Rattle.call_plans.specs.PlanOf.{plan_for}
 use Rattle.call_plans.specs.After.{NextName, next_of, NextMay}
 use Rattle.call_plans.proofs.CallsGoBy.{calls_go}
 use Rattle.call_plans.proofs.AfterNames.{next_may}
-use Rattle.call_acts.specs.declared.refusals.Refusal.TheVariants as refusal
-use Rattle.call_acts.specs.declared.work.Work.TheVariants.{Lookup, Act}
-use Rattle.call_acts.specs.declared.work.Act.{Act as ActOf}
-use Rattle.call_acts.specs.declared.work.Act.TheVariants.{Tick as tick_act, Touch as touch_act, Flush as flush_act, Return as return_act}
-use Rattle.call_acts.specs.declared.invocations.ReturningAt.TheVariants.{LoadBelow}
+use Rattle.act_states.specs.declared.refusals.Refusal.TheVariants as refusal
+use Rattle.act_states.specs.declared.work.Work.TheVariants.{Lookup, Act}
+use Rattle.act_states.specs.declared.work.Act.{Act as ActOf}
+use Rattle.act_states.specs.declared.work.Act.TheVariants.{Tick as tick_act, Touch as touch_act, Flush as flush_act, Return as return_act}
+use Rattle.act_states.specs.declared.invocations.ReturningAt.TheVariants.{LoadBelow}
 use Rattle.stage_tcap.specs.declared.charge.Charge.TheVariants.{AtLoad}
-use Rattle.call_acts.specs.Acts.{reads_of, returns_at, returns_if}
-use Rattle.call_acts.specs.Flushes.{flushes}
-use Rattle.call_acts.specs.Touches.{touching, touches, touches_if}
-use Rattle.call_acts.specs.Ticks.{ticks_due, charges}
-use Rattle.call_acts.specs.declared.work.WorkStep.TheVariants.{Goes}
-use Rattle.call_acts.specs.declared.work.Tail.TheVariants.{Nothing}
-use Rattle.call_steps.specs.declared.stages.Stage.TheVariants.{Undecided, Decided}
-use Rattle.call_steps.specs.View.{Core}
-use Rattle.call_acts.specs.WorkSteps.{refuse}
-use Rattle.call_acts.specs.Lookups.{looks_under, next_step}
-use Rattle.call_steps.specs.Steps.{core_word, Took, landed, next_by, took_enter, is_spent}
-use Rattle.call_steps.specs.Cores.{fresh, core_after, told_by}
+use Rattle.act_states.specs.Acts.{reads_of, returns_at, returns_if}
+use Rattle.act_states.specs.Flushes.{flushes}
+use Rattle.act_states.specs.Touches.{touching, touches, touches_if}
+use Rattle.act_states.specs.Ticks.{ticks_due, charges}
+use Rattle.act_states.specs.declared.work.WorkStep.TheVariants.{Goes}
+use Rattle.act_states.specs.declared.work.Tail.TheVariants.{Nothing}
+use Rattle.call_stages.specs.declared.stages.Stage.TheVariants.{Undecided, Decided}
+use Rattle.call_stages.specs.View.{Core}
+use Rattle.act_states.specs.WorkSteps.{refuse}
+use Rattle.act_states.specs.Lookups.{looks_under, next_step}
+use Rattle.call_stages.specs.Steps.{core_word, Took, landed, next_by, took_enter, is_spent}
+use Rattle.call_stages.specs.Cores.{fresh, core_after, told_by}
 use Rattle.core_invariant.specs.Events.{decided_in, returned_in}
 use Rattle.core_invariant.specs.Knows.{LooksUp, own_in, LooksFor, ReadBefore, CallIs, ChargesBy}
 use Rattle.core_invariant.specs.Stands.{Stands}

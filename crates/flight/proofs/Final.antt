@@ -28,8 +28,8 @@ use Rattle.kernel_history.specs.Trace.{Trace, Phase, Out, Open, Decided, phase, 
 use Rattle.kernel_history.specs.Stamps.{is_in, stamp, exit_of}
 use Rattle.kernel_history.proofs.Inside.{inside_is}
 use Rattle.kernel_history.proofs.Stays.{sound_of}
-use Rattle.call_steps.specs.View.{Core}
-use Rattle.call_steps.specs.Cores.{end_of}
+use Rattle.call_stages.specs.View.{Core}
+use Rattle.call_stages.specs.Cores.{end_of}
 use Rattle.kernel_history.specs.Marking.{marked_by}
 use Rattle.core_invariant.specs.Holding.{settled_by, settled}
 use Rattle.core_invariant.specs.Words.{PlaceIs, IsFrameWord, SaysCount, count_room, NumberIs, WordIs}

@@ -10,22 +10,22 @@ use Rattle.kernel_rules.proofs.Within.{put_same, put_other}
 use Rattle.kernel_history.specs.Trace.{Step, Trace, Phase, Out, Open, Decided as decided_phase, phase, after_enter, after_decide, after_return}
 use Rattle.kernel_history.specs.Order.{IsDecided}
 use Rattle.kernel_history.proofs.Steps.{phase-own, phase-other, calls_of-other}
-use Rattle.call_steps.specs.View.{Core}
-use Rattle.call_acts.specs.declared.own.Own.{Own}
-use Rattle.call_steps.specs.Cores.{core_after as after_took, absorbed_in, told_by, told_in, move_of, ready_in, fresh}
-use Rattle.call_steps.specs.Laws.{reply_at}
-use Rattle.call_steps.specs.Laws as laws
-use Rattle.call_steps.proofs.Decisions.{decides_once}
+use Rattle.call_stages.specs.View.{Core}
+use Rattle.act_states.specs.declared.own.Own.{Own}
+use Rattle.call_stages.specs.Cores.{core_after as after_took, absorbed_in, told_by, told_in, move_of, ready_in, fresh}
+use Rattle.call_stages.specs.Laws.{reply_at}
+use Rattle.call_stages.specs.Laws as laws
+use Rattle.call_stages.proofs.Decisions.{decides_once}
 use Rattle.spk_nums.specs.Capability.{Capability}
 use Rattle.call_plans.specs.declared.plans.Plan.{Plan}
 use Rattle.core_invariant.specs.Events.{decided_in, returned_in}
 use Rattle.flight.specs.Decided.{is_decided_at, is_decided_in, Turns}
 use Rattle.flight.specs.Made.{turned, MayStep, core_after, cores_after, core_at, IsMadeStep}
 use Rattle.flight.specs.Phases.{IsInPhase, MadePhases, MadeOfItsCores, AreEvents, MadeEvents, DecidedIsReady}
-use Rattle.call_steps.specs.declared.stages.ActiveCall.{ActiveCall}
-use Rattle.call_steps.specs.declared.stages.Stage.{Stage}
-use Rattle.call_steps.specs.declared.stages.Stage.TheVariants.{Enter, Undecided, Decided, Leave}
-use Rattle.call_steps.specs.Steps.{Took, GoesOn, Decides, Returns, Changes, took, ready_at}
+use Rattle.call_stages.specs.declared.stages.ActiveCall.{ActiveCall}
+use Rattle.call_stages.specs.declared.stages.Stage.{Stage}
+use Rattle.call_stages.specs.declared.stages.Stage.TheVariants.{Enter, Undecided, Decided, Leave}
+use Rattle.call_stages.specs.Steps.{Took, GoesOn, Decides, Returns, Changes, took, ready_at}
 
 -- A core in a call that is or is not decided, as its phase.
 pub record IsInCall (f : ActiveCall) (p : Phase) : Type 0 where

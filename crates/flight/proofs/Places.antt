@@ -43,49 +43,49 @@ use Rattle.stage_quiet.specs.declared.close.Close.TheVariants.{AtCompare, AtDraw
 use Rattle.stage_quiet.specs.declared.quiet.Quiet.TheVariants.{AtCore, AtFlush}
 use Rattle.stage_quiet.specs.Removal.{close_move}
 use Rattle.call_plans.specs.After.{Next, NextName, NextFree, NextHeld, NextOwn, NextNothing, next_of}
-use Rattle.call_acts.specs.declared.own.Own.{Own}
-use Rattle.call_acts.specs.declared.work.Act.TheVariants.{Fill, Remove, Retype, Make, Outside, Tick as tick_act, Flush, Kill, Untype, Map as map_act, MakeComp, Invoke, Return, Touch, Share, Switch}
-use Rattle.call_acts.specs.declared.typings.Typing.{Typing}
-use Rattle.call_acts.specs.declared.typings.TypingAt.{TypingAt}
-use Rattle.call_acts.specs.declared.typings.TypingAt.TheVariants.{Load, Compare as type_compare}
-use Rattle.call_acts.specs.Typings.{typing_at}
-use Rattle.call_acts.specs.Comps.{comp_at}
-use Rattle.call_acts.specs.declared.comps.CompAt.{CompAt}
-use Rattle.call_acts.specs.declared.comps.CompAt.TheVariants as comp_stands
-use Rattle.call_acts.specs.declared.comps.CompMaking.{CompMaking}
-use Rattle.call_acts.specs.Invocations.{invoking_at, returning_at}
-use Rattle.call_acts.specs.declared.invocations.InvokingAt.{InvokingAt}
-use Rattle.call_acts.specs.declared.invocations.InvokingAt.TheVariants as invoking
-use Rattle.call_acts.specs.declared.invocations.ReturningAt.{ReturningAt}
-use Rattle.call_acts.specs.declared.invocations.ReturningAt.TheVariants as returning
-use Rattle.call_acts.specs.Switches.{switching_at}
-use Rattle.call_acts.specs.declared.switches.Switching.{Switching}
-use Rattle.call_acts.specs.declared.switches.SwitchAt.{SwitchAt}
-use Rattle.call_acts.specs.declared.switches.SwitchAt.TheVariants as switch
+use Rattle.act_states.specs.declared.own.Own.{Own}
+use Rattle.act_states.specs.declared.work.Act.TheVariants.{Fill, Remove, Retype, Make, Outside, Tick as tick_act, Flush, Kill, Untype, Map as map_act, MakeComp, Invoke, Return, Touch, Share, Switch}
+use Rattle.act_states.specs.declared.typings.Typing.{Typing}
+use Rattle.act_states.specs.declared.typings.TypingAt.{TypingAt}
+use Rattle.act_states.specs.declared.typings.TypingAt.TheVariants.{Load, Compare as type_compare}
+use Rattle.act_states.specs.Typings.{typing_at}
+use Rattle.act_states.specs.Comps.{comp_at}
+use Rattle.act_states.specs.declared.comps.CompAt.{CompAt}
+use Rattle.act_states.specs.declared.comps.CompAt.TheVariants as comp_stands
+use Rattle.act_states.specs.declared.comps.CompMaking.{CompMaking}
+use Rattle.act_states.specs.Invocations.{invoking_at, returning_at}
+use Rattle.act_states.specs.declared.invocations.InvokingAt.{InvokingAt}
+use Rattle.act_states.specs.declared.invocations.InvokingAt.TheVariants as invoking
+use Rattle.act_states.specs.declared.invocations.ReturningAt.{ReturningAt}
+use Rattle.act_states.specs.declared.invocations.ReturningAt.TheVariants as returning
+use Rattle.act_states.specs.Switches.{switching_at}
+use Rattle.act_states.specs.declared.switches.Switching.{Switching}
+use Rattle.act_states.specs.declared.switches.SwitchAt.{SwitchAt}
+use Rattle.act_states.specs.declared.switches.SwitchAt.TheVariants as switch
 use Rattle.stage_thread.specs.declared.claim.Claim.TheVariants as claim
 use Rattle.stage_tcap.specs.Pairs.{move_at}
 use Rattle.stage_tcap.specs.declared.pair.Pair.{Pair}
 use Rattle.stage_tcap.specs.declared.pair.PairAt.{PairAt}
 use Rattle.stage_tcap.specs.declared.pair.PairAt.TheVariants as pair
-use Rattle.call_acts.specs.declared.kills.KillingAt.{KillingAt}
-use Rattle.call_acts.specs.declared.kills.KillingAt.TheVariants.{LoadComp, LoadLive, Close as kill_close, Draw as kill_draw}
-use Rattle.call_acts.specs.Kills.{killing_at}
-use Rattle.call_acts.specs.declared.fills.Fill.{Fill as FillOf}
-use Rattle.call_acts.specs.declared.makings.MakingAt.{MakingAt}
-use Rattle.call_acts.specs.declared.makings.MakingAt.TheVariants as making
-use Rattle.call_acts.specs.declared.objects.NewObject.{NewObject}
-use Rattle.call_acts.specs.Makings.{making_at}
-use Rattle.call_acts.specs.declared.untypings.Untyping.{Untyping}
-use Rattle.call_acts.specs.declared.work.Work.{Work}
-use Rattle.call_acts.specs.declared.work.Work.TheVariants.{Lookup, Read, Scan, Acquire, Act}
-use Rattle.call_steps.specs.declared.stages.Absorbed.{Absorbed}
-use Rattle.call_steps.specs.declared.stages.Absorbed.TheVariants as told_as
-use Rattle.call_steps.specs.declared.stages.Stage.{Stage}
-use Rattle.call_steps.specs.declared.stages.Stage.TheVariants.{Enter, Undecided, Decided, Leave}
-use Rattle.call_steps.specs.declared.stages.ActiveCall.{ActiveCall}
-use Rattle.call_steps.specs.Steps.{work_move, stage_move}
-use Rattle.call_steps.specs.Cores.{move_in, move_of, absorbed, absorbed_in, told_in, told_of_step}
-use Rattle.call_steps.specs.View.{Core}
+use Rattle.act_states.specs.declared.kills.KillingAt.{KillingAt}
+use Rattle.act_states.specs.declared.kills.KillingAt.TheVariants.{LoadComp, LoadLive, Close as kill_close, Draw as kill_draw}
+use Rattle.act_states.specs.Kills.{killing_at}
+use Rattle.act_states.specs.declared.fills.Fill.{Fill as FillOf}
+use Rattle.act_states.specs.declared.makings.MakingAt.{MakingAt}
+use Rattle.act_states.specs.declared.makings.MakingAt.TheVariants as making
+use Rattle.act_states.specs.declared.objects.NewObject.{NewObject}
+use Rattle.act_states.specs.Makings.{making_at}
+use Rattle.act_states.specs.declared.untypings.Untyping.{Untyping}
+use Rattle.act_states.specs.declared.work.Work.{Work}
+use Rattle.act_states.specs.declared.work.Work.TheVariants.{Lookup, Read, Scan, Acquire, Act}
+use Rattle.call_stages.specs.declared.stages.Absorbed.{Absorbed}
+use Rattle.call_stages.specs.declared.stages.Absorbed.TheVariants as told_as
+use Rattle.call_stages.specs.declared.stages.Stage.{Stage}
+use Rattle.call_stages.specs.declared.stages.Stage.TheVariants.{Enter, Undecided, Decided, Leave}
+use Rattle.call_stages.specs.declared.stages.ActiveCall.{ActiveCall}
+use Rattle.call_stages.specs.Steps.{work_move, stage_move}
+use Rattle.call_stages.specs.Cores.{move_in, move_of, absorbed, absorbed_in, told_in, told_of_step}
+use Rattle.call_stages.specs.View.{Core}
 use Rattle.core_invariant.specs.Events.{decided_in, returned_in}
 use Rattle.core_invariant.specs.Knows.{IsSpot, LooksUp, own_in, LooksFor, KnowsClose, ChargesBy, KnowsWork, KnowsAt, CallIs, phase_at, HasComp}
 use Rattle.core_invariant.specs.Components.{HasLoadedBelow}

@@ -7,15 +7,15 @@ use Rattle.stage_look.specs.Lookup.{look_move}
 use Rattle.stage_look.specs.declared.look.Look.{Look}
 use Rattle.stage_look.specs.declared.look.Look.TheVariants.{AtRoot, AtLeaf, AtEntry}
 use Rattle.stage_look.proofs.LookLemmas.{look_is_in}
-use Rattle.call_steps.specs.Fits.{TailFits, StageFits, CallFits}
-use Rattle.call_steps.specs.Cores.{move_in}
-use Rattle.call_acts.specs.Comps.{CompMakingFits, comp_at}
-use Rattle.call_acts.specs.declared.comps.CompAt.{CompAt}
-use Rattle.call_acts.specs.declared.comps.CompAt.TheVariants as comp_stands
-use Rattle.call_acts.specs.declared.comps.CompMaking.{CompMaking}
-use Rattle.call_acts.specs.declared.kills.KillingAt.{KillingAt}
-use Rattle.call_acts.specs.declared.kills.KillingAt.TheVariants.{LoadComp, LoadLive, Close as kill_close, Draw as kill_draw}
-use Rattle.call_acts.specs.Kills.{KillingAtFits, killing_at}
+use Rattle.call_stages.specs.Fits.{TailFits, StageFits, CallFits}
+use Rattle.call_stages.specs.Cores.{move_in}
+use Rattle.act_states.specs.Comps.{CompMakingFits, comp_at}
+use Rattle.act_states.specs.declared.comps.CompAt.{CompAt}
+use Rattle.act_states.specs.declared.comps.CompAt.TheVariants as comp_stands
+use Rattle.act_states.specs.declared.comps.CompMaking.{CompMaking}
+use Rattle.act_states.specs.declared.kills.KillingAt.{KillingAt}
+use Rattle.act_states.specs.declared.kills.KillingAt.TheVariants.{LoadComp, LoadLive, Close as kill_close, Draw as kill_draw}
+use Rattle.act_states.specs.Kills.{KillingAtFits, killing_at}
 use Rattle.frame_words.specs.declared.count_word.CountWord.{CountWord}
 use Rattle.stage_sweep.specs.Counters.{counters_of}
 use Rattle.stage_sweep.specs.Freeze.{AtFits, move_at}
@@ -23,29 +23,29 @@ use Rattle.stage_sweep.specs.Release.{ThawFits}
 use Rattle.stage_sweep.specs.declared.sweep.SweepAt.{SweepAt}
 use Rattle.stage_sweep.specs.declared.sweep.SweepAt.TheVariants as sweep
 use Rattle.stage_sweep.specs.declared.thaw.Thaw.{Thaw}
-use Rattle.call_acts.specs.declared.untypings.UntypingAt.{UntypingAt}
-use Rattle.call_acts.specs.declared.untypings.UntypingAt.TheVariants as untype
-use Rattle.call_acts.specs.Untypings.{UntypingAtFits, untyping_at, release_at}
+use Rattle.act_states.specs.declared.untypings.UntypingAt.{UntypingAt}
+use Rattle.act_states.specs.declared.untypings.UntypingAt.TheVariants as untype
+use Rattle.act_states.specs.Untypings.{UntypingAtFits, untyping_at, release_at}
 use Rattle.word_map.specs.Word.{CountAt}
-use Rattle.call_acts.specs.declared.own.Own.{Own}
-use Rattle.call_acts.specs.declared.work.Act.{Act}
-use Rattle.call_acts.specs.declared.work.Act.TheVariants.{Fill, Remove, Retype, Make, Outside, Tick, Flush, Kill, Untype, Map as map_act, MakeComp, Invoke, Return, Touch, Share, Switch}
+use Rattle.act_states.specs.declared.own.Own.{Own}
+use Rattle.act_states.specs.declared.work.Act.{Act}
+use Rattle.act_states.specs.declared.work.Act.TheVariants.{Fill, Remove, Retype, Make, Outside, Tick, Flush, Kill, Untype, Map as map_act, MakeComp, Invoke, Return, Touch, Share, Switch}
 use Rattle.spk_nums.specs.declared.kinds.FrameKind.{FrameKind}
-use Rattle.call_acts.specs.declared.typings.TypingAt.{TypingAt}
-use Rattle.call_acts.specs.declared.typings.TypingAt.TheVariants.{Load, Compare as type_compare}
-use Rattle.call_acts.specs.Typings.{typing_at}
-use Rattle.call_acts.specs.declared.fills.Fill.{Fill as FillOf}
-use Rattle.call_acts.specs.declared.makings.MakingAt.{MakingAt}
-use Rattle.call_acts.specs.declared.makings.MakingAt.TheVariants as making
-use Rattle.call_acts.specs.Fills.{FillFits}
-use Rattle.call_acts.specs.declared.objects.NewObject.{NewObject}
-use Rattle.call_acts.specs.Makings.{MakingAtFits, making_at}
-use Rattle.call_steps.proofs.DuesFit.{last_small}
-use Rattle.call_acts.specs.declared.work.Work.TheVariants.{Lookup, Read, Scan, Acquire, Act as act_work}
-use Rattle.call_acts.specs.declared.work.Tail.{Tail}
-use Rattle.call_acts.specs.declared.work.Tail.TheVariants.{Nothing, Quiesce, Unmark, StoreDead, StoreFlush, Release, StoreLive, Push, Pop, Share as share_tail, StoreRunning, StoreIdle}
-use Rattle.call_acts.specs.Acts.{ActFits, act_move}
-use Rattle.call_steps.specs.Tails.{tail_move, is_ok}
+use Rattle.act_states.specs.declared.typings.TypingAt.{TypingAt}
+use Rattle.act_states.specs.declared.typings.TypingAt.TheVariants.{Load, Compare as type_compare}
+use Rattle.act_states.specs.Typings.{typing_at}
+use Rattle.act_states.specs.declared.fills.Fill.{Fill as FillOf}
+use Rattle.act_states.specs.declared.makings.MakingAt.{MakingAt}
+use Rattle.act_states.specs.declared.makings.MakingAt.TheVariants as making
+use Rattle.act_states.specs.Fills.{FillFits}
+use Rattle.act_states.specs.declared.objects.NewObject.{NewObject}
+use Rattle.act_states.specs.Makings.{MakingAtFits, making_at}
+use Rattle.act_fits.proofs.DuesFit.{last_small}
+use Rattle.act_states.specs.declared.work.Work.TheVariants.{Lookup, Read, Scan, Acquire, Act as act_work}
+use Rattle.act_states.specs.declared.work.Tail.{Tail}
+use Rattle.act_states.specs.declared.work.Tail.TheVariants.{Nothing, Quiesce, Unmark, StoreDead, StoreFlush, Release, StoreLive, Push, Pop, Share as share_tail, StoreRunning, StoreIdle}
+use Rattle.act_states.specs.Acts.{ActFits, act_move}
+use Rattle.call_stages.specs.Tails.{tail_move, is_ok}
 use Rattle.std.proofs.lemmas.List.Elements.{All-head}
 use Rattle.spk_nums.specs.declared.replies.Reply.{Reply}
 use Rattle.stage_pins.specs.declared.pin.Pin.{Pin}
@@ -65,16 +65,16 @@ use Rattle.stage_thread.specs.declared.stack.Push.{Push as PushOf}
 use Rattle.stage_thread.specs.declared.stack.Push.TheVariants as push
 use Rattle.stage_thread.specs.declared.stack.Pop.{Pop as PopOf}
 use Rattle.stage_thread.specs.declared.stack.Pop.TheVariants as pop
-use Rattle.call_acts.specs.declared.invocations.InvokingAt.{InvokingAt}
-use Rattle.call_acts.specs.declared.invocations.InvokingAt.TheVariants as invoking
-use Rattle.call_acts.specs.declared.invocations.ReturningAt.{ReturningAt}
-use Rattle.call_acts.specs.declared.invocations.ReturningAt.TheVariants as returning
-use Rattle.call_acts.specs.Switches.{SwitchingFits, switching_at}
-use Rattle.call_acts.specs.declared.switches.Switching.{Switching}
-use Rattle.call_acts.specs.declared.switches.SwitchAt.{SwitchAt}
-use Rattle.call_acts.specs.declared.switches.SwitchAt.TheVariants as switch_at
+use Rattle.act_states.specs.declared.invocations.InvokingAt.{InvokingAt}
+use Rattle.act_states.specs.declared.invocations.InvokingAt.TheVariants as invoking
+use Rattle.act_states.specs.declared.invocations.ReturningAt.{ReturningAt}
+use Rattle.act_states.specs.declared.invocations.ReturningAt.TheVariants as returning
+use Rattle.act_states.specs.Switches.{SwitchingFits, switching_at}
+use Rattle.act_states.specs.declared.switches.Switching.{Switching}
+use Rattle.act_states.specs.declared.switches.SwitchAt.{SwitchAt}
+use Rattle.act_states.specs.declared.switches.SwitchAt.TheVariants as switch_at
 use Rattle.stage_thread.specs.declared.claim.Claim.TheVariants as claim
-use Rattle.call_acts.specs.Invocations.{InvokingAtFits, invoking_at, ReturningAtFits, returning_at}
+use Rattle.act_states.specs.Invocations.{InvokingAtFits, invoking_at, ReturningAtFits, returning_at}
 use Rattle.stage_tcap.specs.Pairs.{move_at as pair_at_move}
 use Rattle.stage_tcap.specs.declared.pair.Pair.{Pair}
 use Rattle.stage_tcap.specs.declared.pair.PairAt.{PairAt}
@@ -86,11 +86,11 @@ use Rattle.stage_quiet.specs.declared.quiet.Quiet.TheVariants.{AtCore, AtFlush}
 use Rattle.stage_quiet.specs.Removal.{close_move}
 use Rattle.stage_quiet.specs.Scan.{quiet_move}
 use Rattle.stage_quiet.proofs.QuietLemmas.{quiet_is_in, close_is_in}
-use Rattle.call_steps.specs.Steps.{stage_move}
+use Rattle.call_stages.specs.Steps.{stage_move}
 use Rattle.flight.specs.Phases.{IsWord, MovesAreWords}
-use Rattle.call_steps.specs.declared.stages.ActiveCall.{ActiveCall}
-use Rattle.call_steps.specs.declared.stages.Stage.{Stage}
-use Rattle.call_steps.specs.declared.stages.Stage.TheVariants.{Enter, Undecided, Decided, Leave}
+use Rattle.call_stages.specs.declared.stages.ActiveCall.{ActiveCall}
+use Rattle.call_stages.specs.declared.stages.Stage.{Stage}
+use Rattle.call_stages.specs.declared.stages.Stage.TheVariants.{Enter, Undecided, Decided, Leave}
 
 look_named : (look : Look) → shared (word_of (look_move look)) ≡ word_of (look_move look)
 look_named (AtRoot root number) = refl

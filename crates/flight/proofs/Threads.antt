@@ -11,7 +11,7 @@ use Rattle.kernel_rules.specs.Fitting.{fits}
 use Rattle.kernel_history.specs.Marking.{marked_by}
 use Rattle.kernel_history.specs.Marks.{thread_mark}
 use Rattle.kernel_history.specs.Trace.{Trace, state_after, last_left}
-use Rattle.call_steps.specs.View.{Core}
+use Rattle.call_stages.specs.View.{Core}
 use Rattle.core_invariant.specs.Stands.{holds, Stands}
 use Rattle.core_invariant.proofs.Lent.{runs_on_own}
 use Rattle.core_invariant.proofs.Markers.{marker_inside}

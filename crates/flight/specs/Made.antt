@@ -7,10 +7,10 @@ use Rattle.spk_nums.specs.declared.calls.Call.{Call}
 use Rattle.word_map.specs.Moves.{Move, word_of, told_of}
 use Rattle.kernel_rules.specs.State.{put}
 use Rattle.kernel_history.specs.Trace.{Step, Trace, last_left}
-use Rattle.call_steps.specs.declared.stages.Absorbed.{Absorbed}
-use Rattle.call_steps.specs.View.{Core}
+use Rattle.call_stages.specs.declared.stages.Absorbed.{Absorbed}
+use Rattle.call_stages.specs.View.{Core}
 use Rattle.core_invariant.specs.Events.{decided_in, returned_in}
-use Rattle.call_steps.specs.Cores.{started, begun, move_of, ready_of, absorbed, told_of_step}
+use Rattle.call_stages.specs.Cores.{started, begun, move_of, ready_of, absorbed, told_of_step}
 
 -- The cores of a machine that has just booted.
 abbrev pub boot_cores : Setting → ℕ → Core

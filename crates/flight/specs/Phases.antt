@@ -7,9 +7,9 @@ use Rattle.word_map.specs.Places.{Shape, IsIn, shared}
 use Rattle.word_map.specs.Moves.{word_of}
 use Rattle.kernel_history.specs.Trace.{Step, Trace, Phase, Out, phase, calls_of}
 use Rattle.kernel_history.specs.Order.{IsDecided}
-use Rattle.call_steps.specs.View.{Core}
-use Rattle.call_steps.specs.Cores.{move_of, ready_of}
-use Rattle.call_steps.specs.Fits.{IsCore}
+use Rattle.call_stages.specs.View.{Core}
+use Rattle.call_stages.specs.Cores.{move_of, ready_of}
+use Rattle.call_stages.specs.Fits.{IsCore}
 use Rattle.flight.specs.Decided.{is_decided_in}
 use Rattle.flight.specs.Made.{core_after, cores_after, core_at, IsMade, IsMadeStep}
 

@@ -8,8 +8,8 @@ use Rattle.kernel_history.specs.Trace.{Trace, state_after, last_left}
 use Rattle.kernel_history.specs.Counts.{RepresentCounts}
 use Rattle.kernel_history.specs.FinalWords.{Represent}
 use Rattle.kernel_history.specs.Moments.{WordsSay}
-use Rattle.call_steps.specs.View.{Core}
-use Rattle.call_steps.specs.Cores.{move_of, end_of}
+use Rattle.call_stages.specs.View.{Core}
+use Rattle.call_stages.specs.Cores.{move_of, end_of}
 use Rattle.flight.specs.Made.{boot_cores, turned, MayStep, step_of, core_after, cores_after, IsMade}
 use Rattle.core_invariant.specs.Stands.{Stands}
 

@@ -37,14 +37,14 @@ use Rattle.call_plans.specs.GoesBy.{own_pages, GoesBy}
 use Rattle.call_plans.specs.PlanOf.{plan_for}
 use Rattle.call_plans.specs.declared.plans.Plan.{Plan}
 use Rattle.plan_ways.specs.Laws.{IsTargetOf}
-use Rattle.call_acts.specs.Comps.{CompMakingFits, comp_due_list}
-use Rattle.call_acts.specs.declared.comps.CompMaking.{CompMaking}
-use Rattle.call_acts.specs.declared.work.Act.TheVariants.{MakeComp as comp_act}
-use Rattle.call_acts.specs.declared.work.Work.TheVariants.{Act}
-use Rattle.call_steps.specs.Fits.{StageFits, HasRoom}
-use Rattle.call_steps.specs.View.{Core}
-use Rattle.call_steps.specs.declared.stages.ActiveCall.{ActiveCall}
-use Rattle.call_steps.specs.declared.stages.Stage.TheVariants.{Undecided}
+use Rattle.act_states.specs.Comps.{CompMakingFits, comp_due_list}
+use Rattle.act_states.specs.declared.comps.CompMaking.{CompMaking}
+use Rattle.act_states.specs.declared.work.Act.TheVariants.{MakeComp as comp_act}
+use Rattle.act_states.specs.declared.work.Work.TheVariants.{Act}
+use Rattle.call_stages.specs.Fits.{StageFits, HasRoom}
+use Rattle.call_stages.specs.View.{Core}
+use Rattle.call_stages.specs.declared.stages.ActiveCall.{ActiveCall}
+use Rattle.call_stages.specs.declared.stages.Stage.TheVariants.{Undecided}
 use Rattle.core_invariant.proofs.Good.{blank_is}
 use Rattle.core_invariant.proofs.Loads.{is_active, call_is}
 use Rattle.core_invariant.proofs.Sounds.{limits_of}

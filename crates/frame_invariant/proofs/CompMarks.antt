@@ -46,23 +46,23 @@ use Rattle.call_plans.specs.GoesBy.{own_pages}
 use Rattle.plan_ways.proofs.Ways.{next_on_way}
 use Rattle.plan_ways.specs.Laws.{NextPlace}
 use Rattle.stage_pins.specs.declared.held.Acquired.{Acquired}
-use Rattle.call_acts.specs.Acts.{dues, next_work, comp_marks}
-use Rattle.call_acts.specs.Comps.{comp_dues, comp_meets, comp_meets_object, comp_meets_blank, comp_meets_kernel}
-use Rattle.call_acts.specs.Makings.{marked}
-use Rattle.call_acts.specs.WorkSteps.{refuse}
-use Rattle.call_acts.specs.declared.comps.CompMaking.{CompMaking}
-use Rattle.call_acts.specs.declared.comps.CompAt.{CompAt}
-use Rattle.call_acts.specs.declared.comps.CompAt.TheVariants.{Load, Mark, LoadLive}
-use Rattle.call_acts.specs.declared.refusals.Refusal.TheVariants as refusal
-use Rattle.call_acts.specs.declared.work.Act.{Act as ActOf}
-use Rattle.call_acts.specs.declared.work.Act.TheVariants.{MakeComp as comp_act}
-use Rattle.call_acts.specs.declared.work.Tail.TheVariants.{Nothing, Unmark}
-use Rattle.call_acts.specs.declared.work.Work.TheVariants.{Act}
-use Rattle.call_acts.specs.declared.work.WorkStep.TheVariants.{Goes}
-use Rattle.call_steps.specs.Steps.{GoesOn, landed, went_with}
-use Rattle.call_steps.specs.View.{Core}
-use Rattle.call_steps.specs.declared.stages.ActiveCall.{ActiveCall}
-use Rattle.call_steps.specs.declared.stages.Stage.TheVariants.{Undecided, Decided}
+use Rattle.act_states.specs.Acts.{dues, next_work, comp_marks}
+use Rattle.act_states.specs.Comps.{comp_dues, comp_meets, comp_meets_object, comp_meets_blank, comp_meets_kernel}
+use Rattle.act_states.specs.Makings.{marked}
+use Rattle.act_states.specs.WorkSteps.{refuse}
+use Rattle.act_states.specs.declared.comps.CompMaking.{CompMaking}
+use Rattle.act_states.specs.declared.comps.CompAt.{CompAt}
+use Rattle.act_states.specs.declared.comps.CompAt.TheVariants.{Load, Mark, LoadLive}
+use Rattle.act_states.specs.declared.refusals.Refusal.TheVariants as refusal
+use Rattle.act_states.specs.declared.work.Act.{Act as ActOf}
+use Rattle.act_states.specs.declared.work.Act.TheVariants.{MakeComp as comp_act}
+use Rattle.act_states.specs.declared.work.Tail.TheVariants.{Nothing, Unmark}
+use Rattle.act_states.specs.declared.work.Work.TheVariants.{Act}
+use Rattle.act_states.specs.declared.work.WorkStep.TheVariants.{Goes}
+use Rattle.call_stages.specs.Steps.{GoesOn, landed, went_with}
+use Rattle.call_stages.specs.View.{Core}
+use Rattle.call_stages.specs.declared.stages.ActiveCall.{ActiveCall}
+use Rattle.call_stages.specs.declared.stages.Stage.TheVariants.{Undecided, Decided}
 use Rattle.core_invariant.proofs.Carries.{names_on, counts_on, spot_on}
 use Rattle.core_invariant.proofs.Counting as counting
 use Rattle.core_invariant.proofs.Good.{spares_other, blank_is}

@@ -31,18 +31,18 @@ use Rattle.kernel_history.specs.Trace.{Trace, Open, phase, state_after, Step, la
 use Rattle.call_plans.specs.GoesBy.{own_pages}
 use Rattle.plan_ways.proofs.Ways.{asked_left}
 use Rattle.stage_pins.specs.declared.held.Acquired.{Acquired}
-use Rattle.call_acts.specs.Comps.{comp_dues, comp_due_list, comp_goes, comp_refuses, takes_number, scans_number, number_met, number_shown, number_scanned, CompAtFits}
-use Rattle.call_acts.specs.declared.comps.CompMaking.{CompMaking}
-use Rattle.call_acts.specs.declared.comps.CompAt.{CompAt}
-use Rattle.call_acts.specs.declared.comps.CompAt.TheVariants.{Scan, Close}
-use Rattle.call_acts.specs.declared.refusals.Refusal.TheVariants as refusal
-use Rattle.call_acts.specs.declared.work.Act.TheVariants.{MakeComp as comp_act}
-use Rattle.call_acts.specs.declared.work.Tail.TheVariants.{Unmark}
-use Rattle.call_acts.specs.declared.work.Work.TheVariants.{Act, Scan}
-use Rattle.call_steps.specs.Steps.{landed}
-use Rattle.call_steps.specs.View.{Core}
-use Rattle.call_steps.specs.declared.stages.ActiveCall.{ActiveCall}
-use Rattle.call_steps.specs.declared.stages.Stage.TheVariants.{Undecided}
+use Rattle.act_states.specs.Comps.{comp_dues, comp_due_list, comp_goes, comp_refuses, takes_number, scans_number, number_met, number_shown, number_scanned, CompAtFits}
+use Rattle.act_states.specs.declared.comps.CompMaking.{CompMaking}
+use Rattle.act_states.specs.declared.comps.CompAt.{CompAt}
+use Rattle.act_states.specs.declared.comps.CompAt.TheVariants.{Scan, Close}
+use Rattle.act_states.specs.declared.refusals.Refusal.TheVariants as refusal
+use Rattle.act_states.specs.declared.work.Act.TheVariants.{MakeComp as comp_act}
+use Rattle.act_states.specs.declared.work.Tail.TheVariants.{Unmark}
+use Rattle.act_states.specs.declared.work.Work.TheVariants.{Act, Scan}
+use Rattle.call_stages.specs.Steps.{landed}
+use Rattle.call_stages.specs.View.{Core}
+use Rattle.call_stages.specs.declared.stages.ActiveCall.{ActiveCall}
+use Rattle.call_stages.specs.declared.stages.Stage.TheVariants.{Undecided}
 use Rattle.core_invariant.proofs.Carries.{names_on, spot_on, number_on}
 use Rattle.core_invariant.proofs.Counting as counting
 use Rattle.core_invariant.proofs.Loads.{step_to, OnlyLooks, loads_on, IsOfCall, inner, call_is, core_is, decides_with}
@@ -71,8 +71,8 @@ use Rattle.frame_words.specs.Live.{live_of_word}
 use Rattle.frame_words.specs.declared.live_word.LiveWord.{LiveWord}
 use Rattle.frame_words.specs.declared.live_word.LiveWord.TheVariants as live_word
 use Rattle.frame_words.proofs.LiveLemmas as lives
-use Rattle.call_acts.specs.declared.kills.KillingAt.TheVariants.{Close}
-use Rattle.call_acts.specs.declared.comps.LastEpoch.{LastEpoch}
+use Rattle.act_states.specs.declared.kills.KillingAt.TheVariants.{Close}
+use Rattle.act_states.specs.declared.comps.LastEpoch.{LastEpoch}
 use Rattle.count_invariant.proofs.MakingCounts.{blank_left}
 use Rattle.place_invariant.proofs.Vacancy.{none_waits}
 use Rattle.frame_invariant.proofs.LaterEvents.{IsSpent, spent_at, spent_now}

@@ -30,14 +30,14 @@ use Rattle.kernel_history.specs.Trace.{Trace, Open, phase, state_after, Step, la
 use Rattle.call_plans.specs.GoesBy.{own_pages}
 use Rattle.plan_ways.proofs.Ways.{next_on_way}
 use Rattle.plan_ways.specs.Laws.{NextPlace}
-use Rattle.call_acts.specs.declared.refusals.Refusal.TheVariants as refusal
-use Rattle.call_acts.specs.declared.work.Act.TheVariants.{MakeComp as comp_act}
-use Rattle.call_acts.specs.declared.work.Tail.TheVariants.{Unmark, StoreLive}
-use Rattle.call_acts.specs.declared.work.Work.TheVariants.{Act}
-use Rattle.call_steps.specs.Steps.{GoesOn, landed, went_with, went}
-use Rattle.call_steps.specs.View.{Core}
-use Rattle.call_steps.specs.declared.stages.ActiveCall.{ActiveCall}
-use Rattle.call_steps.specs.declared.stages.Stage.TheVariants.{Undecided, Decided}
+use Rattle.act_states.specs.declared.refusals.Refusal.TheVariants as refusal
+use Rattle.act_states.specs.declared.work.Act.TheVariants.{MakeComp as comp_act}
+use Rattle.act_states.specs.declared.work.Tail.TheVariants.{Unmark, StoreLive}
+use Rattle.act_states.specs.declared.work.Work.TheVariants.{Act}
+use Rattle.call_stages.specs.Steps.{GoesOn, landed, went_with, went}
+use Rattle.call_stages.specs.View.{Core}
+use Rattle.call_stages.specs.declared.stages.ActiveCall.{ActiveCall}
+use Rattle.call_stages.specs.declared.stages.Stage.TheVariants.{Undecided, Decided}
 use Rattle.core_invariant.proofs.Carries.{names_on, counts_on, spot_on, takes_on}
 use Rattle.core_invariant.proofs.Counting as counting
 use Rattle.core_invariant.proofs.Good.{spares_blank, spares_other}
@@ -51,10 +51,10 @@ use Rattle.core_invariant.specs.Words.{IsFrameWord, count_room}
 use Rattle.look_invariant.proofs.Lookups.{near_way}
 use Rattle.count_invariant.proofs.MakingCounts.{blank_left}
 use Rattle.place_invariant.proofs.Fills.{target_way, changes_node}
-use Rattle.call_acts.specs.Comps.{comp_dues, comp_due_list, comp_goes, CompAtFits, CompMakingFits, comp_word_at, comp_stored, closes_number, comp_published}
-use Rattle.call_acts.specs.declared.comps.CompMaking.{CompMaking}
-use Rattle.call_acts.specs.declared.comps.CompAt.{CompAt}
-use Rattle.call_acts.specs.declared.comps.CompAt.TheVariants.{Close, Store, Fill}
+use Rattle.act_states.specs.Comps.{comp_dues, comp_due_list, comp_goes, CompAtFits, CompMakingFits, comp_word_at, comp_stored, closes_number, comp_published}
+use Rattle.act_states.specs.declared.comps.CompMaking.{CompMaking}
+use Rattle.act_states.specs.declared.comps.CompAt.{CompAt}
+use Rattle.act_states.specs.declared.comps.CompAt.TheVariants.{Close, Store, Fill}
 use Rattle.count_invariant.proofs.CompCounts.{IsCompCall, makes_comp_on, comp_changes, comp_argument, number_near, comp_places, comp_numbers, comp_near}
 use Rattle.frame_invariant.proofs.CompCalls as calls
 use Rattle.kernel_rules.specs.Rules as rules
@@ -62,7 +62,7 @@ use Rattle.frame_words.specs.Live.{live_of_word, LiveFits, word_of_live}
 use Rattle.frame_words.specs.declared.live_word.LiveWord.{LiveWord}
 use Rattle.frame_words.specs.declared.live_word.LiveWord.TheVariants as live_word
 use Rattle.frame_words.proofs.LiveLemmas as lives
-use Rattle.call_acts.specs.declared.comps.LastEpoch.{LastEpoch}
+use Rattle.act_states.specs.declared.comps.LastEpoch.{LastEpoch}
 use Rattle.frame_words.specs.Comp.{word_of_comp}
 use Rattle.frame_invariant.proofs.CompNumbers.{no_number}
 use Rattle.frame_words.proofs.CompLemmas as comps

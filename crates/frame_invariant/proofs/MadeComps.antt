@@ -53,16 +53,16 @@ use Rattle.call_plans.specs.After.{LeadsIn}
 use Rattle.call_plans.specs.GoesBy.{own_pages}
 use Rattle.plan_ways.proofs.Ways.{all_ways}
 use Rattle.stage_look.specs.Shown.{CapNames}
-use Rattle.call_acts.specs.Acts.{comp_cap, took_comp, took_comp_at}
-use Rattle.call_acts.specs.declared.work.Due.{Due}
-use Rattle.call_acts.specs.declared.work.Act.TheVariants.{MakeComp as comp_act}
-use Rattle.call_acts.specs.declared.work.Tail.TheVariants.{StoreLive}
-use Rattle.call_acts.specs.declared.work.Work.TheVariants.{Act}
-use Rattle.call_steps.specs.Steps.{landed}
-use Rattle.call_steps.specs.View.{Core}
-use Rattle.call_steps.specs.declared.stages.ActiveCall.{ActiveCall}
-use Rattle.call_steps.specs.declared.stages.Stage.{Stage}
-use Rattle.call_steps.specs.declared.stages.Stage.TheVariants.{Undecided, Decided}
+use Rattle.act_states.specs.Acts.{comp_cap, took_comp, took_comp_at}
+use Rattle.act_states.specs.declared.work.Due.{Due}
+use Rattle.act_states.specs.declared.work.Act.TheVariants.{MakeComp as comp_act}
+use Rattle.act_states.specs.declared.work.Tail.TheVariants.{StoreLive}
+use Rattle.act_states.specs.declared.work.Work.TheVariants.{Act}
+use Rattle.call_stages.specs.Steps.{landed}
+use Rattle.call_stages.specs.View.{Core}
+use Rattle.call_stages.specs.declared.stages.ActiveCall.{ActiveCall}
+use Rattle.call_stages.specs.declared.stages.Stage.{Stage}
+use Rattle.call_stages.specs.declared.stages.Stage.TheVariants.{Undecided, Decided}
 use Rattle.core_invariant.proofs.Calm.{calm_counted, plain_exit, counted_rises, BeginsNone, room_grows, counts, same_works, none_flush}
 use Rattle.core_invariant.proofs.Carries.{own_kept}
 use Rattle.core_invariant.proofs.CountSums.{counted_refs, times_here, times_there}
@@ -87,11 +87,11 @@ use Rattle.place_invariant.proofs.Outside.{vacant_slot, vacant_here}
 use Rattle.place_invariant.proofs.Vacancy.{IsVacant, none_waits}
 use Rattle.spk_nums.specs.declared.kinds.Obj.TheVariants as obj
 use Rattle.entry_words.specs.declared.entry.Entry.TheVariants as entry
-use Rattle.call_acts.specs.Comps.{comp_dues, comp_due_list, number_scanned, CompMakingFits, comp_published, component, comp_move, comp_at}
-use Rattle.call_acts.specs.declared.comps.CompMaking.{CompMaking}
-use Rattle.call_acts.specs.declared.comps.CompAt.{CompAt}
-use Rattle.call_acts.specs.declared.comps.CompAt.TheVariants.{Load, Mark, LoadLive, Scan, Close, Store, Fill}
-use Rattle.call_acts.specs.declared.refusals.Refusal.TheVariants as refusal
+use Rattle.act_states.specs.Comps.{comp_dues, comp_due_list, number_scanned, CompMakingFits, comp_published, component, comp_move, comp_at}
+use Rattle.act_states.specs.declared.comps.CompMaking.{CompMaking}
+use Rattle.act_states.specs.declared.comps.CompAt.{CompAt}
+use Rattle.act_states.specs.declared.comps.CompAt.TheVariants.{Load, Mark, LoadLive, Scan, Close, Store, Fill}
+use Rattle.act_states.specs.declared.refusals.Refusal.TheVariants as refusal
 use Rattle.core_invariant.proofs.Counting as counting
 use Rattle.count_invariant.proofs.CompCounts.{IsCompCall, comp_changes, comp_argument, number_near, comp_numbers}
 use Rattle.frame_invariant.proofs.CompCalls as calls
@@ -102,7 +102,7 @@ use Rattle.stage_quiet.specs.Scan.{quiet_end, quiet_after, quiet_move}
 use Rattle.frame_words.specs.Live.{live_of_word, LiveFits, word_of_live}
 use Rattle.frame_words.specs.declared.live_word.LiveWord.{LiveWord}
 use Rattle.frame_words.specs.declared.live_word.LiveWord.TheVariants as live_word
-use Rattle.call_acts.specs.declared.comps.LastEpoch.{LastEpoch}
+use Rattle.act_states.specs.declared.comps.LastEpoch.{LastEpoch}
 use Rattle.frame_words.specs.Comp.{CompFits, comp_of_word}
 use Rattle.frame_invariant.proofs.CompNumbers.{free_number, dead_number, load_live_good, scan_step_good}
 use Rattle.frame_words.proofs.CompLemmas as comps

@@ -55,21 +55,21 @@ use Rattle.call_plans.specs.After.{LeadsIn}
 use Rattle.call_plans.specs.GoesBy.{own_pages}
 use Rattle.plan_ways.proofs.Ways.{all_ways}
 use Rattle.stage_look.specs.Shown.{CapNames}
-use Rattle.call_acts.specs.Acts.{made_dues, published, took_making_at, took_making}
-use Rattle.call_acts.specs.Objects.{object_cap, object_kind, object_names, object_dues, one_more as due_one, last_word}
-use Rattle.call_acts.specs.declared.work.Due.{Due}
-use Rattle.call_acts.specs.Makings.{MakingFits, made, making_move, making_at}
-use Rattle.call_acts.specs.declared.makings.Making.{Making}
-use Rattle.call_acts.specs.declared.makings.MakingAt.{MakingAt}
-use Rattle.call_acts.specs.declared.makings.MakingAt.TheVariants.{Mark, Store, Load as making_load, Fill as making_fill}
-use Rattle.call_acts.specs.declared.work.Act.TheVariants.{Make as make_act}
-use Rattle.call_acts.specs.declared.work.Tail.TheVariants.{Unmark}
-use Rattle.call_acts.specs.declared.work.Work.TheVariants.{Act}
-use Rattle.call_steps.specs.Steps.{landed}
-use Rattle.call_steps.specs.View.{Core}
-use Rattle.call_steps.specs.declared.stages.ActiveCall.{ActiveCall}
-use Rattle.call_steps.specs.declared.stages.Stage.{Stage}
-use Rattle.call_steps.specs.declared.stages.Stage.TheVariants.{Undecided, Decided}
+use Rattle.act_states.specs.Acts.{made_dues, published, took_making_at, took_making}
+use Rattle.act_states.specs.Objects.{object_cap, object_kind, object_names, object_dues, one_more as due_one, last_word}
+use Rattle.act_states.specs.declared.work.Due.{Due}
+use Rattle.act_states.specs.Makings.{MakingFits, made, making_move, making_at}
+use Rattle.act_states.specs.declared.makings.Making.{Making}
+use Rattle.act_states.specs.declared.makings.MakingAt.{MakingAt}
+use Rattle.act_states.specs.declared.makings.MakingAt.TheVariants.{Mark, Store, Load as making_load, Fill as making_fill}
+use Rattle.act_states.specs.declared.work.Act.TheVariants.{Make as make_act}
+use Rattle.act_states.specs.declared.work.Tail.TheVariants.{Unmark}
+use Rattle.act_states.specs.declared.work.Work.TheVariants.{Act}
+use Rattle.call_stages.specs.Steps.{landed}
+use Rattle.call_stages.specs.View.{Core}
+use Rattle.call_stages.specs.declared.stages.ActiveCall.{ActiveCall}
+use Rattle.call_stages.specs.declared.stages.Stage.{Stage}
+use Rattle.call_stages.specs.declared.stages.Stage.TheVariants.{Undecided, Decided}
 use Rattle.core_invariant.proofs.Calm.{calm_counted, plain_exit, counted_rises, BeginsNone, room_grows, counts, same_works, none_flush}
 use Rattle.core_invariant.proofs.Carries.{own_kept}
 use Rattle.core_invariant.proofs.CountSums.{counted_refs, times_here, times_there}

@@ -32,16 +32,16 @@ use Rattle.call_plans.specs.GoesBy.{own_pages, GoesBy}
 use Rattle.call_plans.specs.PlanOf.{plan_for}
 use Rattle.call_plans.specs.declared.plans.Plan.{Plan}
 use Rattle.plan_ways.specs.Laws.{IsTargetOf}
-use Rattle.call_acts.specs.Makings.{MakingFits}
-use Rattle.call_acts.specs.Objects.{NamesFit, object_kind, object_made, object_dues}
-use Rattle.call_acts.specs.declared.makings.Making.{Making}
-use Rattle.call_acts.specs.declared.makings.MakingAt.{MakingAt}
-use Rattle.call_acts.specs.declared.work.Act.TheVariants.{Make as make_act}
-use Rattle.call_acts.specs.declared.work.Work.TheVariants.{Act}
-use Rattle.call_steps.specs.Fits.{StageFits, HasRoom}
-use Rattle.call_steps.specs.View.{Core}
-use Rattle.call_steps.specs.declared.stages.ActiveCall.{ActiveCall}
-use Rattle.call_steps.specs.declared.stages.Stage.TheVariants.{Undecided}
+use Rattle.act_states.specs.Makings.{MakingFits}
+use Rattle.act_states.specs.Objects.{NamesFit, object_kind, object_made, object_dues}
+use Rattle.act_states.specs.declared.makings.Making.{Making}
+use Rattle.act_states.specs.declared.makings.MakingAt.{MakingAt}
+use Rattle.act_states.specs.declared.work.Act.TheVariants.{Make as make_act}
+use Rattle.act_states.specs.declared.work.Work.TheVariants.{Act}
+use Rattle.call_stages.specs.Fits.{StageFits, HasRoom}
+use Rattle.call_stages.specs.View.{Core}
+use Rattle.call_stages.specs.declared.stages.ActiveCall.{ActiveCall}
+use Rattle.call_stages.specs.declared.stages.Stage.TheVariants.{Undecided}
 use Rattle.core_invariant.proofs.Good.{blank_is}
 use Rattle.core_invariant.proofs.Loads.{is_active, call_is}
 use Rattle.core_invariant.proofs.Sounds.{limits_of}

@@ -50,24 +50,24 @@ use Rattle.call_plans.specs.GoesBy.{own_pages}
 use Rattle.plan_ways.proofs.Ways.{next_on_way}
 use Rattle.plan_ways.specs.Laws.{NextPlace}
 use Rattle.stage_pins.specs.declared.held.Acquired.{Acquired}
-use Rattle.call_acts.specs.Acts.{dues, next_work, made_dues, meets_object, meets_blank, meets_making, marks_if, published, meets_kernel}
-use Rattle.call_acts.specs.Objects.{object_word, object_dues, last_word}
-use Rattle.call_acts.specs.declared.objects.NewObject.{NewObject}
-use Rattle.call_acts.specs.Makings.{stored, MakingAtFits, MakingFits, marked}
-use Rattle.call_acts.specs.WorkSteps.{refuse}
-use Rattle.call_acts.specs.declared.makings.Making.{Making}
-use Rattle.call_acts.specs.declared.makings.MakingAt.{MakingAt}
-use Rattle.call_acts.specs.declared.makings.MakingAt.TheVariants.{Mark, Store, Load as making_load, Fill as making_fill}
-use Rattle.call_acts.specs.declared.refusals.Refusal.TheVariants as refusal
-use Rattle.call_acts.specs.declared.work.Act.{Act as ActOf}
-use Rattle.call_acts.specs.declared.work.Act.TheVariants.{Make as make_act}
-use Rattle.call_acts.specs.declared.work.Tail.TheVariants.{Nothing, Unmark}
-use Rattle.call_acts.specs.declared.work.Work.TheVariants.{Act}
-use Rattle.call_acts.specs.declared.work.WorkStep.TheVariants.{Goes}
-use Rattle.call_steps.specs.Steps.{GoesOn, landed, went_with}
-use Rattle.call_steps.specs.View.{Core}
-use Rattle.call_steps.specs.declared.stages.ActiveCall.{ActiveCall}
-use Rattle.call_steps.specs.declared.stages.Stage.TheVariants.{Undecided, Decided}
+use Rattle.act_states.specs.Acts.{dues, next_work, made_dues, meets_object, meets_blank, meets_making, marks_if, published, meets_kernel}
+use Rattle.act_states.specs.Objects.{object_word, object_dues, last_word}
+use Rattle.act_states.specs.declared.objects.NewObject.{NewObject}
+use Rattle.act_states.specs.Makings.{stored, MakingAtFits, MakingFits, marked}
+use Rattle.act_states.specs.WorkSteps.{refuse}
+use Rattle.act_states.specs.declared.makings.Making.{Making}
+use Rattle.act_states.specs.declared.makings.MakingAt.{MakingAt}
+use Rattle.act_states.specs.declared.makings.MakingAt.TheVariants.{Mark, Store, Load as making_load, Fill as making_fill}
+use Rattle.act_states.specs.declared.refusals.Refusal.TheVariants as refusal
+use Rattle.act_states.specs.declared.work.Act.{Act as ActOf}
+use Rattle.act_states.specs.declared.work.Act.TheVariants.{Make as make_act}
+use Rattle.act_states.specs.declared.work.Tail.TheVariants.{Nothing, Unmark}
+use Rattle.act_states.specs.declared.work.Work.TheVariants.{Act}
+use Rattle.act_states.specs.declared.work.WorkStep.TheVariants.{Goes}
+use Rattle.call_stages.specs.Steps.{GoesOn, landed, went_with}
+use Rattle.call_stages.specs.View.{Core}
+use Rattle.call_stages.specs.declared.stages.ActiveCall.{ActiveCall}
+use Rattle.call_stages.specs.declared.stages.Stage.TheVariants.{Undecided, Decided}
 use Rattle.core_invariant.proofs.Carries.{names_on, counts_on, spot_on}
 use Rattle.core_invariant.proofs.Counting as counting
 use Rattle.core_invariant.proofs.Good.{spares_blank, spares_other, blank_is}

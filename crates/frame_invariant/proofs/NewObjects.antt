@@ -28,10 +28,10 @@ use Rattle.kernel_rules.proofs.Refs.{frame_refs, cleared_refs}
 use Rattle.kernel_rules.proofs.Within.{put_same, put_other}
 use Rattle.kernel_history.specs.Marks.{entry_mark, thread_mark, head_mark, mark_in_frame}
 use Rattle.kernel_history.specs.ObjectWords.{frame_value}
-use Rattle.call_acts.specs.declared.objects.NewObject.{NewObject}
-use Rattle.call_acts.specs.declared.objects.NewObject.TheVariants as objects
-use Rattle.call_acts.specs.Objects.{object_cap, object_word, thread_word, tcap_word, last_word, object_names, PairFits, NamesFit}
-use Rattle.call_acts.specs.Makings.{made}
+use Rattle.act_states.specs.declared.objects.NewObject.{NewObject}
+use Rattle.act_states.specs.declared.objects.NewObject.TheVariants as objects
+use Rattle.act_states.specs.Objects.{object_cap, object_word, thread_word, tcap_word, last_word, object_names, PairFits, NamesFit}
+use Rattle.act_states.specs.Makings.{made}
 use Rattle.core_invariant.specs.Words.{PlaceIs, IsThreadWord, IsTcapWord, IsFrameWord}
 use Rattle.core_invariant.proofs.WordFrames.{entry_more}
 use Rattle.place_invariant.proofs.ObjectMakes.{new_object, ready_place, readied}

@@ -47,21 +47,21 @@ use Rattle.call_plans.proofs.AfterNames.{leads_by, outcome_left, left_may}
 use Rattle.plan_ways.proofs.Ways.{all_ways}
 use Rattle.plan_ways.proofs.Near.{one_right, near_about}
 use Rattle.stage_pins.specs.declared.held.Acquired.{Acquired}
-use Rattle.call_acts.specs.declared.refusals.Refusal.TheVariants as refusal
-use Rattle.call_acts.specs.declared.typings.Typing.{Typing}
-use Rattle.call_acts.specs.declared.typings.TypingAt.{TypingAt}
-use Rattle.call_acts.specs.declared.typings.TypingAt.TheVariants.{Load, Compare as type_compare}
-use Rattle.call_acts.specs.declared.work.Act.TheVariants.{Retype as type_act}
-use Rattle.call_acts.specs.declared.work.Work.TheVariants.{Act}
-use Rattle.call_acts.specs.declared.work.Tail.TheVariants.{Nothing as no_tail}
-use Rattle.call_acts.specs.declared.work.WorkStep.TheVariants.{Goes}
-use Rattle.call_acts.specs.WorkSteps.{refuse}
-use Rattle.call_acts.specs.Typings.{typed, typing_at, meets_kind, meets_frame, meets_word, typed_if, took_typing_at}
-use Rattle.call_steps.specs.declared.stages.Stage.TheVariants.{Undecided, Decided}
-use Rattle.call_steps.specs.declared.stages.ActiveCall.{ActiveCall}
-use Rattle.call_steps.specs.Fits.{StageFits, HasRoom}
-use Rattle.call_steps.specs.Steps.{landed}
-use Rattle.call_steps.specs.View.{Core}
+use Rattle.act_states.specs.declared.refusals.Refusal.TheVariants as refusal
+use Rattle.act_states.specs.declared.typings.Typing.{Typing}
+use Rattle.act_states.specs.declared.typings.TypingAt.{TypingAt}
+use Rattle.act_states.specs.declared.typings.TypingAt.TheVariants.{Load, Compare as type_compare}
+use Rattle.act_states.specs.declared.work.Act.TheVariants.{Retype as type_act}
+use Rattle.act_states.specs.declared.work.Work.TheVariants.{Act}
+use Rattle.act_states.specs.declared.work.Tail.TheVariants.{Nothing as no_tail}
+use Rattle.act_states.specs.declared.work.WorkStep.TheVariants.{Goes}
+use Rattle.act_states.specs.WorkSteps.{refuse}
+use Rattle.act_states.specs.Typings.{typed, typing_at, meets_kind, meets_frame, meets_word, typed_if, took_typing_at}
+use Rattle.call_stages.specs.declared.stages.Stage.TheVariants.{Undecided, Decided}
+use Rattle.call_stages.specs.declared.stages.ActiveCall.{ActiveCall}
+use Rattle.call_stages.specs.Fits.{StageFits, HasRoom}
+use Rattle.call_stages.specs.Steps.{landed}
+use Rattle.call_stages.specs.View.{Core}
 use Rattle.core_invariant.specs.Holding.{holds_counts, settled_by, settled}
 use Rattle.core_invariant.specs.Words.{IsFrameWord, WordIs, count_room}
 use Rattle.core_invariant.specs.Knows.{HasFound, own_in, due_of, TypesBy, HasMet, KnowsUndecided, WorksIn, phase_at, untypes}

@@ -15,15 +15,15 @@ use Rattle.call_plans.specs.declared.plans.Plan.{Plan}
 use Rattle.call_plans.specs.GoesBy.{GoesBy, own_pages}
 use Rattle.call_plans.specs.After.{rule_after, Leads, LeadsIn}
 use Rattle.call_plans.proofs.AfterNames.{outcome_left, left_may}
-use Rattle.call_acts.specs.declared.kills.Killing.{Killing}
-use Rattle.call_acts.specs.declared.kills.KillingAt.{KillingAt}
-use Rattle.call_acts.specs.Kills.{KillingFits}
-use Rattle.call_acts.specs.declared.work.Act.TheVariants.{Kill as kill_act}
-use Rattle.call_acts.specs.declared.work.Work.TheVariants.{Act}
-use Rattle.call_steps.specs.declared.stages.Stage.TheVariants.{Undecided}
-use Rattle.call_steps.specs.declared.stages.ActiveCall.{ActiveCall}
-use Rattle.call_steps.specs.Fits.{StageFits, HasRoom}
-use Rattle.call_steps.specs.View.{Core}
+use Rattle.act_states.specs.declared.kills.Killing.{Killing}
+use Rattle.act_states.specs.declared.kills.KillingAt.{KillingAt}
+use Rattle.act_states.specs.Kills.{KillingFits}
+use Rattle.act_states.specs.declared.work.Act.TheVariants.{Kill as kill_act}
+use Rattle.act_states.specs.declared.work.Work.TheVariants.{Act}
+use Rattle.call_stages.specs.declared.stages.Stage.TheVariants.{Undecided}
+use Rattle.call_stages.specs.declared.stages.ActiveCall.{ActiveCall}
+use Rattle.call_stages.specs.Fits.{StageFits, HasRoom}
+use Rattle.call_stages.specs.View.{Core}
 use Rattle.core_invariant.specs.Knows.{KnowsUndecided, phase_at}
 use Rattle.core_invariant.specs.Stands.{Stands}
 use Rattle.core_invariant.proofs.Loads.{call_is, is_active}

@@ -21,14 +21,14 @@ use Rattle.kernel_history.specs.Trace.{Step, Trace, Open, phase, state_after, la
 use Rattle.kernel_history.proofs.Carries.{Carries}
 use Rattle.kernel_history.proofs.Stays.{sound_of, opened_is, guarded_usable}
 use Rattle.stage_pins.specs.declared.held.Acquired.{Acquired}
-use Rattle.call_acts.specs.declared.kills.KillingAt.TheVariants.{LoadComp}
-use Rattle.call_acts.specs.declared.work.Act.TheVariants.{Kill as kill_act}
-use Rattle.call_acts.specs.declared.work.Work.TheVariants.{Act}
-use Rattle.call_acts.specs.Acts.{kills_in}
-use Rattle.call_steps.specs.declared.stages.Stage.TheVariants.{Undecided}
-use Rattle.call_steps.specs.declared.stages.ActiveCall.{ActiveCall}
-use Rattle.call_steps.specs.Steps.{landed, found_more}
-use Rattle.call_steps.specs.View.{Core}
+use Rattle.act_states.specs.declared.kills.KillingAt.TheVariants.{LoadComp}
+use Rattle.act_states.specs.declared.work.Act.TheVariants.{Kill as kill_act}
+use Rattle.act_states.specs.declared.work.Work.TheVariants.{Act}
+use Rattle.act_states.specs.Acts.{kills_in}
+use Rattle.call_stages.specs.declared.stages.Stage.TheVariants.{Undecided}
+use Rattle.call_stages.specs.declared.stages.ActiveCall.{ActiveCall}
+use Rattle.call_stages.specs.Steps.{landed, found_more}
+use Rattle.call_stages.specs.View.{Core}
 use Rattle.core_invariant.specs.Holding.{holds_counts}
 use Rattle.core_invariant.specs.Knows.{due_of, HasComp, KillsBy, NamesAre, phase_at}
 use Rattle.core_invariant.specs.Stands.{holds_in, Stands}

@@ -51,18 +51,18 @@ use Rattle.call_plans.specs.GoesBy.{own_pages}
 use Rattle.call_plans.specs.After.{LeadsIn}
 use Rattle.call_plans.proofs.AfterNames.{leads_by}
 use Rattle.plan_ways.proofs.Ways.{all_ways}
-use Rattle.call_acts.specs.declared.kills.KillingAt.{KillingAt}
-use Rattle.call_acts.specs.declared.kills.KillingAt.TheVariants.{LoadComp, LoadLive, Close, Draw}
-use Rattle.call_acts.specs.Kills.{killing_at}
-use Rattle.call_acts.specs.declared.work.Act.TheVariants.{Kill as kill_act}
-use Rattle.call_acts.specs.declared.work.Work.TheVariants.{Act}
-use Rattle.call_acts.specs.declared.work.Tail.TheVariants.{Nothing, StoreDead}
-use Rattle.call_acts.specs.Acts.{drawn_dead, took_killing_at}
-use Rattle.call_steps.specs.declared.stages.Stage.{Stage}
-use Rattle.call_steps.specs.declared.stages.Stage.TheVariants.{Undecided, Decided}
-use Rattle.call_steps.specs.declared.stages.ActiveCall.{ActiveCall}
-use Rattle.call_steps.specs.Steps.{GoesOn, landed, went_with}
-use Rattle.call_steps.specs.View.{Core}
+use Rattle.act_states.specs.declared.kills.KillingAt.{KillingAt}
+use Rattle.act_states.specs.declared.kills.KillingAt.TheVariants.{LoadComp, LoadLive, Close, Draw}
+use Rattle.act_states.specs.Kills.{killing_at}
+use Rattle.act_states.specs.declared.work.Act.TheVariants.{Kill as kill_act}
+use Rattle.act_states.specs.declared.work.Work.TheVariants.{Act}
+use Rattle.act_states.specs.declared.work.Tail.TheVariants.{Nothing, StoreDead}
+use Rattle.act_states.specs.Acts.{drawn_dead, took_killing_at}
+use Rattle.call_stages.specs.declared.stages.Stage.{Stage}
+use Rattle.call_stages.specs.declared.stages.Stage.TheVariants.{Undecided, Decided}
+use Rattle.call_stages.specs.declared.stages.ActiveCall.{ActiveCall}
+use Rattle.call_stages.specs.Steps.{GoesOn, landed, went_with}
+use Rattle.call_stages.specs.View.{Core}
 use Rattle.core_invariant.specs.CountWords.{IsWithin}
 use Rattle.core_invariant.specs.Holding.{Holding, holds_counts, settled_by, settled}
 use Rattle.core_invariant.specs.Words.{NumberIs, WordIs, count_room}

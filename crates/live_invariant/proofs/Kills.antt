@@ -26,19 +26,19 @@ use Rattle.kernel_history.specs.Trace.{Step, Trace, state_after, last_left}
 use Rattle.kernel_history.proofs.Names.{same_word-other}
 use Rattle.kernel_history.proofs.Steps.{own_read-here}
 use Rattle.stage_pins.specs.declared.held.Acquired.{Acquired}
-use Rattle.call_acts.specs.declared.refusals.Refusal.TheVariants as refusal
-use Rattle.call_acts.specs.declared.kills.Killing.{Killing}
-use Rattle.call_acts.specs.declared.kills.KillingAt.TheVariants.{LoadComp, LoadLive, Close, Draw}
-use Rattle.call_acts.specs.declared.work.Act.{Act as ActOf}
-use Rattle.call_acts.specs.declared.work.Act.TheVariants.{Kill as kill_act}
-use Rattle.call_acts.specs.declared.work.Work.TheVariants.{Act}
-use Rattle.call_acts.specs.declared.work.WorkStep.TheVariants.{Goes}
-use Rattle.call_acts.specs.WorkSteps.{refuse}
-use Rattle.call_acts.specs.Acts.{dues, next_work, meets_comp, meets_live, meets_number, meets_life, closes_if}
-use Rattle.call_steps.specs.declared.stages.Stage.TheVariants.{Undecided}
-use Rattle.call_steps.specs.declared.stages.ActiveCall.{ActiveCall}
-use Rattle.call_steps.specs.Steps.{GoesOn, landed, went}
-use Rattle.call_steps.specs.View.{Core}
+use Rattle.act_states.specs.declared.refusals.Refusal.TheVariants as refusal
+use Rattle.act_states.specs.declared.kills.Killing.{Killing}
+use Rattle.act_states.specs.declared.kills.KillingAt.TheVariants.{LoadComp, LoadLive, Close, Draw}
+use Rattle.act_states.specs.declared.work.Act.{Act as ActOf}
+use Rattle.act_states.specs.declared.work.Act.TheVariants.{Kill as kill_act}
+use Rattle.act_states.specs.declared.work.Work.TheVariants.{Act}
+use Rattle.act_states.specs.declared.work.WorkStep.TheVariants.{Goes}
+use Rattle.act_states.specs.WorkSteps.{refuse}
+use Rattle.act_states.specs.Acts.{dues, next_work, meets_comp, meets_live, meets_number, meets_life, closes_if}
+use Rattle.call_stages.specs.declared.stages.Stage.TheVariants.{Undecided}
+use Rattle.call_stages.specs.declared.stages.ActiveCall.{ActiveCall}
+use Rattle.call_stages.specs.Steps.{GoesOn, landed, went}
+use Rattle.call_stages.specs.View.{Core}
 use Rattle.core_invariant.specs.Holding.{holds_counts, settled_by}
 use Rattle.core_invariant.specs.Words.{IsFrameWord, NumberIs, count_room}
 use Rattle.core_invariant.specs.Knows.{due_of, KnowsUndecided}

@@ -16,14 +16,14 @@ use Rattle.kernel_history.specs.Order.{IsIdle, MakesOne}
 use Rattle.kernel_history.proofs.Names.{cases_word}
 use Rattle.kernel_history.proofs.Steps.{calls_of-own, calls_of-other, last_left-here, last_left-there}
 use Rattle.kernel_history.specs.BootWords.{shape_of}
-use Rattle.call_steps.specs.View.{Core}
-use Rattle.call_steps.specs.Fits.{IsCore}
-use Rattle.call_steps.specs.Cores.{move_of}
+use Rattle.call_stages.specs.View.{Core}
+use Rattle.call_stages.specs.Fits.{IsCore}
+use Rattle.call_stages.specs.Cores.{move_of}
 use Rattle.flight.specs.Made.{turned, MayStep, core_after, cores_after, core_at as core_of_step, IsMadeStep}
 use Rattle.flight.specs.Phases.{IsWord, IsInPhase}
 use Rattle.flight.proofs.Phases.{made_phases}
 use Rattle.flight.proofs.Spelling.{moves_are_words}
-use Rattle.call_steps.specs.declared.stages.ActiveCall.{ActiveCall}
+use Rattle.call_stages.specs.declared.stages.ActiveCall.{ActiveCall}
 use Rattle.lone_kernel.specs.declared.seats.Turn.{Turn}
 use Rattle.lone_kernel.specs.declared.seats.Turn.TheVariants.{Begins, GoesOn}
 use Rattle.lone_kernel.specs.Machine.{Machine, seat_at, core_at, list_at, turn_if, turn_at, IsFinished, IsFit, CanTake, enters_as, core_in, begun_by, place_next, found_by, stepped, step_in}

@@ -5,7 +5,7 @@ use Rattle.kernel_history.specs.BootWords.{shape_of}
 use Rattle.kernel_history.specs.Counts.{RepresentCounts}
 use Rattle.kernel_history.specs.FinalWords.{Represent, word_in, end_in}
 use Rattle.kernel_history.specs.Trace.{Trace, state_after, last_left}
-use Rattle.call_steps.specs.Cores.{end_of}
+use Rattle.call_stages.specs.Cores.{end_of}
 use Rattle.core_invariant.proofs.Sounds.{limits_of}
 use Rattle.flight.specs.Made.{cores_after}
 use Rattle.flight.proofs.Final.{represents, represents_counts}

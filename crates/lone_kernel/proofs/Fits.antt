@@ -9,16 +9,16 @@ use Rattle.spk_nums.specs.CallLimits.{InLimits}
 use Rattle.spk_nums.specs.declared.calls.Call.{Call}
 use Rattle.spk_nums.specs.Setting.{Setting}
 use Rattle.kernel_history.specs.Trace.{decision_at}
-use Rattle.call_steps.specs.View.{Core}
-use Rattle.call_steps.specs.Fits.{IsCore, steps_left}
-use Rattle.call_acts.specs.declared.own.Own.{Own}
-use Rattle.call_acts.specs.declared.own.OwnChange.TheVariants.{Ticks, Empties, Works, Caches, Switches}
-use Rattle.call_steps.specs.Cores.{core_after, told_by, absorbed, told_of_step, absorbed_in, told_in}
+use Rattle.call_stages.specs.View.{Core}
+use Rattle.call_stages.specs.Fits.{IsCore, steps_left}
+use Rattle.act_states.specs.declared.own.Own.{Own}
+use Rattle.act_states.specs.declared.own.OwnChange.TheVariants.{Ticks, Empties, Works, Caches, Switches}
+use Rattle.call_stages.specs.Cores.{core_after, told_by, absorbed, told_of_step, absorbed_in, told_in}
 use Rattle.core_invariant.specs.Events.{decided_in}
-use Rattle.call_steps.specs.declared.stages.Absorbed.{Absorbed}
-use Rattle.call_steps.specs.declared.stages.Absorbed.TheVariants.{Going, Decided, Returned}
-use Rattle.call_steps.specs.declared.stages.ActiveCall.{ActiveCall}
-use Rattle.call_steps.specs.Steps.{Took, GoesOn as TookOn, Decides, Returns, Changes, took}
+use Rattle.call_stages.specs.declared.stages.Absorbed.{Absorbed}
+use Rattle.call_stages.specs.declared.stages.Absorbed.TheVariants.{Going, Decided, Returned}
+use Rattle.call_stages.specs.declared.stages.ActiveCall.{ActiveCall}
+use Rattle.call_stages.specs.Steps.{Took, GoesOn as TookOn, Decides, Returns, Changes, took}
 use Rattle.lone_kernel.specs.declared.seats.Seat.{Seat}
 use Rattle.lone_kernel.specs.declared.seats.Turn.{Turn}
 use Rattle.lone_kernel.specs.declared.seats.Turn.TheVariants.{Begins, GoesOn}

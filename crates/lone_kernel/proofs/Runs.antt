@@ -11,14 +11,14 @@ use Rattle.spk_nums.specs.Setting.{Setting, IsSetting}
 use Rattle.kernel_rules.proofs.Within.{put_same}
 use Rattle.kernel_history.specs.Trace.{Step, Trace, calls_of}
 use Rattle.kernel_history.specs.Order.{IsIdle, AreOf, HaveNone, StaysUnready, Stretch}
-use Rattle.call_steps.specs.Fits.{left_for}
-use Rattle.call_steps.specs.View.{Core}
-use Rattle.call_steps.specs.Cores.{ready_of}
+use Rattle.call_stages.specs.Fits.{left_for}
+use Rattle.call_stages.specs.View.{Core}
+use Rattle.call_stages.specs.Cores.{ready_of}
 use Rattle.flight.specs.Decided.{is_decided_in}
 use Rattle.flight.specs.Made.{turned, core_after, cores_after, core_at as core_of_step, ready_after}
 use Rattle.flight.specs.Phases.{AreEvents}
 use Rattle.flight.proofs.Phases.{made_events, decided_is_ready}
-use Rattle.call_steps.specs.declared.stages.ActiveCall.{ActiveCall}
+use Rattle.call_stages.specs.declared.stages.ActiveCall.{ActiveCall}
 use Rattle.lone_kernel.specs.Machine.{Machine, seat_at, core_at, list_at, IsFinished, IsInCall, HasDecided, IsThere, IsDone, turn_if}
 use Rattle.lone_kernel.specs.Stands.{StandsFor}
 use Rattle.lone_kernel.specs.Moves.{StepsOnce, GoesBy, GoesFurther, work_in, work_at, calls_in, calls_left, calls_begun}

@@ -6,9 +6,9 @@ use Rattle.kernel_history.specs.Order.{IsIdle, MakesOne, Stretch}
 use Rattle.lone_kernel.specs.declared.lone.Moved.{Moved}
 use Rattle.lone_kernel.specs.declared.lone.Moved.TheVariants.{Idle, Went}
 use Rattle.flight.specs.Decided.{is_decided_in}
-use Rattle.call_steps.specs.Fits.{steps_left, left_of}
+use Rattle.call_stages.specs.Fits.{steps_left, left_of}
 use Rattle.flight.specs.Made.{ready_after}
-use Rattle.call_steps.specs.declared.stages.ActiveCall.{ActiveCall}
+use Rattle.call_stages.specs.declared.stages.ActiveCall.{ActiveCall}
 use Rattle.lone_kernel.specs.Machine.{Machine, core_at, seat_at, list_at}
 use Rattle.lone_kernel.specs.Stands.{StandsFor}
 

@@ -1,6 +1,6 @@
 //! Where each core stands in its list.
 
-use flight::CoreState;
+use call_steps::CoreState;
 use spk_nums::Call;
 
 /// Where a core stands in its list of calls.

@@ -35,16 +35,16 @@ use Rattle.stage_look.specs.declared.look.Look.{Look}
 use Rattle.stage_look.specs.declared.look.Look.TheVariants.{AtRoot, AtLeaf, AtEntry}
 use Rattle.kernel_history.proofs.Carries.{Carries}
 use Rattle.call_plans.specs.After.{next_of}
-use Rattle.call_acts.specs.declared.refusals.Refusal.TheVariants as refusal
-use Rattle.call_acts.specs.declared.work.Work.TheVariants.{Lookup}
-use Rattle.call_steps.specs.declared.stages.Stage.TheVariants.{Undecided}
-use Rattle.call_steps.specs.declared.stages.ActiveCall.{ActiveCall}
-use Rattle.call_acts.specs.declared.work.WorkStep.TheVariants.{Goes}
-use Rattle.call_acts.specs.WorkSteps.{refuse}
-use Rattle.call_steps.specs.Steps.{landed, took_end, took_look, took_found}
-use Rattle.call_steps.specs.View.{Core}
+use Rattle.act_states.specs.declared.refusals.Refusal.TheVariants as refusal
+use Rattle.act_states.specs.declared.work.Work.TheVariants.{Lookup}
+use Rattle.call_stages.specs.declared.stages.Stage.TheVariants.{Undecided}
+use Rattle.call_stages.specs.declared.stages.ActiveCall.{ActiveCall}
+use Rattle.act_states.specs.declared.work.WorkStep.TheVariants.{Goes}
+use Rattle.act_states.specs.WorkSteps.{refuse}
+use Rattle.call_stages.specs.Steps.{landed, took_end, took_look, took_found}
+use Rattle.call_stages.specs.View.{Core}
 use Rattle.core_invariant.specs.Holding.{holds_counts}
-use Rattle.call_steps.specs.Fits.{CountsAt}
+use Rattle.call_stages.specs.Fits.{CountsAt}
 use Rattle.core_invariant.specs.Words.{PlaceIs}
 use Rattle.core_invariant.specs.Knows.{ReliesOn, LooksUp, Knows, phase_at}
 use Rattle.core_invariant.specs.Stands.{holds_at, holds_in, Stands}

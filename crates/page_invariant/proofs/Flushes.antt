@@ -1,19 +1,19 @@
 -- The two steps of a flush: the load of the clock, which decides it, and the store of the core's flush word.
-use Rattle.call_acts.specs.declared.own.Own.{Own}
-use Rattle.call_acts.specs.declared.own.OwnChange.TheVariants.{Empties}
-use Rattle.call_acts.specs.declared.work.Act.TheVariants.{Flush as flush_act}
-use Rattle.call_acts.specs.declared.work.Tail.TheVariants.{Nothing, StoreFlush}
-use Rattle.call_acts.specs.declared.work.Work.TheVariants.{Act}
-use Rattle.call_acts.specs.declared.work.WorkStep.TheVariants.{Changes as work_changes}
-use Rattle.call_acts.specs.Flushes.{took_flush}
-use Rattle.call_acts.specs.OwnChanges.{own_changed}
-use Rattle.call_steps.specs.Cores.{own_decided}
-use Rattle.call_steps.specs.declared.stages.ActiveCall.{ActiveCall}
-use Rattle.call_steps.specs.declared.stages.Stage.{Stage}
-use Rattle.call_steps.specs.declared.stages.Stage.TheVariants.{Undecided, Decided}
-use Rattle.call_steps.specs.Fits.{HasRoom}
-use Rattle.call_steps.specs.Steps.{GoesOn, went_with, landed}
-use Rattle.call_steps.specs.View.{Core}
+use Rattle.act_states.specs.declared.own.Own.{Own}
+use Rattle.act_states.specs.declared.own.OwnChange.TheVariants.{Empties}
+use Rattle.act_states.specs.declared.work.Act.TheVariants.{Flush as flush_act}
+use Rattle.act_states.specs.declared.work.Tail.TheVariants.{Nothing, StoreFlush}
+use Rattle.act_states.specs.declared.work.Work.TheVariants.{Act}
+use Rattle.act_states.specs.declared.work.WorkStep.TheVariants.{Changes as work_changes}
+use Rattle.act_states.specs.Flushes.{took_flush}
+use Rattle.act_states.specs.OwnChanges.{own_changed}
+use Rattle.call_stages.specs.Cores.{own_decided}
+use Rattle.call_stages.specs.declared.stages.ActiveCall.{ActiveCall}
+use Rattle.call_stages.specs.declared.stages.Stage.{Stage}
+use Rattle.call_stages.specs.declared.stages.Stage.TheVariants.{Undecided, Decided}
+use Rattle.call_stages.specs.Fits.{HasRoom}
+use Rattle.call_stages.specs.Steps.{GoesOn, went_with, landed}
+use Rattle.call_stages.specs.View.{Core}
 use Rattle.core_invariant.proofs.Calm.{plain_exit}
 use Rattle.core_invariant.proofs.Carries.{counts_on}
 use Rattle.core_invariant.proofs.CountSums.{counted_refs, calm_refs}

@@ -52,24 +52,24 @@ use Rattle.stage_look.specs.Lookup.{look_move, look_end, look_after, root_end, r
 use Rattle.stage_look.specs.declared.look.Look.{Look}
 use Rattle.stage_look.specs.declared.look.Look.TheVariants.{AtRoot, AtLeaf, AtEntry}
 use Rattle.stage_pins.specs.declared.held.Acquired.{Acquired}
-use Rattle.call_acts.specs.declared.own.Own.{Own}
-use Rattle.call_acts.specs.declared.own.OwnChange.TheVariants.{Caches}
-use Rattle.call_acts.specs.declared.refusals.Refusal.TheVariants as refusal
-use Rattle.call_acts.specs.declared.touches.Touching.{Touching}
-use Rattle.call_acts.specs.declared.work.Act.TheVariants.{Touch as touch_act}
-use Rattle.call_acts.specs.declared.work.Tail.TheVariants.{Nothing}
-use Rattle.call_acts.specs.declared.work.Work.TheVariants.{Act}
-use Rattle.call_acts.specs.declared.work.WorkStep.{WorkStep}
-use Rattle.call_acts.specs.declared.work.WorkStep.TheVariants.{Goes, Answers, Changes as work_changes}
-use Rattle.call_acts.specs.OwnChanges.{own_changed}
-use Rattle.call_acts.specs.Touches.{mapping_of, meets_page, touch_end, took_touch, is_at_page}
-use Rattle.call_acts.specs.WorkSteps.{refuse}
-use Rattle.call_steps.specs.Cores.{own_decided}
-use Rattle.call_steps.specs.declared.stages.ActiveCall.{ActiveCall}
-use Rattle.call_steps.specs.declared.stages.Stage.TheVariants.{Undecided, Decided}
-use Rattle.call_steps.specs.Fits.{HasRoom}
-use Rattle.call_steps.specs.Steps.{landed}
-use Rattle.call_steps.specs.View.{Core}
+use Rattle.act_states.specs.declared.own.Own.{Own}
+use Rattle.act_states.specs.declared.own.OwnChange.TheVariants.{Caches}
+use Rattle.act_states.specs.declared.refusals.Refusal.TheVariants as refusal
+use Rattle.act_states.specs.declared.touches.Touching.{Touching}
+use Rattle.act_states.specs.declared.work.Act.TheVariants.{Touch as touch_act}
+use Rattle.act_states.specs.declared.work.Tail.TheVariants.{Nothing}
+use Rattle.act_states.specs.declared.work.Work.TheVariants.{Act}
+use Rattle.act_states.specs.declared.work.WorkStep.{WorkStep}
+use Rattle.act_states.specs.declared.work.WorkStep.TheVariants.{Goes, Answers, Changes as work_changes}
+use Rattle.act_states.specs.OwnChanges.{own_changed}
+use Rattle.act_states.specs.Touches.{mapping_of, meets_page, touch_end, took_touch, is_at_page}
+use Rattle.act_states.specs.WorkSteps.{refuse}
+use Rattle.call_stages.specs.Cores.{own_decided}
+use Rattle.call_stages.specs.declared.stages.ActiveCall.{ActiveCall}
+use Rattle.call_stages.specs.declared.stages.Stage.TheVariants.{Undecided, Decided}
+use Rattle.call_stages.specs.Fits.{HasRoom}
+use Rattle.call_stages.specs.Steps.{landed}
+use Rattle.call_stages.specs.View.{Core}
 use Rattle.core_invariant.specs.Holding.{holds_counts, settled}
 use Rattle.core_invariant.specs.Knows.{due_of, LooksUp, KnowsTouch, KnowsUndecided, WorksIn, phase_at, untypes}
 use Rattle.core_invariant.specs.Stands.{holds_at, holds_in, holds, held_by, times_of, counted_in, Stands}
@@ -584,7 +584,7 @@ module _ (setup : Setting) (setting : IsSetting setup) (cores : ℕ → Core) (t
 
       as_taken : (cached : Option Translation) (x : ℕ)
           → GoodTook setup cores t c (look_move m.look) (landed a (touched_at m m.look cached x))
-          → GoodTook setup cores t c (look_move m.look) (landed a (Rattle.call_acts.specs.Touches.touched m x cached))
+          → GoodTook setup cores t c (look_move m.look) (landed a (Rattle.act_states.specs.Touches.touched m x cached))
       as_taken None x h = h
       as_taken (Some item) x h = h
 

@@ -17,9 +17,9 @@ use Rattle.kernel_rules.proofs.Facts.{named_fit}
 use Rattle.kernel_rules.proofs.Sound.{IsSound}
 use Rattle.call_plans.specs.PlanOf.{of_kind, plan_for}
 use Rattle.call_plans.specs.After.{Leads, LeadsIn, rule_after, names_after, NextFree, next_of}
-use Rattle.call_acts.specs.Comps.{comp_due_list}
-use Rattle.call_acts.specs.declared.comps.CompMaking.{CompMaking}
-use Rattle.call_acts.specs.declared.work.Due.{Due}
+use Rattle.act_states.specs.Comps.{comp_due_list}
+use Rattle.act_states.specs.declared.comps.CompMaking.{CompMaking}
+use Rattle.act_states.specs.declared.work.Due.{Due}
 use Rattle.core_invariant.specs.Knows.{AreDuesApart}
 
 -- What the component has.

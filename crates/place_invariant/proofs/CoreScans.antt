@@ -35,18 +35,18 @@ use Rattle.call_plans.specs.GoesBy.{GoesBy, OwnPages, own_pages}
 use Rattle.call_plans.specs.After.{Leads, LeadsIn, NextFree, rule_after, NextMay, next_of}
 use Rattle.call_plans.proofs.AfterNames.{Begins, left_begins, next_may}
 use Rattle.plan_ways.proofs.Ways.{asked_left}
-use Rattle.call_acts.specs.declared.refusals.Refusal.TheVariants as refusal
-use Rattle.call_acts.specs.declared.work.Act.{Act as ActOf}
-use Rattle.call_acts.specs.declared.work.Act.TheVariants.{Fill as fill_act, Remove as remove_act, Retype as type_act, Make as make_act, Outside, Tick as tick_act, Kill as kill_act}
-use Rattle.call_acts.specs.declared.work.Work.TheVariants.{Scan}
-use Rattle.call_steps.specs.declared.stages.Stage.TheVariants.{Undecided}
-use Rattle.call_steps.specs.declared.stages.ActiveCall.{ActiveCall}
-use Rattle.call_acts.specs.declared.work.WorkStep.TheVariants.{Goes}
-use Rattle.call_acts.specs.WorkSteps.{refuse}
-use Rattle.call_acts.specs.Acts.{stamp_shown, starts}
-use Rattle.call_steps.specs.Fits.{StageFits, CountsAt, HasRoom}
-use Rattle.call_steps.specs.Steps.{landed, took_scan}
-use Rattle.call_steps.specs.View.{Core}
+use Rattle.act_states.specs.declared.refusals.Refusal.TheVariants as refusal
+use Rattle.act_states.specs.declared.work.Act.{Act as ActOf}
+use Rattle.act_states.specs.declared.work.Act.TheVariants.{Fill as fill_act, Remove as remove_act, Retype as type_act, Make as make_act, Outside, Tick as tick_act, Kill as kill_act}
+use Rattle.act_states.specs.declared.work.Work.TheVariants.{Scan}
+use Rattle.call_stages.specs.declared.stages.Stage.TheVariants.{Undecided}
+use Rattle.call_stages.specs.declared.stages.ActiveCall.{ActiveCall}
+use Rattle.act_states.specs.declared.work.WorkStep.TheVariants.{Goes}
+use Rattle.act_states.specs.WorkSteps.{refuse}
+use Rattle.act_states.specs.Acts.{stamp_shown, starts}
+use Rattle.call_stages.specs.Fits.{StageFits, CountsAt, HasRoom}
+use Rattle.call_stages.specs.Steps.{landed, took_scan}
+use Rattle.call_stages.specs.View.{Core}
 use Rattle.core_invariant.specs.Holding.{holds_counts}
 use Rattle.core_invariant.specs.Knows.{HasPassed, IsScanned, MayFill, KnowsAct, KnowsUndecided, phase_at, IsSpot, goes_on as goes_on_act, HasFlushed, KnowsScan, KnowsQuiet, scanned_for}
 use Rattle.core_invariant.specs.Stands.{holds_at, holds_in, Stands}

@@ -49,15 +49,15 @@ use Rattle.call_plans.proofs.AfterNames.{leads_by, outcome_left}
 use Rattle.plan_ways.specs.Laws.{NextPlace, IsTargetOf}
 use Rattle.plan_ways.proofs.Ways.{next_on_way, target_is, all_ways}
 use Rattle.call_plans.specs.After.{rule_after, names_after, Leads, LeadsIn, NextName, NextFree, next_of}
-use Rattle.call_acts.specs.declared.fills.Fill.{Fill}
-use Rattle.call_acts.specs.declared.work.Act.TheVariants.{Fill as fill_act}
-use Rattle.call_acts.specs.declared.work.Work.TheVariants.{Act}
-use Rattle.call_acts.specs.declared.work.Tail.TheVariants.{Nothing as no_tail}
-use Rattle.call_steps.specs.declared.stages.Stage.TheVariants.{Undecided, Decided}
-use Rattle.call_steps.specs.declared.stages.ActiveCall.{ActiveCall}
-use Rattle.call_acts.specs.Fills.{FillFits, filled_if, fill_move}
-use Rattle.call_acts.specs.Acts.{cap_dues, gate_if, gate_to, put_by, reads_of, page_cap}
-use Rattle.call_steps.proofs.DuesFit.{cap_one}
+use Rattle.act_states.specs.declared.fills.Fill.{Fill}
+use Rattle.act_states.specs.declared.work.Act.TheVariants.{Fill as fill_act}
+use Rattle.act_states.specs.declared.work.Work.TheVariants.{Act}
+use Rattle.act_states.specs.declared.work.Tail.TheVariants.{Nothing as no_tail}
+use Rattle.call_stages.specs.declared.stages.Stage.TheVariants.{Undecided, Decided}
+use Rattle.call_stages.specs.declared.stages.ActiveCall.{ActiveCall}
+use Rattle.act_states.specs.Fills.{FillFits, filled_if, fill_move}
+use Rattle.act_states.specs.Acts.{cap_dues, gate_if, gate_to, put_by, reads_of, page_cap}
+use Rattle.act_fits.proofs.DuesFit.{cap_one}
 use Rattle.kernel_rules.specs.References.{named_by, times, refs}
 use Rattle.core_invariant.proofs.WordFrames.{reads_alike}
 use Rattle.core_invariant.proofs.Calm.{room_grows, IsCalm, calm_core, IsPlain, plain_stamp}
@@ -69,9 +69,9 @@ use Rattle.place_invariant.proofs.Vacancy.{IsVacant, vacant_by}
 use Rattle.core_invariant.specs.Holding.{holds_counts}
 use Rattle.core_invariant.specs.CountWords.{IsWithin}
 use Rattle.core_invariant.proofs.Writes.{same_marks, writes_entry}
-use Rattle.call_steps.specs.Steps.{landed}
-use Rattle.call_steps.specs.View.{Core}
-use Rattle.call_steps.specs.Fits.{StageFits, HasRoom}
+use Rattle.call_stages.specs.Steps.{landed}
+use Rattle.call_stages.specs.View.{Core}
+use Rattle.call_stages.specs.Fits.{StageFits, HasRoom}
 use Rattle.core_invariant.specs.Words.{PlaceIs, IsFrameWord, WordIs, count_room}
 use Rattle.core_invariant.specs.Knows.{HasFound, IsRead, ReadIs, MayFill, KnowsUndecided, own_in, phase_at, HasUser}
 use Rattle.core_invariant.specs.Stands.{holds_at, holds_in, holds, times_of, Stands}

@@ -40,22 +40,22 @@ use Rattle.call_plans.specs.After.{Leads, LeadsIn, NextFree, rule_after, next_of
 use Rattle.call_plans.proofs.AfterNames.{left_may, outcome_left}
 use Rattle.call_plans.specs.declared.plans.Nth.TheVariants.{Second}
 use Rattle.call_plans.specs.Plans.{at_place}
-use Rattle.call_acts.specs.declared.fills.Fill.{Fill}
-use Rattle.call_acts.specs.declared.refusals.Refusal.TheVariants as refusal
-use Rattle.call_acts.specs.declared.work.Act.TheVariants.{Fill as fill_act, Map as map_act}
-use Rattle.call_acts.specs.declared.work.Due.{Due}
-use Rattle.call_acts.specs.declared.work.Work.TheVariants.{Act}
-use Rattle.call_acts.specs.declared.work.WorkStep.TheVariants.{Goes}
-use Rattle.call_acts.specs.WorkSteps.{refuse}
+use Rattle.act_states.specs.declared.fills.Fill.{Fill}
+use Rattle.act_states.specs.declared.refusals.Refusal.TheVariants as refusal
+use Rattle.act_states.specs.declared.work.Act.TheVariants.{Fill as fill_act, Map as map_act}
+use Rattle.act_states.specs.declared.work.Due.{Due}
+use Rattle.act_states.specs.declared.work.Work.TheVariants.{Act}
+use Rattle.act_states.specs.declared.work.WorkStep.TheVariants.{Goes}
+use Rattle.act_states.specs.WorkSteps.{refuse}
 use Rattle.stage_pins.specs.declared.held.Acquired.{Acquired}
 use Rattle.kernel_rules.specs.References.{named_by}
 use Rattle.kernel_rules.specs.Relies.{is_node}
-use Rattle.call_acts.specs.Acts.{reads_of, put_by, page_of, maps_kind, maps_frame, maps_word, page_cap}
-use Rattle.call_steps.specs.declared.stages.Stage.TheVariants.{Undecided}
-use Rattle.call_steps.specs.declared.stages.ActiveCall.{ActiveCall}
-use Rattle.call_steps.specs.Fits.{StageFits, HasRoom}
-use Rattle.call_steps.specs.Steps.{landed}
-use Rattle.call_steps.specs.View.{Core}
+use Rattle.act_states.specs.Acts.{reads_of, put_by, page_of, maps_kind, maps_frame, maps_word, page_cap}
+use Rattle.call_stages.specs.declared.stages.Stage.TheVariants.{Undecided}
+use Rattle.call_stages.specs.declared.stages.ActiveCall.{ActiveCall}
+use Rattle.call_stages.specs.Fits.{StageFits, HasRoom}
+use Rattle.call_stages.specs.Steps.{landed}
+use Rattle.call_stages.specs.View.{Core}
 use Rattle.core_invariant.specs.Holding.{holds_counts, settled_by}
 use Rattle.core_invariant.specs.Knows.{ReadIs, HasUser, IsUser, IsCount, due_of, IsMapping, mapped_frame, is_mapping, KnowsUndecided, phase_at}
 use Rattle.core_invariant.specs.Stands.{holds_at, holds_in, held_by, Stands}

@@ -18,10 +18,10 @@ use Rattle.kernel_rules.proofs.Facts.{named_fit}
 use Rattle.kernel_rules.proofs.Sound.{IsSound}
 use Rattle.call_plans.specs.PlanOf.{of_kind, plan_for}
 use Rattle.call_plans.specs.After.{Leads, LeadsIn, rule_after, names_after, NextFree, next_of}
-use Rattle.call_acts.specs.declared.objects.NewObject.{NewObject}
-use Rattle.call_acts.specs.declared.objects.NewObject.TheVariants as objects
-use Rattle.call_acts.specs.Objects.{object_kind, object_made, object_dues, one_more}
-use Rattle.call_acts.specs.declared.work.Due.{Due}
+use Rattle.act_states.specs.declared.objects.NewObject.{NewObject}
+use Rattle.act_states.specs.declared.objects.NewObject.TheVariants as objects
+use Rattle.act_states.specs.Objects.{object_kind, object_made, object_dues, one_more}
+use Rattle.act_states.specs.declared.work.Due.{Due}
 use Rattle.core_invariant.specs.Knows.{AreDuesApart}
 
 -- The object that is made.

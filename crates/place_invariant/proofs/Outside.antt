@@ -16,7 +16,7 @@ use Rattle.word_map.specs.Word.{EntryAt}
 use Rattle.word_map.specs.Moves.{Move, LoadOf, word_of}
 use Rattle.kernel_rules.specs.State.{State, PlaceOf, Kernel, Leaf}
 use Rattle.kernel_rules.specs.Access.{Slot, Target, Under, found, place_at, reached}
-use Rattle.call_acts.specs.Acts.{page_cap}
+use Rattle.act_states.specs.Acts.{page_cap}
 use Rattle.kernel_rules.specs.MemoryCalls.{not_user}
 use Rattle.core_invariant.proofs.Carries.{slot_relies}
 use Rattle.kernel_rules.specs.Rules.{Rule, Cause, Change, Vacant, Does, fills, RuleMay, Refused, Found, and_then, or_refuse, unless, first_of, first_cause, vacant, not_vacant, outcome}
@@ -31,10 +31,10 @@ use Rattle.call_plans.specs.PlanOf.{plan_for}
 use Rattle.call_plans.specs.GoesBy.{GoesBy, own_pages}
 use Rattle.call_plans.specs.After.{Leads, LeadsIn, rule_after, names_after, NextName, NextFree, next_of}
 use Rattle.call_plans.proofs.AfterNames.{left_may, outcome_left}
-use Rattle.call_acts.specs.declared.objects.NewObject.{NewObject}
-use Rattle.call_acts.specs.Objects.{object_kind, object_made}
-use Rattle.call_steps.specs.declared.stages.ActiveCall.{ActiveCall}
-use Rattle.call_steps.specs.View.{Core}
+use Rattle.act_states.specs.declared.objects.NewObject.{NewObject}
+use Rattle.act_states.specs.Objects.{object_kind, object_made}
+use Rattle.call_stages.specs.declared.stages.ActiveCall.{ActiveCall}
+use Rattle.call_stages.specs.View.{Core}
 use Rattle.core_invariant.specs.Knows.{IsSpot, MayFill, OutsideBy, OutsideObject, OutsideComp, NamesAre, phase_at}
 use Rattle.core_invariant.specs.Stands.{Stands}
 use Rattle.core_invariant.proofs.Loads.{step_to, call_is, is_active}

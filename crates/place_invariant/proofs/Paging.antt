@@ -26,8 +26,8 @@ use Rattle.call_plans.specs.declared.plans.Target.TheVariants.{Nowhere, Free, He
 use Rattle.call_plans.specs.declared.plans.Plan.{Plan}
 use Rattle.call_plans.specs.PlanOf.{plan_for}
 use Rattle.call_plans.specs.After.{Next, Leads, LeadsIn, NextNothing, NextHeld, NextOwn, NextFree, next_of}
-use Rattle.call_acts.specs.declared.objects.NewObject.{NewObject}
-use Rattle.call_acts.specs.Acts.{fills_page}
+use Rattle.act_states.specs.declared.objects.NewObject.{NewObject}
+use Rattle.act_states.specs.Acts.{fills_page}
 use Rattle.look_invariant.proofs.Next.{next_end}
 use Rattle.place_invariant.proofs.ObjectMakes.{made_of, IsObjectMake, object_make}
 use Rattle.place_invariant.proofs.Outside.{none_left_of}

@@ -56,17 +56,17 @@ use Rattle.call_plans.proofs.AfterNames.{leads_by, outcome_left}
 use Rattle.plan_ways.specs.Laws.{NextPlace}
 use Rattle.plan_ways.proofs.Ways.{next_on_way, all_ways}
 use Rattle.stage_pins.specs.Counts.{later}
-use Rattle.call_acts.specs.declared.work.Act.TheVariants.{Remove as remove_act}
-use Rattle.call_acts.specs.declared.work.Work.TheVariants.{Act}
-use Rattle.call_acts.specs.declared.work.Tail.TheVariants.{Nothing, Quiesce}
-use Rattle.call_steps.specs.declared.stages.Stage.TheVariants.{Undecided, Decided}
-use Rattle.call_steps.specs.declared.stages.ActiveCall.{ActiveCall}
-use Rattle.call_acts.specs.declared.work.WorkStep.TheVariants.{Answers}
-use Rattle.call_acts.specs.Acts.{took_close, cap_dues, removes_by}
-use Rattle.call_steps.specs.Fits.{StageFits, HasRoom}
-use Rattle.call_steps.specs.Steps.{GoesOn, landed, went_with}
-use Rattle.call_steps.specs.View.{Core}
-use Rattle.call_steps.proofs.DuesFit.{cap_one}
+use Rattle.act_states.specs.declared.work.Act.TheVariants.{Remove as remove_act}
+use Rattle.act_states.specs.declared.work.Work.TheVariants.{Act}
+use Rattle.act_states.specs.declared.work.Tail.TheVariants.{Nothing, Quiesce}
+use Rattle.call_stages.specs.declared.stages.Stage.TheVariants.{Undecided, Decided}
+use Rattle.call_stages.specs.declared.stages.ActiveCall.{ActiveCall}
+use Rattle.act_states.specs.declared.work.WorkStep.TheVariants.{Answers}
+use Rattle.act_states.specs.Acts.{took_close, cap_dues, removes_by}
+use Rattle.call_stages.specs.Fits.{StageFits, HasRoom}
+use Rattle.call_stages.specs.Steps.{GoesOn, landed, went_with}
+use Rattle.call_stages.specs.View.{Core}
+use Rattle.act_fits.proofs.DuesFit.{cap_one}
 use Rattle.core_invariant.specs.CountWords.{IsWithin}
 use Rattle.core_invariant.specs.Holding.{Holding, holds_counts, settled_by, settled}
 use Rattle.core_invariant.specs.Words.{PlaceIs, WordIs, count_room}
@@ -294,7 +294,7 @@ module _ (setup : Setting) (setting : IsSetting setup) (cores : ℕ → Core) (t
 
   -- the stage is that after the draw
   module _ (now_at : ℕ) (drawn_is : now_at ≡ x) where
-    abbrev stage : Rattle.call_steps.specs.declared.stages.Stage.Stage
+    abbrev stage : Rattle.call_stages.specs.declared.stages.Stage.Stage
     stage = Decided r (Some now_at) (Quiesce (AtStore node index now_at))
 
     abbrev e : Step

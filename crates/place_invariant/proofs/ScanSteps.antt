@@ -10,16 +10,16 @@ use Rattle.kernel_history.specs.Trace.{Trace, last_left}
 use Rattle.stage_quiet.specs.declared.quiet.Quiet.{Quiet}
 use Rattle.stage_quiet.specs.declared.quiet.Quiet.TheVariants.{AtCore, AtFlush}
 use Rattle.stage_quiet.specs.Scan.{quiet_move, quiet_end, quiet_after}
-use Rattle.call_acts.specs.declared.work.Act.{Act as ActOf}
-use Rattle.call_acts.specs.declared.work.Act.TheVariants.{Fill as fill_act, Remove as remove_act, Retype as type_act, Make as make_act, Outside, Tick as tick_act, Flush as flush_act, Kill as kill_act, Untype as untype_act, Map as map_act, MakeComp as comp_act, Invoke as invoke_act, Return as return_act, Touch as touch_act, Share as share_act, Switch as switch_act}
-use Rattle.call_acts.specs.declared.work.Work.TheVariants.{Scan}
-use Rattle.call_acts.specs.Acts.{ActFits, stamp_of_act, stamp_shown}
+use Rattle.act_states.specs.declared.work.Act.{Act as ActOf}
+use Rattle.act_states.specs.declared.work.Act.TheVariants.{Fill as fill_act, Remove as remove_act, Retype as type_act, Make as make_act, Outside, Tick as tick_act, Flush as flush_act, Kill as kill_act, Untype as untype_act, Map as map_act, MakeComp as comp_act, Invoke as invoke_act, Return as return_act, Touch as touch_act, Share as share_act, Switch as switch_act}
+use Rattle.act_states.specs.declared.work.Work.TheVariants.{Scan}
+use Rattle.act_states.specs.Acts.{ActFits, stamp_of_act, stamp_shown}
 use Rattle.word_map.specs.Places.{Shape}
-use Rattle.call_steps.specs.declared.stages.Stage.TheVariants.{Undecided}
-use Rattle.call_steps.specs.declared.stages.ActiveCall.{ActiveCall}
-use Rattle.call_steps.specs.Fits.{StageFits}
-use Rattle.call_steps.specs.Steps.{landed, took_scan}
-use Rattle.call_steps.specs.View.{Core}
+use Rattle.call_stages.specs.declared.stages.Stage.TheVariants.{Undecided}
+use Rattle.call_stages.specs.declared.stages.ActiveCall.{ActiveCall}
+use Rattle.call_stages.specs.Fits.{StageFits}
+use Rattle.call_stages.specs.Steps.{landed, took_scan}
+use Rattle.call_stages.specs.View.{Core}
 use Rattle.core_invariant.specs.Knows.{KnowsAct, KnowsUndecided, NamesAre, IsSpot, phase_at, scanned_for, goes_on}
 use Rattle.core_invariant.specs.Stands.{Stands}
 use Rattle.core_invariant.proofs.Loads.{is_active}

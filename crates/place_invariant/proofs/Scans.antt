@@ -21,7 +21,7 @@ use Rattle.kernel_history.specs.Ways.{thing_at, asked_of}
 use Rattle.call_plans.specs.GoesBy.{OwnPages}
 use Rattle.call_plans.specs.After.{NextFree}
 use Rattle.call_plans.proofs.AfterNames.{Begins}
-use Rattle.call_acts.specs.Acts.{stamp_shown}
+use Rattle.act_states.specs.Acts.{stamp_shown}
 use Rattle.core_invariant.specs.Words.{PlaceIs}
 use Rattle.core_invariant.specs.Knows.{IsScanned, MayFill}
 

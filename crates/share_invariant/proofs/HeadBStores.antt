@@ -13,11 +13,11 @@ use Rattle.stage_tcap.specs.Heads.{marked, credited}
 use Rattle.stage_tcap.specs.Pairs.{amount_of}
 use Rattle.stage_tcap.specs.declared.pair.Pair.{Pair}
 use Rattle.stage_tcap.specs.declared.pair.PairAt.TheVariants.{StoreB, StoreA}
-use Rattle.call_acts.specs.declared.work.Tail.TheVariants.{Share as share_tail}
-use Rattle.call_steps.specs.declared.stages.Stage.TheVariants.{Decided}
-use Rattle.call_steps.specs.declared.stages.ActiveCall.{ActiveCall}
-use Rattle.call_steps.specs.Steps.{went_with, GoesOn}
-use Rattle.call_steps.specs.View.{Core}
+use Rattle.act_states.specs.declared.work.Tail.TheVariants.{Share as share_tail}
+use Rattle.call_stages.specs.declared.stages.Stage.TheVariants.{Decided}
+use Rattle.call_stages.specs.declared.stages.ActiveCall.{ActiveCall}
+use Rattle.call_stages.specs.Steps.{went_with, GoesOn}
+use Rattle.call_stages.specs.View.{Core}
 use Rattle.core_invariant.specs.Holding.{holds_counts}
 use Rattle.core_invariant.specs.Knows.{KnowsTail}
 use Rattle.core_invariant.specs.Shares.{StoresB}

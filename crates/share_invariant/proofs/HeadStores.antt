@@ -25,11 +25,11 @@ use Rattle.stage_pins.specs.declared.held.Acquired.{Acquired}
 use Rattle.stage_tcap.specs.Heads.{marked}
 use Rattle.stage_tcap.specs.declared.pair.Pair.{Pair}
 use Rattle.stage_tcap.specs.declared.pair.PairAt.{PairAt}
-use Rattle.call_acts.specs.declared.work.Tail.{Tail}
-use Rattle.call_steps.specs.declared.stages.Stage.TheVariants.{Decided}
-use Rattle.call_steps.specs.declared.stages.ActiveCall.{ActiveCall}
-use Rattle.call_steps.specs.Steps.{went_with, GoesOn}
-use Rattle.call_steps.specs.View.{Core}
+use Rattle.act_states.specs.declared.work.Tail.{Tail}
+use Rattle.call_stages.specs.declared.stages.Stage.TheVariants.{Decided}
+use Rattle.call_stages.specs.declared.stages.ActiveCall.{ActiveCall}
+use Rattle.call_stages.specs.Steps.{went_with, GoesOn}
+use Rattle.call_stages.specs.View.{Core}
 use Rattle.core_invariant.specs.Holding.{Holding, keeps, holds_counts, settled_by}
 use Rattle.core_invariant.specs.Knows.{KnowsTail, phase_at}
 use Rattle.core_invariant.specs.Shares.{turns_list, list_changed, TurnsHead, SparesTcap, HasTcap, StoresA, KnowsStoresAt, KnowsShared}

@@ -32,14 +32,14 @@ use Rattle.stage_tcap.specs.declared.pair.PairAt.{PairAt}
 use Rattle.stage_tcap.specs.declared.pair.PairAt.TheVariants.{LoadB, ListB}
 use Rattle.stage_tcap.specs.declared.pair.PairWork.{PairWork}
 use Rattle.stage_tcap.specs.declared.pair.PairWork.TheVariants.{Transfer, Delegate, Test}
-use Rattle.call_acts.specs.declared.work.Act.TheVariants.{Share as share_act}
-use Rattle.call_acts.specs.declared.work.Work.TheVariants.{Act}
-use Rattle.call_acts.specs.declared.work.WorkStep.TheVariants.{Goes}
-use Rattle.call_acts.specs.Shares.{took_shared, took_share}
-use Rattle.call_steps.specs.declared.stages.Stage.TheVariants.{Undecided}
-use Rattle.call_steps.specs.declared.stages.ActiveCall.{ActiveCall}
-use Rattle.call_steps.specs.Steps.{landed}
-use Rattle.call_steps.specs.View.{Core}
+use Rattle.act_states.specs.declared.work.Act.TheVariants.{Share as share_act}
+use Rattle.act_states.specs.declared.work.Work.TheVariants.{Act}
+use Rattle.act_states.specs.declared.work.WorkStep.TheVariants.{Goes}
+use Rattle.act_states.specs.Shares.{took_shared, took_share}
+use Rattle.call_stages.specs.declared.stages.Stage.TheVariants.{Undecided}
+use Rattle.call_stages.specs.declared.stages.ActiveCall.{ActiveCall}
+use Rattle.call_stages.specs.Steps.{landed}
+use Rattle.call_stages.specs.View.{Core}
 use Rattle.core_invariant.specs.Holding.{Holding, holds_counts}
 use Rattle.core_invariant.specs.Knows.{KnowsUndecided}
 use Rattle.core_invariant.specs.Shares.{list_word, read_up, SparesTcap, HasMarkedA, HasSeenB, HasReadB, HasBoth, ReadsHead, SharesBy, KnowsPairAt}

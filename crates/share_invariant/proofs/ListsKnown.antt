@@ -30,11 +30,11 @@ use Rattle.plan_ways.proofs.Ways.{all_ways}
 use Rattle.look_invariant.proofs.Findings.{found_named, own_is, way_gone}
 use Rattle.stage_tcap.specs.Lists.{same_list}
 use Rattle.stage_tcap.specs.declared.pair.Pair.{Pair}
-use Rattle.call_acts.specs.declared.work.Act.TheVariants.{Share as share_act}
-use Rattle.call_acts.specs.declared.work.Work.TheVariants.{Act}
-use Rattle.call_steps.specs.declared.stages.Stage.TheVariants.{Undecided}
-use Rattle.call_steps.specs.declared.stages.ActiveCall.{ActiveCall}
-use Rattle.call_steps.specs.View.{Core}
+use Rattle.act_states.specs.declared.work.Act.TheVariants.{Share as share_act}
+use Rattle.act_states.specs.declared.work.Work.TheVariants.{Act}
+use Rattle.call_stages.specs.declared.stages.Stage.TheVariants.{Undecided}
+use Rattle.call_stages.specs.declared.stages.ActiveCall.{ActiveCall}
+use Rattle.call_stages.specs.View.{Core}
 use Rattle.core_invariant.specs.Holding.{holds_counts}
 use Rattle.core_invariant.specs.Knows.{HasFound, own_in, KnowsUndecided}
 use Rattle.core_invariant.specs.Shares.{list_changed, list_word, read_up, HasBoth}

@@ -20,8 +20,8 @@ use Rattle.kernel_history.specs.ObjectWords.{frame_value}
 use Rattle.kernel_history.specs.Stamps.{stamp}
 use Rattle.kernel_history.specs.Trace.{Step, Trace, phase, state_after, last_left}
 use Rattle.kernel_history.proofs.Inside.{decided-inside}
-use Rattle.call_steps.specs.declared.stages.ActiveCall.{ActiveCall}
-use Rattle.call_steps.specs.View.{Core}
+use Rattle.call_stages.specs.declared.stages.ActiveCall.{ActiveCall}
+use Rattle.call_stages.specs.View.{Core}
 use Rattle.core_invariant.specs.Holding.{settled}
 use Rattle.core_invariant.specs.Knows.{WorksIn}
 use Rattle.core_invariant.specs.Shares.{HasTcap}

@@ -35,14 +35,14 @@ use Rattle.stage_pins.specs.declared.held.Acquired.{Acquired}
 use Rattle.stage_tcap.specs.declared.pair.Pair.{Pair}
 use Rattle.stage_tcap.specs.declared.pair.PairWork.{PairWork}
 use Rattle.stage_tcap.specs.declared.pair.PairWork.TheVariants as share
-use Rattle.call_acts.specs.declared.work.Act.TheVariants.{Share as share_act}
-use Rattle.call_acts.specs.declared.work.Work.TheVariants.{Act}
-use Rattle.call_acts.specs.Acts.{act_begun}
-use Rattle.call_acts.specs.Shares.{sharing, shares_if}
-use Rattle.call_steps.specs.declared.stages.Stage.TheVariants.{Undecided}
-use Rattle.call_steps.specs.declared.stages.ActiveCall.{ActiveCall}
-use Rattle.call_steps.specs.Steps.{landed, found_more}
-use Rattle.call_steps.specs.View.{Core}
+use Rattle.act_states.specs.declared.work.Act.TheVariants.{Share as share_act}
+use Rattle.act_states.specs.declared.work.Work.TheVariants.{Act}
+use Rattle.act_states.specs.Acts.{act_begun}
+use Rattle.act_states.specs.Shares.{sharing, shares_if}
+use Rattle.call_stages.specs.declared.stages.Stage.TheVariants.{Undecided}
+use Rattle.call_stages.specs.declared.stages.ActiveCall.{ActiveCall}
+use Rattle.call_stages.specs.Steps.{landed, found_more}
+use Rattle.call_stages.specs.View.{Core}
 use Rattle.core_invariant.specs.Holding.{holds_counts}
 use Rattle.core_invariant.specs.Knows.{due_of, NamesAre, phase_at}
 use Rattle.core_invariant.specs.Shares.{HasTcap, IsShared, SharesBy}

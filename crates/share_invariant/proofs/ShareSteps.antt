@@ -33,14 +33,14 @@ use Rattle.stage_tcap.specs.declared.pair.PairAt.TheVariants.{StoreA}
 use Rattle.stage_tcap.specs.declared.pair.PairWork.{PairWork}
 use Rattle.stage_tcap.specs.declared.pair.PairWork.TheVariants as share
 use Rattle.stage_pins.specs.declared.held.Acquired.{Acquired}
-use Rattle.call_acts.specs.declared.work.Act.TheVariants.{Share as share_act}
-use Rattle.call_acts.specs.declared.work.Work.TheVariants.{Act}
-use Rattle.call_acts.specs.declared.work.Tail.TheVariants.{Share as share_tail}
-use Rattle.call_acts.specs.declared.work.WorkStep.TheVariants.{Goes}
-use Rattle.call_steps.specs.declared.stages.Stage.TheVariants.{Undecided, Decided}
-use Rattle.call_steps.specs.declared.stages.ActiveCall.{ActiveCall}
-use Rattle.call_steps.specs.Steps.{landed}
-use Rattle.call_steps.specs.View.{Core}
+use Rattle.act_states.specs.declared.work.Act.TheVariants.{Share as share_act}
+use Rattle.act_states.specs.declared.work.Work.TheVariants.{Act}
+use Rattle.act_states.specs.declared.work.Tail.TheVariants.{Share as share_tail}
+use Rattle.act_states.specs.declared.work.WorkStep.TheVariants.{Goes}
+use Rattle.call_stages.specs.declared.stages.Stage.TheVariants.{Undecided, Decided}
+use Rattle.call_stages.specs.declared.stages.ActiveCall.{ActiveCall}
+use Rattle.call_stages.specs.Steps.{landed}
+use Rattle.call_stages.specs.View.{Core}
 use Rattle.core_invariant.specs.Holding.{holds_counts, settled_by, settled}
 use Rattle.core_invariant.specs.Words.{HeadIs, IsFrameWord, count_room}
 use Rattle.core_invariant.specs.Knows.{due_of, KnowsUndecided, phase_at}

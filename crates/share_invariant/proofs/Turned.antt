@@ -12,7 +12,7 @@ use Rattle.kernel_history.specs.Marking.{marked_by}
 use Rattle.kernel_history.specs.Trace.{Step, Trace, state_after, last_left}
 use Rattle.kernel_history.proofs.Names.{cases_word}
 use Rattle.kernel_history.proofs.Steps.{last_left-here, last_left-there}
-use Rattle.call_steps.specs.View.{Core}
+use Rattle.call_stages.specs.View.{Core}
 use Rattle.core_invariant.specs.Holding.{Holding, settled_by, settled, MarkIs}
 use Rattle.core_invariant.specs.Words.{WordIs}
 use Rattle.core_invariant.specs.Stands.{holds, held_by, times_of, Stands}

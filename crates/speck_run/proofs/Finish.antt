@@ -14,7 +14,7 @@ use Rattle.kernel_history.specs.Text.{reply_lines, text_of}
 use Rattle.kernel_history.proofs.Idle.{all_idle}
 use Rattle.flight.specs.Made.{ready_after, IsMade}
 use Rattle.flight.specs.Histories.{IsHistory, MadeHistories}
-use Rattle.call_steps.specs.declared.stages.ActiveCall.{ActiveCall}
+use Rattle.call_stages.specs.declared.stages.ActiveCall.{ActiveCall}
 use Rattle.flight.proofs.Phases.{made_of_its_cores}
 use Rattle.lone_kernel.specs.GivenSteps.{GivenSteps}
 use Rattle.lone_kernel.specs.Machine.{Machine, core_at}

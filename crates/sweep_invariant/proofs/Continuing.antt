@@ -20,18 +20,18 @@ use Rattle.stage_sweep.specs.declared.sweep.Sweep.{Sweep}
 use Rattle.stage_sweep.specs.declared.sweep.SweepAt.{SweepAt}
 use Rattle.stage_sweep.specs.declared.sweep.SweepAt.TheVariants.{Empty}
 use Rattle.stage_sweep.specs.declared.sweep.Swept.{Swept}
-use Rattle.call_acts.specs.Acts.{dues, next_work, took_sweep}
-use Rattle.call_acts.specs.Untypings.{OwnedBy, owned_dues, released_dues, release_of}
-use Rattle.call_acts.specs.declared.untypings.Untyping.{Untyping}
-use Rattle.call_acts.specs.declared.untypings.UntypingAt.TheVariants.{Sweep as sweep_at, Draw}
-use Rattle.call_acts.specs.declared.work.Act.{Act as ActOf}
-use Rattle.call_acts.specs.declared.work.Act.TheVariants.{Untype as untype_act}
-use Rattle.call_acts.specs.declared.work.Work.{Work}
-use Rattle.call_acts.specs.declared.work.Work.TheVariants.{Act}
-use Rattle.call_acts.specs.declared.work.WorkStep.{WorkStep}
-use Rattle.call_acts.specs.declared.work.WorkStep.TheVariants.{Goes}
-use Rattle.call_steps.specs.declared.stages.ActiveCall.{ActiveCall}
-use Rattle.call_steps.specs.declared.stages.Stage.TheVariants.{Undecided}
+use Rattle.act_states.specs.Acts.{dues, next_work, took_sweep}
+use Rattle.act_states.specs.Untypings.{OwnedBy, owned_dues, released_dues, release_of}
+use Rattle.act_states.specs.declared.untypings.Untyping.{Untyping}
+use Rattle.act_states.specs.declared.untypings.UntypingAt.TheVariants.{Sweep as sweep_at, Draw}
+use Rattle.act_states.specs.declared.work.Act.{Act as ActOf}
+use Rattle.act_states.specs.declared.work.Act.TheVariants.{Untype as untype_act}
+use Rattle.act_states.specs.declared.work.Work.{Work}
+use Rattle.act_states.specs.declared.work.Work.TheVariants.{Act}
+use Rattle.act_states.specs.declared.work.WorkStep.{WorkStep}
+use Rattle.act_states.specs.declared.work.WorkStep.TheVariants.{Goes}
+use Rattle.call_stages.specs.declared.stages.ActiveCall.{ActiveCall}
+use Rattle.call_stages.specs.declared.stages.Stage.TheVariants.{Undecided}
 use Rattle.core_invariant.proofs.Loads.{next_at}
 use Rattle.core_invariant.specs.Frozen.{holds_release}
 use Rattle.core_invariant.specs.Holding.{Holding}

@@ -13,8 +13,8 @@ use Rattle.kernel_history.specs.ObjectWords.{frame_value}
 use Rattle.stage_pins.specs.declared.held.Acquired.{Acquired}
 use Rattle.stage_sweep.specs.Emptiness.{loads_of}
 use Rattle.stage_sweep.specs.declared.empty.Owned.{Owned}
-use Rattle.call_acts.specs.Untypings.{released_dues, released_one}
-use Rattle.call_acts.specs.declared.work.Due.{Due}
+use Rattle.act_states.specs.Untypings.{released_dues, released_one}
+use Rattle.act_states.specs.declared.work.Due.{Due}
 use Rattle.word_map.specs.Word.{Word, CountAt}
 use Rattle.kernel_history.proofs.Names.{cases_word, same_word-other}
 use Rattle.core_invariant.specs.CountWords.{IsWithin}

@@ -44,20 +44,20 @@ use Rattle.stage_sweep.specs.declared.empty.Owned.{Owned}
 use Rattle.stage_sweep.specs.declared.sweep.Sweep.{Sweep}
 use Rattle.stage_sweep.specs.declared.sweep.SweepAt.{SweepAt}
 use Rattle.stage_sweep.specs.declared.sweep.SweepAt.TheVariants.{Scan, Empty}
-use Rattle.call_acts.specs.Acts.{took_sweep}
-use Rattle.call_acts.specs.Untypings.{release_of, UntypingFits}
-use Rattle.call_acts.specs.declared.untypings.Untyping.{Untyping}
-use Rattle.call_acts.specs.declared.work.Act.TheVariants.{Untype as untype_act}
-use Rattle.call_acts.specs.declared.work.Work.{Work}
-use Rattle.call_acts.specs.declared.work.Work.TheVariants.{Act}
-use Rattle.call_acts.specs.declared.work.WorkStep.{WorkStep}
-use Rattle.call_acts.specs.declared.refusals.Refusal.TheVariants as refusal
-use Rattle.call_acts.specs.declared.work.Tail.TheVariants.{Release as release_tail}
-use Rattle.call_acts.specs.declared.work.WorkStep.TheVariants.{Goes, Refuses}
-use Rattle.call_steps.specs.declared.stages.Stage.TheVariants.{Undecided}
-use Rattle.call_steps.specs.declared.stages.ActiveCall.{ActiveCall}
-use Rattle.call_steps.specs.Steps.{landed}
-use Rattle.call_steps.specs.View.{Core}
+use Rattle.act_states.specs.Acts.{took_sweep}
+use Rattle.act_states.specs.Untypings.{release_of, UntypingFits}
+use Rattle.act_states.specs.declared.untypings.Untyping.{Untyping}
+use Rattle.act_states.specs.declared.work.Act.TheVariants.{Untype as untype_act}
+use Rattle.act_states.specs.declared.work.Work.{Work}
+use Rattle.act_states.specs.declared.work.Work.TheVariants.{Act}
+use Rattle.act_states.specs.declared.work.WorkStep.{WorkStep}
+use Rattle.act_states.specs.declared.refusals.Refusal.TheVariants as refusal
+use Rattle.act_states.specs.declared.work.Tail.TheVariants.{Release as release_tail}
+use Rattle.act_states.specs.declared.work.WorkStep.TheVariants.{Goes, Refuses}
+use Rattle.call_stages.specs.declared.stages.Stage.TheVariants.{Undecided}
+use Rattle.call_stages.specs.declared.stages.ActiveCall.{ActiveCall}
+use Rattle.call_stages.specs.Steps.{landed}
+use Rattle.call_stages.specs.View.{Core}
 use Rattle.core_invariant.specs.Frozen.{holds_release}
 use Rattle.core_invariant.specs.Holding.{Holding, holds_counts}
 use Rattle.core_invariant.specs.Knows.{KnowsUndecided, KnowsWork}

@@ -30,30 +30,30 @@ use Rattle.kernel_history.specs.Trace.{Trace, Open, phase, state_after, last_lef
 use Rattle.call_plans.specs.declared.plans.Plan.{Plan}
 use Rattle.stage_quiet.specs.declared.close.Close.{Close}
 use Rattle.stage_quiet.specs.declared.close.Close.TheVariants.{AtCompare, AtDraw, AtStore}
-use Rattle.call_acts.specs.declared.makings.MakingAt.{MakingAt}
-use Rattle.call_acts.specs.declared.makings.MakingAt.TheVariants as making_at
-use Rattle.call_acts.specs.declared.comps.CompMaking.{CompMaking}
-use Rattle.call_acts.specs.declared.comps.CompAt.{CompAt}
-use Rattle.call_acts.specs.declared.comps.CompAt.TheVariants as comp_at
-use Rattle.call_acts.specs.declared.kills.KillingAt.{KillingAt}
-use Rattle.call_acts.specs.declared.kills.KillingAt.TheVariants as kill_at
-use Rattle.call_acts.specs.declared.untypings.UntypingAt.{UntypingAt}
-use Rattle.call_acts.specs.declared.untypings.UntypingAt.TheVariants as untype_at
-use Rattle.call_acts.specs.declared.switches.Switching.{Switching}
-use Rattle.call_acts.specs.declared.switches.SwitchAt.{SwitchAt}
-use Rattle.call_acts.specs.declared.switches.SwitchAt.TheVariants as switch_at
-use Rattle.call_acts.specs.declared.work.Act.{Act as ActOf}
-use Rattle.call_acts.specs.declared.work.Act.TheVariants.{Fill, Remove, Retype, Make, Outside, Tick, Flush, Kill, Untype, Map as map_act, MakeComp, Invoke, Return, Touch, Share, Switch}
-use Rattle.call_acts.specs.declared.work.Tail.{Tail}
-use Rattle.call_acts.specs.declared.work.Tail.TheVariants.{Nothing, Quiesce, Unmark, StoreDead, StoreFlush, Release, StoreLive, Push, Pop, Share as share_tail, StoreRunning, StoreIdle}
-use Rattle.call_acts.specs.declared.work.Work.{Work}
-use Rattle.call_acts.specs.declared.work.Work.TheVariants.{Lookup, Read, Scan, Acquire, Act as act_work}
-use Rattle.call_steps.specs.declared.stages.ActiveCall.{ActiveCall}
-use Rattle.call_steps.specs.declared.stages.Stage.{Stage}
-use Rattle.call_steps.specs.declared.stages.Stage.TheVariants.{Enter, Undecided, Decided, Leave}
-use Rattle.call_acts.specs.Untypings.{release_of}
+use Rattle.act_states.specs.declared.makings.MakingAt.{MakingAt}
+use Rattle.act_states.specs.declared.makings.MakingAt.TheVariants as making_at
+use Rattle.act_states.specs.declared.comps.CompMaking.{CompMaking}
+use Rattle.act_states.specs.declared.comps.CompAt.{CompAt}
+use Rattle.act_states.specs.declared.comps.CompAt.TheVariants as comp_at
+use Rattle.act_states.specs.declared.kills.KillingAt.{KillingAt}
+use Rattle.act_states.specs.declared.kills.KillingAt.TheVariants as kill_at
+use Rattle.act_states.specs.declared.untypings.UntypingAt.{UntypingAt}
+use Rattle.act_states.specs.declared.untypings.UntypingAt.TheVariants as untype_at
+use Rattle.act_states.specs.declared.switches.Switching.{Switching}
+use Rattle.act_states.specs.declared.switches.SwitchAt.{SwitchAt}
+use Rattle.act_states.specs.declared.switches.SwitchAt.TheVariants as switch_at
+use Rattle.act_states.specs.declared.work.Act.{Act as ActOf}
+use Rattle.act_states.specs.declared.work.Act.TheVariants.{Fill, Remove, Retype, Make, Outside, Tick, Flush, Kill, Untype, Map as map_act, MakeComp, Invoke, Return, Touch, Share, Switch}
+use Rattle.act_states.specs.declared.work.Tail.{Tail}
+use Rattle.act_states.specs.declared.work.Tail.TheVariants.{Nothing, Quiesce, Unmark, StoreDead, StoreFlush, Release, StoreLive, Push, Pop, Share as share_tail, StoreRunning, StoreIdle}
+use Rattle.act_states.specs.declared.work.Work.{Work}
+use Rattle.act_states.specs.declared.work.Work.TheVariants.{Lookup, Read, Scan, Acquire, Act as act_work}
+use Rattle.call_stages.specs.declared.stages.ActiveCall.{ActiveCall}
+use Rattle.call_stages.specs.declared.stages.Stage.{Stage}
+use Rattle.call_stages.specs.declared.stages.Stage.TheVariants.{Enter, Undecided, Decided, Leave}
+use Rattle.act_states.specs.Untypings.{release_of}
 use Rattle.stage_sweep.specs.Freeze.{swept_of}
-use Rattle.call_steps.specs.View.{Core}
+use Rattle.call_stages.specs.View.{Core}
 use Rattle.core_invariant.specs.Holding.{Holding, holds_counts, holds_closed, holds_drawn, keeps, kept_below, settled, settled_by}
 use Rattle.core_invariant.specs.Frozen.{holds_untyping}
 use Rattle.core_invariant.specs.Knows.{KnowsAct, KnowsAt, KnowsClose, KnowsStore, KnowsTail, KnowsWork, CallIs, phase_at}

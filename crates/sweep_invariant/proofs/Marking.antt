@@ -28,20 +28,20 @@ use Rattle.kernel_history.proofs.Names.{same_word-other}
 use Rattle.kernel_history.proofs.Steps.{own_read-here}
 use Rattle.stage_pins.specs.Counts.{unheld}
 use Rattle.stage_pins.specs.declared.held.Acquired.{Acquired}
-use Rattle.call_acts.specs.declared.refusals.Refusal.TheVariants as refusal
-use Rattle.call_acts.specs.Acts.{meets_untyped, meets_untyping, sweep_from, sweeps_if}
-use Rattle.call_acts.specs.Untypings.{held_by as marked_word, untyping_dues}
-use Rattle.call_acts.specs.WorkSteps.{refuse}
-use Rattle.call_acts.specs.declared.untypings.Untyping.{Untyping}
-use Rattle.call_acts.specs.declared.untypings.UntypingAt.{UntypingAt}
-use Rattle.call_acts.specs.declared.untypings.UntypingAt.TheVariants.{Load, Mark, Sweep as sweep_at, Draw}
-use Rattle.call_acts.specs.declared.work.Act.TheVariants.{Untype as untype_act}
-use Rattle.call_acts.specs.declared.work.Work.TheVariants.{Act}
-use Rattle.call_acts.specs.declared.work.WorkStep.TheVariants.{Goes}
-use Rattle.call_steps.specs.declared.stages.Stage.TheVariants.{Undecided}
-use Rattle.call_steps.specs.declared.stages.ActiveCall.{ActiveCall}
-use Rattle.call_steps.specs.Steps.{landed}
-use Rattle.call_steps.specs.View.{Core}
+use Rattle.act_states.specs.declared.refusals.Refusal.TheVariants as refusal
+use Rattle.act_states.specs.Acts.{meets_untyped, meets_untyping, sweep_from, sweeps_if}
+use Rattle.act_states.specs.Untypings.{held_by as marked_word, untyping_dues}
+use Rattle.act_states.specs.WorkSteps.{refuse}
+use Rattle.act_states.specs.declared.untypings.Untyping.{Untyping}
+use Rattle.act_states.specs.declared.untypings.UntypingAt.{UntypingAt}
+use Rattle.act_states.specs.declared.untypings.UntypingAt.TheVariants.{Load, Mark, Sweep as sweep_at, Draw}
+use Rattle.act_states.specs.declared.work.Act.TheVariants.{Untype as untype_act}
+use Rattle.act_states.specs.declared.work.Work.TheVariants.{Act}
+use Rattle.act_states.specs.declared.work.WorkStep.TheVariants.{Goes}
+use Rattle.call_stages.specs.declared.stages.Stage.TheVariants.{Undecided}
+use Rattle.call_stages.specs.declared.stages.ActiveCall.{ActiveCall}
+use Rattle.call_stages.specs.Steps.{landed}
+use Rattle.call_stages.specs.View.{Core}
 use Rattle.core_invariant.specs.Holding.{holds_counts, settled_by, keeps}
 use Rattle.core_invariant.specs.Knows.{due_of, KnowsUndecided}
 use Rattle.core_invariant.specs.Stands.{holds, holds_in, held_by, Stands}

@@ -37,12 +37,12 @@ use Rattle.stage_look.specs.Shown.{shown_in}
 use Rattle.stage_sweep.specs.Emptiness.{loads_of, empty_refuses, entry_refuses, field_refuses, head_refuses, head_by_mark, owned_after, owns, frame_if, place_owned, place_refuses, stack_owned, stack_refuses, thread_refuses, depth_refuses}
 use Rattle.stage_sweep.specs.declared.empty.Owned.{Owned}
 use Rattle.stage_sweep.specs.declared.sweep.SweepAt.TheVariants.{Empty}
-use Rattle.call_acts.specs.Untypings.{OwnedBy}
-use Rattle.call_acts.specs.declared.work.Act.TheVariants.{Untype as untype_act}
-use Rattle.call_acts.specs.declared.work.Work.TheVariants.{Act}
-use Rattle.call_steps.specs.declared.stages.ActiveCall.{ActiveCall}
-use Rattle.call_steps.specs.declared.stages.Stage.TheVariants.{Undecided}
-use Rattle.call_steps.specs.View.{Core}
+use Rattle.act_states.specs.Untypings.{OwnedBy}
+use Rattle.act_states.specs.declared.work.Act.TheVariants.{Untype as untype_act}
+use Rattle.act_states.specs.declared.work.Work.TheVariants.{Act}
+use Rattle.call_stages.specs.declared.stages.ActiveCall.{ActiveCall}
+use Rattle.call_stages.specs.declared.stages.Stage.TheVariants.{Undecided}
+use Rattle.call_stages.specs.View.{Core}
 use Rattle.core_invariant.specs.Knows.{KnowsUndecided}
 use Rattle.core_invariant.specs.Stands.{Stands}
 use Rattle.core_invariant.specs.Sweeps.{HoldsNone, IsLookedAt, NamesBottom, NamesFields, names_of}

@@ -12,8 +12,8 @@ use Rattle.kernel_rules.proofs.Sound.{IsSound, IsObjectGood, IsStack}
 use Rattle.kernel_history.specs.ObjectWords.{frame_value}
 use Rattle.stage_sweep.specs.Emptiness.{loads_of}
 use Rattle.stage_sweep.specs.declared.empty.Owned.{Owned}
-use Rattle.call_acts.specs.declared.work.Due.{Due}
-use Rattle.call_acts.specs.Untypings.{released_one, released_dues}
+use Rattle.act_states.specs.declared.work.Due.{Due}
+use Rattle.act_states.specs.Untypings.{released_one, released_dues}
 use Rattle.core_invariant.specs.Knows.{AreDuesApart}
 use Rattle.core_invariant.specs.Sweeps.{IsLookedAt, names_of}
 

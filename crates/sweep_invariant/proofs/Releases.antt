@@ -24,15 +24,15 @@ use Rattle.stage_pins.specs.Commit.{settled_word}
 use Rattle.stage_pins.specs.declared.held.Acquired.{Acquired}
 use Rattle.stage_sweep.specs.Release.{ThawFits, at_next, more_end, released, thaw_after, thaw_end, thaw_move}
 use Rattle.stage_sweep.specs.declared.thaw.Thaw.{Thaw}
-use Rattle.call_acts.specs.Untypings.{release_after, release_move, thaw_left_by}
-use Rattle.call_acts.specs.declared.untypings.Release.{Release}
-use Rattle.call_acts.specs.declared.work.Tail.TheVariants.{Nothing, Release as release_tail}
-use Rattle.call_steps.specs.Fits.{StageFits}
-use Rattle.call_steps.specs.Tails.{is_ok, tail_counts, tail_move, took_tail}
-use Rattle.call_steps.specs.declared.stages.ActiveCall.{ActiveCall}
-use Rattle.call_steps.specs.declared.stages.Stage.TheVariants.{Decided}
-use Rattle.call_steps.specs.Steps.{GoesOn, went_with}
-use Rattle.call_steps.specs.View.{Core}
+use Rattle.act_states.specs.Untypings.{release_after, release_move, thaw_left_by}
+use Rattle.act_states.specs.declared.untypings.Release.{Release}
+use Rattle.act_states.specs.declared.work.Tail.TheVariants.{Nothing, Release as release_tail}
+use Rattle.call_stages.specs.Fits.{StageFits}
+use Rattle.call_stages.specs.Tails.{is_ok, tail_counts, tail_move, took_tail}
+use Rattle.call_stages.specs.declared.stages.ActiveCall.{ActiveCall}
+use Rattle.call_stages.specs.declared.stages.Stage.TheVariants.{Decided}
+use Rattle.call_stages.specs.Steps.{GoesOn, went_with}
+use Rattle.call_stages.specs.View.{Core}
 use Rattle.core_invariant.specs.Frozen.{holds_release, holds_thaw, is_frozen}
 use Rattle.core_invariant.specs.Holding.{AreApart, Holding, committed, count_of, holds_counts, settled, settled_by}
 use Rattle.core_invariant.specs.Knows.{IsCount, KnowsTail, KnowsUnmark, phase_at}

@@ -64,21 +64,21 @@ use Rattle.call_plans.specs.GoesBy.{own_pages}
 use Rattle.call_plans.specs.After.{LeadsIn}
 use Rattle.call_plans.proofs.AfterNames.{leads_by}
 use Rattle.plan_ways.proofs.Ways.{all_ways}
-use Rattle.call_acts.specs.Acts.{drawn_untyped}
-use Rattle.call_acts.specs.Typings.{typed}
-use Rattle.call_acts.specs.Untypings.{owned_dues, release_of, released_one}
-use Rattle.call_acts.specs.declared.untypings.Release.{Release}
-use Rattle.call_acts.specs.declared.untypings.Untyping.{Untyping}
-use Rattle.call_acts.specs.declared.untypings.UntypingAt.TheVariants.{Draw}
-use Rattle.call_acts.specs.declared.work.Act.TheVariants.{Untype as untype_act}
-use Rattle.call_acts.specs.declared.work.Due.{Due}
-use Rattle.call_acts.specs.declared.work.Tail.TheVariants.{Release as release_tail}
-use Rattle.call_acts.specs.declared.work.Work.TheVariants.{Act}
-use Rattle.call_steps.specs.declared.stages.Stage.{Stage}
-use Rattle.call_steps.specs.declared.stages.Stage.TheVariants.{Undecided, Decided}
-use Rattle.call_steps.specs.declared.stages.ActiveCall.{ActiveCall}
-use Rattle.call_steps.specs.Steps.{landed}
-use Rattle.call_steps.specs.View.{Core}
+use Rattle.act_states.specs.Acts.{drawn_untyped}
+use Rattle.act_states.specs.Typings.{typed}
+use Rattle.act_states.specs.Untypings.{owned_dues, release_of, released_one}
+use Rattle.act_states.specs.declared.untypings.Release.{Release}
+use Rattle.act_states.specs.declared.untypings.Untyping.{Untyping}
+use Rattle.act_states.specs.declared.untypings.UntypingAt.TheVariants.{Draw}
+use Rattle.act_states.specs.declared.work.Act.TheVariants.{Untype as untype_act}
+use Rattle.act_states.specs.declared.work.Due.{Due}
+use Rattle.act_states.specs.declared.work.Tail.TheVariants.{Release as release_tail}
+use Rattle.act_states.specs.declared.work.Work.TheVariants.{Act}
+use Rattle.call_stages.specs.declared.stages.Stage.{Stage}
+use Rattle.call_stages.specs.declared.stages.Stage.TheVariants.{Undecided, Decided}
+use Rattle.call_stages.specs.declared.stages.ActiveCall.{ActiveCall}
+use Rattle.call_stages.specs.Steps.{landed}
+use Rattle.call_stages.specs.View.{Core}
 use Rattle.core_invariant.specs.CountWords.{stamp_in, newest_of}
 use Rattle.core_invariant.specs.Frozen.{holds_release, holds_thaw, is_frozen, thawed}
 use Rattle.core_invariant.specs.Holding.{Holding, holds_counts, settled_by, settled}

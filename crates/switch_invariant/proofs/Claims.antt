@@ -27,16 +27,16 @@ use Rattle.kernel_history.proofs.Steps.{own_read-here}
 use Rattle.stage_thread.specs.Claiming.{claim_compared, claimed_within, compared_after, stack_end, thread_after, thread_end}
 use Rattle.stage_thread.specs.declared.claim.Claim.TheVariants.{AtLoad, AtCompare, AtStack}
 use Rattle.stage_thread.specs.declared.claim.Claimed.{Claimed as ClaimedOf}
-use Rattle.call_acts.specs.Switches.{SwitchAtFits, took_claim}
-use Rattle.call_acts.specs.declared.switches.Switching.{Switching}
-use Rattle.call_acts.specs.declared.switches.SwitchAt.TheVariants.{Claim, LoadTable}
-use Rattle.call_acts.specs.declared.work.Act.TheVariants.{Switch as switch_act}
-use Rattle.call_acts.specs.declared.work.Work.TheVariants.{Act}
-use Rattle.call_acts.specs.declared.work.WorkStep.TheVariants.{Goes}
-use Rattle.call_steps.specs.declared.stages.Stage.TheVariants.{Undecided}
-use Rattle.call_steps.specs.declared.stages.ActiveCall.{ActiveCall}
-use Rattle.call_steps.specs.Steps.{GoesOn, landed, went}
-use Rattle.call_steps.specs.View.{Core}
+use Rattle.act_states.specs.Switches.{SwitchAtFits, took_claim}
+use Rattle.act_states.specs.declared.switches.Switching.{Switching}
+use Rattle.act_states.specs.declared.switches.SwitchAt.TheVariants.{Claim, LoadTable}
+use Rattle.act_states.specs.declared.work.Act.TheVariants.{Switch as switch_act}
+use Rattle.act_states.specs.declared.work.Work.TheVariants.{Act}
+use Rattle.act_states.specs.declared.work.WorkStep.TheVariants.{Goes}
+use Rattle.call_stages.specs.declared.stages.Stage.TheVariants.{Undecided}
+use Rattle.call_stages.specs.declared.stages.ActiveCall.{ActiveCall}
+use Rattle.call_stages.specs.Steps.{GoesOn, landed, went}
+use Rattle.call_stages.specs.View.{Core}
 use Rattle.core_invariant.specs.Holding.{holds_counts, settled_by}
 use Rattle.core_invariant.specs.Knows.{KnowsUndecided}
 use Rattle.core_invariant.specs.Stands.{holds, held_by, holds_in, Stands}

@@ -18,15 +18,15 @@ use Rattle.kernel_history.specs.ObjectWords.{thread_value}
 use Rattle.kernel_history.specs.Trace.{Step, Trace, state_after, last_left}
 use Rattle.kernel_history.proofs.Names.{same_word-other}
 use Rattle.stage_thread.specs.declared.claim.Claimed.{Claimed as ClaimedOf}
-use Rattle.call_acts.specs.Switches.{switch_goes}
-use Rattle.call_acts.specs.declared.switches.Switching.{Switching}
-use Rattle.call_acts.specs.declared.switches.SwitchAt.TheVariants.{Leave, Draw}
-use Rattle.call_acts.specs.declared.work.Act.TheVariants.{Switch as switch_act}
-use Rattle.call_acts.specs.declared.work.Work.TheVariants.{Act}
-use Rattle.call_steps.specs.declared.stages.Stage.TheVariants.{Undecided}
-use Rattle.call_steps.specs.declared.stages.ActiveCall.{ActiveCall}
-use Rattle.call_steps.specs.Steps.{landed, went}
-use Rattle.call_steps.specs.View.{Core}
+use Rattle.act_states.specs.Switches.{switch_goes}
+use Rattle.act_states.specs.declared.switches.Switching.{Switching}
+use Rattle.act_states.specs.declared.switches.SwitchAt.TheVariants.{Leave, Draw}
+use Rattle.act_states.specs.declared.work.Act.TheVariants.{Switch as switch_act}
+use Rattle.act_states.specs.declared.work.Work.TheVariants.{Act}
+use Rattle.call_stages.specs.declared.stages.Stage.TheVariants.{Undecided}
+use Rattle.call_stages.specs.declared.stages.ActiveCall.{ActiveCall}
+use Rattle.call_stages.specs.Steps.{landed, went}
+use Rattle.call_stages.specs.View.{Core}
 use Rattle.core_invariant.specs.Holding.{Holding, holds_counts, settled_by}
 use Rattle.core_invariant.specs.Knows.{KnowsUndecided}
 use Rattle.core_invariant.specs.Stands.{holds, holds_in, held_by, Stands}

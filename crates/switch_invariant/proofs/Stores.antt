@@ -20,14 +20,14 @@ use Rattle.kernel_history.specs.Marking.{marked_by}
 use Rattle.kernel_history.specs.Trace.{Step, Trace, WasAt, state_after, last_left}
 use Rattle.kernel_history.proofs.Carries.{was_stays}
 use Rattle.kernel_history.proofs.Names.{same_word-other}
-use Rattle.call_acts.specs.Switches.{idle_move, running_move}
-use Rattle.call_acts.specs.declared.work.Tail.{Tail}
-use Rattle.call_acts.specs.declared.work.Tail.TheVariants.{Nothing, StoreRunning, StoreIdle}
-use Rattle.call_steps.specs.Fits.{StageFits, TailFits}
-use Rattle.call_steps.specs.declared.stages.Stage.TheVariants.{Decided}
-use Rattle.call_steps.specs.declared.stages.ActiveCall.{ActiveCall}
-use Rattle.call_steps.specs.Steps.{GoesOn, went_with}
-use Rattle.call_steps.specs.View.{Core}
+use Rattle.act_states.specs.Switches.{idle_move, running_move}
+use Rattle.act_states.specs.declared.work.Tail.{Tail}
+use Rattle.act_states.specs.declared.work.Tail.TheVariants.{Nothing, StoreRunning, StoreIdle}
+use Rattle.call_stages.specs.Fits.{StageFits, TailFits}
+use Rattle.call_stages.specs.declared.stages.Stage.TheVariants.{Decided}
+use Rattle.call_stages.specs.declared.stages.ActiveCall.{ActiveCall}
+use Rattle.call_stages.specs.Steps.{GoesOn, went_with}
+use Rattle.call_stages.specs.View.{Core}
 use Rattle.core_invariant.specs.Holding.{Holding, holds_counts, keeps, settled_by}
 use Rattle.core_invariant.specs.Knows.{KnowsTail, phase_at}
 use Rattle.core_invariant.specs.Stands.{done_by, holds, holds_at, holds_in, holds_tail, held_by, Stands}

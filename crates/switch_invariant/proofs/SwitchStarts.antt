@@ -26,13 +26,13 @@ use Rattle.call_plans.specs.declared.plans.Plan.{Plan}
 use Rattle.call_plans.specs.After.{Leads, LeadsIn, names_after}
 use Rattle.call_plans.specs.PlanOf.{plan_for, of_kind}
 use Rattle.stage_pins.specs.declared.held.Acquired.{Acquired}
-use Rattle.call_acts.specs.Acts.{act_begun, switching}
-use Rattle.call_acts.specs.declared.work.Act.TheVariants.{Switch as switch_act}
-use Rattle.call_acts.specs.declared.work.Work.TheVariants.{Act}
-use Rattle.call_steps.specs.declared.stages.Stage.TheVariants.{Undecided}
-use Rattle.call_steps.specs.declared.stages.ActiveCall.{ActiveCall}
-use Rattle.call_steps.specs.Steps.{landed, found_more}
-use Rattle.call_steps.specs.View.{Core}
+use Rattle.act_states.specs.Acts.{act_begun, switching}
+use Rattle.act_states.specs.declared.work.Act.TheVariants.{Switch as switch_act}
+use Rattle.act_states.specs.declared.work.Work.TheVariants.{Act}
+use Rattle.call_stages.specs.declared.stages.Stage.TheVariants.{Undecided}
+use Rattle.call_stages.specs.declared.stages.ActiveCall.{ActiveCall}
+use Rattle.call_stages.specs.Steps.{landed, found_more}
+use Rattle.call_stages.specs.View.{Core}
 use Rattle.core_invariant.specs.Holding.{holds_counts}
 use Rattle.core_invariant.specs.Knows.{due_of, NamesAre, phase_at}
 use Rattle.core_invariant.specs.Stands.{holds_in, Stands}

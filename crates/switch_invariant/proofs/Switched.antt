@@ -60,23 +60,23 @@ use Rattle.stage_pins.specs.Counts.{later}
 use Rattle.stage_pins.specs.Held.{stamp_of_change}
 use Rattle.stage_pins.specs.declared.held.Acquired.{Acquired}
 use Rattle.stage_thread.specs.declared.claim.Claimed.{Claimed as ClaimedOf}
-use Rattle.call_acts.specs.OwnChanges.{own_changed}
-use Rattle.call_acts.specs.Switches.{switch_due_list, switched, tcap_dues}
-use Rattle.call_acts.specs.declared.own.Own.{Own}
-use Rattle.call_acts.specs.declared.own.OwnChange.TheVariants.{Switches}
-use Rattle.call_acts.specs.declared.switches.Switching.{Switching}
-use Rattle.call_acts.specs.declared.switches.SwitchAt.TheVariants.{Draw}
-use Rattle.call_acts.specs.declared.work.Act.TheVariants.{Switch as switch_act}
-use Rattle.call_acts.specs.declared.work.Due.{Due}
-use Rattle.call_acts.specs.declared.work.Tail.{Tail}
-use Rattle.call_acts.specs.declared.work.Tail.TheVariants.{StoreRunning}
-use Rattle.call_acts.specs.declared.work.Work.TheVariants.{Act}
-use Rattle.call_steps.specs.Cores.{own_decided}
-use Rattle.call_steps.specs.declared.stages.Stage.{Stage}
-use Rattle.call_steps.specs.declared.stages.Stage.TheVariants.{Undecided, Decided}
-use Rattle.call_steps.specs.declared.stages.ActiveCall.{ActiveCall}
-use Rattle.call_steps.specs.Steps.{landed}
-use Rattle.call_steps.specs.View.{Core}
+use Rattle.act_states.specs.OwnChanges.{own_changed}
+use Rattle.act_states.specs.Switches.{switch_due_list, switched, tcap_dues}
+use Rattle.act_states.specs.declared.own.Own.{Own}
+use Rattle.act_states.specs.declared.own.OwnChange.TheVariants.{Switches}
+use Rattle.act_states.specs.declared.switches.Switching.{Switching}
+use Rattle.act_states.specs.declared.switches.SwitchAt.TheVariants.{Draw}
+use Rattle.act_states.specs.declared.work.Act.TheVariants.{Switch as switch_act}
+use Rattle.act_states.specs.declared.work.Due.{Due}
+use Rattle.act_states.specs.declared.work.Tail.{Tail}
+use Rattle.act_states.specs.declared.work.Tail.TheVariants.{StoreRunning}
+use Rattle.act_states.specs.declared.work.Work.TheVariants.{Act}
+use Rattle.call_stages.specs.Cores.{own_decided}
+use Rattle.call_stages.specs.declared.stages.Stage.{Stage}
+use Rattle.call_stages.specs.declared.stages.Stage.TheVariants.{Undecided, Decided}
+use Rattle.call_stages.specs.declared.stages.ActiveCall.{ActiveCall}
+use Rattle.call_stages.specs.Steps.{landed}
+use Rattle.call_stages.specs.View.{Core}
 use Rattle.core_invariant.specs.CountWords.{IsWithin}
 use Rattle.core_invariant.specs.Holding.{Holding, holds_counts, settled}
 use Rattle.core_invariant.specs.Words.{IsFrameWord, IsThreadWord, WordIs, count_room}
@@ -361,7 +361,7 @@ module _ (setup : Setting) (setting : IsSetting setup) (cores : ℕ → Core) (t
 
   -- the depths
   fits_in_shape : DepthFits to.depth
-  fits_in_shape = (subst (Rattle.call_acts.specs.Switches.SwitchAtFits (cores c).own.layout) is
+  fits_in_shape = (subst (Rattle.act_states.specs.Switches.SwitchAtFits (cores c).own.layout) is
       (calls.fits_in setup setting cores t stands c here a active m stage_is has).at).0.depth
 
   old_fits : DepthFits m.old_depth

@@ -17,8 +17,8 @@ use Rattle.kernel_rules.proofs.Sums.{times_cons}
 use Rattle.kernel_rules.proofs.Within.{put_same, put_other}
 use Rattle.stage_pins.specs.Counts.{later}
 use Rattle.stage_pins.specs.Held.{stamp_of_change}
-use Rattle.call_acts.specs.Switches.{tcap_dues}
-use Rattle.call_acts.specs.declared.work.Due.{Due}
+use Rattle.act_states.specs.Switches.{tcap_dues}
+use Rattle.act_states.specs.declared.work.Due.{Due}
 
 -- The state after the switch of core c to the thread in frame f, with this temporal capability and these grace periods.
 abbrev pub switched_to : State → ℕ → ℕ → ℕ → (Thing → Grace) → State

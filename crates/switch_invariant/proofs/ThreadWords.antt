@@ -12,7 +12,7 @@ use Rattle.kernel_rules.specs.Relies.{is_node}
 use Rattle.kernel_history.specs.Justified.{HasRacedHead}
 use Rattle.kernel_history.specs.Marks.{mark_in_frame, thread_mark}
 use Rattle.kernel_history.specs.ObjectWords.{thread_value, at_height}
-use Rattle.call_acts.specs.Invocations.{frame_in}
+use Rattle.act_states.specs.Invocations.{frame_in}
 use Rattle.thread_invariant.proofs.Heights.{at_top}
 
 pub none_some : (d : ℕ) → None ≡ Some d → ⊥

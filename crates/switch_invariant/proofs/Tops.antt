@@ -19,20 +19,20 @@ use Rattle.kernel_history.specs.ObjectWords.{thread_value}
 use Rattle.kernel_history.specs.Trace.{Step, Trace, state_after, last_left}
 use Rattle.stage_pins.specs.declared.held.Acquired.{Acquired}
 use Rattle.stage_thread.specs.declared.claim.Claimed.{Claimed as ClaimedOf}
-use Rattle.call_acts.specs.Acts.{dues, next_work, switch_pages}
-use Rattle.call_acts.specs.Invocations.{frame_in}
-use Rattle.call_acts.specs.Switches.{switch_due_list, switch_table, tcap_dues}
-use Rattle.call_acts.specs.declared.switches.Switching.{Switching}
-use Rattle.call_acts.specs.declared.switches.SwitchAt.TheVariants.{LoadTable, LoadPages, Leave}
-use Rattle.call_acts.specs.declared.work.Act.{Act as ActOf}
-use Rattle.call_acts.specs.declared.work.Act.TheVariants.{Switch as switch_act}
-use Rattle.call_acts.specs.declared.work.Due.{Due}
-use Rattle.call_acts.specs.declared.work.Work.TheVariants.{Act}
-use Rattle.call_acts.specs.declared.work.WorkStep.TheVariants.{Goes}
-use Rattle.call_steps.specs.declared.stages.Stage.TheVariants.{Undecided}
-use Rattle.call_steps.specs.declared.stages.ActiveCall.{ActiveCall}
-use Rattle.call_steps.specs.Steps.{landed}
-use Rattle.call_steps.specs.View.{Core}
+use Rattle.act_states.specs.Acts.{dues, next_work, switch_pages}
+use Rattle.act_states.specs.Invocations.{frame_in}
+use Rattle.act_states.specs.Switches.{switch_due_list, switch_table, tcap_dues}
+use Rattle.act_states.specs.declared.switches.Switching.{Switching}
+use Rattle.act_states.specs.declared.switches.SwitchAt.TheVariants.{LoadTable, LoadPages, Leave}
+use Rattle.act_states.specs.declared.work.Act.{Act as ActOf}
+use Rattle.act_states.specs.declared.work.Act.TheVariants.{Switch as switch_act}
+use Rattle.act_states.specs.declared.work.Due.{Due}
+use Rattle.act_states.specs.declared.work.Work.TheVariants.{Act}
+use Rattle.act_states.specs.declared.work.WorkStep.TheVariants.{Goes}
+use Rattle.call_stages.specs.declared.stages.Stage.TheVariants.{Undecided}
+use Rattle.call_stages.specs.declared.stages.ActiveCall.{ActiveCall}
+use Rattle.call_stages.specs.Steps.{landed}
+use Rattle.call_stages.specs.View.{Core}
 use Rattle.core_invariant.specs.Holding.{holds_counts}
 use Rattle.core_invariant.specs.Knows.{AreDuesApart, due_of, KnowsUndecided}
 use Rattle.core_invariant.specs.Stands.{holds, holds_in, Stands}

@@ -20,7 +20,7 @@ use Rattle.kernel_history.specs.ObjectWords.{thread_value}
 use Rattle.kernel_history.specs.Stamps.{stamp}
 use Rattle.kernel_history.specs.Trace.{Trace, state_after, last_left}
 use Rattle.kernel_history.proofs.Stays.{sound_of}
-use Rattle.call_steps.specs.View.{Core}
+use Rattle.call_stages.specs.View.{Core}
 use Rattle.core_invariant.specs.Components.{HasComp}
 use Rattle.core_invariant.specs.Holding.{settled_by}
 use Rattle.core_invariant.specs.Stands.{held_by, IsOfThread, SaysRunning, Stands}

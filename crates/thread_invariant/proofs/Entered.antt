@@ -36,24 +36,24 @@ use Rattle.kernel_history.proofs.Steps.{last_left-there}
 use Rattle.stage_pins.specs.Counts.{later}
 use Rattle.stage_pins.specs.Held.{stamp_of_change}
 use Rattle.stage_thread.specs.declared.stack.Push.TheVariants as push
-use Rattle.call_acts.specs.declared.invocations.Invoking.{Invoking}
-use Rattle.call_acts.specs.declared.invocations.InvokingAt.{InvokingAt}
-use Rattle.call_acts.specs.declared.invocations.InvokingAt.TheVariants.{LoadTable, LoadPages, LoadComp, LoadLive}
-use Rattle.call_acts.specs.declared.own.Own.{Own}
-use Rattle.call_acts.specs.declared.own.OwnChange.TheVariants.{Works}
-use Rattle.call_acts.specs.declared.work.Act.TheVariants.{Invoke as invoke_act}
-use Rattle.call_acts.specs.declared.work.Tail.{Tail}
-use Rattle.call_acts.specs.declared.work.Tail.TheVariants.{Push}
-use Rattle.call_acts.specs.declared.work.Work.TheVariants.{Act}
-use Rattle.call_acts.specs.Acts.{took_invoking, took_invoking_at}
-use Rattle.call_acts.specs.Invocations.{invoking_at, invoking_move, enters_if, enters_number, enters_live}
-use Rattle.call_acts.specs.OwnChanges.{own_changed}
-use Rattle.call_steps.specs.Cores.{own_decided}
-use Rattle.call_steps.specs.declared.stages.Stage.{Stage}
-use Rattle.call_steps.specs.declared.stages.Stage.TheVariants.{Undecided, Decided}
-use Rattle.call_steps.specs.declared.stages.ActiveCall.{ActiveCall}
-use Rattle.call_steps.specs.Steps.{landed}
-use Rattle.call_steps.specs.View.{Core}
+use Rattle.act_states.specs.declared.invocations.Invoking.{Invoking}
+use Rattle.act_states.specs.declared.invocations.InvokingAt.{InvokingAt}
+use Rattle.act_states.specs.declared.invocations.InvokingAt.TheVariants.{LoadTable, LoadPages, LoadComp, LoadLive}
+use Rattle.act_states.specs.declared.own.Own.{Own}
+use Rattle.act_states.specs.declared.own.OwnChange.TheVariants.{Works}
+use Rattle.act_states.specs.declared.work.Act.TheVariants.{Invoke as invoke_act}
+use Rattle.act_states.specs.declared.work.Tail.{Tail}
+use Rattle.act_states.specs.declared.work.Tail.TheVariants.{Push}
+use Rattle.act_states.specs.declared.work.Work.TheVariants.{Act}
+use Rattle.act_states.specs.Acts.{took_invoking, took_invoking_at}
+use Rattle.act_states.specs.Invocations.{invoking_at, invoking_move, enters_if, enters_number, enters_live}
+use Rattle.act_states.specs.OwnChanges.{own_changed}
+use Rattle.call_stages.specs.Cores.{own_decided}
+use Rattle.call_stages.specs.declared.stages.Stage.{Stage}
+use Rattle.call_stages.specs.declared.stages.Stage.TheVariants.{Undecided, Decided}
+use Rattle.call_stages.specs.declared.stages.ActiveCall.{ActiveCall}
+use Rattle.call_stages.specs.Steps.{landed}
+use Rattle.call_stages.specs.View.{Core}
 use Rattle.core_invariant.specs.Components.{HasLoadedComp, KnowsInvoking}
 use Rattle.core_invariant.specs.CountWords.{IsWithin}
 use Rattle.core_invariant.specs.Holding.{Holding, keeps_bare, holds_counts}
@@ -320,7 +320,7 @@ module _ (setup : Setting) (setting : IsSetting setup) (cores : ℕ → Core) (t
   none_drawn = omega arith
 
   dues_are : dues_of (pos 1) (m.comp ∷ []) ≡ Rattle.std.proofs.Common.map Rattle.core_invariant.specs.Knows.due_of a.counts
-  dues_are = ap (Rattle.call_acts.specs.Acts.invoking_dues m.comp) (sym is) ∙ has.knows.all
+  dues_are = ap (Rattle.act_states.specs.Acts.invoking_dues m.comp) (sym is) ∙ has.knows.all
 
   more_refs : (f : ℕ) → refs s' f ≡ refs s f + times f (m.comp ∷ [])
   more_refs f =

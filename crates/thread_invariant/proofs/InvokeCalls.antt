@@ -24,14 +24,14 @@ use Rattle.call_plans.specs.After.{rule_after, Leads, LeadsIn}
 use Rattle.call_plans.proofs.AfterNames.{outcome_left, left_may, leads_by}
 use Rattle.plan_ways.proofs.Near.{one_right}
 use Rattle.plan_ways.proofs.Ways.{all_ways}
-use Rattle.call_acts.specs.declared.invocations.Invoking.{Invoking}
-use Rattle.call_acts.specs.Invocations.{InvokingFits}
-use Rattle.call_acts.specs.declared.work.Act.TheVariants.{Invoke as invoke_act}
-use Rattle.call_acts.specs.declared.work.Work.TheVariants.{Act}
-use Rattle.call_steps.specs.declared.stages.Stage.TheVariants.{Undecided}
-use Rattle.call_steps.specs.declared.stages.ActiveCall.{ActiveCall}
-use Rattle.call_steps.specs.Fits.{StageFits, HasRoom}
-use Rattle.call_steps.specs.View.{Core}
+use Rattle.act_states.specs.declared.invocations.Invoking.{Invoking}
+use Rattle.act_states.specs.Invocations.{InvokingFits}
+use Rattle.act_states.specs.declared.work.Act.TheVariants.{Invoke as invoke_act}
+use Rattle.act_states.specs.declared.work.Work.TheVariants.{Act}
+use Rattle.call_stages.specs.declared.stages.Stage.TheVariants.{Undecided}
+use Rattle.call_stages.specs.declared.stages.ActiveCall.{ActiveCall}
+use Rattle.call_stages.specs.Fits.{StageFits, HasRoom}
+use Rattle.call_stages.specs.View.{Core}
 use Rattle.core_invariant.specs.Knows.{HasFound, KnowsUndecided, own_in, phase_at}
 use Rattle.core_invariant.specs.Stands.{Stands}
 use Rattle.core_invariant.proofs.Carries.{own_kept}

@@ -29,18 +29,18 @@ use Rattle.stage_pins.specs.declared.held.Acquired.{Acquired}
 use Rattle.call_plans.specs.GoesBy.{GoesBy, own_pages}
 use Rattle.call_plans.specs.After.{rule_after, Leads, LeadsIn}
 use Rattle.call_plans.proofs.AfterNames.{outcome_left, left_may}
-use Rattle.call_acts.specs.declared.invocations.Invoking.{Invoking}
-use Rattle.call_acts.specs.declared.invocations.InvokingAt.TheVariants.{LoadTable}
-use Rattle.call_acts.specs.declared.refusals.Refusal.TheVariants as refusal
-use Rattle.call_acts.specs.declared.work.Act.TheVariants.{Invoke as invoke_act}
-use Rattle.call_acts.specs.declared.work.Work.TheVariants.{Act}
-use Rattle.call_acts.specs.declared.work.WorkStep.TheVariants.{Goes}
-use Rattle.call_acts.specs.WorkSteps.{refuse}
-use Rattle.call_acts.specs.Acts.{invokes_if, invokes_in}
-use Rattle.call_steps.specs.declared.stages.Stage.TheVariants.{Undecided}
-use Rattle.call_steps.specs.declared.stages.ActiveCall.{ActiveCall}
-use Rattle.call_steps.specs.Steps.{landed, found_more}
-use Rattle.call_steps.specs.View.{Core}
+use Rattle.act_states.specs.declared.invocations.Invoking.{Invoking}
+use Rattle.act_states.specs.declared.invocations.InvokingAt.TheVariants.{LoadTable}
+use Rattle.act_states.specs.declared.refusals.Refusal.TheVariants as refusal
+use Rattle.act_states.specs.declared.work.Act.TheVariants.{Invoke as invoke_act}
+use Rattle.act_states.specs.declared.work.Work.TheVariants.{Act}
+use Rattle.act_states.specs.declared.work.WorkStep.TheVariants.{Goes}
+use Rattle.act_states.specs.WorkSteps.{refuse}
+use Rattle.act_states.specs.Acts.{invokes_if, invokes_in}
+use Rattle.call_stages.specs.declared.stages.Stage.TheVariants.{Undecided}
+use Rattle.call_stages.specs.declared.stages.ActiveCall.{ActiveCall}
+use Rattle.call_stages.specs.Steps.{landed, found_more}
+use Rattle.call_stages.specs.View.{Core}
 use Rattle.core_invariant.specs.Components.{HasComp, InvokesBy}
 use Rattle.core_invariant.specs.Holding.{holds_counts}
 use Rattle.core_invariant.specs.Knows.{due_of, NamesAre, phase_at}

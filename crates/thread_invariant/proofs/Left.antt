@@ -34,24 +34,24 @@ use Rattle.stage_quiet.specs.Clocks.{drawn_stamp}
 use Rattle.stage_pins.specs.Counts.{later}
 use Rattle.stage_pins.specs.Held.{stamp_of_change}
 use Rattle.stage_thread.specs.declared.stack.Pop.TheVariants as pop
-use Rattle.call_acts.specs.declared.invocations.Returning.{Returning}
-use Rattle.call_acts.specs.declared.invocations.ReturningAt.{ReturningAt}
-use Rattle.call_acts.specs.declared.invocations.ReturningAt.TheVariants.{LoadBelow, LoadTable, LoadPages, Draw}
-use Rattle.call_acts.specs.declared.own.Own.{Own}
-use Rattle.call_acts.specs.declared.own.OwnChange.TheVariants.{Works}
-use Rattle.call_acts.specs.declared.work.Act.TheVariants.{Return as return_act}
-use Rattle.call_acts.specs.declared.work.Tail.{Tail}
-use Rattle.call_acts.specs.declared.work.Tail.TheVariants.{Pop}
-use Rattle.call_acts.specs.declared.work.Work.TheVariants.{Act}
-use Rattle.call_acts.specs.Acts.{took_returning, took_returning_at}
-use Rattle.call_acts.specs.Invocations.{returning_at, returning_move, left_to}
-use Rattle.call_acts.specs.OwnChanges.{own_changed}
-use Rattle.call_steps.specs.Cores.{own_decided}
-use Rattle.call_steps.specs.declared.stages.Stage.{Stage}
-use Rattle.call_steps.specs.declared.stages.Stage.TheVariants.{Undecided, Decided}
-use Rattle.call_steps.specs.declared.stages.ActiveCall.{ActiveCall}
-use Rattle.call_steps.specs.Steps.{landed}
-use Rattle.call_steps.specs.View.{Core}
+use Rattle.act_states.specs.declared.invocations.Returning.{Returning}
+use Rattle.act_states.specs.declared.invocations.ReturningAt.{ReturningAt}
+use Rattle.act_states.specs.declared.invocations.ReturningAt.TheVariants.{LoadBelow, LoadTable, LoadPages, Draw}
+use Rattle.act_states.specs.declared.own.Own.{Own}
+use Rattle.act_states.specs.declared.own.OwnChange.TheVariants.{Works}
+use Rattle.act_states.specs.declared.work.Act.TheVariants.{Return as return_act}
+use Rattle.act_states.specs.declared.work.Tail.{Tail}
+use Rattle.act_states.specs.declared.work.Tail.TheVariants.{Pop}
+use Rattle.act_states.specs.declared.work.Work.TheVariants.{Act}
+use Rattle.act_states.specs.Acts.{took_returning, took_returning_at}
+use Rattle.act_states.specs.Invocations.{returning_at, returning_move, left_to}
+use Rattle.act_states.specs.OwnChanges.{own_changed}
+use Rattle.call_stages.specs.Cores.{own_decided}
+use Rattle.call_stages.specs.declared.stages.Stage.{Stage}
+use Rattle.call_stages.specs.declared.stages.Stage.TheVariants.{Undecided, Decided}
+use Rattle.call_stages.specs.declared.stages.ActiveCall.{ActiveCall}
+use Rattle.call_stages.specs.Steps.{landed}
+use Rattle.call_stages.specs.View.{Core}
 use Rattle.core_invariant.specs.Components.{IsBelow, HasLoadedBelow, KnowsReturning, below_of}
 use Rattle.core_invariant.specs.CountWords.{IsWithin}
 use Rattle.core_invariant.specs.Holding.{Holding, keeps_bare, holds_counts}
@@ -337,7 +337,7 @@ module _ (setup : Setting) (setting : IsSetting setup) (cores : ℕ → Core) (t
   drawn_small = let low = clock_small setup setting cores t stands in let same = drawn_is in omega arith
 
   dues_are : dues_of (negsuc 0) (m.top ∷ []) ≡ Rattle.std.proofs.Common.map due_of a.counts
-  dues_are = ap (Rattle.call_acts.specs.Acts.returning_dues m.top) (sym is) ∙ has.knows.all
+  dues_are = ap (Rattle.act_states.specs.Acts.returning_dues m.top) (sym is) ∙ has.knows.all
 
   falls : (f : ℕ) → refs s' f + times f (m.top ∷ []) ≡ refs s f
   falls f =

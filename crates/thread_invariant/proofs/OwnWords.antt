@@ -6,7 +6,7 @@ use Rattle.word_map.specs.Word.{EntryAt}
 use Rattle.kernel_rules.specs.State.{PlaceOf, State, thread_in, thread_of}
 use Rattle.kernel_history.specs.Stamps.{stamp}
 use Rattle.kernel_history.specs.Trace.{Trace, state_after, last_left}
-use Rattle.call_steps.specs.View.{Core}
+use Rattle.call_stages.specs.View.{Core}
 use Rattle.core_invariant.specs.Holding.{settled_by}
 use Rattle.core_invariant.specs.Words.{IsFrameWord, IsThreadWord, count_room}
 use Rattle.core_invariant.specs.Stands.{holds, held_by, Stands}

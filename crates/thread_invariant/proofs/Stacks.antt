@@ -18,13 +18,13 @@ use Rattle.stage_pins.specs.declared.held.Acquired.{Acquired}
 use Rattle.kernel_rules.specs.State.{ThreadFields, Kernel, Thread}
 use Rattle.kernel_history.specs.Marks.{thread_mark, mark_in_frame}
 use Rattle.kernel_history.specs.Trace.{Trace}
-use Rattle.call_acts.specs.declared.work.Tail.TheVariants.{Nothing, Push, Pop}
-use Rattle.call_steps.specs.declared.stages.Stage.TheVariants.{Decided}
-use Rattle.call_steps.specs.declared.stages.ActiveCall.{ActiveCall}
-use Rattle.call_steps.specs.Fits.{StageFits}
-use Rattle.call_steps.specs.Steps.{GoesOn, went_with}
-use Rattle.call_steps.specs.Tails.{pushed_on, popped_on}
-use Rattle.call_steps.specs.View.{Core}
+use Rattle.act_states.specs.declared.work.Tail.TheVariants.{Nothing, Push, Pop}
+use Rattle.call_stages.specs.declared.stages.Stage.TheVariants.{Decided}
+use Rattle.call_stages.specs.declared.stages.ActiveCall.{ActiveCall}
+use Rattle.call_stages.specs.Fits.{StageFits}
+use Rattle.call_stages.specs.Steps.{GoesOn, went_with}
+use Rattle.call_stages.specs.Tails.{pushed_on, popped_on}
+use Rattle.call_stages.specs.View.{Core}
 use Rattle.core_invariant.specs.Holding.{Holding, keeps_bare, holds_counts}
 use Rattle.core_invariant.specs.Knows.{KnowsPush, KnowsPop}
 use Rattle.core_invariant.specs.Stands.{done_by, holds_push, holds_pop, Stands}

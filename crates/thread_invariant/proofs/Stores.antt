@@ -15,11 +15,11 @@ use Rattle.kernel_history.specs.Marking.{marked_by}
 use Rattle.kernel_history.specs.Trace.{Step, Trace, state_after, last_left}
 use Rattle.stage_pins.specs.declared.held.Acquired.{Acquired}
 use Rattle.plan_ways.proofs.Near.{one_left}
-use Rattle.call_acts.specs.declared.work.Tail.{Tail}
-use Rattle.call_steps.specs.declared.stages.Stage.TheVariants.{Decided}
-use Rattle.call_steps.specs.declared.stages.ActiveCall.{ActiveCall}
-use Rattle.call_steps.specs.Steps.{GoesOn, went_with}
-use Rattle.call_steps.specs.View.{Core}
+use Rattle.act_states.specs.declared.work.Tail.{Tail}
+use Rattle.call_stages.specs.declared.stages.Stage.TheVariants.{Decided}
+use Rattle.call_stages.specs.declared.stages.ActiveCall.{ActiveCall}
+use Rattle.call_stages.specs.Steps.{GoesOn, went_with}
+use Rattle.call_stages.specs.View.{Core}
 use Rattle.core_invariant.specs.Holding.{Holding, holds_counts, settled_by}
 use Rattle.core_invariant.specs.Knows.{phase_at, KnowsTail}
 use Rattle.core_invariant.specs.Stands.{done_by, holds_tail, holds_at, holds_in, holds, held_by, IsLent, IsOfThread, Stands}

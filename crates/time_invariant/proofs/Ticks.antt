@@ -51,20 +51,20 @@ use Rattle.stage_tcap.specs.Heads.{head, raised, debited}
 use Rattle.stage_tcap.specs.Charging.{after_mark, after_head, end_by_mark, head_end, charged_end}
 use Rattle.stage_tcap.specs.declared.charge.Charge.{Charge}
 use Rattle.stage_tcap.specs.declared.charge.Charge.TheVariants.{AtLoad, AtCompare}
-use Rattle.call_acts.specs.declared.own.Own.{Own}
-use Rattle.call_acts.specs.declared.own.OwnChange.TheVariants.{Ticks}
-use Rattle.call_acts.specs.OwnChanges.{own_changed}
-use Rattle.call_acts.specs.Ticks.{ticks_of, owes, took_charge}
-use Rattle.call_acts.specs.declared.work.Act.TheVariants.{Tick as tick_act}
-use Rattle.call_acts.specs.declared.work.Work.TheVariants.{Act}
-use Rattle.call_acts.specs.declared.work.Tail.TheVariants.{Nothing as no_tail}
-use Rattle.call_acts.specs.declared.work.WorkStep.TheVariants.{Goes}
-use Rattle.call_steps.specs.declared.stages.Stage.TheVariants.{Undecided, Decided}
-use Rattle.call_steps.specs.declared.stages.ActiveCall.{ActiveCall}
-use Rattle.call_steps.specs.Fits.{HasRoom}
-use Rattle.call_steps.specs.Steps.{landed}
-use Rattle.call_steps.specs.Cores.{own_decided}
-use Rattle.call_steps.specs.View.{Core}
+use Rattle.act_states.specs.declared.own.Own.{Own}
+use Rattle.act_states.specs.declared.own.OwnChange.TheVariants.{Ticks}
+use Rattle.act_states.specs.OwnChanges.{own_changed}
+use Rattle.act_states.specs.Ticks.{ticks_of, owes, took_charge}
+use Rattle.act_states.specs.declared.work.Act.TheVariants.{Tick as tick_act}
+use Rattle.act_states.specs.declared.work.Work.TheVariants.{Act}
+use Rattle.act_states.specs.declared.work.Tail.TheVariants.{Nothing as no_tail}
+use Rattle.act_states.specs.declared.work.WorkStep.TheVariants.{Goes}
+use Rattle.call_stages.specs.declared.stages.Stage.TheVariants.{Undecided, Decided}
+use Rattle.call_stages.specs.declared.stages.ActiveCall.{ActiveCall}
+use Rattle.call_stages.specs.Fits.{HasRoom}
+use Rattle.call_stages.specs.Steps.{landed}
+use Rattle.call_stages.specs.Cores.{own_decided}
+use Rattle.call_stages.specs.View.{Core}
 use Rattle.core_invariant.specs.Holding.{holds_counts, settled_by, settled}
 use Rattle.core_invariant.specs.Words.{HeadIs, IsFrameWord, WordIs, count_room}
 use Rattle.core_invariant.specs.Knows.{due_of, charged_tcap, ChargesBy, HasHead, KnowsUndecided, WorksIn, phase_at, untypes}

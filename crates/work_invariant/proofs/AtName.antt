@@ -26,19 +26,19 @@ use Rattle.call_plans.specs.After.{rule_after, Leads, LeadsIn, with_found, names
 use Rattle.call_plans.proofs.AfterNames.{outcome_left, left_may}
 use Rattle.stage_look.specs.Shown.{CapNames, end_of_frames}
 use Rattle.stage_pins.specs.declared.held.Acquired.{Acquired}
-use Rattle.call_acts.specs.declared.typings.TypingAt.TheVariants.{Load}
-use Rattle.call_acts.specs.declared.untypings.Untyping.{Untyping}
-use Rattle.call_acts.specs.declared.untypings.UntypingAt.TheVariants.{Load as untype_load}
+use Rattle.act_states.specs.declared.typings.TypingAt.TheVariants.{Load}
+use Rattle.act_states.specs.declared.untypings.Untyping.{Untyping}
+use Rattle.act_states.specs.declared.untypings.UntypingAt.TheVariants.{Load as untype_load}
 use Rattle.core_invariant.specs.Sweeps.{UntypesBy}
-use Rattle.call_acts.specs.declared.work.Act.{Act as ActOf}
-use Rattle.call_acts.specs.declared.work.Act.TheVariants.{Retype as type_act, Untype as untype_act}
-use Rattle.call_acts.specs.declared.work.WorkStep.TheVariants.{Goes}
-use Rattle.call_acts.specs.declared.work.Work.TheVariants.{Act}
-use Rattle.call_acts.specs.Acts.{typing_to, types_if, types_at, act_begun}
-use Rattle.call_steps.specs.declared.stages.Stage.TheVariants.{Undecided}
-use Rattle.call_steps.specs.declared.stages.ActiveCall.{ActiveCall}
-use Rattle.call_steps.specs.Steps.{landed, found_more}
-use Rattle.call_steps.specs.View.{Core}
+use Rattle.act_states.specs.declared.work.Act.{Act as ActOf}
+use Rattle.act_states.specs.declared.work.Act.TheVariants.{Retype as type_act, Untype as untype_act}
+use Rattle.act_states.specs.declared.work.WorkStep.TheVariants.{Goes}
+use Rattle.act_states.specs.declared.work.Work.TheVariants.{Act}
+use Rattle.act_states.specs.Acts.{typing_to, types_if, types_at, act_begun}
+use Rattle.call_stages.specs.declared.stages.Stage.TheVariants.{Undecided}
+use Rattle.call_stages.specs.declared.stages.ActiveCall.{ActiveCall}
+use Rattle.call_stages.specs.Steps.{landed, found_more}
+use Rattle.call_stages.specs.View.{Core}
 use Rattle.core_invariant.specs.Holding.{holds_counts}
 use Rattle.core_invariant.specs.Knows.{due_of, TypesBy, NamesAre, phase_at, own_in}
 use Rattle.core_invariant.specs.Stands.{holds_in, Stands}

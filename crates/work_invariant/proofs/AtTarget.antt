@@ -40,13 +40,13 @@ use Rattle.call_plans.specs.declared.plans.Target.TheVariants.{Nowhere, Free, He
 use Rattle.call_plans.specs.Plans.{at_place}
 use Rattle.call_plans.specs.PlanOf.{any_cap, a_root, a_leaf, of_kind, plan_for}
 use Rattle.call_plans.specs.After.{Leads, LeadsIn, names_after}
-use Rattle.call_acts.specs.declared.own.Own.{Own}
-use Rattle.call_acts.specs.declared.objects.NewObject.{NewObject}
-use Rattle.call_acts.specs.declared.objects.NewObject.TheVariants as objects
-use Rattle.call_acts.specs.declared.work.Act.{Act as ActOf}
-use Rattle.call_acts.specs.declared.work.Act.TheVariants.{Outside}
-use Rattle.call_acts.specs.Objects.{object_made}
-use Rattle.call_acts.specs.Acts.{gate_if, gate_to, put_by, reads_of, fills_with, scans, stamp_in, stamp_shown, stamp_of_act, filling, making, making_if, makes_at, act_begun, fills_page, page_cap, mapping, mapping_if, maps_if, made_begun, comp_making, comp_if}
+use Rattle.act_states.specs.declared.own.Own.{Own}
+use Rattle.act_states.specs.declared.objects.NewObject.{NewObject}
+use Rattle.act_states.specs.declared.objects.NewObject.TheVariants as objects
+use Rattle.act_states.specs.declared.work.Act.{Act as ActOf}
+use Rattle.act_states.specs.declared.work.Act.TheVariants.{Outside}
+use Rattle.act_states.specs.Objects.{object_made}
+use Rattle.act_states.specs.Acts.{gate_if, gate_to, put_by, reads_of, fills_with, scans, stamp_in, stamp_shown, stamp_of_act, filling, making, making_if, makes_at, act_begun, fills_page, page_cap, mapping, mapping_if, maps_if, made_begun, comp_making, comp_if}
 use Rattle.core_invariant.specs.Knows.{IsRead, ReadIs, IsSpot, KnowsAct, OutsideBy, is_start, goes_on, HasUser}
 use Rattle.place_invariant.proofs.CompMakes.{IsCompMake, comp_make}
 use Rattle.core_invariant.proofs.Sounds.{limits_of}
@@ -119,7 +119,7 @@ module _ (own : Own) (plan : Plan) (read : Option ℕ) (c : ℕ) (own_core : own
 
   -- it maps a frame
   module _ (p v r f : ℕ) (w : PageFlags) (pages range : Capability) (rest : List Capability) where
-    abbrev map_scan : ActOf → Rattle.call_acts.specs.declared.work.WorkStep.WorkStep
+    abbrev map_scan : ActOf → Rattle.act_states.specs.declared.work.WorkStep.WorkStep
     map_scan act = scans own.core (quiet_scan (stamp_in at.value) own.core own.layout.cores true) act
 
     map_within : (has : Bool) → has_frame (found range) f ≡ has → w.0 < 4
@@ -170,7 +170,7 @@ module _ (own : Own) (plan : Plan) (read : Option ℕ) (c : ℕ) (own_core : own
     abbrev ks : List Capability
     ks = range ∷ rest
 
-    abbrev scan : ActOf → Rattle.call_acts.specs.declared.work.WorkStep.WorkStep
+    abbrev scan : ActOf → Rattle.act_states.specs.declared.work.WorkStep.WorkStep
     scan act = scans own.core (quiet_scan (stamp_in at.value) own.core own.layout.cores false) act
 
     within_is : (has : Bool) → has_frame (found range) f ≡ has
@@ -214,7 +214,7 @@ module _ (own : Own) (plan : Plan) (read : Option ℕ) (c : ℕ) (own_core : own
   abbrev four : List Capability
   four = range ∷ second ∷ table ∷ pages ∷ []
 
-  abbrev comp_scan : ActOf → Rattle.call_acts.specs.declared.work.WorkStep.WorkStep
+  abbrev comp_scan : ActOf → Rattle.act_states.specs.declared.work.WorkStep.WorkStep
   comp_scan act = scans own.core (quiet_scan (stamp_in at.value) own.core own.layout.cores false) act
 
   comp_within : (has : Bool) → has_frame (found range) f ≡ has

@@ -24,8 +24,8 @@ use Rattle.call_plans.specs.declared.plans.Target.TheVariants.{Nowhere, Free, He
 use Rattle.call_plans.specs.Plans.{head}
 use Rattle.call_plans.specs.PlanOf.{plan_for, plan_of_make}
 use Rattle.call_plans.specs.After.{names_after}
-use Rattle.call_acts.specs.Acts.{removes_at, removes_by, act_begun}
-use Rattle.call_acts.specs.declared.own.Own.{Own}
+use Rattle.act_states.specs.Acts.{removes_at, removes_by, act_begun}
+use Rattle.act_states.specs.declared.own.Own.{Own}
 
 -- A target is refused where it has no slot, and one that is to be free where it is held.
 pub vacant_no_slot : (s : State) (c : ℕ) (target : place) → reached s c target ≡ None → vacant s c target ≡ Refused reply.NoSlot

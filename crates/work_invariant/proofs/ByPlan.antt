@@ -44,11 +44,11 @@ use Rattle.call_plans.proofs.Roots.{count_led, pushed_one}
 use Rattle.call_plans.proofs.AfterNames.{leads_by, one_more, NextBy, next_may}
 use Rattle.plan_ways.specs.Laws.{NextPlace, NextRefused}
 use Rattle.plan_ways.proofs.Ways.{next_on_way, next_first}
-use Rattle.call_acts.specs.declared.refusals.Refusal.TheVariants as refusal
-use Rattle.call_acts.specs.declared.lookups.Met.TheVariants.{Finds, Refused as met_refused}
-use Rattle.call_acts.specs.declared.work.Work.TheVariants.{Lookup, Scan}
-use Rattle.call_steps.specs.declared.stages.Stage.TheVariants.{Undecided}
-use Rattle.call_steps.specs.declared.stages.ActiveCall.{ActiveCall}
+use Rattle.act_states.specs.declared.refusals.Refusal.TheVariants as refusal
+use Rattle.act_states.specs.declared.lookups.Met.TheVariants.{Finds, Refused as met_refused}
+use Rattle.act_states.specs.declared.work.Work.TheVariants.{Lookup, Scan}
+use Rattle.call_stages.specs.declared.stages.Stage.TheVariants.{Undecided}
+use Rattle.call_stages.specs.declared.stages.ActiveCall.{ActiveCall}
 use Rattle.spk_nums.specs.declared.kinds.FrameKind.{FrameKind}
 use Rattle.spk_nums.specs.declared.kinds.FrameKind.TheVariants as frame_kind
 use Rattle.spk_nums.specs.declared.kinds.Kind.TheVariants.{Range as range_kind, Comp as comp_kind, Gate as gate_kind}
@@ -57,13 +57,13 @@ use Rattle.work_invariant.proofs.AtName.{IsTypedBy, one_name, ranges_good, looke
 use Rattle.live_invariant.proofs.KillStarts.{kills_good}
 use Rattle.share_invariant.proofs.ShareStarts.{transfers_good, delegates_good, tests_good}
 use Rattle.switch_invariant.proofs.SwitchStarts.{switches_good}
-use Rattle.call_acts.specs.declared.work.WorkStep.TheVariants.{Goes}
+use Rattle.act_states.specs.declared.work.WorkStep.TheVariants.{Goes}
 use Rattle.stage_pins.specs.declared.held.Acquired.{Acquired}
-use Rattle.call_acts.specs.declared.work.Act.{Act as ActOf}
-use Rattle.call_acts.specs.Acts.{reads_of, dues, next_work, scans, starts, stamp_shown, removing, act_begun, fills_page, typing_to}
-use Rattle.call_acts.specs.declared.typings.TypingAt.TheVariants.{Load as type_load}
-use Rattle.call_acts.specs.declared.work.Act.TheVariants.{Retype as type_act}
-use Rattle.call_steps.specs.Fits.{CountsAt, HasRoom}
+use Rattle.act_states.specs.declared.work.Act.{Act as ActOf}
+use Rattle.act_states.specs.Acts.{reads_of, dues, next_work, scans, starts, stamp_shown, removing, act_begun, fills_page, typing_to}
+use Rattle.act_states.specs.declared.typings.TypingAt.TheVariants.{Load as type_load}
+use Rattle.act_states.specs.declared.work.Act.TheVariants.{Retype as type_act}
+use Rattle.call_stages.specs.Fits.{CountsAt, HasRoom}
 use Rattle.core_invariant.specs.Holding.{holds_counts}
 use Rattle.core_invariant.specs.Knows.{due_of, ReadIs, ReadBefore, IsScanned, MayFill, KnowsAct, KnowsQuiet, LooksUp, own_in, HasFound, NamesAre, LooksFor, KnowsUndecided, phase_at, HasFlushed}
 use Rattle.count_invariant.proofs.Acquiring.{knows_next, next_holds, one_apart}
@@ -75,10 +75,10 @@ use Rattle.place_invariant.proofs.Vacancy.{unpaged_flushed, vacant_by}
 use Rattle.stage_quiet.specs.declared.quiet.Quiet.{Quiet}
 use Rattle.stage_quiet.specs.Scan.{quiet_scan}
 use Rattle.kernel_history.specs.Stamps.{clock, stamp}
-use Rattle.call_acts.specs.Lookups.{met_name, met_free, met_held}
-use Rattle.call_steps.specs.Steps.{landed, found_more, next_by as what_next, named_one, took_look, took_found}
-use Rattle.call_steps.proofs.DuesFit.{cap_one}
-use Rattle.call_steps.specs.View.{Core}
+use Rattle.act_states.specs.Lookups.{met_name, met_free, met_held}
+use Rattle.call_stages.specs.Steps.{landed, found_more, next_by as what_next, named_one, took_look, took_found}
+use Rattle.act_fits.proofs.DuesFit.{cap_one}
+use Rattle.call_stages.specs.View.{Core}
 use Rattle.core_invariant.specs.Stands.{holds_at, holds_in, Stands}
 use Rattle.core_invariant.proofs.Carries.{names_on, read_before_on}
 use Rattle.core_invariant.proofs.Loads.{OnlyLooks, next_at, call_is, is_active, loads_on}

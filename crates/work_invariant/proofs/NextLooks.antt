@@ -32,19 +32,19 @@ use Rattle.call_plans.proofs.RootedTargets.{rooted}
 use Rattle.call_plans.proofs.AfterNames.{next_may}
 use Rattle.plan_ways.specs.Laws.{NextRefused}
 use Rattle.plan_ways.proofs.Ways.{next_first}
-use Rattle.call_acts.specs.declared.refusals.Refusal.TheVariants as refusal
-use Rattle.call_acts.specs.declared.work.Work.TheVariants.{Lookup, Read}
-use Rattle.call_steps.specs.declared.stages.Stage.TheVariants.{Undecided}
-use Rattle.call_steps.specs.declared.stages.ActiveCall.{ActiveCall}
-use Rattle.call_acts.specs.declared.work.WorkStep.TheVariants.{Goes}
-use Rattle.call_acts.specs.declared.work.WorkStep.{WorkStep}
-use Rattle.call_acts.specs.WorkSteps.{refuse}
-use Rattle.call_acts.specs.Acts.{reads_of, act_begun}
+use Rattle.act_states.specs.declared.refusals.Refusal.TheVariants as refusal
+use Rattle.act_states.specs.declared.work.Work.TheVariants.{Lookup, Read}
+use Rattle.call_stages.specs.declared.stages.Stage.TheVariants.{Undecided}
+use Rattle.call_stages.specs.declared.stages.ActiveCall.{ActiveCall}
+use Rattle.act_states.specs.declared.work.WorkStep.TheVariants.{Goes}
+use Rattle.act_states.specs.declared.work.WorkStep.{WorkStep}
+use Rattle.act_states.specs.WorkSteps.{refuse}
+use Rattle.act_states.specs.Acts.{reads_of, act_begun}
 use Rattle.core_invariant.specs.Holding.{holds_counts}
 use Rattle.core_invariant.specs.Knows.{ReadIs, ReadBefore, LooksUp, own_in, NamesAre, LooksFor, phase_at}
-use Rattle.call_acts.specs.Lookups.{read_first, looks_under, looks_entry, looks_at, next_step}
-use Rattle.call_steps.specs.Steps.{landed, found_more, next_by as what_next}
-use Rattle.call_steps.specs.View.{Core}
+use Rattle.act_states.specs.Lookups.{read_first, looks_under, looks_entry, looks_at, next_step}
+use Rattle.call_stages.specs.Steps.{landed, found_more, next_by as what_next}
+use Rattle.call_stages.specs.View.{Core}
 use Rattle.core_invariant.specs.Stands.{holds_in, Stands}
 use Rattle.core_invariant.proofs.Loads.{OnlyLooks, core_is, call_is, is_active, loads_on, decides_on, step_to}
 use Rattle.core_invariant.proofs.Refusals.{GoodTook, not_spent}

@@ -32,12 +32,12 @@ use Rattle.call_plans.specs.declared.plans.Plan.{Plan}
 use Rattle.call_plans.specs.PlanOf.{plan_for}
 use Rattle.call_plans.specs.After.{Leads, LeadsIn, Next}
 use Rattle.plan_ways.proofs.Near.{near_found}
-use Rattle.call_acts.specs.declared.work.Work.TheVariants.{Lookup, Read}
-use Rattle.call_acts.specs.Acts.{reads_of}
-use Rattle.call_steps.specs.declared.stages.Stage.TheVariants.{Undecided}
-use Rattle.call_steps.specs.declared.stages.ActiveCall.{ActiveCall}
-use Rattle.call_steps.specs.Steps.{took_read}
-use Rattle.call_steps.specs.View.{Core}
+use Rattle.act_states.specs.declared.work.Work.TheVariants.{Lookup, Read}
+use Rattle.act_states.specs.Acts.{reads_of}
+use Rattle.call_stages.specs.declared.stages.Stage.TheVariants.{Undecided}
+use Rattle.call_stages.specs.declared.stages.ActiveCall.{ActiveCall}
+use Rattle.call_stages.specs.Steps.{took_read}
+use Rattle.call_stages.specs.View.{Core}
 use Rattle.core_invariant.specs.Holding.{settled_by}
 use Rattle.core_invariant.specs.Words.{IsFrameWord, count_room}
 use Rattle.core_invariant.specs.Knows.{HasComp, LooksFor, ReadIs, ReadBefore, KnowsUndecided, phase_at}

@@ -1,4 +1,4 @@
-use Rattle.call_steps.proofs.CoreFitting.{goes_on, decides_on, changes_to}
+use Rattle.call_fits.proofs.CoreFitting.{goes_on, decides_on, changes_to}
 use Rattle.call_steps.proofs.core_state.CoreState.absorb.Goals as goal
 
 pub invariant_of-self : goal.invariant_of-self

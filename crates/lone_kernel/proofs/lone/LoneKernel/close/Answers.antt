@@ -4,7 +4,7 @@ use Rattle.kernel_history.specs.BootWords.{shape_of}
 use Rattle.kernel_history.specs.Counts.{RepresentCounts}
 use Rattle.kernel_history.specs.FinalWords.{Represent, word_in, end_in}
 use Rattle.kernel_history.specs.Trace.{state_after}
-use Rattle.call_steps.specs.Cores.{end_of}
+use Rattle.call_stages.specs.Cores.{end_of}
 use Rattle.lone_kernel.specs.Machine.{fresh_seat, IsFit}
 use Rattle.flight.proofs.Alike.{same_default}
 use Rattle.lone_kernel.proofs.Close.{closes, closes_counts}

@@ -1,0 +1,385 @@
+-- What fits: where a step of the work leads to, what a decision changes, and the counts that an act changes.
+use Rattle.std.proofs.lemmas.Option.{slice_get_within}
+use Rattle.std.proofs.Common.{leb-false, ◌≡◌, ℕ, zero, suc, ℤ, pos, negsuc, ◌≢◌, nat_lt, if◌then◌else◌, ◌+◌, ◌*◌, ◌-◌, slice_get, ◌<◌, ◌≤◌, Bool, true, false, nat_le, IsTrue, ◌==◌, List, [], ◌∷◌, length, Option, Some, None, IfSome, IsSomeAnd, refl, sym, ap, subst, arith, ◌&&◌}
+use Rattle.std.proofs.lemmas.Bool.{leb-true, ltb-true, ltb-false, eqb-true, eqb-false}
+use Rattle.stage_quiet.specs.declared.quiet.Quiet.{Quiet}
+use Rattle.stage_quiet.specs.Scan.{QuietFits, first_other, flush_scan, core_scan, quiet_scan}
+use Rattle.stage_pins.specs.declared.held.Acquired.{Acquired}
+use Rattle.spk_nums.specs.Capability.{Capability}
+use Rattle.spk_nums.specs.CallLimits.{InLimits, MakeInLimits}
+use Rattle.spk_nums.specs.declared.kinds.Kind.{Kind}
+use Rattle.spk_nums.specs.declared.kinds.Kind.TheVariants.{Range, Table, Pages, Comp as KindComp}
+use Rattle.spk_nums.specs.declared.kinds.Kind.TheVariants as kind
+use Rattle.spk_nums.specs.declared.calls.Call.{Call}
+use Rattle.spk_nums.specs.declared.calls.Call.TheVariants.{Look as look_call, Copy, Remove, Shrink, Unmap, Retype, Make as make_call, Tick, Gate, Kill, Grow, Flush, Map, Call as call_gate, Ret, Switch, Transfer, Delegate, Test}
+use Rattle.entry_words.specs.declared.entry.Entry.{Entry}
+use Rattle.entry_words.specs.declared.entry.Entry.TheVariants as entry
+use Rattle.word_map.specs.Places.{Shape}
+use Rattle.kernel_rules.specs.Access.{Named, found, only, root, Target as place, Under as place_under, InRoot as place_in}
+use Rattle.stage_look.specs.Shown.{end_of_frames, CapNames, EntryNames}
+use Rattle.stage_look.specs.Lookup.{FoundFits as PlaceFits}
+use Rattle.stage_look.specs.declared.look.Found.{Found}
+use Rattle.call_plans.specs.declared.plans.Nth.TheVariants.{First, Second, Third, Fourth}
+use Rattle.call_plans.specs.declared.plans.Name.{Name}
+use Rattle.call_plans.specs.declared.plans.Spot.{Spot}
+use Rattle.call_plans.specs.declared.plans.Spot.TheVariants.{Under, InRoot}
+use Rattle.call_plans.specs.declared.plans.Target.{Target}
+use Rattle.call_plans.specs.declared.plans.Target.TheVariants.{Nowhere, Free, Held, Own as own_page}
+use Rattle.call_plans.specs.declared.plans.Plan.{Plan}
+use Rattle.call_plans.specs.Plans.{at_place}
+use Rattle.call_plans.specs.PlanOf.{plan_for}
+use Rattle.call_plans.specs.GoesBy.{earlier, place_of}
+use Rattle.call_plans.specs.After.{with_found, names_after, Leads, next_in}
+use Rattle.call_plans.specs.Bounds.{look_steps, retype_steps, make_steps, act_steps}
+use Rattle.call_plans.specs.Rooted.{root_of, WantsRoot, IsRooted}
+use Rattle.call_plans.proofs.Roots.{earlier_is, Led, nth_led}
+use Rattle.call_plans.proofs.RootedTargets.{rooted}
+use Rattle.spk_nums.specs.declared.kinds.PageFlags.{PageFlags}
+use Rattle.spk_nums.specs.declared.kinds.FrameKind.{FrameKind}
+use Rattle.spk_nums.specs.declared.kinds.FrameKind.TheVariants.{Untyped, User, Kernel}
+use Rattle.kernel_rules.specs.CapabilityCalls.{leaf_of, has_frame}
+use Rattle.spk_nums.specs.declared.calls.Make.{Make}
+use Rattle.spk_nums.specs.declared.calls.Make.TheVariants as make
+use Rattle.act_states.specs.declared.objects.NewObject.{NewObject}
+use Rattle.act_states.specs.declared.objects.NewObject.TheVariants.{Table as NewTable, Leaf as NewLeaf, Pages as NewPages, Pleaf as NewPleaf, Thread as NewThread, Tcap as NewTcap}
+use Rattle.act_states.specs.Objects.{object_cap, object_made, object_dues, counts_of, last_word, thread_on, NamesFit, ObjectFits}
+use Rattle.act_states.specs.declared.makings.MakingAt.{MakingAt}
+use Rattle.act_states.specs.declared.makings.MakingAt.TheVariants.{Load as make_load, Mark, Store, Fill as fill_at}
+use Rattle.act_states.specs.declared.kills.KillingAt.{KillingAt}
+use Rattle.act_states.specs.declared.kills.KillingAt.TheVariants.{LoadComp, LoadLive, Close as kill_close, Draw as kill_draw}
+use Rattle.act_states.specs.declared.own.Own.{Own}
+use Rattle.act_states.specs.declared.own.OwnChange.{OwnChange}
+use Rattle.act_states.specs.declared.own.OwnChange.TheVariants.{Ticks, Works, Empties, Switches, Caches}
+use Rattle.act_states.specs.declared.invocations.InvokingAt.{InvokingAt}
+use Rattle.act_states.specs.declared.invocations.InvokingAt.TheVariants as invoking
+use Rattle.act_states.specs.declared.invocations.ReturningAt.{ReturningAt}
+use Rattle.act_states.specs.declared.invocations.ReturningAt.TheVariants as returning
+use Rattle.act_states.specs.declared.work.Act.{Act as ActType}
+use Rattle.act_states.specs.declared.work.Act.TheVariants.{Fill as fill_act, Remove as remove_act, Retype as type_act, Make as make_act, Outside, Tick as tick_act, Kill as kill_act, Flush as flush_act, Untype as untype_act, Map as map_act, MakeComp as comp_act, Invoke as invoke_act, Return as return_act, Switch as switch_act, Touch as touch_act, Share as share_act}
+use Rattle.act_states.specs.declared.work.Work.TheVariants.{Lookup}
+use Rattle.act_states.specs.declared.work.WorkStep.{WorkStep}
+use Rattle.act_states.specs.declared.work.WorkStep.TheVariants.{Goes, Acquires, Refuses, Answers, Changes}
+use Rattle.act_states.specs.declared.work.Due.{Due}
+use Rattle.act_states.specs.Acts.{ActFits, act_left, looked, cap_dues, dues, acquires, scans, stamp_in, filling, fills_with, removing, removes_held, removes_at, types_if, types_at, gate_if, gate_to, frame_named, reads_of, made_dues, starts, making, making_if, makes_in, makes_at, act_begun, next_work, killing_dues, kills_in, kills_at, link_to, is_pages, page_cap, mapping, mapping_if, maps_if, maps_at, comp_making, comp_if, comps_in, comps_at, made_begun, invoking_dues, returning_dues, invokes_in, invokes_if, invokes_at, returns_if, returns_at, switches_at}
+use Rattle.act_states.specs.declared.untypings.UntypingAt.{UntypingAt}
+use Rattle.act_states.specs.declared.untypings.UntypingAt.TheVariants as untype
+use Rattle.act_states.specs.Untypings.{UntypingAtFits, released_dues, untyping_dues}
+use Rattle.act_states.specs.Comps.{comp_dues}
+use Rattle.act_states.specs.declared.switches.Switching.{Switching}
+use Rattle.act_states.specs.declared.switches.SwitchAt.{SwitchAt}
+use Rattle.act_states.specs.declared.switches.SwitchAt.TheVariants as switch_at
+use Rattle.act_states.specs.Switches.{SwitchAtFits, SwitchingFits, tcap_dues, switch_due_list, switching_dues}
+use Rattle.stage_thread.specs.declared.claim.Claimed.{Claimed}
+use Rattle.stage_tcap.specs.declared.pair.PairAt.TheVariants.{LoadA}
+use Rattle.stage_tcap.specs.declared.pair.PairWork.{PairWork}
+use Rattle.stage_tcap.specs.declared.pair.PairWork.TheVariants as share
+use Rattle.act_states.specs.Shares.{share_left, shares_if, shares_at}
+use Rattle.act_states.specs.Scans.{ScanFits, left_of_scan, left_of_cores}
+use Rattle.act_states.specs.declared.comps.CompAt.{CompAt}
+use Rattle.act_states.specs.declared.comps.CompAt.TheVariants as comp_at_as
+use Rattle.act_states.specs.declared.comps.CompMaking.{CompMaking}
+use Rattle.act_states.specs.Touches.{touches_if}
+use Rattle.call_stages.specs.Tails.{tail_left}
+use Rattle.act_states.specs.Lookups.{looks_under, looks_entry, looks_at, read_first, next_step}
+use Rattle.call_stages.specs.Fits.{WorkFits, TailFits, IsWanted, FoundFits, CountsWait, looks_later, after_reading, acts_later, work_left, IsOwn}
+use Rattle.act_fits.proofs.NamedFit.{TwoNamed, ObjectNamed}
+
+-- what a decision changes of what its core has of its own is of the machine
+abbrev pub ChangeFits : Shape → OwnChange → Type 0
+ChangeFits s (Ticks charged owed) = Unit {0}
+ChangeFits s Empties = Unit {0}
+ChangeFits s (Caches item) = Unit {0}
+ChangeFits s (Works comp table pages depth) = (comp < s.frames) × (table < s.frames) × (pages < s.frames) × (1 ≤ depth) × (depth ≤ 16)
+ChangeFits s (Switches thread depth comp table pages tcap) =
+    (thread < s.frames) × (1 ≤ depth) × (depth ≤ 16) × (comp < s.frames) × (table < s.frames) × (pages < s.frames) × (tcap < s.frames)
+
+-- where a step of the work leads to fits, where so many counts are acquired, and leaves at most so many steps before these are
+-- committed; it acquires none
+abbrev pub StepFits : Shape → List Acquired → ℕ → ℕ → WorkStep → Type 0
+StepFits s counts later most (Goes work) =
+    WorkFits s work × (work_left s.cores later (length counts) work ≤ most) × CountsWait counts work
+StepFits s counts later most (Acquires count work) = ⊥
+StepFits s counts later most (Refuses r tail) = (tail_left tail ≤ most) × TailFits s tail
+StepFits s counts later most (Answers v drawn tail) = (tail_left tail ≤ most) × TailFits s tail
+StepFits s counts later most (Changes r change drawn tail) = (tail_left tail ≤ most) × TailFits s tail × ChangeFits s change
+
+-- a capability has one count due at most
+pub cap_one : (kind : Kind) (frame arg : ℕ) (change : ℤ) → length (cap_dues (record { kind = kind; frame = frame; arg = arg }) change) ≤ 1
+cap_one Range frame arg change = omega arith
+cap_one kind frame arg change = omega arith
+
+-- an object has so many due
+pub object_count : (object : NewObject) (f : ℕ) → length (object_dues object f) ≡ counts_of object
+object_count NewTable f = refl
+object_count NewLeaf f = refl
+object_count NewPages f = refl
+object_count NewPleaf f = refl
+object_count (NewThread comp) f = refl
+object_count (NewTcap sched quality) f = refl
+
+pub invoking_one : (f : ℕ) (at : InvokingAt) → length (invoking_dues f at) ≤ 1
+invoking_one f invoking.LoadTable = omega arith
+invoking_one f (invoking.LoadPages table) = omega arith
+invoking_one f (invoking.LoadComp table pages) = omega arith
+invoking_one f (invoking.LoadLive table pages life) = omega arith
+
+pub returning_one : (f : ℕ) (at : ReturningAt) → length (returning_dues f at) ≤ 1
+returning_one f returning.LoadBelow = omega arith
+returning_one f (returning.LoadTable comp) = omega arith
+returning_one f (returning.LoadPages comp table) = omega arith
+returning_one f (returning.Draw comp table pages) = omega arith
+
+pub killing_one : (f : ℕ) (at : KillingAt) → length (killing_dues f at) ≤ 1
+killing_one f LoadComp = omega arith
+killing_one f (LoadLive life) = omega arith
+killing_one f (kill_close life word) = omega arith
+killing_one f (kill_draw life word) = omega arith
+
+pub comp_few : (m : CompMaking) (at : CompAt) → length (comp_dues m at) ≤ 3
+comp_few m comp_at_as.Load = omega arith
+comp_few m (comp_at_as.Mark word) = omega arith
+comp_few m (comp_at_as.LoadLive word) = omega arith
+comp_few m (comp_at_as.Scan word last q) = omega arith
+comp_few m (comp_at_as.Close word last) = omega arith
+comp_few m (comp_at_as.Store word last entry) = omega arith
+comp_few m (comp_at_as.Fill word last) = omega arith
+
+pub counts_few : (object : NewObject) → counts_of object ≤ 4
+counts_few NewTable = omega arith
+counts_few NewLeaf = omega arith
+counts_few NewPages = omega arith
+counts_few NewPleaf = omega arith
+counts_few (NewThread comp) = omega arith
+counts_few (NewTcap sched quality) = omega arith
+
+pub made_few : (object : NewObject) (f : ℕ) (at : MakingAt) → length (made_dues object f at) ≤ 4
+made_few object f make_load = omega arith
+made_few object f (Mark word) = omega arith
+made_few object f (Store word entry) = let many = object_count object f in let few = counts_few object in omega (arith, many, few)
+made_few object f (fill_at word) = let many = object_count object f in let few = counts_few object in omega (arith, many, few)
+
+pub last_small : (object : NewObject) → last_word object < 64
+last_small NewTable = omega arith
+last_small NewLeaf = omega arith
+last_small NewPages = omega arith
+last_small NewPleaf = omega arith
+last_small (NewThread comp) = omega arith
+last_small (NewTcap sched quality) = omega arith
+
+pub released_few : (f g : Option ℕ) → length (released_dues f g) ≤ 2
+released_few None None = omega arith
+released_few None (Some g) = omega arith
+released_few (Some f) None = omega arith
+released_few (Some f) (Some g) = omega arith
+
+pub untyped_few : (at : UntypingAt) → length (untyping_dues at) ≤ 2
+untyped_few untype.Load = omega arith
+untyped_few (untype.Mark word v) = omega arith
+untyped_few (untype.Sweep word w) = omega arith
+untyped_few (untype.Draw word w) = released_few w.owned.first w.owned.second
+
+pub tcaps_few : (same : Bool) (q old : ℕ) → length (tcap_dues same q old) ≤ 2
+tcaps_few true q old = omega arith
+tcaps_few false q old = omega arith
+
+pub switching_few : (m : Switching) (at : SwitchAt) → length (switching_dues m at) ≤ 4
+switching_few m (switch_at.Claim claim) = omega arith
+switching_few m (switch_at.LoadTable to) = omega arith
+switching_few m (switch_at.LoadPages to table) = omega arith
+switching_few m (switch_at.Leave to table pages) =
+    let two : length (tcap_dues (m.tcap == m.old_tcap) m.tcap m.old_tcap) ≤ 2 = tcaps_few (m.tcap == m.old_tcap) m.tcap m.old_tcap in
+    omega (arith, two)
+switching_few m (switch_at.Draw to table pages) =
+    let two : length (tcap_dues (m.tcap == m.old_tcap) m.tcap m.old_tcap) ≤ 2 = tcaps_few (m.tcap == m.old_tcap) m.tcap m.old_tcap in
+    omega (arith, two)
+
+-- an act changes four counts at most
+pub few_dues : (act : ActType) → length (dues act) ≤ 4
+few_dues (fill_act fill) = let one = cap_one fill.cap.kind fill.cap.frame fill.cap.arg (pos 1) in omega (arith, one)
+few_dues (remove_act close cap) = let one = cap_one cap.kind cap.frame cap.arg (negsuc 0) in omega (arith, one)
+few_dues (type_act typing) = omega arith
+few_dues (make_act m) = made_few m.object m.frame m.at
+few_dues (map_act fill) = let one = cap_one fill.cap.kind fill.cap.frame fill.cap.arg (pos 1) in omega (arith, one)
+few_dues (Outside node entry word) = omega arith
+few_dues (tick_act charge) = omega arith
+few_dues (touch_act m) = omega arith
+few_dues (flush_act core) = omega arith
+few_dues (kill_act m) = let one = killing_one m.comp m.at in omega (arith, one)
+few_dues (untype_act m) = let two = untyped_few m.at in omega (arith, two)
+few_dues (share_act p) = omega arith
+few_dues (comp_act m) = let few = comp_few m m.at in omega (arith, few)
+few_dues (invoke_act m) = let one = invoking_one m.comp m.at in omega (arith, one)
+few_dues (return_act m) = let one = returning_one m.top m.at in omega (arith, one)
+few_dues (switch_act m) = switching_few m m.at
+
+-- the counts that an act changes are of frames of the machine
+abbrev pub DueFits : Shape → Option Due → Type 0
+DueFits s None = Unit {0}
+DueFits s (Some due) = due.frame < s.frames
+
+pub cap_fit : (s : Shape) (kind : Kind) (frame arg : ℕ) (change : ℤ) (n : ℕ)
+    → CapNames s.frames (record { kind = kind; frame = frame; arg = arg })
+    → DueFits s (slice_get (cap_dues (record { kind = kind; frame = frame; arg = arg }) change) n)
+cap_fit s Range frame arg change n names = tt
+cap_fit s kind frame arg change zero names = omega arith
+cap_fit s kind frame arg change (suc n) names = tt
+
+pub object_fit : (s : Shape) (object : NewObject) (f n : ℕ) → f < s.frames → NamesFit s.frames object
+    → DueFits s (slice_get (object_dues object f) n)
+object_fit s object f zero below names = below
+object_fit s NewTable f (suc n) below names = tt
+object_fit s NewLeaf f (suc n) below names = tt
+object_fit s NewPages f (suc n) below names = tt
+object_fit s NewPleaf f (suc n) below names = tt
+object_fit s (NewThread comp) f (suc zero) below names = names
+object_fit s (NewThread comp) f (suc (suc n)) below names = tt
+object_fit s (NewTcap sched quality) f (suc n) below names = tt
+
+pub made_fit : (s : Shape) (object : NewObject) (f : ℕ) (at : MakingAt) (n : ℕ) → f < s.frames → NamesFit s.frames object
+    → DueFits s (slice_get (made_dues object f at) n)
+made_fit s object f make_load zero below names = tt
+made_fit s object f make_load (suc n) below names = tt
+made_fit s object f (Mark word) zero below names = tt
+made_fit s object f (Mark word) (suc n) below names = tt
+made_fit s object f (Store word entry) n below names = object_fit s object f n below names
+made_fit s object f (fill_at word) n below names = object_fit s object f n below names
+
+pub killing_fit : (s : Shape) (f : ℕ) (at : KillingAt) (n : ℕ) → f < s.frames → DueFits s (slice_get (killing_dues f at) n)
+killing_fit s f LoadComp zero below = tt
+killing_fit s f LoadComp (suc n) below = tt
+killing_fit s f (LoadLive life) zero below = tt
+killing_fit s f (LoadLive life) (suc n) below = tt
+killing_fit s f (kill_close life word) zero below = below
+killing_fit s f (kill_close life word) (suc n) below = tt
+killing_fit s f (kill_draw life word) zero below = below
+killing_fit s f (kill_draw life word) (suc n) below = tt
+
+pub released_fit : (s : Shape) (f g : Option ℕ) (n : ℕ) → IfSome f (λ x. x < s.frames) → IfSome g (λ x. x < s.frames)
+    → DueFits s (slice_get (released_dues f g) n)
+released_fit s None None zero first second = tt
+released_fit s None None (suc n) first second = tt
+released_fit s None (Some g) zero first second = second
+released_fit s None (Some g) (suc n) first second = tt
+released_fit s (Some f) None zero first second = first
+released_fit s (Some f) None (suc n) first second = tt
+released_fit s (Some f) (Some g) zero first second = first
+released_fit s (Some f) (Some g) (suc zero) first second = second
+released_fit s (Some f) (Some g) (suc (suc n)) first second = tt
+
+pub untyped_fit : (s : Shape) (at : UntypingAt) (n : ℕ) → UntypingAtFits s at → DueFits s (slice_get (untyping_dues at) n)
+untyped_fit s untype.Load zero fits = tt
+untyped_fit s untype.Load (suc n) fits = tt
+untyped_fit s (untype.Mark word v) zero fits = tt
+untyped_fit s (untype.Mark word v) (suc n) fits = tt
+untyped_fit s (untype.Sweep word w) zero fits = tt
+untyped_fit s (untype.Sweep word w) (suc n) fits = tt
+untyped_fit s (untype.Draw word w) n fits = released_fit s w.owned.first w.owned.second n fits.owned.first fits.owned.second
+
+pub three_fit : (s : Shape) (m : CompMaking) (n : ℕ) → m.frame < s.frames → m.table < s.frames → m.pages < s.frames
+    → DueFits s (slice_get (comp_dues m (comp_at_as.LoadLive 0)) n)
+three_fit s m zero frame table pages = frame
+three_fit s m (suc zero) frame table pages = table
+three_fit s m (suc (suc zero)) frame table pages = pages
+three_fit s m (suc (suc (suc n))) frame table pages = tt
+
+pub comp_fit : (s : Shape) (m : CompMaking) (at : CompAt) (n : ℕ) → m.frame < s.frames → m.table < s.frames → m.pages < s.frames
+    → DueFits s (slice_get (comp_dues m at) n)
+comp_fit s m comp_at_as.Load zero frame table pages = tt
+comp_fit s m comp_at_as.Load (suc n) frame table pages = tt
+comp_fit s m (comp_at_as.Mark word) zero frame table pages = tt
+comp_fit s m (comp_at_as.Mark word) (suc n) frame table pages = tt
+comp_fit s m (comp_at_as.LoadLive word) n frame table pages = three_fit s m n frame table pages
+comp_fit s m (comp_at_as.Scan word last q) n frame table pages = three_fit s m n frame table pages
+comp_fit s m (comp_at_as.Close word last) n frame table pages = three_fit s m n frame table pages
+comp_fit s m (comp_at_as.Store word last entry) n frame table pages = three_fit s m n frame table pages
+comp_fit s m (comp_at_as.Fill word last) n frame table pages = three_fit s m n frame table pages
+
+pub invoking_fit : (s : Shape) (f : ℕ) (at : InvokingAt) (n : ℕ) → f < s.frames → DueFits s (slice_get (invoking_dues f at) n)
+invoking_fit s f invoking.LoadTable zero below = tt
+invoking_fit s f invoking.LoadTable (suc n) below = tt
+invoking_fit s f (invoking.LoadPages table) zero below = tt
+invoking_fit s f (invoking.LoadPages table) (suc n) below = tt
+invoking_fit s f (invoking.LoadComp table pages) zero below = tt
+invoking_fit s f (invoking.LoadComp table pages) (suc n) below = tt
+invoking_fit s f (invoking.LoadLive table pages life) zero below = below
+invoking_fit s f (invoking.LoadLive table pages life) (suc n) below = tt
+
+pub returning_fit : (s : Shape) (f : ℕ) (at : ReturningAt) (n : ℕ) → f < s.frames → DueFits s (slice_get (returning_dues f at) n)
+returning_fit s f returning.LoadBelow zero below = tt
+returning_fit s f returning.LoadBelow (suc n) below = tt
+returning_fit s f (returning.LoadTable comp) zero below = tt
+returning_fit s f (returning.LoadTable comp) (suc n) below = tt
+returning_fit s f (returning.LoadPages comp table) zero below = tt
+returning_fit s f (returning.LoadPages comp table) (suc n) below = tt
+returning_fit s f (returning.Draw comp table pages) zero below = below
+returning_fit s f (returning.Draw comp table pages) (suc n) below = tt
+
+pub tcaps_fit : (s : Shape) (same : Bool) (q old n : ℕ) → q < s.frames → old < s.frames → DueFits s (slice_get (tcap_dues same q old) n)
+tcaps_fit s true q old zero to from = tt
+tcaps_fit s true q old (suc n) to from = tt
+tcaps_fit s false q old zero to from = to
+tcaps_fit s false q old (suc zero) to from = from
+tcaps_fit s false q old (suc (suc n)) to from = tt
+
+pub switch_list_fits : (s : Shape) (m : Switching) (to : Claimed) (n : ℕ) → SwitchingFits s m → to.thread < s.frames
+    → DueFits s (slice_get (switch_due_list m to) n)
+switch_list_fits s m to zero fits below = below
+switch_list_fits s m to (suc zero) fits below = fits.old
+switch_list_fits s m to (suc (suc n)) fits below =
+    tcaps_fit s (m.tcap == m.old_tcap) m.tcap m.old_tcap n fits.tcap fits.old_tcap
+
+pub switching_fit : (s : Shape) (m : Switching) (at : SwitchAt) (n : ℕ) → SwitchingFits s m → SwitchAtFits s at
+    → DueFits s (slice_get (switching_dues m at) n)
+switching_fit s m (switch_at.Claim claim) zero fits there = tt
+switching_fit s m (switch_at.Claim claim) (suc n) fits there = tt
+switching_fit s m (switch_at.LoadTable to) zero fits there = tt
+switching_fit s m (switch_at.LoadTable to) (suc n) fits there = tt
+switching_fit s m (switch_at.LoadPages to table) zero fits there = tt
+switching_fit s m (switch_at.LoadPages to table) (suc n) fits there = tt
+switching_fit s m (switch_at.Leave to table pages) n fits there = switch_list_fits s m to n fits there.0.thread
+switching_fit s m (switch_at.Draw to table pages) n fits there = switch_list_fits s m to n fits there.0.thread
+
+pub dues_fit : (s : Shape) (act : ActType) (n : ℕ) → ActFits s act → DueFits s (slice_get (dues act) n)
+dues_fit s (fill_act fill) n fits = cap_fit s fill.cap.kind fill.cap.frame fill.cap.arg (pos 1) n fits.cap
+dues_fit s (remove_act close cap) n fits = cap_fit s cap.kind cap.frame cap.arg (negsuc 0) n fits.1
+dues_fit s (type_act typing) zero fits = tt
+dues_fit s (type_act typing) (suc n) fits = tt
+dues_fit s (make_act m) n fits = made_fit s m.object m.frame m.at n fits.frame fits.object.names
+dues_fit s (map_act fill) n fits = cap_fit s fill.cap.kind fill.cap.frame fill.cap.arg (pos 1) n fits.0.cap
+dues_fit s (Outside node entry word) zero fits = tt
+dues_fit s (Outside node entry word) (suc n) fits = tt
+dues_fit s (tick_act charge) zero fits = tt
+dues_fit s (tick_act charge) (suc n) fits = tt
+dues_fit s (touch_act m) zero fits = tt
+dues_fit s (touch_act m) (suc n) fits = tt
+dues_fit s (share_act p) zero fits = tt
+dues_fit s (share_act p) (suc n) fits = tt
+dues_fit s (flush_act core) zero fits = tt
+dues_fit s (flush_act core) (suc n) fits = tt
+dues_fit s (kill_act m) n fits = killing_fit s m.comp m.at n fits.comp
+dues_fit s (untype_act m) n fits = untyped_fit s m.at n fits.at
+dues_fit s (comp_act m) n fits = comp_fit s m m.at n fits.frame fits.table fits.pages
+dues_fit s (invoke_act m) n fits = invoking_fit s m.comp m.at n fits.comp
+dues_fit s (return_act m) n fits = returning_fit s m.top m.at n fits.top
+dues_fit s (switch_act m) n fits = switching_fit s m m.at n fits fits.at
+
+-- what a core does for an act of whose counts it has acquired so many
+pub work_next : (s : Shape) (later core n : ℕ) (act : ActType) (o : Option Due) → slice_get (dues act) n ≡ o → core < s.cores
+    → ActFits s act
+    → WorkFits s (acquires core act o) × (work_left s.cores later n (acquires core act o) ≤ 3 * (length (dues act) - n) + act_left s.cores act)
+work_next s later core n act None is here fits = (fits, omega arith)
+work_next s later core n act (Some due) is here fits =
+    let some : n < length (dues act) = slice_get_within (dues act) n due is in
+    (((subst (DueFits s) is (dues_fit s act n fits), here), fits), omega arith)
+
+pub past_none : (xs : List Due) (i : ℕ) → slice_get xs i ≡ None → length xs ≤ i
+past_none [] i h = omega arith
+past_none (x ∷ xs) zero h = absurd (cc)
+past_none (x ∷ xs) (suc i) h = let more = past_none xs i h in omega arith
+
+pub counts_next : (core n : ℕ) (counts : List Acquired) (act : ActType) (o : Option Due) → slice_get (dues act) n ≡ o → n ≡ length counts
+    → n ≤ length (dues act) → CountsWait counts (acquires core act o)
+counts_next core n counts act None is same most =
+    let past : length (dues act) ≤ n = past_none (dues act) n is in
+    omega arith
+counts_next core n counts act (Some due) is same most = subst (λ (m : ℕ). m < length (dues act)) same (slice_get_within (dues act) n due is)

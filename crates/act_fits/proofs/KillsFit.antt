@@ -1,0 +1,85 @@
+-- Where the steps of a killing lead to fits its machine, and leaves fewer steps.
+use Rattle.std.proofs.Common.{◌≡◌, ℕ, ◌+◌, ◌==◌, ◌<◌, ◌≤◌, Bool, true, false, length, Option, Some, None, refl, sym, subst, arith, slice_get}
+use Rattle.frame_words.specs.Comp.{comp_of_word}
+use Rattle.frame_words.specs.Live.{live_of_word}
+use Rattle.frame_words.specs.declared.comp_word.CompWord.{CompWord}
+use Rattle.frame_words.specs.declared.live_word.LiveWord.{LiveWord}
+use Rattle.frame_words.specs.declared.live_word.LiveWord.TheVariants as live
+use Rattle.frame_words.proofs.CompLemmas as comps
+use Rattle.stage_quiet.specs.Clocks.{drawn_stamp}
+use Rattle.act_states.specs.declared.refusals.Refusal.{Refusal}
+use Rattle.act_states.specs.declared.refusals.Refusal.TheVariants as refusal
+use Rattle.act_states.specs.declared.kills.Killing.{Killing}
+use Rattle.act_states.specs.declared.kills.KillingAt.{KillingAt}
+use Rattle.act_states.specs.declared.kills.KillingAt.TheVariants.{LoadComp, LoadLive, Close, Draw}
+use Rattle.act_states.specs.Kills.{KillingFits, killing_left}
+use Rattle.act_states.specs.WorkSteps.{refuse}
+use Rattle.act_states.specs.Acts.{dues, killing_dues, next_work, meets_comp, meets_live, meets_number, meets_life, closes_if, drawn_dead, took_killing_at}
+use Rattle.act_states.specs.declared.own.Own.{Own}
+use Rattle.act_states.specs.declared.work.Act.{Act as ActType}
+use Rattle.act_states.specs.declared.work.Act.TheVariants.{Kill as kill_act}
+use Rattle.act_states.specs.declared.work.Work.TheVariants.{Act}
+use Rattle.act_states.specs.declared.work.WorkStep.TheVariants.{Goes}
+use Rattle.call_stages.specs.declared.stages.ActiveCall.{ActiveCall}
+use Rattle.call_stages.specs.Steps.{landed}
+use Rattle.call_stages.specs.Fits.{steps_later, work_left}
+use Rattle.act_fits.proofs.DuesFit.{work_next, counts_next}
+use Rattle.act_fits.proofs.LandsFit.{TookFits, Facts, landed_fits}
+
+-- a killing that stands elsewhere fits where that does
+stands_at : (own : Own) (m : Killing) (at next : KillingAt) → KillingFits own.layout (record m { at = at })
+    → Rattle.act_states.specs.Kills.KillingAtFits next → KillingFits own.layout (record m { at = next })
+stands_at own m at next fits there = record { comp = fits.comp; core = fits.core; at = there }
+
+module _ (own : Own) (a : ActiveCall) (facts : Facts own a) (room : own.made < own.limit) where
+  refused : (left : ℕ) (r : Refusal) → 2 + length a.counts < left → TookFits own left a (landed a (refuse r))
+  refused left r some =
+      landed_fits own a a refl refl refl facts.found facts.acquired room 0 left (refuse r) (omega arith, tt) (omega arith)
+
+  pub kill_fits : (m : Killing) (at : KillingAt) (found : ℕ) → KillingFits own.layout (record m { at = at })
+      → length a.counts ≡ length (killing_dues m.comp at)
+      → TookFits own (2 + length a.counts + killing_left at) a (landed a (took_killing_at m at found))
+  kill_fits m LoadComp found fits waits = by (comp_of_word found) refl
+    where
+      by : (o : Option CompWord) → comp_of_word found ≡ o → TookFits own (2 + length a.counts + 8) a (landed a (meets_comp m o))
+      by None is = refused _ refusal.Raced (omega arith)
+      by (Some life) is = landed_fits own a a refl refl refl facts.found facts.acquired room 7 _
+          (Goes (Act (kill_act (record m { at = LoadLive life }))))
+          (stands_at own m LoadComp (LoadLive life) fits (comps.spelling.spells found life is).0, omega arith, waits) (omega arith)
+  kill_fits m (LoadLive life) found fits waits = by (live_of_word found)
+    where
+      lives : (same : Bool) → TookFits own (2 + length a.counts + 7) a (landed a (meets_life m life found same))
+      lives true =
+          let act : ActType = kill_act (record m { at = Close life found }) in
+          let next = work_next own.layout (steps_later own.layout.cores a) m.core 0 act (slice_get (dues act) 0) refl fits.core
+          (stands_at own m (LoadLive life) (Close life found) fits fits.at) in
+          landed_fits own a a refl refl refl facts.found facts.acquired room 6 _ (Goes (next_work m.core 0 act)) (
+            next.0,
+            subst (λ (n : ℕ). work_left own.layout.cores (steps_later own.layout.cores a) n (next_work m.core 0 act) ≤ 6) (sym waits)
+                (let fewer = next.1 in omega arith),
+            counts_next m.core 0 a.counts act (slice_get (dues act) 0) refl (sym waits) (omega arith),
+          ) (omega arith)
+      lives false = refused _ refusal.Dead (omega arith)
+
+      number : (v : LiveWord) → TookFits own (2 + length a.counts + 7) a (landed a (meets_number m life found v))
+      number live.Free = refused _ refusal.Dead (omega arith)
+      number (live.Live epoch f) = lives (epoch == life.epoch)
+      number (live.Closing epoch by) = refused _ (refusal.Busy by) (omega arith)
+      number (live.Dead epoch stamp) = refused _ refusal.Dead (omega arith)
+
+      by : (o : Option LiveWord) → TookFits own (2 + length a.counts + 7) a (landed a (meets_live m life found o))
+      by None = refused _ refusal.Raced (omega arith)
+      by (Some v) = number v
+  kill_fits m (Close life word) found fits waits = by (found == word)
+    where
+      by : (equal : Bool) → TookFits own (2 + length a.counts + 3) a (landed a (closes_if m life word equal))
+      by true = landed_fits own a a refl refl refl facts.found facts.acquired room 2 _
+          (Goes (Act (kill_act (record m { at = Draw life word }))))
+          (stands_at own m (Close life word) (Draw life word) fits fits.at, omega arith, waits) (omega arith)
+      by false = refused _ refusal.Raced (omega arith)
+  kill_fits m (Draw life word) found fits waits =
+      landed_fits own a a refl refl refl facts.found facts.acquired room 1 _ (drawn_dead life (drawn_stamp found))
+      (omega arith, (fits.at, some_stamp)) (omega arith)
+    where
+      some_stamp : 1 ≤ drawn_stamp found
+      some_stamp = omega arith

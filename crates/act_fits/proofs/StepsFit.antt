@@ -1,0 +1,740 @@
+-- Where a step of a call's work leads to fits its machine, and how many steps it leaves at most.
+use Rattle.std.proofs.lemmas.Option.{slice_get_within}
+use Rattle.std.proofs.Common.{leb-false, ◌≡◌, ℕ, zero, suc, ℤ, pos, negsuc, ◌≢◌, nat_lt, if◌then◌else◌, ◌+◌, ◌*◌, ◌-◌, slice_get, ◌<◌, ◌≤◌, Bool, true, false, nat_le, IsTrue, ◌==◌, List, [], ◌∷◌, length, Option, Some, None, IfSome, IsSomeAnd, refl, sym, ap, subst, arith, ◌&&◌}
+use Rattle.std.proofs.lemmas.Bool.{leb-true, ltb-true, ltb-false, eqb-true, eqb-false}
+use Rattle.stage_quiet.specs.declared.quiet.Quiet.{Quiet}
+use Rattle.stage_quiet.specs.Scan.{QuietFits, first_other, flush_scan, core_scan, quiet_scan}
+use Rattle.stage_pins.specs.declared.held.Acquired.{Acquired}
+use Rattle.spk_nums.specs.Capability.{Capability}
+use Rattle.spk_nums.specs.CallLimits.{InLimits, MakeInLimits}
+use Rattle.spk_nums.specs.declared.kinds.Kind.{Kind}
+use Rattle.spk_nums.specs.declared.kinds.Kind.TheVariants.{Range, Table, Pages, Comp as KindComp}
+use Rattle.spk_nums.specs.declared.kinds.Kind.TheVariants as kind
+use Rattle.spk_nums.specs.declared.calls.Call.{Call}
+use Rattle.spk_nums.specs.declared.calls.Call.TheVariants.{Look as look_call, Copy, Remove, Shrink, Unmap, Retype, Make as make_call, Tick, Gate, Kill, Grow, Flush, Map, Call as call_gate, Ret, Switch, Transfer, Delegate, Test}
+use Rattle.entry_words.specs.declared.entry.Entry.{Entry}
+use Rattle.entry_words.specs.declared.entry.Entry.TheVariants as entry
+use Rattle.word_map.specs.Places.{Shape}
+use Rattle.kernel_rules.specs.Access.{Named, found, only, root, Target as place, Under as place_under, InRoot as place_in}
+use Rattle.stage_look.specs.Shown.{end_of_frames, CapNames, EntryNames}
+use Rattle.stage_look.specs.Lookup.{FoundFits as PlaceFits}
+use Rattle.stage_look.specs.declared.look.Found.{Found}
+use Rattle.call_plans.specs.declared.plans.Nth.TheVariants.{First, Second, Third, Fourth}
+use Rattle.call_plans.specs.declared.plans.Name.{Name}
+use Rattle.call_plans.specs.declared.plans.Spot.{Spot}
+use Rattle.call_plans.specs.declared.plans.Spot.TheVariants.{Under, InRoot}
+use Rattle.call_plans.specs.declared.plans.Target.{Target}
+use Rattle.call_plans.specs.declared.plans.Target.TheVariants.{Nowhere, Free, Held, Own as own_page}
+use Rattle.call_plans.specs.declared.plans.Plan.{Plan}
+use Rattle.call_plans.specs.Plans.{at_place}
+use Rattle.call_plans.specs.PlanOf.{plan_for}
+use Rattle.call_plans.specs.GoesBy.{earlier, place_of}
+use Rattle.call_plans.specs.After.{with_found, names_after, Leads, next_in}
+use Rattle.call_plans.specs.Bounds.{look_steps, retype_steps, make_steps, act_steps}
+use Rattle.call_plans.specs.Rooted.{root_of, WantsRoot, IsRooted}
+use Rattle.call_plans.proofs.Roots.{earlier_is, Led, nth_led}
+use Rattle.call_plans.proofs.RootedTargets.{rooted}
+use Rattle.spk_nums.specs.declared.kinds.PageFlags.{PageFlags}
+use Rattle.spk_nums.specs.declared.kinds.FrameKind.{FrameKind}
+use Rattle.spk_nums.specs.declared.kinds.FrameKind.TheVariants.{Untyped, User, Kernel}
+use Rattle.kernel_rules.specs.CapabilityCalls.{leaf_of, has_frame}
+use Rattle.spk_nums.specs.declared.calls.Make.{Make}
+use Rattle.spk_nums.specs.declared.calls.Make.TheVariants as make
+use Rattle.act_states.specs.declared.objects.NewObject.{NewObject}
+use Rattle.act_states.specs.declared.objects.NewObject.TheVariants.{Table as NewTable, Leaf as NewLeaf, Pages as NewPages, Pleaf as NewPleaf, Thread as NewThread, Tcap as NewTcap}
+use Rattle.act_states.specs.Objects.{object_cap, object_made, object_dues, counts_of, last_word, thread_on, NamesFit, ObjectFits}
+use Rattle.act_states.specs.declared.makings.MakingAt.{MakingAt}
+use Rattle.act_states.specs.declared.makings.MakingAt.TheVariants.{Load as make_load, Mark, Store, Fill as fill_at}
+use Rattle.act_states.specs.declared.kills.KillingAt.{KillingAt}
+use Rattle.act_states.specs.declared.kills.KillingAt.TheVariants.{LoadComp, LoadLive, Close as kill_close, Draw as kill_draw}
+use Rattle.act_states.specs.declared.own.Own.{Own}
+use Rattle.act_states.specs.declared.own.OwnChange.{OwnChange}
+use Rattle.act_states.specs.declared.own.OwnChange.TheVariants.{Ticks, Works, Empties, Switches, Caches}
+use Rattle.act_states.specs.declared.invocations.InvokingAt.{InvokingAt}
+use Rattle.act_states.specs.declared.invocations.InvokingAt.TheVariants as invoking
+use Rattle.act_states.specs.declared.invocations.ReturningAt.{ReturningAt}
+use Rattle.act_states.specs.declared.invocations.ReturningAt.TheVariants as returning
+use Rattle.act_states.specs.declared.work.Act.{Act as ActType}
+use Rattle.act_states.specs.declared.work.Act.TheVariants.{Fill as fill_act, Remove as remove_act, Retype as type_act, Make as make_act, Outside, Tick as tick_act, Kill as kill_act, Flush as flush_act, Untype as untype_act, Map as map_act, MakeComp as comp_act, Invoke as invoke_act, Return as return_act, Switch as switch_act, Touch as touch_act, Share as share_act}
+use Rattle.act_states.specs.declared.work.Work.TheVariants.{Lookup}
+use Rattle.act_states.specs.declared.work.WorkStep.{WorkStep}
+use Rattle.act_states.specs.declared.work.WorkStep.TheVariants.{Goes, Acquires, Refuses, Answers, Changes}
+use Rattle.act_states.specs.declared.work.Due.{Due}
+use Rattle.act_states.specs.Acts.{ActFits, act_left, looked, cap_dues, dues, acquires, scans, stamp_in, filling, fills_with, removing, removes_held, removes_at, types_if, types_at, gate_if, gate_to, frame_named, reads_of, made_dues, starts, making, making_if, makes_in, makes_at, act_begun, next_work, killing_dues, kills_in, kills_at, link_to, is_pages, page_cap, mapping, mapping_if, maps_if, maps_at, comp_making, comp_if, comps_in, comps_at, made_begun, invoking_dues, returning_dues, invokes_in, invokes_if, invokes_at, returns_if, returns_at, switches_at}
+use Rattle.act_states.specs.declared.untypings.UntypingAt.{UntypingAt}
+use Rattle.act_states.specs.declared.untypings.UntypingAt.TheVariants as untype
+use Rattle.act_states.specs.Untypings.{UntypingAtFits, released_dues, untyping_dues}
+use Rattle.act_states.specs.Comps.{comp_dues}
+use Rattle.act_states.specs.declared.switches.Switching.{Switching}
+use Rattle.act_states.specs.declared.switches.SwitchAt.{SwitchAt}
+use Rattle.act_states.specs.declared.switches.SwitchAt.TheVariants as switch_at
+use Rattle.act_states.specs.Switches.{SwitchAtFits, SwitchingFits, tcap_dues, switch_due_list, switching_dues}
+use Rattle.stage_thread.specs.declared.claim.Claimed.{Claimed}
+use Rattle.stage_tcap.specs.declared.pair.PairAt.TheVariants.{LoadA}
+use Rattle.stage_tcap.specs.declared.pair.PairWork.{PairWork}
+use Rattle.stage_tcap.specs.declared.pair.PairWork.TheVariants as share
+use Rattle.act_states.specs.Shares.{share_left, shares_if, shares_at}
+use Rattle.act_states.specs.Scans.{ScanFits, left_of_scan, left_of_cores}
+use Rattle.act_states.specs.declared.comps.CompAt.{CompAt}
+use Rattle.act_states.specs.declared.comps.CompAt.TheVariants as comp_at_as
+use Rattle.act_states.specs.declared.comps.CompMaking.{CompMaking}
+use Rattle.act_states.specs.Touches.{touches_if}
+use Rattle.call_stages.specs.Tails.{tail_left}
+use Rattle.act_states.specs.Lookups.{looks_under, looks_entry, looks_at, read_first, next_step}
+use Rattle.call_stages.specs.Fits.{WorkFits, TailFits, IsWanted, FoundFits, CountsWait, looks_later, after_reading, acts_later, work_left, IsOwn}
+use Rattle.act_fits.proofs.NamedFit.{TwoNamed, ObjectNamed}
+use Rattle.act_fits.proofs.DuesFit.{StepFits, cap_one, work_next, counts_next}
+
+-- what the first name has led to names frames of the machine
+pub first_named : (frames : ℕ) (names : List Name) (caps : List Named) (ks : List Capability) → Leads (IsWanted frames) names caps ks
+    → IfSome (at_place ks First) (CapNames frames)
+first_named frames names caps [] leads = tt
+first_named frames [] caps (k ∷ ks) leads = absurd leads
+first_named frames (name ∷ names) caps (k ∷ ks) leads = leads.0.1
+
+-- a root that is wanted is a frame of the machine
+pub root_below : (frames : ℕ) (kind : Kind) (frame arg : ℕ) → IsTrue (root kind) → end_of_frames kind frame arg ≤ frames → frame < frames
+root_below frames Table frame arg wanted names = omega arith
+root_below frames Pages frame arg wanted names = omega arith
+root_below frames kind frame arg wanted names = absurd (cc)
+
+pub looks_fits : (s : Shape) (within : Bool) (frame n later most : ℕ) → within ≡ nat_le n 4095 → frame < s.frames → 2 + later ≤ most
+    → StepFits s [] later most (looks_under within frame n)
+looks_fits s true frame n later most is below fewer = ((below, leb-true n 4095 (sym is)), fewer, refl)
+looks_fits s false frame n later most is below fewer = (omega arith, tt)
+
+pub entry_fits : (s : Shape) (within : Bool) (frame i later most : ℕ) → within ≡ nat_le i 63 → frame < s.frames → 1 + later ≤ most
+    → StepFits s [] later most (looks_entry within frame i)
+entry_fits s true frame i later most is below fewer = let small : i ≤ 63 = leb-true i 63 (sym is) in ((below, omega arith), fewer, refl)
+entry_fits s false frame i later most is below fewer = (omega arith, tt)
+
+-- the act of a call, where its target was found or it has none
+-- the words of a scan, and one more: the core words, and for a place of a page table the flush words
+abbrev pub words_scanned : Bool → ℕ → ℕ
+words_scanned page cores = if page then cores + cores else cores
+
+some_words : (page : Bool) (cores : ℕ) → 1 ≤ cores → 1 ≤ words_scanned page cores
+some_words true cores some = omega arith
+some_words false cores some = some
+
+-- an act that begins with a scan, or without
+abbrev pub ScanMay : Shape → Bool → Option Quiet → Type 0
+ScanMay s page None = Unit {0}
+ScanMay s page (Some q) = QuietFits s q × ScanFits s q × (left_of_scan s.cores q + 1 ≤ words_scanned page s.cores)
+
+with_flushes : (page : Bool) (left cores : ℕ) → left + 1 ≤ cores → left + (if page then cores else 0) + 1 ≤ words_scanned page cores
+with_flushes true left cores few = omega arith
+with_flushes false left cores few = omega arith
+
+pub scan_may : (s : Shape) (stamp core : ℕ) (page : Bool) → core < s.cores → ScanMay s page (quiet_scan stamp core s.cores page)
+scan_may s stamp core page here = by_stamp (stamp == 0) refl
+  where
+    flushes_alone : (page : Bool) → 1 ≤ stamp → ScanMay s page (flush_scan page stamp)
+    flushes_alone true some = ((let h = here in omega arith), some, (let h = here in omega arith))
+    flushes_alone false some = tt
+
+    by_first : (none there : Bool) → (core == 0) ≡ none → nat_lt (first_other core) s.cores ≡ there → 1 ≤ stamp
+        → ScanMay s page (core_scan there stamp core (first_other core) page)
+    by_first none false is there some = flushes_alone page some
+    by_first none true is there some =
+        let first : first_other core < s.cores = ltb-true (first_other core) s.cores there in (
+          (first, apart none is),
+          (here, some),
+          with_flushes page (left_of_cores s.cores core (first_other core)) s.cores (few (nat_lt (first_other core) core) refl first),
+        )
+      where
+        apart : (none : Bool) → (core == 0) ≡ none → first_other core ≢ core
+        apart true is = let a : core ≡ 0 =
+            eqb-true core 0 is in subst (λ (n : ℕ). n ≢ core) (sym (ap (λ b. if b then 1 else 0) is)) (omega arith)
+        apart false is = let a =
+            eqb-false core 0 is in subst (λ (n : ℕ). n ≢ core) (sym (ap (λ b. if b then 1 else 0) is)) (λ h. a (sym h))
+
+        few : (b : Bool) → nat_lt (first_other core) core ≡ b → first_other core < s.cores
+            → left_of_cores s.cores core (first_other core) + 1 ≤ s.cores
+        few true less first =
+            subst (λ b. (if b then s.cores - first_other core - 1 else s.cores - first_other core) + 1 ≤ s.cores) (sym less) (omega arith)
+        few false less first =
+            let more = ltb-false (first_other core) core less in
+            let at : 1 ≤ first_other core = past (core == 0) refl more in
+            subst (λ b. (if b then s.cores - first_other core - 1 else s.cores - first_other core) + 1 ≤ s.cores) (sym less) (omega arith)
+          where
+            past : (b : Bool) → (core == 0) ≡ b → core ≤ first_other core → 1 ≤ first_other core
+            past true is more = subst (λ (n : ℕ). 1 ≤ n) (sym (ap (λ b. if b then 1 else 0) is)) (omega arith)
+            past false is more =
+                let a = eqb-false core 0 is in
+                let none : first_other core ≡ 0 = ap (λ b. if b then 1 else 0) is in
+                absurd (a (omega arith))
+
+    by_stamp : (none : Bool) → (stamp == 0) ≡ none
+        → ScanMay s page (if none then None else core_scan (nat_lt (first_other core) s.cores) stamp core (first_other core) page)
+    by_stamp true is = tt
+    by_stamp false is = by_first (core == 0) (nat_lt (first_other core) s.cores) refl refl (let a = eqb-false stamp 0 is in omega arith)
+
+first_fits : (s : Shape) (later most core : ℕ) (act : ActType) → core < s.cores → ActFits s act
+    → 3 * length (dues act) + act_left s.cores act ≤ most → StepFits s [] later most (Goes (next_work core 0 act))
+first_fits s later most core act here fits some =
+    let next = work_next s later core 0 act (slice_get (dues act) 0) refl here fits in
+    (next.0, (let fewer = next.1 in omega arith), counts_next core 0 [] act (slice_get (dues act) 0) refl refl (omega arith))
+
+pub starts_fit : (s : Shape) (later most core : ℕ) (act : ActType) → core < s.cores → ActFits s act
+    → 3 * length (dues act) + act_left s.cores act ≤ most → StepFits s [] later most (starts core act)
+starts_fit s later most core (Outside node entry word) here fits some = (omega arith, tt)
+starts_fit s later most core (fill_act fill) here fits some = first_fits s later most core (fill_act fill) here fits some
+starts_fit s later most core (remove_act close cap) here fits some = first_fits s later most core (remove_act close cap) here fits some
+starts_fit s later most core (type_act typing) here fits some = first_fits s later most core (type_act typing) here fits some
+starts_fit s later most core (make_act m) here fits some = first_fits s later most core (make_act m) here fits some
+starts_fit s later most core (map_act fill) here fits some = first_fits s later most core (map_act fill) here fits some
+starts_fit s later most core (tick_act charge) here fits some = first_fits s later most core (tick_act charge) here fits some
+starts_fit s later most core (touch_act m) here fits some = first_fits s later most core (touch_act m) here fits some
+starts_fit s later most core (flush_act by) here fits some = first_fits s later most core (flush_act by) here fits some
+starts_fit s later most core (kill_act m) here fits some = first_fits s later most core (kill_act m) here fits some
+starts_fit s later most core (untype_act m) here fits some = first_fits s later most core (untype_act m) here fits some
+starts_fit s later most core (share_act p) here fits some = first_fits s later most core (share_act p) here fits some
+starts_fit s later most core (comp_act m) here fits some = first_fits s later most core (comp_act m) here fits some
+starts_fit s later most core (invoke_act m) here fits some = first_fits s later most core (invoke_act m) here fits some
+starts_fit s later most core (return_act m) here fits some = first_fits s later most core (return_act m) here fits some
+starts_fit s later most core (switch_act m) here fits some = first_fits s later most core (switch_act m) here fits some
+
+pub scans_fit : (s : Shape) (later most core : ℕ) (act : ActType) (page : Bool) (o : Option Quiet) → core < s.cores → ActFits s act
+    → ScanMay s page o
+    → words_scanned page s.cores - 1 + 3 * length (dues act) + act_left s.cores act ≤ most → StepFits s [] later most (scans core o act)
+scans_fit s later most core act page None here fits may some = starts_fit s later most core act here fits (omega arith)
+scans_fit s later most core act page (Some q) here fits may some = ((may.0, may.1, fits), (let few = may.2 in omega arith), refl)
+
+pub filled : (own : Own) (later most : ℕ) (k : Option Capability) (page : Bool) (target : Option Found) → IsOwn own
+    → IfSome k (CapNames own.layout.frames)
+    → IfSome target (PlaceFits own.layout) → words_scanned page own.layout.cores + 3 ≤ most
+    → StepFits own.layout [] later most (fills_with own k page target)
+filled own later most None page target h names fits some = (omega arith, tt)
+filled own later most (Some k) page None h names fits some = (omega arith, tt)
+filled own later most (Some k) page (Some f) h names fits some =
+    let act : ActType = filling k f in
+    let one = cap_one k.kind k.frame k.arg (pos 1) in
+    let many = some_words page own.layout.cores h.shape.some_core in
+    scans_fit own.layout later most own.core act page (quiet_scan (stamp_in f.value) own.core own.layout.cores page) h.core
+    (record { node = fits.node; entry = fits.entry; cap = names }) (scan_may own.layout (stamp_in f.value) own.core page h.core)
+    (omega arith)
+
+-- a root entry is filled with a link; where it is one of a page table the flush words are scanned too
+grow_words : (page : Bool) (cores : ℕ) → words_scanned page cores + 3 ≤ 3 + 2 * cores
+grow_words true cores = omega arith
+grow_words false cores = omega arith
+
+-- the act that removes what a place holds
+pub removed_held : (s : Shape) (later most core : ℕ) (f : Found) (value : Entry) → core < s.cores → EntryNames s.frames value
+    → f.node < s.frames → f.entry < 64 → 6 ≤ most
+    → StepFits s [] later most (removes_held core f value)
+removed_held s later most core f entry.Free here names node small some = (omega arith, tt)
+removed_held s later most core f (entry.Held k) here names node small some =
+    let act : ActType = removing core k f in
+    let next = work_next s later core 0 act (slice_get (dues act) 0) refl here ((node, small), names) in
+    let one = cap_one k.kind k.frame k.arg (negsuc 0) in
+    (next.0, (let fewer = next.1 in omega arith), counts_next core 0 [] act (slice_get (dues act) 0) refl refl (omega arith))
+removed_held s later most core f (entry.Closing by) here names node small some = (omega arith, tt)
+removed_held s later most core f (entry.Quiescing stamp) here names node small some = (omega arith, tt)
+
+pub removed : (s : Shape) (later most core : ℕ) (target : Option Found) → core < s.cores → IfSome target (PlaceFits s) → 6 ≤ most
+    → StepFits s [] later most (removes_at core target)
+removed s later most core None here fits some = (omega arith, tt)
+removed s later most core (Some f) here fits some = removed_held s later most core f f.value here fits.names fits.node fits.entry some
+
+pub look_done : (s : Shape) (later most : ℕ) (k : Option Capability) → StepFits s [] later most (looked k)
+look_done s later most None = (omega arith, tt)
+look_done s later most (Some k) = (omega arith, tt)
+
+-- the act that touches a page
+pub touched_fit : (own : Own) (later most v : ℕ) (within : Bool) → nat_le v 4095 ≡ within → IsOwn own → 2 ≤ most
+    → StepFits own.layout [] later most (touches_if within own v)
+touched_fit own later most v true is h some = (record { look = (h.pages, leb-true v 4095 is); all = refl }, some, refl)
+touched_fit own later most v false is h some = (omega arith, tt)
+
+-- the act that types a frame of a range, or makes it untyped again
+pub types_fit : (s : Shape) (later core f : ℕ) (k : FrameKind) (within : Bool) → (within ≡ true → f < s.frames) → core < s.cores
+    → StepFits s [] later (retype_steps k s.cores) (types_if within core f k)
+types_fit s later core f Untyped true below here = (record { frame = below refl; core = here; at = tt }, omega arith, refl)
+types_fit s later core f User true below here = (below refl, omega arith, refl)
+types_fit s later core f Kernel true below here = (below refl, omega arith, refl)
+types_fit s later core f k false below here = (omega arith, tt)
+
+pub types : (own : Own) (later : ℕ) (range : Option Capability) (f : ℕ) (k : FrameKind) → own.core < own.layout.cores
+    → StepFits own.layout [] later (retype_steps k own.layout.cores) (types_at own range f k)
+types own later None f k here = (omega arith, tt)
+types own later (Some range) f k here =
+    types_fit own.layout later own.core f k (has_frame (found range) f && nat_lt f own.layout.frames)
+    (λ is. ltb-true f own.layout.frames (both (has_frame (found range) f) (nat_lt f own.layout.frames) is)) here
+  where
+    both : (x y : Bool) → (x && y) ≡ true → y ≡ true
+    both true y is = is
+    both false y is = cc
+
+-- the act that makes an object, where the range has its frame
+abbrev frame_in : Own → Capability → ℕ → Bool
+frame_in own range f = has_frame (found range) f && nat_lt f own.layout.frames
+
+object_below : (frames : ℕ) (object : NewObject) (f : ℕ) → f < frames → CapNames frames (object_cap object f)
+object_below frames NewTable f below = omega (arith, below)
+object_below frames NewLeaf f below = omega (arith, below)
+object_below frames NewPages f below = omega (arith, below)
+object_below frames NewPleaf f below = omega (arith, below)
+object_below frames (NewThread comp) f below = omega (arith, below)
+object_below frames (NewTcap sched quality) f below = omega (arith, below)
+
+-- the steps of a making, and those of the scan before it
+abbrev making_steps : NewObject → ℕ → ℕ
+making_steps object cores = cores + (3 * counts_of object + last_word object + 4)
+
+pub makes : (own : Own) (later most : ℕ) (object : NewObject) (range : Capability) (f : ℕ) (target : Found) → IsOwn own
+    → ObjectFits own.layout object → PlaceFits own.layout target → making_steps object own.layout.cores ≤ most
+    → StepFits own.layout [] later most (makes_in own object range f target)
+makes own later most object range f target h objects fits some = by (frame_in own range f) refl
+  where
+    both : (x y : Bool) → (x && y) ≡ true → y ≡ true
+    both true y is = is
+    both false y is = cc
+
+    by : (within : Bool) → frame_in own range f ≡ within
+        → StepFits own.layout [] later most (scans own.core (quiet_scan (stamp_in target.value) own.core own.layout.cores false)
+        (making_if within own object f target))
+    by true is =
+        let many = h.shape.some_core in
+        let below : f < own.layout.frames = ltb-true f own.layout.frames (both (has_frame (found range) f) (nat_lt f own.layout.frames) is)
+        in
+        scans_fit own.layout later most own.core (making own object f target) false
+        (quiet_scan (stamp_in target.value) own.core own.layout.cores false) h.core
+        (record {
+          frame = below;
+          core = h.core;
+          object = objects;
+          fill = record {
+            node = fits.node;
+            entry = fits.entry;
+            cap = object_below own.layout.frames
+                object f below;
+          };
+          at = tt;
+        })
+        (scan_may own.layout (stamp_in target.value) own.core false h.core) (omega (arith, many, some))
+    by false is =
+        let many = h.shape.some_core in
+        scans_fit own.layout later most own.core (Outside target.node target.entry target.word) false
+        (quiet_scan (stamp_in target.value) own.core own.layout.cores false) h.core (fits.node, fits.entry)
+        (scan_may own.layout (stamp_in target.value) own.core false h.core) (omega (arith, many, some))
+
+made_at : (own : Own) (later most : ℕ) (object : Option NewObject) (range : Option Capability) (f : ℕ) (target : Option Found)
+    → IsOwn own → IfSome target (PlaceFits own.layout)
+    → IfSome object (λ o. ObjectFits own.layout o × (making_steps o own.layout.cores ≤ most))
+    → StepFits own.layout [] later most (makes_at own object range f target)
+made_at own later most (Some object) (Some range) f (Some target) h fits some =
+    makes own later most object range f target h some.0 fits some.1
+made_at own later most None range f target h fits some = (omega arith, tt)
+made_at own later most (Some object) None f target h fits some = (omega arith, tt)
+made_at own later most (Some object) (Some range) f None h fits some = (omega arith, tt)
+
+-- the act that maps a frame of a range
+page_below : (frames f : ℕ) (w : PageFlags) → f < frames → CapNames frames (page_cap f w)
+page_below frames f w below = omega (arith, below)
+
+maps : (own : Own) (later : ℕ) (range : Option Capability) (f : ℕ) (w : PageFlags) (target : Option Found) → IsOwn own
+    → IfSome target (PlaceFits own.layout)
+    → StepFits own.layout [] later (4 + 2 * own.layout.cores) (maps_at own range f w target)
+maps own later None f w target h fits = (omega arith, tt)
+maps own later (Some range) f w None h fits = (omega arith, tt)
+maps own later (Some range) f w (Some at) h fits = by_flags (nat_lt w.0 4)
+  where
+    both : (x y : Bool) → (x && y) ≡ true → y ≡ true
+    both true y is = is
+    both false y is = cc
+
+    by : (within : Bool) → (has_frame (found range) f && nat_lt f own.layout.frames) ≡ within
+        → StepFits own.layout [] later (4 + 2 * own.layout.cores)
+        (scans own.core (quiet_scan (stamp_in at.value) own.core own.layout.cores true) (mapping_if within f w at))
+    by true is =
+        let many = h.shape.some_core in
+        let below : f < own.layout.frames = ltb-true f own.layout.frames (both (has_frame (found range) f) (nat_lt f own.layout.frames) is)
+        in
+        let one = cap_one kind.Page f w.0 (pos 1) in
+        scans_fit own.layout later (4 + 2 * own.layout.cores) own.core (mapping f w at) true
+        (quiet_scan (stamp_in at.value) own.core own.layout.cores true) h.core
+        (record { node = fits.node; entry = fits.entry; cap = page_below own.layout.frames f w below }, below)
+        (scan_may own.layout (stamp_in at.value) own.core true h.core) (omega (arith, many, one))
+    by false is =
+        let many = h.shape.some_core in
+        scans_fit own.layout later (4 + 2 * own.layout.cores) own.core (Outside at.node at.entry at.word) true
+        (quiet_scan (stamp_in at.value) own.core own.layout.cores true) h.core (fits.node, fits.entry)
+        (scan_may own.layout (stamp_in at.value) own.core true h.core) (omega (arith, many))
+
+    by_flags : (flags : Bool) → StepFits own.layout [] later (4 + 2 * own.layout.cores) (maps_if flags own range f w at)
+    by_flags true = by (has_frame (found range) f && nat_lt f own.layout.frames) refl
+    by_flags false = (omega arith, tt)
+
+-- the act that makes a component, where the range has its frame
+comps : (own : Own) (later live : ℕ) (range table pages : Capability) (f : ℕ) (target : Found) → IsOwn own → live < 64
+    → table.frame < own.layout.frames → pages.frame < own.layout.frames → PlaceFits own.layout target
+    → StepFits own.layout [] later (17 + 2 * own.layout.cores) (comps_in own live range table pages f target)
+comps own later live range table pages f target h small root_fits pages_fit fits = by (frame_in own range f) refl
+  where
+    both : (x y : Bool) → (x && y) ≡ true → y ≡ true
+    both true y is = is
+    both false y is = cc
+
+    by : (within : Bool) → frame_in own range f ≡ within
+        → StepFits own.layout [] later (17 + 2 * own.layout.cores)
+        (scans own.core (quiet_scan (stamp_in target.value) own.core own.layout.cores false)
+        (comp_if within own live table pages f target))
+    by true is =
+        let many = h.shape.some_core in
+        let below : f < own.layout.frames = ltb-true f own.layout.frames (both (has_frame (found range) f) (nat_lt f own.layout.frames) is)
+        in
+        scans_fit own.layout later (17 + 2 * own.layout.cores) own.core (comp_making own live table pages f target) false
+        (quiet_scan (stamp_in target.value) own.core own.layout.cores false) h.core
+        (record {
+          frame = below;
+          table = root_fits;
+          pages = pages_fit;
+          number = small;
+          core = h.core;
+          cores = refl;
+          few = h.shape.most_cores;
+          epochs = h.most_epochs;
+          fill = record { node = fits.node; entry = fits.entry; cap = omega (arith, below) };
+          at = tt;
+        })
+        (scan_may own.layout (stamp_in target.value) own.core false h.core) (omega (arith, many))
+    by false is =
+        let many = h.shape.some_core in
+        scans_fit own.layout later (17 + 2 * own.layout.cores) own.core (Outside target.node target.entry target.word) false
+        (quiet_scan (stamp_in target.value) own.core own.layout.cores false) h.core (fits.node, fits.entry)
+        (scan_may own.layout (stamp_in target.value) own.core false h.core) (omega (arith, many))
+
+comp_at : (own : Own) (later live : ℕ) (range table pages : Option Capability) (f : ℕ) (target : Option Found) → IsOwn own → live < 64
+    → IfSome table (λ k. k.frame < own.layout.frames) → IfSome pages (λ k. k.frame < own.layout.frames)
+    → IfSome target (PlaceFits own.layout)
+    → StepFits own.layout [] later (17 + 2 * own.layout.cores) (comps_at own live range table pages f target)
+comp_at own later live (Some range) (Some table) (Some pages) f (Some target) h small root_fits pages_fit fits =
+    comps own later live range table pages f target h small root_fits pages_fit fits
+comp_at own later live None table pages f target h small root_fits pages_fit fits = (omega arith, tt)
+comp_at own later live (Some range) None pages f target h small root_fits pages_fit fits = (omega arith, tt)
+comp_at own later live (Some range) (Some table) None f target h small root_fits pages_fit fits = (omega arith, tt)
+comp_at own later live (Some range) (Some table) (Some pages) f None h small root_fits pages_fit fits = (omega arith, tt)
+
+made_fits : (s : Shape) (what : Make) (r f t b : ℕ) (found : List Capability) (cores : ℕ) → MakeInLimits what
+    → ObjectNamed s.frames (make_call what r f t b) found
+    → IfSome (object_made what found) (λ o. ObjectFits s o × (making_steps o cores ≤ make_steps what cores))
+made_fits s make.Table r f t b found cores limits named = (record { pair = tt; names = tt }, omega arith)
+made_fits s make.Leaf r f t b found cores limits named = (record { pair = tt; names = tt }, omega arith)
+made_fits s make.Pages r f t b found cores limits named = (record { pair = tt; names = tt }, omega arith)
+made_fits s make.Pleaf r f t b found cores limits named = (record { pair = tt; names = tt }, omega arith)
+made_fits s (make.Thread comp) r f t b found cores limits named = by (at_place found Third) named
+  where
+    by : (o : Option Capability) → IfSome o (λ k. k.frame < s.frames)
+        → IfSome (thread_on o) (λ o. ObjectFits s o × (making_steps o cores ≤ make_steps (make.Thread comp) cores))
+    by None below = tt
+    by (Some k) below = (record { pair = tt; names = below }, omega arith)
+made_fits s (make.Tcap sched quality) r f t b found cores limits named = (record { pair = limits; names = tt }, omega arith)
+made_fits s (make.Comp table pages live) r f t b found cores limits named = tt
+
+-- the act of a make
+begun_made : (own : Own) (later : ℕ) (what : Make) (r f t b : ℕ) (found : List Capability) (target : Option Found) → IsOwn own
+    → ObjectNamed own.layout.frames (make_call what r f t b) found → MakeInLimits what → IfSome target (PlaceFits own.layout)
+    → StepFits own.layout [] later (make_steps what own.layout.cores) (made_begun own what found f target)
+begun_made own later (make.Comp table pages live) r f t b found target h named limits fits =
+    comp_at own later live (at_place found First) (at_place found Third) (at_place found Fourth) f target h limits named.0 named.1 fits
+begun_made own later what r f t b found target h named limits fits =
+    made_at own later (make_steps what own.layout.cores) (object_made what found) (at_place found First) f target h fits
+    (made_fits own.layout what r f t b found own.layout.cores limits named)
+
+-- the act that kills a component
+kills : (s : Shape) (later most core : ℕ) (kind : Kind) (f arg : ℕ) → core < s.cores
+    → CapNames s.frames (record { kind = kind; frame = f; arg = arg }) → 8 ≤ most → StepFits s [] later most (kills_in core kind f)
+kills s later most core kind.Comp f arg here names some = (record { comp = omega arith; core = here; at = tt }, omega arith, refl)
+kills s later most core kind.Range f arg here names some = (omega arith, tt)
+kills s later most core kind.Table f arg here names some = (omega arith, tt)
+kills s later most core kind.Leaf f arg here names some = (omega arith, tt)
+kills s later most core kind.Pages f arg here names some = (omega arith, tt)
+kills s later most core kind.Pleaf f arg here names some = (omega arith, tt)
+kills s later most core kind.Gate f arg here names some = (omega arith, tt)
+kills s later most core kind.Thread f arg here names some = (omega arith, tt)
+kills s later most core kind.Tcap f arg here names some = (omega arith, tt)
+kills s later most core kind.Link f arg here names some = (omega arith, tt)
+kills s later most core kind.Page f arg here names some = (omega arith, tt)
+
+killed : (own : Own) (later most : ℕ) (k : Option Capability) → IsOwn own → IfSome k (CapNames own.layout.frames) → 8 ≤ most
+    → StepFits own.layout [] later most (kills_at own k)
+killed own later most None h names some = (omega arith, tt)
+killed own later most (Some k) h names some = kills own.layout later most own.core k.kind k.frame k.arg h.core names some
+
+-- the acts that enter a component and leave it
+invokes : (own : Own) (later most : ℕ) (kind : Kind) (f arg : ℕ) → IsOwn own
+    → CapNames own.layout.frames (record { kind = kind; frame = f; arg = arg }) → 9 ≤ most
+    → StepFits own.layout [] later most (invokes_in own kind f arg)
+invokes own later most kind.Gate f arg h names some = by (nat_le 16 own.depth) refl
+  where
+    by : (deep : Bool) → nat_le 16 own.depth ≡ deep → StepFits own.layout [] later most (invokes_if deep own f arg)
+    by true is = (omega arith, tt)
+    by false is = (
+      record {
+        comp = omega arith;
+        thread = h.thread;
+        core = h.core;
+        some_depth = h.some_depth;
+        most_depth = (let less = leb-false 16 own.depth is in omega arith);
+        frames = refl;
+        few = h.shape.most_frames;
+        at = tt;
+      },
+      omega arith,
+      refl,
+    )
+invokes own later most kind.Comp f arg h names some = (omega arith, tt)
+invokes own later most kind.Range f arg h names some = (omega arith, tt)
+invokes own later most kind.Table f arg h names some = (omega arith, tt)
+invokes own later most kind.Leaf f arg h names some = (omega arith, tt)
+invokes own later most kind.Pages f arg h names some = (omega arith, tt)
+invokes own later most kind.Pleaf f arg h names some = (omega arith, tt)
+invokes own later most kind.Thread f arg h names some = (omega arith, tt)
+invokes own later most kind.Tcap f arg h names some = (omega arith, tt)
+invokes own later most kind.Link f arg h names some = (omega arith, tt)
+invokes own later most kind.Page f arg h names some = (omega arith, tt)
+
+invoked : (own : Own) (later most : ℕ) (k : Option Capability) → IsOwn own → IfSome k (CapNames own.layout.frames) → 9 ≤ most
+    → StepFits own.layout [] later most (invokes_at own k)
+invoked own later most None h names some = (omega arith, tt)
+invoked own later most (Some k) h names some = invokes own later most k.kind k.frame k.arg h names some
+
+returned : (own : Own) (later most : ℕ) → IsOwn own → 9 ≤ most → StepFits own.layout [] later most (returns_at own)
+returned own later most h some = by (nat_le own.depth 1) refl
+  where
+    by : (bottom : Bool) → nat_le own.depth 1 ≡ bottom → StepFits own.layout [] later most (returns_if bottom own)
+    by true is = (omega arith, tt)
+    by false is = (
+      record {
+        top = h.comp;
+        thread = h.thread;
+        core = h.core;
+        some_depth = (let more = leb-false own.depth 1 is in omega arith);
+        most_depth = h.most_depth;
+        frames = refl;
+        few = h.shape.most_frames;
+        at = tt;
+      },
+      omega arith,
+      refl,
+    )
+
+-- the act that goes on as another thread
+switched : (own : Own) (later : ℕ) (h q : Option Capability) → IsOwn own → IfSome h (λ k. k.frame < own.layout.frames)
+    → IfSome q (λ k. k.frame < own.layout.frames) → StepFits own.layout [] later 21 (switches_at own h q)
+switched own later None q fits thread tcap = (omega arith, tt)
+switched own later (Some h) None fits thread tcap = (omega arith, tt)
+switched own later (Some h) (Some q) fits thread tcap = (
+  record {
+    core = fits.core;
+    frames = refl;
+    few = fits.shape.most_frames;
+    tcap = tcap;
+    old = fits.thread;
+    old_depth = (fits.some_depth, fits.most_depth);
+    old_tcap = fits.tcap;
+    at = thread;
+  },
+  omega arith,
+  refl,
+)
+
+-- a gate leads to a frame of the machine
+gate_names : (frames : ℕ) (comp : Option Capability) (read : Option ℕ) → IfSome comp (λ k. k.frame < frames)
+    → IfSome (gate_to comp read) (CapNames frames)
+gate_names frames None read below = tt
+gate_names frames (Some k) None below = tt
+gate_names frames (Some k) (Some epoch) below = by (nat_le 1 epoch)
+  where
+    by : (some : Bool) → IfSome (gate_if some k.frame epoch) (CapNames frames)
+    by true = omega (arith, below)
+    by false = tt
+
+link_names : (frames : ℕ) (leaf : Option Capability) → IfSome leaf (λ k. k.frame < frames) → IfSome (link_to leaf) (CapNames frames)
+link_names frames None below = tt
+link_names frames (Some leaf) below = omega (arith, below)
+
+-- the act on two temporal capabilities
+shares : (s : Shape) (later most core : ℕ) (what : PairWork) (f g : ℕ) (same : Bool) → f < s.frames → g < s.frames
+    → share_left what LoadA ≤ most → StepFits s [] later most (shares_if same core what f g)
+shares s later most core what f g true first second some = (omega arith, tt)
+shares s later most core what f g false first second some = (
+  record { a = first; b = second; head_a = omega arith; head_b = omega arith; at = tt },
+  some,
+  refl,
+)
+
+shared : (s : Shape) (later most core : ℕ) (what : PairWork) (found : List Capability) → TwoNamed s.frames found
+    → share_left what LoadA ≤ most → StepFits s [] later most (shares_at core what (at_place found First) (at_place found Second))
+shared s later most core what found named some = by (at_place found First) (at_place found Second) named.0 named.1
+  where
+    by : (a b : Option Capability) → IfSome a (λ k. k.frame < s.frames) → IfSome b (λ k. k.frame < s.frames)
+        → StepFits s [] later most (shares_at core what a b)
+    by (Some a) (Some b) first second = shares s later most core what a.frame b.frame (a.frame == b.frame) first second some
+    by None b first second = (omega arith, tt)
+    by (Some a) None first second = (omega arith, tt)
+
+pub act_fits : (own : Own) (later : ℕ) (call : Call) (found : List Capability) (read : Option ℕ) (target : Option Found) → IsOwn own
+    → IfSome (at_place found First) (CapNames own.layout.frames) → ObjectNamed own.layout.frames call found → InLimits call
+    → IfSome target (PlaceFits own.layout)
+    → StepFits own.layout [] later (after_reading call own.layout.cores) (act_begun own call found read target)
+act_fits own later (look_call a) found read target h names objects limits fits = look_done own.layout later 0 _
+act_fits own later (Copy a t b) found read target h names objects limits fits =
+    filled own later (3 + own.layout.cores) _ false target h names fits (omega arith)
+act_fits own later (Grow t i l) found read target h names objects limits fits =
+    filled own later (3 + 2 * own.layout.cores) (link_to (at_place found Second)) (is_pages (at_place found First)) target h
+    (link_names own.layout.frames (at_place found Second) objects) fits (grow_words (is_pages (at_place found First)) own.layout.cores)
+act_fits own later (Map p v r f w) found read target h names objects limits fits =
+    maps own later (at_place found Second) f w target h fits
+act_fits own later (Remove t b) found read target h names objects limits fits =
+    removed own.layout later 6 own.core target h.core fits (omega arith)
+act_fits own later (Shrink t i) found read target h names objects limits fits =
+    removed own.layout later 6 own.core target h.core fits (omega arith)
+act_fits own later (Unmap p v) found read target h names objects limits fits =
+    removed own.layout later 6 own.core target h.core fits (omega arith)
+act_fits own later (Retype r f k) found read target h names objects limits fits =
+    types own later (at_place found First) f k h.core
+act_fits own later (make_call what range frame table slot) found read target h names objects limits fits =
+    begun_made own later what range frame table slot found target h objects limits fits
+act_fits own later Flush found read target h names objects limits fits = (h.core, omega arith, refl)
+act_fits own later (Tick n) found read target h names objects limits fits = (h.tcap, omega arith, refl)
+act_fits own later (Gate c t b) found read target h names objects limits fits =
+    filled own later (3 + own.layout.cores) _ false target h (gate_names own.layout.frames (at_place found First) read objects) fits (omega arith)
+act_fits own later (Kill k) found read target h names objects limits fits = killed own later 8 (at_place found First) h names (omega arith)
+act_fits own later (call_gate g) found read target h names objects limits fits = invoked own later 9 (at_place found First) h names (omega arith)
+act_fits own later Ret found read target h names objects limits fits = returned own later 9 h (omega arith)
+act_fits own later (Switch t q) found read target h names objects limits fits =
+    switched own later (at_place found First) (at_place found Second) h objects.0 objects.1
+act_fits own later (Transfer a b m) found read target h names objects limits fits =
+    shared own.layout later 21 own.core (share.Transfer m) found objects (omega arith)
+act_fits own later (Delegate a b m) found read target h names objects limits fits =
+    shared own.layout later 30 own.core (share.Delegate m) found objects (omega arith)
+act_fits own later (Test a b) found read target h names objects limits fits =
+    shared own.layout later 21 own.core share.Test found objects (omega arith)
+act_fits own later call found read target h names objects limits fits = (omega arith, tt)
+
+-- the root of a target is a frame of the machine, where its name is found
+abbrev pub RootBelow : ℕ → List Capability → Target → Type 0
+RootBelow frames ks Nowhere = Unit {0}
+RootBelow frames ks (Free spot) = (earlier (with_found [] ks) (root_of spot)).frame < frames
+RootBelow frames ks (Held spot) = (earlier (with_found [] ks) (root_of spot)).frame < frames
+RootBelow frames ks (own_page v) = Unit {0}
+
+pub spot_below : (frames : ℕ) (plan : Plan) (ks : List Capability) (spot : Spot) (o : Option Name)
+    → at_place plan.names (root_of spot) ≡ o → IsSomeAnd o (λ name. WantsRoot name.wanted)
+    → FoundFits frames plan ks → names_after plan.names ks ≡ [] → (earlier (with_found [] ks) (root_of spot)).frame < frames
+spot_below frames plan ks spot None is rooted fits none = absurd rooted
+spot_below frames plan ks spot (Some name) is rooted fits none =
+    let led : Led (IsWanted frames) name (at_place ks (root_of spot)) = nth_led (IsWanted frames) plan.names ks (root_of spot) name fits
+    none is in
+    subst (λ (f : ℕ). f < frames) (sym (ap (λ (x : Named). x.frame) (earlier_is ks (root_of spot) led.k led.is)))
+    (root_below frames led.k.kind led.k.frame led.k.arg (rooted led.caps led.k.kind led.leads.0) led.leads.1)
+
+pub target_below : (frames : ℕ) (plan : Plan) (ks : List Capability) (target : Target) → IsRooted plan.names target
+    → FoundFits frames plan ks → names_after plan.names ks ≡ []
+    → RootBelow frames ks target
+target_below frames plan ks Nowhere root fits none = tt
+target_below frames plan ks (Free spot) root fits none = spot_below frames plan ks spot _ refl root fits none
+target_below frames plan ks (Held spot) root fits none = spot_below frames plan ks spot _ refl root fits none
+target_below frames plan ks (own_page v) root fits none = tt
+
+-- what comes next of a call, where these of its names are left
+pub at_fits : (s : Shape) (ks : List Capability) (spot : Spot) (later acts : ℕ) → later ≤ acts
+    → (earlier (with_found [] ks) (root_of spot)).frame < s.frames
+    → StepFits s [] later (look_steps [] (Free spot) + acts) (looks_at (place_of (with_found [] ks) spot))
+at_fits s ks (Under i n) later acts most below = looks_fits s _ _ n later _ refl below (omega arith)
+at_fits s ks (InRoot i e) later acts most below = entry_fits s _ _ e later _ refl below (omega arith)
+
+-- the act takes no more steps than with what the call reads before, which is one
+after_most : (call : Call) (n : ℕ) → after_reading call n ≤ act_steps call n
+after_most (Gate c t b) n = omega arith
+after_most call n = omega arith
+
+after_one : (call : Call) (found : List Capability) (f n : ℕ) → reads_of call found ≡ Some f → 1 + after_reading call n ≤ act_steps call n
+after_one (Gate c t b) found f n is = omega arith
+after_one call found f n is = absurd (cc)
+
+-- the component whose word is read is in a frame of the machine
+reads_below : (frames : ℕ) (call : Call) (found : List Capability) (f : ℕ) → reads_of call found ≡ Some f → ObjectNamed frames call found
+    → f < frames
+reads_below frames (Gate c t b) ks f is below = by (at_place ks First) is below
+  where
+    frame_is : (g : ℕ) → Some g ≡ Some f → g ≡ f
+    frame_is g h = cc
+
+    by : (o : Option Capability) → frame_named o ≡ Some f → IfSome o (λ k. k.frame < frames) → f < frames
+    by None is below = absurd (cc)
+    by (Some k) is below = subst (λ (g : ℕ). g < frames) (frame_is k.frame is) below
+reads_below frames call ks f is below = absurd (cc)
+
+-- where more steps may be left, the same step fits
+more_steps : (s : Shape) (later most more : ℕ) (step : WorkStep) → most ≤ more → StepFits s [] later most step
+    → StepFits s [] later more step
+more_steps s later most more (Goes work) few fits = (fits.0, (let left = fits.1 in omega (arith, left, few)), fits.2)
+more_steps s later most more (Acquires count work) few fits = fits
+more_steps s later most more (Refuses r tail) few fits = ((let left = fits.0 in omega (arith, left, few)), fits.1)
+more_steps s later most more (Answers v drawn tail) few fits = ((let left = fits.0 in omega (arith, left, few)), fits.1)
+more_steps s later most more (Changes r change drawn tail) few fits = ((let left = fits.0 in omega (arith, left, few)), fits.1, fits.2)
+
+-- a step that begins a look-up, or refuses
+abbrev IsLook : WorkStep → Type 0
+IsLook (Goes (Lookup look)) = Unit {0}
+IsLook (Goes work) = ⊥
+IsLook (Acquires count work) = ⊥
+IsLook (Refuses r tail) = Unit {0}
+IsLook (Answers v drawn tail) = ⊥
+IsLook (Changes r change drawn tail) = ⊥
+
+under_looks : (within : Bool) (top n : ℕ) → IsLook (looks_under within top n)
+under_looks true top n = tt
+under_looks false top n = tt
+
+entry_looks : (within : Bool) (top i : ℕ) → IsLook (looks_entry within top i)
+entry_looks true top i = tt
+entry_looks false top i = tt
+
+at_looks : (target : place) → IsLook (looks_at target)
+at_looks (place_under table n) = under_looks _ table.frame n
+at_looks (place_in table i) = entry_looks _ table.frame i
+
+-- a look-up that comes after the load of a component's word
+read_fits : (s : Shape) (later most f : ℕ) (step : WorkStep) → f < s.frames → IsLook step → StepFits s [] later most step
+    → StepFits s [] later (1 + most) (read_first (Some f) step)
+read_fits s later most f (Goes (Lookup look)) below is fits = ((below, fits.0), (let left = fits.1 in omega (arith, left)), refl)
+read_fits s later most f (Refuses r tail) below is fits = ((let left = fits.0 in omega (arith, left)), fits.1)
+read_fits s later most f step below is fits = absurd is
+
+pub next_case : (own : Own) (call : Call) (found : List Capability) (names : List Name) (target : Target) → IsOwn own
+    → IfSome (at_place found First) (CapNames own.layout.frames) → ObjectNamed own.layout.frames call found → InLimits call
+    → (names ≡ [] → RootBelow own.layout.frames found target)
+    → StepFits own.layout [] (looks_later names target + acts_later names call own.layout.cores)
+    (look_steps names target + act_steps call own.layout.cores)
+    (next_step own call found (next_in (with_found [] found) names target))
+next_case own call found (name ∷ names) target h first objects limits roots =
+    looks_fits own.layout _ own.table name.number _ _ refl h.table (omega arith)
+next_case own call found [] Nowhere h first objects limits roots =
+    more_steps own.layout _ (after_reading call own.layout.cores) _ (act_begun own call found None None)
+    (let most = after_most call own.layout.cores in omega (arith, most))
+    (act_fits own (0 + after_reading call own.layout.cores) call found None None h first objects limits tt)
+next_case own call found [] (Free spot) h first objects limits roots = by (reads_of call found) refl
+  where
+    by : (o : Option ℕ) → reads_of call found ≡ o
+        → StepFits own.layout [] (0 + after_reading call own.layout.cores) (look_steps [] (Free spot) + act_steps call own.layout.cores)
+        (read_first o (looks_at (place_of (with_found [] found) spot)))
+    by None is =
+        let most = after_most call own.layout.cores in
+        at_fits own.layout found spot _ (act_steps call own.layout.cores) (omega (arith, most)) (roots refl)
+    by (Some f) is =
+        let one = after_one call found f own.layout.cores is in
+        more_steps own.layout _ (1 + (look_steps [] (Free spot) + after_reading call own.layout.cores)) _
+        (read_first (Some f) (looks_at (place_of (with_found [] found) spot))) (omega (arith, one))
+        (read_fits own.layout _ (look_steps [] (Free spot) + after_reading call own.layout.cores) f _
+        (reads_below own.layout.frames call found f is objects) (at_looks (place_of (with_found [] found) spot))
+        (at_fits own.layout found spot _ (after_reading call own.layout.cores) (omega arith) (roots refl)))
+next_case own call found [] (Held spot) h first objects limits roots =
+    let most = after_most call own.layout.cores in
+    at_fits own.layout found spot _ (act_steps call own.layout.cores) (omega (arith, most)) (roots refl)
+next_case own call found [] (own_page v) h first objects limits roots =
+    touched_fit own _ _ v (nat_le v 4095) refl h (omega arith)

@@ -1,0 +1,553 @@
+-- The acts of calls, and the counts that they change.
+use Rattle.std.specs.Prelude.{ℕ, ℤ, ◌<◌, ◌==◌, pos, negsuc, Bool, true, false, ◌&&◌, nat_lt, nat_le, Option, Some, None, List, map, slice_get, if◌then◌else◌, [], ◌∷◌}
+use Rattle.spk_nums.specs.Capability.{Capability}
+use Rattle.spk_nums.specs.declared.calls.Call.{Call}
+use Rattle.spk_nums.specs.declared.calls.Call.TheVariants.{Look, Copy, Remove, Shrink, Retype, Make as make_call, Unmap, Tick, Gate, Kill, Grow, Flush, Map, Call as call_gate, Ret, Switch, Transfer, Delegate, Test}
+use Rattle.spk_nums.specs.declared.calls.Make.{Make}
+use Rattle.spk_nums.specs.declared.calls.Make.TheVariants as make
+use Rattle.spk_nums.specs.declared.replies.Value.TheVariants.{Cap, Nothing as nothing}
+use Rattle.spk_nums.specs.declared.steps.StageEnd.{StageEnd}
+use Rattle.spk_nums.specs.declared.steps.StageEnd.TheVariants as ends
+use Rattle.entry_words.specs.EntryWord.{entry_of_word}
+use Rattle.entry_words.specs.declared.entry.Entry.{Entry}
+use Rattle.entry_words.specs.declared.entry.Entry.TheVariants as entry
+use Rattle.stage_look.specs.Shown.{CapNames}
+use Rattle.stage_quiet.specs.declared.close.Close.{Close}
+use Rattle.stage_quiet.specs.declared.close.Close.TheVariants.{AtCompare as close_compare, AtDraw, AtStore}
+use Rattle.stage_quiet.specs.declared.quiet.Quiet.{Quiet}
+use Rattle.stage_quiet.specs.Removal.{CloseFits, close_move, close_end, close_after}
+use Rattle.stage_quiet.specs.Scan.{quiet_scan, quiet_after, quiet_end}
+use Rattle.act_states.specs.declared.own.Own.{Own}
+use Rattle.kernel_rules.specs.References.{named_by}
+use Rattle.word_map.specs.Places.{Shape}
+use Rattle.word_map.specs.Moves.{Move, LoadOf}
+use Rattle.stage_look.specs.declared.look.Found.{Found}
+use Rattle.stage_pins.specs.declared.pin.Pin.TheVariants.{AtLoad}
+use Rattle.call_plans.specs.declared.plans.Nth.TheVariants.{First, Second, Third, Fourth}
+use Rattle.call_plans.specs.Plans.{at_place}
+use Rattle.act_states.specs.declared.refusals.Refusal.TheVariants.{Raced, OutOfRange, Busy, FrameKind as wrong_kind, Dead as is_dead, Deep, Bottom}
+use Rattle.act_states.specs.declared.work.Act.{Act}
+use Rattle.act_states.specs.declared.work.Act.TheVariants.{Fill as fill_act, Remove as remove_act, Retype as type_act, Make as make_act, Outside, Tick as tick_act, Flush as flush_act, Kill as kill_act, Untype as untype_act, Map as map_act, MakeComp as comp_act, Invoke as invoke_act, Return as return_act, Switch as switch_act, Touch as touch_act, Share as share_act}
+use Rattle.act_states.specs.declared.work.Due.{Due}
+use Rattle.act_states.specs.declared.work.Work.{Work}
+use Rattle.act_states.specs.declared.work.Work.TheVariants.{Scan, Acquire, Act as act_work}
+use Rattle.act_states.specs.declared.work.Tail.{Tail}
+use Rattle.act_states.specs.declared.work.Tail.TheVariants.{Nothing, Quiesce, Unmark, StoreDead, Release as release_tail}
+use Rattle.act_states.specs.declared.work.WorkStep.{WorkStep}
+use Rattle.act_states.specs.declared.work.WorkStep.TheVariants.{Goes, Refuses, Answers}
+use Rattle.act_states.specs.Refusals.{refusal_of}
+use Rattle.act_states.specs.WorkSteps.{refuse}
+use Rattle.act_states.specs.declared.fills.Fill.{Fill}
+use Rattle.act_states.specs.Fills.{FillFits, fill_move, took_fill}
+use Rattle.act_states.specs.declared.typings.TypingAt.TheVariants.{Load}
+use Rattle.act_states.specs.Typings.{TypingFits, typing_move, took_typing, is_typing, typing_left, typed}
+use Rattle.act_states.specs.declared.objects.NewObject.{NewObject}
+use Rattle.act_states.specs.Objects.{object_cap, object_made, object_dues}
+use Rattle.act_states.specs.declared.makings.MakingAt.{MakingAt}
+use Rattle.act_states.specs.declared.makings.MakingAt.TheVariants.{Load as make_load, Mark, Store, Fill as fill_at}
+use Rattle.act_states.specs.declared.makings.Making.{Making}
+use Rattle.act_states.specs.declared.comps.CompMaking.{CompMaking}
+use Rattle.act_states.specs.declared.comps.CompAt.{CompAt}
+use Rattle.act_states.specs.declared.comps.CompAt.TheVariants as comp_at_as
+use Rattle.act_states.specs.Comps.{CompMakingFits, comp_move, comp_dues, comp_undo, comp_filling, comp_left, comp_meets, number_met, number_scanned, closes_number, comp_goes, comp_stored, comp_published}
+use Rattle.act_states.specs.Makings.{made, MakingFits, making_move, stored, undo_at, is_filling, making_left}
+use Rattle.stage_tcap.specs.Charging.{ChargeFits, charge_move}
+use Rattle.act_states.specs.Ticks.{charges, took_tick, is_charging, charge_left}
+use Rattle.stage_tcap.specs.Pairs.{PairFits, pair_move}
+use Rattle.stage_tcap.specs.declared.pair.PairWork.TheVariants as share
+use Rattle.act_states.specs.Shares.{took_share, is_sharing, share_left, shares_at}
+use Rattle.stage_quiet.specs.Flushing.{flush_move}
+use Rattle.stage_quiet.specs.declared.flush_mark.FlushMark.TheVariants.{AtLoad as flush_load}
+use Rattle.act_states.specs.Flushes.{flushes, took_flush}
+use Rattle.stage_look.specs.Lookup.{look_move}
+use Rattle.act_states.specs.Touches.{TouchFits, took_touch, is_answering, touch_left}
+use Rattle.act_states.specs.declared.kills.Killing.{Killing}
+use Rattle.act_states.specs.declared.kills.KillingAt.{KillingAt}
+use Rattle.act_states.specs.declared.kills.KillingAt.TheVariants.{LoadComp, LoadLive, Close as kill_close, Draw as kill_draw}
+use Rattle.act_states.specs.declared.invocations.Invoking.{Invoking}
+use Rattle.act_states.specs.declared.invocations.InvokingAt.{InvokingAt}
+use Rattle.act_states.specs.declared.invocations.InvokingAt.TheVariants as invoking
+use Rattle.act_states.specs.declared.invocations.Returning.{Returning}
+use Rattle.act_states.specs.declared.invocations.ReturningAt.{ReturningAt}
+use Rattle.act_states.specs.declared.invocations.ReturningAt.TheVariants as returning
+use Rattle.act_states.specs.Invocations.{InvokingFits, invoking_move, is_entering, invoking_left, frame_in, enters_live, ReturningFits, returning_move, is_leaving, returning_left, below_in, left_to}
+use Rattle.act_states.specs.declared.switches.Switching.{Switching}
+use Rattle.act_states.specs.declared.switches.SwitchAt.{SwitchAt}
+use Rattle.act_states.specs.declared.switches.SwitchAt.TheVariants as switch_at
+use Rattle.act_states.specs.Switches.{SwitchingFits, switching_move, switching_dues, is_switching, switching_left, switching_undo, gives_back, switch_goes, took_claim, switch_table, switched}
+use Rattle.stage_thread.specs.Claiming.{claim_after, claim_end}
+use Rattle.stage_thread.specs.declared.claim.Claim.TheVariants as claim
+use Rattle.stage_thread.specs.declared.claim.Claimed.{Claimed}
+use Rattle.act_states.specs.Kills.{KillingFits, killing_move, is_killing, killing_left}
+use Rattle.act_states.specs.declared.untypings.Untyping.{Untyping}
+use Rattle.act_states.specs.declared.untypings.UntypingAt.{UntypingAt}
+use Rattle.act_states.specs.declared.untypings.UntypingAt.TheVariants.{Load as untype_load, Mark as untype_mark, Sweep as untype_sweep, Draw as untype_draw}
+use Rattle.act_states.specs.Untypings.{UntypingFits, untyping_move, is_drawing, untyping_dues, untyping_undo, release_of, untyping_left}
+use Rattle.stage_sweep.specs.Freeze.{swept_of, sweep_end, sweep_after}
+use Rattle.stage_sweep.specs.declared.sweep.Sweep.{Sweep}
+use Rattle.stage_sweep.specs.declared.sweep.SweepAt.TheVariants as sweep
+use Rattle.stage_sweep.specs.declared.sweep.Swept.{Swept}
+use Rattle.frame_words.specs.Comp.{comp_of_word}
+use Rattle.frame_words.specs.Live.{live_of_word}
+use Rattle.frame_words.specs.declared.comp_word.CompWord.{CompWord}
+use Rattle.frame_words.specs.declared.live_word.LiveWord.{LiveWord}
+use Rattle.frame_words.specs.declared.live_word.LiveWord.TheVariants as live
+use Rattle.stage_quiet.specs.Clocks.{drawn_stamp}
+use Rattle.spk_nums.specs.declared.kinds.Kind.{Kind}
+use Rattle.spk_nums.specs.declared.kinds.Kind.TheVariants as kind
+use Rattle.spk_nums.specs.declared.kinds.FrameKind.{FrameKind}
+use Rattle.spk_nums.specs.declared.kinds.FrameKind.TheVariants.{Untyped, User, Kernel}
+use Rattle.spk_nums.specs.declared.kinds.PageFlags.{PageFlags}
+use Rattle.spk_nums.specs.declared.kinds.Obj.{Obj}
+use Rattle.spk_nums.specs.declared.kinds.Obj.TheVariants.{Blank}
+use Rattle.frame_words.specs.Frame.{word_of_frame, frame_of_word}
+use Rattle.frame_words.specs.declared.frame_word.FrameWord.{FrameWord}
+use Rattle.word_map.specs.Word.{EntryAt, FrameAt}
+use Rattle.kernel_rules.specs.Access.{found as named, only}
+use Rattle.kernel_rules.specs.Start.{plain_cap}
+use Rattle.kernel_rules.specs.CapabilityCalls.{has_frame}
+pub use Rattle.act_states.specs.Dues.{cap_dues, made_dues, killing_dues, invoking_dues, returning_dues, dues, acquires, next_work}
+pub use Rattle.act_states.specs.Taking.{meets_object, meets_kernel, meets_blank, meets_making, marks_if, published, took_making_at, took_making, meets_comp, meets_life, meets_number, meets_live, closes_if, drawn_dead, took_killing_at, took_killing, meets_untyped, meets_untyping, sweep_from, sweeps_if, took_sweep, drawn_untyped, took_untyping_at, took_untyping, maps_kind, maps_frame, maps_word, comp_marks, took_comp_at, took_comp, meets_table, meets_pages, meets_gate, took_invoking_at, took_invoking, meets_below, meets_below_table, meets_below_pages, took_returning_at, took_returning, switch_pages, took_switching_at, took_switching}
+
+-- what an act names is of the machine
+abbrev pub ActFits : Shape → Act → Type 0
+ActFits s (fill_act fill) = FillFits s fill
+ActFits s (remove_act close cap) = CloseFits s close × CapNames s.frames cap
+ActFits s (type_act typing) = TypingFits s typing
+ActFits s (make_act m) = MakingFits s m
+ActFits s (map_act fill) = FillFits s fill × (fill.cap.frame < s.frames)
+ActFits s (Outside node entry word) = (node < s.frames) × (entry < 64)
+ActFits s (tick_act charge) = ChargeFits s charge
+ActFits s (touch_act m) = TouchFits s m
+ActFits s (flush_act core) = core < s.cores
+ActFits s (kill_act m) = KillingFits s m
+ActFits s (untype_act m) = UntypingFits s m
+ActFits s (comp_act m) = CompMakingFits s m
+ActFits s (invoke_act m) = InvokingFits s m
+ActFits s (return_act m) = ReturningFits s m
+ActFits s (switch_act m) = SwitchingFits s m
+ActFits s (share_act p) = PairFits s p
+
+-- the stamp with which a removal that has drawn it goes on to its store
+abbrev pub drawn_by : Close → Option ℕ
+drawn_by (close_compare node entry word core) = None
+drawn_by (AtDraw node entry) = None
+drawn_by (AtStore node entry stamp) = Some stamp
+
+-- what a removal takes from its step, after which it stands here: it is lost, goes on to the draw, or is carried out with the stamp
+-- that it has drawn, and has then still to store the entry
+abbrev pub took_close : Capability → Close → StageEnd ℕ → WorkStep
+took_close cap close ends.Going = Goes (act_work (remove_act close cap))
+took_close cap close (ends.Decided r) = Answers nothing (drawn_by close) (Quiesce close)
+took_close cap close (ends.Done stamp) = refuse Raced
+took_close cap close (ends.Refuse r) = refuse (refusal_of r)
+
+-- the next step of an act; one that is out of range makes none
+abbrev pub act_move : Act → Move
+act_move (fill_act fill) = fill_move fill
+act_move (remove_act close cap) = close_move close
+act_move (type_act typing) = typing_move typing
+act_move (make_act m) = making_move m
+act_move (map_act fill) = LoadOf (FrameAt fill.cap.frame)
+act_move (Outside node entry word) = LoadOf (EntryAt node entry)
+act_move (tick_act charge) = charge_move charge
+act_move (touch_act m) = look_move m.look
+act_move (flush_act core) = flush_move (flush_load core)
+act_move (kill_act m) = killing_move m
+act_move (untype_act m) = untyping_move m
+act_move (comp_act m) = comp_move m
+act_move (invoke_act m) = invoking_move m
+act_move (return_act m) = returning_move m
+act_move (switch_act m) = switching_move m
+act_move (share_act p) = pair_move p
+
+-- whether the next step of a removal draws its stamp
+abbrev pub is_draw : Close → Bool
+is_draw (close_compare node entry word core) = false
+is_draw (AtDraw node entry) = true
+is_draw (AtStore node entry stamp) = false
+
+-- whether the next step is the one that decides `ok`
+abbrev pub act_ready : Act → Bool
+act_ready (fill_act fill) = true
+act_ready (remove_act close cap) = is_draw close
+act_ready (type_act typing) = is_typing typing.at
+act_ready (make_act m) = is_filling m.at
+act_ready (map_act fill) = false
+act_ready (Outside node entry word) = false
+act_ready (tick_act charge) = is_charging charge
+act_ready (touch_act m) = is_answering m
+act_ready (flush_act core) = true
+act_ready (kill_act m) = is_killing m.at
+act_ready (untype_act m) = is_drawing m.at
+act_ready (comp_act m) = comp_filling m.at
+act_ready (invoke_act m) = is_entering m.at
+act_ready (return_act m) = is_leaving m.at
+act_ready (switch_act m) = is_switching m.at
+act_ready (share_act p) = is_sharing p.at
+
+-- the steps of a removal that are still to come
+abbrev pub close_left : Close → ℕ
+close_left (close_compare node entry word core) = 3
+close_left (AtDraw node entry) = 2
+close_left (AtStore node entry stamp) = 1
+
+-- the most steps of an act that are still to come, with those of what it leaves to be stored, on so many cores
+abbrev pub act_left : ℕ → Act → ℕ
+act_left cores (fill_act fill) = 1
+act_left cores (remove_act close cap) = close_left close
+act_left cores (type_act typing) = typing_left typing.at
+act_left cores (make_act m) = making_left m.object m.at
+act_left cores (map_act fill) = 2
+act_left cores (Outside node entry word) = 1
+act_left cores (tick_act charge) = charge_left charge
+act_left cores (touch_act m) = touch_left m.look
+act_left cores (flush_act core) = 2
+act_left cores (kill_act m) = killing_left m.at
+act_left cores (untype_act m) = untyping_left cores m.at
+act_left cores (comp_act m) = comp_left m.cores m.at
+act_left cores (invoke_act m) = invoking_left m.at
+act_left cores (return_act m) = returning_left m.at
+act_left cores (switch_act m) = switching_left m.at
+act_left cores (share_act p) = share_left p.what p.at
+
+-- a look answers what its name has led to
+abbrev pub looked : Option Capability → WorkStep
+looked None = refuse Raced
+looked (Some k) = Answers (Cap k) None Nothing
+
+-- what an act takes from the word found
+abbrev pub took_act : Shape → Act → ℕ → WorkStep
+took_act s (fill_act fill) found = took_fill fill found
+took_act s (remove_act close cap) found = took_close cap (close_after close found) (close_end close found)
+took_act s (type_act typing) found = took_typing typing found
+took_act s (make_act m) found = took_making m found
+took_act s (map_act fill) found = maps_word fill (frame_of_word found)
+took_act s (Outside node entry word) found = refuse OutOfRange
+took_act s (tick_act charge) found = took_tick charge found
+took_act s (touch_act m) found = took_touch m found
+took_act s (flush_act core) found = took_flush core found
+took_act s (kill_act m) found = took_killing m found
+took_act s (untype_act m) found = took_untyping s m found
+took_act s (comp_act m) found = took_comp m found
+took_act s (invoke_act m) found = took_invoking m found
+took_act s (return_act m) found = took_returning m found
+took_act s (switch_act m) found = took_switching m found
+took_act s (share_act p) found = took_share p found
+
+-- what a refused call has still to store where it acquires a count for an act
+abbrev pub undo : Act → Tail
+undo (fill_act fill) = Nothing
+undo (remove_act close cap) = Nothing
+undo (type_act typing) = Nothing
+undo (make_act m) = undo_at m.frame m.at
+undo (map_act fill) = Nothing
+undo (Outside node entry word) = Nothing
+undo (tick_act charge) = Nothing
+undo (touch_act m) = Nothing
+undo (flush_act core) = Nothing
+undo (kill_act m) = Nothing
+undo (untype_act m) = untyping_undo m.frame m.at
+undo (comp_act m) = comp_undo m m.at
+undo (invoke_act m) = Nothing
+undo (return_act m) = Nothing
+undo (switch_act m) = switching_undo m.at
+undo (share_act p) = Nothing
+
+-- an act starts with its first count, where it is not out of range
+abbrev pub starts : ℕ → Act → WorkStep
+starts core (Outside node entry word) = refuse OutOfRange
+starts core act = Goes (next_work core 0 act)
+
+-- it starts after a scan, if there is one
+abbrev pub scans : ℕ → Option Quiet → Act → WorkStep
+scans core None act = starts core act
+scans core (Some q) act = Goes (Scan q act)
+
+-- the stamp since which an entry is quiescing, 0 for one that is not
+abbrev pub stamp_in : Entry → ℕ
+stamp_in entry.Free = 0
+stamp_in (entry.Held k) = 0
+stamp_in (entry.Closing by) = 0
+stamp_in (entry.Quiescing stamp) = stamp
+
+-- a place is filled with a capability; one that is quiescing is scanned for first, and where it is one of a page table, so are the flushes
+abbrev pub filling : Capability → Found → Act
+filling k f = fill_act (record { node = f.node; entry = f.entry; word = f.word; cap = k })
+
+abbrev pub fills_at : Own → Capability → Bool → Found → WorkStep
+fills_at own k page f = scans own.core (quiet_scan (stamp_in f.value) own.core own.layout.cores page) (filling k f)
+
+abbrev pub fills_with : Own → Option Capability → Bool → Option Found → WorkStep
+fills_with own None page f = refuse Raced
+fills_with own (Some k) page None = refuse Raced
+fills_with own (Some k) page (Some f) = fills_at own k page f
+
+-- what a place holds is removed
+abbrev pub removing : ℕ → Capability → Found → Act
+removing core k f = remove_act (close_compare f.node f.entry f.word core) k
+
+abbrev pub removes_held : ℕ → Found → Entry → WorkStep
+removes_held core f entry.Free = refuse Raced
+removes_held core f (entry.Held k) = Goes (next_work core 0 (removing core k f))
+removes_held core f (entry.Closing by) = refuse Raced
+removes_held core f (entry.Quiescing stamp) = refuse Raced
+
+abbrev pub removes_at : ℕ → Option Found → WorkStep
+removes_at core None = refuse Raced
+removes_at core (Some f) = removes_held core f f.value
+
+-- a link to the leaf to which a name has led
+abbrev pub link_to : Option Capability → Option Capability
+link_to None = None
+link_to (Some leaf) = Some (plain_cap kind.Link leaf.frame)
+
+-- a mapping of a frame of this range, with these flags
+abbrev pub page_cap : ℕ → PageFlags → Capability
+page_cap f w = record { kind = kind.Page; frame = f; arg = w.0 }
+
+abbrev pub page_of : Option Capability → ℕ → PageFlags → Option Capability
+page_of None f w = None
+page_of (Some range) f w = if has_frame (named range) f then Some (page_cap f w) else None
+
+-- the gate to a component whose word has been read in this epoch; an epoch of 0 is none
+abbrev pub gate_if : Bool → ℕ → ℕ → Option Capability
+gate_if some f epoch = if some then Some (record { kind = kind.Gate; frame = f; arg = epoch }) else None
+
+abbrev pub gate_to : Option Capability → Option ℕ → Option Capability
+gate_to (Some comp) (Some epoch) = gate_if (nat_le 1 epoch) comp.frame epoch
+gate_to _ _ = None
+
+-- what a call that fills its target puts there, where its names have led to these and it has read this
+abbrev pub put_by : Call → List Capability → Option ℕ → Option Capability
+put_by (Copy a t b) found read = at_place found First
+put_by (Grow t i l) found read = link_to (at_place found Second)
+put_by (Map p v r f w) found read = page_of (at_place found Second) f w
+put_by (Gate c t b) found read = gate_to (at_place found First) read
+put_by _ found read = None
+
+-- the frame of the component whose word a call reads before it looks its target up, where its names have led to these
+abbrev pub frame_named : Option Capability → Option ℕ
+frame_named None = None
+frame_named (Some k) = Some k.frame
+
+abbrev pub reads_of : Call → List Capability → Option ℕ
+reads_of (Gate c t b) found = frame_named (at_place found First)
+reads_of _ found = None
+
+-- whether a name has led to the root of a page table
+abbrev pub is_pages : Option Capability → Bool
+is_pages None = false
+is_pages (Some k) = only kind.Pages k.kind
+
+-- whether a call fills a place of a page table: one that is quiescing is then free only where all cores have flushed
+abbrev pub fills_page : Call → List Capability → Bool
+fills_page (Grow t i l) found = is_pages (at_place found First)
+fills_page (Map p v r f w) found = true
+fills_page _ found = false
+
+-- whether a call removes what its target holds
+abbrev pub removes_by : Call → Bool
+removes_by (Remove t b) = true
+removes_by (Shrink t i) = true
+removes_by (Unmap p v) = true
+removes_by _ = false
+
+-- the stamp of the word that an act is to fill
+abbrev pub stamp_shown : Option Entry → ℕ
+stamp_shown None = 0
+stamp_shown (Some e) = stamp_in e
+
+abbrev pub stamp_of_act : Act → ℕ
+stamp_of_act (fill_act fill) = stamp_shown (entry_of_word fill.word)
+stamp_of_act (remove_act close cap) = 0
+stamp_of_act (type_act typing) = 0
+stamp_of_act (make_act m) = stamp_shown (entry_of_word m.fill.word)
+stamp_of_act (map_act fill) = stamp_shown (entry_of_word fill.word)
+stamp_of_act (Outside node entry word) = stamp_shown (entry_of_word word)
+stamp_of_act (tick_act charge) = 0
+stamp_of_act (touch_act m) = 0
+stamp_of_act (flush_act core) = 0
+stamp_of_act (kill_act m) = 0
+stamp_of_act (untype_act m) = 0
+stamp_of_act (comp_act m) = stamp_shown (entry_of_word m.fill.word)
+stamp_of_act (invoke_act m) = 0
+stamp_of_act (return_act m) = 0
+stamp_of_act (switch_act m) = 0
+stamp_of_act (share_act p) = 0
+
+-- a frame is typed, or made untyped again, where it is in the range, which has none past the machine's
+abbrev pub typing_to : ℕ → ℕ → FrameKind → Act
+typing_to core f Untyped = untype_act (record { frame = f; core = core; at = untype_load })
+typing_to core f User = type_act (record { frame = f; kind = User; at = Load })
+typing_to core f Kernel = type_act (record { frame = f; kind = Kernel; at = Load })
+
+abbrev pub types_if : Bool → ℕ → ℕ → FrameKind → WorkStep
+types_if within core f k = if within then Goes (act_work (typing_to core f k)) else refuse OutOfRange
+
+abbrev pub types_at : Own → Option Capability → ℕ → FrameKind → WorkStep
+types_at own None f k = refuse Raced
+types_at own (Some range) f k = types_if (has_frame (named range) f && nat_lt f own.layout.frames) own.core f k
+
+-- an object is made in a frame of the range, and its capability put at the target
+abbrev pub making : Own → NewObject → ℕ → Found → Act
+making own object frame f = make_act (record {
+  frame = frame;
+  object = object;
+  core = own.core;
+  fill = record { node = f.node; entry = f.entry; word = f.word; cap = object_cap object frame };
+  at = make_load;
+})
+
+abbrev pub making_if : Bool → Own → NewObject → ℕ → Found → Act
+making_if within own object frame f = if within then making own object frame f else Outside f.node f.entry f.word
+
+abbrev pub makes_in : Own → NewObject → Capability → ℕ → Found → WorkStep
+makes_in own object range frame f =
+    scans own.core (quiet_scan (stamp_in f.value) own.core own.layout.cores false)
+    (making_if (has_frame (named range) frame && nat_lt frame own.layout.frames) own object frame f)
+
+abbrev pub makes_at : Own → Option NewObject → Option Capability → ℕ → Option Found → WorkStep
+makes_at own (Some object) (Some range) frame (Some f) = makes_in own object range frame f
+makes_at own _ _ frame _ = refuse Raced
+
+-- a frame of the range is mapped in the place that was found; flags past their range never come
+abbrev pub mapping : ℕ → PageFlags → Found → Act
+mapping frame w f = map_act (record { node = f.node; entry = f.entry; word = f.word; cap = page_cap frame w })
+
+abbrev pub mapping_if : Bool → ℕ → PageFlags → Found → Act
+mapping_if within frame w f = if within then mapping frame w f else Outside f.node f.entry f.word
+
+abbrev pub maps_in : Own → Capability → ℕ → PageFlags → Found → WorkStep
+maps_in own range frame w f =
+    scans own.core (quiet_scan (stamp_in f.value) own.core own.layout.cores true)
+    (mapping_if (has_frame (named range) frame && nat_lt frame own.layout.frames) frame w f)
+
+abbrev pub maps_if : Bool → Own → Capability → ℕ → PageFlags → Found → WorkStep
+maps_if flags own range frame w f = if flags then maps_in own range frame w f else refuse Raced
+
+abbrev pub maps_at : Own → Option Capability → ℕ → PageFlags → Option Found → WorkStep
+maps_at own (Some range) frame w (Some f) = maps_if (nat_lt w.0 4) own range frame w f
+maps_at own _ frame w _ = refuse Raced
+
+-- a component is made in a frame of the range, and its capability put at the target
+abbrev pub comp_cap : ℕ → Capability
+comp_cap f = record { kind = kind.Comp; frame = f; arg = 0 }
+
+abbrev pub comp_making : Own → ℕ → Capability → Capability → ℕ → Found → Act
+comp_making own live table pages frame f = comp_act (record {
+  frame = frame;
+  table = table.frame;
+  pages = pages.frame;
+  number = live;
+  core = own.core;
+  cores = own.layout.cores;
+  epochs = own.epochs;
+  fill = record { node = f.node; entry = f.entry; word = f.word; cap = comp_cap frame };
+  at = comp_at_as.Load;
+})
+
+abbrev pub comp_if : Bool → Own → ℕ → Capability → Capability → ℕ → Found → Act
+comp_if within own live table pages frame f =
+    if within then comp_making own live table pages frame f else Outside f.node f.entry f.word
+
+abbrev pub comps_in : Own → ℕ → Capability → Capability → Capability → ℕ → Found → WorkStep
+comps_in own live range table pages frame f =
+    scans own.core (quiet_scan (stamp_in f.value) own.core own.layout.cores false)
+    (comp_if (has_frame (named range) frame && nat_lt frame own.layout.frames) own live table pages frame f)
+
+abbrev pub comps_at : Own → ℕ → Option Capability → Option Capability → Option Capability → ℕ → Option Found → WorkStep
+comps_at own live (Some range) (Some table) (Some pages) frame (Some f) = comps_in own live range table pages frame f
+comps_at own live _ _ _ frame _ = refuse Raced
+
+-- what a `make` does whose names have led to these
+abbrev pub made_begun : Own → Make → List Capability → ℕ → Option Found → WorkStep
+made_begun own (make.Comp table pages live) found frame target =
+    comps_at own live (at_place found First) (at_place found Third) (at_place found Fourth) frame target
+made_begun own what found frame target = makes_at own (object_made what found) (at_place found First) frame target
+
+-- the component to which a name has led is killed; a capability of another kind names none
+abbrev pub kills_in : ℕ → Kind → ℕ → WorkStep
+kills_in core kind.Comp f = Goes (act_work (kill_act (record { comp = f; core = core; at = LoadComp })))
+kills_in core _ f = refuse Raced
+
+abbrev pub kills_at : Own → Option Capability → WorkStep
+kills_at own None = refuse Raced
+kills_at own (Some k) = kills_in own.core k.kind k.frame
+
+-- the component of a gate to which a name has led is entered, where the stack is not full; a capability of another kind is no gate
+abbrev pub invokes_if : Bool → Own → ℕ → ℕ → WorkStep
+invokes_if deep own f epoch =
+    if deep then refuse Deep
+    else Goes (act_work (invoke_act (record {
+      comp = f;
+      epoch = epoch;
+      thread = own.thread;
+      depth = own.depth;
+      core = own.core;
+      frames = own.layout.frames;
+      at = invoking.LoadTable;
+    })))
+
+abbrev pub invokes_in : Own → Kind → ℕ → ℕ → WorkStep
+invokes_in own kind.Gate f epoch = invokes_if (nat_le 16 own.depth) own f epoch
+invokes_in own _ f epoch = refuse Raced
+
+abbrev pub invokes_at : Own → Option Capability → WorkStep
+invokes_at own None = refuse Raced
+invokes_at own (Some k) = invokes_in own k.kind k.frame k.arg
+
+-- a core's component is left, where it is not the bottom of the stack
+abbrev pub returns_if : Bool → Own → WorkStep
+returns_if bottom own =
+    if bottom then refuse Bottom
+    else Goes (act_work (return_act (record {
+      top = own.comp;
+      thread = own.thread;
+      depth = own.depth;
+      core = own.core;
+      frames = own.layout.frames;
+      at = returning.LoadBelow;
+    })))
+
+abbrev pub returns_at : Own → WorkStep
+returns_at own = returns_if (nat_le own.depth 1) own
+
+-- the core switches to the thread and the temporal capability to which names have led
+abbrev pub switching : Own → ℕ → ℕ → Switching
+switching own f q = record {
+  core = own.core;
+  frames = own.layout.frames;
+  tcap = q;
+  old = own.thread;
+  old_depth = own.depth;
+  old_tcap = own.tcap;
+  at = switch_at.Claim (claim.AtLoad f own.core);
+}
+
+abbrev pub switches_at : Own → Option Capability → Option Capability → WorkStep
+switches_at own (Some thread) (Some tcap) = Goes (act_work (switch_act (switching own thread.frame tcap.frame)))
+switches_at own _ _ = refuse Raced
+
+-- what a call of a core does whose names have led to these, which has read this, and whose target, if it has one, was found
+abbrev pub act_begun : Own → Call → List Capability → Option ℕ → Option Found → WorkStep
+act_begun own (Look a) found read target = looked (at_place found First)
+act_begun own (Copy a t b) found read target = fills_with own (put_by (Copy a t b) found read) false target
+act_begun own (Grow t i l) found read target = fills_with own (put_by (Grow t i l) found read) (fills_page (Grow t i l) found) target
+act_begun own (Map p v r f w) found read target = maps_at own (at_place found Second) f w target
+act_begun own (Remove t b) found read target = removes_at own.core target
+act_begun own (Shrink t i) found read target = removes_at own.core target
+act_begun own (Unmap p v) found read target = removes_at own.core target
+act_begun own (Retype r f k) found read target = types_at own (at_place found First) f k
+act_begun own (make_call what range frame table slot) found read target = made_begun own what found frame target
+act_begun own Flush found read target = flushes own.core
+act_begun own (Tick n) found read target = charges own n
+act_begun own (Gate c t b) found read target = fills_with own (put_by (Gate c t b) found read) false target
+act_begun own (Kill k) found read target = kills_at own (at_place found First)
+act_begun own (call_gate g) found read target = invokes_at own (at_place found First)
+act_begun own Ret found read target = returns_at own
+act_begun own (Switch h q) found read target = switches_at own (at_place found First) (at_place found Second)
+act_begun own (Transfer a b m) found read target = shares_at own.core (share.Transfer m) (at_place found First) (at_place found Second)
+act_begun own (Delegate a b m) found read target = shares_at own.core (share.Delegate m) (at_place found First) (at_place found Second)
+act_begun own (Test a b) found read target = shares_at own.core share.Test (at_place found First) (at_place found Second)
+act_begun own _ found read target = refuse Raced

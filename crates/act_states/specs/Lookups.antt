@@ -1,0 +1,67 @@
+-- The look-ups of a call, driven by its plan.
+use Rattle.std.specs.Prelude.{ℕ, Bool, nat_le, if◌then◌else◌, Option, Some, None, List}
+use Rattle.spk_nums.specs.Capability.{Capability}
+use Rattle.spk_nums.specs.declared.kinds.Kind.{Kind}
+use Rattle.spk_nums.specs.declared.calls.Call.{Call}
+use Rattle.entry_words.specs.declared.entry.Entry.{Entry}
+use Rattle.entry_words.specs.declared.entry.Entry.TheVariants as entry
+use Rattle.kernel_rules.specs.Access.{Target as place, Under, InRoot}
+use Rattle.stage_look.specs.declared.look.Look.TheVariants.{AtRoot, AtEntry}
+use Rattle.stage_look.specs.declared.look.Found.{Found}
+use Rattle.call_plans.specs.After.{Next, NextName, NextFree, NextHeld, NextOwn, NextNothing}
+use Rattle.act_states.specs.declared.own.Own.{Own}
+use Rattle.act_states.specs.declared.refusals.Refusal.TheVariants.{NoSlot, Empty, WrongCap, Occupied, Busy, Raced}
+use Rattle.act_states.specs.declared.lookups.Met.{Met}
+use Rattle.act_states.specs.declared.lookups.Met.TheVariants.{Finds, Refused}
+use Rattle.act_states.specs.declared.work.Work.TheVariants.{Lookup, Read}
+use Rattle.act_states.specs.declared.work.WorkStep.{WorkStep}
+use Rattle.act_states.specs.declared.work.WorkStep.TheVariants.{Goes}
+use Rattle.act_states.specs.WorkSteps.{refuse}
+use Rattle.act_states.specs.Acts.{act_begun, reads_of}
+use Rattle.act_states.specs.Touches.{touches}
+
+-- a number, or a root entry, is looked up, if it is within its range
+abbrev pub looks_under : Bool → ℕ → ℕ → WorkStep
+looks_under within root n = if within then Goes (Lookup (AtRoot root n)) else refuse NoSlot
+
+abbrev pub looks_entry : Bool → ℕ → ℕ → WorkStep
+looks_entry within root i = if within then Goes (Lookup (AtEntry root i)) else refuse NoSlot
+
+abbrev pub looks_at : place → WorkStep
+looks_at (Under table n) = looks_under (nat_le n 4095) table.frame n
+looks_at (InRoot table i) = looks_entry (nat_le i 63) table.frame i
+
+-- a component's word is read before its target is looked up, of a call that reads one
+abbrev pub read_first : Option ℕ → WorkStep → WorkStep
+read_first None step = step
+read_first (Some comp) (Goes (Lookup look)) = Goes (Read comp look)
+read_first (Some comp) step = step
+
+-- what comes next of a core's call whose names have led to these; a page of its own is looked up by its act
+abbrev pub next_step : Own → Call → List Capability → Next → WorkStep
+next_step own call found (NextName n wanted) = looks_under (nat_le n 4095) own.table n
+next_step own call found (NextFree target) = read_first (reads_of call found) (looks_at target)
+next_step own call found (NextHeld target) = looks_at target
+next_step own call found (NextOwn v) = touches own v
+next_step own call found NextNothing = act_begun own call found None None
+
+-- what a name has led to that wants these kinds, where its place shows this entry
+abbrev pub met_name : (Kind → Bool) → Entry → Met
+met_name wanted entry.Free = Refused Empty
+met_name wanted (entry.Held k) = if wanted k.kind then Finds k else Refused WrongCap
+met_name wanted (entry.Closing by) = Refused (Busy by)
+met_name wanted (entry.Quiescing stamp) = Refused Empty
+
+-- what a call of a core does that has read this and whose target is to be free, where its place shows this entry
+abbrev pub met_free : Own → Call → List Capability → Option ℕ → Found → Entry → WorkStep
+met_free own call found read target entry.Free = act_begun own call found read (Some target)
+met_free own call found read target (entry.Held k) = refuse Occupied
+met_free own call found read target (entry.Closing by) = refuse (Busy by)
+met_free own call found read target (entry.Quiescing stamp) = act_begun own call found read (Some target)
+
+-- what a call of a core does whose target is to be held, where its place shows this entry
+abbrev pub met_held : Own → Call → List Capability → Found → Entry → WorkStep
+met_held own call found target entry.Free = refuse Empty
+met_held own call found target (entry.Held k) = act_begun own call found None (Some target)
+met_held own call found target (entry.Closing by) = refuse (Busy by)
+met_held own call found target (entry.Quiescing stamp) = refuse Empty

@@ -1,0 +1,80 @@
+-- The act that makes an object in a blank kernel frame.
+use Rattle.std.specs.Prelude.{ℕ, ◌+◌, ◌-◌, ◌*◌, ◌<◌, ◌≤◌, nat_lt, Bool, true, false, Some, None, if◌then◌else◌}
+use Rattle.spk_nums.specs.declared.kinds.FrameKind.TheVariants as frame_kind
+use Rattle.spk_nums.specs.declared.kinds.Obj.TheVariants as obj
+use Rattle.frame_words.specs.Frame.{word_of_frame}
+use Rattle.frame_words.specs.declared.frame_word.FrameWord.{FrameWord}
+use Rattle.word_map.specs.Word.{EntryAt, FrameAt}
+use Rattle.word_map.specs.Places.{Shape}
+use Rattle.word_map.specs.Moves.{Move, LoadOf, CompareOf, StoreOf}
+use Rattle.act_states.specs.Fills.{FillFits, fill_move}
+use Rattle.act_states.specs.declared.fills.Fill.{Fill}
+use Rattle.act_states.specs.Objects.{object_obj, object_word, last_word, counts_of, ObjectFits}
+use Rattle.act_states.specs.declared.objects.NewObject.{NewObject}
+use Rattle.act_states.specs.declared.makings.MakingAt.{MakingAt}
+use Rattle.act_states.specs.declared.makings.MakingAt.TheVariants.{Load, Mark, Store, Fill as fill_at}
+use Rattle.act_states.specs.declared.makings.Making.{Making}
+use Rattle.act_states.specs.declared.work.Tail.{Tail}
+use Rattle.act_states.specs.declared.work.Tail.TheVariants.{Nothing, Unmark}
+
+-- the word of a blank frame that a core has marked, and that of a frame that holds an object
+abbrev pub marked : ℕ → FrameWord
+marked core = record { kind = frame_kind.Kernel; object = obj.Blank; mark = Some core }
+
+abbrev pub made : NewObject → FrameWord
+made object = record { kind = frame_kind.Kernel; object = object_obj object; mark = None }
+
+-- what it names is of the machine
+abbrev pub MakingAtFits : NewObject → MakingAt → Type 0
+MakingAtFits object Load = Unit {0}
+MakingAtFits object (Mark word) = Unit {0}
+MakingAtFits object (Store word entry) = entry ≤ last_word object
+MakingAtFits object (fill_at word) = Unit {0}
+
+pub record MakingFits (s : Shape) (m : Making) : Type 0 where
+  pub frame : m.frame < s.frames
+  pub core : m.core < s.cores
+  pub object : ObjectFits s m.object
+  pub fill : FillFits s m.fill
+  pub at : MakingAtFits m.object m.at
+
+-- its steps
+abbrev pub making_at : ℕ → NewObject → ℕ → Fill → MakingAt → Move
+making_at f object core fill Load = LoadOf (FrameAt f)
+making_at f object core fill (Mark word) = CompareOf (FrameAt f) word (word_of_frame (marked core))
+making_at f object core fill (Store word entry) = StoreOf (EntryAt f entry) (object_word object entry)
+making_at f object core fill (fill_at word) = fill_move fill
+
+abbrev pub making_move : Making → Move
+making_move m = making_at m.frame m.object m.core m.fill m.at
+
+-- where it stands after the store of a word
+abbrev pub stored : NewObject → ℕ → ℕ → MakingAt
+stored object word entry = if nat_lt entry (last_word object) then Store word (entry + 1) else fill_at word
+
+-- whether the frame is marked, and what a refused call has then still to store: the frame's word as it was found
+abbrev pub is_marked : MakingAt → Bool
+is_marked Load = false
+is_marked (Mark word) = false
+is_marked (Store word entry) = true
+is_marked (fill_at word) = true
+
+abbrev pub undo_at : ℕ → MakingAt → Tail
+undo_at f Load = Nothing
+undo_at f (Mark word) = Nothing
+undo_at f (Store word entry) = Unmark f word
+undo_at f (fill_at word) = Unmark f word
+
+-- whether the next step is the compare of the target
+abbrev pub is_filling : MakingAt → Bool
+is_filling Load = false
+is_filling (Mark word) = false
+is_filling (Store word entry) = false
+is_filling (fill_at word) = true
+
+-- the steps that are still to come, with the acquiring and the commit of the counts where the frame is not marked yet
+abbrev pub making_left : NewObject → MakingAt → ℕ
+making_left object Load = 3 * counts_of object + last_word object + 5
+making_left object (Mark word) = 3 * counts_of object + last_word object + 4
+making_left object (Store word entry) = last_word object - entry + 3
+making_left object (fill_at word) = 2

@@ -1,0 +1,127 @@
+-- The acts on two temporal capabilities: a transfer, a delegation, and a test of preemption.
+use Rattle.std.specs.Prelude.{ℕ, ◌-◌, ◌+◌, ◌==◌, Bool, true, false, Option, Some, None, if◌then◌else◌, [], IsTrue}
+use Rattle.spk_nums.specs.Capability.{Capability}
+use Rattle.spk_nums.specs.declared.replies.Reply.{Reply}
+use Rattle.spk_nums.specs.declared.replies.Reply.TheVariants.{Ok}
+use Rattle.spk_nums.specs.declared.replies.Value.{Value}
+use Rattle.spk_nums.specs.declared.steps.StageEnd.{StageEnd}
+use Rattle.spk_nums.specs.declared.steps.StageEnd.TheVariants as ends
+use Rattle.word_map.specs.Places.{Shape}
+use Rattle.stage_tcap.specs.Heads.{head}
+use Rattle.stage_tcap.specs.Pairs.{PairFits, pair_after, pair_end}
+use Rattle.stage_tcap.specs.declared.pair.Pair.{Pair}
+use Rattle.stage_tcap.specs.declared.pair.PairAt.{PairAt}
+use Rattle.stage_tcap.specs.declared.pair.PairAt.TheVariants.{LoadA, MarkA, ListA, LoadB, ListB, CompareB, AgainB, StoreList, StoreB, StoreA}
+use Rattle.stage_tcap.specs.declared.pair.PairWork.{PairWork}
+use Rattle.stage_tcap.specs.declared.pair.PairWork.TheVariants.{Transfer, Delegate, Test}
+use Rattle.act_states.specs.declared.refusals.Refusal.TheVariants.{Raced, Same}
+use Rattle.act_states.specs.declared.work.Act.TheVariants.{Share as share_act}
+use Rattle.act_states.specs.declared.work.Work.TheVariants.{Act}
+use Rattle.act_states.specs.declared.work.Tail.{Tail}
+use Rattle.act_states.specs.declared.work.Tail.TheVariants.{Nothing, Share as share_tail}
+use Rattle.act_states.specs.declared.work.WorkStep.{WorkStep}
+use Rattle.act_states.specs.declared.work.WorkStep.TheVariants.{Goes, Refuses, Answers}
+use Rattle.act_states.specs.Refusals.{refusal_of}
+use Rattle.act_states.specs.WorkSteps.{refuse}
+
+-- the call is decided with this reply, and has still to store what stands here
+abbrev pub shared : Pair → Reply → WorkStep
+shared p (Ok v) = Answers v None (share_tail p)
+shared p r = Refuses (refusal_of r) (share_tail p)
+
+-- what it takes from its step, after which it stands here: it goes on, is refused with nothing to store, or is decided
+abbrev pub took_shared : Pair → StageEnd Value → WorkStep
+took_shared p ends.Going = Goes (Act (share_act p))
+took_shared p (ends.Decided r) = shared p r
+took_shared p (ends.Done v) = refuse Raced
+took_shared p (ends.Refuse r) = refuse (refusal_of r)
+
+abbrev pub took_share : Pair → ℕ → WorkStep
+took_share p found = took_shared (pair_after p found) (pair_end p found)
+
+-- whether a reply that is decided at a second load of head B carries the call out
+abbrev pub is_carried : Reply → Bool
+is_carried (Ok v) = true
+is_carried _ = false
+
+-- whether the next step is the one that decides `ok`
+abbrev pub is_sharing : PairAt → Bool
+is_sharing LoadA = false
+is_sharing MarkA = false
+is_sharing (ListA entry) = false
+is_sharing LoadB = false
+is_sharing (ListB entry) = false
+is_sharing CompareB = true
+is_sharing (AgainB r) = is_carried r
+is_sharing (StoreList entry) = false
+is_sharing StoreB = false
+is_sharing (StoreA moved v) = false
+
+-- whether it is decided, and stores what is still to be stored
+abbrev pub is_storing : PairAt → Bool
+is_storing LoadA = false
+is_storing MarkA = false
+is_storing (ListA entry) = false
+is_storing LoadB = false
+is_storing (ListB entry) = false
+is_storing CompareB = false
+is_storing (AgainB r) = false
+is_storing (StoreList entry) = true
+is_storing StoreB = true
+is_storing (StoreA moved v) = true
+
+-- the stores after the deciding step: a delegation stores the eight words of list B and head B before head A
+abbrev pub stores_of : PairWork → ℕ
+stores_of (Transfer ticks) = 1
+stores_of (Delegate ticks) = 10
+stores_of Test = 1
+
+-- the steps that are still to come, with those of what is then still to be stored
+abbrev pub share_left : PairWork → PairAt → ℕ
+share_left what LoadA = 20 + stores_of what
+share_left what MarkA = 19 + stores_of what
+share_left what (ListA entry) = 19 - entry + stores_of what
+share_left what LoadB = 10 + stores_of what
+share_left what (ListB entry) = 10 - entry + stores_of what
+share_left what CompareB = 1 + stores_of what
+share_left what (AgainB r) = 2
+share_left what (StoreList entry) = 11 - entry
+share_left what StoreB = 2
+share_left what (StoreA moved v) = 1
+
+-- what is still to be stored after a store, after which it stands here: after that of head A nothing
+abbrev pub stores_more : Pair → StageEnd Value → Tail
+stores_more p ends.Going = share_tail p
+stores_more p (ends.Decided r) = Nothing
+stores_more p (ends.Done v) = Nothing
+stores_more p (ends.Refuse r) = Nothing
+
+abbrev pub after_share : Pair → ℕ → Tail
+after_share p found = stores_more (pair_after p found) (pair_end p found)
+
+-- what is still to be stored is of the machine, and the call is decided
+pub record SharedFits (s : Shape) (p : Pair) : Type 0 where
+  pub fits : PairFits s p
+  pub storing : IsTrue (is_storing p.at)
+
+-- a core's call on two temporal capabilities
+abbrev pub sharing : ℕ → PairWork → ℕ → ℕ → Pair
+sharing core what a b = record {
+  a = a;
+  b = b;
+  what = what;
+  core = core;
+  head_a = head 0 0;
+  head_b = head 0 0;
+  list_a = Some [];
+  list_b = Some [];
+  at = LoadA;
+}
+
+-- it begins where its names have led to two that differ
+abbrev pub shares_if : Bool → ℕ → PairWork → ℕ → ℕ → WorkStep
+shares_if same core what a b = if same then refuse Same else Goes (Act (share_act (sharing core what a b)))
+
+abbrev pub shares_at : ℕ → PairWork → Option Capability → Option Capability → WorkStep
+shares_at core what (Some a) (Some b) = shares_if (a.frame == b.frame) core what a.frame b.frame
+shares_at core what _ _ = refuse Raced

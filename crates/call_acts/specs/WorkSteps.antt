@@ -1,9 +1,0 @@
--- What a step of the work of a call leads to.
-use Rattle.call_acts.specs.declared.refusals.Refusal.{Refusal}
-use Rattle.call_acts.specs.declared.work.Tail.TheVariants.{Nothing}
-use Rattle.call_acts.specs.declared.work.WorkStep.{WorkStep}
-use Rattle.call_acts.specs.declared.work.WorkStep.TheVariants.{Refuses}
-
--- a refusal with nothing to store
-abbrev pub refuse : Refusal → WorkStep
-refuse r = Refuses r Nothing

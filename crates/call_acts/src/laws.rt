@@ -1,9 +1,0 @@
-//! What is proved of refusals, as a law about plain values.
-
-ghost use Rattle.call_acts.specs.Laws.{RefusalsAreReplies};
-
-/// A refusal and the reply that says it are one, and no refusal says `ok`.
-#[tactic(auto, using(crate::proofs::Refusing::refusals_are))]
-pub fn refusals_are_replies()
-    ensures { RefusalsAreReplies }
-{}

@@ -1,0 +1,46 @@
+-- A core that begins a call.
+use Rattle.std.proofs.lemmas.List.Elements.{All-nil}
+use Rattle.std.proofs.Common.{◌≡◌, List, [], Some, None, refl, arith}
+use Rattle.stage_pins.specs.declared.held.Acquired.{Acquired}
+use Rattle.stage_pins.specs.Held.{AcquiredFits}
+use Rattle.spk_nums.specs.CallLimits.{InLimits}
+use Rattle.spk_nums.specs.Capability.{Capability}
+use Rattle.spk_nums.specs.declared.calls.Call.{Call}
+use Rattle.kernel_rules.specs.Access.{found}
+use Rattle.call_plans.specs.declared.plans.Plan.{Plan}
+use Rattle.call_plans.specs.PlanOf.{plan_for}
+use Rattle.call_plans.proofs.StepsOfPlans.{bound_is}
+use Rattle.act_states.specs.declared.own.Own.{Own}
+use Rattle.call_stages.specs.Fits.{IsOwn, IsCore}
+use Rattle.call_stages.specs.declared.stages.Stage.TheVariants.{Enter}
+
+pub begun_fits : (own : Own) (call : Call) (found : List Capability) (counts : List Acquired) (plan : Plan) → IsOwn own → found ≡ []
+    → counts ≡ [] → plan ≡ plan_for call
+    → InLimits call
+    → IsCore (record {
+      own = own;
+      active = Some (record {
+        steps = 0;
+        stage = Enter;
+        found = found;
+        read = None;
+        counts = counts;
+        call = call;
+        plan =
+            plan;
+      });
+    })
+begun_fits own call found counts plan h none no_counts is limits = rw (none, no_counts, is) (record {
+  own = h;
+  active = record {
+    limits = limits;
+    plan = refl;
+    found = tt;
+    first = refl;
+    stage = tt;
+    acquired = All-nil (AcquiredFits own.layout);
+    counts = refl;
+    room = tt;
+    steps = let bound = bound_is call own.layout.cores in omega arith;
+  };
+})

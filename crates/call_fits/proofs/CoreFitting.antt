@@ -1,0 +1,279 @@
+-- The core and its call after a step stay in their ranges.
+use Rattle.std.proofs.Common.{◌≡◌, ℕ, ◌+◌, ◌<◌, ◌≤◌, Option, Some, refl, sym, ◌∙◌, ap, subst, arith}
+use Rattle.spk_nums.specs.Bounds.{bound_of}
+use Rattle.spk_nums.specs.CallLimits.{InLimits}
+use Rattle.spk_nums.specs.declared.replies.Reply.{Reply}
+use Rattle.kernel_rules.specs.Laws.{calls_counted}
+use Rattle.kernel_rules.specs.Access.{found}
+use Rattle.call_plans.specs.PlanOf.{plan_for}
+use Rattle.act_states.specs.declared.own.Own.{Own}
+use Rattle.act_states.specs.declared.own.OwnChange.{OwnChange}
+use Rattle.act_states.specs.declared.own.OwnChange.TheVariants.{Ticks, Empties, Works, Switches, Caches}
+use Rattle.act_states.specs.OwnChanges.{own_changed}
+use Rattle.call_stages.specs.Fits.{left_of, IsActive, CallFits, IsOwn, IsCore, left_for}
+use Rattle.call_stages.specs.declared.stages.ActiveCall.{ActiveCall}
+use Rattle.call_stages.specs.declared.stages.Told.TheVariants as told_as
+use Rattle.call_stages.specs.Steps.{GoesOn, Decides, took, told, call_after, Changes}
+use Rattle.call_fits.proofs.Landing.{told_goes, told_decides, told_changes}
+use Rattle.act_fits.proofs.DuesFit.{ChangeFits}
+use Rattle.act_fits.proofs.LandsFit.{IsNext, TookFits}
+use Rattle.call_fits.proofs.Fitting.{took_fits}
+
+-- The call after a step is the core's call.
+active_on : (own : Own) (made : ℕ) (old a : ActiveCall) → IsActive own old → IsNext own made (left_of own.layout.cores old) old a
+    → IsActive (record own { made = made }) a
+active_on own made old a active next = record {
+  limits = subst InLimits (sym next.call) active.limits;
+  plan = next.plan ∙ active.plan ∙ ap plan_for (sym next.call);
+  found = next.found;
+  first = next.first;
+  stage = next.stage;
+  acquired = next.acquired;
+  counts = next.counts;
+  room = next.room;
+  steps =
+      let before : old.steps + left_of own.layout.cores old ≤ bound_of old.call own.layout.cores = active.steps in
+      let one : a.steps ≡ old.steps + 1 = next.steps in
+      let fewer : left_of own.layout.cores a < left_of own.layout.cores old = next.fewer in
+      let same : bound_of a.call own.layout.cores ≡ bound_of old.call own.layout.cores = ap (λ call. bound_of call own.layout.cores)
+      next.call in
+      omega arith;
+}
+
+-- What a decision changes beside leaves the core in its ranges.
+changed_on : (own : Own) (change : OwnChange) → IsOwn own → ChangeFits own.layout change → IsOwn (own_changed own change)
+changed_on own (Ticks charged owed) h fits = record {
+  shape = h.shape;
+  core = h.core;
+  thread = h.thread;
+  some_depth = h.some_depth;
+  most_depth = h.most_depth;
+  comp = h.comp;
+  table = h.table;
+  pages = h.pages;
+  tcap = h.tcap;
+  most_calls = h.most_calls;
+  most_epochs = h.most_epochs;
+  made = h.made;
+}
+changed_on own Empties h fits = record {
+  shape = h.shape;
+  core = h.core;
+  thread = h.thread;
+  some_depth = h.some_depth;
+  most_depth = h.most_depth;
+  comp = h.comp;
+  table = h.table;
+  pages = h.pages;
+  tcap = h.tcap;
+  most_calls = h.most_calls;
+  most_epochs = h.most_epochs;
+  made = h.made;
+}
+changed_on own (Works comp table pages depth) h fits = record {
+  shape = h.shape;
+  core = h.core;
+  thread = h.thread;
+  some_depth = fits.3;
+  most_depth = fits.4;
+  comp = fits.0;
+  table = fits.1;
+  pages = fits.2;
+  tcap = h.tcap;
+  most_calls = h.most_calls;
+  made = h.made;
+  most_epochs = h.most_epochs;
+}
+changed_on own (Switches thread depth comp table pages tcap) h fits = record {
+  shape = h.shape;
+  core = h.core;
+  thread = fits.0;
+  some_depth = fits.1;
+  most_depth = fits.2;
+  comp = fits.3;
+  table = fits.4;
+  pages = fits.5;
+  tcap = fits.6;
+  most_calls = h.most_calls;
+  most_epochs = h.most_epochs;
+  made = h.made;
+}
+changed_on own (Caches item) h fits = record {
+  shape = h.shape;
+  core = h.core;
+  thread = h.thread;
+  some_depth = h.some_depth;
+  most_depth = h.most_depth;
+  comp = h.comp;
+  table = h.table;
+  pages = h.pages;
+  tcap = h.tcap;
+  most_calls = h.most_calls;
+  most_epochs = h.most_epochs;
+  made = h.made;
+}
+
+own_on : (own : Own) (made : ℕ) → IsOwn own → made ≤ own.limit → IsOwn (record own { made = made })
+own_on own made h counted = record {
+  shape = h.shape;
+  core = h.core;
+  thread = h.thread;
+  some_depth = h.some_depth;
+  most_depth = h.most_depth;
+  comp = h.comp;
+  table = h.table;
+  pages = h.pages;
+  tcap = h.tcap;
+  most_calls = h.most_calls;
+  most_epochs = h.most_epochs;
+  made = counted;
+}
+
+-- A core after a step that goes on, and after one that decides.
+pub goes_on : (own : Own) (active : Option ActiveCall) (a new : ActiveCall) (found : ℕ) → IsCore (record { own = own; active = active })
+    → active ≡ Some a
+    → told_as.Going ≡ told (took own a found) → new ≡ call_after a (took own a found)
+    → IsCore (record { own = own; active = Some new }) × (left_of own.layout.cores new < left_for own.layout.cores active)
+goes_on own active a new found h is going next =
+    let fits : IsActive own a = subst (CallFits own) is h.active in
+    let leads : TookFits own (left_of own.layout.cores a) a (GoesOn new) =
+    subst (TookFits own (left_of own.layout.cores a) a) (told_goes a (took own a found) going ∙ ap GoesOn (sym next))
+    (took_fits own a found h.own fits) in (
+      record { own = h.own; active = active_on own own.made a new fits leads },
+      subst (λ o. left_of own.layout.cores new < left_for own.layout.cores o) (sym is) leads.fewer,
+    )
+
+pub decides_on : (own : Own) (active : Option ActiveCall) (a new : ActiveCall) (r : Reply) (counted found : ℕ)
+    → IsCore (record { own = own; active = active }) → active ≡ Some a
+    → told_as.Decided r ≡ told (took own a found) → new ≡ call_after a (took own a found) → counted ≡ calls_counted r
+    → IsCore (record { own = record own { made = own.made + counted }; active = Some new }) ×
+    (left_of own.layout.cores new < left_for own.layout.cores active)
+decides_on own active a new r counted found h is decided next count =
+    let fits : IsActive own a = subst (CallFits own) is h.active in
+    let leads : TookFits own (left_of own.layout.cores a) a (Decides r new) =
+    subst (TookFits own (left_of own.layout.cores a) a) (told_decides a r (took own a found) decided ∙ ap (Decides r) (sym next))
+    (took_fits own a found h.own fits) in (
+      subst (λ n. IsCore (record { own = record own { made = own.made + n }; active = Some new })) (sym count)
+          (record {
+            own = own_on own (own.made + calls_counted r) h.own leads.counted;
+            active = active_on own (own.made + calls_counted r)
+                a new fits leads;
+          }),
+      subst (λ o. left_of own.layout.cores new < left_for own.layout.cores o) (sym is) leads.fewer,
+    )
+
+made_changed : (own : Own) (change : OwnChange) → (own_changed own change).made ≡ own.made
+made_changed own (Ticks charged owed) = refl
+made_changed own Empties = refl
+made_changed own (Works comp table pages depth) = refl
+made_changed own (Switches thread depth comp table pages tcap) = refl
+made_changed own (Caches item) = refl
+
+limit_changed : (own : Own) (change : OwnChange) → (own_changed own change).limit ≡ own.limit
+limit_changed own (Ticks charged owed) = refl
+limit_changed own Empties = refl
+limit_changed own (Works comp table pages depth) = refl
+limit_changed own (Switches thread depth comp table pages tcap) = refl
+limit_changed own (Caches item) = refl
+
+-- a call fits its core still where a decision changes what the core has of its own beside
+active_changed : (own : Own) (change : OwnChange) (made : ℕ) (a : ActiveCall) → IsActive (record own { made = made }) a
+    → IsActive (record (own_changed own change) { made = made }) a
+active_changed own (Ticks charged owed) made a on = record {
+  limits = on.limits;
+  plan = on.plan;
+  found = on.found;
+  first = on.first;
+  stage = on.stage;
+  acquired = on.acquired;
+  counts = on.counts;
+  room = on.room;
+  steps = on.steps;
+}
+active_changed own Empties made a on = record {
+  limits = on.limits;
+  plan = on.plan;
+  found = on.found;
+  first = on.first;
+  stage = on.stage;
+  acquired = on.acquired;
+  counts = on.counts;
+  room = on.room;
+  steps = on.steps;
+}
+active_changed own (Works comp table pages depth) made a on = record {
+  limits = on.limits;
+  plan = on.plan;
+  found = on.found;
+  first = on.first;
+  stage = on.stage;
+  acquired = on.acquired;
+  counts = on.counts;
+  room = on.room;
+  steps = on.steps;
+}
+active_changed own (Switches thread depth comp table pages tcap) made a on = record {
+  limits = on.limits;
+  plan = on.plan;
+  found = on.found;
+  first = on.first;
+  stage = on.stage;
+  acquired = on.acquired;
+  counts = on.counts;
+  room = on.room;
+  steps = on.steps;
+}
+active_changed own (Caches item) made a on = record {
+  limits = on.limits;
+  plan = on.plan;
+  found = on.found;
+  first = on.first;
+  stage = on.stage;
+  acquired = on.acquired;
+  counts = on.counts;
+  room = on.room;
+  steps = on.steps;
+}
+
+pub changes_on : (own : Own) (active : Option ActiveCall) (a new : ActiveCall) (r : Reply) (change : OwnChange) (counted found : ℕ)
+    → IsCore (record { own = own; active = active }) → active ≡ Some a
+    → told_as.Changed r change ≡ told (took own a found) → new ≡ call_after a (took own a found) → counted ≡ calls_counted r
+    → IsCore (record { own = record (own_changed own change) { made = (own_changed own change).made + counted }; active = Some new }) ×
+    (left_of own.layout.cores new < left_for own.layout.cores active)
+changes_on own active a new r change counted found h is decided next count =
+    let changed : Own = own_changed own change in
+    let made : ℕ = own.made + calls_counted r in
+    let fits : IsActive own a = subst (CallFits own) is h.active in
+    let leads : TookFits own (left_of own.layout.cores a) a (Changes r change new) =
+    subst (TookFits own (left_of own.layout.cores a) a) (told_changes a r change (took own a found) decided ∙ ap (Changes r change)
+    (sym next)) (took_fits own a found h.own fits) in
+    let within : made ≤ changed.limit = subst (λ l. made ≤ l) (sym (limit_changed own change)) leads.0.counted in
+    let core : IsCore (record { own = record changed { made = made }; active = Some new }) = record {
+      own = own_on changed made (changed_on own change h.own leads.1) within;
+      active = active_changed own change made new (active_on own made a new fits leads.0);
+    } in (
+      subst (λ n. IsCore (record { own = record changed { made = changed.made + n }; active = Some new })) (sym count)
+          (subst (λ m. IsCore (record { own = record changed { made = m + calls_counted r }; active = Some new }))
+          (sym (made_changed own change)) core),
+      subst (λ o. left_of own.layout.cores new < left_for own.layout.cores o) (sym is) leads.0.fewer,
+    )
+
+layout_changed : (own : Own) (change : OwnChange) → (own_changed own change).layout ≡ own.layout
+layout_changed own (Ticks charged owed) = refl
+layout_changed own Empties = refl
+layout_changed own (Works comp table pages depth) = refl
+layout_changed own (Switches thread depth comp table pages tcap) = refl
+layout_changed own (Caches item) = refl
+
+pub changes_to : (own own' : Own) (active : Option ActiveCall) (a new : ActiveCall) (r : Reply) (change : OwnChange) (counted found : ℕ)
+    → IsCore (record { own = own; active = active }) → active ≡ Some a
+    → told_as.Changed r change ≡ told (took own a found) → new ≡ call_after a (took own a found) → counted ≡ calls_counted r
+    → own' ≡ own_changed own change
+    → IsCore (record { own = record own' { made = own'.made + counted }; active = Some new }) ×
+    (left_of own'.layout.cores new < left_for own.layout.cores active)
+changes_to own own' active a new r change counted found h is decided next count changed =
+    let on = changes_on own active a new r change counted found h is decided next count in (
+      subst (λ k. IsCore (record { own = record k { made = k.made + counted }; active = Some new })) (sym changed) on.0,
+      subst (λ (n : ℕ). left_of n new < left_for own.layout.cores active)
+          (sym (ap (λ k. k.layout.cores) changed ∙ ap (λ l. l.cores) (layout_changed own change))) on.1,
+    )

@@ -1,0 +1,5 @@
+pub mod LookingFits
+pub mod Fitting
+pub mod Landing
+pub mod CoreFitting
+pub mod Begun

@@ -1,0 +1,261 @@
+-- Where a step of a look-up leads to fits, and how many steps it leaves.
+use Rattle.std.proofs.lemmas.List.Elements.{All-nil, All-cons, All-tail, All-append}
+use Rattle.frame_words.specs.Count.{word_of_count, count_of_word}
+use Rattle.stage_pins.specs.Counts.{unheld}
+use Rattle.stage_pins.proofs.PinLemmas.{after_fits}
+use Rattle.std.proofs.Common.{◌≡◌, ℕ, suc, ℤ, nat_lt, if◌then◌else◌, ◌+◌, ◌*◌, ◌-◌, ◌++◌, slice_get, ◌%◌, ◌<◌, ◌≤◌, Bool, true, false, ◌==◌, List, [], ◌∷◌, length, length-append, lt-ltb, Option, Some, None, IfSome, refl, sym, ◌∙◌, ap, subst, arith, negsuc}
+use Rattle.std.proofs.lemmas.Bool.{leb-false, ltb-true}
+use Rattle.spk_nums.specs.declared.replies.Value.TheVariants.{Nothing as nothing, Amount}
+use Rattle.stage_quiet.specs.Clocks.{drawn_stamp, stamp_of_clock}
+use Rattle.stage_quiet.specs.declared.close.Close.{Close}
+use Rattle.stage_quiet.specs.declared.close.Close.TheVariants.{AtCompare as close_compare, AtDraw, AtStore}
+use Rattle.stage_quiet.specs.declared.quiet.Quiet.{Quiet}
+use Rattle.stage_quiet.specs.Removal.{CloseFits, close_compared, close_at, close_end, close_after}
+use Rattle.stage_quiet.specs.Scan.{QuietFits, quiet_end, quiet_after}
+use Rattle.stage_pins.specs.declared.pin.Pin.{Pin}
+use Rattle.stage_pins.specs.declared.pin.Pin.TheVariants.{AtLoad, AtCompare}
+use Rattle.stage_pins.specs.declared.pin.Pinned.{Pinned}
+use Rattle.stage_pins.specs.declared.held.Acquired.{Acquired}
+use Rattle.stage_pins.specs.Acquire.{PinFits, PinnedFits, EndFits, end_by_hold, load_end, compare_end, pinned_at, pin_after, pin_end, after_hold, after_load}
+use Rattle.frame_words.specs.declared.count_word.CountWord.{CountWord}
+use Rattle.frame_words.specs.declared.count_word.Hold.{Hold}
+use Rattle.frame_words.specs.declared.count_word.Hold.TheVariants as hold
+use Rattle.spk_nums.specs.declared.steps.StageEnd.{StageEnd}
+use Rattle.spk_nums.specs.declared.steps.StageEnd.TheVariants as ends
+use Rattle.stage_pins.specs.Held.{AllFit, AcquiredFits, pushed as count_pushed}
+use Rattle.spk_nums.specs.declared.kinds.FrameKind.{FrameKind}
+use Rattle.spk_nums.specs.declared.kinds.FrameKind.TheVariants.{Untyped}
+use Rattle.spk_nums.specs.Capability.{Capability}
+use Rattle.spk_nums.specs.declared.replies.Reply.{Reply}
+use Rattle.spk_nums.specs.declared.replies.Reply.TheVariants as reply
+use Rattle.entry_words.specs.declared.entry.Entry.{Entry}
+use Rattle.entry_words.specs.declared.entry.Entry.TheVariants as entry
+use Rattle.word_map.specs.Places.{Shape}
+use Rattle.kernel_rules.specs.Access.{found}
+use Rattle.stage_look.specs.Shown.{CapNames, EntryNames, shown_in, is_link}
+use Rattle.stage_look.specs.Lookup.{LookFits, end_by_link, place_end, after_link, FoundFits as PlaceFits}
+use Rattle.stage_look.specs.declared.look.Look.{Look}
+use Rattle.stage_look.specs.declared.look.Look.TheVariants.{AtRoot, AtLeaf, AtEntry}
+use Rattle.stage_look.proofs.LookLemmas.{shown_names, leaf_below}
+use Rattle.stage_look.specs.declared.look.Found.{Found}
+use Rattle.call_plans.specs.declared.plans.Nth.TheVariants.{First}
+use Rattle.call_plans.specs.declared.plans.Name.{Name}
+use Rattle.call_plans.specs.declared.plans.Target.{Target}
+use Rattle.call_plans.specs.declared.plans.Target.TheVariants.{Nowhere, Free, Held, Own as own_page}
+use Rattle.call_plans.specs.declared.plans.Plan.{Plan}
+use Rattle.call_plans.specs.Plans.{at_place, pushed}
+use Rattle.call_plans.specs.GoesBy.{wants}
+use Rattle.call_plans.specs.After.{with_found, names_after, next_in}
+use Rattle.call_plans.specs.Bounds.{look_steps, act_steps}
+use Rattle.call_plans.proofs.Roots.{count_led, after_more, pushed_one}
+use Rattle.call_plans.proofs.FewNames.{few_names}
+use Rattle.call_plans.proofs.AfterNames.{NextBy, one_more}
+use Rattle.act_states.specs.declared.refusals.Refusal.{Refusal}
+use Rattle.act_states.specs.declared.refusals.Refusal.TheVariants as refusal
+use Rattle.act_states.specs.declared.own.Own.{Own}
+use Rattle.act_states.specs.declared.own.OwnChange.{OwnChange}
+use Rattle.act_states.specs.declared.own.OwnChange.TheVariants.{Ticks, Empties}
+use Rattle.act_states.specs.Ticks.{took_charge, took_tick, charge_left}
+use Rattle.stage_tcap.specs.declared.charge.Charge.{Charge}
+use Rattle.stage_tcap.specs.declared.charge.Charge.TheVariants.{AtLoad as charge_load, AtCompare as charge_compare}
+use Rattle.stage_tcap.specs.Charging.{ChargeFits, after_mark, after_head, end_by_mark, head_end, charged_end}
+use Rattle.stage_tcap.specs.Heads.{head}
+use Rattle.tcap_words.proofs.HeadLemmas.{spelling}
+use Rattle.std.specs.Prelude.{◌^◌, min}
+use Rattle.tcap_words.specs.Head.{word_of_head, head_of_word}
+use Rattle.tcap_words.specs.declared.head_word.HeadWord.{HeadWord}
+use Rattle.act_states.specs.declared.lookups.Met.TheVariants.{Finds, Refused}
+use Rattle.spk_nums.specs.declared.kinds.FrameKind.TheVariants as frame_kind
+use Rattle.frame_words.specs.Frame.{frame_of_word}
+use Rattle.frame_words.specs.declared.frame_word.FrameWord.{FrameWord}
+use Rattle.act_states.specs.declared.typings.Typing.{Typing}
+use Rattle.act_states.specs.declared.typings.TypingAt.{TypingAt}
+use Rattle.act_states.specs.declared.typings.TypingAt.TheVariants.{Load, Compare}
+use Rattle.act_states.specs.Typings.{meets_frame, meets_word, typed_if, took_typing_at, typing_left}
+use Rattle.spk_nums.specs.declared.kinds.Obj.{Obj}
+use Rattle.spk_nums.specs.declared.kinds.Obj.TheVariants.{Blank}
+use Rattle.act_states.specs.declared.makings.Making.{Making}
+use Rattle.act_states.specs.declared.makings.MakingAt.{MakingAt}
+use Rattle.act_states.specs.declared.makings.MakingAt.TheVariants.{Load as make_load, Mark, Store, Fill as fill_at}
+use Rattle.act_states.specs.Objects.{counts_of, last_word}
+use Rattle.act_states.specs.Makings.{MakingFits, making_left, undo_at}
+use Rattle.frame_words.specs.Comp.{comp_of_word}
+use Rattle.frame_words.specs.declared.comp_word.CompWord.{CompWord}
+use Rattle.call_stages.specs.Tails.{tail_left, took_tail, tail_counts}
+use Rattle.call_stages.specs.Fits.{TailFits, WorkFits, StageFits, IsWanted, FoundFits, HasRoom, CountsWait, CountsAt, looks_later, after_reading, acts_later, names_left, steps_later, left_of_look, left_of_pin, work_left, left_at, left_of, IsActive, IsOwn}
+use Rattle.act_states.specs.Scans.{left_of_cores, ScanFits, left_of_scan}
+use Rattle.act_fits.proofs.StepsFit.{starts_fit, first_named, act_fits}
+use Rattle.act_fits.proofs.DuesFit.{StepFits, few_dues, object_count, work_next, counts_next, ChangeFits}
+use Rattle.act_states.specs.declared.work.Act.{Act as ActType}
+use Rattle.act_states.specs.declared.work.Act.TheVariants.{Fill as fill_act, Remove as remove_act, Retype as type_act, Make as make_act, Outside, Tick as tick_act, Flush as flush_act, Kill as kill_act, Untype as untype_act, Map as map_act, MakeComp as comp_act, Invoke as invoke_act, Return as return_act, Switch as switch_act, Touch as touch_act, Share as share_act}
+use Rattle.act_states.specs.declared.work.Tail.{Tail}
+use Rattle.act_states.specs.declared.work.Tail.TheVariants.{Nothing, Quiesce, Unmark, StoreDead, StoreFlush, Release, StoreLive, Push, Pop, StoreRunning, StoreIdle, Share}
+use Rattle.call_stages.specs.declared.stages.Stage.{Stage}
+use Rattle.call_stages.specs.declared.stages.Stage.TheVariants.{Enter, Undecided, Decided, Leave}
+use Rattle.call_stages.specs.declared.stages.ActiveCall.{ActiveCall}
+use Rattle.act_states.specs.declared.work.Work.{Work}
+use Rattle.act_states.specs.declared.work.Work.TheVariants.{Lookup, Read, Scan, Acquire, Act}
+use Rattle.act_states.specs.declared.work.WorkStep.{WorkStep}
+use Rattle.act_states.specs.declared.work.WorkStep.TheVariants.{Goes, Acquires, Refuses, Answers, Changes as work_changes}
+use Rattle.act_states.specs.Refusals.{refusal_of}
+use Rattle.act_states.specs.Fills.{filled_if}
+use Rattle.act_states.specs.WorkSteps.{refuse}
+use Rattle.act_states.specs.Acts.{ActFits, close_left, act_left, took_close, maps_frame, maps_word, took_act, dues, next_work, act_begun, cap_dues, starts, undo, made_dues, meets_object, meets_blank, meets_making, marks_if, published, took_making_at}
+use Rattle.act_states.specs.Lookups.{met_name, met_free, met_held}
+use Rattle.call_stages.specs.Steps.{GoesOn, landed, found_more, next_by, took_enter, named_one, read_more, took_read, took_found, took_end, took_look, took_scan, took_count, took_work, went_with, is_spent, took_at, took}
+use Rattle.act_fits.proofs.LandsFit.{TookFits, Facts, names_object, next_fits, landed_fits}
+use Rattle.act_fits.proofs.ScansFit.{scan_goes, scan_left}
+use Rattle.act_fits.proofs.KillsFit.{kill_fits}
+use Rattle.act_fits.proofs.UntypingsFit.{untype_fits, undone_fits, released_fits}
+use Rattle.act_fits.proofs.CompsFit.{comp_fits, comp_undone}
+use Rattle.act_fits.proofs.SwitchesFit.{switch_fits, switching_undone}
+use Rattle.act_fits.proofs.InvocationsFit.{invoke_fits, return_fits, push_fits, pop_fits}
+use Rattle.act_fits.proofs.TouchesFit.{touch_fits}
+use Rattle.act_fits.proofs.SharesFit.{share_fits, shared_fits}
+
+module _ (own : Own) (a : ActiveCall) (facts : Facts own a) (none : a.counts ≡ []) (room : own.made < own.limit) where
+  -- a refusal, and any step of the work
+  pub no_counts : length a.counts ≡ 0
+  no_counts = ap length none
+
+  pub refused_fits : (left : ℕ) (r : Refusal) → 2 < left → TookFits own left a (landed a (refuse r))
+  refused_fits left r some = let zero = no_counts in
+      landed_fits own a a refl refl refl facts.found facts.acquired room 0 left (refuse r) (omega arith, tt) (omega arith)
+
+  pub works_fits : (most left : ℕ) (step : WorkStep) → StepFits own.layout [] (steps_later own.layout.cores a) most step → 2 + most < left
+      → TookFits own left a (landed a step)
+  works_fits most left step fits some =
+      let zero = no_counts in
+      landed_fits own a a refl refl refl facts.found facts.acquired room most left step
+      (subst (λ (xs : List Acquired). StepFits own.layout xs (steps_later own.layout.cores a) most step) (sym none) fits) (omega arith)
+
+  -- one name more has led to a capability
+  pub more_fits : (name : Name) (rest : List Name) (k : Capability) → names_left a ≡ name ∷ rest
+      → IsWanted own.layout.frames name.number (wants (with_found [] a.found) name.wanted) k
+      → FoundFits own.layout.frames a.plan (pushed a.found k)
+  more_fits name rest k is wanted =
+      let few : length a.found < 4 =
+      let counted : length a.found + length (names_left a) ≡ length a.plan.names =
+      count_led (IsWanted own.layout.frames) a.plan.names [] a.found facts.found in
+      let most : length a.plan.names ≤ 4 = subst (λ (p : Plan). length p.names ≤ 4) (sym facts.plan) (few_names a.call) in
+      let one : length (names_left a) ≡ suc (length rest) = ap length is in
+      omega arith in
+      subst (λ ks. FoundFits own.layout.frames a.plan ks) (sym (pushed_one a.found k few))
+      (one_more (IsWanted own.layout.frames) a.plan.names a.plan.target [] a.found k facts.found
+      (subst (λ names. NextBy (IsWanted own.layout.frames) (next_in (with_found [] a.found) names a.plan.target) k) (sym is) wanted))
+
+  pub left_more : (name : Name) (rest : List Name) (k : Capability) → names_left a ≡ name ∷ rest
+      → names_left (found_more a (pushed a.found k)) ≡ rest
+  left_more name rest k is =
+      let few : length a.found < 4 =
+      let counted : length a.found + length (names_left a) ≡ length a.plan.names =
+      count_led (IsWanted own.layout.frames) a.plan.names [] a.found facts.found in
+      let most : length a.plan.names ≤ 4 = subst (λ (p : Plan). length p.names ≤ 4) (sym facts.plan) (few_names a.call) in
+      let one : length (names_left a) ≡ suc (length rest) = ap length is in
+      omega arith in
+      ap (names_after a.plan.names) (pushed_one a.found k few) ∙ after_more a.plan.names rest name a.found k is
+
+  pub one_fits : (left : ℕ) (name : Name) (rest : List Name) (k : Capability) → names_left a ≡ name ∷ rest
+      → IsWanted own.layout.frames name.number (wants (with_found [] a.found) name.wanted) k
+      → 2 + (look_steps rest a.plan.target + act_steps a.call own.layout.cores) < left → TookFits own left a (named_one own a (Finds k))
+  one_fits left name rest k is wanted some =
+      let more = found_more a (pushed a.found k) in
+      let fits = more_fits name rest k is wanted in
+      let zero = no_counts in
+      landed_fits own a more refl refl refl fits facts.acquired room
+      (look_steps (names_left more) a.plan.target + act_steps a.call own.layout.cores) left (next_by own more)
+      (subst (λ (xs : List Acquired). StepFits own.layout xs (steps_later own.layout.cores more)
+      (look_steps (names_left more) a.plan.target + act_steps a.call own.layout.cores) (next_by own more)) (sym none)
+      (next_fits own more (record {
+        own_fits = facts.own_fits;
+        plan = facts.plan;
+        found = fits;
+        acquired = facts.acquired;
+        limits = facts.limits;
+      })))
+      (subst (λ (names : List Name). 2 + length a.counts + (look_steps names a.plan.target + act_steps a.call own.layout.cores) < left)
+      (sym (left_more name rest k is)) (omega arith))
+
+  pub met_if : (left : ℕ) (name : Name) (rest : List Name) (k : Capability) (wanted : Bool)
+      → wanted ≡ wants (with_found [] a.found) name.wanted k.kind → names_left a ≡ name ∷ rest
+      → CapNames own.layout.frames k → 2 + (look_steps rest a.plan.target + act_steps a.call own.layout.cores) < left
+      → TookFits own left a (named_one own a (if wanted then Finds k else Refused refusal.WrongCap))
+  met_if left name rest k true wanted is names some = one_fits left name rest k is (sym wanted, names) some
+  met_if left name rest k false wanted is names some = refused_fits left refusal.WrongCap (omega arith)
+
+  pub met_fits : (left : ℕ) (name : Name) (rest : List Name) (value : Entry) → names_left a ≡ name ∷ rest → EntryNames own.layout.frames value
+      → 2 + (look_steps rest a.plan.target + act_steps a.call own.layout.cores) < left
+      → TookFits own left a (named_one own a (met_name (wants (with_found [] a.found) name.wanted) value))
+  met_fits left name rest entry.Free is names some = refused_fits left refusal.Empty (omega arith)
+  met_fits left name rest (entry.Held k) is names some = met_if left name rest k _ refl is names some
+  met_fits left name rest (entry.Closing by) is names some = refused_fits left (refusal.Busy by) (omega arith)
+  met_fits left name rest (entry.Quiescing stamp) is names some = refused_fits left refusal.Empty (omega arith)
+
+  pub first_is : IfSome (at_place a.found First) (CapNames own.layout.frames)
+  first_is = first_named own.layout.frames a.plan.names [] a.found facts.found
+
+  pub acts_on : (left : ℕ) (read : Option ℕ) (f : Found) → PlaceFits own.layout f → 2 + after_reading a.call own.layout.cores < left
+      → TookFits own left a (landed a (act_begun own a.call a.found read (Some f)))
+  acts_on left read f fits some =
+      works_fits (after_reading a.call own.layout.cores) left _ (act_fits own _ a.call a.found read (Some f) facts.own_fits first_is
+      (names_object own a facts) facts.limits fits) some
+
+  pub free_fits : (left : ℕ) (f : Found) (value : Entry) → PlaceFits own.layout f → 2 + after_reading a.call own.layout.cores < left
+      → TookFits own left a (landed a (met_free own a.call a.found a.read f value))
+  free_fits left f entry.Free fits some = acts_on left a.read f fits some
+  free_fits left f (entry.Held k) fits some = refused_fits left refusal.Occupied (omega arith)
+  free_fits left f (entry.Closing by) fits some = refused_fits left (refusal.Busy by) (omega arith)
+  free_fits left f (entry.Quiescing stamp) fits some = acts_on left a.read f fits some
+
+  pub held_fits : (left : ℕ) (f : Found) (value : Entry) → PlaceFits own.layout f → 2 + after_reading a.call own.layout.cores < left
+      → TookFits own left a (landed a (met_held own a.call a.found f value))
+  held_fits left f entry.Free fits some = refused_fits left refusal.Empty (omega arith)
+  held_fits left f (entry.Held k) fits some = acts_on left None f fits some
+  held_fits left f (entry.Closing by) fits some = refused_fits left (refusal.Busy by) (omega arith)
+  held_fits left f (entry.Quiescing stamp) fits some = refused_fits left refusal.Empty (omega arith)
+
+  -- the place that was looked for is found
+  pub found_case : (left : ℕ) (names : List Name) (target : Target) (f : Found) → names_left a ≡ names → a.plan.target ≡ target
+      → PlaceFits own.layout f
+      → 2 + (looks_later names target + acts_later names a.call own.layout.cores) < left
+      → TookFits own left a (took_found own a (next_in (with_found [] a.found) names target) f)
+  found_case left (name ∷ rest) target f is to fits some =
+      met_fits left name rest f.value is fits.names (subst (λ (t : Target). 2 + (look_steps rest t + act_steps a.call own.layout.cores) <
+      left) (sym to) some)
+  found_case left [] Nowhere f is to fits some = refused_fits left refusal.Raced (omega arith)
+  found_case left [] (Free spot) f is to fits some = free_fits left f f.value fits (omega arith)
+  found_case left [] (Held spot) f is to fits some = held_fits left f f.value fits (omega arith)
+  found_case left [] (own_page v) f is to fits some = refused_fits left refusal.Raced (omega arith)
+
+  pub place_fits : (left : ℕ) (look : Look) (node index word : ℕ) (shown : Option Entry) → IfSome shown (EntryNames own.layout.frames)
+      → node < own.layout.frames → index < 64
+      → 2 + steps_later own.layout.cores a < left → TookFits own left a (took_end own a look (place_end node index word shown))
+  place_fits left look node index word None names below small some = refused_fits left (refusal_of reply.Raced) (omega arith)
+  place_fits left look node index word (Some entry.Free) names below small some =
+      found_case left (names_left a) a.plan.target _ refl refl (record { node = below; entry = small; names = tt }) some
+  place_fits left look node index word (Some (entry.Held k)) names below small some =
+      found_case left (names_left a) a.plan.target _ refl refl (record { node = below; entry = small; names = names }) some
+  place_fits left look node index word (Some (entry.Closing by)) names below small some =
+      refused_fits left (refusal_of (reply.Busy by)) (omega arith)
+  place_fits left look node index word (Some (entry.Quiescing stamp)) names below small some =
+      found_case left (names_left a) a.plan.target _ refl refl (record { node = below; entry = small; names = tt }) some
+
+  pub link_fits : (left : ℕ) (linked : Bool) (top number : ℕ) (k : Capability) → linked ≡ is_link k.kind → CapNames own.layout.frames k
+      → 3 + steps_later own.layout.cores a < left
+      → TookFits own left a (took_end own a (after_link linked top number k.frame) (end_by_link linked))
+  link_fits left true top number k is names some =
+      works_fits (1 + steps_later own.layout.cores a) left (Goes (Lookup (AtLeaf k.frame number)))
+      (leaf_below own.layout.frames k.kind k.frame k.arg (sym is) names, omega arith, refl) (omega arith)
+  link_fits left false top number k is names some = refused_fits left (refusal_of reply.NoSlot) (omega arith)
+
+  pub look_fits : (look : Look) (word : ℕ) (shown : Option Entry) → LookFits own.layout look → IfSome shown (EntryNames own.layout.frames)
+      → TookFits own (2 + 0 + (left_of_look look + steps_later own.layout.cores a)) a (took_look own a look word shown)
+  look_fits (AtRoot top number) word None look names = refused_fits _ (refusal_of reply.Raced) (omega arith)
+  look_fits (AtRoot top number) word (Some entry.Free) look names = refused_fits _ (refusal_of reply.NoSlot) (omega arith)
+  look_fits (AtRoot top number) word (Some (entry.Held k)) look names = link_fits _ _ top number k refl names (omega arith)
+  look_fits (AtRoot top number) word (Some (entry.Closing by)) look names = refused_fits _ (refusal_of (reply.Busy by)) (omega arith)
+  look_fits (AtRoot top number) word (Some (entry.Quiescing stamp)) look names = refused_fits _ (refusal_of reply.NoSlot) (omega arith)
+  look_fits (AtLeaf leaf number) word shown look names =
+      place_fits _ (AtLeaf leaf number) leaf (number % 64) word shown names look (omega arith) (omega arith)
+  look_fits (AtEntry top index) word shown look names =
+      place_fits _ (AtEntry top index) top index word shown names look.0 look.1 (omega arith)

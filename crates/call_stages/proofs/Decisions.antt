@@ -1,0 +1,647 @@
+-- When a call is decided, and what a step of it may decide.
+use Rattle.stage_quiet.specs.declared.close.Close.{Close}
+use Rattle.stage_quiet.specs.declared.close.Close.TheVariants.{AtCompare, AtDraw, AtStore}
+use Rattle.stage_quiet.specs.declared.quiet.Quiet.{Quiet}
+use Rattle.stage_quiet.specs.Removal.{close_compared, close_end, close_after}
+use Rattle.stage_quiet.specs.Scan.{quiet_after, quiet_end, quiet_scan}
+use Rattle.stage_pins.specs.declared.pin.Pin.{Pin}
+use Rattle.stage_pins.specs.declared.pin.Pinned.{Pinned}
+use Rattle.stage_pins.specs.declared.held.Acquired.{Acquired}
+use Rattle.stage_pins.specs.Acquire.{pin_after, pin_end}
+use Rattle.std.proofs.Common.{◌≡◌, ℕ, ℤ, ◌+◌, ◌==◌, ◌&&◌, nat_lt, Bool, true, false, List, [], ◌∷◌, length, Option, Some, None, refl, sym, ◌∙◌, ap, subst, arith, eqb-true, if◌then◌else◌, nat_le, ◌||◌}
+use Rattle.call_plans.specs.Plans.{pushed, at_place}
+use Rattle.spk_nums.specs.Capability.{Capability}
+use Rattle.spk_nums.specs.declared.kinds.PageFlags.{PageFlags}
+use Rattle.spk_nums.specs.declared.kinds.FrameKind.{FrameKind}
+use Rattle.spk_nums.specs.declared.kinds.FrameKind.TheVariants.{Untyped, User, Kernel}
+use Rattle.spk_nums.specs.declared.calls.Make.{Make}
+use Rattle.spk_nums.specs.declared.calls.Make.TheVariants as make
+use Rattle.spk_nums.specs.declared.calls.Call.{Call}
+use Rattle.spk_nums.specs.declared.calls.Call.TheVariants.{Look as look_call, Copy, Remove, Shrink, Unmap, Retype, Make as make_call, Tick, Gate, Kill, Grow, Flush, Map, Call as call_gate, Ret, Switch, Transfer, Delegate, Test}
+use Rattle.spk_nums.specs.declared.replies.Reply.{Reply}
+use Rattle.entry_words.specs.declared.entry.Entry.{Entry}
+use Rattle.entry_words.specs.declared.entry.Entry.TheVariants as entry
+use Rattle.kernel_rules.specs.Access.{found, Target as place, Under, InRoot}
+use Rattle.stage_look.specs.Shown.{shown_in, is_link}
+use Rattle.stage_look.specs.Lookup.{look_end, look_after, end_by_link, root_end, place_end}
+use Rattle.stage_look.specs.declared.look.Look.{Look}
+use Rattle.stage_look.specs.declared.look.Look.TheVariants.{AtRoot, AtLeaf, AtEntry}
+use Rattle.stage_look.specs.declared.look.Found.{Found}
+use Rattle.spk_nums.specs.declared.steps.StageEnd.{StageEnd}
+use Rattle.spk_nums.specs.declared.steps.StageEnd.TheVariants as ends
+use Rattle.call_plans.specs.declared.plans.Name.{Name}
+use Rattle.call_plans.specs.declared.plans.Target.{Target}
+use Rattle.call_plans.specs.declared.plans.Target.TheVariants.{Nowhere}
+use Rattle.call_plans.specs.declared.plans.Plan.{Plan}
+use Rattle.call_plans.specs.PlanOf.{any_cap, plan_of_retype, plan_of_make, plan_for}
+use Rattle.act_states.specs.declared.refusals.Refusal.TheVariants as refusal
+use Rattle.act_states.specs.declared.own.Own.{Own}
+use Rattle.act_states.specs.Ticks.{took_charge, took_tick, is_charging}
+use Rattle.stage_tcap.specs.declared.charge.Charge.{Charge}
+use Rattle.stage_tcap.specs.declared.charge.Charge.TheVariants.{AtLoad as charge_load, AtCompare as charge_compare}
+use Rattle.stage_tcap.specs.Charging.{end_by_mark, head_end, charged_end}
+use Rattle.stage_tcap.specs.Heads.{head}
+use Rattle.tcap_words.specs.Head.{word_of_head, head_of_word}
+use Rattle.tcap_words.specs.declared.head_word.HeadWord.{HeadWord}
+use Rattle.kernel_rules.specs.Laws.{IsRefusal}
+use Rattle.std.specs.Prelude.{min, nat_le, is_some}
+use Rattle.act_states.specs.declared.lookups.Met.{Met}
+use Rattle.act_states.specs.declared.lookups.Met.TheVariants.{Finds, Refused}
+use Rattle.spk_nums.specs.declared.kinds.Obj.{Obj}
+use Rattle.spk_nums.specs.declared.kinds.Obj.TheVariants.{Blank}
+use Rattle.act_states.specs.declared.objects.NewObject.{NewObject}
+use Rattle.act_states.specs.Objects.{object_made}
+use Rattle.act_states.specs.declared.makings.Making.{Making}
+use Rattle.act_states.specs.declared.makings.MakingAt.{MakingAt}
+use Rattle.act_states.specs.declared.makings.MakingAt.TheVariants.{Load as make_load, Mark, Store, Fill as fill_at}
+use Rattle.act_states.specs.Makings.{is_filling}
+use Rattle.act_states.specs.declared.work.Act.{Act as ActType}
+use Rattle.act_states.specs.declared.work.Act.TheVariants.{Fill as fill_act, Remove as remove_act, Retype as type_act, Make as make_act, Outside, Tick as tick_act, Flush as flush_act, Kill as kill_act, Untype as untype_act, Map as map_act, MakeComp as comp_act, Invoke as invoke_act, Return as return_act, Switch as switch_act, Touch as touch_act, Share as share_act}
+use Rattle.act_states.specs.declared.work.Work.{Work}
+use Rattle.act_states.specs.declared.work.Work.TheVariants.{Lookup, Read, Scan, Acquire, Act}
+use Rattle.call_stages.specs.declared.stages.Stage.{Stage}
+use Rattle.call_stages.specs.declared.stages.Stage.TheVariants.{Enter, Undecided, Decided, Leave}
+use Rattle.act_states.specs.declared.work.Tail.{Tail}
+use Rattle.act_states.specs.declared.work.Tail.TheVariants.{Nothing, Quiesce, Unmark, StoreDead, StoreFlush, Release, StoreLive, Push as push_tail, Pop as pop_tail, StoreRunning, StoreIdle, Share}
+use Rattle.call_stages.specs.declared.stages.ActiveCall.{ActiveCall}
+use Rattle.act_states.specs.declared.work.WorkStep.{WorkStep}
+use Rattle.act_states.specs.declared.work.WorkStep.TheVariants.{Goes, Acquires, Refuses as refuses_to, Answers, Changes as work_changes}
+use Rattle.act_states.specs.Refusals.{refusal_of}
+use Rattle.act_states.proofs.Refusing.{refusal_refuses}
+use Rattle.act_states.specs.Fills.{filled_if}
+use Rattle.act_states.specs.WorkSteps.{refuse}
+use Rattle.act_states.specs.Acts.{took_close, is_draw, took_act, act_ready, reads_of, fills_with, removes_held, removes_at, act_begun, types_if, types_at, stamp_in, filling, starts, scans, makes_at, meets_object, meets_blank, meets_making, marks_if, published, took_making_at, kills_in, kills_at, meets_comp, meets_live, meets_number, meets_life, closes_if, took_killing_at, meets_untyped, meets_untyping, sweeps_if, took_sweep, took_untyping_at, maps_frame, maps_word, maps_if, maps_at, comps_at, made_begun, comp_marks, took_comp_at, invokes_if, invokes_in, invokes_at, returns_if, meets_table, meets_pages, meets_gate, took_invoking_at, meets_below, meets_below_table, meets_below_pages, took_returning_at, switches_at, switch_pages, took_switching_at}
+use Rattle.call_plans.specs.declared.plans.Nth.TheVariants.{First, Second, Third, Fourth}
+use Rattle.act_states.specs.declared.fills.Fill.{Fill}
+use Rattle.act_states.specs.Comps.{comp_filling, comp_goes, comp_refuses, comp_meets, comp_meets_object, comp_meets_blank, number_met, number_shown, takes_number, scans_number, number_scanned, closes_number, comp_published}
+use Rattle.frame_words.specs.Live.{live_of_word}
+use Rattle.act_states.specs.declared.comps.CompAt.{CompAt}
+use Rattle.act_states.specs.declared.comps.CompAt.TheVariants as comp_at_as
+use Rattle.act_states.specs.declared.comps.CompMaking.{CompMaking}
+use Rattle.act_states.specs.declared.comps.LastEpoch.{LastEpoch}
+use Rattle.frame_words.specs.declared.frame_word.FrameWord.{FrameWord}
+use Rattle.spk_nums.specs.declared.kinds.Kind.{Kind}
+use Rattle.spk_nums.specs.declared.kinds.Kind.TheVariants as kind
+use Rattle.frame_words.specs.declared.comp_word.CompWord.{CompWord}
+use Rattle.frame_words.specs.Comp.{comp_of_word}
+use Rattle.frame_words.specs.declared.live_word.LiveWord.{LiveWord}
+use Rattle.frame_words.specs.declared.live_word.LiveWord.TheVariants as live
+use Rattle.act_states.specs.declared.kills.Killing.{Killing}
+use Rattle.act_states.specs.declared.kills.KillingAt.{KillingAt}
+use Rattle.act_states.specs.declared.kills.KillingAt.TheVariants.{LoadComp, LoadLive, Close as kill_close, Draw as kill_draw}
+use Rattle.act_states.specs.Kills.{is_killing}
+use Rattle.word_map.specs.Places.{Shape}
+use Rattle.stage_sweep.specs.declared.sweep.Sweep.{Sweep}
+use Rattle.stage_sweep.specs.declared.sweep.Swept.{Swept}
+use Rattle.act_states.specs.declared.untypings.Untyping.{Untyping}
+use Rattle.act_states.specs.declared.untypings.UntypingAt.{UntypingAt}
+use Rattle.act_states.specs.declared.untypings.UntypingAt.TheVariants as untype
+use Rattle.act_states.specs.Untypings.{is_drawing}
+use Rattle.act_states.specs.declared.invocations.Invoking.{Invoking}
+use Rattle.act_states.specs.declared.invocations.InvokingAt.{InvokingAt}
+use Rattle.act_states.specs.declared.invocations.InvokingAt.TheVariants as invoking
+use Rattle.act_states.specs.declared.invocations.Returning.{Returning}
+use Rattle.act_states.specs.declared.invocations.ReturningAt.{ReturningAt}
+use Rattle.act_states.specs.declared.invocations.ReturningAt.TheVariants as returning
+use Rattle.act_states.specs.Invocations.{is_entering, frame_in, enters_if, enters_live, is_leaving, below_in}
+use Rattle.act_states.specs.declared.switches.Switching.{Switching}
+use Rattle.act_states.specs.declared.switches.SwitchAt.{SwitchAt}
+use Rattle.act_states.specs.declared.switches.SwitchAt.TheVariants as switch_at
+use Rattle.act_states.specs.Switches.{is_switching, took_claim, switch_table}
+use Rattle.stage_thread.specs.Claiming.{claim_after, claim_end}
+use Rattle.stage_thread.specs.declared.claim.Claim.{Claim as ClaimOf}
+use Rattle.stage_thread.specs.declared.claim.Claimed.{Claimed}
+use Rattle.act_states.specs.declared.typings.Typing.{Typing}
+use Rattle.act_states.specs.declared.typings.TypingAt.{TypingAt}
+use Rattle.act_states.specs.declared.typings.TypingAt.TheVariants.{Load, Compare as type_compare}
+use Rattle.act_states.specs.Typings.{meets_frame, meets_word, typed_if, took_typing_at, is_typing}
+use Rattle.act_states.specs.Lookups.{looks_under, looks_entry, looks_at, read_first, next_step, met_free, met_held}
+use Rattle.spk_nums.specs.declared.translations.Translation.{Translation}
+use Rattle.act_states.specs.declared.touches.Touching.{Touching}
+use Rattle.act_states.specs.Touches.{touches_if, touch_end, touched, is_at_page}
+use Rattle.call_stages.specs.Fits.{FoundFits, IsFirst, IsActive}
+use Rattle.call_stages.specs.Tails.{took_tail, tail_counts}
+use Rattle.call_plans.specs.After.{with_found, names_after, next_in, Next, NextName, NextFree, NextHeld, NextOwn, NextNothing, next_of}
+use Rattle.call_stages.specs.Steps.{GoesOn, landed, next_by, found_more, took_enter, named_one, read_more, took_read, took_found, took_end, took_look, took_scan, took_count, gives_up, took_work, went_with, took_at, is_last, decides_at_name, is_last_name, work_ready, ready_at}
+use Rattle.stage_tcap.specs.declared.pair.PairWork.TheVariants as share
+use Rattle.call_stages.proofs.Answering.{NoAnswer, IsOver}
+use Rattle.call_stages.proofs.ShareDecisions.{shares_no, share_unready, share_over}
+use Rattle.call_stages.specs.Laws.{reply_at, Turns, DecidesOnce, Refuses, UnreadyRefuses, IsDecision, ReadyDecides}
+use Rattle.call_stages.proofs.Unready.{act_unready}
+use Rattle.call_stages.proofs.Beginning.{under_no, target_no, starts_no, act_no}
+
+-- a call is decided once
+
+landed_turns : (a : ActiveCall) (step : WorkStep) → Turns None (landed a step)
+landed_turns a (Goes work) = refl
+landed_turns a (Acquires count work) = refl
+landed_turns a (refuses_to r tail) = (refl, refl)
+landed_turns a (Answers v drawn tail) = (refl, refl)
+landed_turns a (work_changes r change drawn tail) = (refl, refl)
+
+named_turns : (own : Own) (a : ActiveCall) (met : Met) → Turns None (named_one own a met)
+named_turns own a (Finds k) = landed_turns (found_more a (pushed a.found k)) _
+named_turns own a (Refused r) = landed_turns a (refuse r)
+
+found_turns : (own : Own) (a : ActiveCall) (next : Next) (f : Found) → Turns None (took_found own a next f)
+found_turns own a (NextName n wanted) f = named_turns own a _
+found_turns own a (NextFree target) f = landed_turns a _
+found_turns own a (NextHeld target) f = landed_turns a _
+found_turns own a (NextOwn v) f = landed_turns a (refuse refusal.Raced)
+found_turns own a NextNothing f = landed_turns a (refuse refusal.Raced)
+
+end_turns : (own : Own) (a : ActiveCall) (look : Look) (end : StageEnd Found) → Turns None (took_end own a look end)
+end_turns own a look ends.Going = landed_turns a (Goes (Lookup look))
+end_turns own a look (ends.Decided r) = landed_turns a (refuse (refusal_of r))
+end_turns own a look (ends.Done f) = found_turns own a _ f
+end_turns own a look (ends.Refuse r) = landed_turns a (refuse (refusal_of r))
+
+enter_turns : (spent : Bool) (own : Own) (a : ActiveCall) → Turns None (took_enter spent own a)
+enter_turns true own a = landed_turns a (refuse refusal.CallsSpent)
+enter_turns false own a = landed_turns a (next_by own a)
+
+read_turns : (a : ActiveCall) (look : Look) (o : Option CompWord) → Turns None (took_read a look o)
+read_turns a look None = landed_turns a (refuse refusal.Raced)
+read_turns a look (Some life) = landed_turns (read_more a life.epoch) (Goes (Lookup look))
+
+work_turns : (own : Own) (a : ActiveCall) (work : Work) (found : ℕ) → Turns None (took_work own a work found)
+work_turns own a (Lookup look) found = end_turns own a _ _
+work_turns own a (Read comp look) found = read_turns a look _
+work_turns own a (Scan q act) found =
+    landed_turns a (took_scan own.core act (quiet_after own.layout.cores q found) (quiet_end own.layout.cores q found))
+work_turns own a (Acquire pin change act) found =
+    landed_turns a (took_count own.core (length a.counts) change act (pin_after pin found) (pin_end pin found))
+work_turns own a (Act act) found = landed_turns a (took_act own.layout act found)
+
+tail_turns : (a : ActiveCall) (r : Reply) (drawn : Option ℕ) (tail : Tail) (counts : List Acquired) (found : ℕ)
+    → Turns (Some r) (GoesOn (went_with a (tail_counts tail counts) (took_tail r drawn tail counts found)))
+tail_turns a r drawn (Quiesce close) counts found = refl
+tail_turns a r drawn (Unmark f word) counts found = refl
+tail_turns a r drawn (StoreDead life stamp) counts found = refl
+tail_turns a r drawn (StoreFlush core stamp) counts found = refl
+tail_turns a r drawn (StoreLive l live f word) counts found = refl
+tail_turns a r drawn (push_tail push) counts found = refl
+tail_turns a r drawn (pop_tail pop) counts found = refl
+tail_turns a r drawn (StoreRunning f core depth old old_depth) counts found = refl
+tail_turns a r drawn (StoreIdle f depth) counts found = refl
+tail_turns a r drawn (Share p) counts found = refl
+tail_turns a r drawn Nothing [] found = refl
+tail_turns a r drawn Nothing (x ∷ xs) found = refl
+tail_turns a r drawn (Release release) [] found = refl
+tail_turns a r drawn (Release release) (x ∷ xs) found = refl
+
+stage_turns : (own : Own) (a : ActiveCall) (stage : Stage) (found : ℕ) → Turns (reply_at stage) (took_at own a stage found)
+stage_turns own a Enter found = enter_turns _ own a
+stage_turns own a (Undecided work) found = work_turns own a work found
+stage_turns own a (Decided r drawn tail) found = tail_turns a r drawn tail a.counts found
+stage_turns own a (Leave r stamp) found = refl
+
+pub decides_once : DecidesOnce
+decides_once own a found = stage_turns own a a.stage found
+
+landed_refuses : (a : ActiveCall) (step : WorkStep) → NoAnswer step → Refuses (landed a step)
+landed_refuses a (Goes work) none = tt
+landed_refuses a (Acquires count work) none = tt
+landed_refuses a (refuses_to r tail) none = refusal_refuses r
+landed_refuses a (Answers v drawn tail) none = absurd none
+landed_refuses a (work_changes r change drawn tail) none = none
+
+-- A call that is decided where its last name is found has one name, and no target.
+record OneName (plan : Plan) : Type 0 where
+  name : Name
+  names : plan.names ≡ name ∷ []
+  target : plan.target ≡ Nowhere
+
+retype_one : (k : FrameKind) (r : ℕ) → decides_at_name (plan_of_retype k r).decides ≡ true → OneName (plan_of_retype k r)
+retype_one Untyped r is = absurd (cc)
+retype_one User r is = absurd (cc)
+retype_one Kernel r is = absurd (cc)
+
+make_one : (what : Make) (r t b : ℕ) → decides_at_name (plan_of_make what r t b).decides ≡ true → OneName (plan_of_make what r t b)
+make_one make.Table r t b is = absurd (cc)
+make_one make.Leaf r t b is = absurd (cc)
+make_one make.Pages r t b is = absurd (cc)
+make_one make.Pleaf r t b is = absurd (cc)
+make_one (make.Thread comp) r t b is = absurd (cc)
+make_one (make.Tcap sched quality) r t b is = absurd (cc)
+make_one (make.Comp own pages live) r t b is = absurd (cc)
+
+one_name : (call : Call) → decides_at_name (plan_for call).decides ≡ true → OneName (plan_for call)
+one_name (look_call a) is = record { name = any_cap a; names = refl; target = refl }
+one_name (Retype r f k) is = retype_one k r is
+one_name (make_call what r f t b) is = make_one what r t b is
+one_name call is = absurd (cc)
+
+read_no : (o : Option ℕ) (step : WorkStep) → NoAnswer step → NoAnswer (read_first o step)
+read_no None step none = none
+read_no (Some f) (Goes (Lookup look)) none = tt
+read_no (Some f) (Goes work) none = none
+read_no (Some f) (Acquires count work) none = none
+read_no (Some f) (refuses_to r tail) none = none
+read_no (Some f) (Answers v drawn tail) none = none
+read_no (Some f) (work_changes r change drawn tail) none = none
+
+touches_no : (own : Own) (v : ℕ) (within : Bool) → NoAnswer (touches_if within own v)
+touches_no own v true = tt
+touches_no own v false = tt
+
+-- what comes next of a call answers nothing, where no call with its plan is decided where its last name is found
+next_no : (own : Own) (call : Call) (found : List Capability) (next : Next) → decides_at_name (plan_for call).decides ≡ false
+    → NoAnswer (next_step own call found next)
+next_no own call found (NextName n wanted) not = under_no _ own.table n
+next_no own call found (NextFree target) not = read_no (reads_of call found) _ (target_no target)
+next_no own call found (NextHeld target) not = target_no target
+next_no own call found (NextOwn v) not = touches_no own v (nat_le v 4095)
+next_no own call found NextNothing not = act_no own call found None None not
+
+module _ (own : Own) (a : ActiveCall) (not : decides_at_name (plan_for a.call).decides ≡ false) where
+  met_refuses : (met : Met) → Refuses (named_one own a met)
+  met_refuses (Finds k) =
+      landed_refuses (found_more a (pushed a.found k)) _ (next_no own a.call (pushed a.found k) (next_of a.plan (pushed a.found k)) not)
+  met_refuses (Refused r) = landed_refuses a (refuse r) tt
+
+  free_refuses : (f : Found) (value : Entry) → Refuses (landed a (met_free own a.call a.found a.read f value))
+  free_refuses f entry.Free = landed_refuses a _ (act_no own a.call a.found a.read (Some f) not)
+  free_refuses f (entry.Held k) = tt
+  free_refuses f (entry.Closing by) = tt
+  free_refuses f (entry.Quiescing stamp) = landed_refuses a _ (act_no own a.call a.found a.read (Some f) not)
+
+  held_refuses : (f : Found) (value : Entry) → Refuses (landed a (met_held own a.call a.found f value))
+  held_refuses f entry.Free = tt
+  held_refuses f (entry.Held k) = landed_refuses a _ (act_no own a.call a.found None (Some f) not)
+  held_refuses f (entry.Closing by) = tt
+  held_refuses f (entry.Quiescing stamp) = tt
+
+  plain_found : (next : Next) (f : Found) → Refuses (took_found own a next f)
+  plain_found (NextName n wanted) f = met_refuses _
+  plain_found (NextFree target) f = free_refuses f f.value
+  plain_found (NextHeld target) f = held_refuses f f.value
+  plain_found (NextOwn v) f = tt
+  plain_found NextNothing f = tt
+
+-- a step of a look-up refuses, where every place that it may find does
+link_refuses : (own : Own) (a : ActiveCall) (look : Look) (linked : Bool) → Refuses (took_end own a look (end_by_link linked))
+link_refuses own a look true = tt
+link_refuses own a look false = tt
+
+root_refuses : (own : Own) (a : ActiveCall) (look : Look) (shown : Option Entry) → Refuses (took_end own a look (root_end shown))
+root_refuses own a look None = tt
+root_refuses own a look (Some entry.Free) = tt
+root_refuses own a look (Some (entry.Held k)) = link_refuses own a look (is_link k.kind)
+root_refuses own a look (Some (entry.Closing by)) = tt
+root_refuses own a look (Some (entry.Quiescing stamp)) = tt
+
+place_refuses : (own : Own) (a : ActiveCall) (look : Look) (node index word : ℕ) (shown : Option Entry)
+    → ((f : Found) → Refuses (took_found own a (next_of a.plan a.found) f))
+    → Refuses (took_end own a look (place_end node index word shown))
+place_refuses own a look node index word None found = tt
+place_refuses own a look node index word (Some entry.Free) found = found _
+place_refuses own a look node index word (Some (entry.Held k)) found = found _
+place_refuses own a look node index word (Some (entry.Closing by)) found = tt
+place_refuses own a look node index word (Some (entry.Quiescing stamp)) found = found _
+
+look_refuses : (own : Own) (a : ActiveCall) (look : Look) (word : ℕ) (shown : Option Entry)
+    → (is_last look ≡ true → (f : Found) → Refuses (took_found own a (next_of a.plan a.found) f))
+    → Refuses (took_look own a look word shown)
+look_refuses own a (AtRoot top number) word shown found = root_refuses own a _ shown
+look_refuses own a (AtLeaf leaf number) word shown found = place_refuses own a _ _ _ word shown (found refl)
+look_refuses own a (AtEntry top index) word shown found = place_refuses own a _ _ _ word shown (found refl)
+
+-- a count and one more
+last_one : (count names : ℕ) → count ≡ 0 → names ≡ 1 → (count + 1 == names) ≡ false → ⊥
+last_one count names zero one not =
+    absurd (subst (λ n. (n + 1 == names) ≡ false → ⊥) (sym zero) (subst (λ m. (0 + 1 == m) ≡ false → ⊥) (sym one) (λ e. cc)) not)
+
+none_after : (ks : List Capability) → names_after [] ks ≡ []
+none_after [] = refl
+none_after (k ∷ ks) = refl
+
+-- a call with one name and no target that is not ready has found its name already, and finds nothing more
+one_found : (frames : ℕ) (own : Own) (a : ActiveCall) (ks : List Capability) → a.found ≡ ks → OneName a.plan → FoundFits frames a.plan ks
+    → is_last_name a.plan a.found ≡ false
+    → (f : Found) → Refuses (took_found own a (next_of a.plan ks) f)
+one_found frames own a [] is one fits not f =
+    let first : length a.found ≡ 0 = ap length is in
+    let count : length a.plan.names ≡ 1 = ap length one.names in
+    absurd (last_one _ _ first count not)
+one_found frames own a (k ∷ ks) is one fits not f =
+    subst (λ (names : List Name). Refuses (took_found own a (next_in (with_found [] (k ∷ ks)) (names_after names (k ∷ ks)) a.plan.target)
+    f)) (sym one.names)
+    (subst (λ (names : List Name). Refuses (took_found own a (next_in (with_found [] (k ∷ ks)) names a.plan.target) f))
+    (sym (none_after ks))
+    (subst (λ (t : Target). Refuses (took_found own a (next_in (with_found [] (k ∷ ks)) [] t) f)) (sym one.target) tt))
+
+-- the name of a call with one name is looked up first
+first_no : (own : Own) (call : Call) (plan : Plan) → OneName plan → NoAnswer (next_step own call [] (next_of plan []))
+first_no own call plan one =
+    subst (λ (names : List Name). NoAnswer (next_step own call [] (next_in [] names plan.target))) (sym one.names)
+    (under_no _ own.table one.name.number)
+
+-- two tests that do not both stand
+last_not : (b c : Bool) → (true && b && c) ≡ false → c ≡ true → b ≡ false
+last_not true true is last = is
+last_not true false is last = cc
+last_not false c is last = refl
+
+-- a step of a scan answers nothing
+scan_refuses : (core : ℕ) (act : ActType) (a : ActiveCall) (q : Quiet) (end : StageEnd (Unit {0}))
+    → Refuses (landed a (took_scan core act q end))
+scan_refuses core act a q ends.Going = tt
+scan_refuses core act a q (ends.Decided r) = landed_refuses a (refuse (refusal_of r)) tt
+scan_refuses core act a q (ends.Done x) = landed_refuses a (starts core act) (starts_no core act)
+scan_refuses core act a q (ends.Refuse r) = landed_refuses a (refuse (refusal_of r)) tt
+
+-- a step by which a count is acquired answers nothing
+count_refuses : (core n : ℕ) (change : ℤ) (act : ActType) (a : ActiveCall) (pin : Pin) (end : StageEnd Pinned)
+    → Refuses (landed a (took_count core n change act pin end))
+count_refuses core n change act a pin ends.Going = tt
+count_refuses core n change act a pin (ends.Decided r) = landed_refuses a (gives_up (refusal_of r) act) tt
+count_refuses core n change act a pin (ends.Done p) = tt
+count_refuses core n change act a pin (ends.Refuse r) = landed_refuses a (gives_up (refusal_of r) act) tt
+
+read_refuses : (a : ActiveCall) (look : Look) (o : Option CompWord) → Refuses (took_read a look o)
+read_refuses a look None = landed_refuses a (refuse refusal.Raced) tt
+read_refuses a look (Some life) = tt
+
+work_refuses : (own : Own) (a : ActiveCall) (decides : Bool) (work : Work) (found : ℕ) → decides ≡ decides_at_name a.plan.decides
+    → IsActive own a → work_ready a.plan a.found work ≡ false
+    → Refuses (took_work own a work found)
+work_refuses own a decides (Read comp look) found is active not = read_refuses a look _
+work_refuses own a decides (Scan q act) found is active not =
+    scan_refuses own.core act a (quiet_after own.layout.cores q found) (quiet_end own.layout.cores q found)
+work_refuses own a decides (Acquire pin change act) found is active not =
+    count_refuses own.core (length a.counts) change act a (pin_after pin found) (pin_end pin found)
+work_refuses own a decides (Act act) found is active not = landed_refuses a (took_act own.layout act found) (act_unready own.layout act found not)
+work_refuses own a false (Lookup look) found is active not =
+    look_refuses own a look found _ (λ last f. plain_found own a (ap (λ (p : Plan). decides_at_name p.decides) (sym active.plan) ∙ sym is)
+    _ f)
+work_refuses own a true (Lookup look) found is active not =
+    look_refuses own a look found _ (λ last f.
+    one_found own.layout.frames own a a.found refl
+    (subst OneName (sym active.plan) (one_name a.call (ap (λ (p : Plan). decides_at_name p.decides) (sym active.plan) ∙ sym is)))
+    active.found
+    (last_not _ (is_last look) (subst (λ b. (b && is_last_name a.plan a.found && is_last look) ≡ false) (sym is) not) last) f)
+
+enter_refuses : (own : Own) (a : ActiveCall) (spent decides : Bool) → decides ≡ decides_at_name a.plan.decides → IsActive own a
+    → a.found ≡ [] → Refuses (took_enter spent own a)
+enter_refuses own a true decides is active zero = tt
+enter_refuses own a false false is active zero =
+    landed_refuses a _ (next_no own a.call a.found (next_of a.plan a.found)
+    (ap (λ (p : Plan). decides_at_name p.decides) (sym active.plan) ∙ sym is))
+enter_refuses own a false true is active zero =
+    landed_refuses a _ (subst (λ (f : List Capability). NoAnswer (next_step own a.call f (next_of a.plan f))) (sym zero)
+    (first_no own a.call a.plan (subst OneName (sym active.plan)
+    (one_name a.call (ap (λ (p : Plan). decides_at_name p.decides) (sym active.plan) ∙ sym is)))))
+
+stage_refuses : (own : Own) (a : ActiveCall) (stage : Stage) (found : ℕ) → IsActive own a → IsFirst stage a.found
+    → ready_at a.plan a.found stage ≡ false → Refuses (took_at own a stage found)
+stage_refuses own a Enter found active first not = enter_refuses own a _ _ refl active first
+stage_refuses own a (Undecided work) found active first not = work_refuses own a _ work found refl active not
+stage_refuses own a (Decided r drawn tail) found active first not = tt
+stage_refuses own a (Leave r stamp) found active first not = tt
+
+pub unready_refuses : UnreadyRefuses
+unready_refuses own a found active not = stage_refuses own a a.stage found active active.first not
+
+-- a call that is ready is decided by its next step
+
+landed_decides : (a : ActiveCall) (step : WorkStep) → IsOver step → IsDecision (landed a step)
+landed_decides a (Goes work) over = absurd over
+landed_decides a (Acquires count work) over = absurd over
+landed_decides a (refuses_to r tail) over = tt
+landed_decides a (Answers v drawn tail) over = tt
+landed_decides a (work_changes r change drawn tail) over = tt
+
+fill_decides : (a : ActiveCall) (equal : Bool) → IsDecision (landed a (filled_if equal))
+fill_decides a true = tt
+fill_decides a false = tt
+
+typed_decides : (a : ActiveCall) (equal : Bool) → IsDecision (landed a (typed_if equal))
+typed_decides a true = tt
+typed_decides a false = tt
+
+typing_decides : (a : ActiveCall) (y : Typing) (at : TypingAt) (found : ℕ) → is_typing at ≡ true
+    → IsDecision (landed a (took_typing_at y at found))
+typing_decides a y Load found ready = absurd (cc)
+typing_decides a y (type_compare word) found ready = typed_decides a _
+
+published_decides : (a : ActiveCall) (m : Making) (word : ℕ) (equal : Bool) → IsDecision (landed a (published m word equal))
+published_decides a m word true = tt
+published_decides a m word false = tt
+
+making_decides : (a : ActiveCall) (m : Making) (at : MakingAt) (found : ℕ) → is_filling at ≡ true
+    → IsDecision (landed a (took_making_at m at found))
+making_decides a m make_load found ready = absurd (cc)
+making_decides a m (Mark word) found ready = absurd (cc)
+making_decides a m (Store word entry) found ready = absurd (cc)
+making_decides a m (fill_at word) found ready = published_decides a m word _
+
+charge_decides : (a : ActiveCall) (charge : Charge) (found : ℕ) → is_charging charge ≡ true → IsDecision (landed a (took_tick charge found))
+charge_decides a (charge_load tcap ticks) found ready = absurd (cc)
+charge_decides a (charge_compare tcap ticks budget version) found ready = by (found == word_of_head (head budget version))
+  where
+    by : (equal : Bool) → IsDecision (landed a (took_charge ticks (charge_compare tcap ticks budget version)
+        (charged_end equal (min ticks budget))))
+    by true = tt
+    by false = tt
+
+killing_decides : (a : ActiveCall) (m : Killing) (at : KillingAt) (found : ℕ) → is_killing at ≡ true
+    → IsDecision (landed a (took_killing_at m at found))
+killing_decides a m LoadComp found ready = absurd (cc)
+killing_decides a m (LoadLive life) found ready = absurd (cc)
+killing_decides a m (kill_close life word) found ready = absurd (cc)
+killing_decides a m (kill_draw life word) found ready = tt
+
+invoking_decides : (a : ActiveCall) (m : Invoking) (at : InvokingAt) (found : ℕ) → is_entering at ≡ true
+    → IsDecision (landed a (took_invoking_at m at found))
+invoking_decides a m invoking.LoadTable found ready = absurd (cc)
+invoking_decides a m (invoking.LoadPages table) found ready = absurd (cc)
+invoking_decides a m (invoking.LoadComp table pages) found ready = absurd (cc)
+invoking_decides a m (invoking.LoadLive table pages life) found ready = by (live_of_word found)
+  where
+    lives : (same : Bool) → IsDecision (landed a (enters_if m table pages same))
+    lives true = tt
+    lives false = tt
+
+    by : (o : Option LiveWord) → IsDecision (landed a (enters_live m table pages o))
+    by None = tt
+    by (Some live.Free) = tt
+    by (Some (live.Live epoch f)) = lives (epoch == m.epoch)
+    by (Some (live.Closing epoch d)) = tt
+    by (Some (live.Dead epoch stamp)) = tt
+
+returning_decides : (a : ActiveCall) (m : Returning) (at : ReturningAt) (found : ℕ) → is_leaving at ≡ true
+    → IsDecision (landed a (took_returning_at m at found))
+returning_decides a m returning.LoadBelow found ready = absurd (cc)
+returning_decides a m (returning.LoadTable comp) found ready = absurd (cc)
+returning_decides a m (returning.LoadPages comp table) found ready = absurd (cc)
+returning_decides a m (returning.Draw comp table pages) found ready = tt
+
+switching_decides : (a : ActiveCall) (m : Switching) (at : SwitchAt) (found : ℕ) → is_switching at ≡ true
+    → IsDecision (landed a (took_switching_at m at found))
+switching_decides a m (switch_at.Claim claim) found ready = absurd (cc)
+switching_decides a m (switch_at.LoadTable to) found ready = absurd (cc)
+switching_decides a m (switch_at.LoadPages to table) found ready = absurd (cc)
+switching_decides a m (switch_at.Leave to table pages) found ready = absurd (cc)
+switching_decides a m (switch_at.Draw to table pages) found ready = tt
+
+component_decides : (a : ActiveCall) (m : CompMaking) (at : CompAt) (found : ℕ) → comp_filling at ≡ true
+    → IsDecision (landed a (took_comp_at m at found))
+component_decides a m comp_at_as.Load found ready = absurd (cc)
+component_decides a m (comp_at_as.Mark word) found ready = absurd (cc)
+component_decides a m (comp_at_as.LoadLive word) found ready = absurd (cc)
+component_decides a m (comp_at_as.Scan word last q) found ready = absurd (cc)
+component_decides a m (comp_at_as.Close word last) found ready = absurd (cc)
+component_decides a m (comp_at_as.Store word last entry) found ready = absurd (cc)
+component_decides a m (comp_at_as.Fill word last) found ready = by (found == m.fill.word)
+  where
+    by : (equal : Bool) → IsDecision (landed a (comp_published m word last equal))
+    by true = tt
+    by false = tt
+
+untyping_decides : (s : Shape) (a : ActiveCall) (m : Untyping) (at : UntypingAt) (found : ℕ) → is_drawing at ≡ true
+    → IsDecision (landed a (took_untyping_at s m at found))
+untyping_decides s a m untype.Load found ready = absurd (cc)
+untyping_decides s a m (untype.Mark word v) found ready = absurd (cc)
+untyping_decides s a m (untype.Sweep word w) found ready = absurd (cc)
+untyping_decides s a m (untype.Draw word w) found ready = tt
+
+page_decides : (a : ActiveCall) (m : Touching) (look : Look) (node index word : ℕ) (shown : Option Entry)
+    → IsDecision (landed a (touch_end m look (place_end node index word shown)))
+page_decides a m look node index word None = tt
+page_decides a m look node index word (Some entry.Free) = tt
+page_decides a m look node index word (Some (entry.Held k)) = tt
+page_decides a m look node index word (Some (entry.Closing by)) = tt
+page_decides a m look node index word (Some (entry.Quiescing stamp)) = tt
+
+touched_decides : (a : ActiveCall) (m : Touching) (found : ℕ) (cached : Option Translation)
+    → (is_some cached || is_at_page m.look) ≡ true → IsDecision (landed a (touched m found cached))
+touched_decides a m found (Some item) ready = tt
+touched_decides a m found None ready = by m.look ready
+  where
+    by : (look : Look) → is_at_page look ≡ true → IsDecision
+        (landed a (touch_end m (look_after look (shown_in m.frames found)) (look_end look found (shown_in m.frames found))))
+    by (AtRoot root number) ready = absurd (cc)
+    by (AtLeaf leaf number) ready = page_decides a m _ _ _ found (shown_in m.frames found)
+    by (AtEntry root index) ready = page_decides a m _ _ _ found (shown_in m.frames found)
+
+act_decides : (s : Shape) (a : ActiveCall) (act : ActType) (found : ℕ) → act_ready act ≡ true
+    → IsDecision (landed a (took_act s act found))
+act_decides s a (fill_act fill) found ready = fill_decides a _
+act_decides s a (remove_act (AtCompare node index word core) cap) found ready = absurd (cc)
+act_decides s a (remove_act (AtDraw node index) cap) found ready = tt
+act_decides s a (remove_act (AtStore node index stamp) cap) found ready = absurd (cc)
+act_decides s a (type_act typing) found ready = typing_decides a typing typing.at found ready
+act_decides s a (make_act m) found ready = making_decides a m m.at found ready
+act_decides s a (map_act fill) found ready = absurd (cc)
+act_decides s a (Outside node entry word) found ready = absurd (cc)
+act_decides s a (tick_act charge) found ready = charge_decides a charge found ready
+act_decides s a (touch_act m) found ready = touched_decides a m found m.cached ready
+act_decides s a (flush_act core) found ready = tt
+act_decides s a (kill_act m) found ready = killing_decides a m m.at found ready
+act_decides s a (untype_act m) found ready = untyping_decides s a m m.at found ready
+act_decides s a (comp_act m) found ready = component_decides a m m.at found ready
+act_decides s a (invoke_act m) found ready = invoking_decides a m m.at found ready
+act_decides s a (return_act m) found ready = returning_decides a m m.at found ready
+act_decides s a (switch_act m) found ready = switching_decides a m m.at found ready
+act_decides s a (share_act p) found ready = landed_decides a _ (share_over p p.at found ready)
+
+begun_over : (own : Own) (call : Call) (k : Capability) → decides_at_name (plan_for call).decides ≡ true
+    → IsOver (act_begun own call (k ∷ []) None None)
+begun_over own (look_call a) k is = tt
+begun_over own (Copy a t b) k is = absurd (cc)
+begun_over own (Grow t i l) k is = absurd (cc)
+begun_over own (Map p v r f w) k is = absurd (cc)
+begun_over own (Remove t b) k is = absurd (cc)
+begun_over own (Shrink t i) k is = absurd (cc)
+begun_over own (Unmap p v) k is = absurd (cc)
+begun_over own (Retype r f Untyped) k is = absurd (cc)
+begun_over own (Retype r f User) k is = absurd (cc)
+begun_over own (Retype r f Kernel) k is = absurd (cc)
+begun_over own (make_call make.Table r f t b) k is = absurd (cc)
+begun_over own (make_call make.Leaf r f t b) k is = absurd (cc)
+begun_over own (make_call make.Pages r f t b) k is = absurd (cc)
+begun_over own (make_call make.Pleaf r f t b) k is = absurd (cc)
+begun_over own (make_call (make.Thread comp) r f t b) k is = absurd (cc)
+begun_over own (make_call (make.Tcap sched quality) r f t b) k is = absurd (cc)
+begun_over own (make_call (make.Comp table pages live) r f t b) k is = absurd (cc)
+begun_over own Flush k is = absurd (cc)
+begun_over own (Tick n) k is = absurd (cc)
+begun_over own (Gate c t b) k is = absurd (cc)
+begun_over own (Kill c) k is = absurd (cc)
+begun_over own (call_gate g) k is = absurd (cc)
+begun_over own Ret k is = absurd (cc)
+begun_over own (Switch h q) k is = absurd (cc)
+begun_over own (Transfer a b m) k is = absurd (cc)
+begun_over own (Delegate a b m) k is = absurd (cc)
+begun_over own (Test a b) k is = absurd (cc)
+begun_over own call k is = tt
+
+zero_of : (found : List Capability) → (length found + 1 == 1) ≡ true → found ≡ []
+zero_of [] is = refl
+zero_of (k ∷ ks) is = let more : length (k ∷ ks) + 1 ≡ 1 = eqb-true (length (k ∷ ks) + 1) 1 is in absurd (omega arith)
+
+none_yet : (plan : Plan) (found : List Capability) → OneName plan → is_last_name plan found ≡ true → found ≡ []
+none_yet plan found one is = zero_of found (subst (λ (names : List Name). (length found + 1 == length names) ≡ true) one.names is)
+
+module _ (own : Own) (a : ActiveCall) (one : OneName a.plan) (zero : a.found ≡ []) (is : decides_at_name (plan_for a.call).decides ≡ true)
+  where
+    one_over : (k : Capability) → IsOver (next_by own (found_more a (pushed a.found k)))
+    one_over k =
+        subst (λ (f : List Capability). IsOver (next_step own a.call (pushed f k) (next_of a.plan (pushed f k)))) (sym zero)
+        (subst (λ (names : List Name). IsOver (next_step own a.call (k ∷ [])
+        (next_in (with_found [] (k ∷ [])) (names_after names (k ∷ [])) a.plan.target))) (sym one.names)
+        (subst (λ (t : Target). IsOver (next_step own a.call (k ∷ []) (next_in (with_found [] (k ∷ [])) [] t))) (sym one.target)
+        (begun_over own a.call k is)))
+
+    met_decides : (met : Met) → IsDecision (named_one own a met)
+    met_decides (Finds k) = landed_decides (found_more a (pushed a.found k)) _ (one_over k)
+    met_decides (Refused r) = tt
+
+    name_decides : (f : Found) → IsDecision (took_found own a (next_of a.plan a.found) f)
+    name_decides f =
+        subst (λ (found : List Capability). IsDecision (took_found own a (next_of a.plan found) f)) (sym zero)
+        (subst (λ (names : List Name). IsDecision (took_found own a (next_in [] names a.plan.target) f)) (sym one.names) (met_decides _))
+
+place_decides : (own : Own) (a : ActiveCall) (look : Look) (node index word : ℕ) (shown : Option Entry)
+    → ((f : Found) → IsDecision (took_found own a (next_of a.plan a.found) f))
+    → IsDecision (took_end own a look (place_end node index word shown))
+place_decides own a look node index word None found = tt
+place_decides own a look node index word (Some entry.Free) found = found _
+place_decides own a look node index word (Some (entry.Held k)) found = found _
+place_decides own a look node index word (Some (entry.Closing by)) found = tt
+place_decides own a look node index word (Some (entry.Quiescing stamp)) found = found _
+
+look_decides : (own : Own) (a : ActiveCall) (look : Look) (word : ℕ) (shown : Option Entry) → is_last look ≡ true
+    → ((f : Found) → IsDecision (took_found own a (next_of a.plan a.found) f)) → IsDecision (took_look own a look word shown)
+look_decides own a (AtRoot top number) word shown last found = absurd (cc)
+look_decides own a (AtLeaf leaf number) word shown last found = place_decides own a _ _ _ word shown found
+look_decides own a (AtEntry top index) word shown last found = place_decides own a _ _ _ word shown found
+
+three : (a b c : Bool) → (a && b && c) ≡ true → (a ≡ true) × (b ≡ true) × (c ≡ true)
+three true true true is = (refl, refl, refl)
+three true true false is = absurd (cc)
+three true false c is = absurd (cc)
+three false b c is = absurd (cc)
+
+work_decides : (own : Own) (a : ActiveCall) (work : Work) (found : ℕ) → IsActive own a → work_ready a.plan a.found work ≡ true
+    → IsDecision (took_work own a work found)
+work_decides own a (Read comp look) found active ready = absurd (cc)
+work_decides own a (Scan q act) found active ready = absurd (cc)
+work_decides own a (Acquire pin change act) found active ready = absurd (cc)
+work_decides own a (Act act) found active ready = act_decides own.layout a act found ready
+work_decides own a (Lookup look) found active ready =
+    let all = three (decides_at_name a.plan.decides) (is_last_name a.plan a.found) (is_last look) ready in
+    let is = ap (λ (p : Plan). decides_at_name p.decides) (sym active.plan) ∙ all.0 in
+    let one = subst OneName (sym active.plan) (one_name a.call is) in
+    look_decides own a look found _ all.2 (name_decides own a one (none_yet a.plan a.found one all.1) is)
+
+stage_decides : (own : Own) (a : ActiveCall) (stage : Stage) (found : ℕ) → IsActive own a → ready_at a.plan a.found stage ≡ true
+    → reply_at stage ≡ None → IsDecision (took_at own a stage found)
+stage_decides own a Enter found active ready not_yet = absurd (cc)
+stage_decides own a (Undecided work) found active ready not_yet = work_decides own a work found active ready
+stage_decides own a (Decided r drawn tail) found active ready not_yet = absurd (cc)
+stage_decides own a (Leave r stamp) found active ready not_yet = absurd (cc)
+
+pub ready_decides : ReadyDecides
+ready_decides own a found active ready not_yet = stage_decides own a a.stage found active ready not_yet

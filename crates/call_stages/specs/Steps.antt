@@ -1,0 +1,234 @@
+-- The steps of a call: the next one, and what it takes from the word found. They depend on what the core has of its own, on
+-- where the call stands, and on the word found, and on nothing else.
+use Rattle.std.specs.Prelude.{ℕ, ℤ, ◌+◌, Bool, true, false, ◌&&◌, ◌==◌, nat_le, length, Option, Some, None, if◌then◌else◌, List}
+use Rattle.call_plans.specs.Plans.{pushed}
+use Rattle.spk_nums.specs.Capability.{Capability}
+use Rattle.spk_nums.specs.declared.replies.Reply.{Reply}
+use Rattle.spk_nums.specs.declared.replies.Reply.TheVariants.{Ok}
+use Rattle.spk_nums.specs.declared.steps.StageEnd.{StageEnd}
+use Rattle.spk_nums.specs.declared.steps.StageEnd.TheVariants as ends
+use Rattle.entry_words.specs.declared.entry.Entry.{Entry}
+use Rattle.frame_words.specs.Comp.{comp_of_word}
+use Rattle.frame_words.specs.Core.{word_of_core}
+use Rattle.frame_words.specs.declared.comp_word.CompWord.{CompWord}
+use Rattle.word_map.specs.Word.{EntryAt, CoreAt}
+use Rattle.word_map.specs.Moves.{Move, LoadOf, StoreOf}
+use Rattle.stage_look.specs.Shown.{shown_in}
+use Rattle.stage_look.specs.Lookup.{look_move, look_end, look_after}
+use Rattle.stage_look.specs.declared.look.Look.{Look}
+use Rattle.stage_look.specs.declared.look.Look.TheVariants.{AtRoot, AtLeaf, AtEntry}
+use Rattle.stage_look.specs.declared.look.Found.{Found}
+use Rattle.stage_quiet.specs.declared.quiet.Quiet.{Quiet}
+use Rattle.stage_quiet.specs.Scan.{quiet_move, quiet_end, quiet_after}
+use Rattle.stage_pins.specs.declared.pin.Pin.{Pin}
+use Rattle.stage_pins.specs.declared.pin.Pinned.{Pinned}
+use Rattle.stage_pins.specs.declared.held.Acquired.{Acquired}
+use Rattle.stage_pins.specs.Acquire.{pin_move, pin_after, pin_end}
+use Rattle.stage_pins.specs.Held.{pushed as count_pushed}
+use Rattle.call_plans.specs.declared.plans.Decides.{Decides as Deciding}
+use Rattle.call_plans.specs.declared.plans.Decides.TheVariants.{LeafEntry}
+use Rattle.call_plans.specs.declared.plans.Plan.{Plan}
+use Rattle.call_plans.specs.After.{Next, NextName, NextFree, NextHeld, NextOwn, NextNothing, next_of}
+use Rattle.act_states.specs.declared.refusals.Refusal.TheVariants as refusal
+use Rattle.act_states.specs.declared.own.Own.{Own}
+use Rattle.act_states.specs.declared.own.OwnChange.{OwnChange}
+use Rattle.act_states.specs.declared.lookups.Met.{Met}
+use Rattle.act_states.specs.declared.lookups.Met.TheVariants.{Finds, Refused}
+use Rattle.act_states.specs.declared.work.Act.{Act as ActType}
+use Rattle.act_states.specs.declared.work.Work.{Work}
+use Rattle.act_states.specs.declared.work.Work.TheVariants.{Lookup, Read, Scan, Acquire, Act}
+use Rattle.act_states.specs.declared.work.Tail.{Tail}
+use Rattle.call_stages.specs.declared.stages.Stage.{Stage}
+use Rattle.call_stages.specs.declared.stages.Stage.TheVariants.{Enter, Undecided, Decided, Leave}
+use Rattle.call_stages.specs.declared.stages.ActiveCall.{ActiveCall}
+use Rattle.act_states.specs.declared.work.WorkStep.{WorkStep}
+use Rattle.act_states.specs.declared.work.WorkStep.TheVariants.{Goes, Acquires, Refuses, Answers, Changes as work_changes}
+use Rattle.call_stages.specs.declared.stages.Told.{Told}
+use Rattle.call_stages.specs.declared.stages.Told.TheVariants as told_as
+use Rattle.act_states.specs.Refusals.{reply_of, refusal_of}
+use Rattle.act_states.specs.declared.refusals.Refusal.{Refusal}
+use Rattle.act_states.specs.WorkSteps.{refuse}
+use Rattle.act_states.specs.Acts.{act_move, took_act, act_ready, next_work, starts, undo}
+use Rattle.act_states.specs.Lookups.{next_step, met_name, met_free, met_held}
+use Rattle.call_stages.specs.Tails.{tail_move, took_tail, tail_counts}
+
+-- the word of a core that is or is not inside a call, with the stamp of its last exit
+abbrev pub core_word : Bool → ℕ → ℕ
+core_word inside stamp = word_of_core (record { inside = inside; stamp = stamp })
+
+-- the next step of the work of a call, and of a call
+abbrev pub work_move : Work → Move
+work_move (Lookup look) = look_move look
+work_move (Read comp look) = LoadOf (EntryAt comp 2)
+work_move (Scan q act) = quiet_move q
+work_move (Acquire pin change act) = pin_move pin
+work_move (Act act) = act_move act
+
+-- the next step of a core at a stage of its call, which has acquired these counts
+abbrev pub stage_move : Own → List Acquired → Stage → Move
+stage_move own counts Enter = StoreOf (CoreAt own.core) (core_word true own.exit)
+stage_move own counts (Undecided work) = work_move work
+stage_move own counts (Decided r drawn tail) = tail_move r drawn tail counts
+stage_move own counts (Leave r stamp) = StoreOf (CoreAt own.core) (core_word false stamp)
+
+-- What a step led to: the call goes on; it is decided with this reply and goes on; it returns this reply, and its core word was
+-- left with this stamp; it is decided with this reply, changes this of what its core has of its own, and goes on.
+pub data Took : Type 0 where
+  GoesOn : ActiveCall → Took
+  Decides : Reply → ActiveCall → Took
+  Returns : Reply → ℕ → Took
+  Changes : Reply → OwnChange → ActiveCall → Took
+
+-- the call, one step further, at this stage
+abbrev pub went : ActiveCall → Stage → ActiveCall
+went a s = record a { steps = a.steps + 1; stage = s }
+
+-- the call, one step further, with these counts
+abbrev pub went_with : ActiveCall → List Acquired → Stage → ActiveCall
+went_with a counts s = record a { steps = a.steps + 1; stage = s; counts = counts }
+
+-- the call is decided with this reply, has drawn this stamp or none, and has this still to store
+abbrev pub decided : ActiveCall → Reply → Option ℕ → Tail → Took
+decided a r drawn tail = Decides r (went a (Decided r drawn tail))
+
+-- where a step of its work takes a call
+abbrev pub landed : ActiveCall → WorkStep → Took
+landed a (Goes work) = GoesOn (went a (Undecided work))
+landed a (Acquires count work) = GoesOn (went_with a (count_pushed a.counts count) (Undecided work))
+landed a (Refuses r tail) = decided a (reply_of r) None tail
+landed a (Answers v drawn tail) = decided a (Ok v) drawn tail
+landed a (work_changes r change drawn tail) = Changes r change (went a (Decided r drawn tail))
+
+-- its names have led to one capability more
+abbrev pub found_more : ActiveCall → List Capability → ActiveCall
+found_more a found = record a { found = found }
+
+-- it has read this epoch
+abbrev pub read_more : ActiveCall → ℕ → ActiveCall
+read_more a epoch = record a { read = Some epoch }
+
+-- what comes next of a core's call
+abbrev pub next_by : Own → ActiveCall → WorkStep
+next_by own a = next_step own a.call a.found (next_of a.plan a.found)
+
+-- at its entry a call is refused where the core's calls are spent
+abbrev pub took_enter : Bool → Own → ActiveCall → Took
+took_enter spent own a = if spent then landed a (refuse refusal.CallsSpent) else landed a (next_by own a)
+
+-- one name more has led to a capability, or the call is refused
+abbrev pub named_one : Own → ActiveCall → Met → Took
+named_one own a (Finds k) = landed (found_more a (pushed a.found k)) (next_by own (found_more a (pushed a.found k)))
+named_one own a (Refused r) = landed a (refuse r)
+
+-- what a call that has looked this up takes from the place that was found
+abbrev pub took_found : Own → ActiveCall → Next → Found → Took
+took_found own a (NextName n wanted) f = named_one own a (met_name wanted f.value)
+took_found own a (NextFree target) f = landed a (met_free own a.call a.found a.read f f.value)
+took_found own a (NextHeld target) f = landed a (met_held own a.call a.found f f.value)
+took_found own a (NextOwn v) f = landed a (refuse refusal.Raced)
+took_found own a NextNothing f = landed a (refuse refusal.Raced)
+
+-- what a call takes from a step of a look-up, which stands at `look` after it
+abbrev pub took_end : Own → ActiveCall → Look → StageEnd Found → Took
+took_end own a look ends.Going = landed a (Goes (Lookup look))
+took_end own a look (ends.Decided r) = landed a (refuse (refusal_of r))
+took_end own a look (ends.Done f) = took_found own a (next_of a.plan a.found) f
+took_end own a look (ends.Refuse r) = landed a (refuse (refusal_of r))
+
+-- what a call takes from a step of a look-up that has found this word, which shows this
+abbrev pub took_look : Own → ActiveCall → Look → ℕ → Option Entry → Took
+took_look own a look word shown = took_end own a (look_after look shown) (look_end look word shown)
+
+-- what a call takes from the load of a component's word, which names this: its target is looked up next
+abbrev pub took_read : ActiveCall → Look → Option CompWord → Took
+took_read a look None = landed a (refuse refusal.Raced)
+took_read a look (Some life) = landed (read_more a life.epoch) (Goes (Lookup look))
+
+-- a call that acquires a count for an act is refused, with what it has then still to store
+abbrev pub gives_up : Refusal → ActType → WorkStep
+gives_up r act = Refuses r (undo act)
+
+-- what a call takes from a step by which it acquires a count for an act: it is refused, or goes on to the next count or the act
+abbrev pub took_count : ℕ → ℕ → ℤ → ActType → Pin → StageEnd Pinned → WorkStep
+took_count core n change act pin ends.Going = Goes (Acquire pin change act)
+took_count core n change act pin (ends.Decided r) = gives_up (refusal_of r) act
+took_count core n change act pin (ends.Done p) = Acquires (record { pin = p; change = change }) (next_work core (n + 1) act)
+took_count core n change act pin (ends.Refuse r) = gives_up (refusal_of r) act
+
+-- what a call takes from a step of a scan, which stands here after it: it is refused, or goes on to the next core or to its act
+abbrev pub took_scan : ℕ → ActType → Quiet → StageEnd (Unit {0}) → WorkStep
+took_scan core act q ends.Going = Goes (Scan q act)
+took_scan core act q (ends.Decided r) = refuse (refusal_of r)
+took_scan core act q (ends.Done x) = starts core act
+took_scan core act q (ends.Refuse r) = refuse (refusal_of r)
+
+-- what a call takes from a step of its work
+abbrev pub took_work : Own → ActiveCall → Work → ℕ → Took
+took_work own a (Lookup look) found = took_look own a look found (shown_in own.layout.frames found)
+took_work own a (Read comp look) found = took_read a look (comp_of_word found)
+took_work own a (Scan q act) found =
+    landed a (took_scan own.core act (quiet_after own.layout.cores q found) (quiet_end own.layout.cores q found))
+took_work own a (Acquire pin change act) found =
+    landed a (took_count own.core (length a.counts) change act (pin_after pin found) (pin_end pin found))
+took_work own a (Act act) found = landed a (took_act own.layout act found)
+
+-- whether a core has made as many calls as it may
+abbrev pub is_spent : Own → Bool
+is_spent own = nat_le own.limit own.made
+
+-- what a call takes at a stage from the word found
+abbrev pub took_at : Own → ActiveCall → Stage → ℕ → Took
+took_at own a Enter found = took_enter (is_spent own) own a
+took_at own a (Undecided work) found = took_work own a work found
+took_at own a (Decided r drawn tail) found = GoesOn (went_with a (tail_counts tail a.counts) (took_tail r drawn tail a.counts found))
+took_at own a (Leave r stamp) found = Returns r stamp
+
+abbrev pub took : Own → ActiveCall → ℕ → Took
+took own a found = took_at own a a.stage found
+
+-- what is told of a step that led to this
+abbrev pub told : Took → Told
+told (GoesOn a) = told_as.Going
+told (Decides r a) = told_as.Decided r
+told (Returns r stamp) = told_as.Returned r stamp
+told (Changes r change a) = told_as.Changed r change
+
+-- the call after a step that led to this; one that returns stays as it was
+abbrev pub call_after : ActiveCall → Took → ActiveCall
+call_after old (GoesOn a) = a
+call_after old (Decides r a) = a
+call_after old (Returns r stamp) = old
+call_after old (Changes r change a) = a
+
+-- whether the next load is that of the place that is looked for
+abbrev pub is_last : Look → Bool
+is_last (AtRoot root number) = false
+is_last (AtLeaf leaf number) = true
+is_last (AtEntry root entry) = true
+
+-- whether a call with this plan is decided where its last name is found
+abbrev pub decides_at_name : Deciding → Bool
+decides_at_name LeafEntry = true
+decides_at_name _ = false
+
+-- whether the next name is the last of a plan
+abbrev pub is_last_name : Plan → List Capability → Bool
+is_last_name plan found = length found + 1 == length plan.names
+
+-- whether the next step of its work is the one that decides the call's `ok`
+abbrev pub work_ready : Plan → List Capability → Work → Bool
+work_ready plan found (Lookup look) = decides_at_name plan.decides && is_last_name plan found && is_last look
+work_ready plan found (Read comp look) = false
+work_ready plan found (Scan q act) = false
+work_ready plan found (Acquire pin change act) = false
+work_ready plan found (Act act) = act_ready act
+
+-- whether a call is ready: the next step is the one that decides its `ok`, or it is decided
+abbrev pub ready_at : Plan → List Capability → Stage → Bool
+ready_at plan found Enter = false
+ready_at plan found (Undecided work) = work_ready plan found work
+ready_at plan found (Decided r drawn tail) = true
+ready_at plan found (Leave r stamp) = true
+
+abbrev pub is_ready : ActiveCall → Bool
+is_ready a = ready_at a.plan a.found a.stage

@@ -1,0 +1,134 @@
+-- What a decided call has still to store, and its exit.
+use Rattle.std.specs.Prelude.{ℕ, ◌-◌, ◌^◌, Bool, true, false, nat_lt, Option, List, [], ◌∷◌, if◌then◌else◌}
+use Rattle.spk_nums.specs.declared.replies.Reply.{Reply}
+use Rattle.spk_nums.specs.declared.replies.Reply.TheVariants.{Ok}
+use Rattle.word_map.specs.Word.{ClockAt, FrameAt, LiveAt}
+use Rattle.word_map.specs.Moves.{Move, LoadOf, StoreOf}
+use Rattle.stage_quiet.specs.Removal.{close_move}
+use Rattle.stage_quiet.specs.Flushing.{flush_move}
+use Rattle.stage_quiet.specs.declared.flush_mark.FlushMark.TheVariants.{AtStore}
+use Rattle.stage_pins.specs.declared.held.Acquired.{Acquired}
+use Rattle.stage_pins.specs.Commit.{settle_move}
+use Rattle.stage_pins.specs.Held.{commit_of, rest_of}
+use Rattle.stage_thread.specs.Stacking.{push_move, pop_move}
+use Rattle.stage_thread.specs.declared.stack.Push.{Push}
+use Rattle.stage_thread.specs.declared.stack.Push.TheVariants as push
+use Rattle.stage_thread.specs.declared.stack.Pop.{Pop}
+use Rattle.stage_thread.specs.declared.stack.Pop.TheVariants as pop
+use Rattle.act_states.specs.Kills.{dead_move}
+use Rattle.act_states.specs.Switches.{running_move, idle_move}
+use Rattle.act_states.specs.declared.work.Tail.{Tail}
+use Rattle.act_states.specs.declared.work.Tail.TheVariants.{Nothing, Quiesce, Unmark, StoreDead, StoreFlush, Release, StoreLive, Push as push_tail, Pop as pop_tail, StoreRunning, StoreIdle, Share}
+use Rattle.act_states.specs.Untypings.{release_move, release_after, release_left}
+use Rattle.stage_tcap.specs.Pairs.{pair_move}
+use Rattle.act_states.specs.Shares.{after_share, share_left}
+use Rattle.call_stages.specs.declared.stages.Stage.{Stage}
+use Rattle.call_stages.specs.declared.stages.Stage.TheVariants.{Decided, Leave}
+
+-- whether a reply says that the call was carried out
+abbrev pub is_ok : Reply → Bool
+is_ok (Ok v) = true
+is_ok _ = false
+
+-- what of a push and of a pop is to be stored after its next store, and how many stores these are with it
+abbrev pub pushed_on : Push → Tail
+pushed_on (push.AtStack t core depth comp) = push_tail (push.AtThread t core depth)
+pushed_on (push.AtThread t core depth) = Nothing
+
+abbrev pub popped_on : Pop → Tail
+popped_on (pop.AtThread t core depth) = pop_tail (pop.AtStack t depth)
+popped_on (pop.AtStack t depth) = Nothing
+
+abbrev pub push_left : Push → ℕ
+push_left (push.AtStack t core depth comp) = 2
+push_left (push.AtThread t core depth) = 1
+
+abbrev pub pop_left : Pop → ℕ
+pop_left (pop.AtThread t core depth) = 2
+pop_left (pop.AtStack t depth) = 1
+
+-- the next step of a decided call: its next store, then the commit of each count that it has acquired, then the load of the clock;
+-- counters that it has frozen, and their frame's word, are stored after the commits
+abbrev pub tail_move : Reply → Option ℕ → Tail → List Acquired → Move
+tail_move r drawn (Quiesce close) counts = close_move close
+tail_move r drawn (Unmark f word) counts = StoreOf (FrameAt f) word
+tail_move r drawn (StoreDead life stamp) counts = dead_move life stamp
+tail_move r drawn (StoreFlush core stamp) counts = flush_move (AtStore core stamp)
+tail_move r drawn (StoreLive l live f word) counts = StoreOf (LiveAt l) live
+tail_move r drawn (push_tail push) counts = push_move push
+tail_move r drawn (pop_tail pop) counts = pop_move pop
+tail_move r drawn (StoreRunning f core depth old old_depth) counts = running_move f core depth
+tail_move r drawn (StoreIdle f depth) counts = idle_move f depth
+tail_move r drawn (Share p) counts = pair_move p
+tail_move r drawn Nothing [] = LoadOf ClockAt
+tail_move r drawn Nothing (x ∷ xs) = settle_move (commit_of (is_ok r) drawn x)
+tail_move r drawn (Release release) [] = release_move release
+tail_move r drawn (Release release) (x ∷ xs) = settle_move (commit_of (is_ok r) drawn x)
+
+-- the stamp of a clock; a clock past a stamp's range never comes, and stays at the range's end
+abbrev pub stamp_if : Bool → ℕ → ℕ
+stamp_if fits clock = if fits then clock else 2 ^ 28 - 1
+
+abbrev pub stamp_of : ℕ → ℕ
+stamp_of clock = stamp_if (nat_lt clock (2 ^ 28)) clock
+
+-- where the call stands after that step, and the counts that it has then still to commit
+abbrev pub took_tail : Reply → Option ℕ → Tail → List Acquired → ℕ → Stage
+took_tail r drawn (Quiesce close) counts found = Decided r drawn Nothing
+took_tail r drawn (Unmark f word) counts found = Decided r drawn Nothing
+took_tail r drawn (StoreDead life stamp) counts found = Decided r drawn Nothing
+took_tail r drawn (StoreFlush core stamp) counts found = Decided r drawn Nothing
+took_tail r drawn (StoreLive l live f word) counts found = Decided r drawn (Unmark f word)
+took_tail r drawn (push_tail push) counts found = Decided r drawn (pushed_on push)
+took_tail r drawn (pop_tail pop) counts found = Decided r drawn (popped_on pop)
+took_tail r drawn (StoreRunning f core depth old old_depth) counts found = Decided r drawn (StoreIdle old old_depth)
+took_tail r drawn (StoreIdle f depth) counts found = Decided r drawn Nothing
+took_tail r drawn (Share p) counts found = Decided r drawn (after_share p found)
+took_tail r drawn Nothing [] found = Leave r (stamp_of found)
+took_tail r drawn Nothing (x ∷ xs) found = Decided r drawn Nothing
+took_tail r drawn (Release release) [] found = Decided r drawn (release_after release)
+took_tail r drawn (Release release) (x ∷ xs) found = Decided r drawn (Release release)
+
+-- whether the counts are committed before what is still to be stored
+abbrev pub commits : Tail → Bool
+commits (Quiesce close) = false
+commits (Unmark f word) = false
+commits (StoreDead life stamp) = false
+commits (StoreFlush core stamp) = false
+commits (push_tail push) = false
+commits (pop_tail pop) = false
+commits (StoreRunning f core depth old old_depth) = false
+commits (StoreIdle f depth) = false
+commits (StoreLive l live f word) = false
+commits (Share p) = false
+commits Nothing = true
+commits (Release release) = true
+
+abbrev pub tail_counts : Tail → List Acquired → List Acquired
+tail_counts (Quiesce close) xs = xs
+tail_counts (Unmark f word) xs = xs
+tail_counts (StoreDead life stamp) xs = xs
+tail_counts (StoreFlush core stamp) xs = xs
+tail_counts (StoreLive l live f word) xs = xs
+tail_counts (push_tail push) xs = xs
+tail_counts (pop_tail pop) xs = xs
+tail_counts (StoreRunning f core depth old old_depth) xs = xs
+tail_counts (StoreIdle f depth) xs = xs
+tail_counts (Share p) xs = xs
+tail_counts Nothing xs = rest_of xs
+tail_counts (Release release) xs = rest_of xs
+
+-- how many stores are left beside the counts
+abbrev pub tail_left : Tail → ℕ
+tail_left Nothing = 0
+tail_left (Quiesce close) = 1
+tail_left (Unmark f word) = 1
+tail_left (StoreDead life stamp) = 1
+tail_left (StoreFlush core stamp) = 1
+tail_left (Release release) = release_left release
+tail_left (StoreLive l live f word) = 2
+tail_left (push_tail push) = push_left push
+tail_left (pop_tail pop) = pop_left pop
+tail_left (StoreRunning f core depth old old_depth) = 2
+tail_left (StoreIdle f depth) = 1
+tail_left (Share p) = share_left p.what p.at

@@ -1,9 +1,0 @@
--- The state of a core as contracts see it.
-use Rattle.std.specs.Prelude.{Option}
-use Rattle.call_acts.specs.declared.own.Own.{Own}
-use Rattle.call_steps.specs.declared.stages.ActiveCall.{ActiveCall}
-
--- a core: what it has of its own, and its call, if it is in one
-pub record Core : Type 0 where
-  pub own : Own
-  pub active : Option ActiveCall
