@@ -1,5 +1,6 @@
 -- Where the steps by which a component is made lead to fits its machine, and leaves fewer steps.
-use Rattle.std.proofs.Common.{◌≡◌, ℕ, ◌+◌, ◌-◌, ◌<◌, ◌≤◌, ◌==◌, nat_lt, Bool, true, false, if◌then◌else◌, length, Option, Some, None, IfSome, refl, sym, subst, arith, slice_get}
+use Rattle.std.proofs.Common.{◌≡◌, ℕ, ◌+◌, ◌-◌, ◌<◌, ◌≤◌, ◌==◌, nat_lt, Bool, true, false, if◌then◌else◌}
+use Rattle.std.proofs.Common.{length, Option, Some, None, IfSome, refl, sym, subst, arith, slice_get}
 use Rattle.std.proofs.lemmas.Bool.{ltb-true}
 use Rattle.spk_nums.specs.declared.kinds.FrameKind.{FrameKind}
 use Rattle.spk_nums.specs.declared.kinds.FrameKind.TheVariants as frame_kind
@@ -17,7 +18,9 @@ use Rattle.stage_quiet.specs.declared.quiet.Quiet.{Quiet}
 use Rattle.act_states.specs.Refusals.{refusal_of}
 use Rattle.act_states.specs.Scans.{IsUnpaged, ScanFits, left_of_scan}
 use Rattle.act_states.specs.WorkSteps.{refuse}
-use Rattle.act_states.specs.Comps.{CompMakingFits, CompAtFits, comp_dues, comp_left, comp_undo, comp_goes, comp_refuses, comp_meets, comp_meets_object, comp_meets_blank, number_met, number_shown, takes_number, scans_number, number_scanned, closes_number, comp_published}
+use Rattle.act_states.specs.Comps.{CompMakingFits, CompAtFits, comp_dues, comp_left, comp_undo, comp_goes, comp_refuses}
+use Rattle.act_states.specs.Comps.{comp_meets, comp_meets_object, comp_meets_blank, number_met, number_shown}
+use Rattle.act_states.specs.Comps.{takes_number, scans_number, number_scanned, closes_number, comp_published}
 use Rattle.act_states.specs.Acts.{dues, next_work, comp_marks, took_comp_at}
 use Rattle.act_states.specs.declared.comps.CompAt.{CompAt}
 use Rattle.act_states.specs.declared.comps.CompAt.TheVariants.{Load, Mark, LoadLive, Scan, Close, Store, Fill}

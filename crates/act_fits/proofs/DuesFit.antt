@@ -1,6 +1,8 @@
 -- What fits: where a step of the work leads to, what a decision changes, and the counts that an act changes.
 use Rattle.std.proofs.lemmas.Option.{slice_get_within}
-use Rattle.std.proofs.Common.{leb-false, ◌≡◌, ℕ, zero, suc, ℤ, pos, negsuc, ◌≢◌, nat_lt, if◌then◌else◌, ◌+◌, ◌*◌, ◌-◌, slice_get, ◌<◌, ◌≤◌, Bool, true, false, nat_le, IsTrue, ◌==◌, List, [], ◌∷◌, length, Option, Some, None, IfSome, IsSomeAnd, refl, sym, ap, subst, arith, ◌&&◌}
+use Rattle.std.proofs.Common.{leb-false, ◌≡◌, ℕ, zero, suc, ℤ, pos, negsuc, ◌≢◌, nat_lt, if◌then◌else◌, ◌+◌, ◌*◌}
+use Rattle.std.proofs.Common.{◌-◌, slice_get, ◌<◌, ◌≤◌, Bool, true, false, nat_le, IsTrue, ◌==◌, List, [], ◌∷◌}
+use Rattle.std.proofs.Common.{length, Option, Some, None, IfSome, IsSomeAnd, refl, sym, ap, subst, arith, ◌&&◌}
 use Rattle.std.proofs.lemmas.Bool.{leb-true, ltb-true, ltb-false, eqb-true, eqb-false}
 use Rattle.stage_quiet.specs.declared.quiet.Quiet.{Quiet}
 use Rattle.stage_quiet.specs.Scan.{QuietFits, first_other, flush_scan, core_scan, quiet_scan}
@@ -11,7 +13,9 @@ use Rattle.spk_nums.specs.declared.kinds.Kind.{Kind}
 use Rattle.spk_nums.specs.declared.kinds.Kind.TheVariants.{Range, Table, Pages, Comp as KindComp}
 use Rattle.spk_nums.specs.declared.kinds.Kind.TheVariants as kind
 use Rattle.spk_nums.specs.declared.calls.Call.{Call}
-use Rattle.spk_nums.specs.declared.calls.Call.TheVariants.{Look as look_call, Copy, Remove, Shrink, Unmap, Retype, Make as make_call, Tick, Gate, Kill, Grow, Flush, Map, Call as call_gate, Ret, Switch, Transfer, Delegate, Test}
+use Rattle.spk_nums.specs.declared.calls.Call.TheVariants.{Look as look_call, Copy, Remove, Shrink, Unmap, Retype}
+use Rattle.spk_nums.specs.declared.calls.Call.TheVariants.{Make as make_call, Tick, Gate, Kill, Grow, Flush, Map}
+use Rattle.spk_nums.specs.declared.calls.Call.TheVariants.{Call as call_gate, Ret, Switch, Transfer, Delegate, Test}
 use Rattle.entry_words.specs.declared.entry.Entry.{Entry}
 use Rattle.entry_words.specs.declared.entry.Entry.TheVariants as entry
 use Rattle.word_map.specs.Places.{Shape}
@@ -41,7 +45,8 @@ use Rattle.kernel_rules.specs.CapabilityCalls.{leaf_of, has_frame}
 use Rattle.spk_nums.specs.declared.calls.Make.{Make}
 use Rattle.spk_nums.specs.declared.calls.Make.TheVariants as make
 use Rattle.act_states.specs.declared.objects.NewObject.{NewObject}
-use Rattle.act_states.specs.declared.objects.NewObject.TheVariants.{Table as NewTable, Leaf as NewLeaf, Pages as NewPages, Pleaf as NewPleaf, Thread as NewThread, Tcap as NewTcap}
+use Rattle.act_states.specs.declared.objects.NewObject.TheVariants.{Table as NewTable, Leaf as NewLeaf, Pages as NewPages}
+use Rattle.act_states.specs.declared.objects.NewObject.TheVariants.{Pleaf as NewPleaf, Thread as NewThread, Tcap as NewTcap}
 use Rattle.act_states.specs.Objects.{object_cap, object_made, object_dues, counts_of, last_word, thread_on, NamesFit, ObjectFits}
 use Rattle.act_states.specs.declared.makings.MakingAt.{MakingAt}
 use Rattle.act_states.specs.declared.makings.MakingAt.TheVariants.{Load as make_load, Mark, Store, Fill as fill_at}
@@ -55,12 +60,21 @@ use Rattle.act_states.specs.declared.invocations.InvokingAt.TheVariants as invok
 use Rattle.act_states.specs.declared.invocations.ReturningAt.{ReturningAt}
 use Rattle.act_states.specs.declared.invocations.ReturningAt.TheVariants as returning
 use Rattle.act_states.specs.declared.work.Act.{Act as ActType}
-use Rattle.act_states.specs.declared.work.Act.TheVariants.{Fill as fill_act, Remove as remove_act, Retype as type_act, Make as make_act, Outside, Tick as tick_act, Kill as kill_act, Flush as flush_act, Untype as untype_act, Map as map_act, MakeComp as comp_act, Invoke as invoke_act, Return as return_act, Switch as switch_act, Touch as touch_act, Share as share_act}
+use Rattle.act_states.specs.declared.work.Act.TheVariants.{Fill as fill_act, Remove as remove_act, Retype as type_act}
+use Rattle.act_states.specs.declared.work.Act.TheVariants.{Make as make_act, Outside, Tick as tick_act, Kill as kill_act}
+use Rattle.act_states.specs.declared.work.Act.TheVariants.{Flush as flush_act, Untype as untype_act, Map as map_act}
+use Rattle.act_states.specs.declared.work.Act.TheVariants.{MakeComp as comp_act, Invoke as invoke_act, Return as return_act}
+use Rattle.act_states.specs.declared.work.Act.TheVariants.{Switch as switch_act, Touch as touch_act, Share as share_act}
 use Rattle.act_states.specs.declared.work.Work.TheVariants.{Lookup}
 use Rattle.act_states.specs.declared.work.WorkStep.{WorkStep}
 use Rattle.act_states.specs.declared.work.WorkStep.TheVariants.{Goes, Acquires, Refuses, Answers, Changes}
 use Rattle.act_states.specs.declared.work.Due.{Due}
-use Rattle.act_states.specs.Acts.{ActFits, act_left, looked, cap_dues, dues, acquires, scans, stamp_in, filling, fills_with, removing, removes_held, removes_at, types_if, types_at, gate_if, gate_to, frame_named, reads_of, made_dues, starts, making, making_if, makes_in, makes_at, act_begun, next_work, killing_dues, kills_in, kills_at, link_to, is_pages, page_cap, mapping, mapping_if, maps_if, maps_at, comp_making, comp_if, comps_in, comps_at, made_begun, invoking_dues, returning_dues, invokes_in, invokes_if, invokes_at, returns_if, returns_at, switches_at}
+use Rattle.act_states.specs.Acts.{ActFits, act_left, looked, cap_dues, dues, acquires, scans, stamp_in, filling, fills_with}
+use Rattle.act_states.specs.Acts.{removing, removes_held, removes_at, types_if, types_at, gate_if, gate_to, frame_named}
+use Rattle.act_states.specs.Acts.{reads_of, made_dues, starts, making, making_if, makes_in, makes_at, act_begun, next_work}
+use Rattle.act_states.specs.Acts.{killing_dues, kills_in, kills_at, link_to, is_pages, page_cap, mapping, mapping_if}
+use Rattle.act_states.specs.Acts.{maps_if, maps_at, comp_making, comp_if, comps_in, comps_at, made_begun, invoking_dues}
+use Rattle.act_states.specs.Acts.{returning_dues, invokes_in, invokes_if, invokes_at, returns_if, returns_at, switches_at}
 use Rattle.act_states.specs.declared.untypings.UntypingAt.{UntypingAt}
 use Rattle.act_states.specs.declared.untypings.UntypingAt.TheVariants as untype
 use Rattle.act_states.specs.Untypings.{UntypingAtFits, released_dues, untyping_dues}
@@ -81,7 +95,8 @@ use Rattle.act_states.specs.declared.comps.CompMaking.{CompMaking}
 use Rattle.act_states.specs.Touches.{touches_if}
 use Rattle.call_stages.specs.Tails.{tail_left}
 use Rattle.act_states.specs.Lookups.{looks_under, looks_entry, looks_at, read_first, next_step}
-use Rattle.call_stages.specs.Fits.{WorkFits, TailFits, IsWanted, FoundFits, CountsWait, looks_later, after_reading, acts_later, work_left, IsOwn}
+use Rattle.call_stages.specs.Fits.{WorkFits, TailFits, IsWanted, FoundFits, CountsWait}
+use Rattle.call_stages.specs.Fits.{looks_later, after_reading, acts_later, work_left, IsOwn}
 use Rattle.act_fits.proofs.NamedFit.{TwoNamed, ObjectNamed}
 
 -- what a decision changes of what its core has of its own is of the machine
@@ -366,7 +381,8 @@ dues_fit s (switch_act m) n fits = switching_fit s m m.at n fits fits.at
 -- what a core does for an act of whose counts it has acquired so many
 pub work_next : (s : Shape) (later core n : ℕ) (act : ActType) (o : Option Due) → slice_get (dues act) n ≡ o → core < s.cores
     → ActFits s act
-    → WorkFits s (acquires core act o) × (work_left s.cores later n (acquires core act o) ≤ 3 * (length (dues act) - n) + act_left s.cores act)
+    → WorkFits s (acquires core act o)
+    × (work_left s.cores later n (acquires core act o) ≤ 3 * (length (dues act) - n) + act_left s.cores act)
 work_next s later core n act None is here fits = (fits, omega arith)
 work_next s later core n act (Some due) is here fits =
     let some : n < length (dues act) = slice_get_within (dues act) n due is in

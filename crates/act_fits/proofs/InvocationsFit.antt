@@ -1,5 +1,6 @@
 -- Where the steps of an entering and of a leaving lead to fits their machine, and leaves fewer steps.
-use Rattle.std.proofs.Common.{◌≡◌, ℕ, ◌+◌, ◌-◌, ◌==◌, ◌<◌, ◌≤◌, nat_lt, if◌then◌else◌, Bool, true, false, List, length, Option, Some, None, refl, sym, ◌∙◌, ap, subst, arith, slice_get}
+use Rattle.std.proofs.Common.{◌≡◌, ℕ, ◌+◌, ◌-◌, ◌==◌, ◌<◌, ◌≤◌, nat_lt, if◌then◌else◌, Bool, true, false}
+use Rattle.std.proofs.Common.{List, length, Option, Some, None, refl, sym, ◌∙◌, ap, subst, arith, slice_get}
 use Rattle.std.proofs.lemmas.Bool.{ltb-true}
 use Rattle.frame_words.specs.Comp.{comp_of_word}
 use Rattle.frame_words.specs.Live.{live_of_word}
@@ -26,9 +27,11 @@ use Rattle.act_states.specs.declared.invocations.InvokingAt.TheVariants as invok
 use Rattle.act_states.specs.declared.invocations.Returning.{Returning}
 use Rattle.act_states.specs.declared.invocations.ReturningAt.{ReturningAt}
 use Rattle.act_states.specs.declared.invocations.ReturningAt.TheVariants as returning
-use Rattle.act_states.specs.Invocations.{InvokingAtFits, InvokingFits, invoking_left, frame_in, enters_if, enters_number, enters_live, ReturningAtFits, ReturningFits, returning_left, frame_of_place, frame_of_stack, below_in, left_to}
+use Rattle.act_states.specs.Invocations.{InvokingAtFits, InvokingFits, invoking_left, frame_in, enters_if, enters_number, enters_live}
+use Rattle.act_states.specs.Invocations.{ReturningAtFits, ReturningFits, returning_left, frame_of_place, frame_of_stack, below_in, left_to}
 use Rattle.act_states.specs.WorkSteps.{refuse}
-use Rattle.act_states.specs.Acts.{dues, invoking_dues, returning_dues, next_work, meets_table, meets_pages, meets_gate, took_invoking_at, meets_below, meets_below_table, meets_below_pages, took_returning_at}
+use Rattle.act_states.specs.Acts.{dues, invoking_dues, returning_dues, next_work, meets_table, meets_pages, meets_gate}
+use Rattle.act_states.specs.Acts.{took_invoking_at, meets_below, meets_below_table, meets_below_pages, took_returning_at}
 use Rattle.act_states.specs.declared.own.Own.{Own}
 use Rattle.act_states.specs.declared.work.Act.{Act as ActType}
 use Rattle.act_states.specs.declared.work.Act.TheVariants.{Invoke as invoke_act, Return as return_act}
@@ -96,7 +99,8 @@ module _ (own : Own) (a : ActiveCall) (facts : Facts own a) (room : own.made < o
 
   -- the act goes on where its first count is due
   counts_first : (core : ℕ) (act : ActType) → core < own.layout.cores
-      → Rattle.act_states.specs.Acts.ActFits own.layout act → length (dues act) ≡ 1 → Rattle.act_states.specs.Acts.act_left own.layout.cores act ≡ 3
+      → Rattle.act_states.specs.Acts.ActFits own.layout act → length (dues act) ≡ 1
+      → Rattle.act_states.specs.Acts.act_left own.layout.cores act ≡ 3
       → length a.counts ≡ 0 → TookFits own (2 + length a.counts + 7) a (landed a (Goes (next_work core 0 act)))
   counts_first core act here fits one left waits =
       let next = work_next own.layout (steps_later own.layout.cores a) core 0 act (slice_get (dues act) 0) refl here fits in

@@ -1,5 +1,6 @@
 -- Where the steps of a killing lead to fits its machine, and leaves fewer steps.
-use Rattle.std.proofs.Common.{◌≡◌, ℕ, ◌+◌, ◌==◌, ◌<◌, ◌≤◌, Bool, true, false, length, Option, Some, None, refl, sym, subst, arith, slice_get}
+use Rattle.std.proofs.Common.{◌≡◌, ℕ, ◌+◌, ◌==◌, ◌<◌, ◌≤◌, Bool, true, false, length}
+use Rattle.std.proofs.Common.{Option, Some, None, refl, sym, subst, arith, slice_get}
 use Rattle.frame_words.specs.Comp.{comp_of_word}
 use Rattle.frame_words.specs.Live.{live_of_word}
 use Rattle.frame_words.specs.declared.comp_word.CompWord.{CompWord}
@@ -14,7 +15,8 @@ use Rattle.act_states.specs.declared.kills.KillingAt.{KillingAt}
 use Rattle.act_states.specs.declared.kills.KillingAt.TheVariants.{LoadComp, LoadLive, Close, Draw}
 use Rattle.act_states.specs.Kills.{KillingFits, killing_left}
 use Rattle.act_states.specs.WorkSteps.{refuse}
-use Rattle.act_states.specs.Acts.{dues, killing_dues, next_work, meets_comp, meets_live, meets_number, meets_life, closes_if, drawn_dead, took_killing_at}
+use Rattle.act_states.specs.Acts.{dues, killing_dues, next_work, meets_comp, meets_live}
+use Rattle.act_states.specs.Acts.{meets_number, meets_life, closes_if, drawn_dead, took_killing_at}
 use Rattle.act_states.specs.declared.own.Own.{Own}
 use Rattle.act_states.specs.declared.work.Act.{Act as ActType}
 use Rattle.act_states.specs.declared.work.Act.TheVariants.{Kill as kill_act}

@@ -1,5 +1,6 @@
 -- Where the steps of a call on two temporal capabilities lead to fits its machine, and leaves fewer steps.
-use Rattle.std.proofs.Common.{◌≡◌, ℕ, nat_lt, ◌+◌, ◌-◌, ◌<◌, ◌≤◌, ◌==◌, Bool, true, false, List, length, Option, Some, None, refl, ap, subst, arith}
+use Rattle.std.proofs.Common.{◌≡◌, ℕ, nat_lt, ◌+◌, ◌-◌, ◌<◌, ◌≤◌, ◌==◌, Bool, true, false}
+use Rattle.std.proofs.Common.{List, length, Option, Some, None, refl, ap, subst, arith}
 use Rattle.std.proofs.lemmas.Bool.{ltb-true, false≢true}
 use Rattle.spk_nums.specs.declared.replies.Reply.{Reply}
 use Rattle.spk_nums.specs.declared.replies.Reply.TheVariants as reply
@@ -13,10 +14,13 @@ use Rattle.tcap_words.specs.declared.quality_word.QualityWord.{QualityWord}
 use Rattle.word_map.specs.Places.{Shape}
 use Rattle.stage_tcap.specs.Charging.{end_by_mark, head_end}
 use Rattle.stage_tcap.specs.Lists.{in_order, same_list}
-use Rattle.stage_tcap.specs.Pairs.{EntryFits, AtFits, PairFits, amount_of, by_alike, by_room, judged, giving_back, at_by_mark, at_by_head, at_marked, at_read, a_next, b_next, store_next, at_decided, compared_after, again_value, marked_end, decided_by_mark, b_end, list_end, again_end, noted_by, pair_after}
+use Rattle.stage_tcap.specs.Pairs.{EntryFits, AtFits, PairFits, amount_of, by_alike, by_room, judged, giving_back, at_by_mark}
+use Rattle.stage_tcap.specs.Pairs.{at_by_head, at_marked, at_read, a_next, b_next, store_next, at_decided, compared_after}
+use Rattle.stage_tcap.specs.Pairs.{again_value, marked_end, decided_by_mark, b_end, list_end, again_end, noted_by, pair_after}
 use Rattle.stage_tcap.specs.declared.pair.Pair.{Pair}
 use Rattle.stage_tcap.specs.declared.pair.PairAt.{PairAt}
-use Rattle.stage_tcap.specs.declared.pair.PairAt.TheVariants.{LoadA, MarkA, ListA, LoadB, ListB, CompareB, AgainB, StoreList, StoreB, StoreA}
+use Rattle.stage_tcap.specs.declared.pair.PairAt.TheVariants.{LoadA, MarkA, ListA, LoadB, ListB, CompareB}
+use Rattle.stage_tcap.specs.declared.pair.PairAt.TheVariants.{AgainB, StoreList, StoreB, StoreA}
 use Rattle.stage_tcap.specs.declared.pair.PairWork.{PairWork}
 use Rattle.stage_tcap.specs.declared.pair.PairWork.TheVariants.{Transfer, Delegate, Test}
 use Rattle.stage_tcap.proofs.PairLemmas.{pair_after_fits}
@@ -102,7 +106,8 @@ stored_fits s p (StoreList entry) found fits = by (nat_lt entry 8) refl
           },
           omega (arith, low),
         )
-    by false is = let most = fits.fits.at.1 in (record { fits = placed s (record p { at = StoreList entry }) StoreB fits.fits tt; storing = refl }, omega (arith, most))
+    by false is = let most = fits.fits.at.1 in
+        (record { fits = placed s (record p { at = StoreList entry }) StoreB fits.fits tt; storing = refl }, omega (arith, most))
 stored_fits s p StoreB found fits = (record { fits = placed s (record p { at = StoreB }) _ fits.fits tt; storing = refl }, omega arith)
 stored_fits s p (StoreA moved v) found fits = (tt, omega arith)
 
@@ -178,7 +183,8 @@ module _ (own : Own) (a : ActiveCall) (facts : Facts own a) (room : own.made < o
           (landed a (took_shared (record p { at = at_marked same short }) (marked_end same short p.head_a.budget)))
       by true true = gives_back _ (record p { at = MarkA }) (reply.Short p.head_a.budget) fits (omega arith)
       by true false =
-          goes _ (record p { at = ListA 1 }) (placed own.layout (record p { at = MarkA }) (ListA 1) fits (omega arith, omega arith)) (omega arith)
+          goes _ (record p { at = ListA 1 })
+          (placed own.layout (record p { at = MarkA }) (ListA 1) fits (omega arith, omega arith)) (omega arith)
       by false short = refused _ refusal.Raced (omega arith)
   share_fits p (ListA entry) found fits = by (quality_of_word found)
     where
@@ -254,7 +260,10 @@ module _ (own : Own) (a : ActiveCall) (facts : Facts own a) (room : own.made < o
       by true =
           let few = decided_left p.what in
           decides _ (record p { at = at_decided p.what }) (reply.Ok value.Nothing)
-          (record { fits = placed own.layout (record p { at = CompareB }) (at_decided p.what) fits (decided_fits p.what); storing = decided_storing p.what })
+          (record {
+            fits = placed own.layout (record p { at = CompareB }) (at_decided p.what) fits (decided_fits p.what);
+            storing = decided_storing p.what;
+          })
           (omega (arith, few))
       by false = let some = some_store p.what in gives_back _ (record p { at = CompareB }) reply.Raced fits (omega (arith, some))
   share_fits p (AgainB r) found fits = by (found == word_of_head p.head_b)
@@ -263,10 +272,16 @@ module _ (own : Own) (a : ActiveCall) (facts : Facts own a) (room : own.made < o
           (landed a (took_shared (record p { at = StoreA false (again_value same r) }) (again_end same r)))
       by true =
           decides _ (record p { at = StoreA false (again_value true r) }) r
-          (record { fits = placed own.layout (record p { at = AgainB r }) (StoreA false (again_value true r)) fits tt; storing = refl }) (omega arith)
+          (record {
+            fits = placed own.layout (record p { at = AgainB r }) (StoreA false (again_value true r)) fits tt;
+            storing = refl;
+          }) (omega arith)
       by false =
           decides _ (record p { at = StoreA false (again_value false r) }) reply.Raced
-          (record { fits = placed own.layout (record p { at = AgainB r }) (StoreA false (again_value false r)) fits tt; storing = refl }) (omega arith)
+          (record {
+            fits = placed own.layout (record p { at = AgainB r }) (StoreA false (again_value false r)) fits tt;
+            storing = refl;
+          }) (omega arith)
   share_fits p (StoreList entry) found fits = by (nat_lt entry 8) refl
     where
       by : (more : Bool) → nat_lt entry 8 ≡ more → TookFits own (2 + length a.counts + (11 - entry)) a
@@ -274,8 +289,11 @@ module _ (own : Own) (a : ActiveCall) (facts : Facts own a) (room : own.made < o
       by true is =
           let low = ltb-true entry 8 is in
           goes _ (record p { at = StoreList (entry + 1) })
-          (placed own.layout (record p { at = StoreList entry }) (StoreList (entry + 1)) fits (omega arith, omega (arith, low))) (omega (arith, low))
-      by false is = let most = fits.at.1 in goes _ (record p { at = StoreB }) (placed own.layout (record p { at = StoreList entry }) StoreB fits tt) (omega (arith, most))
+          (placed own.layout (record p { at = StoreList entry }) (StoreList (entry + 1)) fits (omega arith, omega (arith, low)))
+          (omega (arith, low))
+      by false is = let most = fits.at.1 in
+          goes _ (record p { at = StoreB }) (placed own.layout (record p { at = StoreList entry }) StoreB fits tt) (omega (arith, most))
   share_fits p StoreB found fits =
-      goes _ (record p { at = StoreA true value.Nothing }) (placed own.layout (record p { at = StoreB }) (StoreA true value.Nothing) fits tt) (omega arith)
+      goes _ (record p { at = StoreA true value.Nothing })
+      (placed own.layout (record p { at = StoreB }) (StoreA true value.Nothing) fits tt) (omega arith)
   share_fits p (StoreA moved v) found fits = refused _ refusal.Raced (omega arith)

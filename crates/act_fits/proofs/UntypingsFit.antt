@@ -1,5 +1,6 @@
 -- Where the steps of an untyping lead to fits its machine, and leaves fewer steps.
-use Rattle.std.proofs.Common.{◌≡◌, ℕ, suc, ℤ, ◌≢◌, nat_lt, if◌then◌else◌, ◌+◌, ◌*◌, ◌-◌, ◌++◌, ◌<◌, ◌≤◌, ◌==◌, Bool, true, false, List, [], ◌∷◌, length, length-append, Option, Some, None, IfSome, refl, sym, ap, subst, arith, slice_get}
+use Rattle.std.proofs.Common.{◌≡◌, ℕ, suc, ℤ, ◌≢◌, nat_lt, if◌then◌else◌, ◌+◌, ◌*◌, ◌-◌, ◌++◌, ◌<◌, ◌≤◌, ◌==◌, Bool, true, false, List}
+use Rattle.std.proofs.Common.{[], ◌∷◌, length, length-append, Option, Some, None, IfSome, refl, sym, ap, subst, arith, slice_get}
 use Rattle.std.proofs.lemmas.List.Elements.{All-nil, All-tail}
 use Rattle.std.proofs.lemmas.Bool.{ltb-true, ltb-false, eqb-true, eqb-false}
 use Rattle.spk_nums.specs.declared.kinds.FrameKind.{FrameKind}
@@ -21,12 +22,16 @@ use Rattle.stage_pins.specs.Counts.{unheld}
 use Rattle.stage_pins.specs.declared.held.Acquired.{Acquired}
 use Rattle.stage_pins.specs.Held.{AllFit, AcquiredFits}
 use Rattle.stage_quiet.specs.Clocks.{drawn_stamp}
-use Rattle.stage_quiet.specs.Scan.{QuietFits, first_other, next_other, flush_scan, core_scan, quiet_scan, quiet_refuses, scan_end, scan_after, quiet_end, quiet_after}
+use Rattle.stage_quiet.specs.Scan.{QuietFits, first_other, next_other, flush_scan, core_scan, quiet_scan}
+use Rattle.stage_quiet.specs.Scan.{quiet_refuses, scan_end, scan_after, quiet_end, quiet_after}
 use Rattle.stage_quiet.specs.declared.quiet.Quiet.{Quiet}
 use Rattle.stage_quiet.specs.declared.quiet.Quiet.TheVariants.{AtCore, AtFlush}
 use Rattle.stage_sweep.specs.Counters.{counters_of, sum_of_counts, latest_stamp}
 use Rattle.stage_sweep.specs.Emptiness.{loads_of, may_be_cached, empty_refuses, frame_if, place_owned, stack_owned, owns, owned_after}
-use Rattle.stage_sweep.specs.Freeze.{AtFits, frozen_if, frozen_at, kept_with, hold_refuses, load_refuses, compare_refuses, sum_refuses, refusal_of as quiet_refusal, refuses_at, load_next, empty_next, scan_next, compare_next, scan_goes, next_at, owned_at, at_after, sweep_kept, sweep_refuses, sweep_next, sweep_after, swept_of, end_by, sweep_end}
+use Rattle.stage_sweep.specs.Freeze.{AtFits, frozen_if, frozen_at, kept_with, hold_refuses, load_refuses}
+use Rattle.stage_sweep.specs.Freeze.{compare_refuses, sum_refuses, refusal_of as quiet_refusal, refuses_at, load_next}
+use Rattle.stage_sweep.specs.Freeze.{empty_next, scan_next, compare_next, scan_goes, next_at, owned_at, at_after}
+use Rattle.stage_sweep.specs.Freeze.{sweep_kept, sweep_refuses, sweep_next, sweep_after, swept_of, end_by, sweep_end}
 use Rattle.stage_sweep.specs.Release.{ThawFits}
 use Rattle.stage_sweep.specs.declared.empty.Owned.{Owned}
 use Rattle.stage_sweep.specs.declared.sweep.Sweep.{Sweep}
@@ -51,8 +56,12 @@ use Rattle.act_states.specs.declared.work.WorkStep.TheVariants.{Goes, Refuses}
 use Rattle.act_states.specs.Refusals.{refusal_of}
 use Rattle.act_states.specs.WorkSteps.{refuse}
 use Rattle.act_states.specs.Typings.{typed}
-use Rattle.act_states.specs.Untypings.{OwnedBy, owned_most, OwnedFits, SweepAtFits, SweepsFrame, SweptFits, UntypingFits, released_dues, owned_dues, untyping_dues, release_of, ReleaseFits, thaw_left_by, after_store, release_after, thaw_left, release_left, untyping_undo, others_left, quiet_left, object_left, sweep_left, untyping_left}
-use Rattle.act_states.specs.Acts.{dues, next_work, meets_untyped, meets_untyping, sweep_from, sweeps_if, took_sweep, drawn_untyped, took_untyping_at}
+use Rattle.act_states.specs.Untypings.{OwnedBy, owned_most, OwnedFits, SweepAtFits, SweepsFrame, SweptFits}
+use Rattle.act_states.specs.Untypings.{UntypingFits, released_dues, owned_dues, untyping_dues, release_of}
+use Rattle.act_states.specs.Untypings.{ReleaseFits, thaw_left_by, after_store, release_after, thaw_left, release_left}
+use Rattle.act_states.specs.Untypings.{untyping_undo, others_left, quiet_left, object_left, sweep_left, untyping_left}
+use Rattle.act_states.specs.Acts.{dues, next_work, meets_untyped, meets_untyping, sweep_from}
+use Rattle.act_states.specs.Acts.{sweeps_if, took_sweep, drawn_untyped, took_untyping_at}
 use Rattle.call_stages.specs.declared.stages.ActiveCall.{ActiveCall}
 use Rattle.call_stages.specs.declared.stages.Stage.TheVariants.{Decided}
 use Rattle.call_stages.specs.Steps.{GoesOn, landed, went_with}

@@ -1,8 +1,10 @@
 -- What the act of a call takes from its step: what it goes on with, or what it is decided with.
-use Rattle.std.specs.Prelude.{ℕ, ℤ, ◌<◌, ◌==◌, pos, negsuc, Bool, true, false, ◌&&◌, nat_lt, nat_le, Option, Some, None, List, map, slice_get, if◌then◌else◌, [], ◌∷◌}
+use Rattle.std.specs.Prelude.{ℕ, ℤ, ◌<◌, ◌==◌, pos, negsuc, Bool, true, false, ◌&&◌, nat_lt, nat_le}
+use Rattle.std.specs.Prelude.{Option, Some, None, List, map, slice_get, if◌then◌else◌, [], ◌∷◌}
 use Rattle.spk_nums.specs.Capability.{Capability}
 use Rattle.spk_nums.specs.declared.calls.Call.{Call}
-use Rattle.spk_nums.specs.declared.calls.Call.TheVariants.{Look, Copy, Remove, Shrink, Retype, Make as make_call, Unmap, Tick, Gate, Kill, Grow, Flush, Map, Call as call_gate, Ret, Switch, Transfer, Delegate, Test}
+use Rattle.spk_nums.specs.declared.calls.Call.TheVariants.{Look, Copy, Remove, Shrink, Retype, Make as make_call, Unmap, Tick, Gate, Kill}
+use Rattle.spk_nums.specs.declared.calls.Call.TheVariants.{Grow, Flush, Map, Call as call_gate, Ret, Switch, Transfer, Delegate, Test}
 use Rattle.spk_nums.specs.declared.calls.Make.{Make}
 use Rattle.spk_nums.specs.declared.calls.Make.TheVariants as make
 use Rattle.spk_nums.specs.declared.replies.Value.TheVariants.{Cap, Nothing as nothing}
@@ -25,9 +27,14 @@ use Rattle.stage_look.specs.declared.look.Found.{Found}
 use Rattle.stage_pins.specs.declared.pin.Pin.TheVariants.{AtLoad}
 use Rattle.call_plans.specs.declared.plans.Nth.TheVariants.{First, Second, Third, Fourth}
 use Rattle.call_plans.specs.Plans.{at_place}
-use Rattle.act_states.specs.declared.refusals.Refusal.TheVariants.{Raced, OutOfRange, Busy, FrameKind as wrong_kind, Dead as is_dead, Deep, Bottom}
+use Rattle.act_states.specs.declared.refusals.Refusal.TheVariants.{Raced, OutOfRange, Busy, FrameKind as wrong_kind}
+use Rattle.act_states.specs.declared.refusals.Refusal.TheVariants.{Dead as is_dead, Deep, Bottom}
 use Rattle.act_states.specs.declared.work.Act.{Act}
-use Rattle.act_states.specs.declared.work.Act.TheVariants.{Fill as fill_act, Remove as remove_act, Retype as type_act, Make as make_act, Outside, Tick as tick_act, Flush as flush_act, Kill as kill_act, Untype as untype_act, Map as map_act, MakeComp as comp_act, Invoke as invoke_act, Return as return_act, Switch as switch_act, Touch as touch_act, Share as share_act}
+use Rattle.act_states.specs.declared.work.Act.TheVariants.{Fill as fill_act, Remove as remove_act, Retype as type_act}
+use Rattle.act_states.specs.declared.work.Act.TheVariants.{Make as make_act, Outside, Tick as tick_act, Flush as flush_act}
+use Rattle.act_states.specs.declared.work.Act.TheVariants.{Kill as kill_act, Untype as untype_act, Map as map_act}
+use Rattle.act_states.specs.declared.work.Act.TheVariants.{MakeComp as comp_act, Invoke as invoke_act, Return as return_act}
+use Rattle.act_states.specs.declared.work.Act.TheVariants.{Switch as switch_act, Touch as touch_act, Share as share_act}
 use Rattle.act_states.specs.declared.work.Due.{Due}
 use Rattle.act_states.specs.declared.work.Work.{Work}
 use Rattle.act_states.specs.declared.work.Work.TheVariants.{Scan, Acquire, Act as act_work}
@@ -49,7 +56,8 @@ use Rattle.act_states.specs.declared.makings.Making.{Making}
 use Rattle.act_states.specs.declared.comps.CompMaking.{CompMaking}
 use Rattle.act_states.specs.declared.comps.CompAt.{CompAt}
 use Rattle.act_states.specs.declared.comps.CompAt.TheVariants as comp_at_as
-use Rattle.act_states.specs.Comps.{CompMakingFits, comp_move, comp_dues, comp_undo, comp_filling, comp_left, comp_meets, number_met, number_scanned, closes_number, comp_goes, comp_stored, comp_published}
+use Rattle.act_states.specs.Comps.{CompMakingFits, comp_move, comp_dues, comp_undo, comp_filling, comp_left, comp_meets}
+use Rattle.act_states.specs.Comps.{number_met, number_scanned, closes_number, comp_goes, comp_stored, comp_published}
 use Rattle.act_states.specs.Makings.{made, MakingFits, making_move, stored, undo_at, is_filling, making_left}
 use Rattle.stage_tcap.specs.Charging.{ChargeFits, charge_move}
 use Rattle.act_states.specs.Ticks.{charges, took_tick, is_charging, charge_left}
@@ -70,18 +78,21 @@ use Rattle.act_states.specs.declared.invocations.InvokingAt.TheVariants as invok
 use Rattle.act_states.specs.declared.invocations.Returning.{Returning}
 use Rattle.act_states.specs.declared.invocations.ReturningAt.{ReturningAt}
 use Rattle.act_states.specs.declared.invocations.ReturningAt.TheVariants as returning
-use Rattle.act_states.specs.Invocations.{InvokingFits, invoking_move, is_entering, invoking_left, frame_in, enters_live, ReturningFits, returning_move, is_leaving, returning_left, below_in, left_to}
+use Rattle.act_states.specs.Invocations.{InvokingFits, invoking_move, is_entering, invoking_left, frame_in, enters_live}
+use Rattle.act_states.specs.Invocations.{ReturningFits, returning_move, is_leaving, returning_left, below_in, left_to}
 use Rattle.act_states.specs.declared.switches.Switching.{Switching}
 use Rattle.act_states.specs.declared.switches.SwitchAt.{SwitchAt}
 use Rattle.act_states.specs.declared.switches.SwitchAt.TheVariants as switch_at
-use Rattle.act_states.specs.Switches.{SwitchingFits, switching_move, switching_dues, is_switching, switching_left, switching_undo, gives_back, switch_goes, took_claim, switch_table, switched}
+use Rattle.act_states.specs.Switches.{SwitchingFits, switching_move, switching_dues, is_switching, switching_left}
+use Rattle.act_states.specs.Switches.{switching_undo, gives_back, switch_goes, took_claim, switch_table, switched}
 use Rattle.stage_thread.specs.Claiming.{claim_after, claim_end}
 use Rattle.stage_thread.specs.declared.claim.Claim.TheVariants as claim
 use Rattle.stage_thread.specs.declared.claim.Claimed.{Claimed}
 use Rattle.act_states.specs.Kills.{KillingFits, killing_move, is_killing, killing_left}
 use Rattle.act_states.specs.declared.untypings.Untyping.{Untyping}
 use Rattle.act_states.specs.declared.untypings.UntypingAt.{UntypingAt}
-use Rattle.act_states.specs.declared.untypings.UntypingAt.TheVariants.{Load as untype_load, Mark as untype_mark, Sweep as untype_sweep, Draw as untype_draw}
+use Rattle.act_states.specs.declared.untypings.UntypingAt.TheVariants.{Load as untype_load, Mark as untype_mark}
+use Rattle.act_states.specs.declared.untypings.UntypingAt.TheVariants.{Sweep as untype_sweep, Draw as untype_draw}
 use Rattle.act_states.specs.Untypings.{UntypingFits, untyping_move, is_drawing, untyping_dues, untyping_undo, release_of, untyping_left}
 use Rattle.stage_sweep.specs.Freeze.{swept_of, sweep_end, sweep_after}
 use Rattle.stage_sweep.specs.declared.sweep.Sweep.{Sweep}

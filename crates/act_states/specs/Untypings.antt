@@ -1,5 +1,6 @@
 -- The act that makes a user frame or a kernel frame untyped again.
-use Rattle.std.specs.Prelude.{ℕ, negsuc, ◌+◌, ◌-◌, ◌*◌, ◌<◌, ◌≤◌, ◌≡◌, nat_lt, Bool, true, false, Option, Some, None, IfSome, List, [], ◌∷◌, length, if◌then◌else◌}
+use Rattle.std.specs.Prelude.{ℕ, negsuc, ◌+◌, ◌-◌, ◌*◌, ◌<◌, ◌≤◌, ◌≡◌, nat_lt, Bool, true, false}
+use Rattle.std.specs.Prelude.{Option, Some, None, IfSome, List, [], ◌∷◌, length, if◌then◌else◌}
 use Rattle.spk_nums.specs.declared.kinds.FrameKind.{FrameKind}
 use Rattle.spk_nums.specs.declared.kinds.Obj.{Obj}
 use Rattle.spk_nums.specs.declared.kinds.Obj.TheVariants as obj

@@ -3,8 +3,8 @@
 //! **Types.** The work of an undecided call (`Work`), its act (`Act`) with where each stands between two steps, what a step of the work
 //! leads to (`WorkStep`), what a decided call has still to store (`Tail`), what a core has of its own (`Own`), and the refusals.
 //!
-//! **Functions.** The definitions in this crate's specs say which step comes next, and what the word found makes of the call. What is proved
-//! above of the step machine is proved of these.
+//! **Functions.** The definitions in this crate's specs say which step comes next, and what the word found makes of the call. What is
+//! proved above of the step machine is proved of these.
 //!
 //! The code that computes them is of `call_acts`, whose head says each act in words.
 //!

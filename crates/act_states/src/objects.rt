@@ -8,7 +8,8 @@ ghost use Rattle.entry_words.specs.EntryWord.{word_of_entry};
 ghost use Rattle.entry_words.specs.declared.entry.Entry.TheVariants.{Free};
 ghost use Rattle.tcap_words.specs.Stack.{word_of_stack};
 ghost use Rattle.tcap_words.specs.Quality.{word_of_quality};
-ghost use Rattle.act_states.specs.Objects.{object_obj, object_kind, object_cap, object_made, object_word, thread_word, tcap_word, last_word, object_dues, PairFits, thread_on};
+ghost use Rattle.act_states.specs.Objects.{object_obj, object_kind, object_cap, object_made, object_word};
+ghost use Rattle.act_states.specs.Objects.{thread_word, tcap_word, last_word, object_dues, PairFits, thread_on};
 
 use crate::work::Due;
 use call_plans::{Caps, Nth};

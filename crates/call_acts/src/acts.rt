@@ -17,7 +17,10 @@ ghost use Rattle.word_map.specs.Places.{size_of};
 ghost use Rattle.word_map.specs.Moves.{op_of};
 ghost use Rattle.spk_nums.specs.WordSteps.{place_in};
 ghost use Rattle.act_states.specs.WorkSteps.{refuse};
-ghost use Rattle.act_states.specs.Acts.{gate_to, frame_named, reads_of, ActFits, act_move, took_act, act_ready, looked, acquires, next_work, fills_at, fills_with, act_begun, drawn_by, took_close, scans, stamp_in, removes_held, removes_at, types_if, types_at, starts, undo, makes_at, makes_in, kills_in, kills_at, link_to, is_pages, typing_to, maps_word, maps_frame, maps_in, maps_at, comps_in, comps_at, made_begun};
+ghost use Rattle.act_states.specs.Acts.{gate_to, frame_named, reads_of, ActFits, act_move, took_act, act_ready, looked, acquires};
+ghost use Rattle.act_states.specs.Acts.{next_work, fills_at, fills_with, act_begun, drawn_by, took_close, scans, stamp_in, removes_held};
+ghost use Rattle.act_states.specs.Acts.{removes_at, types_if, types_at, starts, undo, makes_at, makes_in, kills_in, kills_at, link_to};
+ghost use Rattle.act_states.specs.Acts.{is_pages, typing_to, maps_word, maps_frame, maps_in, maps_at, comps_in, comps_at, made_begun};
 ghost use Rattle.call_plans.specs.Plans.{at_place};
 ghost use Rattle.call_plans.specs.declared.plans.Nth.TheVariants.{First, Second, Third, Fourth};
 ghost use Rattle.act_states.specs.Shares.{shares_at};
@@ -196,11 +199,10 @@ pub fn refuse(refusal: Refusal) -> WorkStep
     }
 }
 
-/// What a call of a core does whose names have led to these, which has read this, and whose target, if it has one, was found: a look answers
-/// at once, a copy, a grow, a map and a gate begin to fill their target, a remove, a shrink and an unmap to remove what their target holds, a retype to
-/// type its frame,
-/// a make to make its object, a flush to drop its translations, a tick to charge its ticks, a call to enter its gate's component, a ret to leave its own. The
-/// core is one of the layout's at most 8.
+/// What a call of a core does whose names have led to these, which has read this, and whose target, if it has one, was found: a look
+/// answers at once, a copy, a grow, a map and a gate begin to fill their target, a remove, a shrink and an unmap to remove what their
+/// target holds, a retype to type its frame, a make to make its object, a flush to drop its translations, a tick to charge its ticks, a
+/// call to enter its gate's component, a ret to leave its own. The core is one of the layout's at most 8.
 #[inline]
 pub fn begin_act(
     own: &Own,
@@ -596,7 +598,8 @@ fn made_begun(
 fn comps_at(own: &Own, live: u8, found: &Caps, frame: FrameArg, target: &Option<Found>) -> WorkStep
     requires core { own.now.core < own.now.layout.cores }
     requires cores { own.now.layout.cores ≤ 8 }
-    ensures { result ≡ comps_at own.now live (at_place found.now First) (at_place found.now Third) (at_place found.now Fourth) frame target.now }
+    ensures { result ≡ comps_at own.now live (at_place found.now First)
+        (at_place found.now Third) (at_place found.now Fourth) frame target.now }
 {
     let range = found.get(Nth::First);
     let table = found.get(Nth::Third);

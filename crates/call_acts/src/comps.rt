@@ -3,8 +3,8 @@
 //! **Marking.** The frame's word is loaded and marked, as for any other object, and the counts are acquired: that of the frame by two, for
 //! the capability and for the number that lives, and those of the table and of the pages.
 //!
-//! **Taking the number.** The number's word is loaded. A number that is live is `occupied`. One that died is waited for: the other cores are
-//! scanned since its stamp, so that no call is in progress that may still find it live for the component that died. A number whose
+//! **Taking the number.** The number's word is loaded. A number that is live is `occupied`. One that died is waited for: the other cores
+//! are scanned since its stamp, so that no call is in progress that may still find it live for the component that died. A number whose
 //! epochs are spent is not taken. Then its word is marked by a compare with the word found.
 //!
 //! **Filling in.** The component's three words are stored. Its epoch is one more than the last of the number.
@@ -19,7 +19,9 @@ ghost use Rattle.frame_words.specs.Live.{word_of_live, live_of_word};
 ghost use Rattle.frame_words.specs.declared.live_word.LiveWord.TheVariants.{Closing, Live};
 ghost use Rattle.word_map.specs.Places.{size_of};
 ghost use Rattle.word_map.specs.Moves.{op_of};
-ghost use Rattle.act_states.specs.Comps.{CompMakingFits, comp_word_at, comp_move, comp_undo, comp_filling, comp_goes, comp_refuses, comp_meets, comp_meets_blank, component, number_met, number_shown, takes_number, scans_number, number_scanned, closes_number, comp_stored, comp_published};
+ghost use Rattle.act_states.specs.Comps.{CompMakingFits, comp_word_at, comp_move, comp_undo, comp_filling, comp_goes};
+ghost use Rattle.act_states.specs.Comps.{comp_refuses, comp_meets, comp_meets_blank, component, number_met, number_shown};
+ghost use Rattle.act_states.specs.Comps.{takes_number, scans_number, number_scanned, closes_number, comp_stored, comp_published};
 ghost use Rattle.act_states.specs.Acts.{took_comp, comp_marks};
 
 use crate::acts::refuse;

@@ -15,8 +15,10 @@ ghost use Rattle.std.specs.Prelude.{◌≡◌, ◌<◌, ◌≤◌};
 ghost use Rattle.spk_nums.specs.WordSteps.{place_in};
 ghost use Rattle.word_map.specs.Places.{size_of};
 ghost use Rattle.word_map.specs.Moves.{op_of};
-ghost use Rattle.act_states.specs.Invocations.{InvokingFits, invoking_move, is_entering, frame_in, ReturningFits, returning_move, is_leaving, enters_if, enters_number, enters_live, left_to, below_in};
-ghost use Rattle.act_states.specs.Acts.{meets_table, meets_pages, meets_gate, took_invoking, meets_below, meets_below_table, meets_below_pages, took_returning, invokes_at, invokes_in, invokes_if, returns_at, returns_if};
+ghost use Rattle.act_states.specs.Invocations.{InvokingFits, invoking_move, is_entering, frame_in, ReturningFits, returning_move};
+ghost use Rattle.act_states.specs.Invocations.{is_leaving, enters_if, enters_number, enters_live, left_to, below_in};
+ghost use Rattle.act_states.specs.Acts.{meets_table, meets_pages, meets_gate, took_invoking, meets_below, meets_below_table};
+ghost use Rattle.act_states.specs.Acts.{meets_below_pages, took_returning, invokes_at, invokes_in, invokes_if, returns_at, returns_if};
 
 use crate::acts::refuse;
 use crate::counts::next_work;

@@ -18,8 +18,8 @@
 //! core
 //! may go on by a translation until it flushes.
 //!
-//! **Map.** The count of the frame is acquired, and the frame's word is loaded, which says that it is a user frame and that no core has marked
-//! it; then the place is filled with the mapping as a copy fills its target. A place that is quiescing waits for flushes too.
+//! **Map.** The count of the frame is acquired, and the frame's word is loaded, which says that it is a user frame and that no core has
+//! marked it; then the place is filled with the mapping as a copy fills its target. A place that is quiescing waits for flushes too.
 //!
 //! **Remove, shrink, unmap.** The count of what is removed is acquired, the entry is closed, and a stamp is drawn, which decides.
 //! Then the entry that quiesces since the stamp is still to be stored.
@@ -70,9 +70,9 @@
 //! **Ret.** The component below the top of the stack is loaded, and its table and its pages. The count of the top's frame is acquired, and
 //! a stamp is drawn, which decides. The top is still to be popped. A stack of depth 1 has nothing below, which is known at the first step.
 //!
-//! **Switch.** The thread's word is loaded, and claimed by a compare with the idle word found; then the component at the top of its stack is
-//! loaded, with its table and its pages. The counts are acquired of both threads, and of both temporal capabilities where they differ. The
-//! word of the core's own thread is stored as claimed, and a stamp is drawn, which decides. Both threads' words are still to be stored:
+//! **Switch.** The thread's word is loaded, and claimed by a compare with the idle word found; then the component at the top of its stack
+//! is loaded, with its table and its pages. The counts are acquired of both threads, and of both temporal capabilities where they differ.
+//! The word of the core's own thread is stored as claimed, and a stamp is drawn, which decides. Both threads' words are still to be stored:
 //! running, and idle. A call that is refused after the claim has the thread's word still to store, idle as it was.
 //!
 //! **Refusals.** A refusal decides at the first step by which it is known and every earlier cause is judged: of each name in

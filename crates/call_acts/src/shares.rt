@@ -13,7 +13,8 @@ ghost use Rattle.spk_nums.specs.WordSteps.{place_in};
 ghost use Rattle.word_map.specs.Places.{size_of};
 ghost use Rattle.word_map.specs.Moves.{op_of};
 ghost use Rattle.stage_tcap.specs.Pairs.{PairFits, pair_move};
-ghost use Rattle.act_states.specs.Shares.{shared, took_shared, took_share, is_carried, is_sharing, stores_more, after_share, SharedFits, shares_if, shares_at};
+ghost use Rattle.act_states.specs.Shares.{shared, took_shared, took_share, is_carried, is_sharing};
+ghost use Rattle.act_states.specs.Shares.{stores_more, after_share, SharedFits, shares_if, shares_at};
 
 use crate::acts::refuse;
 use act_states::{Act, Refusal, Tail, Work, WorkStep};

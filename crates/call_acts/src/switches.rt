@@ -4,15 +4,15 @@
 //! switch to one thread one wins. No other core changes the words of a thread that is claimed, so the component at the top of its stack is
 //! loaded then, and that component's table and pages.
 //!
-//! **Counts.** These are acquired: that of the thread, which the core comes to refer to, and that of the core's own thread, to which it will
-//! refer no longer; then in the same way those of the two temporal capabilities. A core that keeps its temporal capability acquires no
+//! **Counts.** These are acquired: that of the thread, which the core comes to refer to, and that of the core's own thread, to which it
+//! will refer no longer; then in the same way those of the two temporal capabilities. A core that keeps its temporal capability acquires no
 //! count of it, and releases nothing there.
 //!
 //! **Leaving.** The word of the core's own thread is stored as claimed. No other core changes that of a running thread, so no compare is
 //! needed. From here to its last store no core finds the thread idle, nor running where it does not run any more.
 //!
-//! **Going on.** A stamp is drawn, which decides: the references are released at the stamp. Then the thread's word is stored as running, and
-//! that of the thread that was left as idle. A refused call stores as idle the thread that it has claimed.
+//! **Going on.** A stamp is drawn, which decides: the references are released at the stamp. Then the thread's word is stored as running,
+//! and that of the thread that was left as idle. A refused call stores as idle the thread that it has claimed.
 
 ghost use Rattle.std.specs.Prelude.{◌≡◌, ◌<◌, ◌≤◌, ◌==◌, slice_get};
 ghost use Rattle.spk_nums.specs.WordSteps.{place_in};
@@ -21,7 +21,9 @@ ghost use Rattle.tcap_words.specs.declared.thread_word.ThreadWord.TheVariants.{I
 ghost use Rattle.word_map.specs.Places.{size_of};
 ghost use Rattle.word_map.specs.Word.{EntryAt};
 ghost use Rattle.word_map.specs.Moves.{op_of, StoreOf};
-ghost use Rattle.act_states.specs.Switches.{SwitchingFits, switching_move, switching_dues, switch_due_list, tcap_dues, is_switching, claim_undo, gives_back, switching_undo, switch_goes, took_claim, switch_table, switched, running_move, idle_move};
+ghost use Rattle.act_states.specs.Switches.{SwitchingFits, switching_move, switching_dues, switch_due_list};
+ghost use Rattle.act_states.specs.Switches.{tcap_dues, is_switching, claim_undo, gives_back, switching_undo};
+ghost use Rattle.act_states.specs.Switches.{switch_goes, took_claim, switch_table, switched, running_move, idle_move};
 ghost use Rattle.act_states.specs.Acts.{switch_pages, took_switching, switches_at};
 
 use crate::acts::refuse;

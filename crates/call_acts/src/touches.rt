@@ -12,7 +12,8 @@ ghost use Rattle.word_map.specs.Places.{size_of};
 ghost use Rattle.word_map.specs.Moves.{op_of};
 ghost use Rattle.stage_look.specs.Lookup.{look_move};
 ghost use Rattle.kernel_rules.specs.MemoryCalls.{translation_of, translated};
-ghost use Rattle.act_states.specs.Touches.{TouchFits, fault_of, mapping_of, meets_page, touch_end, took_touch, is_at_page, is_answering, touches};
+ghost use Rattle.act_states.specs.Touches.{TouchFits, fault_of, mapping_of, meets_page, touch_end};
+ghost use Rattle.act_states.specs.Touches.{took_touch, is_at_page, is_answering, touches};
 ghost use Rattle.act_states.specs.declared.work.WorkStep.TheVariants.{Answers};
 
 use crate::acts::refuse;

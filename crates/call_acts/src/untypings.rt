@@ -20,7 +20,8 @@ ghost use Rattle.frame_words.specs.Frame.{FrameFits, word_of_frame, frame_of_wor
 ghost use Rattle.word_map.specs.Places.{size_of};
 ghost use Rattle.word_map.specs.Moves.{op_of};
 ghost use Rattle.act_states.specs.Typings.{typed};
-ghost use Rattle.act_states.specs.Untypings.{UntypingFits, ReleaseFits, held_by, untyping_move, untyping_undo, is_drawing, release_of, release_move, release_after, thaw_left_by};
+ghost use Rattle.act_states.specs.Untypings.{UntypingFits, ReleaseFits, held_by, untyping_move, untyping_undo};
+ghost use Rattle.act_states.specs.Untypings.{is_drawing, release_of, release_move, release_after, thaw_left_by};
 ghost use Rattle.act_states.specs.Acts.{meets_untyped, meets_untyping, sweeps_if, took_sweep, drawn_untyped, took_untyping};
 ghost use Rattle.spk_nums.specs.declared.kinds.FrameKind.TheVariants.{Untyped};
 ghost use Rattle.stage_sweep.specs.Freeze.{swept_of};

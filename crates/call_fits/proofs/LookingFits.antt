@@ -3,7 +3,9 @@ use Rattle.std.proofs.lemmas.List.Elements.{All-nil, All-cons, All-tail, All-app
 use Rattle.frame_words.specs.Count.{word_of_count, count_of_word}
 use Rattle.stage_pins.specs.Counts.{unheld}
 use Rattle.stage_pins.proofs.PinLemmas.{after_fits}
-use Rattle.std.proofs.Common.{◌≡◌, ℕ, suc, ℤ, nat_lt, if◌then◌else◌, ◌+◌, ◌*◌, ◌-◌, ◌++◌, slice_get, ◌%◌, ◌<◌, ◌≤◌, Bool, true, false, ◌==◌, List, [], ◌∷◌, length, length-append, lt-ltb, Option, Some, None, IfSome, refl, sym, ◌∙◌, ap, subst, arith, negsuc}
+use Rattle.std.proofs.Common.{◌≡◌, ℕ, suc, ℤ, nat_lt, if◌then◌else◌, ◌+◌, ◌*◌, ◌-◌, ◌++◌, slice_get, ◌%◌}
+use Rattle.std.proofs.Common.{◌<◌, ◌≤◌, Bool, true, false, ◌==◌, List, [], ◌∷◌, length, length-append}
+use Rattle.std.proofs.Common.{lt-ltb, Option, Some, None, IfSome, refl, sym, ◌∙◌, ap, subst, arith, negsuc}
 use Rattle.std.proofs.lemmas.Bool.{leb-false, ltb-true}
 use Rattle.spk_nums.specs.declared.replies.Value.TheVariants.{Nothing as nothing, Amount}
 use Rattle.stage_quiet.specs.Clocks.{drawn_stamp, stamp_of_clock}
@@ -16,7 +18,8 @@ use Rattle.stage_pins.specs.declared.pin.Pin.{Pin}
 use Rattle.stage_pins.specs.declared.pin.Pin.TheVariants.{AtLoad, AtCompare}
 use Rattle.stage_pins.specs.declared.pin.Pinned.{Pinned}
 use Rattle.stage_pins.specs.declared.held.Acquired.{Acquired}
-use Rattle.stage_pins.specs.Acquire.{PinFits, PinnedFits, EndFits, end_by_hold, load_end, compare_end, pinned_at, pin_after, pin_end, after_hold, after_load}
+use Rattle.stage_pins.specs.Acquire.{PinFits, PinnedFits, EndFits, end_by_hold, load_end, compare_end}
+use Rattle.stage_pins.specs.Acquire.{pinned_at, pin_after, pin_end, after_hold, after_load}
 use Rattle.frame_words.specs.declared.count_word.CountWord.{CountWord}
 use Rattle.frame_words.specs.declared.count_word.Hold.{Hold}
 use Rattle.frame_words.specs.declared.count_word.Hold.TheVariants as hold
@@ -82,14 +85,21 @@ use Rattle.act_states.specs.Makings.{MakingFits, making_left, undo_at}
 use Rattle.frame_words.specs.Comp.{comp_of_word}
 use Rattle.frame_words.specs.declared.comp_word.CompWord.{CompWord}
 use Rattle.call_stages.specs.Tails.{tail_left, took_tail, tail_counts}
-use Rattle.call_stages.specs.Fits.{TailFits, WorkFits, StageFits, IsWanted, FoundFits, HasRoom, CountsWait, CountsAt, looks_later, after_reading, acts_later, names_left, steps_later, left_of_look, left_of_pin, work_left, left_at, left_of, IsActive, IsOwn}
+use Rattle.call_stages.specs.Fits.{TailFits, WorkFits, StageFits, IsWanted, FoundFits, HasRoom, CountsWait}
+use Rattle.call_stages.specs.Fits.{CountsAt, looks_later, after_reading, acts_later, names_left, steps_later}
+use Rattle.call_stages.specs.Fits.{left_of_look, left_of_pin, work_left, left_at, left_of, IsActive, IsOwn}
 use Rattle.act_states.specs.Scans.{left_of_cores, ScanFits, left_of_scan}
 use Rattle.act_fits.proofs.StepsFit.{starts_fit, first_named, act_fits}
 use Rattle.act_fits.proofs.DuesFit.{StepFits, few_dues, object_count, work_next, counts_next, ChangeFits}
 use Rattle.act_states.specs.declared.work.Act.{Act as ActType}
-use Rattle.act_states.specs.declared.work.Act.TheVariants.{Fill as fill_act, Remove as remove_act, Retype as type_act, Make as make_act, Outside, Tick as tick_act, Flush as flush_act, Kill as kill_act, Untype as untype_act, Map as map_act, MakeComp as comp_act, Invoke as invoke_act, Return as return_act, Switch as switch_act, Touch as touch_act, Share as share_act}
+use Rattle.act_states.specs.declared.work.Act.TheVariants.{Fill as fill_act, Remove as remove_act, Retype as type_act}
+use Rattle.act_states.specs.declared.work.Act.TheVariants.{Make as make_act, Outside, Tick as tick_act, Flush as flush_act}
+use Rattle.act_states.specs.declared.work.Act.TheVariants.{Kill as kill_act, Untype as untype_act, Map as map_act}
+use Rattle.act_states.specs.declared.work.Act.TheVariants.{MakeComp as comp_act, Invoke as invoke_act, Return as return_act}
+use Rattle.act_states.specs.declared.work.Act.TheVariants.{Switch as switch_act, Touch as touch_act, Share as share_act}
 use Rattle.act_states.specs.declared.work.Tail.{Tail}
-use Rattle.act_states.specs.declared.work.Tail.TheVariants.{Nothing, Quiesce, Unmark, StoreDead, StoreFlush, Release, StoreLive, Push, Pop, StoreRunning, StoreIdle, Share}
+use Rattle.act_states.specs.declared.work.Tail.TheVariants.{Nothing, Quiesce, Unmark, StoreDead, StoreFlush, Release}
+use Rattle.act_states.specs.declared.work.Tail.TheVariants.{StoreLive, Push, Pop, StoreRunning, StoreIdle, Share}
 use Rattle.call_stages.specs.declared.stages.Stage.{Stage}
 use Rattle.call_stages.specs.declared.stages.Stage.TheVariants.{Enter, Undecided, Decided, Leave}
 use Rattle.call_stages.specs.declared.stages.ActiveCall.{ActiveCall}
@@ -100,9 +110,12 @@ use Rattle.act_states.specs.declared.work.WorkStep.TheVariants.{Goes, Acquires, 
 use Rattle.act_states.specs.Refusals.{refusal_of}
 use Rattle.act_states.specs.Fills.{filled_if}
 use Rattle.act_states.specs.WorkSteps.{refuse}
-use Rattle.act_states.specs.Acts.{ActFits, close_left, act_left, took_close, maps_frame, maps_word, took_act, dues, next_work, act_begun, cap_dues, starts, undo, made_dues, meets_object, meets_blank, meets_making, marks_if, published, took_making_at}
+use Rattle.act_states.specs.Acts.{ActFits, close_left, act_left, took_close, maps_frame, maps_word, took_act}
+use Rattle.act_states.specs.Acts.{dues, next_work, act_begun, cap_dues, starts, undo, made_dues, meets_object}
+use Rattle.act_states.specs.Acts.{meets_blank, meets_making, marks_if, published, took_making_at}
 use Rattle.act_states.specs.Lookups.{met_name, met_free, met_held}
-use Rattle.call_stages.specs.Steps.{GoesOn, landed, found_more, next_by, took_enter, named_one, read_more, took_read, took_found, took_end, took_look, took_scan, took_count, took_work, went_with, is_spent, took_at, took}
+use Rattle.call_stages.specs.Steps.{GoesOn, landed, found_more, next_by, took_enter, named_one, read_more, took_read, took_found}
+use Rattle.call_stages.specs.Steps.{took_end, took_look, took_scan, took_count, took_work, went_with, is_spent, took_at, took}
 use Rattle.act_fits.proofs.LandsFit.{TookFits, Facts, names_object, next_fits, landed_fits}
 use Rattle.act_fits.proofs.ScansFit.{scan_goes, scan_left}
 use Rattle.act_fits.proofs.KillsFit.{kill_fits}
@@ -183,7 +196,8 @@ module _ (own : Own) (a : ActiveCall) (facts : Facts own a) (none : a.counts ≡
   met_if left name rest k true wanted is names some = one_fits left name rest k is (sym wanted, names) some
   met_if left name rest k false wanted is names some = refused_fits left refusal.WrongCap (omega arith)
 
-  pub met_fits : (left : ℕ) (name : Name) (rest : List Name) (value : Entry) → names_left a ≡ name ∷ rest → EntryNames own.layout.frames value
+  pub met_fits : (left : ℕ) (name : Name) (rest : List Name) (value : Entry)
+      → names_left a ≡ name ∷ rest → EntryNames own.layout.frames value
       → 2 + (look_steps rest a.plan.target + act_steps a.call own.layout.cores) < left
       → TookFits own left a (named_one own a (met_name (wants (with_found [] a.found) name.wanted) value))
   met_fits left name rest entry.Free is names some = refused_fits left refusal.Empty (omega arith)

@@ -8,7 +8,8 @@ use Rattle.stage_pins.specs.declared.pin.Pin.{Pin}
 use Rattle.stage_pins.specs.declared.pin.Pinned.{Pinned}
 use Rattle.stage_pins.specs.declared.held.Acquired.{Acquired}
 use Rattle.stage_pins.specs.Acquire.{pin_after, pin_end}
-use Rattle.std.proofs.Common.{◌≡◌, ℕ, ℤ, ◌+◌, ◌==◌, ◌&&◌, nat_lt, Bool, true, false, List, [], ◌∷◌, length, Option, Some, None, refl, sym, ◌∙◌, ap, subst, arith, eqb-true, if◌then◌else◌, nat_le, ◌||◌}
+use Rattle.std.proofs.Common.{◌≡◌, ℕ, ℤ, ◌+◌, ◌==◌, ◌&&◌, nat_lt, Bool, true, false, List, [], ◌∷◌, length, Option}
+use Rattle.std.proofs.Common.{Some, None, refl, sym, ◌∙◌, ap, subst, arith, eqb-true, if◌then◌else◌, nat_le, ◌||◌}
 use Rattle.call_plans.specs.Plans.{pushed, at_place}
 use Rattle.spk_nums.specs.Capability.{Capability}
 use Rattle.spk_nums.specs.declared.kinds.PageFlags.{PageFlags}
@@ -17,7 +18,9 @@ use Rattle.spk_nums.specs.declared.kinds.FrameKind.TheVariants.{Untyped, User, K
 use Rattle.spk_nums.specs.declared.calls.Make.{Make}
 use Rattle.spk_nums.specs.declared.calls.Make.TheVariants as make
 use Rattle.spk_nums.specs.declared.calls.Call.{Call}
-use Rattle.spk_nums.specs.declared.calls.Call.TheVariants.{Look as look_call, Copy, Remove, Shrink, Unmap, Retype, Make as make_call, Tick, Gate, Kill, Grow, Flush, Map, Call as call_gate, Ret, Switch, Transfer, Delegate, Test}
+use Rattle.spk_nums.specs.declared.calls.Call.TheVariants.{Look as look_call, Copy, Remove, Shrink, Unmap, Retype}
+use Rattle.spk_nums.specs.declared.calls.Call.TheVariants.{Make as make_call, Tick, Gate, Kill, Grow, Flush, Map}
+use Rattle.spk_nums.specs.declared.calls.Call.TheVariants.{Call as call_gate, Ret, Switch, Transfer, Delegate, Test}
 use Rattle.spk_nums.specs.declared.replies.Reply.{Reply}
 use Rattle.entry_words.specs.declared.entry.Entry.{Entry}
 use Rattle.entry_words.specs.declared.entry.Entry.TheVariants as entry
@@ -56,13 +59,18 @@ use Rattle.act_states.specs.declared.makings.MakingAt.{MakingAt}
 use Rattle.act_states.specs.declared.makings.MakingAt.TheVariants.{Load as make_load, Mark, Store, Fill as fill_at}
 use Rattle.act_states.specs.Makings.{is_filling}
 use Rattle.act_states.specs.declared.work.Act.{Act as ActType}
-use Rattle.act_states.specs.declared.work.Act.TheVariants.{Fill as fill_act, Remove as remove_act, Retype as type_act, Make as make_act, Outside, Tick as tick_act, Flush as flush_act, Kill as kill_act, Untype as untype_act, Map as map_act, MakeComp as comp_act, Invoke as invoke_act, Return as return_act, Switch as switch_act, Touch as touch_act, Share as share_act}
+use Rattle.act_states.specs.declared.work.Act.TheVariants.{Fill as fill_act, Remove as remove_act, Retype as type_act}
+use Rattle.act_states.specs.declared.work.Act.TheVariants.{Make as make_act, Outside, Tick as tick_act, Flush as flush_act}
+use Rattle.act_states.specs.declared.work.Act.TheVariants.{Kill as kill_act, Untype as untype_act, Map as map_act}
+use Rattle.act_states.specs.declared.work.Act.TheVariants.{MakeComp as comp_act, Invoke as invoke_act, Return as return_act}
+use Rattle.act_states.specs.declared.work.Act.TheVariants.{Switch as switch_act, Touch as touch_act, Share as share_act}
 use Rattle.act_states.specs.declared.work.Work.{Work}
 use Rattle.act_states.specs.declared.work.Work.TheVariants.{Lookup, Read, Scan, Acquire, Act}
 use Rattle.call_stages.specs.declared.stages.Stage.{Stage}
 use Rattle.call_stages.specs.declared.stages.Stage.TheVariants.{Enter, Undecided, Decided, Leave}
 use Rattle.act_states.specs.declared.work.Tail.{Tail}
-use Rattle.act_states.specs.declared.work.Tail.TheVariants.{Nothing, Quiesce, Unmark, StoreDead, StoreFlush, Release, StoreLive, Push as push_tail, Pop as pop_tail, StoreRunning, StoreIdle, Share}
+use Rattle.act_states.specs.declared.work.Tail.TheVariants.{Nothing, Quiesce, Unmark, StoreDead, StoreFlush, Release, StoreLive}
+use Rattle.act_states.specs.declared.work.Tail.TheVariants.{Push as push_tail, Pop as pop_tail, StoreRunning, StoreIdle, Share}
 use Rattle.call_stages.specs.declared.stages.ActiveCall.{ActiveCall}
 use Rattle.act_states.specs.declared.work.WorkStep.{WorkStep}
 use Rattle.act_states.specs.declared.work.WorkStep.TheVariants.{Goes, Acquires, Refuses as refuses_to, Answers, Changes as work_changes}
@@ -70,10 +78,17 @@ use Rattle.act_states.specs.Refusals.{refusal_of}
 use Rattle.act_states.proofs.Refusing.{refusal_refuses}
 use Rattle.act_states.specs.Fills.{filled_if}
 use Rattle.act_states.specs.WorkSteps.{refuse}
-use Rattle.act_states.specs.Acts.{took_close, is_draw, took_act, act_ready, reads_of, fills_with, removes_held, removes_at, act_begun, types_if, types_at, stamp_in, filling, starts, scans, makes_at, meets_object, meets_blank, meets_making, marks_if, published, took_making_at, kills_in, kills_at, meets_comp, meets_live, meets_number, meets_life, closes_if, took_killing_at, meets_untyped, meets_untyping, sweeps_if, took_sweep, took_untyping_at, maps_frame, maps_word, maps_if, maps_at, comps_at, made_begun, comp_marks, took_comp_at, invokes_if, invokes_in, invokes_at, returns_if, meets_table, meets_pages, meets_gate, took_invoking_at, meets_below, meets_below_table, meets_below_pages, took_returning_at, switches_at, switch_pages, took_switching_at}
+use Rattle.act_states.specs.Acts.{took_close, is_draw, took_act, act_ready, reads_of, fills_with, removes_held, removes_at, act_begun}
+use Rattle.act_states.specs.Acts.{types_if, types_at, stamp_in, filling, starts, scans, makes_at, meets_object, meets_blank, meets_making}
+use Rattle.act_states.specs.Acts.{marks_if, published, took_making_at, kills_in, kills_at, meets_comp, meets_live, meets_number, meets_life}
+use Rattle.act_states.specs.Acts.{closes_if, took_killing_at, meets_untyped, meets_untyping, sweeps_if, took_sweep, took_untyping_at}
+use Rattle.act_states.specs.Acts.{maps_frame, maps_word, maps_if, maps_at, comps_at, made_begun, comp_marks, took_comp_at, invokes_if}
+use Rattle.act_states.specs.Acts.{invokes_in, invokes_at, returns_if, meets_table, meets_pages, meets_gate, took_invoking_at, meets_below}
+use Rattle.act_states.specs.Acts.{meets_below_table, meets_below_pages, took_returning_at, switches_at, switch_pages, took_switching_at}
 use Rattle.call_plans.specs.declared.plans.Nth.TheVariants.{First, Second, Third, Fourth}
 use Rattle.act_states.specs.declared.fills.Fill.{Fill}
-use Rattle.act_states.specs.Comps.{comp_filling, comp_goes, comp_refuses, comp_meets, comp_meets_object, comp_meets_blank, number_met, number_shown, takes_number, scans_number, number_scanned, closes_number, comp_published}
+use Rattle.act_states.specs.Comps.{comp_filling, comp_goes, comp_refuses, comp_meets, comp_meets_object, comp_meets_blank, number_met}
+use Rattle.act_states.specs.Comps.{number_shown, takes_number, scans_number, number_scanned, closes_number, comp_published}
 use Rattle.frame_words.specs.Live.{live_of_word}
 use Rattle.act_states.specs.declared.comps.CompAt.{CompAt}
 use Rattle.act_states.specs.declared.comps.CompAt.TheVariants as comp_at_as
@@ -122,7 +137,9 @@ use Rattle.act_states.specs.Touches.{touches_if, touch_end, touched, is_at_page}
 use Rattle.call_stages.specs.Fits.{FoundFits, IsFirst, IsActive}
 use Rattle.call_stages.specs.Tails.{took_tail, tail_counts}
 use Rattle.call_plans.specs.After.{with_found, names_after, next_in, Next, NextName, NextFree, NextHeld, NextOwn, NextNothing, next_of}
-use Rattle.call_stages.specs.Steps.{GoesOn, landed, next_by, found_more, took_enter, named_one, read_more, took_read, took_found, took_end, took_look, took_scan, took_count, gives_up, took_work, went_with, took_at, is_last, decides_at_name, is_last_name, work_ready, ready_at}
+use Rattle.call_stages.specs.Steps.{GoesOn, landed, next_by, found_more, took_enter, named_one, read_more, took_read}
+use Rattle.call_stages.specs.Steps.{took_found, took_end, took_look, took_scan, took_count, gives_up, took_work}
+use Rattle.call_stages.specs.Steps.{went_with, took_at, is_last, decides_at_name, is_last_name, work_ready, ready_at}
 use Rattle.stage_tcap.specs.declared.pair.PairWork.TheVariants as share
 use Rattle.call_stages.proofs.Answering.{NoAnswer, IsOver}
 use Rattle.call_stages.proofs.ShareDecisions.{shares_no, share_unready, share_over}
@@ -194,7 +211,8 @@ makes_no own None range f target = tt
 makes_no own (Some object) None f target = tt
 makes_no own (Some object) (Some range) f None = tt
 
-pub maps_no : (own : Own) (range : Option Capability) (f : ℕ) (w : PageFlags) (target : Option Found) → NoAnswer (maps_at own range f w target)
+pub maps_no : (own : Own) (range : Option Capability) (f : ℕ) (w : PageFlags) (target : Option Found)
+    → NoAnswer (maps_at own range f w target)
 maps_no own None f w target = tt
 maps_no own (Some range) f w None = tt
 maps_no own (Some range) f w (Some at) = by (nat_lt w.0 4)
@@ -211,7 +229,8 @@ comps_no own live (Some range) None pages f target = tt
 comps_no own live (Some range) (Some table) None f target = tt
 comps_no own live (Some range) (Some table) (Some pages) f None = tt
 
-pub made_no : (own : Own) (what : Make) (found : List Capability) (f : ℕ) (target : Option Found) → NoAnswer (made_begun own what found f target)
+pub made_no : (own : Own) (what : Make) (found : List Capability) (f : ℕ) (target : Option Found)
+    → NoAnswer (made_begun own what found f target)
 made_no own (make.Comp table pages live) found f target =
     comps_no own live (at_place found First) (at_place found Third) (at_place found Fourth) f target
 made_no own what found f target = makes_no own (object_made what found) (at_place found First) f target

@@ -12,7 +12,8 @@ use Rattle.stage_tcap.specs.Charging.{end_by_mark, head_end}
 use Rattle.stage_tcap.specs.Pairs.{decided_by_mark, b_end, list_end, again_end, marked_end}
 use Rattle.stage_tcap.specs.declared.pair.Pair.{Pair}
 use Rattle.stage_tcap.specs.declared.pair.PairAt.{PairAt}
-use Rattle.stage_tcap.specs.declared.pair.PairAt.TheVariants.{LoadA, MarkA, ListA, LoadB, ListB, CompareB, AgainB, StoreList, StoreB, StoreA}
+use Rattle.stage_tcap.specs.declared.pair.PairAt.TheVariants.{LoadA, MarkA, ListA, LoadB, ListB, CompareB}
+use Rattle.stage_tcap.specs.declared.pair.PairAt.TheVariants.{AgainB, StoreList, StoreB, StoreA}
 use Rattle.stage_tcap.specs.declared.pair.PairWork.{PairWork}
 use Rattle.act_states.specs.Shares.{shared, took_shared, took_share, is_carried, is_sharing, shares_if, shares_at}
 use Rattle.call_stages.proofs.Answering.{NoAnswer, IsOver}

@@ -24,7 +24,8 @@ use Rattle.act_states.specs.declared.work.Work.TheVariants.{Lookup, Read, Scan, 
 use Rattle.call_stages.specs.declared.stages.Stage.{Stage}
 use Rattle.call_stages.specs.declared.stages.Stage.TheVariants.{Enter, Undecided, Decided, Leave}
 use Rattle.act_states.specs.declared.work.Tail.{Tail}
-use Rattle.act_states.specs.declared.work.Tail.TheVariants.{Nothing, Quiesce, Unmark, StoreDead, StoreFlush, Release, StoreLive, Push, Pop, StoreRunning, StoreIdle, Share}
+use Rattle.act_states.specs.declared.work.Tail.TheVariants.{Nothing, Quiesce, Unmark, StoreDead, StoreFlush, Release}
+use Rattle.act_states.specs.declared.work.Tail.TheVariants.{StoreLive, Push, Pop, StoreRunning, StoreIdle, Share}
 use Rattle.act_states.specs.Untypings.{ReleaseFits}
 use Rattle.act_states.specs.Shares.{SharedFits}
 use Rattle.call_stages.specs.declared.stages.ActiveCall.{ActiveCall}

@@ -18,7 +18,8 @@ use Rattle.stage_thread.specs.declared.stack.Pop.TheVariants as pop
 use Rattle.act_states.specs.Kills.{dead_move}
 use Rattle.act_states.specs.Switches.{running_move, idle_move}
 use Rattle.act_states.specs.declared.work.Tail.{Tail}
-use Rattle.act_states.specs.declared.work.Tail.TheVariants.{Nothing, Quiesce, Unmark, StoreDead, StoreFlush, Release, StoreLive, Push as push_tail, Pop as pop_tail, StoreRunning, StoreIdle, Share}
+use Rattle.act_states.specs.declared.work.Tail.TheVariants.{Nothing, Quiesce, Unmark, StoreDead, StoreFlush, Release, StoreLive}
+use Rattle.act_states.specs.declared.work.Tail.TheVariants.{Push as push_tail, Pop as pop_tail, StoreRunning, StoreIdle, Share}
 use Rattle.act_states.specs.Untypings.{release_move, release_after, release_left}
 use Rattle.stage_tcap.specs.Pairs.{pair_move}
 use Rattle.act_states.specs.Shares.{after_share, share_left}

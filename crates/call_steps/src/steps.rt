@@ -7,7 +7,9 @@ ghost use Rattle.spk_nums.specs.WordSteps.{place_in};
 ghost use Rattle.call_plans.specs.After.{next_of, with_found};
 ghost use Rattle.stage_pins.specs.Held.{AllFit};
 ghost use Rattle.call_stages.specs.Tails.{tail_counts, took_tail};
-ghost use Rattle.call_stages.specs.Steps.{took_read, core_word, work_move, stage_move, went, went_with, took_scan, took_count, gives_up, landed, next_by, took_enter, took_found, took_end, took_work, took_at, took, told, call_after, is_last, decides_at_name, work_ready, is_ready, is_spent, named_one, decided, Changes};
+ghost use Rattle.call_stages.specs.Steps.{took_read, core_word, work_move, stage_move, went, went_with, took_scan, took_count, gives_up};
+ghost use Rattle.call_stages.specs.Steps.{landed, next_by, took_enter, took_found, took_end, took_work, took_at, took, told, call_after};
+ghost use Rattle.call_stages.specs.Steps.{is_last, decides_at_name, work_ready, is_ready, is_spent, named_one, decided, Changes};
 ghost use Rattle.call_stages.specs.Fits.{WorkFits, StageFits, IsLater, TailFits};
 ghost use Rattle.stage_pins.specs.Acquire.{pin_after, pin_end};
 ghost use Rattle.stage_quiet.specs.Scan.{quiet_after, quiet_end};
@@ -170,7 +172,8 @@ fn decides_at_name(decides: Decides) -> bool
 #[inline]
 fn scan_step(own: &Own, quiet: &Quiet, act: &Act, found: u64) -> WorkStep
     requires { WorkFits own.now.layout (Scan quiet.now act.now) }
-    ensures { result ≡ took_scan own.now.core act.now (quiet_after own.now.layout.cores quiet.now found) (quiet_end own.now.layout.cores quiet.now found) }
+    ensures { result ≡ took_scan own.now.core act.now (quiet_after own.now.layout.cores quiet.now found)
+        (quiet_end own.now.layout.cores quiet.now found) }
 {
     let mut quiet = *quiet;
     let end = quiet.take(&own.layout, found);
@@ -337,7 +340,8 @@ fn store(
 )
     requires few { active.old.steps < 1000 }
     requires fits { TailFits own.now.layout tail.now }
-    ensures { active.new ≡ went_with active.old (tail_counts tail.now active.old.counts) (took_tail reply drawn tail.now active.old.counts found) }
+    ensures { active.new
+        ≡ went_with active.old (tail_counts tail.now active.old.counts) (took_tail reply drawn tail.now active.old.counts found) }
 {
     let stage = took_tail(reply, drawn, tail, &active.counts, &own.layout, found);
     if commits(tail) {
@@ -386,7 +390,8 @@ fn found_place(active: &mut ActiveCall, own: &Own, found: &Found) -> Told
     requires cores { own.now.layout.cores ≤ 8 }
     requires few { active.old.steps < 1000 }
     ensures told { result ≡ told (took_found own.now active.old (next_of active.old.plan active.old.found) found.now) }
-    ensures after { active.new ≡ call_after active.old (took_found own.now active.old (next_of active.old.plan active.old.found) found.now) }
+    ensures after { active.new
+        ≡ call_after active.old (took_found own.now active.old (next_of active.old.plan active.old.found) found.now) }
 {
     match active.plan.next(&active.found) {
         Next::Name { name } => {
@@ -425,8 +430,10 @@ fn found_free(active: &mut ActiveCall, own: &Own, found: &Found) -> Told
     requires core { own.now.core < own.now.layout.cores }
     requires cores { own.now.layout.cores ≤ 8 }
     requires few { active.old.steps < 1000 }
-    ensures told { result ≡ told (landed active.old (met_free own.now active.old.call active.old.found active.old.read found.now found.now.value)) }
-    ensures after { active.new ≡ call_after active.old (landed active.old (met_free own.now active.old.call active.old.found active.old.read found.now found.now.value)) }
+    ensures told { result
+        ≡ told (landed active.old (met_free own.now active.old.call active.old.found active.old.read found.now found.now.value)) }
+    ensures after { active.new ≡ call_after active.old
+        (landed active.old (met_free own.now active.old.call active.old.found active.old.read found.now found.now.value)) }
 {
     let step = met_free(own, &active.call, &active.found, active.read, found);
     land(active, &step)
@@ -439,7 +446,8 @@ fn found_held(active: &mut ActiveCall, own: &Own, found: &Found) -> Told
     requires cores { own.now.layout.cores ≤ 8 }
     requires few { active.old.steps < 1000 }
     ensures told { result ≡ told (landed active.old (met_held own.now active.old.call active.old.found found.now found.now.value)) }
-    ensures after { active.new ≡ call_after active.old (landed active.old (met_held own.now active.old.call active.old.found found.now found.now.value)) }
+    ensures after { active.new
+        ≡ call_after active.old (landed active.old (met_held own.now active.old.call active.old.found found.now found.now.value)) }
 {
     let step = met_held(own, &active.call, &active.found, found);
     land(active, &step)
@@ -467,8 +475,10 @@ fn look_next(active: &mut ActiveCall, own: &Own) -> Told
 #[inline]
 fn look_free(active: &mut ActiveCall, spot: Spot) -> Told
     requires { active.old.steps < 1000 }
-    ensures told { result ≡ told (landed active.old (read_first (reads_of active.old.call active.old.found) (looks_at (place_of (with_found [] active.old.found) spot)))) }
-    ensures after { active.new ≡ call_after active.old (landed active.old (read_first (reads_of active.old.call active.old.found) (looks_at (place_of (with_found [] active.old.found) spot)))) }
+    ensures told { result ≡ told (landed active.old
+        (read_first (reads_of active.old.call active.old.found) (looks_at (place_of (with_found [] active.old.found) spot)))) }
+    ensures after { active.new ≡ call_after active.old (landed active.old
+        (read_first (reads_of active.old.call active.old.found) (looks_at (place_of (with_found [] active.old.found) spot)))) }
 {
     match reads_of(&active.call, &active.found) {
         None => look_at(active, spot),
@@ -481,7 +491,8 @@ fn look_free(active: &mut ActiveCall, spot: Spot) -> Told
 fn read_at(active: &mut ActiveCall, comp: FrameNo, spot: Spot) -> Told
     requires { active.old.steps < 1000 }
     ensures told { result ≡ told (landed active.old (read_first (Some comp) (looks_at (place_of (with_found [] active.old.found) spot)))) }
-    ensures after { active.new ≡ call_after active.old (landed active.old (read_first (Some comp) (looks_at (place_of (with_found [] active.old.found) spot)))) }
+    ensures after { active.new
+        ≡ call_after active.old (landed active.old (read_first (Some comp) (looks_at (place_of (with_found [] active.old.found) spot)))) }
 {
     match spot {
         Spot::Under { root, number } => {
