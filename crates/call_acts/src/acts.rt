@@ -365,12 +365,7 @@ fn fills_at(own: &Own, cap: Cap, page: bool, target: &Found) -> WorkStep
     ensures { result ≡ fills_at own.now cap page target.now }
 {
     let act = Act::Fill {
-        fill: Fill {
-            node: target.node,
-            entry: target.entry,
-            word: target.word,
-            cap,
-        },
+        fill: fill_of(target, cap),
     };
     let stamp = stamp_in(&target.value);
     let quiet = if page {
@@ -432,6 +427,31 @@ pub fn undo(act: &Act) -> Tail
     }
 }
 
+// The filling of a place that was found with this capability.
+#[inline]
+fn fill_of(target: &Found, cap: Cap) -> Fill
+    ensures { result ≡ record { node = target.now.node; entry = target.now.entry; word = target.now.word; cap = cap } }
+{
+    Fill {
+        node: target.node,
+        entry: target.entry,
+        word: target.word,
+        cap,
+    }
+}
+
+// An act on a frame that is not in its range, whose target was found.
+#[inline]
+fn outside(target: &Found) -> Act
+    ensures { result ≡ Act.Outside target.now.node target.now.entry target.now.word }
+{
+    Act::Outside {
+        node: target.node,
+        entry: target.entry,
+        word: target.word,
+    }
+}
+
 // An object is made in a frame of this range.
 #[inline]
 fn makes_at(
@@ -465,21 +485,12 @@ fn makes_in(own: &Own, object: &NewObject, range: &Cap, frame: FrameArg, target:
                 frame,
                 object: *object,
                 core: own.core,
-                fill: Fill {
-                    node: target.node,
-                    entry: target.entry,
-                    word: target.word,
-                    cap: object_cap(*object, frame),
-                },
+                fill: fill_of(target, object_cap(*object, frame)),
                 at: MakingAt::Load,
             },
         }
     } else {
-        Act::Outside {
-            node: target.node,
-            entry: target.entry,
-            word: target.word,
-        }
+        outside(target)
     };
     let quiet = Quiet::entry(stamp_in(&target.value), own.core, own.layout.cores());
     scans(own.core, quiet, &act)
@@ -547,19 +558,13 @@ fn maps_in(own: &Own, range: &Cap, frame: FrameArg, flags: PageFlags, target: &F
     let act = if has_frame(range, frame) && frame.number() < own.layout.frames() {
         let frame = FrameNo::new(frame.number());
         Act::Map {
-            fill: Fill {
-                node: target.node,
-                entry: target.entry,
-                word: target.word,
-                cap: Cap::new(Kind::Page, frame, u32::from(flags.number())),
-            },
+            fill: fill_of(
+                target,
+                Cap::new(Kind::Page, frame, u32::from(flags.number())),
+            ),
         }
     } else {
-        Act::Outside {
-            node: target.node,
-            entry: target.entry,
-            word: target.word,
-        }
+        outside(target)
     };
     let quiet = Quiet::page(stamp_in(&target.value), own.core, own.layout.cores());
     scans(own.core, quiet, &act)
@@ -637,21 +642,12 @@ fn comps_in(
                 core: own.core,
                 cores: own.layout.cores(),
                 epochs: own.epochs,
-                fill: Fill {
-                    node: target.node,
-                    entry: target.entry,
-                    word: target.word,
-                    cap: Cap::new(Kind::Comp, frame, 0),
-                },
+                fill: fill_of(target, Cap::new(Kind::Comp, frame, 0)),
                 at: CompAt::Load,
             },
         }
     } else {
-        Act::Outside {
-            node: target.node,
-            entry: target.entry,
-            word: target.word,
-        }
+        outside(target)
     };
     let quiet = Quiet::entry(stamp_in(&target.value), own.core, own.layout.cores());
     scans(own.core, quiet, &act)

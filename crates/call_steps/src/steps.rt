@@ -337,10 +337,11 @@ fn store(
     drawn: Option<Stamp>,
     tail: &Tail,
     found: u64,
-)
+) -> Told
     requires few { active.old.steps < 1000 }
     requires fits { TailFits own.now.layout tail.now }
-    ensures { active.new
+    ensures told { result ≡ Told.Going }
+    ensures after { active.new
         ≡ went_with active.old (tail_counts tail.now active.old.counts) (took_tail reply drawn tail.now active.old.counts found) }
 {
     let stage = took_tail(reply, drawn, tail, &active.counts, &own.layout, found);
@@ -348,6 +349,7 @@ fn store(
         active.counts.pop();
     }
     go_on(active, stage);
+    Told::Going
 }
 
 // The first step of a call.
