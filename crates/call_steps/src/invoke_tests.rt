@@ -146,6 +146,17 @@ fn decided(drawn: &Option<Stamp>, tail: &Tail) -> Stage
     }
 }
 
+// A call that is refused at this step with this reply, and has nothing to store.
+fn refused(op: &WordOp, reply: &Reply) -> (WordOp, Told, Stage) {
+    let told = Told::Decided { reply: *reply };
+    let stage = Stage::Decided {
+        reply: *reply,
+        drawn: None,
+        tail: Tail::Nothing,
+    };
+    (*op, told, stage)
+}
+
 #[test]
 fn a_call_loads_the_component_and_acquires_its_count_before_it_looks_whether_it_lives(
     rt: HostRuntime,
@@ -172,23 +183,9 @@ fn a_call_loads_the_component_and_acquires_its_count_before_it_looks_whether_it_
         let next = acquires;
         assert_eq!(rt; at, (WordOp::Load { at: 386 }, Told::Going, next));
         // A frame past the machine's is none of its place.
-        let refused = Stage::Decided {
-            reply: Reply::Raced,
-            drawn: None,
-            tail: Tail::Nothing,
-        };
         let at = step(&layout, 1, call(), acts(invoke(&InvokingAt::LoadTable)), 8);
-        let next = refused;
-        assert_eq!(rt;
-            at,
-            (
-                WordOp::Load { at: 384 },
-                Told::Decided {
-                    reply: Reply::Raced
-                },
-                next
-            )
-        );
+        let next = refused(&WordOp::Load { at: 384 }, &Reply::Raced);
+        assert_eq!(rt; at, next);
     }
 }
 
@@ -227,30 +224,22 @@ fn a_call_decides_at_the_word_of_the_liveness_number_and_pushes(rt: HostRuntime)
         let at = step(&layout, 2, call(), decided(&None, &deepens), 65);
         let next = decided(&None, &Tail::Nothing);
         assert_eq!(rt; at, (deeper, Told::Going, next));
-        // Another epoch lives there, or none does.
+    }
+}
+
+#[test]
+fn a_call_is_refused_where_another_epoch_lives_or_none_does(rt: HostRuntime) {
+    if let Some(layout) = Layout::new(1, 8) {
         for word in [LIVES_BEFORE, DIED, 0] {
-            let dead = Stage::Decided {
-                reply: Reply::Dead,
-                drawn: None,
-                tail: Tail::Nothing,
-            };
             let at = step(&layout, 1, call(), acts(invoke(&at_live())), word);
-            let next = dead;
-            assert_eq!(rt;
-                at,
-                (
-                    WordOp::Load { at: 531 },
-                    Told::Decided { reply: Reply::Dead },
-                    next
-                ),
-                "at {word:#x}"
-            );
+            let next = refused(&WordOp::Load { at: 531 }, &Reply::Dead);
+            assert_eq!(rt; at, next, "at {word:#x}");
         }
     }
 }
 
 #[test]
-fn a_ret_loads_the_component_below_draws_a_stamp_and_pops(rt: HostRuntime) {
+fn a_ret_loads_the_component_below_before_it_acquires_the_count_of_the_top(rt: HostRuntime) {
     if let Some(layout) = Layout::new(1, 8) {
         let (comp, table, pages) = (FrameNo::new(3), FrameNo::new(0), FrameNo::new(2));
         let at_table = ReturningAt::LoadTable { comp };
@@ -278,6 +267,14 @@ fn a_ret_loads_the_component_below_draws_a_stamp_and_pops(rt: HostRuntime) {
         let at = step(&layout, 2, Call::Ret, acts(leave(&at_pages)), 2);
         let next = acquires;
         assert_eq!(rt; at, (WordOp::Load { at: 193 }, Told::Going, next));
+    }
+}
+
+#[test]
+fn a_ret_draws_a_stamp_and_pops(rt: HostRuntime) {
+    if let Some(layout) = Layout::new(1, 8) {
+        let (comp, table, pages) = (FrameNo::new(3), FrameNo::new(0), FrameNo::new(2));
+        let at_draw = ReturningAt::Draw { comp, table, pages };
         let pops = Tail::Pop {
             pop: Pop::new(FrameNo::new(THREAD), CoreNo::new(0), 2),
         };
@@ -325,23 +322,9 @@ fn enters_ret(layout: &Layout, depth: u8) -> (WordOp, Told, Stage)
 fn a_ret_at_the_bottom_is_refused_at_its_first_step(rt: HostRuntime) {
     if let Some(layout) = Layout::new(1, 8) {
         let enters = WordOp::Store { at: 528, word: 3 };
-        let bottom = Stage::Decided {
-            reply: Reply::Bottom,
-            drawn: None,
-            tail: Tail::Nothing,
-        };
         let at = enters_ret(&layout, 1);
-        let next = bottom;
-        assert_eq!(rt;
-            at,
-            (
-                enters,
-                Told::Decided {
-                    reply: Reply::Bottom
-                },
-                next
-            )
-        );
+        let next = refused(&enters, &Reply::Bottom);
+        assert_eq!(rt; at, next);
         let at = enters_ret(&layout, 2);
         assert_eq!(rt; at.1, Told::Going);
     }
@@ -365,21 +348,9 @@ fn a_call_at_depth_16_is_refused_where_its_gate_is_found(rt: HostRuntime) {
     if let Some(layout) = Layout::new(1, 8) {
         // A gate to the component in frame 6, of the epoch 2.
         let gate = 0x2_0199;
-        let deep = Stage::Decided {
-            reply: Reply::Deep,
-            drawn: None,
-            tail: Tail::Nothing,
-        };
         let at = step(&layout, 16, call(), looks(), gate);
-        let next = deep;
-        assert_eq!(rt;
-            at,
-            (
-                WordOp::Load { at: 84 },
-                Told::Decided { reply: Reply::Deep },
-                next
-            )
-        );
+        let next = refused(&WordOp::Load { at: 84 }, &Reply::Deep);
+        assert_eq!(rt; at, next);
         let at = step(&layout, 1, call(), looks(), gate);
         let next = acts(invoke(&InvokingAt::LoadTable));
         assert_eq!(rt; at, (WordOp::Load { at: 84 }, Told::Going, next));

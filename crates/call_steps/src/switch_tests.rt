@@ -1,8 +1,10 @@
 //! A switch, step by step over plain words: the steps, what the words found lead to, and what the core is told.
 
-ghost use Rattle.std.specs.Prelude.{◌≡◌, ◌<◌, ◌≤◌};
+ghost use Rattle.std.specs.Prelude.{◌≡◌, ◌<◌, ◌≤◌, Some};
 ghost use Rattle.call_stages.specs.Fits.{StageFits};
 ghost use Rattle.call_stages.specs.declared.stages.Stage.TheVariants.{Undecided, Decided};
+ghost use Rattle.spk_nums.specs.declared.replies.Reply.TheVariants.{Ok};
+ghost use Rattle.spk_nums.specs.declared.replies.Value.TheVariants.{Nothing};
 ghost use Rattle.act_states.specs.declared.work.Work.TheVariants.{Act as act_work};
 ghost use Rattle.act_states.specs.declared.switches.SwitchAt.TheVariants.{Leave, Draw};
 
@@ -164,7 +166,7 @@ fn refused(op: &WordOp, reply: &Reply, tail: &Tail) -> (WordOp, Told, Stage) {
 }
 
 #[test]
-fn a_switch_claims_the_thread_and_loads_its_component_before_it_acquires_counts(rt: HostRuntime) {
+fn a_switch_claims_the_thread_by_a_compare_with_the_idle_word(rt: HostRuntime) {
     if let Some(layout) = Layout::new(1, 8) {
         let (thread, core) = (FrameNo::new(NEW), CoreNo::new(0));
         let at_load = SwitchAt::Claim {
@@ -180,11 +182,6 @@ fn a_switch_claims_the_thread_and_loads_its_component_before_it_acquires_counts(
         let at_stack = SwitchAt::Claim {
             claim: Claim::AtStack { thread, depth: 1 },
         };
-        let at_table = SwitchAt::LoadTable { to: claimed() };
-        let at_pages = SwitchAt::LoadPages {
-            to: claimed(),
-            table: FrameNo::new(0),
-        };
         let at = step(&layout, acts(switch(&at_load)), IDLE);
         let next = acts(switch(&at_compare));
         assert_eq!(rt; at, (WordOp::Load { at: 384 }, Told::Going, next));
@@ -196,6 +193,21 @@ fn a_switch_claims_the_thread_and_loads_its_component_before_it_acquires_counts(
         let at = step(&layout, acts(switch(&at_compare)), IDLE);
         let next = acts(switch(&at_stack));
         assert_eq!(rt; at, (compare, Told::Going, next));
+    }
+}
+
+#[test]
+fn a_switch_loads_the_component_of_the_thread_before_it_acquires_counts(rt: HostRuntime) {
+    if let Some(layout) = Layout::new(1, 8) {
+        let (thread, core) = (FrameNo::new(NEW), CoreNo::new(0));
+        let at_stack = SwitchAt::Claim {
+            claim: Claim::AtStack { thread, depth: 1 },
+        };
+        let at_table = SwitchAt::LoadTable { to: claimed() };
+        let at_pages = SwitchAt::LoadPages {
+            to: claimed(),
+            table: FrameNo::new(0),
+        };
         let at = step(&layout, acts(switch(&at_stack)), COMP_3);
         let next = acts(switch(&at_table));
         assert_eq!(rt; at, (WordOp::Load { at: 385 }, Told::Going, next));
@@ -216,9 +228,7 @@ fn a_switch_claims_the_thread_and_loads_its_component_before_it_acquires_counts(
 }
 
 #[test]
-fn a_switch_is_refused_by_a_thread_that_runs_or_is_claimed_and_gives_back_one_that_it_has_claimed(
-    rt: HostRuntime,
-) {
+fn a_switch_is_refused_by_a_thread_that_runs_or_is_claimed(rt: HostRuntime) {
     if let Some(layout) = Layout::new(1, 8) {
         let (thread, core) = (FrameNo::new(NEW), CoreNo::new(0));
         let at_load = SwitchAt::Claim {
@@ -246,8 +256,17 @@ fn a_switch_is_refused_by_a_thread_that_runs_or_is_claimed_and_gives_back_one_th
         let at = step(&layout, acts(switch(&at_compare)), RUNNING_ON_1);
         let next = refused(&compare, &Reply::Raced, &Tail::Nothing);
         assert_eq!(rt; at, next);
+    }
+}
+
+#[test]
+fn a_switch_that_is_refused_gives_back_the_thread_that_it_has_claimed(rt: HostRuntime) {
+    if let Some(layout) = Layout::new(1, 8) {
         // A frame past the machine's is none of its place.
-        let gives_back = Tail::StoreIdle { thread, depth: 1 };
+        let gives_back = Tail::StoreIdle {
+            thread: FrameNo::new(NEW),
+            depth: 1,
+        };
         let at_table = SwitchAt::LoadTable { to: claimed() };
         let at = step(&layout, acts(switch(&at_table)), 8);
         let next = refused(&WordOp::Load { at: 192 }, &Reply::Raced, &gives_back);
@@ -263,9 +282,8 @@ fn a_switch_is_refused_by_a_thread_that_runs_or_is_claimed_and_gives_back_one_th
 }
 
 #[test]
-fn a_switch_leaves_its_thread_draws_a_stamp_and_stores_both_threads(rt: HostRuntime) {
+fn a_switch_stores_its_thread_as_claimed_before_it_draws_a_stamp(rt: HostRuntime) {
     if let Some(layout) = Layout::new(1, 8) {
-        let (thread, old, core) = (FrameNo::new(NEW), FrameNo::new(OLD), CoreNo::new(0));
         let leave = WordOp::Store {
             at: 256,
             word: CLAIMED,
@@ -273,8 +291,21 @@ fn a_switch_leaves_its_thread_draws_a_stamp_and_stores_both_threads(rt: HostRunt
         let at = step(&layout, acts(switch(&leaves())), CLAIMED);
         let next = acts(switch(&draws()));
         assert_eq!(rt; at, (leave, Told::Going, next));
-        let ok = Reply::Ok(Value::Nothing);
-        let stamp = Some(Stamp::new(9));
+    }
+}
+
+// A switch decided with this still to store, after its draw of the stamp 9.
+fn stores(tail: &Tail) -> Stage
+    ensures { result ≡ Decided (Ok Nothing) (Some 9) tail.now }
+{
+    let ok = Reply::Ok(Value::Nothing);
+    decided(&ok, &Some(Stamp::new(9)), tail)
+}
+
+#[test]
+fn a_switch_draws_a_stamp_and_stores_both_threads(rt: HostRuntime) {
+    if let Some(layout) = Layout::new(1, 8) {
+        let (thread, old, core) = (FrameNo::new(NEW), FrameNo::new(OLD), CoreNo::new(0));
         let told = Told::Changed {
             reply: Reply::Ok(Value::Nothing),
             change: OwnChange::Switches {
@@ -294,7 +325,7 @@ fn a_switch_leaves_its_thread_draws_a_stamp_and_stores_both_threads(rt: HostRunt
             old_depth: 1,
         };
         let at = step(&layout, acts(switch(&draws())), 9);
-        let next = decided(&ok, &stamp, &runs);
+        let next = stores(&runs);
         assert_eq!(rt; at, (WordOp::Add { at: 594, by: 1 }, told, next));
         let running = WordOp::Store {
             at: 384,
@@ -304,15 +335,15 @@ fn a_switch_leaves_its_thread_draws_a_stamp_and_stores_both_threads(rt: HostRunt
             thread: old,
             depth: 1,
         };
-        let at = step(&layout, decided(&ok, &stamp, &runs), RUNNING);
-        let next = decided(&ok, &stamp, &rests);
+        let at = step(&layout, stores(&runs), RUNNING);
+        let next = stores(&rests);
         assert_eq!(rt; at, (running, Told::Going, next));
         let idle = WordOp::Store {
             at: 256,
             word: IDLE,
         };
-        let at = step(&layout, decided(&ok, &stamp, &rests), IDLE);
-        let next = decided(&ok, &stamp, &Tail::Nothing);
+        let at = step(&layout, stores(&rests), IDLE);
+        let next = stores(&Tail::Nothing);
         assert_eq!(rt; at, (idle, Told::Going, next));
     }
 }
@@ -328,6 +359,23 @@ fn acquires(frame: u16, change: i32, act: Act) -> Work
     }
 }
 
+// A switch that goes on with this temporal capability, before the store of the core's own thread.
+fn switch_with(tcap: u16) -> Act
+    requires { tcap < 512 }
+{
+    Act::Switch {
+        switching: Switching {
+            core: CoreNo::new(0),
+            frames: 8,
+            tcap: FrameNo::new(tcap),
+            old: FrameNo::new(OLD),
+            old_depth: 1,
+            old_tcap: FrameNo::new(OLD_TCAP),
+            at: leaves(),
+        },
+    }
+}
+
 // The counts that a switch acquires, which goes on with this temporal capability: the frame and the change of each, in order.
 #[test]
 fn a_switch_acquires_the_counts_of_its_threads_and_of_temporal_capabilities_that_differ(
@@ -335,27 +383,12 @@ fn a_switch_acquires_the_counts_of_its_threads_and_of_temporal_capabilities_that
 ) {
     let core = CoreNo::new(0);
     for tcap in [OLD_TCAP, NEW_TCAP] {
-        let act = Act::Switch {
-            switching: Switching {
-                core,
-                frames: 8,
-                tcap: FrameNo::new(tcap),
-                old: FrameNo::new(OLD),
-                old_depth: 1,
-                old_tcap: FrameNo::new(OLD_TCAP),
-                at: leaves(),
-            },
-        };
+        let act = switch_with(tcap);
         let goes = Work::Act { act };
-        let third = if tcap == OLD_TCAP {
-            goes
+        let (third, fourth) = if tcap == OLD_TCAP {
+            (goes, goes)
         } else {
-            acquires(NEW_TCAP, 1, act)
-        };
-        let fourth = if tcap == OLD_TCAP {
-            goes
-        } else {
-            acquires(OLD_TCAP, -1, act)
+            (acquires(NEW_TCAP, 1, act), acquires(OLD_TCAP, -1, act))
         };
         let due = [
             acquires(NEW, 1, act),

@@ -358,7 +358,12 @@ fn a_removal_closes_draws_and_releases_the_reference(rt: HostRuntime) {
     assert_eq!(rt; words[TARGET], QUIESCES_7);
     assert_eq!(rt; words[COUNT_OF_2], ONE_SINCE_7);
     assert_eq!(rt; words[CLOCK], 8);
-    // A range names its frames without a reference to them, so no count is acquired.
+}
+
+#[test]
+fn a_removal_of_a_range_acquires_no_count(rt: HostRuntime) {
+    // A range names its frames without a reference to them.
+    let mut words = words();
     words[TARGET] = RANGE_6_2;
     let of_range = call(&mut words, 9, remove(20), 99);
     assert_eq!(rt; of_range, Some((Reply::Ok(Value::Nothing), 10, 6)));
@@ -502,8 +507,8 @@ fn leaves(reply: &Reply) -> (WordOp, u64, Absorbed) {
 
 #[test]
 fn a_copy_scans_the_other_cores_before_it_fills(rt: HostRuntime) {
-    // Core words: out, inside since an exit at 6, and inside since one at 5.
-    let (out, inside_6, inside_5) = (0, 13, 11);
+    // Core words: out, and inside since an exit at 6.
+    let (out, inside_6) = (0, 13);
     let fills = WordOp::Compare {
         at: 84,
         expected: QUIESCES_5,
@@ -533,7 +538,12 @@ fn a_copy_scans_the_other_cores_before_it_fills(rt: HostRuntime) {
         leaves(&Reply::Raced),
     ];
     assert_eq!(rt; scans(&raced), Some(15));
-    // The highest core has been in its call since before the removal: no count is acquired.
+}
+
+#[test]
+fn a_copy_is_refused_by_a_core_that_has_been_in_its_call_since_the_removal(rt: HostRuntime) {
+    // The highest core is inside since an exit at 5, before the removal: no count is acquired.
+    let (out, inside_5) = (0, 11);
     let waits = Reply::Quiescing(CoreNo::new(2));
     let refused = [
         loads(680, out),
