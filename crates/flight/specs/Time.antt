@@ -69,16 +69,16 @@ pub record LeadsTo (s : State) (c name f : ℕ) : Type 0 where
   pub is_named : named s c name (only kind.Tcap) ≡ Found cap
   pub frame : cap.frame ≡ f
 
--- What a marked head shows of the temporal capability in frame f, which has this budget: its core's call was decided so, in state s. A
--- transfer that is carried out has the ticks still to take from the head of the temporal capability to which its first name led; a delegation
--- besides to add them to that of the one to which its second name led. Of all others the head shows the budget.
+-- What a marked head shows of the temporal capability in frame f, which has this budget, where its core's call was decided so in state s.
+-- A transfer that is carried out has still to take the ticks from the head of that to which its first name led; so has a delegation, and
+-- besides to add them to the head of that to which its second name led. In all other calls the head shows the budget.
 abbrev pub Owes : State → ℕ → Reply → Call → ℕ → ℕ → ℕ → Type 0
 Owes s c (Ok v) (Transfer x y m) f shown budget = LeadsTo s c x f × (shown ≡ budget + m)
 Owes s c (Ok v) (Delegate x y m) f shown budget =
     (LeadsTo s c x f × (shown ≡ budget + m)) ⊎ (LeadsTo s c y f × (shown + m ≡ budget))
 Owes s c r call f shown budget = shown ≡ budget
 
--- A head shows the mark of this core, and this budget but for the ticks that the core's call, which was decided so, has still to store there.
+-- A head shows the mark of this core, and this budget but for the ticks that the core's call, decided so, has still to store there.
 pub record ShowsOwed (s : State) (c : ℕ) (call : Call) (r : Reply) (f budget : ℕ) (head : Option HeadWord) : Type 0 where
   pub shown : ℕ
   pub shows : ShowsMarked c shown head
