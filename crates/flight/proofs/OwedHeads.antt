@@ -171,7 +171,7 @@ module _ (setup : Setting) (setting : IsSetting setup) (cores : ℕ → Core) (t
     by_tail r (Quiesce (AtCompare n index word by)) h has owes free = absurd has
     by_tail r (Quiesce (AtDraw n index)) h has owes free = absurd has
     by_tail r (Quiesce (AtStore n index x)) h has owes free =
-        none r a.call (holds_tail (Quiesce (AtStore n index x)) h) (beside h n index _ free (node_no_tcap (s.frame n) has.relies.node))
+        none r a.call (holds_tail (Quiesce (AtStore n index x)) h) (beside h n index 0 free (node_no_tcap (s.frame n) has.relies.node))
     by_tail r (Unmark g word) h has owes free = none r a.call (keeps (FrameAt g) word h) free
     by_tail r (StoreDead life x) h has owes free = none r a.call (holds_tail (StoreDead life x) h) free
     by_tail r (StoreFlush by x) h has owes free = none r a.call (holds_tail (StoreFlush by x) h) free
@@ -184,10 +184,10 @@ module _ (setup : Setting) (setting : IsSetting setup) (cores : ℕ → Core) (t
     by_tail r (Share p) h has owes free = shared r a.call p p.at h has.at has.core (owes has.budgets) free
     by_tail r (StoreRunning g core depth old old_depth) h has owes free =
         none r a.call (holds_tail (StoreRunning g core depth old old_depth) h)
-        (beside (holds_idle old old_depth h) g 0 _ (beside h old 0 _ free (thread_no_tcap (s.frame old) has.rest.thread.thread))
+        (beside (holds_idle old old_depth h) g 0 0 (beside h old 0 0 free (thread_no_tcap (s.frame old) has.rest.thread.thread))
         (own_no_tcap g has.own))
     by_tail r (StoreIdle g depth) h has owes free =
-        none r a.call (holds_idle g depth h) (beside h g 0 _ free (thread_no_tcap (s.frame g) has.thread.thread))
+        none r a.call (holds_idle g depth h) (beside h g 0 0 free (thread_no_tcap (s.frame g) has.thread.thread))
 
     by_stage : (call : Call) (r : Reply) (table : ℕ) (stage : Stage) → phase t d ≡ history.Decided call r → phase t d ≡ phase_at a.call stage
         → KnowsAt setup t d table a stage → (changes_budgets a.call ≡ true → OwesStage decided_in d a.call stage)

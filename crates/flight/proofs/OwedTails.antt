@@ -1,5 +1,5 @@
--- What the heads owe that a decided call on two temporal capabilities has marked, along a trace that is the machine's: its deciding step tells
--- it, and each store after it leaves it so.
+-- What the heads owe that a decided call on two temporal capabilities has marked, along a trace that is the machine's: its deciding step
+-- tells it, and each store after it leaves it so.
 use Rattle.std.proofs.Common.{◌≡◌, ◌≢◌, inl, inr, ℕ, zero, suc, ◌+◌, ◌-◌, ◌<◌, ◌≤◌, ◌^◌, ◌==◌, ◌&&◌, nat_lt, Bool, true, false, if◌then◌else◌, List, [], ◌∷◌, length, Option, Some, None, arith, refl, sym, ◌∙◌, ap, subst}
 use Rattle.std.specs.Prelude.{min, is_some, IsSome}
 use Rattle.std.proofs.lemmas.Bool.{false≢true, cases_eq, eq-eqb, ne_eqb}
@@ -39,7 +39,7 @@ use Rattle.stage_quiet.specs.declared.close.Close.TheVariants.{AtCompare, AtDraw
 use Rattle.stage_tcap.specs.Charging.{end_by_mark, head_end, charge_end, charge_after}
 use Rattle.stage_tcap.specs.Heads.{debited, credited}
 use Rattle.stage_tcap.specs.Lists.{in_order, same_list}
-use Rattle.stage_tcap.specs.Pairs.{amount_of, pair_after, pair_end, pair_move, judged, by_alike, by_room, at_decided, compared_after, giving_back, at_by_mark, at_by_head, at_marked, at_read, b_next, a_next, marked_end, decided_by_mark, b_end, list_end, again_end, again_value}
+use Rattle.stage_tcap.specs.Pairs.{amount_of, noted_by, pair_after, pair_end, pair_move, judged, by_alike, by_room, at_decided, compared_after, giving_back, at_by_mark, at_by_head, at_marked, at_read, b_next, a_next, marked_end, decided_by_mark, b_end, list_end, again_end, again_value}
 use Rattle.stage_tcap.specs.declared.pair.Pair.{Pair}
 use Rattle.stage_tcap.specs.declared.pair.PairAt.{PairAt}
 use Rattle.stage_tcap.specs.declared.pair.PairAt.TheVariants.{LoadA, MarkA, ListA, LoadB, ListB, CompareB, AgainB, StoreList, StoreB, StoreA}
@@ -85,6 +85,7 @@ use Rattle.core_invariant.specs.Stands.{Stands}
 use Rattle.core_invariant.proofs.Loads.{is_active}
 use Rattle.share_invariant.proofs.Compared as compared
 use Rattle.share_invariant.proofs.ShareCalls as calls
+use Rattle.share_invariant.proofs.ShareSteps.{shares_same}
 use Rattle.flight.specs.Made.{turned, MayStep, core_after, cores_after, core_at, IsMadeStep, IsMade}
 use Rattle.flight.specs.Theorems.{found_by}
 use Rattle.flight.specs.Time.{LeadsTo, Owes, state_of_decision}
@@ -204,14 +205,14 @@ refused f = refl
 wins : (s : State) (c : ℕ) (call : Call) (ks : List Capability) (p : Pair) (v : Value) → SharesBy call ks p
     → Leads (LeadsIn s c) (plan_for call).names [] ks
     → amount_of p.what ≤ p.head_a.budget → p.head_b.budget + amount_of p.what < 2 ^ 32
-    → OwesAt s c (reply.Ok v) call p (at_decided p.what)
+    → OwesAt s c (reply.Ok v) call (record p { at = at_decided p.what }) (at_decided p.what)
 wins s c (call_as.Transfer x y m) (a ∷ b ∷ []) p v is leads enough room =
-    subst (λ w. OwesAt s c (reply.Ok v) (call_as.Transfer x y m) p (at_decided w)) (sym is.work) (
+    subst (λ w. OwesAt s c (reply.Ok v) (call_as.Transfer x y m) (record p { at = at_decided p.what }) (at_decided w)) (sym is.work) (
       record { cap = a; is_named = leads.0; frame = sym is.first },
       (let ticks : amount_of p.what ≡ m = ap amount_of is.work in omega (arith, enough, ticks)),
     )
 wins s c (call_as.Delegate x y m) (a ∷ b ∷ []) p v is leads enough room =
-    subst (λ w. OwesAt s c (reply.Ok v) (call_as.Delegate x y m) p (at_decided w)) (sym is.work) (
+    subst (λ w. OwesAt s c (reply.Ok v) (call_as.Delegate x y m) (record p { at = at_decided p.what }) (at_decided w)) (sym is.work) (
       inl (
         record { cap = a; is_named = leads.0; frame = sym is.first },
         (let ticks : amount_of p.what ≡ m = ap amount_of is.work in omega (arith, enough, ticks)),
@@ -222,7 +223,7 @@ wins s c (call_as.Delegate x y m) (a ∷ b ∷ []) p v is leads enough room =
       ),
     )
 wins s c (call_as.Test x y) (a ∷ b ∷ []) p v is leads enough room =
-    subst (λ w. OwesAt s c (reply.Ok v) (call_as.Test x y) p (at_decided w)) (sym is.work) (λ f n. refl)
+    subst (λ w. OwesAt s c (reply.Ok v) (call_as.Test x y) (record p { at = at_decided p.what }) (at_decided w)) (sym is.work) (λ f n. refl)
 wins s c call ks p v is leads enough room = absurd is
 
 -- The second load carries a test out alone.
@@ -262,7 +263,8 @@ module _ (now before : State) (c : ℕ) (a : ActiveCall) where
       by None = λ budgets. tt
       by (Some d) = λ budgets. tt
 
-  marks_head : (p : Pair) (same short : Bool) (budget : ℕ) → Owed (took_shared (record p { at = at_marked same short }) (marked_end same short budget))
+  marks_head : (p : Pair) (same short : Bool) (budget : ℕ)
+      → Owed (took_shared (record p { at = at_marked same short }) (marked_end same short budget))
   marks_head p true true budget = gives_back p (reply.Short budget) refl
   marks_head p true false budget = λ budgets. tt
   marks_head p false short budget = λ budgets. tt
@@ -280,7 +282,8 @@ module _ (now before : State) (c : ℕ) (a : ActiveCall) where
   reads_list p next None = gives_back p reply.Raced refl
   reads_list p next (Some v) = λ budgets. tt
 
-  compares : (p : Pair) → OwesAt now c (reply.Ok value.Nothing) a.call p (at_decided p.what) → (same : Bool)
+  compares : (p : Pair) → OwesAt now c (reply.Ok value.Nothing) a.call (record p { at = at_decided p.what }) (at_decided p.what)
+      → (same : Bool)
       → Owed (took_shared (record p { at = compared_after same p.what }) (again_end same (reply.Ok value.Nothing)))
   compares p owes true = λ budgets. owes
   compares p owes false = gives_back p reply.Raced refl
@@ -318,10 +321,11 @@ module _ (setup : Setting) (setting : IsSetting setup) (cores : ℕ → Core) (t
       old = word_of_head p.head_b
 
       shares : SharesBy a.call a.found p
-      shares = Rattle.share_invariant.proofs.ShareSteps.shares_same a.call a.found (record p { at = CompareB }) p refl refl refl
+      shares = shares_same a.call a.found (record p { at = CompareB }) p refl refl refl
           has.knows.knows.shares
 
-      won : (last_left setup t (EntryAt p.b 0) == old) ≡ true → OwesAt s c (reply.Ok value.Nothing) a.call p (at_decided p.what)
+      won : (last_left setup t (EntryAt p.b 0) == old) ≡ true
+          → OwesAt s c (reply.Ok value.Nothing) a.call (record p { at = at_decided p.what }) (at_decided p.what)
       won equal =
           let sum = compared.sum setup setting cores t stands c here a active p is has equal in
           let same_b = compared.budget_b setup setting cores t stands c here a active p is has equal in
@@ -340,16 +344,22 @@ module _ (setup : Setting) (setting : IsSetting setup) (cores : ℕ → Core) (t
     where
       by : (at : PairAt) → a.stage ≡ Undecided (Act (share_act (record p { at = at })))
           → KnowsUndecided setup t c (cores c).own.table a (Act (share_act (record p { at = at }))) → ShareOwes (record p { at = at })
-      by LoadA is has = loads_head s before c a (pair_after (record p { at = LoadA }) (last_left setup t (EntryAt p.a 0))) _
-      by MarkA is has = marks_head s before c a p _ _ _
-      by (ListA n) is has = reads_list s before c a (pair_after (record p { at = ListA n }) (last_left setup t (EntryAt p.a n))) _ _
-      by LoadB is has = loads_second s before c a (pair_after (record p { at = LoadB }) (last_left setup t (EntryAt p.b 0))) _ _
-      by (ListB n) is has = reads_list s before c a (pair_after (record p { at = ListB n }) (last_left setup t (EntryAt p.b n))) _ _
+      by LoadA is has = loads_head s before c a (pair_after (record p { at = LoadA }) (last_left setup t (EntryAt p.a 0)))
+          (head_of_word (last_left setup t (EntryAt p.a 0)))
+      by MarkA is has = marks_head s before c a p (last_left setup t (EntryAt p.a 0) == word_of_head p.head_a) (nat_lt p.head_a.budget (amount_of p.what))
+          p.head_a.budget
+      by (ListA n) is has = reads_list s before c a (pair_after (record p { at = ListA n }) (last_left setup t (EntryAt p.a n))) (a_next (nat_lt n 8) n)
+          (quality_of_word (last_left setup t (EntryAt p.a n)))
+      by LoadB is has = loads_second s before c a (pair_after (record p { at = LoadB }) (last_left setup t (EntryAt p.b 0))) (ListB 1)
+          (head_of_word (last_left setup t (EntryAt p.b 0)))
+      by (ListB n) is has = reads_list s before c a (pair_after (record p { at = ListB n }) (last_left setup t (EntryAt p.b n)))
+          (b_next (nat_lt n 8) n (noted_by (record p { at = ListB n }) (last_left setup t (EntryAt p.b n))))
+          (quality_of_word (last_left setup t (EntryAt p.b n)))
       by CompareB is has = compare_owes p is has
       by (AgainB r) is has =
           loads_again s before c a p r
           (λ v ok. answers s c a.call a.found (record p { at = AgainB r }) v has.knows.knows.shares
-          (has.knows.knows.at.judges ∙ ap (λ (x : Reply). AgainB x) ok)) _
+          (has.knows.knows.at.judges ∙ ap (λ (x : Reply). AgainB x) ok)) (last_left setup t (EntryAt p.b 0) == word_of_head p.head_b)
       by (StoreList n) is has = absurd has.knows.knows.at
       by StoreB is has = absurd has.knows.knows.at
       by (StoreA moved v) is has = absurd has.knows.knows.at

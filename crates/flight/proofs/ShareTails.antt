@@ -21,14 +21,16 @@ use Rattle.stage_pins.specs.declared.held.Acquired.{Acquired}
 use Rattle.stage_quiet.specs.declared.quiet.Quiet.{Quiet}
 use Rattle.stage_sweep.specs.declared.thaw.Thaw.{Thaw}
 use Rattle.stage_tcap.specs.Heads.{debited, credited}
-use Rattle.stage_tcap.specs.Pairs.{amount_of, store_next}
+use Rattle.stage_tcap.specs.Pairs.{amount_of, store_next, pair_after}
 use Rattle.stage_tcap.specs.declared.pair.Pair.{Pair}
 use Rattle.stage_tcap.specs.declared.pair.PairAt.{PairAt}
 use Rattle.stage_tcap.specs.declared.pair.PairAt.TheVariants.{LoadA, MarkA, ListA, LoadB, ListB, CompareB, AgainB, StoreList, StoreB, StoreA}
 use Rattle.stage_tcap.specs.declared.pair.PairWork.{PairWork}
+use Rattle.stage_tcap.specs.declared.pair.PairWork.TheVariants as share
 use Rattle.stage_thread.specs.declared.stack.Push.TheVariants as push
 use Rattle.stage_thread.specs.declared.stack.Pop.TheVariants as pop
-use Rattle.call_plans.specs.Plans.{pushed}
+use Rattle.call_plans.specs.declared.plans.Nth.TheVariants.{First, Second}
+use Rattle.call_plans.specs.Plans.{pushed, at_place}
 use Rattle.call_plans.specs.After.{Next, NextName, NextFree, NextHeld, NextOwn, NextNothing, next_of}
 use Rattle.call_acts.specs.declared.lookups.Met.{Met}
 use Rattle.call_acts.specs.declared.lookups.Met.TheVariants.{Finds, Refused}
@@ -105,9 +107,9 @@ pub share_on : (s : State) (c : ℕ) (r : Reply) (call : Call) (p : Pair) (found
     → OwesTail s c r call (after_share p found)
 share_on s c r call p found owes = by p.at owes
   where
-    next : (more : Bool) (n : ℕ) → OwesFirst s c r call p × OwesSecond s c r call p → OwesAt s c r call p (store_next more n)
-    next true n owes = owes
-    next false n owes = owes
+    next : (q : Pair) (more : Bool) (n : ℕ) → OwesFirst s c r call q × OwesSecond s c r call q → OwesAt s c r call q (store_next more n)
+    next q true n owes = owes
+    next q false n owes = owes
 
     by : (at : PairAt) → OwesAt s c r call p at → OwesTail s c r call (after_share (record p { at = at }) found)
     by LoadA owes = absurd owes
@@ -117,7 +119,7 @@ share_on s c r call p found owes = by p.at owes
     by (ListB n) owes = absurd owes
     by CompareB owes = absurd owes
     by (AgainB x) owes = absurd owes
-    by (StoreList n) owes = next (nat_lt n 8) n owes
+    by (StoreList n) owes = next (pair_after (record p { at = StoreList n }) found) (nat_lt n 8) n owes
     by StoreB owes = owes.0
     by (StoreA moved v) owes = tt
 
@@ -209,9 +211,9 @@ shares_none core what (Some a) None = tt
 begun_none : (own : Own) (call : Call) (ks : List Capability) (read : Option ℕ) (target : Option Found) → changes_budgets call ≡ true
     → LeavesNone (act_begun own call ks read target)
 begun_none own (Tick n) ks read target budgets = tt
-begun_none own (Transfer x y m) ks read target budgets = shares_none own.core _ _ _
-begun_none own (Delegate x y m) ks read target budgets = shares_none own.core _ _ _
-begun_none own (Test x y) ks read target budgets = shares_none own.core _ _ _
+begun_none own (Transfer x y m) ks read target budgets = shares_none own.core (share.Transfer m) (at_place ks First) (at_place ks Second)
+begun_none own (Delegate x y m) ks read target budgets = shares_none own.core (share.Delegate m) (at_place ks First) (at_place ks Second)
+begun_none own (Test x y) ks read target budgets = shares_none own.core share.Test (at_place ks First) (at_place ks Second)
 begun_none own call ks read target budgets = absurd (false≢true budgets)
 
 touch_none : (within : Bool) (own : Own) (v : ℕ) → LeavesNone (touches_if within own v)
