@@ -131,8 +131,8 @@ module _ (setup : Setting) (setting : IsSetting setup) (cores : ℕ → Core) (t
       head_at r call p.a p.core p.head_a p.head_a h core has.raw has.fits has.fits (owes p.a p.head_a.budget) (none r call h free)
 
   -- the heads of both
-  both : (r : Reply) (call : Call) (p : Pair) (h : Holding) → StoresB setup t d call p → p.core ≡ d → OwesAt decided_in d r call p pair.StoreB
-      → IsFree h → Tells r call (holds_heads p h)
+  both : (r : Reply) (call : Call) (p : Pair) (h : Holding) → StoresB setup t d call p → p.core ≡ d
+      → OwesAt decided_in d r call p pair.StoreB → IsFree h → Tells r call (holds_heads p h)
   both r call p h has core owes free =
       head_at r call p.b p.core p.head_b (credited p.head_b (amount_of p.what)) (holds_head p true h) core has.raw has.fits
       (credited_fits p.head_b (amount_of p.what)) owes.1 (first_less r call p h has.a core owes.0 free)
@@ -189,8 +189,9 @@ module _ (setup : Setting) (setting : IsSetting setup) (cores : ℕ → Core) (t
     by_tail r (StoreIdle g depth) h has owes free =
         none r a.call (holds_idle g depth h) (beside h g 0 0 free (thread_no_tcap (s.frame g) has.thread.thread))
 
-    by_stage : (call : Call) (r : Reply) (table : ℕ) (stage : Stage) → phase t d ≡ history.Decided call r → phase t d ≡ phase_at a.call stage
-        → KnowsAt setup t d table a stage → (changes_budgets a.call ≡ true → OwesStage decided_in d a.call stage)
+    by_stage : (call : Call) (r : Reply) (table : ℕ) (stage : Stage) → phase t d ≡ history.Decided call r
+        → phase t d ≡ phase_at a.call stage → KnowsAt setup t d table a stage
+        → (changes_budgets a.call ≡ true → OwesStage decided_in d a.call stage)
         → Tells r call (holds_at stage a.counts)
     by_stage call r table Enter is at knows owes = absurd knows
     by_stage call r table (Undecided work) is at knows owes = absurd (unlike (sym is ∙ at))

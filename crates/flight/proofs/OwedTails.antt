@@ -334,7 +334,8 @@ module _ (setup : Setting) (setting : IsSetting setup) (cores : ℕ → Core) (t
           (omega (arith, sum, same_b, less))
 
       by : (same : Bool) → (last_left setup t (EntryAt p.b 0) == old) ≡ same
-          → OwesTook s before c (landed a (took_shared (record p { at = compared_after same p.what }) (again_end same (reply.Ok value.Nothing))))
+          → OwesTook s before c
+          (landed a (took_shared (record p { at = compared_after same p.what }) (again_end same (reply.Ok value.Nothing))))
       by true equal = compares s before c a p (won equal) true
       by false other = λ budgets f n. refl
 
@@ -346,10 +347,10 @@ module _ (setup : Setting) (setting : IsSetting setup) (cores : ℕ → Core) (t
           → KnowsUndecided setup t c (cores c).own.table a (Act (share_act (record p { at = at }))) → ShareOwes (record p { at = at })
       by LoadA is has = loads_head s before c a (pair_after (record p { at = LoadA }) (last_left setup t (EntryAt p.a 0)))
           (head_of_word (last_left setup t (EntryAt p.a 0)))
-      by MarkA is has = marks_head s before c a p (last_left setup t (EntryAt p.a 0) == word_of_head p.head_a) (nat_lt p.head_a.budget (amount_of p.what))
-          p.head_a.budget
-      by (ListA n) is has = reads_list s before c a (pair_after (record p { at = ListA n }) (last_left setup t (EntryAt p.a n))) (a_next (nat_lt n 8) n)
-          (quality_of_word (last_left setup t (EntryAt p.a n)))
+      by MarkA is has = marks_head s before c a p (last_left setup t (EntryAt p.a 0) == word_of_head p.head_a)
+          (nat_lt p.head_a.budget (amount_of p.what)) p.head_a.budget
+      by (ListA n) is has = reads_list s before c a (pair_after (record p { at = ListA n }) (last_left setup t (EntryAt p.a n)))
+          (a_next (nat_lt n 8) n) (quality_of_word (last_left setup t (EntryAt p.a n)))
       by LoadB is has = loads_second s before c a (pair_after (record p { at = LoadB }) (last_left setup t (EntryAt p.b 0))) (ListB 1)
           (head_of_word (last_left setup t (EntryAt p.b 0)))
       by (ListB n) is has = reads_list s before c a (pair_after (record p { at = ListB n }) (last_left setup t (EntryAt p.b n)))
@@ -366,12 +367,14 @@ module _ (setup : Setting) (setting : IsSetting setup) (cores : ℕ → Core) (t
 
   -- The work of a call that is not decided.
   abbrev WorkOwes : Work → Type 0
-  WorkOwes work = OwesTook s before c (took_at (cores c).own a (Undecided work) (ToldBy (stage_move (cores c).own a.counts (Undecided work))))
+  WorkOwes work = OwesTook s before c
+      (took_at (cores c).own a (Undecided work) (ToldBy (stage_move (cores c).own a.counts (Undecided work))))
 
   act_owes : (act : ActOf) → a.stage ≡ Undecided (Act act) → KnowsUndecided setup t c (cores c).own.table a (Act act) → WorkOwes (Act act)
   act_owes (share_act p) is has = share_owes p is has
   act_owes (tick_act charge) is has = landed_none s before c a _ (λ budgets. tick_none (ticks_of charge) _ _)
-  act_owes act is has = landed_none s before c a _ (λ budgets. absurd (budget_acts setup t c a.call a.plan a.found setup.cores budgets act has.knows.knows))
+  act_owes act is has = landed_none s before c a _ (λ budgets. absurd
+      (budget_acts setup t c a.call a.plan a.found setup.cores budgets act has.knows.knows))
 
   work_owes : (work : Work) → a.stage ≡ Undecided work → KnowsUndecided setup t c (cores c).own.table a work → WorkOwes work
   work_owes (Lookup look) is has = end_none s before c (cores c).own a _ _
@@ -415,7 +418,8 @@ call_owes setup setting cores t stands c here before some owes =
     by (cores c).active refl some (stands.each c here).active owes
   where
     by : (o : Option ActiveCall) → (cores c).active ≡ o → IsSome o → CallIs setup t c (cores c).own.table o → OwesIn before c o
-        → OwesIn (if is_some (decided_in (told_in (cores c).own o (told_to setup t (cores c).own o))) then state_after setup t else before) c
+        → OwesIn (if is_some (decided_in (told_in (cores c).own o (told_to setup t (cores c).own o)))
+        then state_after setup t else before) c
         (absorbed_in (cores c).own o (told_to setup t (cores c).own o)).active
     by None active some is owes = absurd (cc)
     by (Some a) active some is owes =
