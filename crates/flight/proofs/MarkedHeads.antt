@@ -61,18 +61,18 @@ use Rattle.flight.specs.Made.{cores_after}
 use Rattle.flight.specs.Time.{ShowsMarked, OpenHeadsSay}
 use Rattle.flight.proofs.Made.{made_stands}
 
-node_no_tcap : (x : Frame) → IsTrue (is_node x) → is_tcap x ≡ false
+pub node_no_tcap : (x : Frame) → IsTrue (is_node x) → is_tcap x ≡ false
 node_no_tcap (Kernel Table) node = refl
 node_no_tcap (Kernel Leaf) node = refl
 node_no_tcap (Kernel Pages) node = refl
 node_no_tcap (Kernel Pleaf) node = refl
 node_no_tcap _ node = absurd (false≢true node)
 
-thread_no_tcap : (x : Frame) → IsTrue (fits kind.Thread x) → is_tcap x ≡ false
+pub thread_no_tcap : (x : Frame) → IsTrue (fits kind.Thread x) → is_tcap x ≡ false
 thread_no_tcap (Kernel (Thread k)) fit = refl
 thread_no_tcap _ fit = absurd (false≢true fit)
 
-same_frame : (f i g j : ℕ) → EntryAt f i ≡ EntryAt g j → f ≡ g
+pub same_frame : (f i g j : ℕ) → EntryAt f i ≡ EntryAt g j → f ≡ g
 same_frame f i g j h = cc
 
 -- The word is a head with the core's mark, and stands for that head without it.

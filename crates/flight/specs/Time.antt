@@ -1,10 +1,11 @@
 -- The time of a machine: what its temporal capabilities hold and its cores have spent and owe.
-use Rattle.std.specs.Prelude.{◌≡◌, ℕ, suc, ◌+◌, ◌<◌, ◌∷◌, slice_get, Option, Some, None}
+use Rattle.std.specs.Prelude.{◌≡◌, ℕ, suc, ◌+◌, ◌<◌, ◌==◌, ◌&&◌, ◌⊎◌, [], ◌∷◌, slice_get, Option, Some, None, is_some, if◌then◌else◌}
 use Rattle.spk_nums.specs.Setting.{Setting, IsSetting}
 use Rattle.spk_nums.specs.Capability.{Capability}
 use Rattle.spk_nums.specs.declared.kinds.Kind.TheVariants as kind
 use Rattle.spk_nums.specs.declared.calls.Call.{Call}
-use Rattle.spk_nums.specs.declared.calls.Call.TheVariants.{Test}
+use Rattle.spk_nums.specs.declared.calls.Call.TheVariants.{Transfer, Delegate, Test}
+use Rattle.spk_nums.specs.declared.replies.Reply.{Reply}
 use Rattle.spk_nums.specs.declared.replies.Reply.TheVariants.{Ok}
 use Rattle.spk_nums.specs.declared.replies.Value.{Value}
 use Rattle.tcap_words.specs.Quality.{quality_of_word}
@@ -14,12 +15,13 @@ use Rattle.word_map.specs.Word.{EntryAt}
 use Rattle.kernel_rules.specs.Access.{only}
 use Rattle.kernel_rules.specs.Laws.{ticks}
 use Rattle.kernel_rules.specs.Rules.{Found, named}
+use Rattle.kernel_rules.specs.Start.{start}
 use Rattle.kernel_rules.specs.State.{Kernel, Tcap, TcapFields, State}
 use Rattle.kernel_rules.specs.TimeCalls.{tcap_at, preemption, preempts}
 use Rattle.kernel_laws.specs.Laws.{grants_sum, decided_ticks}
 use Rattle.kernel_history.specs.Events.{events_of}
 use Rattle.kernel_history.specs.Marking.{marked_by}
-use Rattle.kernel_history.specs.Trace.{Step, Trace, Open, phase, after_enter, state_after, state_before, last_left}
+use Rattle.kernel_history.specs.Trace.{Step, Trace, Open, Decided, phase, after_enter, state_after, state_before, last_left}
 use Rattle.flight.specs.Made.{IsMade}
 
 -- At each moment the budgets of all temporal capabilities and the ticks that all cores have spent sum to the grants.
@@ -54,6 +56,41 @@ abbrev pub OpenHeadsSay : Type 0
 OpenHeadsSay = (setup : Setting) → IsSetting setup → (t : Trace) → IsMade setup t → (f : ℕ) (q : TcapFields) (d : ℕ) (call : Call)
     → (state_after setup t).frame f ≡ Kernel (Tcap q) → marked_by setup t (EntryAt f 0) ≡ Some d → phase t d ≡ Open call
     → ShowsMarked d q.budget (head_of_word (last_left setup t (EntryAt f 0)))
+
+-- The state in which a core decided its last call.
+abbrev pub state_of_decision : Setting → Trace → ℕ → State
+state_of_decision setup [] c = start setup
+state_of_decision setup (e ∷ t) c =
+    if c == e.core && is_some e.decides then state_before setup t e else state_of_decision setup t c
+
+-- A name of a core leads in this state to the temporal capability in this frame.
+pub record LeadsTo (s : State) (c name f : ℕ) : Type 0 where
+  pub cap : Capability
+  pub is_named : named s c name (only kind.Tcap) ≡ Found cap
+  pub frame : cap.frame ≡ f
+
+-- What a marked head shows of the temporal capability in frame f, which has this budget, where its core's call was decided so in state s.
+-- A transfer that is carried out has still to take the ticks from the head of that to which its first name led; so has a delegation, and
+-- besides to add them to the head of that to which its second name led. In all other calls the head shows the budget.
+abbrev pub Owes : State → ℕ → Reply → Call → ℕ → ℕ → ℕ → Type 0
+Owes s c (Ok v) (Transfer x y m) f shown budget = LeadsTo s c x f × (shown ≡ budget + m)
+Owes s c (Ok v) (Delegate x y m) f shown budget =
+    (LeadsTo s c x f × (shown ≡ budget + m)) ⊎ (LeadsTo s c y f × (shown + m ≡ budget))
+Owes s c r call f shown budget = shown ≡ budget
+
+-- A head shows the mark of this core, and this budget but for the ticks that the core's call, decided so, has still to store there.
+pub record ShowsOwed (s : State) (c : ℕ) (call : Call) (r : Reply) (f budget : ℕ) (head : Option HeadWord) : Type 0 where
+  pub shown : ℕ
+  pub shows : ShowsMarked c shown head
+  pub owes : Owes s c r call f shown budget
+
+-- At each moment the head of a temporal capability that a core has marked, in a call that is decided, shows the core's mark and the budget
+-- but for the ticks that the call has still to store there.
+abbrev pub MarkedHeadsSay : Type 0
+MarkedHeadsSay = (setup : Setting) → IsSetting setup → (t : Trace) → IsMade setup t → (f : ℕ) (q : TcapFields) (d : ℕ) (call : Call)
+    (r : Reply)
+    → (state_after setup t).frame f ≡ Kernel (Tcap q) → marked_by setup t (EntryAt f 0) ≡ Some d → phase t d ≡ Decided call r
+    → ShowsOwed (state_of_decision setup t d) d call r f q.budget (head_of_word (last_left setup t (EntryAt f 0)))
 
 -- At each moment the words of a list say the list, of a temporal capability whose head no core has marked.
 abbrev pub ListsSay : Type 0

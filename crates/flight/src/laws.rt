@@ -7,7 +7,7 @@ ghost use Rattle.flight.specs.Lives.{DeadForGood};
 ghost use Rattle.flight.specs.Pages.{CachedFramesStay, CachedTillFlush, TouchesCache};
 ghost use Rattle.flight.specs.Places.{PlacesFound, ScannedCores};
 ghost use Rattle.flight.specs.Threads.{ThreadWordsSay, ThreadsRunApart};
-ghost use Rattle.flight.specs.Time.{HeadsSay, ListsSay, OpenHeadsSay, TestsTell, TicksAreCounted, TimeIsKept};
+ghost use Rattle.flight.specs.Time.{HeadsSay, ListsSay, MarkedHeadsSay, OpenHeadsSay, TestsTell, TicksAreCounted, TimeIsKept};
 ghost use Rattle.flight.specs.Theorems.{Boots, StepsOn, MadeStands, SaysWords, Represents, RepresentsCounts};
 
 /// The start stands for no step.
@@ -91,6 +91,14 @@ pub fn heads_say()
 #[tactic(auto, using(crate::proofs::MarkedHeads::open_heads_say))]
 pub fn open_heads_say()
     ensures { OpenHeadsSay }
+{}
+
+/// And one that a core has marked, in a call that is decided, shows that core's mark and the budget but for the ticks that the call has
+/// still to store there: of a transfer and a delegation that are carried out those to be taken from the first, and of a delegation those
+/// to be added to the second.
+#[tactic(auto, using(crate::proofs::OwedHeads::marked_heads_say))]
+pub fn marked_heads_say()
+    ensures { MarkedHeadsSay }
 {}
 
 /// At each moment the words of a list say the list, of a temporal capability whose head no core has marked.
