@@ -49,32 +49,32 @@ use Rattle.stage_tcap.specs.declared.charge.Charge.{Charge}
 use Rattle.call_plans.specs.declared.plans.Plan.{Plan}
 use Rattle.call_plans.specs.After.{Leads, LeadsIn}
 use Rattle.call_plans.specs.PlanOf.{plan_for}
-use Rattle.call_acts.specs.declared.comps.CompMaking.{CompMaking}
-use Rattle.call_acts.specs.declared.invocations.Invoking.{Invoking}
-use Rattle.call_acts.specs.declared.makings.Making.{Making}
-use Rattle.call_acts.specs.declared.own.Own.{Own}
-use Rattle.call_acts.specs.declared.refusals.Refusal.{Refusal}
-use Rattle.call_acts.specs.declared.refusals.Refusal.TheVariants as refusal
-use Rattle.call_acts.specs.declared.typings.Typing.{Typing}
-use Rattle.call_acts.specs.declared.untypings.Untyping.{Untyping}
-use Rattle.call_acts.specs.declared.work.Act.{Act as ActOf}
-use Rattle.call_acts.specs.declared.work.Act.TheVariants.{Fill as fill_act, Remove as remove_act, Retype as type_act, Make as make_act, Outside, Tick as tick_act, Touch as touch_act, Flush as flush_act, Kill as kill_act, Untype as untype_act, Map as map_act, MakeComp as comp_act, Invoke as invoke_act, Return as return_act, Share as share_act, Switch as switch_act}
-use Rattle.call_acts.specs.declared.work.Tail.{Tail}
-use Rattle.call_acts.specs.declared.work.Tail.TheVariants.{Share as share_tail}
-use Rattle.call_acts.specs.declared.work.Work.{Work}
-use Rattle.call_acts.specs.declared.work.Work.TheVariants.{Lookup, Read, Scan, Acquire, Act}
-use Rattle.call_acts.specs.declared.work.WorkStep.{WorkStep}
-use Rattle.call_acts.specs.Acts.{took_act, put_by, removes_by, undo}
-use Rattle.call_acts.specs.Refusals.{reply_of, refusal_of}
-use Rattle.call_acts.specs.Shares.{shared, took_shared, took_share, is_carried}
-use Rattle.call_acts.specs.Ticks.{took_charge, took_tick, ticks_of}
-use Rattle.call_steps.specs.declared.stages.Stage.{Stage}
-use Rattle.call_steps.specs.declared.stages.Stage.TheVariants.{Enter, Undecided, Decided, Leave}
-use Rattle.call_steps.specs.declared.stages.ActiveCall.{ActiveCall}
-use Rattle.call_steps.specs.Cores.{move_of, told_in, told_by, absorbed_in, fresh, core_after as after_took}
-use Rattle.call_steps.specs.Steps.{stage_move, Took, GoesOn, Decides, Returns, Changes, landed, took, took_at, took_count, took_scan, took_look, took_read, is_spent}
-use Rattle.call_steps.specs.Tails.{took_tail, tail_counts}
-use Rattle.call_steps.specs.View.{Core}
+use Rattle.act_states.specs.declared.comps.CompMaking.{CompMaking}
+use Rattle.act_states.specs.declared.invocations.Invoking.{Invoking}
+use Rattle.act_states.specs.declared.makings.Making.{Making}
+use Rattle.act_states.specs.declared.own.Own.{Own}
+use Rattle.act_states.specs.declared.refusals.Refusal.{Refusal}
+use Rattle.act_states.specs.declared.refusals.Refusal.TheVariants as refusal
+use Rattle.act_states.specs.declared.typings.Typing.{Typing}
+use Rattle.act_states.specs.declared.untypings.Untyping.{Untyping}
+use Rattle.act_states.specs.declared.work.Act.{Act as ActOf}
+use Rattle.act_states.specs.declared.work.Act.TheVariants.{Fill as fill_act, Remove as remove_act, Retype as type_act, Make as make_act, Outside, Tick as tick_act, Touch as touch_act, Flush as flush_act, Kill as kill_act, Untype as untype_act, Map as map_act, MakeComp as comp_act, Invoke as invoke_act, Return as return_act, Share as share_act, Switch as switch_act}
+use Rattle.act_states.specs.declared.work.Tail.{Tail}
+use Rattle.act_states.specs.declared.work.Tail.TheVariants.{Share as share_tail}
+use Rattle.act_states.specs.declared.work.Work.{Work}
+use Rattle.act_states.specs.declared.work.Work.TheVariants.{Lookup, Read, Scan, Acquire, Act}
+use Rattle.act_states.specs.declared.work.WorkStep.{WorkStep}
+use Rattle.act_states.specs.Acts.{took_act, put_by, removes_by, undo}
+use Rattle.act_states.specs.Refusals.{reply_of, refusal_of}
+use Rattle.act_states.specs.Shares.{shared, took_shared, took_share, is_carried}
+use Rattle.act_states.specs.Ticks.{took_charge, took_tick, ticks_of}
+use Rattle.call_stages.specs.declared.stages.Stage.{Stage}
+use Rattle.call_stages.specs.declared.stages.Stage.TheVariants.{Enter, Undecided, Decided, Leave}
+use Rattle.call_stages.specs.declared.stages.ActiveCall.{ActiveCall}
+use Rattle.call_stages.specs.Cores.{move_of, told_in, told_by, absorbed_in, fresh, core_after as after_took}
+use Rattle.call_stages.specs.Steps.{stage_move, Took, GoesOn, Decides, Returns, Changes, landed, took, took_at, took_count, took_scan, took_look, took_read, is_spent}
+use Rattle.call_stages.specs.Tails.{took_tail, tail_counts}
+use Rattle.call_stages.specs.View.{Core}
 use Rattle.core_invariant.specs.Events.{decided_in}
 use Rattle.core_invariant.specs.Knows.{KnowsAct, KnowsUndecided, KnowsAt, Knows, CallIs, TypesBy, MakesBy, OutsideBy, KillsBy, MakesCompBy, is_mapping}
 use Rattle.core_invariant.specs.Components.{InvokesBy}

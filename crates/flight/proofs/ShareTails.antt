@@ -32,31 +32,31 @@ use Rattle.stage_thread.specs.declared.stack.Pop.TheVariants as pop
 use Rattle.call_plans.specs.declared.plans.Nth.TheVariants.{First, Second}
 use Rattle.call_plans.specs.Plans.{pushed, at_place}
 use Rattle.call_plans.specs.After.{Next, NextName, NextFree, NextHeld, NextOwn, NextNothing, next_of}
-use Rattle.call_acts.specs.declared.lookups.Met.{Met}
-use Rattle.call_acts.specs.declared.lookups.Met.TheVariants.{Finds, Refused}
-use Rattle.call_acts.specs.declared.own.Own.{Own}
-use Rattle.call_acts.specs.declared.refusals.Refusal.TheVariants as refusal
-use Rattle.call_acts.specs.declared.untypings.Release.{Release as ReleaseOf}
-use Rattle.call_acts.specs.declared.work.Act.{Act as ActOf}
-use Rattle.call_acts.specs.declared.work.Act.TheVariants.{Outside}
-use Rattle.call_acts.specs.declared.work.Tail.{Tail}
-use Rattle.call_acts.specs.declared.work.Tail.TheVariants.{Nothing, Quiesce, Unmark, StoreDead, StoreFlush, Release, StoreLive, Push, Pop, Share, StoreRunning, StoreIdle}
-use Rattle.call_acts.specs.declared.work.Work.{Work}
-use Rattle.call_acts.specs.declared.work.Work.TheVariants.{Lookup, Read, Scan, Acquire, Act}
-use Rattle.call_acts.specs.declared.work.WorkStep.{WorkStep}
-use Rattle.call_acts.specs.declared.work.WorkStep.TheVariants.{Goes, Acquires, Refuses, Answers, Changes as work_changes}
-use Rattle.call_acts.specs.Acts.{act_begun, reads_of, starts}
-use Rattle.call_acts.specs.Lookups.{looks_under, looks_entry, looks_at, read_first, next_step, met_name, met_free, met_held}
-use Rattle.call_acts.specs.Refusals.{reply_of, refusal_of}
-use Rattle.call_acts.specs.Shares.{shares_if, shares_at, after_share}
-use Rattle.call_acts.specs.Touches.{touches_if, touches}
-use Rattle.call_acts.specs.Untypings.{after_store, release_after}
-use Rattle.call_acts.specs.WorkSteps.{refuse}
-use Rattle.call_steps.specs.declared.stages.Stage.{Stage}
-use Rattle.call_steps.specs.declared.stages.Stage.TheVariants.{Enter, Undecided, Decided, Leave}
-use Rattle.call_steps.specs.declared.stages.ActiveCall.{ActiveCall}
-use Rattle.call_steps.specs.Steps.{Took, GoesOn, Decides, Returns, Changes, landed, next_by, found_more, read_more, took_enter, named_one, took_found, took_end, took_read, took_scan}
-use Rattle.call_steps.specs.Tails.{took_tail}
+use Rattle.act_states.specs.declared.lookups.Met.{Met}
+use Rattle.act_states.specs.declared.lookups.Met.TheVariants.{Finds, Refused}
+use Rattle.act_states.specs.declared.own.Own.{Own}
+use Rattle.act_states.specs.declared.refusals.Refusal.TheVariants as refusal
+use Rattle.act_states.specs.declared.untypings.Release.{Release as ReleaseOf}
+use Rattle.act_states.specs.declared.work.Act.{Act as ActOf}
+use Rattle.act_states.specs.declared.work.Act.TheVariants.{Outside}
+use Rattle.act_states.specs.declared.work.Tail.{Tail}
+use Rattle.act_states.specs.declared.work.Tail.TheVariants.{Nothing, Quiesce, Unmark, StoreDead, StoreFlush, Release, StoreLive, Push, Pop, Share, StoreRunning, StoreIdle}
+use Rattle.act_states.specs.declared.work.Work.{Work}
+use Rattle.act_states.specs.declared.work.Work.TheVariants.{Lookup, Read, Scan, Acquire, Act}
+use Rattle.act_states.specs.declared.work.WorkStep.{WorkStep}
+use Rattle.act_states.specs.declared.work.WorkStep.TheVariants.{Goes, Acquires, Refuses, Answers, Changes as work_changes}
+use Rattle.act_states.specs.Acts.{act_begun, reads_of, starts}
+use Rattle.act_states.specs.Lookups.{looks_under, looks_entry, looks_at, read_first, next_step, met_name, met_free, met_held}
+use Rattle.act_states.specs.Refusals.{reply_of, refusal_of}
+use Rattle.act_states.specs.Shares.{shares_if, shares_at, after_share}
+use Rattle.act_states.specs.Touches.{touches_if, touches}
+use Rattle.act_states.specs.Untypings.{after_store, release_after}
+use Rattle.act_states.specs.WorkSteps.{refuse}
+use Rattle.call_stages.specs.declared.stages.Stage.{Stage}
+use Rattle.call_stages.specs.declared.stages.Stage.TheVariants.{Enter, Undecided, Decided, Leave}
+use Rattle.call_stages.specs.declared.stages.ActiveCall.{ActiveCall}
+use Rattle.call_stages.specs.Steps.{Took, GoesOn, Decides, Returns, Changes, landed, next_by, found_more, read_more, took_enter, named_one, took_found, took_end, took_read, took_scan}
+use Rattle.call_stages.specs.Tails.{took_tail}
 use Rattle.flight.specs.Time.{Owes}
 
 -- The head of the first, which a call decided so in state s has still to store with the ticks less; and that of the second, with them more.
