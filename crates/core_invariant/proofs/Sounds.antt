@@ -2,7 +2,7 @@
 use Rattle.std.proofs.Common.{◌≡◌, ◌∙◌, ap}
 use Rattle.spk_nums.specs.Setting.{Setting}
 use Rattle.kernel_rules.specs.Start.{start}
-use Rattle.kernel_rules.proofs.SoundRuns.{limits_stay}
+use Rattle.kernel_invariant.proofs.SoundRuns.{limits_stay}
 use Rattle.kernel_history.specs.Trace.{Trace, state_after}
 use Rattle.kernel_history.specs.Events.{events_of}
 use Rattle.kernel_history.proofs.Events.{state_is}

@@ -11,7 +11,7 @@ ghost use Rattle.core_kernel.specs.Turns.{ArePrograms, AreWrapped};
 use crate::core_run::CoreRun;
 use crate::kernel::Kernel;
 use crate::seat::CoreSeat;
-use kernel_history::boot_words;
+use boot_words::boot_words;
 use spk_nums::{CoreEnd, CoreNo, Memory, Reply, Setup, Value};
 use std::alloc::{AllocError, Global};
 use turn_rule::{TurnSeat, TurnTable};

@@ -1,6 +1,6 @@
 -- A step by which a call acquires a count that its act changes is good: the count is held by another core, is lost to another core, or
 -- is acquired; and so is the step by which a decided call commits it.
-use Rattle.core_invariant.proofs.Lent.{lent_elsewhere}
+use Rattle.lent_words.proofs.Lent.{lent_elsewhere}
 use Rattle.count_invariant.proofs.SwitchCounts.{switch_of, switch_counts, switch_due_near, switch_left}
 use Rattle.core_invariant.specs.Threads.{claimed_by}
 use Rattle.count_invariant.proofs.StackCounts.{invoke_counts, invoke_near, invoking_due, returning_due, top_near}
@@ -50,7 +50,7 @@ use Rattle.kernel_rules.specs.Access.{usable_in}
 use Rattle.stage_quiet.specs.declared.close.Close.{Close}
 use Rattle.stage_quiet.specs.declared.close.Close.TheVariants.{AtCompare as close_compare, AtDraw, AtStore}
 use Rattle.kernel_history.specs.Trace.{Step, Trace, Open, phase, state_after, last_left, own_read}
-use Rattle.kernel_history.proofs.Carries.{was_now}
+use Rattle.trace_laws.proofs.Carries.{was_now}
 use Rattle.kernel_history.proofs.Names.{same_word-other, cases_word}
 use Rattle.kernel_history.proofs.Steps.{own_read-here, own_read-there, last_left-here, last_left-there}
 use Rattle.stage_pins.specs.Counts.{unheld, acquired}
@@ -96,14 +96,14 @@ use Rattle.core_invariant.specs.Holding.{Holding, count_of, committed, holds_cou
 use Rattle.core_invariant.specs.Words.{SaysCount, count_room}
 use Rattle.core_invariant.specs.Knows.{AreDuesApart, own_in, HasFound, NamesAre, due_of, pin_frame, pin_core, IsRemoval, KnowsClose, KnowsAct, KnowsWork, KnowsUndecided, IsCount, HasRead, phase_at, KnowsTail, goes_on, is_counting, untypes}
 use Rattle.core_invariant.specs.Stands.{done_by, holds_act, holds_work, holds_at, holds_in, holds, held_by, Stands, holds_tail, holds_making, holds_killing, holds_comp}
-use Rattle.core_invariant.proofs.Carries.{names_on, act_on, counts_on, KeepsUsers, KeepsThreads, claimed_in, ReadsSame, freezes_at, reads_counts, due_pairs}
-use Rattle.core_invariant.proofs.Swept.{LeavesFrame}
-use Rattle.core_invariant.proofs.Writes.{same_marks}
-use Rattle.core_invariant.proofs.Good.{IsGood, spares_other}
-use Rattle.core_invariant.proofs.Counting as counters
-use Rattle.core_invariant.proofs.Users.{users_kept}
-use Rattle.core_invariant.proofs.Loads.{IsOfCall, Lands, step_to, core_at, inner, call_is, is_active, loads_on}
-use Rattle.core_invariant.proofs.Refusals.{GoodTook, IsRefusing, ticks_in, ticks_at, raced_knowing, busy_knowing}
+use Rattle.kept_knowledge.proofs.Carries.{names_on, act_on, counts_on, KeepsUsers, KeepsThreads, claimed_in, ReadsSame, freezes_at, reads_counts, due_pairs}
+use Rattle.kept_knowledge.proofs.Swept.{LeavesFrame}
+use Rattle.step_ways.proofs.Writes.{same_marks}
+use Rattle.step_ways.proofs.Good.{IsGood, spares_other}
+use Rattle.step_ways.proofs.Counting as counters
+use Rattle.step_ways.proofs.Users.{users_kept}
+use Rattle.step_ways.proofs.Loads.{IsOfCall, Lands, step_to, core_at, inner, call_is, is_active, loads_on}
+use Rattle.step_ways.proofs.Refusals.{GoodTook, IsRefusing, ticks_in, ticks_at, raced_knowing, busy_knowing}
 use Rattle.count_invariant.proofs.PutCounts.{put_counts, put_near}
 
 -- What stands in a list after those before it.

@@ -9,7 +9,7 @@ use Rattle.word_map.specs.Word.{Word, CountAt}
 use Rattle.word_map.specs.Moves.{Move, word_of, left_of}
 use Rattle.kernel_rules.specs.State.{FrameOf, State, put}
 use Rattle.kernel_rules.specs.References.{times, refs}
-use Rattle.kernel_rules.proofs.Sums as sums
+use Rattle.kernel_invariant.proofs.Sums as sums
 use Rattle.kernel_history.specs.Marks.{mark_of}
 use Rattle.kernel_history.specs.Marking.{marked_by}
 use Rattle.kernel_history.specs.Stamps.{stamp}
@@ -24,9 +24,9 @@ use Rattle.core_invariant.specs.Holding.{holds_counts}
 use Rattle.core_invariant.specs.Words.{count_room, WordIs}
 use Rattle.core_invariant.specs.Knows.{due_of}
 use Rattle.core_invariant.specs.Stands.{holds, held_by, times_of, SumIs, Stands}
-use Rattle.core_invariant.proofs.Loads.{inner}
+use Rattle.step_ways.proofs.Loads.{inner}
 use Rattle.core_invariant.proofs.Ranges.{within_more}
-use Rattle.core_invariant.proofs.WordFrames.{ReadsAlike}
+use Rattle.kept_words.proofs.WordFrames.{ReadsAlike}
 use Rattle.count_invariant.proofs.CountChanges.{dues_sum, dues_commit}
 
 -- What a capability has due, by what it names.

@@ -14,7 +14,7 @@ use Rattle.kernel_rules.specs.Access.{found, only}
 use Rattle.kernel_rules.specs.CapabilityCalls.{has_frame}
 use Rattle.kernel_rules.specs.References.{named_by}
 use Rattle.kernel_rules.specs.State.{State}
-use Rattle.kernel_rules.proofs.Sound.{only_is}
+use Rattle.kernel_invariant.proofs.Sound.{only_is}
 use Rattle.kernel_history.specs.Discipline.{counts_references, changes_frames, changes_places, changes_numbers}
 use Rattle.kernel_history.specs.Footprint.{frames_near, numbers_near, is_one_of, frame_argument}
 use Rattle.kernel_history.specs.Trace.{Trace}

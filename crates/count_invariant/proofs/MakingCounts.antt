@@ -11,8 +11,8 @@ use Rattle.spk_nums.specs.declared.kinds.Kind.{Kind}
 use Rattle.spk_nums.specs.declared.kinds.Kind.TheVariants as kind
 use Rattle.kernel_rules.specs.Access.{only, own, reached, usable}
 use Rattle.kernel_rules.specs.Rules.{Found, Refused, named, and_then, or_refuse, of_kind}
-use Rattle.kernel_rules.proofs.Facts.{then_parts, found_inj, refused_found}
-use Rattle.kernel_rules.proofs.Sound.{only_is}
+use Rattle.kernel_invariant.proofs.Facts.{then_parts, found_inj, refused_found}
+use Rattle.kernel_invariant.proofs.Sound.{only_is}
 use Rattle.spk_nums.specs.declared.replies.Reply.TheVariants as reply
 use Rattle.spk_nums.specs.declared.calls.Call.TheVariants.{Make as make_call}
 use Rattle.frame_words.proofs.FrameLemmas as frames

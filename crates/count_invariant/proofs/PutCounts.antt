@@ -14,8 +14,8 @@ use Rattle.spk_nums.specs.declared.kinds.Kind.TheVariants.{Comp as comp_kind, Ga
 use Rattle.spk_nums.specs.declared.replies.Reply.TheVariants.{WrongCap}
 use Rattle.kernel_rules.specs.Access.{only}
 use Rattle.kernel_rules.specs.Rules.{Found, Refused, of_kind}
-use Rattle.kernel_rules.proofs.Sound.{only_is}
-use Rattle.kernel_rules.proofs.Stays.{name_parts}
+use Rattle.kernel_invariant.proofs.Sound.{only_is}
+use Rattle.found_stays.proofs.Stays.{name_parts}
 use Rattle.call_plans.specs.Plans.{at_place}
 use Rattle.kernel_history.proofs.Names.{same_word-other}
 use Rattle.kernel_history.proofs.Steps.{own_read-here, own_read-there, last_left-there}

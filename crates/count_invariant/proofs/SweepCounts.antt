@@ -14,8 +14,8 @@ use Rattle.word_map.specs.Word.{Word, CountAt}
 use Rattle.kernel_rules.specs.State.{State}
 use Rattle.kernel_rules.specs.References.{frame_names, times, refs}
 use Rattle.kernel_rules.specs.CallRelation.{rule_of}
-use Rattle.kernel_rules.proofs.SoundRemovals.{unnamed}
-use Rattle.kernel_rules.proofs.Sums.{times_cons}
+use Rattle.kernel_invariant.proofs.SoundRemovals.{unnamed}
+use Rattle.kernel_invariant.proofs.Sums.{times_cons}
 use Rattle.kernel_history.specs.Discipline.{counts_references, changes_frames}
 use Rattle.kernel_history.specs.Marks.{frame_mark}
 use Rattle.frame_words.proofs.FrameLemmas as frames
@@ -46,9 +46,9 @@ use Rattle.core_invariant.specs.Knows.{KnowsTail, KnowsUnmark, KnowsUndecided, d
 use Rattle.core_invariant.specs.Stands.{Stands, held_by, holds_act, holds_at, holds_in}
 use Rattle.core_invariant.specs.Sweeps.{KnowsSwept, KnowsUntyping, KnowsUntypingAt, UntypesBy, ThawsFrame, names_of}
 use Rattle.core_invariant.proofs.Freezing.{thaws_own}
-use Rattle.core_invariant.proofs.Loads.{is_active}
+use Rattle.step_ways.proofs.Loads.{is_active}
 use Rattle.core_invariant.proofs.Sounds.{limits_of}
-use Rattle.core_invariant.proofs.Swept.{HoldsSwept, no_refs, release_swept}
+use Rattle.kept_knowledge.proofs.Swept.{HoldsSwept, no_refs, release_swept}
 use Rattle.count_invariant.proofs.ActHolds.{SparesAt, SparesSwept}
 use Rattle.count_invariant.proofs.MakingCounts.{due_named}
 

@@ -16,13 +16,13 @@ use Rattle.kernel_rules.specs.CallRelation.{rule_of, counted}
 use Rattle.kernel_rules.specs.References.{named_by, frame_names}
 use Rattle.kernel_rules.specs.Relies.{IsGuarded}
 use Rattle.kernel_rules.specs.State.{State, thread_of, comp_of}
-use Rattle.kernel_rules.proofs.Sound.{only_is}
-use Rattle.kernel_rules.proofs.SparesRuns.{core_same_refs}
+use Rattle.kernel_invariant.proofs.Sound.{only_is}
+use Rattle.found_stays.proofs.SparesRuns.{core_same_refs}
 use Rattle.kernel_history.specs.Discipline.{counts_references, changes_threads}
 use Rattle.kernel_history.specs.Footprint.{IsNearIn, frames_about, frames_near, frames_own, is_one_of}
 use Rattle.kernel_history.specs.Trace.{Step, Trace, Open, Out, WasAt, phase, state_after}
 use Rattle.kernel_history.specs.Ways.{wide_ways}
-use Rattle.kernel_history.proofs.Carries.{was_now, was_stays}
+use Rattle.trace_laws.proofs.Carries.{was_now, was_stays}
 use Rattle.stage_pins.specs.declared.held.Acquired.{Acquired}
 use Rattle.stage_thread.specs.declared.claim.Claim.TheVariants.{AtLoad, AtCompare, AtStack}
 use Rattle.stage_thread.specs.declared.claim.Claimed.{Claimed}
@@ -38,7 +38,7 @@ use Rattle.act_states.specs.declared.switches.SwitchAt.TheVariants.{Claim, LoadT
 use Rattle.act_states.specs.declared.work.Due.{Due}
 use Rattle.core_invariant.specs.Knows.{KnowsTail}
 use Rattle.core_invariant.specs.Threads.{HasThread, KnowsIdle, LeavesOwn, SwitchesBy, claimed_by}
-use Rattle.core_invariant.proofs.Refusals.{IsRefusing}
+use Rattle.step_ways.proofs.Refusals.{IsRefusing}
 use Rattle.count_invariant.proofs.MakingCounts.{named_kind}
 
 -- The call that goes on as this thread, with this temporal capability.

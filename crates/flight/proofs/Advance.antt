@@ -26,17 +26,17 @@ use Rattle.call_stages.specs.Cores.{fresh, begun, told_by}
 use Rattle.call_stages.specs.Cores as cores_of
 use Rattle.core_invariant.specs.Knows.{KnowsAt, Knows, CallIs}
 use Rattle.core_invariant.specs.Stands.{done_by, holds_at, Stands}
-use Rattle.core_invariant.proofs.Good.{IsGood, stands_on}
-use Rattle.core_invariant.proofs.Loads.{step_to, is_active, loads_on}
-use Rattle.core_invariant.proofs.Writes.{clock_small, leaves_on}
-use Rattle.core_invariant.proofs.Refusals.{GoodTook}
+use Rattle.step_ways.proofs.Good.{IsGood, stands_on}
+use Rattle.step_ways.proofs.Loads.{step_to, is_active, loads_on}
+use Rattle.step_ways.proofs.Writes.{clock_small, leaves_on}
+use Rattle.step_ways.proofs.Refusals.{GoodTook}
 use Rattle.flight.specs.Made.{turned, MayBegin, MayStep, step_at, step_of, core_after}
 use Rattle.flight.specs.Theorems.{found_by, StepsOn}
 use Rattle.flight.specs.Phases.{IsWord}
 use Rattle.flight.proofs.CoreFits.{begun_fits, after_fits}
 use Rattle.flight.proofs.Spelling.{stage_word}
 use Rattle.place_invariant.proofs.Removals.{store_good}
-use Rattle.frame_invariant.proofs.CompStores.{give_live_good}
+use Rattle.comp_invariant.proofs.CompStores.{give_live_good}
 use Rattle.frame_invariant.proofs.Makes.{unmark_good}
 use Rattle.thread_invariant.proofs.Stacks.{push_good, pop_good}
 use Rattle.share_invariant.proofs.Shares.{shared_good}

@@ -25,14 +25,14 @@ use Rattle.kernel_rules.specs.State.{Place, Free, Holds, Quiescing, Object, Blan
 use Rattle.kernel_rules.specs.Start.{start, start_place, start_cap, place_with, start_frame, start_number, granted}
 use Rattle.kernel_rules.specs.References.{refs}
 use Rattle.kernel_rules.specs.Fitting.{fits, IsGood, EndsWithin}
-use Rattle.kernel_rules.proofs.SoundStart.{past_three, start_sound}
+use Rattle.kernel_invariant.proofs.SoundStart.{past_three, start_sound}
 use Rattle.kernel_history.specs.BootWords.{boot_word, boot_entry, boot_object, boot_frame, boot_live}
 use Rattle.kernel_history.specs.ObjectWords.{frame_value}
 use Rattle.kernel_history.specs.FinalWords.{SaysPlace, AreObject, AreFrame, SaysNumber, Represent}
 use Rattle.kernel_history.specs.Marks.{entry_mark, frame_mark, count_mark, live_mark, thread_mark, head_mark, mark_in_frame, object_mark}
-use Rattle.kernel_history.proofs.BootRepresents.{boot_represents}
-use Rattle.kernel_history.proofs.StartRefs.{refs_most}
-use Rattle.kernel_history.proofs.GraceSteps.{grace_start, times_start}
+use Rattle.boot_words.proofs.BootRepresents.{boot_represents}
+use Rattle.boot_words.proofs.StartRefs.{refs_most}
+use Rattle.trace_laws.proofs.GraceSteps.{grace_start, times_start}
 use Rattle.stage_look.specs.Shown.{CapNames}
 use Rattle.kernel_history.specs.Marking.{marked_by}
 use Rattle.core_invariant.specs.Holding.{settled_by}

@@ -23,9 +23,9 @@ use Rattle.kernel_rules.proofs.Within.{put_same}
 use Rattle.kernel_history.specs.BootWords.{shape_of}
 use Rattle.kernel_history.specs.Trace.{Step, Trace, Out, Open, phase, state_after, last_left}
 use Rattle.kernel_history.specs.Legal.{MayFollow}
-use Rattle.kernel_history.proofs.AloneCalls.{spent_first, refused_first}
+use Rattle.trace_laws.proofs.AloneCalls.{spent_first, refused_first}
 use Rattle.kernel_history.proofs.Steps.{phase-own}
-use Rattle.kernel_history.proofs.Stays.{relies_table, relies_pages, entered_comp}
+use Rattle.trace_laws.proofs.Stays.{relies_table, relies_pages, entered_comp}
 use Rattle.stage_look.specs.declared.look.Look.TheVariants.{AtRoot}
 use Rattle.call_plans.specs.GoesBy.{own_pages}
 use Rattle.call_plans.specs.PlanOf.{plan_for}
@@ -54,10 +54,10 @@ use Rattle.core_invariant.specs.Events.{decided_in, returned_in}
 use Rattle.core_invariant.specs.Knows.{LooksUp, own_in, LooksFor, ReadBefore, CallIs, ChargesBy}
 use Rattle.core_invariant.specs.Stands.{Stands}
 use Rattle.core_invariant.proofs.Sounds.{limits_of}
-use Rattle.core_invariant.proofs.Good.{IsGood}
-use Rattle.core_invariant.proofs.Calm.{calm_entered, calm_counted, calm_then}
-use Rattle.core_invariant.proofs.Loads.{Lands, step_to}
-use Rattle.core_invariant.proofs.Writes.{clock_small, core_small, enters_on}
+use Rattle.step_ways.proofs.Good.{IsGood}
+use Rattle.kept_words.proofs.Calm.{calm_entered, calm_counted, calm_then}
+use Rattle.step_ways.proofs.Loads.{Lands, step_to}
+use Rattle.step_ways.proofs.Writes.{clock_small, core_small, enters_on}
 use Rattle.flight.specs.Made.{MayBegin}
 use Rattle.plan_ways.specs.Laws.{NextRefused}
 use Rattle.plan_ways.proofs.Ways.{next_first}

@@ -27,7 +27,7 @@ use Rattle.kernel_history.specs.Moments.{EntrySays, CoreSays}
 use Rattle.kernel_history.specs.Trace.{Trace, Phase, Out, Open, Decided, phase, state_after, last_left}
 use Rattle.kernel_history.specs.Stamps.{is_in, stamp, exit_of}
 use Rattle.kernel_history.proofs.Inside.{inside_is}
-use Rattle.kernel_history.proofs.Stays.{sound_of}
+use Rattle.trace_laws.proofs.Stays.{sound_of}
 use Rattle.call_stages.specs.View.{Core}
 use Rattle.call_stages.specs.Cores.{end_of}
 use Rattle.kernel_history.specs.Marking.{marked_by}
@@ -36,10 +36,10 @@ use Rattle.core_invariant.specs.Words.{PlaceIs, IsFrameWord, SaysCount, count_ro
 use Rattle.core_invariant.specs.Knows.{CallIs, WorksIn}
 use Rattle.core_invariant.specs.Stands.{holds_in, held_by, times_of, count_shown, Stands as Invariant}
 use Rattle.flight.specs.Theorems.{SaysWords, AreBetween, Represents, RepresentsCounts}
-use Rattle.core_invariant.proofs.CountSums.{sum_same}
+use Rattle.kept_words.proofs.CountSums.{sum_same}
 use Rattle.core_invariant.proofs.Sounds.{limits_of}
 use Rattle.core_invariant.proofs.Markers.{marker_inside}
-use Rattle.core_invariant.proofs.Places.{IsMarked, IsPlain, place_reads}
+use Rattle.step_ways.proofs.Places.{IsMarked, IsPlain, place_reads}
 
 sound_node : (x : Frame) → IsTrue (is_node x) → IsTrue (is_sound_node x)
 sound_node Untyped h = absurd (false≢true h)

@@ -8,8 +8,8 @@ use Rattle.flight.specs.Made.{step_of, core_after, cores_after, core_at, IsMadeS
 use Rattle.flight.specs.Histories.{MadeHistories}
 use Rattle.kernel_history.specs.Graces.{KeepsTime}
 use Rattle.core_invariant.specs.Stands.{Stands}
-use Rattle.core_invariant.proofs.Good.{IsGood, stands_on}
-use Rattle.core_invariant.proofs.Users.{SparesCounted}
+use Rattle.step_ways.proofs.Good.{IsGood, stands_on}
+use Rattle.step_ways.proofs.Users.{SparesCounted}
 use Rattle.flight.specs.Theorems.{found_by, MadeStands}
 use Rattle.flight.proofs.Boot.{boots}
 use Rattle.flight.proofs.Advance.{good_on}

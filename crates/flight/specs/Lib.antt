@@ -2,11 +2,4 @@ pub mod Made
 pub mod Histories
 pub mod Decided
 pub mod Theorems
-pub mod Places
 pub mod Phases
-pub mod Threads
-pub mod Time
-pub mod Lives
-pub mod Invocations
-pub mod Pages
-pub mod Frames

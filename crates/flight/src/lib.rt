@@ -9,7 +9,5 @@ mod laws;
 
 pub use call_stages::{Absorbed, ActiveCall, decides_once, ready_decides, unready_refuses};
 pub use laws::{
-    boots, dead_for_good, enters_none_killed, enters_the_living, heads_say, made_histories,
-    made_stands, places_found, represents, represents_counts, says_words, scanned_cores, steps_on,
-    thread_words_say, threads_run_apart, ticks_are_counted, time_is_kept,
+    boots, made_histories, made_stands, represents, represents_counts, says_words, steps_on,
 };

@@ -1,7 +1,7 @@
 -- The decision of a call that makes an object: the compare of its target, where it is won, makes the frame that object, and puts its
 -- capability there.
 use Rattle.core_invariant.proofs.Bare.{counts_bare}
-use Rattle.core_invariant.proofs.Lent.{may_keep, unlent_value, unlent_word, node_keeps_none}
+use Rattle.lent_words.proofs.Lent.{may_keep, unlent_value, unlent_word, node_keeps_none}
 use Rattle.std.specs.Prelude.{if◌then◌else◌, pos, All}
 use Rattle.std.proofs.Common.{◌≡◌, List, Bool, true, false, Some, None, refl, ℕ, ◌<◌, ◌^◌, ◌==◌, arith, ◌≢◌, ◌+◌, sym, ◌&&◌, [], ◌∷◌, ap, ◌∙◌, subst, ◌≤◌, IsTrue, ◌⊎◌, inl, inr, max, map, ◌+ℤ◌}
 use Rattle.std.proofs.lemmas.List.Elements.{All-nil, All-cons, All-head, All-tail}
@@ -21,12 +21,12 @@ use Rattle.frame_words.specs.Frame.{frame_of_word, word_of_frame}
 use Rattle.word_map.proofs.WordLemmas.{same_same}
 use Rattle.word_map.specs.Moves.{left_of, word_of, Move, CompareOf, told_of}
 use Rattle.word_map.specs.Word.{EntryAt, Word, same_word, ClockAt, FrameAt, CountAt, CoreAt, FlushAt, LiveAt}
-use Rattle.kernel_rules.proofs.Apart.{slot_is, place_here, place_there}
-use Rattle.kernel_rules.proofs.Refs.{place_refs}
-use Rattle.kernel_rules.proofs.Sound.{IsSound}
-use Rattle.kernel_rules.proofs.SoundRuns.{opened}
-use Rattle.kernel_rules.proofs.Stays.{comp_fit}
-use Rattle.kernel_rules.proofs.Sums as sums
+use Rattle.found_stays.proofs.Apart.{slot_is, place_here, place_there}
+use Rattle.kernel_invariant.proofs.Refs.{place_refs}
+use Rattle.kernel_invariant.proofs.Sound.{IsSound}
+use Rattle.kernel_invariant.proofs.SoundRuns.{opened}
+use Rattle.found_stays.proofs.Stays.{comp_fit}
+use Rattle.kernel_invariant.proofs.Sums as sums
 use Rattle.kernel_rules.specs.Fitting.{fits as fits_kind}
 use Rattle.kernel_rules.proofs.Within.{put_same, put_other}
 use Rattle.kernel_history.specs.Events.{events_of}
@@ -38,10 +38,10 @@ use Rattle.kernel_rules.specs.References.{refs, place_names, times}
 use Rattle.kernel_rules.specs.Relies.{is_node}
 use Rattle.kernel_rules.specs.Rules.{Found, IsFoundAnd}
 use Rattle.kernel_rules.specs.State.{Blank, Kernel, State, put, comp_of, thread_in, thread_of, first_of_stack, Object, FrameOf, with_frame, Thing, NumberOf, comp_in, Holds, PlaceOf, with_place}
-use Rattle.kernel_history.proofs.AloneCalls.{ok_first}
+use Rattle.trace_laws.proofs.AloneCalls.{ok_first}
 use Rattle.kernel_history.proofs.Inside.{decided-inside}
 use Rattle.kernel_history.proofs.Names.{cases_word, same_word-other}
-use Rattle.kernel_history.proofs.Stays.{sound_of}
+use Rattle.trace_laws.proofs.Stays.{sound_of}
 use Rattle.kernel_history.proofs.Steps.{last_left-there, stamp-kept}
 use Rattle.kernel_history.specs.Justified.{HasReached}
 use Rattle.kernel_history.specs.Marking.{marked_by}
@@ -70,16 +70,16 @@ use Rattle.call_stages.specs.View.{Core}
 use Rattle.call_stages.specs.declared.stages.ActiveCall.{ActiveCall}
 use Rattle.call_stages.specs.declared.stages.Stage.{Stage}
 use Rattle.call_stages.specs.declared.stages.Stage.TheVariants.{Undecided, Decided}
-use Rattle.core_invariant.proofs.Calm.{calm_counted, plain_exit, counted_rises, BeginsNone, room_grows, counts, same_works, none_flush}
-use Rattle.core_invariant.proofs.Carries.{own_kept}
-use Rattle.core_invariant.proofs.CountSums.{counted_refs, times_here, times_there}
-use Rattle.core_invariant.proofs.Good.{spares_node}
-use Rattle.core_invariant.proofs.Loads.{next_at, IsOfCall, core_at, inner, call_is}
-use Rattle.core_invariant.proofs.Places.{IsMarked, place_reads, IsPlain as IsUnmarked, node_mark}
-use Rattle.core_invariant.proofs.Refusals.{GoodTook, not_spent}
+use Rattle.kept_words.proofs.Calm.{calm_counted, plain_exit, counted_rises, BeginsNone, room_grows, counts, same_works, none_flush}
+use Rattle.kept_knowledge.proofs.Carries.{own_kept}
+use Rattle.kept_words.proofs.CountSums.{counted_refs, times_here, times_there}
+use Rattle.step_ways.proofs.Good.{spares_node}
+use Rattle.step_ways.proofs.Loads.{next_at, IsOfCall, core_at, inner, call_is}
+use Rattle.step_ways.proofs.Places.{IsMarked, place_reads, IsPlain as IsUnmarked, node_mark}
+use Rattle.step_ways.proofs.Refusals.{GoodTook, not_spent}
 use Rattle.core_invariant.proofs.Sounds.{limits_of}
-use Rattle.core_invariant.proofs.WordFrames.{ReadsAlike, StaysSaid, word_stays, SameFor}
-use Rattle.core_invariant.proofs.Writes.{same_marks, decides_writing}
+use Rattle.kept_words.proofs.WordFrames.{ReadsAlike, StaysSaid, word_stays, SameFor}
+use Rattle.step_ways.proofs.Writes.{same_marks, decides_writing}
 use Rattle.core_invariant.specs.CountWords.{IsWithin}
 use Rattle.core_invariant.specs.Holding.{holds_counts, settled_by, settled, keeps}
 use Rattle.core_invariant.specs.Knows.{AreDuesApart, HasFound, own_in, phase_at, due_of, KnowsUndecided, KnowsMaking, KnowsMakingAt, KnowsUnmark, WorksIn, MayFill, HasStored}

@@ -17,9 +17,9 @@ use Rattle.kernel_rules.specs.CapabilityCalls.{has_frame, not_blank, is_blank, m
 use Rattle.kernel_rules.specs.Relies.{is_node}
 use Rattle.kernel_rules.specs.Rules.{Found, Change, first_cause, and_then, unless, vacant, outcome, first_of}
 use Rattle.kernel_rules.specs.State.{Blank, Kernel, State, Leaf}
-use Rattle.kernel_rules.proofs.SoundRuns.{opened}
+use Rattle.kernel_invariant.proofs.SoundRuns.{opened}
 use Rattle.kernel_history.specs.Events.{events_of}
-use Rattle.kernel_history.proofs.Stays.{sound_of, opened_is}
+use Rattle.trace_laws.proofs.Stays.{sound_of, opened_is}
 use Rattle.kernel_history.specs.Marking.{marked_by}
 use Rattle.kernel_history.specs.Marks.{mark_in_frame}
 use Rattle.kernel_history.specs.ObjectWords.{frame_value}
@@ -42,8 +42,8 @@ use Rattle.call_stages.specs.Fits.{StageFits, HasRoom}
 use Rattle.call_stages.specs.View.{Core}
 use Rattle.call_stages.specs.declared.stages.ActiveCall.{ActiveCall}
 use Rattle.call_stages.specs.declared.stages.Stage.TheVariants.{Undecided}
-use Rattle.core_invariant.proofs.Good.{blank_is}
-use Rattle.core_invariant.proofs.Loads.{is_active, call_is}
+use Rattle.step_ways.proofs.Good.{blank_is}
+use Rattle.step_ways.proofs.Loads.{is_active, call_is}
 use Rattle.core_invariant.proofs.Sounds.{limits_of}
 use Rattle.core_invariant.specs.Holding.{holds_counts, settled_by, settled, keeps}
 use Rattle.core_invariant.specs.Knows.{AreDuesApart, phase_at, KnowsUndecided, KnowsMaking, MakesBy, blank_word}

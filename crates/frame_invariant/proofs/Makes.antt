@@ -1,7 +1,7 @@
 -- The steps by which a call makes a node, up to its decision: the load of the frame's word, the compare that marks it, the stores of its
 -- places, and a compare of the target that is lost; and the store that gives the frame's word back.
 use Rattle.core_invariant.proofs.Bare.{as_none, counts_bare}
-use Rattle.core_invariant.proofs.Lent.{may_keep, unlent_word, lent_elsewhere}
+use Rattle.lent_words.proofs.Lent.{may_keep, unlent_word, lent_elsewhere}
 use Rattle.std.specs.Prelude.{if◌then◌else◌, List}
 use Rattle.std.proofs.Common.{◌≡◌, ◌≤◌, Bool, true, false, cond, Option, Some, None, refl, ℕ, ◌<◌, ◌^◌, ◌==◌, arith, ◌≢◌, ◌+◌, sym, nat_lt, ◌&&◌, [], ◌∷◌, ◌++◌, length, ap, ◌∙◌, subst, IsTrue, inl, inr, not, is_some, map}
 use Rattle.std.proofs.lemmas.Bool.{lt-ltb, eqb-true, eqb-false, ltb-false, cases_eq, eq-eqb, false≢true}
@@ -32,8 +32,8 @@ use Rattle.kernel_rules.specs.CallRelation.{rule_of, change_of, are_calls_spent}
 use Rattle.kernel_rules.specs.CapabilityCalls.{is_frame, is_blank}
 use Rattle.kernel_rules.specs.Rules.{Refused, RuleMay}
 use Rattle.kernel_rules.specs.State.{Untyped, Blank, Table, Pages, User, Kernel, State, put, Leaf, Pleaf, Comp, Thread, Tcap, Frame, PlaceOf}
-use Rattle.kernel_history.proofs.AloneCalls.{refused_first}
-use Rattle.kernel_history.proofs.Carries.{Carries}
+use Rattle.trace_laws.proofs.AloneCalls.{refused_first}
+use Rattle.trace_laws.proofs.Carries.{Carries}
 use Rattle.kernel_history.proofs.Names.{same_word-other}
 use Rattle.kernel_history.proofs.Steps.{last_left-here, last_left-there, own_read-here, own_read-there}
 use Rattle.kernel_history.specs.Alone.{IsAlone}
@@ -68,12 +68,12 @@ use Rattle.call_stages.specs.Steps.{GoesOn, landed, went_with}
 use Rattle.call_stages.specs.View.{Core}
 use Rattle.call_stages.specs.declared.stages.ActiveCall.{ActiveCall}
 use Rattle.call_stages.specs.declared.stages.Stage.TheVariants.{Undecided, Decided}
-use Rattle.core_invariant.proofs.Carries.{names_on, counts_on, spot_on}
-use Rattle.core_invariant.proofs.Counting as counting
-use Rattle.core_invariant.proofs.Good.{spares_blank, spares_other, blank_is}
-use Rattle.core_invariant.proofs.Loads.{decides_on, step_to, OnlyLooks, next_at, loads_on, IsOfCall, core_at, inner, call_is, core_is}
-use Rattle.core_invariant.proofs.Refusals.{GoodTook, ticks_at, refuses_busy, refuses_raced, raced_leaving, not_spent}
-use Rattle.core_invariant.proofs.Writes.{stores_on}
+use Rattle.kept_knowledge.proofs.Carries.{names_on, counts_on, spot_on}
+use Rattle.step_ways.proofs.Counting as counting
+use Rattle.step_ways.proofs.Good.{spares_blank, spares_other, blank_is}
+use Rattle.step_ways.proofs.Loads.{decides_on, step_to, OnlyLooks, next_at, loads_on, IsOfCall, core_at, inner, call_is, core_is}
+use Rattle.step_ways.proofs.Refusals.{GoodTook, ticks_at, refuses_busy, refuses_raced, raced_leaving, not_spent}
+use Rattle.step_ways.proofs.Writes.{stores_on}
 use Rattle.core_invariant.specs.Holding.{holds_counts, Holding, settled_by, settled, keeps}
 use Rattle.core_invariant.specs.Knows.{phase_at, due_of, KnowsUndecided, KnowsMaking, MakesBy, KnowsMakingAt, KnowsUnmark, blank_word, HasStored, HasBlank}
 use Rattle.core_invariant.specs.Stands.{holds_at, holds_in, Stands, done_by, holds, held_by, holds_making}

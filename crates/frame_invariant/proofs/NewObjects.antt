@@ -24,7 +24,7 @@ use Rattle.kernel_rules.specs.State.{Place, Free as Vacant, Holds, ThreadFields,
 use Rattle.kernel_rules.specs.References.{refs, times, frame_names, place_names}
 use Rattle.kernel_rules.specs.CapabilityCalls.{is_place_of}
 use Rattle.kernel_rules.specs.CallRelation.{ends_by}
-use Rattle.kernel_rules.proofs.Refs.{frame_refs, cleared_refs}
+use Rattle.kernel_invariant.proofs.Refs.{frame_refs, cleared_refs}
 use Rattle.kernel_rules.proofs.Within.{put_same, put_other}
 use Rattle.kernel_history.specs.Marks.{entry_mark, thread_mark, head_mark, mark_in_frame}
 use Rattle.kernel_history.specs.ObjectWords.{frame_value}
@@ -33,7 +33,7 @@ use Rattle.act_states.specs.declared.objects.NewObject.TheVariants as objects
 use Rattle.act_states.specs.Objects.{object_cap, object_word, thread_word, tcap_word, last_word, object_names, PairFits, NamesFit}
 use Rattle.act_states.specs.Makings.{made}
 use Rattle.core_invariant.specs.Words.{PlaceIs, IsThreadWord, IsTcapWord, IsFrameWord}
-use Rattle.core_invariant.proofs.WordFrames.{entry_more}
+use Rattle.kept_words.proofs.WordFrames.{entry_more}
 use Rattle.place_invariant.proofs.ObjectMakes.{new_object, ready_place, readied}
 
 pub made_value : (o : NewObject) → frame_value (Kernel (new_object o)) ≡ made o

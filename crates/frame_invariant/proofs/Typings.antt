@@ -27,13 +27,13 @@ use Rattle.kernel_rules.specs.CapabilityCalls.{has_frame, is_frame, outside}
 use Rattle.kernel_rules.specs.MemoryCalls.{is_untyped, not_untyped, not_retyped, retypes}
 use Rattle.kernel_rules.specs.CallRelation.{rule_of, ends_by, flushes_by, change_of, changed, counted, begins_in, MayReply}
 use Rattle.kernel_rules.specs.Laws.{calls_counted}
-use Rattle.kernel_rules.proofs.Refs.{frame_refs}
+use Rattle.kernel_invariant.proofs.Refs.{frame_refs}
 use Rattle.kernel_rules.proofs.Within.{put_same, put_other}
 use Rattle.kernel_history.specs.ObjectWords.{frame_value}
 use Rattle.kernel_history.specs.Marks.{mark_of, mark_in_frame, frame_mark}
 use Rattle.kernel_history.specs.Marking.{marked_by}
 use Rattle.kernel_history.specs.Trace.{Step, Trace, Open, phase, state_after, last_left, state_decided_in, own_left}
-use Rattle.kernel_history.proofs.AloneCalls.{ok_first}
+use Rattle.trace_laws.proofs.AloneCalls.{ok_first}
 use Rattle.kernel_history.specs.Stamps.{begins_in as begins_then, ends_in, flushes_in, stamp}
 use Rattle.kernel_history.specs.Discipline.{changes_frames, looks_at_frames}
 use Rattle.kernel_history.specs.Footprint.{is_one_of, frames_named, frame_at_slot, frame_argument, frames_near}
@@ -66,16 +66,16 @@ use Rattle.core_invariant.specs.Holding.{holds_counts, settled_by, settled}
 use Rattle.core_invariant.specs.Words.{IsFrameWord, WordIs, count_room}
 use Rattle.core_invariant.specs.Knows.{HasFound, own_in, due_of, TypesBy, HasMet, KnowsUndecided, WorksIn, phase_at, untypes}
 use Rattle.core_invariant.specs.Stands.{holds_at, holds_in, holds, held_by, times_of, counted_in, Stands}
-use Rattle.core_invariant.proofs.Calm.{counts, calm_counted, own_works, counted_rises, room_rises, IsPlain, plain_begins, plain_stamp, plain_flush, plain_exit}
-use Rattle.core_invariant.proofs.Carries.{names_on, own_kept}
-use Rattle.core_invariant.proofs.CountSums.{counted_refs}
-use Rattle.core_invariant.proofs.Good.{spares_other}
-use Rattle.core_invariant.proofs.Loads.{IsOfCall, OnlyLooks, step_to, next_at, core_at, inner, call_is, is_active, loads_on}
-use Rattle.core_invariant.proofs.Refusals.{GoodTook, ticks_at, not_spent, refuses_raced, refuses_busy, refuses_frame_kind}
+use Rattle.kept_words.proofs.Calm.{counts, calm_counted, own_works, counted_rises, room_rises, IsPlain, plain_begins, plain_stamp, plain_flush, plain_exit}
+use Rattle.kept_knowledge.proofs.Carries.{names_on, own_kept}
+use Rattle.kept_words.proofs.CountSums.{counted_refs}
+use Rattle.step_ways.proofs.Good.{spares_other}
+use Rattle.step_ways.proofs.Loads.{IsOfCall, OnlyLooks, step_to, next_at, core_at, inner, call_is, is_active, loads_on}
+use Rattle.step_ways.proofs.Refusals.{GoodTook, ticks_at, not_spent, refuses_raced, refuses_busy, refuses_frame_kind}
 use Rattle.core_invariant.proofs.Sounds.{limits_of}
-use Rattle.core_invariant.proofs.Sums.{sums_keep}
-use Rattle.core_invariant.proofs.WordFrames.{SameFor, ReadsAlike, StaysSaid, word_stays, others_settled}
-use Rattle.core_invariant.proofs.Writes.{same_marks, writes_on}
+use Rattle.kept_words.proofs.Sums.{sums_keep}
+use Rattle.kept_words.proofs.WordFrames.{SameFor, ReadsAlike, StaysSaid, word_stays, others_settled}
+use Rattle.step_ways.proofs.Writes.{same_marks, writes_on}
 use Rattle.look_invariant.proofs.Findings.{own_is, found_named, way_gone}
 use Rattle.count_invariant.proofs.Acquiring.{plan_leads, goes_by}
 

@@ -16,8 +16,6 @@ pub mod Alone
 pub mod Order
 pub mod FinalWords
 pub mod Counts
-pub mod BootLaws
-pub mod Filling
 pub mod Moments
 pub mod Tables
 pub mod Text

@@ -5,20 +5,9 @@
 //! See docs/MODEL.md, 'Traces and legal histories', and docs/PROOF.md, 'What holds of legal traces by the definitions alone'.
 #![tactic(auto)]
 
-mod boot;
-
-ghost use Rattle.kernel_history.specs.BootLaws.{BootRepresentsStart};
 ghost use Rattle.kernel_history.specs.Laws.{LegalRuns, EventsDetermine, LegalUpTo, OneCallAtATime, AloneGoesOn, RacedByAnother};
 
-pub use boot::boot_words;
 pub use spk_nums;
-
-/// The boot words of every setup, with the ends that the cores have at the start, represent its start state; so do the
-/// counts of references.
-#[tactic(auto, using(crate::proofs::BootRepresents::boot_represents))]
-pub fn boot_words_represent_the_start()
-    ensures { BootRepresentsStart }
-{}
 
 /// The events of a legal trace are a run of the sequential kernel, and the trace leaves the state that they leave. So each law of
 /// the sequential kernel holds after each legal trace.

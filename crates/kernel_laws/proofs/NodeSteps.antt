@@ -13,10 +13,10 @@ use Rattle.kernel_rules.specs.Rules.{frames_of}
 use Rattle.kernel_rules.specs.CapabilityCalls.{cleared}
 use Rattle.kernel_rules.specs.Relies.{is_node}
 use Rattle.kernel_rules.proofs.Within.{put_same, put_other}
-use Rattle.kernel_rules.proofs.Sums.{times_first}
-use Rattle.kernel_rules.proofs.Sound.{WaitsForAll, IsSound, only_is, put_all}
-use Rattle.kernel_rules.proofs.SoundSteps.{place_all, free_holds, free_quiescing, holds_quiescing, quiescing_holds, holds_inj, quiescing_inj}
-use Rattle.kernel_rules.proofs.SoundRemovals.{frames_no_place, not_chosen, IsUnnamed, NoneWaits, below_by, untyped}
+use Rattle.kernel_invariant.proofs.Sums.{times_first}
+use Rattle.kernel_invariant.proofs.Sound.{WaitsForAll, IsSound, only_is, put_all}
+use Rattle.kernel_invariant.proofs.SoundSteps.{place_all, free_holds, free_quiescing, holds_quiescing, quiescing_holds, holds_inj, quiescing_inj}
+use Rattle.kernel_invariant.proofs.SoundRemovals.{frames_no_place, not_chosen, IsUnnamed, NoneWaits, below_by, untyped}
 use Rattle.kernel_laws.specs.Nodes.{takes, leads_to, FitsNode}
 
 -- What places hold, and what open cores may still use of nodes, fits the nodes.

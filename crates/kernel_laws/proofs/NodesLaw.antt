@@ -33,14 +33,14 @@ use Rattle.kernel_rules.specs.Fitting.{fits, IsGood}
 use Rattle.kernel_rules.proofs.Changes.{IfFound}
 use Rattle.kernel_rules.proofs.Within.{put_same, put_other}
 use Rattle.kernel_rules.proofs.AloneLaw.{waits_inside}
-use Rattle.kernel_rules.proofs.Sound.{only_is, put_all}
-use Rattle.kernel_rules.proofs.SoundRemovals.{frames_no_place, not_chosen, unnamed, none_waits}
-use Rattle.kernel_rules.proofs.SoundCalls.{IsOpen, blank_by, untyped_by, zero_refs, nothing_held, empty_node}
-use Rattle.kernel_rules.proofs.SoundSteps.{free_holds, holds_inj}
-use Rattle.kernel_rules.proofs.SoundStart.{choose}
-use Rattle.kernel_rules.proofs.SoundRuns.{opened, open_is, inside_is}
-use Rattle.kernel_rules.proofs.Facts.{ChangesFrom, outcome_from, named_good, named_fit, vacant_facts, held_facts, none_parts, when_not, not_not, then_parts, or_found, some_inj, none_some, found_inj, refused_found}
-use Rattle.kernel_rules.proofs.Stays.{link_of, name_parts, fields, table_relies}
+use Rattle.kernel_invariant.proofs.Sound.{only_is, put_all}
+use Rattle.kernel_invariant.proofs.SoundRemovals.{frames_no_place, not_chosen, unnamed, none_waits}
+use Rattle.kernel_invariant.proofs.SoundCalls.{IsOpen, blank_by, untyped_by, zero_refs, nothing_held, empty_node}
+use Rattle.kernel_invariant.proofs.SoundSteps.{free_holds, holds_inj}
+use Rattle.kernel_invariant.proofs.SoundStart.{choose}
+use Rattle.kernel_invariant.proofs.SoundRuns.{opened, open_is, inside_is}
+use Rattle.kernel_invariant.proofs.Facts.{ChangesFrom, outcome_from, named_good, named_fit, vacant_facts, held_facts, none_parts, when_not, not_not, then_parts, or_found, some_inj, none_some, found_inj, refused_found}
+use Rattle.found_stays.proofs.Stays.{link_of, name_parts, fields, table_relies}
 use Rattle.kernel_laws.specs.Nodes.{takes, leads_to, FitsNode, NodesHoldWhatFits}
 use Rattle.kernel_laws.proofs.NodeSteps.{IsFitted, fewer, IsAlike, alike_same, alike_none, alike_then, alike_step, fill_fits, remove_fits, object_fits, untype_fits}
 

@@ -20,11 +20,11 @@ use Rattle.kernel_rules.specs.Laws.{ticks}
 use Rattle.kernel_rules.proofs.Changes.{IfFound}
 use Rattle.kernel_rules.proofs.Within.{put_same, put_other}
 use Rattle.kernel_rules.proofs.AloneLaw.{decided_stays}
-use Rattle.kernel_rules.proofs.Sound.{IsSound, put_all}
-use Rattle.kernel_rules.proofs.Facts.{outcome_from}
-use Rattle.kernel_rules.proofs.SoundCalls.{IsOpen}
-use Rattle.kernel_rules.proofs.SoundStart.{choose}
-use Rattle.kernel_rules.proofs.SoundRuns.{opened, open_is, open_limits, runs_sound}
+use Rattle.kernel_invariant.proofs.Sound.{IsSound, put_all}
+use Rattle.kernel_invariant.proofs.Facts.{outcome_from}
+use Rattle.kernel_invariant.proofs.SoundCalls.{IsOpen}
+use Rattle.kernel_invariant.proofs.SoundStart.{choose}
+use Rattle.kernel_invariant.proofs.SoundRuns.{opened, open_is, open_limits, runs_sound}
 use Rattle.kernel_laws.specs.Laws.{RangesHold}
 use Rattle.kernel_laws.proofs.TicksLaw.{ticks_kept}
 use Rattle.kernel_laws.proofs.Shapes.{ListInRange, FrameShape, CoreShape, Shaped, Grows, ShapedBy, rule_shape}

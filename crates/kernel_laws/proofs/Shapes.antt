@@ -22,10 +22,10 @@ use Rattle.kernel_rules.specs.TimeCalls.{tcap_at, with_tcap, with_budget, moved,
 use Rattle.kernel_rules.specs.CallRelation.{rule_of}
 use Rattle.kernel_rules.specs.Ranges.{EpochInRange, CompInRange, ThreadInRange, NumberInRange}
 use Rattle.kernel_rules.specs.Fitting.{fits}
-use Rattle.kernel_rules.proofs.SoundCalls.{IsOpen}
+use Rattle.kernel_invariant.proofs.SoundCalls.{IsOpen}
 use Rattle.kernel_rules.proofs.Within.{put_same, put_other}
-use Rattle.kernel_rules.proofs.Sound.{put_all}
-use Rattle.kernel_rules.proofs.Facts.{ChangesFrom, named_fit, none_parts, when_not, not_not}
+use Rattle.kernel_invariant.proofs.Sound.{put_all}
+use Rattle.kernel_invariant.proofs.Facts.{ChangesFrom, named_fit, none_parts, when_not, not_not}
 use Rattle.kernel_laws.proofs.Lists.{merged_list_is, merged_some}
 
 -- A list of qualities has 1 to 8 pairs, in order and in range.

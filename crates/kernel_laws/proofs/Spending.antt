@@ -22,7 +22,7 @@ use Rattle.kernel_rules.specs.CallRelation.{rule_of, change_of, changed, counted
 use Rattle.kernel_rules.specs.Runs.{Enters, Decides, Returns, after}
 use Rattle.kernel_rules.proofs.Changes.{AllChanges, IfFound, outcome_all}
 use Rattle.kernel_rules.proofs.Within.{put_same, put_other}
-use Rattle.kernel_rules.proofs.Sound.{put_all}
+use Rattle.kernel_invariant.proofs.Sound.{put_all}
 use Rattle.kernel_laws.specs.Laws.{ticks_of, ticks_counted, ticks_by, decided_ticks, SpendingSums}
 
 -- What a core has spent and owes.

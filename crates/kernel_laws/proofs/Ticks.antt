@@ -22,11 +22,11 @@ use Rattle.kernel_rules.specs.TimeCalls.{tcap_at, with_tcap, with_budget, with_q
 use Rattle.kernel_rules.specs.CallRelation.{rule_of}
 use Rattle.kernel_rules.specs.Laws.{ticks}
 use Rattle.kernel_rules.proofs.Within.{put_same, put_other}
-use Rattle.kernel_rules.proofs.Sums.{sum_same, sum_one}
+use Rattle.kernel_invariant.proofs.Sums.{sum_same, sum_one}
 use Rattle.kernel_rules.specs.Fitting.{fits}
-use Rattle.kernel_rules.proofs.Sound.{IsSound, put_all}
-use Rattle.kernel_rules.proofs.Facts.{ChangesFrom, named_fit, none_parts, when_not, not_not, first_two}
-use Rattle.kernel_rules.proofs.SoundCalls.{IsOpen, in_range, blank_by, untyped_by, own_thread, thread_below, tcap_below}
+use Rattle.kernel_invariant.proofs.Sound.{IsSound, put_all}
+use Rattle.kernel_invariant.proofs.Facts.{ChangesFrom, named_fit, none_parts, when_not, not_not, first_two}
+use Rattle.kernel_invariant.proofs.SoundCalls.{IsOpen, in_range, blank_by, untyped_by, own_thread, thread_below, tcap_below}
 
 abbrev budget : Frame → ℕ
 budget x = (tcap_in x).budget

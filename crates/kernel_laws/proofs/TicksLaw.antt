@@ -17,11 +17,11 @@ use Rattle.kernel_rules.specs.Runs.{Enters, Decides, Returns, after, is_open}
 use Rattle.kernel_rules.specs.Laws.{ticks}
 use Rattle.kernel_laws.specs.Laws.{grants_sum, TicksKept}
 use Rattle.kernel_rules.proofs.Changes.{IfFound}
-use Rattle.kernel_rules.proofs.Sums.{sum_same}
-use Rattle.kernel_rules.proofs.Facts.{outcome_from}
-use Rattle.kernel_rules.proofs.SoundCalls.{IsOpen}
-use Rattle.kernel_rules.proofs.SoundStart.{choose, if_not, not_below, past_three}
-use Rattle.kernel_rules.proofs.SoundRuns.{opened, open_is}
+use Rattle.kernel_invariant.proofs.Sums.{sum_same}
+use Rattle.kernel_invariant.proofs.Facts.{outcome_from}
+use Rattle.kernel_invariant.proofs.SoundCalls.{IsOpen}
+use Rattle.kernel_invariant.proofs.SoundStart.{choose, if_not, not_below, past_three}
+use Rattle.kernel_invariant.proofs.SoundRuns.{opened, open_is}
 use Rattle.kernel_laws.proofs.Ticks.{TicksStay, same_spent, rule_ticks}
 
 -- A sum over two stretches.

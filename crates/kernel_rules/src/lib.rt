@@ -1,13 +1,13 @@
 //! The sequential kernel as definitions: its state, and what each call needs, does and answers.
 //!
 //! The definitions stand in this crate's specs. A call is a rule: the capabilities that it names, its target, its own
-//! causes of refusal in order, and what it does. The laws below say what every run keeps; laws that nothing above needs
-//! stand in `kernel_laws`.
+//! causes of refusal in order, and what it does. The laws below are of who waits and of the first reply in order; those of
+//! capabilities and references stand in `kernel_invariant`, and laws that nothing above needs in `kernel_laws`.
 //!
 //! See docs/MODEL.md, 'The sequential kernel'.
 #![tactic(auto)]
 
-ghost use Rattle.kernel_rules.specs.Laws.{RefusalKeeps, WaitsWithin, WaitersInside, FirstPermitted, RefsChange, CapabilitiesFit};
+ghost use Rattle.kernel_rules.specs.Laws.{FirstPermitted, RefusalKeeps, WaitersInside, WaitsWithin};
 
 /// A refusal leaves the state as it was, but for the owed ticks of a `tick`, and the count of calls.
 pub fn refusal_keeps()
@@ -32,18 +32,4 @@ pub fn waiters_inside()
 #[tactic(auto, using(crate::proofs::AloneLaw::first_permitted))]
 pub fn first_permitted()
     ensures { FirstPermitted }
-{}
-
-/// In every state that a run reaches, a call that is carried out changes the references to each frame by those that it takes
-/// less those that it releases; each release begins the frame's grace period.
-#[tactic(auto, using(crate::proofs::RefsLaw::refs_change))]
-pub fn refs_change()
-    ensures { RefsChange }
-{}
-
-/// In every state that a run reaches, each capability that a place holds, and each that a core in an open call may use, names a
-/// frame with an object of its kind; a range ends within the machine's frames.
-#[tactic(auto, using(crate::proofs::SoundRuns::capabilities_fit))]
-pub fn capabilities_fit()
-    ensures { CapabilitiesFit }
 {}

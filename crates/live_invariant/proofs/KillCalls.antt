@@ -26,7 +26,7 @@ use Rattle.call_stages.specs.Fits.{StageFits, HasRoom}
 use Rattle.call_stages.specs.View.{Core}
 use Rattle.core_invariant.specs.Knows.{KnowsUndecided, phase_at}
 use Rattle.core_invariant.specs.Stands.{Stands}
-use Rattle.core_invariant.proofs.Loads.{call_is, is_active}
+use Rattle.step_ways.proofs.Loads.{call_is, is_active}
 use Rattle.count_invariant.proofs.Acquiring.{plan_leads, goes_by}
 use Rattle.count_invariant.proofs.KillingCounts.{IsKill, kill_of, kill_near}
 use Rattle.live_invariant.proofs.Numbers.{one_of_many, comp_is}

@@ -12,14 +12,14 @@ use Rattle.kernel_rules.specs.State.{State}
 use Rattle.kernel_rules.specs.Access.{only}
 use Rattle.kernel_rules.specs.References.{named_by}
 use Rattle.kernel_rules.specs.Rules.{Found, Refused, named, of_kind}
-use Rattle.kernel_rules.proofs.Facts.{named_fit}
-use Rattle.kernel_rules.proofs.SoundRuns.{opened}
-use Rattle.kernel_rules.proofs.Stays.{name_parts}
+use Rattle.kernel_invariant.proofs.Facts.{named_fit}
+use Rattle.kernel_invariant.proofs.SoundRuns.{opened}
+use Rattle.found_stays.proofs.Stays.{name_parts}
 use Rattle.kernel_history.specs.Events.{events_of}
 use Rattle.kernel_history.specs.Legal.{IsLegal}
 use Rattle.kernel_history.specs.Trace.{Step, Trace, Open, phase, state_after, last_left}
-use Rattle.kernel_history.proofs.Carries.{Carries}
-use Rattle.kernel_history.proofs.Stays.{sound_of, opened_is, guarded_usable}
+use Rattle.trace_laws.proofs.Carries.{Carries}
+use Rattle.trace_laws.proofs.Stays.{sound_of, opened_is, guarded_usable}
 use Rattle.stage_pins.specs.declared.held.Acquired.{Acquired}
 use Rattle.act_states.specs.declared.kills.KillingAt.TheVariants.{LoadComp}
 use Rattle.act_states.specs.declared.work.Act.TheVariants.{Kill as kill_act}
@@ -32,9 +32,9 @@ use Rattle.call_stages.specs.View.{Core}
 use Rattle.core_invariant.specs.Holding.{holds_counts}
 use Rattle.core_invariant.specs.Knows.{due_of, HasComp, KillsBy, NamesAre, phase_at}
 use Rattle.core_invariant.specs.Stands.{holds_in, Stands}
-use Rattle.core_invariant.proofs.Carries.{has_comp_on}
-use Rattle.core_invariant.proofs.Loads.{OnlyLooks, step_to, call_is, loads_on}
-use Rattle.core_invariant.proofs.Refusals.{GoodTook}
+use Rattle.kept_knowledge.proofs.Carries.{has_comp_on}
+use Rattle.step_ways.proofs.Loads.{OnlyLooks, step_to, call_is, loads_on}
+use Rattle.step_ways.proofs.Refusals.{GoodTook}
 
 -- What a name leads to is of a wanted kind, and is what was found.
 same_found : (wanted : Kind → Bool) (j k : Capability) → of_kind wanted j ≡ Found k → j ≡ k

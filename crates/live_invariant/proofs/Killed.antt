@@ -1,7 +1,7 @@
 -- A killing draws its stamp and is decided: the number is dead, its reference to the component's frame is released, and the grace periods
 -- of both begin at the stamp. And the store of the dead number's word is good.
 use Rattle.core_invariant.proofs.Bare.{as_none, counts_bare}
-use Rattle.core_invariant.proofs.Lent.{lent_elsewhere}
+use Rattle.lent_words.proofs.Lent.{lent_elsewhere}
 use Rattle.std.specs.Prelude.{IsSome}
 use Rattle.std.specs.List.{list_any}
 use Rattle.std.proofs.Common.{◌≡◌, ◌≢◌, inl, inr, ℕ, pos, negsuc, ◌+ℤ◌, max, length, ◌+◌, ◌^◌, ◌<◌, ◌≤◌, ◌==◌, ◌||◌, Bool, true, false, if◌then◌else◌, List, [], ◌∷◌, Option, Some, None, IsTrue, arith, refl, sym, ◌∙◌, ap, subst}
@@ -31,8 +31,8 @@ use Rattle.kernel_rules.specs.InvocationCalls.{is_live_in, kills}
 use Rattle.kernel_rules.specs.CallRelation.{MayReply, rule_of, ends_by, flushes_by, changed, change_of, counted, begins_in}
 use Rattle.kernel_rules.specs.GracePeriods.{same_thing, new_grace}
 use Rattle.kernel_rules.specs.Laws.{calls_counted}
-use Rattle.kernel_rules.proofs.Refs.{number_refs, grace_refs}
-use Rattle.kernel_rules.proofs.Sums as sums
+use Rattle.kernel_invariant.proofs.Refs.{number_refs, grace_refs}
+use Rattle.kernel_invariant.proofs.Sums as sums
 use Rattle.kernel_rules.proofs.Within.{put_same, put_other}
 use Rattle.kernel_history.specs.Footprint.{IsNearIn}
 use Rattle.kernel_history.specs.Justified.{HasReached}
@@ -40,8 +40,8 @@ use Rattle.kernel_history.specs.Marking.{marked_by}
 use Rattle.kernel_history.specs.Stamps.{begins_in as begins_then, ends_in, flushes_in, begins_at, ends_at, flushes_at, stamp, clock, flush_stored}
 use Rattle.kernel_history.specs.Trace.{Step, Trace, Out, Open, WasAt, phase, state_after, state_decided_in, last_left, own_left}
 use Rattle.kernel_history.specs.Ways.{way_to, ways}
-use Rattle.kernel_history.proofs.AloneCalls.{ok_first}
-use Rattle.kernel_history.proofs.Carries.{was_now, was_stays}
+use Rattle.trace_laws.proofs.AloneCalls.{ok_first}
+use Rattle.trace_laws.proofs.Carries.{was_now, was_stays}
 use Rattle.kernel_history.proofs.Inside.{decided-inside}
 use Rattle.kernel_history.proofs.Names.{cases_word, same_word-other}
 use Rattle.kernel_history.proofs.Steps.{stamp-begins, stamp-kept, flush_stored-own, flush_stored-other}
@@ -68,17 +68,17 @@ use Rattle.core_invariant.specs.Holding.{Holding, holds_counts, settled_by, sett
 use Rattle.core_invariant.specs.Words.{NumberIs, WordIs, count_room}
 use Rattle.core_invariant.specs.Knows.{HasFound, KnowsUndecided, KnowsDead, WorksIn, own_in, phase_at}
 use Rattle.core_invariant.specs.Stands.{done_by, holds_at, holds_in, holds, held_by, times_of, counted_in, Stands}
-use Rattle.core_invariant.proofs.Calm.{counts, calm_counted, own_works, plain_exit, room_grows, counted_grows}
-use Rattle.core_invariant.proofs.Carries.{own_kept, counts_on}
-use Rattle.core_invariant.proofs.CountSums.{counted_refs}
-use Rattle.core_invariant.proofs.Counting as counters
-use Rattle.core_invariant.proofs.Draws as drawing
-use Rattle.core_invariant.proofs.Good.{spares_other}
-use Rattle.core_invariant.proofs.Loads.{call_is, core_at, inner}
-use Rattle.core_invariant.proofs.Refusals.{GoodTook, not_spent}
+use Rattle.kept_words.proofs.Calm.{counts, calm_counted, own_works, plain_exit, room_grows, counted_grows}
+use Rattle.kept_knowledge.proofs.Carries.{own_kept, counts_on}
+use Rattle.kept_words.proofs.CountSums.{counted_refs}
+use Rattle.step_ways.proofs.Counting as counters
+use Rattle.step_ways.proofs.Draws as drawing
+use Rattle.step_ways.proofs.Good.{spares_other}
+use Rattle.step_ways.proofs.Loads.{call_is, core_at, inner}
+use Rattle.step_ways.proofs.Refusals.{GoodTook, not_spent}
 use Rattle.core_invariant.proofs.Sounds.{limits_of}
-use Rattle.core_invariant.proofs.WordFrames.{SameFor, ReadsAlike, reads_alike, StaysSaid, word_stays}
-use Rattle.core_invariant.proofs.Writes.{clock_small, same_marks}
+use Rattle.kept_words.proofs.WordFrames.{SameFor, ReadsAlike, reads_alike, StaysSaid, word_stays}
+use Rattle.step_ways.proofs.Writes.{clock_small, same_marks}
 use Rattle.count_invariant.proofs.CapChanges.{counts_commit, counts_sum, dues_of}
 use Rattle.count_invariant.proofs.KillingCounts.{kill_numbers, kill_raises, kill_types}
 use Rattle.look_invariant.proofs.Findings.{own_is, found_named, way_gone}

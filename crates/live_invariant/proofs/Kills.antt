@@ -1,7 +1,7 @@
 -- The steps of a killing before its draw are good: the loads of the component's word and of its number's word, and the compare that marks
 -- the number, which is lost to another core or holds it for the call.
 use Rattle.core_invariant.proofs.Bare.{as_none, counts_bare}
-use Rattle.core_invariant.proofs.Lent.{may_keep, unlent_value, lent_elsewhere}
+use Rattle.lent_words.proofs.Lent.{may_keep, unlent_value, lent_elsewhere}
 use Rattle.std.proofs.Common.{◌≡◌, ◌≢◌, inl, ℕ, ◌+◌, ◌++◌, ◌^◌, ◌<◌, ◌==◌, map, length, Bool, true, false, if◌then◌else◌, List, [], ◌∷◌, Option, Some, None, IsTrue, arith, refl, sym, ◌∙◌, ap, subst}
 use Rattle.std.proofs.lemmas.Bool.{eqb-true, eqb-false, eq-eqb, false≢true}
 use Rattle.spk_nums.specs.Setting.{Setting, IsSetting}
@@ -43,11 +43,11 @@ use Rattle.core_invariant.specs.Holding.{holds_counts, settled_by}
 use Rattle.core_invariant.specs.Words.{IsFrameWord, NumberIs, count_room}
 use Rattle.core_invariant.specs.Knows.{due_of, KnowsUndecided}
 use Rattle.core_invariant.specs.Stands.{holds_at, holds_in, holds, held_by, Stands}
-use Rattle.core_invariant.proofs.Carries.{names_on, has_comp_on, life_on, counts_on}
-use Rattle.core_invariant.proofs.Counting as counters
-use Rattle.core_invariant.proofs.Good.{spares_other}
-use Rattle.core_invariant.proofs.Loads.{IsOfCall, OnlyLooks, step_to, next_at, core_at, inner, call_is, loads_on}
-use Rattle.core_invariant.proofs.Refusals.{GoodTook, refuses_raced, refuses_busy, refuses_dead, ticks_at}
+use Rattle.kept_knowledge.proofs.Carries.{names_on, has_comp_on, life_on, counts_on}
+use Rattle.step_ways.proofs.Counting as counters
+use Rattle.step_ways.proofs.Good.{spares_other}
+use Rattle.step_ways.proofs.Loads.{IsOfCall, OnlyLooks, step_to, next_at, core_at, inner, call_is, loads_on}
+use Rattle.step_ways.proofs.Refusals.{GoodTook, refuses_raced, refuses_busy, refuses_dead, ticks_at}
 use Rattle.count_invariant.proofs.Acquiring.{knows_next, next_holds, one_apart}
 use Rattle.live_invariant.proofs.Numbers.{no_number, shows_live, lives_as_shown, shows_some}
 use Rattle.live_invariant.proofs.KillCalls as calls

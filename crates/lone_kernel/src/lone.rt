@@ -26,7 +26,7 @@ ghost use Rattle.lone_kernel.specs.Moves.{MovesBy, StepsOnce, GoesBy, GoesFurthe
 
 use crate::seats::{Seat, Turn};
 use call_steps::{Absorbed, CoreState};
-use kernel_history::boot_words;
+use boot_words::boot_words;
 use spk_nums::{Call, CoreEnd, CoreNo, Decision, How, Memory, Setup, WordOp};
 use std::alloc::{AllocError, Global};
 use std::marker::Model;

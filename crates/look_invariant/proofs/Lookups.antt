@@ -27,13 +27,13 @@ use Rattle.kernel_history.specs.Ways.{capability_in, led_to, root_passed, wide_w
 use Rattle.kernel_history.specs.Footprint.{frames_own, frames_near, is_one_of}
 use Rattle.kernel_history.specs.Justified.{is_slot_in, HasReached}
 use Rattle.kernel_history.specs.Stamps.{stamp}
-use Rattle.kernel_history.proofs.Stays.{relies_reached}
+use Rattle.trace_laws.proofs.Stays.{relies_reached}
 use Rattle.kernel_history.proofs.Steps.{own_left-here}
 use Rattle.stage_look.specs.Shown.{CapNames, end_of_frames, held_if, entry_within, shown_in, is_link}
 use Rattle.stage_look.specs.Lookup.{look_move, found_at}
 use Rattle.stage_look.specs.declared.look.Look.{Look}
 use Rattle.stage_look.specs.declared.look.Look.TheVariants.{AtRoot, AtLeaf, AtEntry}
-use Rattle.kernel_history.proofs.Carries.{Carries}
+use Rattle.trace_laws.proofs.Carries.{Carries}
 use Rattle.call_plans.specs.After.{next_of}
 use Rattle.act_states.specs.declared.refusals.Refusal.TheVariants as refusal
 use Rattle.act_states.specs.declared.work.Work.TheVariants.{Lookup}
@@ -48,9 +48,9 @@ use Rattle.call_stages.specs.Fits.{CountsAt}
 use Rattle.core_invariant.specs.Words.{PlaceIs}
 use Rattle.core_invariant.specs.Knows.{ReliesOn, LooksUp, Knows, phase_at}
 use Rattle.core_invariant.specs.Stands.{holds_at, holds_in, Stands}
-use Rattle.core_invariant.proofs.Loads.{OnlyLooks, step_to, next_at, is_active, loads_on}
-use Rattle.core_invariant.proofs.Places.{IsMarked, IsPlain, place_reads}
-use Rattle.core_invariant.proofs.Refusals.{GoodTook, ticks_at, NobodyWaits, refuses_no_slot, refuses_busy}
+use Rattle.step_ways.proofs.Loads.{OnlyLooks, step_to, next_at, is_active, loads_on}
+use Rattle.step_ways.proofs.Places.{IsMarked, IsPlain, place_reads}
+use Rattle.step_ways.proofs.Refusals.{GoodTook, ticks_at, NobodyWaits, refuses_no_slot, refuses_busy}
 
 -- What an entry shows of a place.
 pub record ShowsHeld (frames : ℕ) (p : Place) (k : Capability) : Type 0 where

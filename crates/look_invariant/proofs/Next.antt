@@ -8,10 +8,10 @@ use Rattle.spk_nums.specs.declared.calls.Call.{Call}
 use Rattle.kernel_rules.specs.State.{State}
 use Rattle.kernel_rules.specs.Access.{Slot, Named, root, usable}
 use Rattle.kernel_rules.specs.Relies.{Relies}
-use Rattle.kernel_rules.proofs.Stays.{names_node}
+use Rattle.found_stays.proofs.Stays.{names_node}
 use Rattle.kernel_history.specs.Trace.{Trace, Open, phase, state_after}
 use Rattle.kernel_history.specs.Legal.{IsLegal}
-use Rattle.kernel_history.proofs.Stays.{relies_usable}
+use Rattle.trace_laws.proofs.Stays.{relies_usable}
 use Rattle.call_plans.specs.declared.plans.Name.{Name}
 use Rattle.call_plans.specs.declared.plans.Spot.{Spot}
 use Rattle.call_plans.specs.declared.plans.Target.{Target}

@@ -14,20 +14,20 @@ use Rattle.call_stages.specs.declared.stages.Stage.TheVariants.{Undecided, Decid
 use Rattle.call_stages.specs.Fits.{HasRoom}
 use Rattle.call_stages.specs.Steps.{GoesOn, went_with, landed}
 use Rattle.call_stages.specs.View.{Core}
-use Rattle.core_invariant.proofs.Calm.{plain_exit}
-use Rattle.core_invariant.proofs.Carries.{counts_on}
-use Rattle.core_invariant.proofs.CountSums.{counted_refs, calm_refs}
-use Rattle.core_invariant.proofs.Good.{spares_kept, spares_other}
-use Rattle.core_invariant.proofs.Loads.{IsOfCall, next_at, core_at, core_is, call_is, in_call, inner, inner_within, inner_disciplined, inner_near, is_active}
-use Rattle.core_invariant.proofs.OwnChanges.{decides_owning}
-use Rattle.core_invariant.proofs.Refusals.{GoodTook, not_spent}
+use Rattle.kept_words.proofs.Calm.{plain_exit}
+use Rattle.kept_knowledge.proofs.Carries.{counts_on}
+use Rattle.kept_words.proofs.CountSums.{counted_refs, calm_refs}
+use Rattle.step_ways.proofs.Good.{spares_kept, spares_other}
+use Rattle.step_ways.proofs.Loads.{IsOfCall, next_at, core_at, core_is, call_is, in_call, inner, inner_within, inner_disciplined, inner_near, is_active}
+use Rattle.step_ways.proofs.OwnChanges.{decides_owning}
+use Rattle.step_ways.proofs.Refusals.{GoodTook, not_spent}
 use Rattle.core_invariant.proofs.Sounds.{limits_of}
-use Rattle.core_invariant.proofs.Sums.{sums_since}
-use Rattle.core_invariant.proofs.WordFrames.{SameFor, marks_own, word_stays, reads_alike, carry_marks, carry_words, others_settled, own_settled}
-use Rattle.core_invariant.proofs.Users.{spares_none}
+use Rattle.kept_words.proofs.Sums.{sums_since}
+use Rattle.kept_words.proofs.WordFrames.{SameFor, marks_own, word_stays, reads_alike, carry_marks, carry_words, others_settled, own_settled}
+use Rattle.step_ways.proofs.Users.{spares_none}
 use Rattle.core_invariant.proofs.Bare.{counts_bare}
-use Rattle.core_invariant.proofs.Lent.{lent_none, lent_kept, lent_elsewhere}
-use Rattle.core_invariant.proofs.Writes.{clock_small}
+use Rattle.lent_words.proofs.Lent.{lent_none, lent_kept, lent_elsewhere}
+use Rattle.step_ways.proofs.Writes.{clock_small}
 use Rattle.core_invariant.specs.Holding.{Holding, holds_counts, settled_by, settled}
 use Rattle.core_invariant.specs.Knows.{due_of, KnowsUndecided, KnowsFlush, WorksIn, CoreIs, phase_at, untypes}
 use Rattle.core_invariant.specs.Stands.{is_done, holds_at, holds_in, holds, held_by, times_of, counted_in, Stands}
@@ -36,7 +36,7 @@ use Rattle.frame_words.proofs.FlushLemmas.{spelling}
 use Rattle.frame_words.specs.Flush.{word_of_flush}
 use Rattle.kernel_history.proofs.Inside.{decided-inside}
 use Rattle.kernel_history.proofs.Names.{same_word-other}
-use Rattle.kernel_history.proofs.Small.{last_small}
+use Rattle.trace_laws.proofs.Small.{last_small}
 use Rattle.kernel_history.proofs.Steps.{phase-own, steps_in_call-own, stamp-kept, flush_of-own, flush_stored-own, flush_stored-other}
 use Rattle.kernel_history.specs.Discipline.{stores_flush}
 use Rattle.kernel_history.specs.Justified.{IsJustified, HasReached}
@@ -44,8 +44,8 @@ use Rattle.kernel_history.specs.Marking.{marked_by}
 use Rattle.kernel_history.specs.Stamps.{begins_in, ends_in, flushes_in, begins_at, ends_at, flushes_at, stamp, clock, flush_of, flush_stored}
 use Rattle.kernel_history.specs.Trace.{Step, Trace, Open, phase, state_after, state_decided_in, last_left, own_left}
 use Rattle.kernel_history.specs.Ways.{ways}
-use Rattle.kernel_rules.proofs.SparesRuns.{core_same_refs}
-use Rattle.kernel_rules.proofs.Sums.{sum_one}
+use Rattle.found_stays.proofs.SparesRuns.{core_same_refs}
+use Rattle.kernel_invariant.proofs.Sums.{sum_one}
 use Rattle.kernel_rules.proofs.Within.{put_same, put_other}
 use Rattle.kernel_rules.specs.Access.{Slot}
 use Rattle.kernel_rules.specs.Alone.{alone}

@@ -25,10 +25,10 @@ use Rattle.kernel_rules.specs.Relies.{Relies}
 use Rattle.kernel_rules.specs.Rules.{Rule, Refused, Found, IsFoundAnd, mapped, outcome, RuleMay, answers}
 use Rattle.kernel_rules.specs.MemoryCalls.{translation_of, caching, translated, caches, touch_by}
 use Rattle.kernel_rules.specs.CallRelation.{rule_of, change_of, changed, counted, state_by, begins, ends, flushes, MayReply}
-use Rattle.kernel_rules.proofs.SoundCalls.{IsOpen}
-use Rattle.kernel_rules.proofs.SoundRuns.{opened}
-use Rattle.kernel_rules.proofs.SparesRuns.{core_same_refs}
-use Rattle.kernel_rules.proofs.Sums.{sum_one}
+use Rattle.kernel_invariant.proofs.SoundCalls.{IsOpen}
+use Rattle.kernel_invariant.proofs.SoundRuns.{opened}
+use Rattle.found_stays.proofs.SparesRuns.{core_same_refs}
+use Rattle.kernel_invariant.proofs.Sums.{sum_one}
 use Rattle.kernel_rules.proofs.Within.{put_same, put_other}
 use Rattle.kernel_laws.proofs.NodeSteps.{IsFitted}
 use Rattle.kernel_laws.proofs.NodesLaw.{runs_fit, mapped_page}
@@ -39,12 +39,12 @@ use Rattle.kernel_history.specs.Marking.{marked_by}
 use Rattle.kernel_history.specs.Stamps.{begins_in, ends_in, flushes_in, stamp}
 use Rattle.kernel_history.specs.Trace.{Step, Trace, Open, phase, state_after, state_decided_in, last_left, own_left}
 use Rattle.kernel_history.specs.Ways.{led_to, root_passed, wide_way_to, ways, wide_ways}
-use Rattle.kernel_history.proofs.AloneCalls.{ok_first}
-use Rattle.kernel_history.proofs.Carries.{Carries}
+use Rattle.trace_laws.proofs.AloneCalls.{ok_first}
+use Rattle.trace_laws.proofs.Carries.{Carries}
 use Rattle.kernel_history.proofs.Events.{state_is, run_of}
 use Rattle.kernel_history.proofs.Inside.{decided-inside}
-use Rattle.kernel_history.proofs.Small.{last_small}
-use Rattle.kernel_history.proofs.Stays.{sound_of, opened_is, relies_reached}
+use Rattle.trace_laws.proofs.Small.{last_small}
+use Rattle.trace_laws.proofs.Stays.{sound_of, opened_is, relies_reached}
 use Rattle.kernel_history.proofs.Steps.{own_left-here}
 use Rattle.plan_ways.proofs.Near.{one_left, one_right}
 use Rattle.stage_look.specs.Shown.{entry_within, shown_in, is_link}
@@ -75,18 +75,18 @@ use Rattle.core_invariant.specs.Knows.{due_of, LooksUp, KnowsTouch, KnowsUndecid
 use Rattle.core_invariant.specs.Stands.{holds_at, holds_in, holds, held_by, times_of, counted_in, Stands}
 use Rattle.core_invariant.specs.Words.{WordIs, count_room}
 use Rattle.core_invariant.proofs.Bare.{counts_bare}
-use Rattle.core_invariant.proofs.Lent.{lent_none, lent_kept}
-use Rattle.core_invariant.proofs.Calm.{IsPlain, plain_begins, plain_stamp, plain_flush, plain_exit}
-use Rattle.core_invariant.proofs.Carries.{names_on}
-use Rattle.core_invariant.proofs.CountSums.{counted_refs}
-use Rattle.core_invariant.proofs.Good.{spares_kept}
-use Rattle.core_invariant.proofs.Loads.{OnlyLooks, step_to, next_at, inner, call_is, core_is, is_active, loads_on, decides_on}
-use Rattle.core_invariant.proofs.OwnChanges.{decides_changing}
-use Rattle.core_invariant.proofs.Places.{IsMarked, IsPlain as ReadsPlain, place_reads}
-use Rattle.core_invariant.proofs.Refusals.{GoodTook, NobodyWaits, ticks_at, not_spent, refuses_fault, refuses_busy}
+use Rattle.lent_words.proofs.Lent.{lent_none, lent_kept}
+use Rattle.kept_words.proofs.Calm.{IsPlain, plain_begins, plain_stamp, plain_flush, plain_exit}
+use Rattle.kept_knowledge.proofs.Carries.{names_on}
+use Rattle.kept_words.proofs.CountSums.{counted_refs}
+use Rattle.step_ways.proofs.Good.{spares_kept}
+use Rattle.step_ways.proofs.Loads.{OnlyLooks, step_to, next_at, inner, call_is, core_is, is_active, loads_on, decides_on}
+use Rattle.step_ways.proofs.OwnChanges.{decides_changing}
+use Rattle.step_ways.proofs.Places.{IsMarked, IsPlain as ReadsPlain, place_reads}
+use Rattle.step_ways.proofs.Refusals.{GoodTook, NobodyWaits, ticks_at, not_spent, refuses_fault, refuses_busy}
 use Rattle.core_invariant.proofs.Sounds.{limits_of}
-use Rattle.core_invariant.proofs.Sums.{sums_keep}
-use Rattle.core_invariant.proofs.WordFrames.{SameFor, marks_own, settled_on, load_keeps, load_marks, load_words}
+use Rattle.kept_words.proofs.Sums.{sums_keep}
+use Rattle.kept_words.proofs.WordFrames.{SameFor, marks_own, settled_on, load_keeps, load_marks, load_words}
 use Rattle.look_invariant.proofs.Lookups.{Shows, ShowsHeld, shown_of, link_kind, link_none, link_shown, passes, root_slots, slot_left, slot_right, slot_one, near_way, use_removed, leaf_reached}
 use Rattle.page_invariant.proofs.TouchCalls.{told_by, unlinked_may, empty_may, unreached_first, empty_first, cached_first, mapped_is, mapped_first}
 

@@ -1,8 +1,8 @@
 -- The entry of a removal is closed and given back: the compare that marks it is lost to another core or holds it for the call, and the
 -- store of a decided removal leaves the quiescing entry for which it stood.
 use Rattle.core_invariant.proofs.Bare.{as_none, counts_bare}
-use Rattle.core_invariant.proofs.Lent.{unlent_value, unlent_word, unlent_after, node_keeps_none, lent_free}
-use Rattle.core_invariant.proofs.Good.{spares_node}
+use Rattle.lent_words.proofs.Lent.{unlent_value, unlent_word, unlent_after, node_keeps_none, lent_free}
+use Rattle.step_ways.proofs.Good.{spares_node}
 use Rattle.std.proofs.Common.{◌≡◌, ◌≢◌, inl, inr, ℕ, ◌^◌, ◌<◌, ◌==◌, ◌∷◌, [], Bool, true, false, List, Option, Some, None, arith, refl, sym, ◌∙◌, ap, subst, IsTrue, if◌then◌else◌}
 use Rattle.std.proofs.lemmas.Bool.{eqb-true, eqb-false, eq-eqb}
 use Rattle.spk_nums.specs.Capability.{Capability}
@@ -48,11 +48,11 @@ use Rattle.core_invariant.specs.Holding.{Holding, holds_counts, settled_by, sett
 use Rattle.core_invariant.specs.Words.{PlaceIs, count_room}
 use Rattle.core_invariant.specs.Knows.{IsStored, KnowsUndecided, phase_at}
 use Rattle.core_invariant.specs.Stands.{done_by, holds_at, holds_in, holds, held_by, times_of, Stands}
-use Rattle.core_invariant.proofs.Carries.{names_on, removal_on, slot_relies, counts_on}
-use Rattle.core_invariant.proofs.Counting as counters
-use Rattle.core_invariant.proofs.Loads.{IsOfCall, core_at, inner, call_is, is_active}
-use Rattle.core_invariant.proofs.Places.{node_mark, node_says}
-use Rattle.core_invariant.proofs.Refusals.{GoodTook, ticks_at, refuses_raced}
+use Rattle.kept_knowledge.proofs.Carries.{names_on, removal_on, slot_relies, counts_on}
+use Rattle.step_ways.proofs.Counting as counters
+use Rattle.step_ways.proofs.Loads.{IsOfCall, core_at, inner, call_is, is_active}
+use Rattle.step_ways.proofs.Places.{node_mark, node_says}
+use Rattle.step_ways.proofs.Refusals.{GoodTook, ticks_at, refuses_raced}
 use Rattle.count_invariant.proofs.Acquiring.{removal_places, plan_leads, goes_by}
 use Rattle.place_invariant.proofs.Fills.{changes_node, target_way}
 use Rattle.look_invariant.proofs.Lookups.{near_way}

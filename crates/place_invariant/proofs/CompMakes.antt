@@ -13,8 +13,8 @@ use Rattle.kernel_rules.specs.Fitting.{fits}
 use Rattle.kernel_rules.specs.Rules.{Rule, Vacant, Does, Found, named}
 use Rattle.kernel_rules.specs.CapabilityCalls.{outside, not_blank, not_taken, makes_comp, epoch_of}
 use Rattle.kernel_rules.specs.CallRelation.{rule_of}
-use Rattle.kernel_rules.proofs.Facts.{named_fit}
-use Rattle.kernel_rules.proofs.Sound.{IsSound}
+use Rattle.kernel_invariant.proofs.Facts.{named_fit}
+use Rattle.kernel_invariant.proofs.Sound.{IsSound}
 use Rattle.call_plans.specs.PlanOf.{of_kind, plan_for}
 use Rattle.call_plans.specs.After.{Leads, LeadsIn, rule_after, names_after, NextFree, next_of}
 use Rattle.act_states.specs.Comps.{comp_due_list}

@@ -1,6 +1,6 @@
 -- The filling compare of a copy is good: it is lost to another core, or the place is free and takes the capability.
-use Rattle.core_invariant.proofs.Lent.{unlent_word, node_keeps_none}
-use Rattle.core_invariant.proofs.Good.{spares_node}
+use Rattle.lent_words.proofs.Lent.{unlent_word, node_keeps_none}
+use Rattle.step_ways.proofs.Good.{spares_node}
 use Rattle.std.proofs.Common.{◌≡◌, ◌≢◌, ◌⊎◌, inl, inr, not, ℕ, pos, length, ◌≤◌, ◌+◌, ◌^◌, ◌/◌, ◌%◌, ◌<◌, ◌==◌, ◌&&◌, nat_le, if◌then◌else◌, ◌∷◌, [], Bool, true, false, List, Option, Some, None, arith, refl, sym, ◌∙◌, ap, subst, IsTrue, ◌+ℤ◌, max}
 use Rattle.std.specs.Prelude.{option_to_list}
 use Rattle.std.proofs.lemmas.Bool.{eqb-true, eqb-false, eq-eqb, false≢true}
@@ -30,12 +30,12 @@ use Rattle.kernel_rules.specs.CallRelation.{MayReply, rule_of, ends_by, flushes_
 use Rattle.kernel_rules.specs.Laws.{calls_counted}
 use Rattle.kernel_rules.specs.Relies.{is_node}
 use Rattle.kernel_rules.proofs.Within.{put_same}
-use Rattle.kernel_rules.proofs.Apart.{slot_is, place_here, place_there}
+use Rattle.found_stays.proofs.Apart.{slot_is, place_here, place_there}
 use Rattle.kernel_history.specs.Trace.{Step, Trace, Open, phase, state_after, state_decided_in, last_left}
 use Rattle.kernel_history.specs.Ways.{capability_in, led_to, root_passed, way_to, wide_way_to, ways, wide_ways, target_of}
 use Rattle.kernel_history.specs.Discipline.{changes_places, changes_in_frame}
 use Rattle.kernel_history.specs.Justified.{is_slot_in, HasReached, IsSlot}
-use Rattle.kernel_history.proofs.AloneCalls.{ok_first}
+use Rattle.trace_laws.proofs.AloneCalls.{ok_first}
 use Rattle.kernel_history.specs.Marks.{entry_mark, mark_in_frame, mark_of}
 use Rattle.kernel_history.specs.Legal.{IsLegal}
 use Rattle.kernel_history.specs.Marking.{marked_by}
@@ -59,26 +59,26 @@ use Rattle.act_states.specs.Fills.{FillFits, filled_if, fill_move}
 use Rattle.act_states.specs.Acts.{cap_dues, gate_if, gate_to, put_by, reads_of, page_cap}
 use Rattle.act_fits.proofs.DuesFit.{cap_one}
 use Rattle.kernel_rules.specs.References.{named_by, times, refs}
-use Rattle.core_invariant.proofs.WordFrames.{reads_alike}
-use Rattle.core_invariant.proofs.Calm.{room_grows, IsCalm, calm_core, IsPlain, plain_stamp}
-use Rattle.core_invariant.proofs.CountSums.{fill_refs}
+use Rattle.kept_words.proofs.WordFrames.{reads_alike}
+use Rattle.kept_words.proofs.Calm.{room_grows, IsCalm, calm_core, IsPlain, plain_stamp}
+use Rattle.kept_words.proofs.CountSums.{fill_refs}
 use Rattle.core_invariant.proofs.Sounds.{limits_of}
 use Rattle.count_invariant.proofs.CapChanges.{counts_commit, counts_sum}
 use Rattle.count_invariant.proofs.Acquiring.{plan_leads}
 use Rattle.place_invariant.proofs.Vacancy.{IsVacant, vacant_by}
 use Rattle.core_invariant.specs.Holding.{holds_counts}
 use Rattle.core_invariant.specs.CountWords.{IsWithin}
-use Rattle.core_invariant.proofs.Writes.{same_marks, writes_entry}
+use Rattle.step_ways.proofs.Writes.{same_marks, writes_entry}
 use Rattle.call_stages.specs.Steps.{landed}
 use Rattle.call_stages.specs.View.{Core}
 use Rattle.call_stages.specs.Fits.{StageFits, HasRoom}
 use Rattle.core_invariant.specs.Words.{PlaceIs, IsFrameWord, WordIs, count_room}
 use Rattle.core_invariant.specs.Knows.{HasFound, IsRead, ReadIs, MayFill, KnowsUndecided, own_in, phase_at, HasUser}
 use Rattle.core_invariant.specs.Stands.{holds_at, holds_in, holds, times_of, Stands}
-use Rattle.core_invariant.proofs.Carries.{own_kept, slot_relies}
-use Rattle.core_invariant.proofs.Loads.{IsOfCall, next_at, core_at, inner, call_is, is_active}
-use Rattle.core_invariant.proofs.Places.{IsMarked, IsPlain as IsUnmarked, node_mark, place_reads}
-use Rattle.core_invariant.proofs.Refusals.{GoodTook, ticks_at, not_spent, refuses_raced}
+use Rattle.kept_knowledge.proofs.Carries.{own_kept, slot_relies}
+use Rattle.step_ways.proofs.Loads.{IsOfCall, next_at, core_at, inner, call_is, is_active}
+use Rattle.step_ways.proofs.Places.{IsMarked, IsPlain as IsUnmarked, node_mark, place_reads}
+use Rattle.step_ways.proofs.Refusals.{GoodTook, ticks_at, not_spent, refuses_raced}
 use Rattle.look_invariant.proofs.Lookups.{slot_right, slot_one, near_way}
 use Rattle.look_invariant.proofs.Findings.{own_is, found_named, way_gone}
 use Rattle.look_invariant.proofs.Next.{Rest, ANameLeft, NoneLeft, rest_of, next_name}

@@ -8,11 +8,6 @@ pub mod Fills
 pub mod Vacancy
 pub mod Paging
 pub mod Mappings
--- Scanning.
-pub mod Scans
-pub mod CoreScans
-pub mod FlushScans
-pub mod ScanSteps
 -- Removing.
 pub mod Closings
 pub mod Removals

@@ -31,7 +31,7 @@ use Rattle.kernel_history.specs.Marking.{marked_by}
 use Rattle.kernel_history.specs.Marks.{count_mark, frame_mark}
 use Rattle.kernel_history.specs.ObjectWords.{frame_value}
 use Rattle.kernel_history.specs.Trace.{Step, Trace, Open, phase, state_after, last_left}
-use Rattle.kernel_history.proofs.AloneCalls.{refused_first}
+use Rattle.trace_laws.proofs.AloneCalls.{refused_first}
 use Rattle.kernel_history.proofs.Steps.{own_read-there, last_left-there}
 use Rattle.call_plans.specs.declared.plans.Plan.{Plan}
 use Rattle.call_plans.specs.PlanOf.{plan_for}
@@ -59,10 +59,10 @@ use Rattle.call_stages.specs.View.{Core}
 use Rattle.core_invariant.specs.Holding.{holds_counts, settled_by}
 use Rattle.core_invariant.specs.Knows.{ReadIs, HasUser, IsUser, IsCount, due_of, IsMapping, mapped_frame, is_mapping, KnowsUndecided, phase_at}
 use Rattle.core_invariant.specs.Stands.{holds_at, holds_in, held_by, Stands}
-use Rattle.core_invariant.proofs.Counting.{first_marked}
-use Rattle.core_invariant.proofs.Carries.{names_on, spot_on, slot_relies}
-use Rattle.core_invariant.proofs.Loads.{OnlyLooks, step_to, inner, core_is, call_is, is_active, loads_on, decides_on}
-use Rattle.core_invariant.proofs.Refusals.{GoodTook, ticks_at, not_spent, refuses_busy}
+use Rattle.step_ways.proofs.Counting.{first_marked}
+use Rattle.kept_knowledge.proofs.Carries.{names_on, spot_on, slot_relies}
+use Rattle.step_ways.proofs.Loads.{OnlyLooks, step_to, inner, core_is, call_is, is_active, loads_on, decides_on}
+use Rattle.step_ways.proofs.Refusals.{GoodTook, ticks_at, not_spent, refuses_busy}
 use Rattle.core_invariant.proofs.Sounds.{limits_of}
 use Rattle.count_invariant.proofs.Acquiring.{plan_leads, goes_by}
 use Rattle.count_invariant.proofs.MakingCounts.{argument_near}

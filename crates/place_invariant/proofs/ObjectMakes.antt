@@ -14,8 +14,8 @@ use Rattle.kernel_rules.specs.Fitting.{fits}
 use Rattle.kernel_rules.specs.Rules.{Rule, Vacant, Does, Found, named}
 use Rattle.kernel_rules.specs.CapabilityCalls.{outside, not_blank, makes, is_place_of}
 use Rattle.kernel_rules.specs.CallRelation.{rule_of}
-use Rattle.kernel_rules.proofs.Facts.{named_fit}
-use Rattle.kernel_rules.proofs.Sound.{IsSound}
+use Rattle.kernel_invariant.proofs.Facts.{named_fit}
+use Rattle.kernel_invariant.proofs.Sound.{IsSound}
 use Rattle.call_plans.specs.PlanOf.{of_kind, plan_for}
 use Rattle.call_plans.specs.After.{Leads, LeadsIn, rule_after, names_after, NextFree, next_of}
 use Rattle.act_states.specs.declared.objects.NewObject.{NewObject}

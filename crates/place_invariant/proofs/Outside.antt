@@ -18,7 +18,7 @@ use Rattle.kernel_rules.specs.State.{State, PlaceOf, Kernel, Leaf}
 use Rattle.kernel_rules.specs.Access.{Slot, Target, Under, found, place_at, reached}
 use Rattle.act_states.specs.Acts.{page_cap}
 use Rattle.kernel_rules.specs.MemoryCalls.{not_user}
-use Rattle.core_invariant.proofs.Carries.{slot_relies}
+use Rattle.kept_knowledge.proofs.Carries.{slot_relies}
 use Rattle.kernel_rules.specs.Rules.{Rule, Cause, Change, Vacant, Does, fills, RuleMay, Refused, Found, and_then, or_refuse, unless, first_of, first_cause, vacant, not_vacant, outcome}
 use Rattle.kernel_rules.specs.Relies.{is_node}
 use Rattle.kernel_rules.specs.CapabilityCalls.{has_frame, outside, not_blank, not_taken, makes, makes_comp}
@@ -37,8 +37,8 @@ use Rattle.call_stages.specs.declared.stages.ActiveCall.{ActiveCall}
 use Rattle.call_stages.specs.View.{Core}
 use Rattle.core_invariant.specs.Knows.{IsSpot, MayFill, OutsideBy, OutsideObject, OutsideComp, NamesAre, phase_at}
 use Rattle.core_invariant.specs.Stands.{Stands}
-use Rattle.core_invariant.proofs.Loads.{step_to, call_is, is_active}
-use Rattle.core_invariant.proofs.Places.{IsMarked, IsPlain as IsUnmarked, place_reads}
+use Rattle.step_ways.proofs.Loads.{step_to, call_is, is_active}
+use Rattle.step_ways.proofs.Places.{IsMarked, IsPlain as IsUnmarked, place_reads}
 use Rattle.core_invariant.proofs.Sounds.{limits_of}
 use Rattle.count_invariant.proofs.Acquiring.{plan_leads, goes_by}
 use Rattle.look_invariant.proofs.Next.{Rest, ANameLeft, NoneLeft, rest_of, next_name}

@@ -14,12 +14,12 @@ use Rattle.kernel_rules.specs.State.{Table, Pages, Frame, Kernel, State}
 use Rattle.kernel_rules.specs.Access.{Slot, Named, found, root, only, Target, Under, InRoot, reached}
 use Rattle.kernel_rules.specs.Fitting.{fits, IsGood}
 use Rattle.kernel_rules.specs.GracePeriods.{is_paging}
-use Rattle.kernel_rules.proofs.Facts.{some_inj, none_some, named_good}
-use Rattle.kernel_rules.proofs.SoundRuns.{opened}
+use Rattle.kernel_invariant.proofs.Facts.{some_inj, none_some, named_good}
+use Rattle.kernel_invariant.proofs.SoundRuns.{opened}
 use Rattle.kernel_history.specs.Events.{events_of}
 use Rattle.kernel_history.specs.Legal.{IsLegal}
 use Rattle.kernel_history.specs.Trace.{Trace, Open, phase, state_after}
-use Rattle.kernel_history.proofs.Stays.{sound_of, opened_is}
+use Rattle.trace_laws.proofs.Stays.{sound_of, opened_is}
 use Rattle.call_plans.specs.declared.plans.Spot.{Spot}
 use Rattle.call_plans.specs.declared.plans.Target.{Target as TargetOf}
 use Rattle.call_plans.specs.declared.plans.Target.TheVariants.{Nowhere, Free, Held, Own}

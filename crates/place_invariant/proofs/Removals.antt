@@ -31,16 +31,16 @@ use Rattle.kernel_rules.specs.GracePeriods.{same_thing, new_grace}
 use Rattle.kernel_rules.specs.Laws.{calls_counted}
 use Rattle.kernel_rules.specs.Relies.{is_node, IsGuarded, Relies}
 use Rattle.kernel_rules.proofs.Within.{put_same}
-use Rattle.kernel_rules.proofs.Apart.{slot_is, place_here, place_there}
-use Rattle.kernel_rules.proofs.Sums as sums
+use Rattle.found_stays.proofs.Apart.{slot_is, place_here, place_there}
+use Rattle.kernel_invariant.proofs.Sums as sums
 use Rattle.kernel_history.specs.Trace.{Step, Trace, Out, Open, WasAt, phase, state_after, state_decided_in, last_left}
 use Rattle.kernel_history.specs.Ways.{way_to, ways, wide_ways}
 use Rattle.kernel_history.specs.Footprint.{IsNearIn}
 use Rattle.kernel_history.specs.Justified.{is_slot_in, HasReached}
 use Rattle.kernel_history.specs.Marking.{marked_by}
 use Rattle.kernel_history.specs.Stamps.{begins_in as begins_then, ends_in, flushes_in, begins_at, ends_at, flushes_at, stamp, clock, flush_stored, is_in}
-use Rattle.kernel_history.proofs.AloneCalls.{ok_first}
-use Rattle.kernel_history.proofs.Carries.{was_now, was_stays}
+use Rattle.trace_laws.proofs.AloneCalls.{ok_first}
+use Rattle.trace_laws.proofs.Carries.{was_now, was_stays}
 use Rattle.kernel_history.proofs.Inside.{inside_is, decided-inside}
 use Rattle.kernel_history.proofs.Names.{cases_word, same_word-other}
 use Rattle.kernel_history.proofs.Steps.{stamp-begins, stamp-kept, flush_stored-own, flush_stored-other}
@@ -72,16 +72,16 @@ use Rattle.core_invariant.specs.Holding.{Holding, holds_counts, settled_by, sett
 use Rattle.core_invariant.specs.Words.{PlaceIs, WordIs, count_room}
 use Rattle.core_invariant.specs.Knows.{HasFound, KnowsStore, KnowsUndecided, own_in, phase_at}
 use Rattle.core_invariant.specs.Stands.{holds_at, holds_in, holds, held_by, times_of, Stands}
-use Rattle.core_invariant.proofs.Calm.{IsCalm, calm_core, plain_exit, room_rises, room_grows, counted_grows}
-use Rattle.core_invariant.proofs.Carries.{own_kept, slot_relies}
-use Rattle.core_invariant.proofs.CountSums.{removed_refs}
-use Rattle.core_invariant.proofs.Draws as drawing
-use Rattle.core_invariant.proofs.Loads.{call_is, inner_works, is_active}
-use Rattle.core_invariant.proofs.Places.{node_says}
-use Rattle.core_invariant.proofs.Refusals.{GoodTook, not_spent}
+use Rattle.kept_words.proofs.Calm.{IsCalm, calm_core, plain_exit, room_rises, room_grows, counted_grows}
+use Rattle.kept_knowledge.proofs.Carries.{own_kept, slot_relies}
+use Rattle.kept_words.proofs.CountSums.{removed_refs}
+use Rattle.step_ways.proofs.Draws as drawing
+use Rattle.step_ways.proofs.Loads.{call_is, inner_works, is_active}
+use Rattle.step_ways.proofs.Places.{node_says}
+use Rattle.step_ways.proofs.Refusals.{GoodTook, not_spent}
 use Rattle.core_invariant.proofs.Sounds.{limits_of}
-use Rattle.core_invariant.proofs.WordFrames.{SameFor, ReadsAlike, reads_alike, StaysSaid, word_stays}
-use Rattle.core_invariant.proofs.Writes.{clock_small, same_marks}
+use Rattle.kept_words.proofs.WordFrames.{SameFor, ReadsAlike, reads_alike, StaysSaid, word_stays}
+use Rattle.step_ways.proofs.Writes.{clock_small, same_marks}
 use Rattle.count_invariant.proofs.Acquiring.{removal_places, removal_raises, removal_types, plan_leads, goes_by}
 use Rattle.place_invariant.proofs.Closings.{close_good, store_at}
 use Rattle.count_invariant.proofs.CapChanges.{counts_commit, counts_sum}

@@ -10,8 +10,8 @@ use Rattle.kernel_rules.specs.Rules.{RuleMay, Refused}
 use Rattle.kernel_rules.specs.CallRelation.{rule_of, change_of, are_calls_spent}
 use Rattle.kernel_history.specs.Alone.{IsAlone}
 use Rattle.kernel_history.specs.Trace.{Step, Trace, Open, phase, state_after, last_left}
-use Rattle.kernel_history.proofs.AloneCalls.{refused_first}
-use Rattle.kernel_history.proofs.Carries.{Carries}
+use Rattle.trace_laws.proofs.AloneCalls.{refused_first}
+use Rattle.trace_laws.proofs.Carries.{Carries}
 use Rattle.stage_quiet.specs.declared.close.Close.TheVariants.{AtCompare, AtDraw, AtStore}
 use Rattle.stage_pins.specs.declared.held.Acquired.{Acquired}
 use Rattle.act_states.specs.declared.refusals.Refusal.TheVariants as refusal
@@ -37,9 +37,9 @@ use Rattle.call_stages.specs.View.{Core}
 use Rattle.core_invariant.specs.Holding.{Holding, holds_counts}
 use Rattle.core_invariant.specs.Knows.{AreDuesApart, due_of, KnowsAct, NamesAre, is_start, is_counting, goes_on, phase_at}
 use Rattle.core_invariant.specs.Stands.{holds_act, holds_making, holds_in, Stands, holds_killing, holds_comp}
-use Rattle.core_invariant.proofs.Carries.{names_on}
-use Rattle.core_invariant.proofs.Loads.{OnlyLooks, step_to, next_at, core_is, call_is, loads_on, decides_on}
-use Rattle.core_invariant.proofs.Refusals.{GoodTook, not_spent}
+use Rattle.kept_knowledge.proofs.Carries.{names_on}
+use Rattle.step_ways.proofs.Loads.{OnlyLooks, step_to, next_at, core_is, call_is, loads_on, decides_on}
+use Rattle.step_ways.proofs.Refusals.{GoodTook, not_spent}
 use Rattle.count_invariant.proofs.Acquiring.{knows_next, next_holds, one_apart}
 
 -- Before its first step an act holds nothing.

@@ -2,7 +2,7 @@
 use Rattle.std.proofs.Common.{◌≡◌, ◌≢◌, ℕ, zero, suc, find, cond, ◌+◌, ◌<◌, ◌≤◌, ◌==◌, ◌&&◌, not, inl, inr, Bool, true, false, [], Option, Some, None, IsTrue, arith, refl, sym, ◌∙◌, ap, subst}
 use Rattle.std.proofs.lemmas.Bool.{false≢true, eqb-false}
 use Rattle.std.specs.List.{range_with_len}
-use Rattle.kernel_history.proofs.GraceSteps.{cases_bool}
+use Rattle.trace_laws.proofs.GraceSteps.{cases_bool}
 use Rattle.spk_nums.specs.Setting.{Setting, IsSetting}
 use Rattle.spk_nums.specs.Capability.{Capability}
 use Rattle.spk_nums.specs.declared.kinds.Kind.TheVariants as kind
@@ -15,9 +15,9 @@ use Rattle.kernel_rules.specs.Fitting.{fits}
 use Rattle.kernel_rules.specs.GracePeriods.{is_paging, lowest, other_waiting, quiescing_by, unflushed_by}
 use Rattle.kernel_rules.specs.References.{place_names}
 use Rattle.kernel_rules.specs.Rules.{Found, named, first_of, waits_of, flushes_of, not_vacant}
-use Rattle.kernel_rules.proofs.Facts.{named_fit}
-use Rattle.kernel_rules.proofs.SoundCalls.{IsOpen}
-use Rattle.kernel_rules.proofs.SoundRuns.{opened}
+use Rattle.kernel_invariant.proofs.Facts.{named_fit}
+use Rattle.kernel_invariant.proofs.SoundCalls.{IsOpen}
+use Rattle.kernel_invariant.proofs.SoundRuns.{opened}
 use Rattle.kernel_laws.specs.Nodes.{leads_to}
 use Rattle.kernel_laws.proofs.NodeSteps.{IsFitted}
 use Rattle.kernel_laws.proofs.NodesLaw.{runs_fit, leaf_fits}
@@ -27,9 +27,9 @@ use Rattle.kernel_history.specs.Legal.{IsLegal}
 use Rattle.kernel_rules.specs.Relies.{is_node}
 use Rattle.kernel_history.specs.Stamps.{stamp}
 use Rattle.kernel_history.specs.Trace.{Trace, Open, phase, state_after}
-use Rattle.kernel_history.proofs.Awaits.{awaits_are}
+use Rattle.trace_laws.proofs.Awaits.{awaits_are}
 use Rattle.kernel_history.proofs.Events.{state_is, run_of}
-use Rattle.kernel_history.proofs.Stays.{sound_of, opened_is}
+use Rattle.trace_laws.proofs.Stays.{sound_of, opened_is}
 use Rattle.core_invariant.specs.Words.{PlaceIs}
 use Rattle.core_invariant.specs.Knows.{HasFlushed, IsScanned, MayFill}
 

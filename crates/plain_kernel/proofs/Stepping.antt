@@ -17,7 +17,7 @@ use Rattle.kernel_rules.proofs.AloneLaw.{Waits, rule_waits, rule_plain, waits_in
 use Rattle.kernel_rules.proofs.Changes.{IfFound, outcome_all}
 use Rattle.kernel_laws.proofs.RangesLaw.{ranges_hold}
 use Rattle.kernel_rules.proofs.Within.{waits_within}
-use Rattle.kernel_rules.proofs.SoundRuns.{limits_stay}
+use Rattle.kernel_invariant.proofs.SoundRuns.{limits_stay}
 use Rattle.seq_state.specs.Maps.{Maps, state_of}
 use Rattle.seq_state.specs.Representation.{SameGrace, SameState, Represents}
 use Rattle.seq_state.proofs.Same.{same_by, same_then, same_core}

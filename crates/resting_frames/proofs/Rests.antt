@@ -27,19 +27,19 @@ use Rattle.kernel_rules.specs.CallRelation.{rule_of, change_of, changed, owed_by
 use Rattle.kernel_rules.specs.Relies.{IsGuarded}
 use Rattle.kernel_rules.proofs.Changes.{IfFound}
 use Rattle.kernel_rules.proofs.Within.{put_same, put_other}
-use Rattle.kernel_rules.proofs.Sound.{only_is}
-use Rattle.kernel_rules.proofs.SoundCalls.{IsOpen, blank_by, untyped_by}
-use Rattle.kernel_rules.proofs.SoundRemovals.{unnamed}
-use Rattle.kernel_rules.proofs.SparesRuns.{core_same_refs}
-use Rattle.kernel_rules.proofs.Sums.{times_first, times_cons}
-use Rattle.kernel_rules.proofs.Facts.{ChangesFrom, outcome_from, some_inj, none_some, named_good, vacant_facts, held_facts}
-use Rattle.kernel_rules.proofs.FrameTurns.{is_typed}
-use Rattle.kernel_rules.proofs.SoundRuns.{opened}
-use Rattle.kernel_rules.proofs.Stays.{name_parts, usable_guarded, reached_relies}
+use Rattle.kernel_invariant.proofs.Sound.{only_is}
+use Rattle.kernel_invariant.proofs.SoundCalls.{IsOpen, blank_by, untyped_by}
+use Rattle.kernel_invariant.proofs.SoundRemovals.{unnamed}
+use Rattle.found_stays.proofs.SparesRuns.{core_same_refs}
+use Rattle.kernel_invariant.proofs.Sums.{times_first, times_cons}
+use Rattle.kernel_invariant.proofs.Facts.{ChangesFrom, outcome_from, some_inj, none_some, named_good, vacant_facts, held_facts}
+use Rattle.kernel_invariant.proofs.FrameTurns.{is_typed}
+use Rattle.kernel_invariant.proofs.SoundRuns.{opened}
+use Rattle.found_stays.proofs.Stays.{name_parts, usable_guarded, reached_relies}
 use Rattle.kernel_history.specs.Legal.{MayFollow, IsLegal}
 use Rattle.kernel_history.specs.Trace.{Step, Trace, Phase, Out, Open, Decided, phase, after_enter, state_after, state_entered, state_decided, state_returned, state_before}
 use Rattle.kernel_history.proofs.Events.{entered_events}
-use Rattle.kernel_history.proofs.Opens.{opens}
+use Rattle.trace_laws.proofs.Opens.{opens}
 
 -- From s to t the frame f rests.
 pub record Rests (s t : State) (f : ℕ) : Type 0 where

@@ -10,7 +10,7 @@ use Rattle.kernel_rules.specs.GracePeriods.{same_thing, needs_flush, is_paging, 
 use Rattle.kernel_rules.specs.Rules.{Change, Cause, When, WaitedFor, Unflushed, Rule, Name, Vacant, Held, Mapped, Does, Judged, Refused, Found, and_then, unless, named, vacant, held, mapped, first_of, refusal_of, first_cause, outcome}
 use Rattle.kernel_rules.specs.CallRelation.{changed}
 use Rattle.kernel_rules.specs.Relies.{is_node}
-use Rattle.kernel_rules.proofs.Sound.{IsSound}
+use Rattle.kernel_invariant.proofs.Sound.{IsSound}
 use Rattle.seq_state.specs.Representation.{IsThing, SameGrace, SameState}
 use Rattle.seq_state.proofs.Same.{same_grace_by}
 use Rattle.same_changes.specs.Same.{SameChange, SameOutcome}

@@ -15,9 +15,9 @@ use Rattle.kernel_rules.specs.Rules.{Change, Found, Cause, When, named, refusal_
 use Rattle.kernel_rules.specs.CapabilityCalls.{look_rule, copy_rule, remove_rule, grow_rule, shrink_rule, outside, is_blank, not_blank, makes, is_place_of, cleared, make_node, make_thread, make_tcap, is_live, epoch_of, not_taken, makes_comp, make_comp, make_rule}
 use Rattle.kernel_rules.specs.Fitting.{fits, IsGood}
 use Rattle.kernel_rules.specs.Relies.{is_node}
-use Rattle.kernel_rules.proofs.Sound.{only_is}
-use Rattle.kernel_rules.proofs.Facts.{named_good}
-use Rattle.kernel_rules.proofs.SoundCalls.{root_node}
+use Rattle.kernel_invariant.proofs.Sound.{only_is}
+use Rattle.kernel_invariant.proofs.Facts.{named_good}
+use Rattle.kernel_invariant.proofs.SoundCalls.{root_node}
 use Rattle.seq_state.specs.Representation.{IsThing, SameGrace, SameState}
 use Rattle.seq_state.proofs.Same.{same_by, same_then, same_place, same_frame, same_number, same_grace_by}
 use Rattle.same_changes.specs.Same.{SameChange}

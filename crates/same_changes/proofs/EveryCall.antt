@@ -7,7 +7,7 @@ use Rattle.spk_nums.specs.declared.calls.Call.TheVariants.{Look, Copy, Remove, G
 use Rattle.kernel_rules.specs.State.{Limits, State}
 use Rattle.kernel_rules.specs.CallRelation.{rule_of, change_of}
 use Rattle.kernel_rules.specs.Runs.{Event, after, Open, is_open, phase_of, IsRun}
-use Rattle.kernel_rules.proofs.SoundRuns.{opened, limits_stay, open_limits, runs_sound}
+use Rattle.kernel_invariant.proofs.SoundRuns.{opened, limits_stay, open_limits, runs_sound}
 use Rattle.kernel_laws.proofs.NodesLaw.{nodes_hold_what_fits}
 use Rattle.kernel_laws.proofs.RangesLaw.{ranges_hold}
 use Rattle.seq_state.specs.Representation.{SameState}

@@ -20,8 +20,8 @@ use Rattle.kernel_rules.specs.CapabilityCalls.{outside, has_frame}
 use Rattle.kernel_rules.specs.MemoryCalls.{is_untyped, is_user, holds_nothing, is_empty_object, is_empty, not_retyped, retypes, retype_rule, map_rule, unmap_rule, translation_of, caching, caches, touch_by, touch_rule, flush_rule}
 use Rattle.kernel_rules.specs.Fitting.{IsGood, EndsWithin}
 use Rattle.kernel_rules.specs.Relies.{is_node}
-use Rattle.kernel_rules.proofs.Sound.{only_is}
-use Rattle.kernel_rules.proofs.Facts.{named_good, named_fit, when_not, not_not}
+use Rattle.kernel_invariant.proofs.Sound.{only_is}
+use Rattle.kernel_invariant.proofs.Facts.{named_good, named_fit, when_not, not_not}
 use Rattle.seq_state.specs.Representation.{IsThing, SameGrace, SameState}
 use Rattle.seq_state.proofs.Same.{same_by, same_then, same_place, same_frame, same_core, same_grace_by, same_refs}
 use Rattle.same_changes.specs.Same.{SameChange}
@@ -123,7 +123,7 @@ retype_same {t} {s} {o} {c} w r f frame_kind.Untyped = (
           ),
     ),
     λ none.
-        let below = in_range w r range f is (Rattle.kernel_rules.proofs.Facts.none_parts (refusal_of s c (outside (found range) f))
+        let below = in_range w r range f is (Rattle.kernel_invariant.proofs.Facts.none_parts (refusal_of s c (outside (found range) f))
         (Rattle.kernel_rules.specs.Rules.first_cause s c (not_retyped s f frame_kind.Untyped)) none).0 in
         record { value = refl; next = emptied_same t s f w.same; begins = ap (λ x. frames_of (frame_names x)) (w.same.frame f below) },
   ),

@@ -15,8 +15,8 @@ use Rattle.kernel_rules.specs.Rules.{Judged, Refused, Found, and_then, unless, o
 use Rattle.kernel_rules.specs.Fitting.{fits, IsGood}
 use Rattle.kernel_rules.specs.Ranges.{InRanges}
 use Rattle.kernel_rules.specs.Relies.{is_node}
-use Rattle.kernel_rules.proofs.Sound.{IsSound, IsStack, IsObjectGood}
-use Rattle.kernel_rules.proofs.Facts.{usable_good, reached_node, RootIsNode}
+use Rattle.kernel_invariant.proofs.Sound.{IsSound, IsStack, IsObjectGood}
+use Rattle.kernel_invariant.proofs.Facts.{usable_good, reached_node, RootIsNode}
 use Rattle.seq_state.specs.Representation.{IsThing, SameGrace, SameState}
 use Rattle.seq_lookups.proofs.Lowest.{found_alike}
 

@@ -15,7 +15,7 @@ use Rattle.kernel_rules.specs.TimeCalls.{tcap_at, with_tcap, with_budget, with_q
 use Rattle.kernel_rules.specs.Fitting.{fits}
 use Rattle.kernel_rules.specs.Relies.{is_node}
 use Rattle.kernel_rules.specs.Ranges.{FrameInRange}
-use Rattle.kernel_rules.proofs.Facts.{named_fit}
+use Rattle.kernel_invariant.proofs.Facts.{named_fit}
 use Rattle.seq_state.specs.Representation.{SameState}
 use Rattle.seq_state.proofs.Same.{same_by, same_then, same_place, same_frame, same_number, same_core}
 use Rattle.same_changes.specs.Same.{SameChange}

@@ -5,7 +5,7 @@ use Rattle.kernel_rules.specs.State.{put, Place, Frame, Liveness, Core, Grace, T
 use Rattle.kernel_rules.specs.GracePeriods.{same_thing}
 use Rattle.kernel_rules.specs.References.{place_names, frame_names, number_names, core_names, sum_below, times, node_refs, refs}
 use Rattle.seq_state.specs.Representation.{IsThing, SameGrace, SameState, with_grace_of}
-use Rattle.kernel_rules.proofs.Sums.{sum_same}
+use Rattle.kernel_invariant.proofs.Sums.{sum_same}
 
 pub same_grace_by : (n : ℕ) (g h : Grace) → g ≡ h → SameGrace n g h
 same_grace_by n g h e = record {

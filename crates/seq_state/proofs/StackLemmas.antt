@@ -4,7 +4,7 @@ use Rattle.std.specs.Prelude.{slice_set}
 use Rattle.std.proofs.lemmas.List.{drop-set, length-set, length-reverse, reverse-append}
 use Rattle.spk_nums.specs.Listed.{IsListed, length-listed}
 use Rattle.kernel_rules.specs.References.{times}
-use Rattle.kernel_rules.proofs.Sums.{times_cons, times_append}
+use Rattle.kernel_invariant.proofs.Sums.{times_cons, times_append}
 use Rattle.seq_state.specs.declared.stack.Stack.TheInside.{Inside}
 use Rattle.seq_state.specs.Stacks.{stacked, IsStack}
 

@@ -10,7 +10,7 @@ use Rattle.kernel_rules.specs.State.{State}
 use Rattle.kernel_rules.specs.Access.{Named, found, only}
 use Rattle.kernel_rules.specs.Rules.{Change, Cause, When, Rule, Name, Does, Judged, Refused, Found, and_then, unless, named, first_of, first_cause, outcome}
 use Rattle.kernel_rules.specs.CallRelation.{changed}
-use Rattle.kernel_rules.proofs.Facts.{then_parts}
+use Rattle.kernel_invariant.proofs.Facts.{then_parts}
 use Rattle.seq_lookups.proofs.Outcomes.{where_found}
 use Rattle.kernel_rules.specs.Alone.{reply_in}
 use Rattle.kernel_rules.specs.TimeCalls.{are_same, is_short, are_unlike, are_many, merged_list, tcap_at}

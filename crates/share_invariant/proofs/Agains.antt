@@ -17,7 +17,7 @@ use Rattle.kernel_rules.specs.TimeCalls.{tcap_at, is_short, are_unlike, are_alik
 use Rattle.kernel_rules.specs.CallRelation.{rule_of, change_of, changed, counted, MayReply, begins_in as begun_by, are_calls_spent}
 use Rattle.kernel_history.specs.Justified.{HasRacedHead, IsRaceLost}
 use Rattle.kernel_history.specs.Trace.{Step, Trace, state_after, last_left}
-use Rattle.kernel_history.proofs.AloneCalls.{ok_first, refused_first}
+use Rattle.trace_laws.proofs.AloneCalls.{ok_first, refused_first}
 use Rattle.kernel_history.proofs.Laws.{not_changed}
 use Rattle.stage_tcap.specs.Lists.{in_order, same_list, merge_of, merged_if}
 use Rattle.stage_tcap.specs.Pairs.{again_end, again_value, value_of, by_alike, by_room, judged, whole_b}
@@ -37,15 +37,15 @@ use Rattle.core_invariant.specs.Holding.{holds_counts}
 use Rattle.core_invariant.specs.Knows.{KnowsUndecided}
 use Rattle.core_invariant.specs.Shares.{HasBoth}
 use Rattle.core_invariant.specs.Stands.{holds_in, holds_head, Stands}
-use Rattle.core_invariant.proofs.Loads.{OnlyLooks, core_is, inner}
-use Rattle.core_invariant.proofs.Refusals.{GoodTook, not_spent}
-use Rattle.core_invariant.proofs.Tcaps.{TcapOf}
-use Rattle.share_invariant.proofs.HeadsB.{owes_share}
-use Rattle.share_invariant.proofs.ListsKnown as known
-use Rattle.share_invariant.proofs.ListsKnown.{AreRead, same_alike, all_gone}
-use Rattle.share_invariant.proofs.ShareCalls as calls
-use Rattle.share_invariant.proofs.ShareCalls.{causes_of, change_by}
-use Rattle.share_invariant.proofs.ShareSteps.{loading, load_decides}
+use Rattle.step_ways.proofs.Loads.{OnlyLooks, core_is, inner}
+use Rattle.step_ways.proofs.Refusals.{GoodTook, not_spent}
+use Rattle.lent_words.proofs.Tcaps.{TcapOf}
+use Rattle.pair_invariant.proofs.HeadsB.{owes_share}
+use Rattle.pair_invariant.proofs.ListsKnown as known
+use Rattle.pair_invariant.proofs.ListsKnown.{AreRead, same_alike, all_gone}
+use Rattle.pair_invariant.proofs.ShareCalls as calls
+use Rattle.pair_invariant.proofs.ShareCalls.{causes_of, change_by}
+use Rattle.pair_invariant.proofs.ShareSteps.{loading, load_decides}
 
 -- A list that has no room is one of more than 8.
 no_room : (xs : List (ℕ × ℕ)) → merged_if (nat_le (length xs) 8) xs ≡ None → nat_lt 8 (length xs) ≡ true

@@ -36,16 +36,16 @@ use Rattle.core_invariant.specs.Knows.{KnowsUndecided}
 use Rattle.core_invariant.specs.Shares.{HasBoth}
 use Rattle.core_invariant.specs.Stands.{holds_in, holds_head, Stands}
 use Rattle.core_invariant.specs.Words.{HeadIs, count_room}
-use Rattle.core_invariant.proofs.Loads.{IsOfCall, core_is, inner}
-use Rattle.core_invariant.proofs.Refusals.{GoodTook, not_spent}
+use Rattle.step_ways.proofs.Loads.{IsOfCall, core_is, inner}
+use Rattle.step_ways.proofs.Refusals.{GoodTook, not_spent}
 use Rattle.core_invariant.proofs.Sounds.{limits_of}
-use Rattle.core_invariant.proofs.Tcaps.{TcapOf}
-use Rattle.core_invariant.proofs.Writes.{room_left}
-use Rattle.share_invariant.proofs.HeadsB.{owes_share}
-use Rattle.share_invariant.proofs.ListsKnown as known
-use Rattle.share_invariant.proofs.ListsKnown.{AreRead}
-use Rattle.share_invariant.proofs.ShareCalls as calls
-use Rattle.share_invariant.proofs.ShareSteps.{own_mark, load_decides}
+use Rattle.lent_words.proofs.Tcaps.{TcapOf}
+use Rattle.step_ways.proofs.Writes.{room_left}
+use Rattle.pair_invariant.proofs.HeadsB.{owes_share}
+use Rattle.pair_invariant.proofs.ListsKnown as known
+use Rattle.pair_invariant.proofs.ListsKnown.{AreRead}
+use Rattle.pair_invariant.proofs.ShareCalls as calls
+use Rattle.pair_invariant.proofs.ShareSteps.{own_mark, load_decides}
 
 module _ (setup : Setting) (setting : IsSetting setup) (cores : ℕ → Core) (t : Trace) (stands : Stands setup cores t) (c : ℕ)
     (here : c < setup.cores)

@@ -19,7 +19,7 @@ use Rattle.kernel_history.specs.Marks.{mark_of, head_mark}
 use Rattle.kernel_history.specs.Marking.{marked_by}
 use Rattle.kernel_history.specs.Stamps.{begins_in, ends_in, flushes_in, stamp}
 use Rattle.kernel_history.specs.Trace.{Step, Trace, Open, phase, state_after, last_left, state_decided_in}
-use Rattle.kernel_history.proofs.AloneCalls.{ok_first}
+use Rattle.trace_laws.proofs.AloneCalls.{ok_first}
 use Rattle.stage_tcap.specs.Heads.{debited, credited}
 use Rattle.stage_tcap.specs.Lists.{in_order, same_list}
 use Rattle.stage_tcap.specs.Pairs.{again_end, compared_after, by_alike}
@@ -41,24 +41,24 @@ use Rattle.core_invariant.specs.Shares.{list_changed, TurnsHead, SparesTcap, Has
 use Rattle.core_invariant.specs.Stands.{holds_at, holds_in, holds_head, holds, held_by, times_of, Stands}
 use Rattle.core_invariant.specs.Words.{IsFrameWord, WordIs, count_room}
 use Rattle.core_invariant.proofs.Bare.{counts_bare}
-use Rattle.core_invariant.proofs.Calm.{IsPlain, plain_begins}
-use Rattle.core_invariant.proofs.Lent.{unlent_head_word}
-use Rattle.core_invariant.proofs.Loads.{next_at, core_at, core_is, inner}
-use Rattle.core_invariant.proofs.Refusals.{GoodTook, not_spent}
-use Rattle.core_invariant.proofs.Sums.{sums_keep}
-use Rattle.core_invariant.proofs.Tcaps.{TcapOf}
-use Rattle.core_invariant.proofs.Users.{spares_none}
-use Rattle.core_invariant.proofs.WordFrames.{ReadsAlike, StaysSaid, others_settled}
-use Rattle.core_invariant.proofs.Writes.{same_marks, decides_writing}
+use Rattle.kept_words.proofs.Calm.{IsPlain, plain_begins}
+use Rattle.lent_words.proofs.Lent.{unlent_head_word}
+use Rattle.step_ways.proofs.Loads.{next_at, core_at, core_is, inner}
+use Rattle.step_ways.proofs.Refusals.{GoodTook, not_spent}
+use Rattle.kept_words.proofs.Sums.{sums_keep}
+use Rattle.lent_words.proofs.Tcaps.{TcapOf}
+use Rattle.step_ways.proofs.Users.{spares_none}
+use Rattle.kept_words.proofs.WordFrames.{ReadsAlike, StaysSaid, others_settled}
+use Rattle.step_ways.proofs.Writes.{same_marks, decides_writing}
 use Rattle.share_invariant.proofs.Compared as compared
-use Rattle.share_invariant.proofs.ListsKnown as known
-use Rattle.share_invariant.proofs.ListsKnown.{AreRead, same_alike, all_gone}
-use Rattle.share_invariant.proofs.MarksA.{spares_one}
-use Rattle.share_invariant.proofs.Moved as moves
-use Rattle.share_invariant.proofs.Moved.{IsMoved, with_both}
-use Rattle.share_invariant.proofs.ShareCalls as calls
-use Rattle.share_invariant.proofs.ShareCalls.{causes_of, change_by}
-use Rattle.share_invariant.proofs.ShareSteps.{mark_is, stores_a}
+use Rattle.pair_invariant.proofs.ListsKnown as known
+use Rattle.pair_invariant.proofs.ListsKnown.{AreRead, same_alike, all_gone}
+use Rattle.pair_invariant.proofs.MarksA.{spares_one}
+use Rattle.pair_invariant.proofs.Moved as moves
+use Rattle.pair_invariant.proofs.Moved.{IsMoved, with_both}
+use Rattle.pair_invariant.proofs.ShareCalls as calls
+use Rattle.pair_invariant.proofs.ShareCalls.{causes_of, change_by}
+use Rattle.pair_invariant.proofs.ShareSteps.{mark_is, stores_a}
 
 module _ (setup : Setting) (setting : IsSetting setup) (cores : ℕ → Core) (t : Trace) (stands : Stands setup cores t) (c : ℕ)
     (here : c < setup.cores)

@@ -26,8 +26,8 @@ use Rattle.kernel_history.specs.Marks.{mark_of, head_mark}
 use Rattle.kernel_history.specs.Marking.{marked_by}
 use Rattle.kernel_history.specs.Stamps.{begins_in, ends_in, flushes_in, stamp}
 use Rattle.kernel_history.specs.Trace.{Step, Trace, Open, phase, state_after, last_left, state_decided_in, WasAt}
-use Rattle.kernel_history.proofs.AloneCalls.{ok_first}
-use Rattle.kernel_history.proofs.Carries.{was_stays}
+use Rattle.trace_laws.proofs.AloneCalls.{ok_first}
+use Rattle.trace_laws.proofs.Carries.{was_stays}
 use Rattle.kernel_history.proofs.Names.{cases_word, same_word-other}
 use Rattle.kernel_history.proofs.Steps.{last_left-here, last_left-there}
 use Rattle.stage_tcap.specs.Heads.{marked, debited, credited}
@@ -52,26 +52,26 @@ use Rattle.core_invariant.specs.Shares.{list_changed, TurnsHead, SparesTcap, Has
 use Rattle.core_invariant.specs.Stands.{holds_in, holds_head, holds, held_by, times_of, IsLent, Stands}
 use Rattle.core_invariant.specs.Words.{IsFrameWord, WordIs, count_room}
 use Rattle.core_invariant.proofs.Bare.{counts_bare}
-use Rattle.core_invariant.proofs.Calm.{IsPlain, plain_begins}
-use Rattle.core_invariant.proofs.Lent.{lent_free, unlent_list, unlent_head_word}
-use Rattle.core_invariant.proofs.Loads.{next_at, core_at, core_is, inner}
-use Rattle.core_invariant.proofs.OwnChanges.{decides_changing}
-use Rattle.core_invariant.proofs.Pairs.{marked_on}
-use Rattle.core_invariant.proofs.Refusals.{GoodTook, not_spent}
-use Rattle.core_invariant.proofs.Sums.{sums_keep}
-use Rattle.core_invariant.proofs.Tcaps.{TcapOf}
-use Rattle.core_invariant.proofs.Users.{spares_none}
-use Rattle.core_invariant.proofs.WordFrames.{ReadsAlike, StaysSaid, marks_own}
-use Rattle.core_invariant.proofs.Writes.{same_marks}
+use Rattle.kept_words.proofs.Calm.{IsPlain, plain_begins}
+use Rattle.lent_words.proofs.Lent.{lent_free, unlent_list, unlent_head_word}
+use Rattle.step_ways.proofs.Loads.{next_at, core_at, core_is, inner}
+use Rattle.step_ways.proofs.OwnChanges.{decides_changing}
+use Rattle.lent_words.proofs.Pairs.{marked_on}
+use Rattle.step_ways.proofs.Refusals.{GoodTook, not_spent}
+use Rattle.kept_words.proofs.Sums.{sums_keep}
+use Rattle.lent_words.proofs.Tcaps.{TcapOf}
+use Rattle.step_ways.proofs.Users.{spares_none}
+use Rattle.kept_words.proofs.WordFrames.{ReadsAlike, StaysSaid, marks_own}
+use Rattle.step_ways.proofs.Writes.{same_marks}
 use Rattle.share_invariant.proofs.Compared as compared
-use Rattle.share_invariant.proofs.ListsKnown as known
-use Rattle.share_invariant.proofs.ListsKnown.{AreRead, all_gone}
-use Rattle.share_invariant.proofs.MarksA.{spares_one}
-use Rattle.share_invariant.proofs.Moved as moves
-use Rattle.share_invariant.proofs.Moved.{IsMoved, with_both}
-use Rattle.share_invariant.proofs.ShareCalls as calls
-use Rattle.share_invariant.proofs.ShareCalls.{causes_of, change_by}
-use Rattle.share_invariant.proofs.ShareSteps.{mark_is, list_bare, now_was}
+use Rattle.pair_invariant.proofs.ListsKnown as known
+use Rattle.pair_invariant.proofs.ListsKnown.{AreRead, all_gone}
+use Rattle.pair_invariant.proofs.MarksA.{spares_one}
+use Rattle.pair_invariant.proofs.Moved as moves
+use Rattle.pair_invariant.proofs.Moved.{IsMoved, with_both}
+use Rattle.pair_invariant.proofs.ShareCalls as calls
+use Rattle.pair_invariant.proofs.ShareCalls.{causes_of, change_by}
+use Rattle.pair_invariant.proofs.ShareSteps.{mark_is, list_bare, now_was}
 use Rattle.share_invariant.proofs.Turned as turned
 use Rattle.share_invariant.proofs.Turned.{IsTaken}
 

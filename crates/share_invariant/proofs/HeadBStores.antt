@@ -23,8 +23,8 @@ use Rattle.core_invariant.specs.Knows.{KnowsTail}
 use Rattle.core_invariant.specs.Shares.{StoresB}
 use Rattle.core_invariant.specs.Stands.{done_by, Stands}
 use Rattle.core_invariant.proofs.Bare.{counts_bare}
-use Rattle.core_invariant.proofs.Loads.{inner}
-use Rattle.core_invariant.proofs.Refusals.{GoodTook}
+use Rattle.step_ways.proofs.Loads.{inner}
+use Rattle.step_ways.proofs.Refusals.{GoodTook}
 use Rattle.share_invariant.proofs.HeadStores.{counts_free, a_stored, shared_on, head_good}
 
 module _ (setup : Setting) (setting : IsSetting setup) (cores : ℕ → Core) (t : Trace) (stands : Stands setup cores t) (c : ℕ)

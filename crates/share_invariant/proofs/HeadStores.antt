@@ -18,7 +18,7 @@ use Rattle.kernel_history.specs.Footprint.{IsNearIn}
 use Rattle.kernel_history.specs.Marks.{mark_of, head_mark}
 use Rattle.kernel_history.specs.Marking.{marked_by}
 use Rattle.kernel_history.specs.Trace.{Step, Trace, state_after, last_left, WasAt}
-use Rattle.kernel_history.proofs.Carries.{was_stays}
+use Rattle.trace_laws.proofs.Carries.{was_stays}
 use Rattle.kernel_history.proofs.Names.{same_word-other}
 use Rattle.kernel_history.proofs.Steps.{last_left-there}
 use Rattle.stage_pins.specs.declared.held.Acquired.{Acquired}
@@ -35,14 +35,14 @@ use Rattle.core_invariant.specs.Knows.{KnowsTail, phase_at}
 use Rattle.core_invariant.specs.Shares.{turns_list, list_changed, TurnsHead, SparesTcap, HasTcap, StoresA, KnowsStoresAt, KnowsShared}
 use Rattle.core_invariant.specs.Stands.{done_by, holds_tail, holds_at, holds_in, holds, held_by, Stands}
 use Rattle.core_invariant.proofs.Bare.{IsNotKept, as_none, free_value}
-use Rattle.core_invariant.proofs.Carries.{counts_on}
-use Rattle.core_invariant.proofs.Counting as counters
-use Rattle.core_invariant.proofs.Lent.{unlent_head_word, lent_free}
-use Rattle.core_invariant.proofs.Loads.{IsOfCall, core_at, call_is, inner}
-use Rattle.core_invariant.proofs.Refusals.{GoodTook}
-use Rattle.core_invariant.proofs.Tcaps.{TcapOf, tcap_of}
-use Rattle.share_invariant.proofs.MarksA.{spares_one}
-use Rattle.share_invariant.proofs.ShareSteps.{mark_is}
+use Rattle.kept_knowledge.proofs.Carries.{counts_on}
+use Rattle.step_ways.proofs.Counting as counters
+use Rattle.lent_words.proofs.Lent.{unlent_head_word, lent_free}
+use Rattle.step_ways.proofs.Loads.{IsOfCall, core_at, call_is, inner}
+use Rattle.step_ways.proofs.Refusals.{GoodTook}
+use Rattle.lent_words.proofs.Tcaps.{TcapOf, tcap_of}
+use Rattle.pair_invariant.proofs.MarksA.{spares_one}
+use Rattle.pair_invariant.proofs.ShareSteps.{mark_is}
 
 -- No entry is a count.
 pub counts_free : (fate : Option (Option ℕ)) (xs : List Acquired) (f i : ℕ) → (holds_counts fate xs).marks (EntryAt f i) ≡ false

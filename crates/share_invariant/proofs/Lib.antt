@@ -1,16 +1,5 @@
--- What the words and the rule of such a call say.
-pub mod ListsRead
-pub mod ShareCalls
-pub mod ShareSteps
-pub mod Marking
--- Its loads, and the mark of the first head.
-pub mod HeadsA
-pub mod HeadsB
-pub mod MarksA
-pub mod ListsKnown
 -- Its decision.
 pub mod Compared
-pub mod Moved
 pub mod Turned
 pub mod Compares
 pub mod Delegates
@@ -22,4 +11,3 @@ pub mod HeadBStores
 pub mod ListStores
 -- Where it begins, and all its steps.
 pub mod Shares
-pub mod ShareStarts

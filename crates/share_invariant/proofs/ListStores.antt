@@ -16,7 +16,7 @@ use Rattle.kernel_history.specs.Footprint.{IsNearIn}
 use Rattle.kernel_history.specs.Marks.{mark_of}
 use Rattle.kernel_history.specs.Marking.{marked_by}
 use Rattle.kernel_history.specs.Trace.{Step, Trace, state_after, last_left}
-use Rattle.kernel_history.proofs.Carries.{was_stays}
+use Rattle.trace_laws.proofs.Carries.{was_stays}
 use Rattle.kernel_history.proofs.Names.{same_word-other}
 use Rattle.kernel_history.proofs.Steps.{last_left-there}
 use Rattle.stage_tcap.specs.Lists.{in_order}
@@ -35,15 +35,15 @@ use Rattle.core_invariant.specs.Knows.{KnowsTail, phase_at}
 use Rattle.core_invariant.specs.Shares.{SparesTcap, HasTcap, StoresB, KnowsStoresAt}
 use Rattle.core_invariant.specs.Stands.{done_by, holds_head, holds_heads, holds_list, holds_shared, holds_at, holds_in, holds, held_by, Stands}
 use Rattle.core_invariant.proofs.Bare.{AsBefore, counts_bare, none_kept}
-use Rattle.core_invariant.proofs.Carries.{counts_on}
-use Rattle.core_invariant.proofs.Counting as counters
-use Rattle.core_invariant.proofs.Lent.{one_keeper, own_value}
-use Rattle.core_invariant.proofs.Loads.{IsOfCall, core_at, call_is, inner}
-use Rattle.core_invariant.proofs.Refusals.{GoodTook}
-use Rattle.core_invariant.proofs.Tcaps.{TcapOf, tcap_of}
+use Rattle.kept_knowledge.proofs.Carries.{counts_on}
+use Rattle.step_ways.proofs.Counting as counters
+use Rattle.lent_words.proofs.Lent.{one_keeper, own_value}
+use Rattle.step_ways.proofs.Loads.{IsOfCall, core_at, call_is, inner}
+use Rattle.step_ways.proofs.Refusals.{GoodTook}
+use Rattle.lent_words.proofs.Tcaps.{TcapOf, tcap_of}
 use Rattle.share_invariant.proofs.HeadStores.{counts_free, a_stored, shared_on}
-use Rattle.share_invariant.proofs.MarksA.{spares_one}
-use Rattle.share_invariant.proofs.ShareSteps.{list_bare}
+use Rattle.pair_invariant.proofs.MarksA.{spares_one}
+use Rattle.pair_invariant.proofs.ShareSteps.{list_bare}
 
 none_some : (v : ℕ) → None ≡ Some v → ⊥
 none_some v h = cc

@@ -20,15 +20,15 @@ use Rattle.call_stages.specs.Steps.{landed, went_with, GoesOn}
 use Rattle.call_stages.specs.View.{Core}
 use Rattle.core_invariant.specs.Knows.{KnowsUndecided, KnowsTail}
 use Rattle.core_invariant.specs.Stands.{Stands}
-use Rattle.core_invariant.proofs.Refusals.{GoodTook}
+use Rattle.step_ways.proofs.Refusals.{GoodTook}
 use Rattle.share_invariant.proofs.Agains.{again_good}
 use Rattle.share_invariant.proofs.Compares.{compare_good}
 use Rattle.share_invariant.proofs.Delegates.{delegate_good}
-use Rattle.share_invariant.proofs.HeadsA.{load_a_good, list_a_good}
-use Rattle.share_invariant.proofs.HeadsB.{load_b_good, list_b_good}
+use Rattle.pair_invariant.proofs.HeadsA.{load_a_good, list_a_good}
+use Rattle.pair_invariant.proofs.HeadsB.{load_b_good, list_b_good}
 use Rattle.share_invariant.proofs.HeadBStores.{store_b_good}
 use Rattle.share_invariant.proofs.ListStores.{store_list_good}
-use Rattle.share_invariant.proofs.MarksA.{mark_a_good}
+use Rattle.pair_invariant.proofs.MarksA.{mark_a_good}
 use Rattle.share_invariant.proofs.Stores.{store_a_good}
 
 module _ (setup : Setting) (setting : IsSetting setup) (cores : ℕ → Core) (t : Trace) (stands : Stands setup cores t) (c : ℕ)

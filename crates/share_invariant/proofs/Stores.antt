@@ -21,7 +21,7 @@ use Rattle.core_invariant.specs.Knows.{KnowsTail}
 use Rattle.core_invariant.specs.Shares.{list_changed, StoresA}
 use Rattle.core_invariant.specs.Stands.{done_by, Stands}
 use Rattle.core_invariant.proofs.Bare.{counts_bare}
-use Rattle.core_invariant.proofs.Refusals.{GoodTook}
+use Rattle.step_ways.proofs.Refusals.{GoodTook}
 use Rattle.share_invariant.proofs.HeadStores.{counts_free, head_good}
 
 module _ (setup : Setting) (setting : IsSetting setup) (cores : ℕ → Core) (t : Trace) (stands : Stands setup cores t) (c : ℕ)

@@ -11,7 +11,7 @@ use Rattle.kernel_history.specs.Trace.{Trace, state_after, calls_of, decisions_o
 use Rattle.kernel_history.specs.Order.{IsIdle, HasCalls, FollowsItems, FollowsCores, Follows, list_of}
 use Rattle.kernel_history.specs.Tables.{tables_of}
 use Rattle.kernel_history.specs.Text.{reply_lines, text_of}
-use Rattle.kernel_history.proofs.Idle.{all_idle}
+use Rattle.trace_laws.proofs.Idle.{all_idle}
 use Rattle.flight.specs.Made.{ready_after, IsMade}
 use Rattle.flight.specs.Histories.{IsHistory, MadeHistories}
 use Rattle.call_stages.specs.declared.stages.ActiveCall.{ActiveCall}

@@ -31,14 +31,14 @@ use Rattle.kernel_rules.specs.Runs.{Event, Enters, Decides, Returns, after, is_i
 use Rattle.kernel_rules.proofs.Changes.{IfFound}
 use Rattle.kernel_rules.proofs.Within.{put_same, put_other}
 use Rattle.kernel_rules.proofs.AloneLaw.{waits_inside, decided_stays}
-use Rattle.kernel_rules.proofs.Sums.{times_first}
-use Rattle.kernel_rules.proofs.Sound.{only_is, put_all}
-use Rattle.kernel_rules.proofs.SoundCalls.{IsOpen}
-use Rattle.kernel_rules.proofs.SoundRuns.{opened, open_is, open_limits, inside_is, limits_stay}
-use Rattle.kernel_rules.proofs.SparesRuns.{core_same_refs}
-use Rattle.kernel_rules.proofs.Refs.{grace_refs}
-use Rattle.kernel_rules.proofs.Facts.{ChangesFrom, outcome_from, then_parts, or_found, some_inj, none_some, found_inj, refused_found}
-use Rattle.kernel_rules.proofs.Stays.{link_of, fields, pages_relies, usable_guarded, place_named}
+use Rattle.kernel_invariant.proofs.Sums.{times_first}
+use Rattle.kernel_invariant.proofs.Sound.{only_is, put_all}
+use Rattle.kernel_invariant.proofs.SoundCalls.{IsOpen}
+use Rattle.kernel_invariant.proofs.SoundRuns.{opened, open_is, open_limits, inside_is, limits_stay}
+use Rattle.found_stays.proofs.SparesRuns.{core_same_refs}
+use Rattle.kernel_invariant.proofs.Refs.{grace_refs}
+use Rattle.kernel_invariant.proofs.Facts.{ChangesFrom, outcome_from, then_parts, or_found, some_inj, none_some, found_inj, refused_found}
+use Rattle.found_stays.proofs.Stays.{link_of, fields, pages_relies, usable_guarded, place_named}
 use Rattle.state_laws.specs.Cached.{IsStillThere, IsLinkTo, IsMappingOf, IsOrWas, Stands, TranslationsStand}
 use Rattle.kernel_laws.proofs.NodeSteps.{IsFitted}
 use Rattle.kernel_laws.proofs.NodesLaw.{runs_fit, leaf_fits, pages_leaf, fit_node, held_is, mapped_page}

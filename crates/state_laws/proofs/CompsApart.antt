@@ -27,9 +27,9 @@ use Rattle.kernel_rules.specs.Fitting.{fits}
 use Rattle.kernel_rules.specs.Runs.{Event, Enters, Decides, Returns, after, IsRun}
 use Rattle.kernel_rules.proofs.Changes.{IfFound}
 use Rattle.kernel_rules.proofs.Within.{put_same, put_other}
-use Rattle.kernel_rules.proofs.Sound.{put_all}
-use Rattle.kernel_rules.proofs.SoundStart.{choose}
-use Rattle.kernel_rules.proofs.Facts.{ChangesFrom, outcome_from, none_parts, when_not, not_not}
+use Rattle.kernel_invariant.proofs.Sound.{put_all}
+use Rattle.kernel_invariant.proofs.SoundStart.{choose}
+use Rattle.kernel_invariant.proofs.Facts.{ChangesFrom, outcome_from, none_parts, when_not, not_not}
 use Rattle.state_laws.specs.Lives.{CompsApart}
 
 -- Whether a frame has a component.

@@ -23,16 +23,16 @@ use Rattle.kernel_rules.specs.CallRelation.{rule_of, change_of, changed, counted
 use Rattle.kernel_rules.specs.Relies.{is_node}
 use Rattle.kernel_rules.proofs.Changes.{IfFound}
 use Rattle.kernel_rules.proofs.Within.{put_same, put_other}
-use Rattle.kernel_rules.proofs.Facts.{ChangesFrom, outcome_from, none_parts}
-use Rattle.kernel_rules.proofs.SoundRemovals.{find_not}
-use Rattle.kernel_rules.proofs.SoundCalls.{IsOpen}
-use Rattle.kernel_rules.proofs.Refs.{RefsBy, rule_refs, grace_refs}
-use Rattle.kernel_rules.proofs.RefsLaw.{counted_refs}
-use Rattle.kernel_rules.proofs.SparesRuns.{among, core_same_refs}
-use Rattle.kernel_rules.proofs.GraceChanges.{grace_by, grace_is, flushed_by}
-use Rattle.kernel_rules.proofs.FrameTurns.{is_typed, TurnsIn, decided_turns}
-use Rattle.kernel_rules.proofs.Releases.{begins_typed, ends_begins}
-use Rattle.kernel_rules.proofs.Ends.{ends_by_rule}
+use Rattle.kernel_invariant.proofs.Facts.{ChangesFrom, outcome_from, none_parts}
+use Rattle.kernel_invariant.proofs.SoundRemovals.{find_not}
+use Rattle.kernel_invariant.proofs.SoundCalls.{IsOpen}
+use Rattle.kernel_invariant.proofs.Refs.{RefsBy, rule_refs, grace_refs}
+use Rattle.kernel_invariant.proofs.RefsLaw.{counted_refs}
+use Rattle.found_stays.proofs.SparesRuns.{among, core_same_refs}
+use Rattle.kernel_invariant.proofs.GraceChanges.{grace_by, grace_is, flushed_by}
+use Rattle.kernel_invariant.proofs.FrameTurns.{is_typed, TurnsIn, decided_turns}
+use Rattle.kernel_invariant.proofs.Releases.{begins_typed, ends_begins}
+use Rattle.kernel_invariant.proofs.Ends.{ends_by_rule}
 use Rattle.state_laws.specs.Cached.{IsUnflushedBy, IsStillThere}
 use Rattle.state_laws.proofs.Kept.{is_kept, Kept, decided_kept}
 use Rattle.state_laws.proofs.Gates.{waited}

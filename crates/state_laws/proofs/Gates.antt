@@ -30,16 +30,16 @@ use Rattle.kernel_rules.specs.Runs.{Event, Enters, Decides, Returns, after, is_i
 use Rattle.kernel_rules.proofs.Changes.{IfFound}
 use Rattle.kernel_rules.proofs.Within.{put_same, put_other}
 use Rattle.kernel_rules.proofs.AloneLaw.{waits_inside}
-use Rattle.kernel_rules.proofs.Sums.{times_first}
-use Rattle.kernel_rules.proofs.Sound.{WaitsForAll, put_all}
-use Rattle.kernel_rules.proofs.SoundSteps.{place_all, free_holds, holds_inj, quiescing_holds}
-use Rattle.kernel_rules.proofs.SoundStart.{choose}
-use Rattle.kernel_rules.proofs.SoundCalls.{IsOpen, gate_comp}
-use Rattle.kernel_rules.proofs.SoundRuns.{opened, open_is, inside_is}
-use Rattle.kernel_rules.proofs.Facts.{ChangesFrom, outcome_from, some_inj, none_some, found_inj, refused_found}
-use Rattle.kernel_rules.proofs.GraceChanges.{grace_by, grace_is, flushed_by}
-use Rattle.kernel_rules.proofs.Ends.{ends_by_rule}
-use Rattle.kernel_rules.proofs.Stays.{name_parts, place_named}
+use Rattle.kernel_invariant.proofs.Sums.{times_first}
+use Rattle.kernel_invariant.proofs.Sound.{WaitsForAll, put_all}
+use Rattle.kernel_invariant.proofs.SoundSteps.{place_all, free_holds, holds_inj, quiescing_holds}
+use Rattle.kernel_invariant.proofs.SoundStart.{choose}
+use Rattle.kernel_invariant.proofs.SoundCalls.{IsOpen, gate_comp}
+use Rattle.kernel_invariant.proofs.SoundRuns.{opened, open_is, inside_is}
+use Rattle.kernel_invariant.proofs.Facts.{ChangesFrom, outcome_from, some_inj, none_some, found_inj, refused_found}
+use Rattle.kernel_invariant.proofs.GraceChanges.{grace_by, grace_is, flushed_by}
+use Rattle.kernel_invariant.proofs.Ends.{ends_by_rule}
+use Rattle.found_stays.proofs.Stays.{name_parts, place_named}
 use Rattle.state_laws.specs.Lives.{IsOfEpoch, GatesFit}
 use Rattle.state_laws.proofs.Phases.{phase_own, phase_other}
 use Rattle.state_laws.proofs.Kept.{is_kept, Kept, decided_kept}

@@ -28,11 +28,11 @@ use Rattle.kernel_rules.specs.InvocationCalls.{with_thread, running, switch_to}
 use Rattle.kernel_rules.specs.TimeCalls.{with_tcap, with_budget, with_qualities, tcap_at, moved, merged_list}
 use Rattle.kernel_rules.specs.CallRelation.{rule_of, change_of, changed, owed_by, state_by, begins, begins_in, ends, ends_by, MayReply}
 use Rattle.kernel_rules.proofs.Changes.{IfFound}
-use Rattle.kernel_rules.proofs.Sound.{put_all}
-use Rattle.kernel_rules.proofs.SoundSteps.{place_all, free_quiescing, holds_quiescing, quiescing_inj}
-use Rattle.kernel_rules.proofs.SoundRemovals.{frames_no_place}
-use Rattle.kernel_rules.proofs.SoundCalls.{IsOpen, blank_by, untyped_by}
-use Rattle.kernel_rules.proofs.Facts.{ChangesFrom, outcome_from, vacant_facts, held_facts}
+use Rattle.kernel_invariant.proofs.Sound.{put_all}
+use Rattle.kernel_invariant.proofs.SoundSteps.{place_all, free_quiescing, holds_quiescing, quiescing_inj}
+use Rattle.kernel_invariant.proofs.SoundRemovals.{frames_no_place}
+use Rattle.kernel_invariant.proofs.SoundCalls.{IsOpen, blank_by, untyped_by}
+use Rattle.kernel_invariant.proofs.Facts.{ChangesFrom, outcome_from, vacant_facts, held_facts}
 
 -- Whether a frame is what no call changes but a retype: a user frame, a node or a component.
 abbrev pub is_kept : Frame → Bool

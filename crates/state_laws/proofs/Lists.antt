@@ -18,7 +18,7 @@ use Rattle.kernel_rules.specs.MemoryCalls.{retype_rule, touch_by, translation_of
 use Rattle.kernel_rules.specs.InvocationCalls.{switch_to}
 use Rattle.kernel_rules.specs.CallRelation.{rule_of, change_of, changed, counted, owed_by, state_by, flushes, flushes_by}
 use Rattle.kernel_rules.proofs.Changes.{AllChanges, IfFound, outcome_all}
-use Rattle.kernel_rules.proofs.Sound.{put_all}
+use Rattle.kernel_invariant.proofs.Sound.{put_all}
 use Rattle.state_laws.specs.Cached.{Begins}
 
 pub begins_same : (xs : List Translation) → Begins xs xs

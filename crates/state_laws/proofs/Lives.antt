@@ -26,13 +26,13 @@ use Rattle.kernel_rules.specs.Fitting.{fits}
 use Rattle.kernel_rules.specs.Runs.{Event, Enters, Decides, Returns, after, is_open, IsRun}
 use Rattle.kernel_rules.proofs.Changes.{IfFound}
 use Rattle.kernel_rules.proofs.Within.{put_same}
-use Rattle.kernel_rules.proofs.Sums.{times_first}
-use Rattle.kernel_rules.proofs.Sound.{IsSound, put_all}
-use Rattle.kernel_rules.proofs.SoundRemovals.{unnamed}
-use Rattle.kernel_rules.proofs.SoundCalls.{IsOpen}
-use Rattle.kernel_rules.proofs.SoundRuns.{opened, open_is}
-use Rattle.kernel_rules.proofs.Facts.{ChangesFrom, outcome_from, none_parts, when_not, not_not}
-use Rattle.kernel_rules.proofs.Ends.{ends_by_rule}
+use Rattle.kernel_invariant.proofs.Sums.{times_first}
+use Rattle.kernel_invariant.proofs.Sound.{IsSound, put_all}
+use Rattle.kernel_invariant.proofs.SoundRemovals.{unnamed}
+use Rattle.kernel_invariant.proofs.SoundCalls.{IsOpen}
+use Rattle.kernel_invariant.proofs.SoundRuns.{opened, open_is}
+use Rattle.kernel_invariant.proofs.Facts.{ChangesFrom, outcome_from, none_parts, when_not, not_not}
+use Rattle.kernel_invariant.proofs.Ends.{ends_by_rule}
 use Rattle.state_laws.specs.Lives.{IsCompOf, LiveNumbersFit, DeadStays}
 use Rattle.state_laws.proofs.Kept.{is_kept, decided_kept}
 

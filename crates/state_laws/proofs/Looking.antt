@@ -7,9 +7,9 @@ use Rattle.spk_nums.specs.declared.kinds.Kind.TheVariants as kind
 use Rattle.kernel_rules.specs.State.{Table, Leaf, Pages, Pleaf, Frame, Kernel, State}
 use Rattle.kernel_rules.specs.Relies.{is_node, is_fixed, Relies}
 use Rattle.kernel_rules.specs.Runs.{Event, after, is_open, phase_of, IsRun}
-use Rattle.kernel_rules.proofs.SoundCalls.{IsOpen}
-use Rattle.kernel_rules.proofs.SoundRuns.{opened, open_is}
-use Rattle.kernel_rules.proofs.Stays.{Stay, stay_same, stay_then, names_node, usable_relies, table_relies, pages_relies, event_stay}
+use Rattle.kernel_invariant.proofs.SoundCalls.{IsOpen}
+use Rattle.kernel_invariant.proofs.SoundRuns.{opened, open_is}
+use Rattle.found_stays.proofs.Stays.{Stay, stay_same, stay_then, names_node, usable_relies, table_relies, pages_relies, event_stay}
 use Rattle.state_laws.proofs.Phases.{phase_other}
 use Rattle.state_laws.specs.Looking.{names_nodes, LooksThrough, AreOfOthers, FoundStays}
 

@@ -10,8 +10,8 @@ use Rattle.kernel_rules.specs.References.{refs}
 use Rattle.kernel_rules.specs.GracePeriods.{new_grace}
 use Rattle.kernel_rules.specs.Relies.{is_node, IsGuarded, Relies}
 use Rattle.kernel_rules.specs.CallRelation.{MayReply, state_by, begins, ends, flushes}
-use Rattle.kernel_rules.proofs.GraceChanges.{flushed_by, grace_is}
-use Rattle.kernel_rules.proofs.SoundCalls.{IsOpen}
+use Rattle.kernel_invariant.proofs.GraceChanges.{flushed_by, grace_is}
+use Rattle.kernel_invariant.proofs.SoundCalls.{IsOpen}
 use Rattle.state_laws.proofs.Flushes.{decided_refs}
 use Rattle.state_laws.proofs.Kept.{is_kept, decided_kept}
 

@@ -26,12 +26,12 @@ use Rattle.kernel_rules.specs.Runs.{Event, Enters, Decides, Returns, after, is_o
 use Rattle.kernel_rules.proofs.Changes.{IfFound}
 use Rattle.kernel_rules.proofs.Within.{put_same, put_other}
 use Rattle.kernel_rules.proofs.AloneLaw.{decided_stays}
-use Rattle.kernel_rules.proofs.Sound.{put_all}
-use Rattle.kernel_rules.proofs.SoundStart.{choose}
-use Rattle.kernel_rules.proofs.SoundCalls.{IsOpen}
-use Rattle.kernel_rules.proofs.SoundRuns.{opened, open_is}
-use Rattle.kernel_rules.proofs.SparesRuns.{runs_of}
-use Rattle.kernel_rules.proofs.Facts.{ChangesFrom, outcome_from, some_inj, none_some}
+use Rattle.kernel_invariant.proofs.Sound.{put_all}
+use Rattle.kernel_invariant.proofs.SoundStart.{choose}
+use Rattle.kernel_invariant.proofs.SoundCalls.{IsOpen}
+use Rattle.kernel_invariant.proofs.SoundRuns.{opened, open_is}
+use Rattle.found_stays.proofs.SparesRuns.{runs_of}
+use Rattle.kernel_invariant.proofs.Facts.{ChangesFrom, outcome_from, some_inj, none_some}
 use Rattle.state_laws.specs.Lives.{ThreadsRun}
 
 -- The core on which the thread of a frame runs, if it has one that runs.

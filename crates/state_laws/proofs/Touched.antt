@@ -15,8 +15,8 @@ use Rattle.kernel_rules.specs.Rules.{Change, Judged, Refused, Found, Does, IsFou
 use Rattle.kernel_rules.specs.MemoryCalls.{translation_of, caching, translated, caches, touch_by}
 use Rattle.kernel_rules.specs.CallRelation.{changed, counted}
 use Rattle.kernel_rules.specs.Runs.{after, is_open as is_open_phase}
-use Rattle.kernel_rules.proofs.SoundCalls.{IsOpen}
-use Rattle.kernel_rules.proofs.SoundRuns.{opened, open_is}
+use Rattle.kernel_invariant.proofs.SoundCalls.{IsOpen}
+use Rattle.kernel_invariant.proofs.SoundRuns.{opened, open_is}
 use Rattle.kernel_rules.proofs.Within.{put_same}
 use Rattle.kernel_laws.proofs.NodeSteps.{IsFitted}
 use Rattle.kernel_laws.proofs.NodesLaw.{runs_fit}

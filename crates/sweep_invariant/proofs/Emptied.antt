@@ -8,7 +8,7 @@ use Rattle.kernel_rules.specs.State.{Blank, Table, Leaf, Pages, Pleaf, Comp, Thr
 use Rattle.kernel_rules.specs.Access.{held_in}
 use Rattle.kernel_rules.specs.MemoryCalls.{is_empty, holds_nothing}
 use Rattle.kernel_rules.specs.References.{times}
-use Rattle.kernel_rules.proofs.Sums as sums
+use Rattle.kernel_invariant.proofs.Sums as sums
 use Rattle.kernel_history.specs.ObjectWords.{frame_value}
 use Rattle.stage_pins.specs.declared.held.Acquired.{Acquired}
 use Rattle.stage_sweep.specs.Emptiness.{loads_of}

@@ -23,8 +23,8 @@ use Rattle.kernel_rules.specs.State.{State, FrameOf}
 use Rattle.kernel_rules.specs.Access.{Slot}
 use Rattle.kernel_rules.specs.References.{refs, times, core_names}
 use Rattle.kernel_rules.specs.Relies.{IsGuarded}
-use Rattle.kernel_rules.proofs.SoundRemovals.{unnamed}
-use Rattle.kernel_rules.proofs.Sums.{times_first}
+use Rattle.kernel_invariant.proofs.SoundRemovals.{unnamed}
+use Rattle.kernel_invariant.proofs.Sums.{times_first}
 use Rattle.kernel_history.specs.Marking.{marked_by}
 use Rattle.kernel_history.specs.Trace.{Trace, Open, phase, state_after, last_left}
 use Rattle.call_plans.specs.declared.plans.Plan.{Plan}
@@ -60,9 +60,9 @@ use Rattle.core_invariant.specs.Knows.{KnowsAct, KnowsAt, KnowsClose, KnowsStore
 use Rattle.core_invariant.specs.Shares.{KnowsShare, KnowsShared, KnowsStoresAt}
 use Rattle.core_invariant.specs.Stands.{Stands, holds, held_by, holds_act, holds_at, holds_comp, holds_head, holds_heads, holds_in, holds_killing, holds_making, holds_pop, holds_push, holds_share, holds_shared, holds_stage, holds_tail, holds_work, is_done}
 use Rattle.core_invariant.specs.Threads.{KnowsSwitch, holds_switching}
-use Rattle.core_invariant.proofs.Carries.{slot_relies}
+use Rattle.kept_knowledge.proofs.Carries.{slot_relies}
 use Rattle.core_invariant.proofs.Freezing.{release_entry}
-use Rattle.core_invariant.proofs.Lent.{lent_unmarked}
+use Rattle.lent_words.proofs.Lent.{lent_unmarked}
 
 none_some : (x : ℕ) → None ≡ Some x → ⊥
 none_some x h = cc

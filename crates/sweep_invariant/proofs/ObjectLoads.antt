@@ -27,11 +27,11 @@ use Rattle.kernel_history.specs.ObjectWords.{frame_value}
 use Rattle.kernel_history.specs.Stamps.{awaits_flushes, exit_of, flush_of, flush_stored, stamp}
 use Rattle.kernel_history.specs.Trace.{Step, Trace, Out, Open, phase, state_after, last_left}
 use Rattle.kernel_history.specs.Ways.{asked_of, waited_in, flushed_in}
-use Rattle.kernel_history.proofs.AloneCalls.{refused_first, nobody_waits}
-use Rattle.kernel_history.proofs.Awaits.{awaits_are}
-use Rattle.kernel_history.proofs.Carries.{was_at_once}
+use Rattle.trace_laws.proofs.AloneCalls.{refused_first, nobody_waits}
+use Rattle.trace_laws.proofs.Awaits.{awaits_are}
+use Rattle.trace_laws.proofs.Carries.{was_at_once}
 use Rattle.kernel_history.proofs.Laws.{not_inside}
-use Rattle.kernel_history.proofs.Waiting.{out_passed, later_passed, may_wait}
+use Rattle.trace_laws.proofs.Waiting.{out_passed, later_passed, may_wait}
 use Rattle.call_plans.specs.GoesBy.{own_pages}
 use Rattle.plan_ways.proofs.Ways.{asked_left}
 use Rattle.stage_quiet.specs.declared.quiet.Quiet.{Quiet}
@@ -65,28 +65,28 @@ use Rattle.core_invariant.specs.Holding.{Holding, holds_counts}
 use Rattle.core_invariant.specs.Knows.{KnowsUndecided, KnowsWork, AreDuesApart}
 use Rattle.core_invariant.specs.Stands.{holds_in, holds_work, Stands, holds, held_by}
 use Rattle.core_invariant.specs.Sweeps.{AreFrozen, IsQuiet, IsScanning, KnowsSweep, KnowsSweepScan, IsLookedAt, IsSwept, names_of}
-use Rattle.core_invariant.proofs.Carries.{names_on, quiet_frame_on}
-use Rattle.core_invariant.proofs.Loads.{OnlyLooks, step_to, next_at, inner, loads_on, decides_with}
-use Rattle.core_invariant.proofs.Refusals.{GoodTook}
+use Rattle.kept_knowledge.proofs.Carries.{names_on, quiet_frame_on}
+use Rattle.step_ways.proofs.Loads.{OnlyLooks, step_to, next_at, inner, loads_on, decides_with}
+use Rattle.step_ways.proofs.Refusals.{GoodTook}
 use Rattle.core_invariant.proofs.Sounds.{limits_of}
-use Rattle.place_invariant.proofs.FlushScans.{flush_is_stored, flush_shown, lowest_is, still_unflushed, unflushed_shown}
-use Rattle.place_invariant.proofs.Scans.{before_next}
+use Rattle.scan_invariant.proofs.FlushScans.{flush_is_stored, flush_shown, lowest_is, still_unflushed, unflushed_shown}
+use Rattle.scan_invariant.proofs.Scans.{before_next}
 use Rattle.place_invariant.proofs.Vacancy.{none_waits, none_unflushed}
-use Rattle.sweep_invariant.proofs.Counters.{sweeping, untyping_by, sweep_knows, sweep_held, sweep_counts, sweep_frame, sweep_refs, sweep_since, undo_with, undo_known}
-use Rattle.sweep_invariant.proofs.FrameQuiet as quieting
-use Rattle.sweep_invariant.proofs.FrameQuiet.{cached_is, unpaged_frame}
-use Rattle.sweep_invariant.proofs.UntypeCalls as calls
-use Rattle.sweep_invariant.proofs.UntypeCalls.{untypes_on, typed_is}
+use Rattle.freeze_invariant.proofs.Counters.{sweeping, untyping_by, sweep_knows, sweep_held, sweep_counts, sweep_frame, sweep_refs, sweep_since, undo_with, undo_known}
+use Rattle.freeze_invariant.proofs.FrameQuiet as quieting
+use Rattle.freeze_invariant.proofs.FrameQuiet.{cached_is, unpaged_frame}
+use Rattle.freeze_invariant.proofs.UntypeCalls as calls
+use Rattle.freeze_invariant.proofs.UntypeCalls.{untypes_on, typed_is}
 use Rattle.spk_nums.specs.declared.kinds.Obj.{Obj}
 use Rattle.spk_nums.specs.declared.kinds.Obj.TheVariants as obj
 use Rattle.kernel_rules.specs.References.{refs, frame_names}
-use Rattle.kernel_rules.proofs.Sound.{IsSound}
-use Rattle.kernel_rules.proofs.SoundRuns.{opened}
+use Rattle.kernel_invariant.proofs.Sound.{IsSound}
+use Rattle.kernel_invariant.proofs.SoundRuns.{opened}
 use Rattle.kernel_history.specs.Events.{events_of}
-use Rattle.kernel_history.proofs.Stays.{sound_of}
+use Rattle.trace_laws.proofs.Stays.{sound_of}
 use Rattle.core_invariant.specs.Words.{IsFrameWord, count_room}
 use Rattle.core_invariant.proofs.Freezing.{release_entry}
-use Rattle.sweep_invariant.proofs.Continuing as going
+use Rattle.freeze_invariant.proofs.Continuing as going
 use Rattle.sweep_invariant.proofs.FreeEntries.{counts_entry, entry_settles}
 use Rattle.sweep_invariant.proofs.OwnedFrames.{OwnedApart, owned_apart, names_differ}
 

@@ -24,15 +24,15 @@ use Rattle.kernel_rules.specs.Access.{held_in}
 use Rattle.kernel_rules.specs.Fitting.{fits}
 use Rattle.kernel_rules.specs.MemoryCalls.{is_empty, holds_nothing}
 use Rattle.kernel_rules.specs.References.{frame_names}
-use Rattle.kernel_rules.proofs.Sound.{IsSound, IsObjectGood, IsStack}
-use Rattle.kernel_rules.proofs.SoundCalls.{nothing_held}
-use Rattle.kernel_rules.proofs.SoundRuns.{opened}
+use Rattle.kernel_invariant.proofs.Sound.{IsSound, IsObjectGood, IsStack}
+use Rattle.kernel_invariant.proofs.SoundCalls.{nothing_held}
+use Rattle.kernel_invariant.proofs.SoundRuns.{opened}
 use Rattle.kernel_history.specs.Events.{events_of}
 use Rattle.kernel_history.specs.ObjectWords.{frame_value, thread_value, at_height}
 use Rattle.kernel_history.specs.Stamps.{stamp}
 use Rattle.kernel_history.specs.Trace.{Trace, state_after, last_left}
-use Rattle.kernel_history.proofs.GraceSteps.{cases_bool}
-use Rattle.kernel_history.proofs.Stays.{sound_of}
+use Rattle.trace_laws.proofs.GraceSteps.{cases_bool}
+use Rattle.trace_laws.proofs.Stays.{sound_of}
 use Rattle.stage_look.specs.Shown.{shown_in}
 use Rattle.stage_sweep.specs.Emptiness.{loads_of, empty_refuses, entry_refuses, field_refuses, head_refuses, head_by_mark, owned_after, owns, frame_if, place_owned, place_refuses, stack_owned, stack_refuses, thread_refuses, depth_refuses}
 use Rattle.stage_sweep.specs.declared.empty.Owned.{Owned}
@@ -49,7 +49,7 @@ use Rattle.core_invariant.specs.Sweeps.{HoldsNone, IsLookedAt, NamesBottom, Name
 use Rattle.core_invariant.specs.Words.{HeadIs, IsFrameWord, PlaceIs, count_room}
 use Rattle.core_invariant.proofs.Sounds.{limits_of}
 use Rattle.look_invariant.proofs.Lookups.{IsShown, Shows, ShowsHeld, shown_of}
-use Rattle.sweep_invariant.proofs.Counters.{sweeping, untyping_by}
+use Rattle.freeze_invariant.proofs.Counters.{sweeping, untyping_by}
 use Rattle.sweep_invariant.proofs.ObjectLoads.{Result, entry_below, goes_on, holds_some, looked_so_far, object_frame, object_says, owned_fits}
 
 -- A frame that fits a kind is one of the machine.

@@ -8,7 +8,7 @@ use Rattle.spk_nums.specs.declared.kinds.Kind.TheVariants as kind
 use Rattle.kernel_rules.specs.State.{CompFields, ThreadFields, Object, Blank, Table, Leaf, Pages, Pleaf, Comp, Thread, Tcap, Frame, Untyped, User, Kernel, State}
 use Rattle.kernel_rules.specs.Fitting.{fits}
 use Rattle.kernel_rules.specs.References.{frame_names}
-use Rattle.kernel_rules.proofs.Sound.{IsSound, IsObjectGood, IsStack}
+use Rattle.kernel_invariant.proofs.Sound.{IsSound, IsObjectGood, IsStack}
 use Rattle.kernel_history.specs.ObjectWords.{frame_value}
 use Rattle.stage_sweep.specs.Emptiness.{loads_of}
 use Rattle.stage_sweep.specs.declared.empty.Owned.{Owned}

@@ -40,14 +40,14 @@ use Rattle.core_invariant.specs.Stands.{Stands, done_by, held_by, holds, holds_a
 use Rattle.core_invariant.specs.Sweeps.{KnowsRelease, ThawsFrame}
 use Rattle.core_invariant.specs.Words.{SaysCount, count_room}
 use Rattle.core_invariant.proofs.Bare.{as_none, counts_bare}
-use Rattle.core_invariant.proofs.Carries.{counts_on}
-use Rattle.core_invariant.proofs.Counting as counting
+use Rattle.kept_knowledge.proofs.Carries.{counts_on}
+use Rattle.step_ways.proofs.Counting as counting
 use Rattle.core_invariant.proofs.Freezing.{SameAt, is_count, release_away, release_bare, release_frame, release_over, thaw_here, thaw_plain}
-use Rattle.core_invariant.proofs.Good.{spares_other}
-use Rattle.core_invariant.proofs.Lent.{lent_elsewhere}
-use Rattle.core_invariant.proofs.Loads.{call_is, core_at, inner, is_active}
-use Rattle.core_invariant.proofs.Refusals.{GoodTook}
-use Rattle.core_invariant.proofs.Writes.{same_marks}
+use Rattle.step_ways.proofs.Good.{spares_other}
+use Rattle.lent_words.proofs.Lent.{lent_elsewhere}
+use Rattle.step_ways.proofs.Loads.{call_is, core_at, inner, is_active}
+use Rattle.step_ways.proofs.Refusals.{GoodTook}
+use Rattle.step_ways.proofs.Writes.{same_marks}
 use Rattle.count_invariant.proofs.MakingCounts.{argument_near}
 
 some_inj : (x y : ℕ) → Some x ≡ Some y → x ≡ y

@@ -33,15 +33,15 @@ use Rattle.call_stages.specs.Steps.{landed}
 use Rattle.call_stages.specs.View.{Core}
 use Rattle.core_invariant.specs.Knows.{KnowsUndecided}
 use Rattle.core_invariant.specs.Stands.{Stands}
-use Rattle.core_invariant.proofs.Refusals.{GoodTook}
-use Rattle.sweep_invariant.proofs.Counters.{counter_load_good, sweeping, untyping_by}
-use Rattle.sweep_invariant.proofs.FrameCores.{core_scan_good}
-use Rattle.sweep_invariant.proofs.FrameFlushes.{flush_scan_good}
-use Rattle.sweep_invariant.proofs.Freezes.{first_compare_good, no_kept}
-use Rattle.sweep_invariant.proofs.Marking.{load_good, mark_good}
+use Rattle.step_ways.proofs.Refusals.{GoodTook}
+use Rattle.freeze_invariant.proofs.Counters.{counter_load_good, sweeping, untyping_by}
+use Rattle.freeze_invariant.proofs.FrameCores.{core_scan_good}
+use Rattle.freeze_invariant.proofs.FrameFlushes.{flush_scan_good}
+use Rattle.freeze_invariant.proofs.Freezes.{first_compare_good, no_kept}
+use Rattle.freeze_invariant.proofs.Marking.{load_good, mark_good}
 use Rattle.sweep_invariant.proofs.Objects.{object_good}
 use Rattle.sweep_invariant.proofs.Untyped.{untyped_good}
-use Rattle.sweep_invariant.proofs.UntypeCalls as calls
+use Rattle.freeze_invariant.proofs.UntypeCalls as calls
 
 module _ (setup : Setting) (setting : IsSetting setup) (cores : ℕ → Core) (t : Trace) (stands : Stands setup cores t) (c : ℕ)
     (here : c < setup.cores)

@@ -33,10 +33,10 @@ use Rattle.kernel_rules.specs.Start.{no_grace}
 use Rattle.kernel_rules.specs.CallRelation.{MayReply, rule_of, ends_by, flushes_by, changed, change_of, counted, begins_in}
 use Rattle.kernel_rules.specs.GracePeriods.{same_thing, begun, new_grace}
 use Rattle.kernel_rules.specs.Laws.{calls_counted}
-use Rattle.kernel_rules.proofs.Refs.{frame_refs, grace_refs}
-use Rattle.kernel_rules.proofs.SoundRemovals.{frames_no_place}
-use Rattle.kernel_rules.proofs.SoundRuns.{opened}
-use Rattle.kernel_rules.proofs.Stays.{comp_named}
+use Rattle.kernel_invariant.proofs.Refs.{frame_refs, grace_refs}
+use Rattle.kernel_invariant.proofs.SoundRemovals.{frames_no_place}
+use Rattle.kernel_invariant.proofs.SoundRuns.{opened}
+use Rattle.found_stays.proofs.Stays.{comp_named}
 use Rattle.kernel_rules.proofs.Within.{put_same, put_other}
 use Rattle.kernel_history.specs.Counts.{counters, count_in, count_sum}
 use Rattle.kernel_history.specs.Events.{events_of}
@@ -47,10 +47,10 @@ use Rattle.kernel_history.specs.ObjectWords.{frame_value}
 use Rattle.kernel_history.specs.Stamps.{begins_in as begins_then, ends_in, flushes_in, begins_at, ends_at, flushes_at, stamp, clock, flush_stored}
 use Rattle.kernel_history.specs.Trace.{Step, Trace, Open, phase, state_after, state_decided_in, last_left, own_left}
 use Rattle.kernel_history.specs.Ways.{way_to, ways}
-use Rattle.kernel_history.proofs.AloneCalls.{ok_first}
+use Rattle.trace_laws.proofs.AloneCalls.{ok_first}
 use Rattle.kernel_history.proofs.Inside.{decided-inside}
 use Rattle.kernel_history.proofs.Names.{cases_word, same_word-other}
-use Rattle.kernel_history.proofs.Stays.{sound_of}
+use Rattle.trace_laws.proofs.Stays.{sound_of}
 use Rattle.kernel_history.proofs.Steps.{stamp-begins, stamp-ends, stamp-kept, flush_stored-own, flush_stored-other, last_left-there}
 use Rattle.stage_quiet.specs.Clocks.{drawn_stamp}
 use Rattle.stage_pins.specs.Counts.{later, unheld}
@@ -87,26 +87,26 @@ use Rattle.core_invariant.specs.Knows.{HasFound, KnowsUndecided, WorksIn, own_in
 use Rattle.core_invariant.specs.Stands.{holds, holds_in, held_by, times_of, counted_in, count_shown, SumIs, Stands}
 use Rattle.core_invariant.specs.Sweeps.{IsLookedAt, KnowsSwept, ThawsFrame, names_of}
 use Rattle.core_invariant.proofs.Bare.{counts_bare}
-use Rattle.core_invariant.proofs.Calm.{counts as calm_counts, calm_counted, same_works, plain_exit, room_grows, counted_grows}
-use Rattle.core_invariant.proofs.CountSums.{counted_refs}
-use Rattle.core_invariant.proofs.Draws as drawing
+use Rattle.kept_words.proofs.Calm.{counts as calm_counts, calm_counted, same_works, plain_exit, room_grows, counted_grows}
+use Rattle.kept_words.proofs.CountSums.{counted_refs}
+use Rattle.step_ways.proofs.Draws as drawing
 use Rattle.core_invariant.proofs.Freezing.{IsFrozenWord, frozen_word, release_away, release_bare, release_entry, release_frame, thaw_all, thaw_from, thaws_own}
-use Rattle.core_invariant.proofs.Loads.{inner}
-use Rattle.core_invariant.proofs.Refusals.{GoodTook}
+use Rattle.step_ways.proofs.Loads.{inner}
+use Rattle.step_ways.proofs.Refusals.{GoodTook}
 use Rattle.core_invariant.proofs.Sounds.{limits_of}
-use Rattle.core_invariant.proofs.Swept.{HoldsSwept, frame_says, no_refs, release_counter, release_swept, stamp_is}
-use Rattle.core_invariant.proofs.WordFrames.{SameFor, ReadsAlike, StaysSaid, mark_same, own_settled, word_stays}
-use Rattle.core_invariant.proofs.Writes.{clock_small, same_marks}
+use Rattle.kept_knowledge.proofs.Swept.{HoldsSwept, frame_says, no_refs, release_counter, release_swept, stamp_is}
+use Rattle.kept_words.proofs.WordFrames.{SameFor, ReadsAlike, StaysSaid, mark_same, own_settled, word_stays}
+use Rattle.step_ways.proofs.Writes.{clock_small, same_marks}
 use Rattle.count_invariant.proofs.CountChanges.{spared_commit, spared_sum}
 use Rattle.look_invariant.proofs.Findings.{own_is, found_named, way_gone}
-use Rattle.core_invariant.proofs.Carries.{own_kept}
+use Rattle.kept_knowledge.proofs.Carries.{own_kept}
 use Rattle.place_invariant.proofs.Removals.{frame_none, frame_some}
 use Rattle.place_invariant.proofs.Vacancy.{none_unflushed, none_waits}
 use Rattle.sweep_invariant.proofs.Emptied.{acquired_all, acquired_away, count_word, due_each, due_none, due_small, looked_empty}
 use Rattle.sweep_invariant.proofs.FreeEntries.{counts_entry, entry_unmarked, no_thread}
 use Rattle.sweep_invariant.proofs.OwnedFrames.{Differ, OwnedApart, names_differ, owned_apart}
-use Rattle.sweep_invariant.proofs.UntypeCalls as calls
-use Rattle.sweep_invariant.proofs.UntypeCalls.{typed_is}
+use Rattle.freeze_invariant.proofs.UntypeCalls as calls
+use Rattle.freeze_invariant.proofs.UntypeCalls.{typed_is}
 
 -- A count that falls by one.
 one_less : (m n : ℕ) → n + 1 ≡ m → pos n ≡ pos m +ℤ negsuc 0

@@ -16,16 +16,16 @@ use Rattle.kernel_rules.specs.References.{frame_names, named_by}
 use Rattle.kernel_rules.specs.Rules.{Rule, Change, Judged, Refused, Found, RuleMay, outcome}
 use Rattle.kernel_rules.specs.InvocationCalls.{switch_to, switches}
 use Rattle.kernel_rules.specs.CallRelation.{rule_of, change_of}
-use Rattle.kernel_rules.proofs.Facts.{named_fit}
-use Rattle.kernel_rules.proofs.Sound.{IsSound}
-use Rattle.kernel_rules.proofs.SoundRuns.{opened}
+use Rattle.kernel_invariant.proofs.Facts.{named_fit}
+use Rattle.kernel_invariant.proofs.Sound.{IsSound}
+use Rattle.kernel_invariant.proofs.SoundRuns.{opened}
 use Rattle.kernel_history.specs.Discipline.{changes_in_frame, changes_threads, raises_clock}
 use Rattle.kernel_history.specs.Events.{events_of}
 use Rattle.kernel_history.specs.Footprint.{is_one_of, frames_about, frames_named, frames_near, frames_own, frame_argument, frame_at_slot}
 use Rattle.kernel_history.specs.Trace.{Step, Trace, Open, phase, state_after, last_left}
 use Rattle.kernel_history.specs.Ways.{target_of, wide_ways}
-use Rattle.kernel_history.proofs.Carries.{Carries}
-use Rattle.kernel_history.proofs.Stays.{opened_is, sound_of}
+use Rattle.trace_laws.proofs.Carries.{Carries}
+use Rattle.trace_laws.proofs.Stays.{opened_is, sound_of}
 use Rattle.plan_ways.proofs.Near.{named_near, one_left, one_right}
 use Rattle.call_plans.proofs.CallsGoBy.{calls_go}
 use Rattle.call_plans.specs.declared.plans.Nth.TheVariants.{First}
@@ -51,9 +51,9 @@ use Rattle.core_invariant.specs.Knows.{due_of, KnowsUndecided, phase_at}
 use Rattle.core_invariant.specs.Stands.{holds, holds_at, holds_in, Stands}
 use Rattle.core_invariant.specs.Threads.{HasThread, KnowsSwitch, KnowsSwitchAt, SwitchesBy, claimed_by, holds_switching}
 use Rattle.core_invariant.proofs.Bare.{counts_bare}
-use Rattle.core_invariant.proofs.Carries.{names_on}
-use Rattle.core_invariant.proofs.Loads.{OnlyLooks, step_to, call_is, is_active, loads_on}
-use Rattle.core_invariant.proofs.Refusals.{GoodTook, ticks_at}
+use Rattle.kept_knowledge.proofs.Carries.{names_on}
+use Rattle.step_ways.proofs.Loads.{OnlyLooks, step_to, call_is, is_active, loads_on}
+use Rattle.step_ways.proofs.Refusals.{GoodTook, ticks_at}
 use Rattle.core_invariant.proofs.Sounds.{limits_of}
 use Rattle.core_invariant.proofs.ThreadHolds.{switching_bare}
 use Rattle.count_invariant.proofs.Acquiring.{plan_leads, goes_by}

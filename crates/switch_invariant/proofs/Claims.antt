@@ -43,12 +43,12 @@ use Rattle.core_invariant.specs.Stands.{holds, held_by, holds_in, Stands}
 use Rattle.core_invariant.specs.Components.{HasComp}
 use Rattle.core_invariant.specs.Threads.{IsTop, claimed_by, holds_idle}
 use Rattle.core_invariant.proofs.Bare.{IsNotKept, as_none, counts_bare, none_kept}
-use Rattle.core_invariant.proofs.Carries.{names_on, counts_on}
-use Rattle.core_invariant.proofs.Counting as counters
-use Rattle.core_invariant.proofs.Good.{Spared, SparesBlanks}
-use Rattle.core_invariant.proofs.Lent.{lent_free}
-use Rattle.core_invariant.proofs.Loads.{IsOfCall, core_at, inner, call_is}
-use Rattle.core_invariant.proofs.Refusals.{GoodTook, refuses_raced, refuses_busy, refuses_running}
+use Rattle.kept_knowledge.proofs.Carries.{names_on, counts_on}
+use Rattle.step_ways.proofs.Counting as counters
+use Rattle.step_ways.proofs.Good.{Spared, SparesBlanks}
+use Rattle.lent_words.proofs.Lent.{lent_free}
+use Rattle.step_ways.proofs.Loads.{IsOfCall, core_at, inner, call_is}
+use Rattle.step_ways.proofs.Refusals.{GoodTook, refuses_raced, refuses_busy, refuses_running}
 use Rattle.thread_invariant.proofs.CompWords.{comp_below}
 use Rattle.thread_invariant.proofs.EntryMarks.{counts_apart}
 use Rattle.switch_invariant.proofs.Calls as calls

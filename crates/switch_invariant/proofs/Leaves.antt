@@ -32,11 +32,11 @@ use Rattle.core_invariant.specs.Knows.{KnowsUndecided}
 use Rattle.core_invariant.specs.Stands.{holds, holds_in, held_by, Stands}
 use Rattle.core_invariant.specs.Threads.{claimed_by, holds_idle, is_claimed}
 use Rattle.core_invariant.proofs.Bare.{as_none, counts_bare, none_kept}
-use Rattle.core_invariant.proofs.Carries.{names_on, counts_on}
-use Rattle.core_invariant.proofs.Counting as counters
-use Rattle.core_invariant.proofs.Lent.{lent_free, runs_on_own}
-use Rattle.core_invariant.proofs.Loads.{IsOfCall, core_at, inner, call_is}
-use Rattle.core_invariant.proofs.Refusals.{GoodTook}
+use Rattle.kept_knowledge.proofs.Carries.{names_on, counts_on}
+use Rattle.step_ways.proofs.Counting as counters
+use Rattle.lent_words.proofs.Lent.{lent_free, runs_on_own}
+use Rattle.step_ways.proofs.Loads.{IsOfCall, core_at, inner, call_is}
+use Rattle.step_ways.proofs.Refusals.{GoodTook}
 use Rattle.thread_invariant.proofs.EntryMarks.{counts_apart, thread_unmarked}
 use Rattle.switch_invariant.proofs.Calls as calls
 use Rattle.switch_invariant.proofs.Claims.{not_kept, spares_thread}

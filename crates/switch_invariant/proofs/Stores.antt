@@ -18,7 +18,7 @@ use Rattle.kernel_history.specs.Footprint.{IsNearIn}
 use Rattle.kernel_history.specs.Marks.{thread_mark}
 use Rattle.kernel_history.specs.Marking.{marked_by}
 use Rattle.kernel_history.specs.Trace.{Step, Trace, WasAt, state_after, last_left}
-use Rattle.kernel_history.proofs.Carries.{was_stays}
+use Rattle.trace_laws.proofs.Carries.{was_stays}
 use Rattle.kernel_history.proofs.Names.{same_word-other}
 use Rattle.act_states.specs.Switches.{idle_move, running_move}
 use Rattle.act_states.specs.declared.work.Tail.{Tail}
@@ -33,11 +33,11 @@ use Rattle.core_invariant.specs.Knows.{KnowsTail, phase_at}
 use Rattle.core_invariant.specs.Stands.{done_by, holds, holds_at, holds_in, holds_tail, held_by, Stands}
 use Rattle.core_invariant.specs.Threads.{KnowsIdle, KnowsRunning, holds_idle}
 use Rattle.core_invariant.proofs.Bare.{as_none, core_bare, counts_bare, none_kept}
-use Rattle.core_invariant.proofs.Carries.{counts_on}
-use Rattle.core_invariant.proofs.Counting as counters
-use Rattle.core_invariant.proofs.Lent.{lent_free}
-use Rattle.core_invariant.proofs.Loads.{core_at, inner, call_is, is_active}
-use Rattle.core_invariant.proofs.Refusals.{GoodTook}
+use Rattle.kept_knowledge.proofs.Carries.{counts_on}
+use Rattle.step_ways.proofs.Counting as counters
+use Rattle.lent_words.proofs.Lent.{lent_free}
+use Rattle.step_ways.proofs.Loads.{core_at, inner, call_is, is_active}
+use Rattle.step_ways.proofs.Refusals.{GoodTook}
 use Rattle.thread_invariant.proofs.EntryMarks.{counts_apart}
 use Rattle.thread_invariant.proofs.OwnStack.{own_thread}
 use Rattle.switch_invariant.proofs.Claims.{not_kept, spares_thread}

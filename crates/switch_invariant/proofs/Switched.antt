@@ -30,11 +30,11 @@ use Rattle.kernel_rules.specs.CallRelation.{MayReply, rule_of, change_of, change
 use Rattle.kernel_rules.specs.GracePeriods.{begun, same_thing, new_grace}
 use Rattle.kernel_rules.specs.Relies.{IsGuarded}
 use Rattle.kernel_rules.proofs.Changes.{IfFound}
-use Rattle.kernel_rules.proofs.Facts.{outcome_from}
-use Rattle.kernel_rules.proofs.Refs.{RefsBy, grace_refs, rule_refs}
-use Rattle.kernel_rules.proofs.RefsLaw.{counted_refs}
-use Rattle.kernel_rules.proofs.SoundRuns.{opened}
-use Rattle.kernel_rules.proofs.Sums.{sum_one}
+use Rattle.kernel_invariant.proofs.Facts.{outcome_from}
+use Rattle.kernel_invariant.proofs.Refs.{RefsBy, grace_refs, rule_refs}
+use Rattle.kernel_invariant.proofs.RefsLaw.{counted_refs}
+use Rattle.kernel_invariant.proofs.SoundRuns.{opened}
+use Rattle.kernel_invariant.proofs.Sums.{sum_one}
 use Rattle.kernel_history.specs.Discipline.{changes_threads, raises_clock}
 use Rattle.kernel_history.specs.Events.{events_of}
 use Rattle.kernel_history.specs.Footprint.{IsNearIn}
@@ -46,10 +46,10 @@ use Rattle.kernel_history.specs.ObjectWords.{frame_value, thread_value}
 use Rattle.kernel_history.specs.Stamps.{begins_in as begins_then, ends_in, flushes_in, begins_at, ends_at, flushes_at, stamp, clock, flush_of, flush_stored}
 use Rattle.kernel_history.specs.Trace.{Step, Trace, Open, WasAt, phase, state_after, state_decided_in, last_left, own_left}
 use Rattle.kernel_history.specs.Ways.{way_to, ways}
-use Rattle.kernel_history.proofs.AloneCalls.{ok_first}
-use Rattle.kernel_history.proofs.Carries.{open_inside, was_stays}
+use Rattle.trace_laws.proofs.AloneCalls.{ok_first}
+use Rattle.trace_laws.proofs.Carries.{open_inside, was_stays}
 use Rattle.kernel_history.proofs.Names.{cases_word, same_word-other}
-use Rattle.kernel_history.proofs.Stays.{opened_is}
+use Rattle.trace_laws.proofs.Stays.{opened_is}
 use Rattle.kernel_history.proofs.Steps.{stamp-begins, stamp-kept, flush_of-own, flush_stored-own, flush_stored-other}
 use Rattle.call_plans.specs.After.{LeadsIn}
 use Rattle.call_plans.specs.GoesBy.{own_pages}
@@ -84,20 +84,20 @@ use Rattle.core_invariant.specs.Knows.{HasFound, due_of, flushing_in, KnowsUndec
 use Rattle.core_invariant.specs.Stands.{holds, holds_in, held_by, times_of, counted_in, SumIs, Stands}
 use Rattle.core_invariant.specs.Threads.{HasRoots, HasThread, KnowsRunning, claimed_by, is_claimed, holds_idle}
 use Rattle.core_invariant.proofs.Bare.{counts_bare}
-use Rattle.core_invariant.proofs.Calm.{plain_exit}
+use Rattle.kept_words.proofs.Calm.{plain_exit}
 use Rattle.kernel_history.proofs.Inside.{decided-inside}
-use Rattle.core_invariant.proofs.Carries.{own_kept}
-use Rattle.core_invariant.proofs.Draws.{raised}
-use Rattle.core_invariant.proofs.Flushing.{open_flushed}
-use Rattle.core_invariant.proofs.Good.{spares_other}
-use Rattle.core_invariant.proofs.Lent.{lent_elsewhere, lent_none, runs_on_own}
-use Rattle.core_invariant.proofs.Loads.{inner, next_at}
-use Rattle.core_invariant.proofs.OwnChanges.{decides_timed}
-use Rattle.core_invariant.proofs.Refusals.{GoodTook, not_spent}
+use Rattle.kept_knowledge.proofs.Carries.{own_kept}
+use Rattle.step_ways.proofs.Draws.{raised}
+use Rattle.step_ways.proofs.Flushing.{open_flushed}
+use Rattle.step_ways.proofs.Good.{spares_other}
+use Rattle.lent_words.proofs.Lent.{lent_elsewhere, lent_none, runs_on_own}
+use Rattle.step_ways.proofs.Loads.{inner, next_at}
+use Rattle.step_ways.proofs.OwnChanges.{decides_timed}
+use Rattle.step_ways.proofs.Refusals.{GoodTook, not_spent}
 use Rattle.core_invariant.proofs.Sounds.{limits_of}
-use Rattle.core_invariant.proofs.Users.{spares_none}
-use Rattle.core_invariant.proofs.WordFrames.{ReadsAlike, SameFor, StaysSaid, word_stays, marks_own, carry_marks, carry_words}
-use Rattle.core_invariant.proofs.Writes.{same_marks, clock_small}
+use Rattle.step_ways.proofs.Users.{spares_none}
+use Rattle.kept_words.proofs.WordFrames.{ReadsAlike, SameFor, StaysSaid, word_stays, marks_own, carry_marks, carry_words}
+use Rattle.step_ways.proofs.Writes.{same_marks, clock_small}
 use Rattle.count_invariant.proofs.CountChanges.{dues_commit, dues_sum}
 use Rattle.count_invariant.proofs.SwitchCounts.{was_here}
 use Rattle.look_invariant.proofs.Findings.{own_is, found_named, way_gone}

@@ -19,8 +19,8 @@ use Rattle.call_stages.specs.Steps.{landed}
 use Rattle.call_stages.specs.View.{Core}
 use Rattle.core_invariant.specs.Knows.{KnowsUndecided}
 use Rattle.core_invariant.specs.Stands.{Stands}
-use Rattle.core_invariant.proofs.Refusals.{GoodTook}
-use Rattle.core_invariant.proofs.Writes.{clock_small}
+use Rattle.step_ways.proofs.Refusals.{GoodTook}
+use Rattle.step_ways.proofs.Writes.{clock_small}
 use Rattle.switch_invariant.proofs.Claims.{load_good, compare_good, stack_good}
 use Rattle.switch_invariant.proofs.Leaves.{leave_good}
 use Rattle.switch_invariant.proofs.Switched.{switched_good}

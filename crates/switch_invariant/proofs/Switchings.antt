@@ -13,7 +13,7 @@ use Rattle.kernel_rules.specs.InvocationCalls.{running, with_thread}
 use Rattle.kernel_rules.specs.References.{times}
 use Rattle.kernel_rules.specs.Rules.{frames_of}
 use Rattle.kernel_rules.specs.State as state
-use Rattle.kernel_rules.proofs.Sums.{times_cons}
+use Rattle.kernel_invariant.proofs.Sums.{times_cons}
 use Rattle.kernel_rules.proofs.Within.{put_same, put_other}
 use Rattle.stage_pins.specs.Counts.{later}
 use Rattle.stage_pins.specs.Held.{stamp_of_change}

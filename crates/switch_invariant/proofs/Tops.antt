@@ -37,10 +37,10 @@ use Rattle.core_invariant.specs.Holding.{holds_counts}
 use Rattle.core_invariant.specs.Knows.{AreDuesApart, due_of, KnowsUndecided}
 use Rattle.core_invariant.specs.Stands.{holds, holds_in, Stands}
 use Rattle.core_invariant.specs.Threads.{HasRoots, HasTable, IsTop, claimed_by, is_claimed, holds_idle, holds_switching}
-use Rattle.core_invariant.proofs.Carries.{names_on}
-use Rattle.core_invariant.proofs.Lent.{runs_on_own}
-use Rattle.core_invariant.proofs.Loads.{next_at, step_to, loads_on}
-use Rattle.core_invariant.proofs.Refusals.{GoodTook}
+use Rattle.kept_knowledge.proofs.Carries.{names_on}
+use Rattle.lent_words.proofs.Lent.{runs_on_own}
+use Rattle.step_ways.proofs.Loads.{next_at, step_to, loads_on}
+use Rattle.step_ways.proofs.Refusals.{GoodTook}
 use Rattle.core_invariant.proofs.ThreadHolds.{IsIdleIn, claimed_idle}
 use Rattle.count_invariant.proofs.Acquiring.{knows_next, next_holds}
 use Rattle.count_invariant.proofs.SwitchCounts.{tcap_kind}

@@ -9,25 +9,25 @@ use Rattle.word_map.specs.Word.{EntryAt}
 use Rattle.kernel_rules.specs.State.{ThreadFields, Thread, Kernel, PlaceOf, State, first_of_stack, thread_in}
 use Rattle.kernel_rules.specs.Fitting.{fits}
 use Rattle.kernel_rules.specs.References.{frame_names, refs, times}
-use Rattle.kernel_rules.proofs.Sound.{IsObjectGood, IsSound, IsStack}
-use Rattle.kernel_rules.proofs.SoundRuns.{opened}
-use Rattle.kernel_rules.proofs.Stays.{object_named}
-use Rattle.kernel_rules.proofs.Sums.{times_first}
+use Rattle.kernel_invariant.proofs.Sound.{IsObjectGood, IsSound, IsStack}
+use Rattle.kernel_invariant.proofs.SoundRuns.{opened}
+use Rattle.found_stays.proofs.Stays.{object_named}
+use Rattle.kernel_invariant.proofs.Sums.{times_first}
 use Rattle.kernel_history.specs.Events.{events_of}
 use Rattle.kernel_history.specs.Legal.{IsLegal}
 use Rattle.kernel_history.specs.Marking.{marked_by}
 use Rattle.kernel_history.specs.ObjectWords.{thread_value}
 use Rattle.kernel_history.specs.Stamps.{stamp}
 use Rattle.kernel_history.specs.Trace.{Trace, state_after, last_left}
-use Rattle.kernel_history.proofs.Stays.{sound_of}
+use Rattle.trace_laws.proofs.Stays.{sound_of}
 use Rattle.call_stages.specs.View.{Core}
 use Rattle.core_invariant.specs.Components.{HasComp}
 use Rattle.core_invariant.specs.Holding.{settled_by}
 use Rattle.core_invariant.specs.Stands.{held_by, IsOfThread, SaysRunning, Stands}
 use Rattle.core_invariant.specs.Words.{IsFrameWord, IsThreadWord, count_room}
 use Rattle.core_invariant.proofs.Bare.{none_kept}
-use Rattle.core_invariant.proofs.Lent.{lent_thread, runs_on_own}
-use Rattle.core_invariant.proofs.Tcaps.{is_tcap}
+use Rattle.lent_words.proofs.Lent.{lent_thread, runs_on_own}
+use Rattle.lent_words.proofs.Tcaps.{is_tcap}
 use Rattle.switch_invariant.proofs.ThreadWords.{same_some, thread_is}
 
 -- What the first word of a thread shows, by the core on which it runs.

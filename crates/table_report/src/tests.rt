@@ -1,5 +1,5 @@
 use super::*;
-use kernel_history::boot_words;
+use boot_words::boot_words;
 use spk_nums::{
     CoreEnd, FrameNo, Grant, Grants, PageFlags, PageNo, Setup, Translation, Translations,
 };

@@ -6,20 +6,20 @@ use Rattle.spk_nums.specs.declared.kinds.Kind.TheVariants as kind
 use Rattle.word_map.specs.Word.{EntryAt}
 use Rattle.kernel_rules.specs.State.{Kernel, Comp, CompFields, PlaceOf, State, comp_in}
 use Rattle.kernel_rules.specs.Fitting.{fits}
-use Rattle.kernel_rules.proofs.Sound.{IsSound, IsObjectGood}
-use Rattle.kernel_rules.proofs.SoundRemovals.{below_by}
-use Rattle.kernel_rules.proofs.SoundRuns.{opened}
+use Rattle.kernel_invariant.proofs.Sound.{IsSound, IsObjectGood}
+use Rattle.kernel_invariant.proofs.SoundRemovals.{below_by}
+use Rattle.kernel_invariant.proofs.SoundRuns.{opened}
 use Rattle.kernel_history.specs.Events.{events_of}
 use Rattle.kernel_history.specs.Marks.{mark_in_frame}
 use Rattle.kernel_history.specs.Marking.{marked_by}
 use Rattle.kernel_history.specs.Stamps.{stamp}
 use Rattle.kernel_history.specs.Trace.{Trace, state_after, last_left}
-use Rattle.kernel_history.proofs.Stays.{sound_of}
+use Rattle.trace_laws.proofs.Stays.{sound_of}
 use Rattle.call_stages.specs.View.{Core}
 use Rattle.core_invariant.specs.Holding.{settled_by}
 use Rattle.core_invariant.specs.Stands.{held_by, Stands}
 use Rattle.core_invariant.specs.Words.{IsCompWord, IsFrameWord, count_room}
-use Rattle.core_invariant.proofs.Lent.{may_keep, unlent_value}
+use Rattle.lent_words.proofs.Lent.{may_keep, unlent_value}
 use Rattle.core_invariant.proofs.Sounds.{limits_of}
 use Rattle.live_invariant.proofs.Numbers.{comp_is}
 

@@ -25,13 +25,13 @@ use Rattle.kernel_rules.specs.References.{times, refs}
 use Rattle.kernel_rules.specs.InvocationCalls.{is_live_in, pushes}
 use Rattle.kernel_rules.specs.CallRelation.{MayReply, change_of, changed, counted, begins_in, ends_by, flushes_by}
 use Rattle.kernel_rules.specs.GracePeriods.{same_thing, new_grace}
-use Rattle.kernel_rules.proofs.Sums.{times_cons}
+use Rattle.kernel_invariant.proofs.Sums.{times_cons}
 use Rattle.kernel_history.specs.Marks.{live_mark}
 use Rattle.kernel_history.specs.Marking.{marked_by}
 use Rattle.kernel_history.specs.ObjectWords.{at_height}
 use Rattle.kernel_history.specs.Stamps.{begins_in as begins_then, ends_in, flushes_in, begins_at, ends_at, flushes_at, stamp}
 use Rattle.kernel_history.specs.Trace.{Step, Trace, Open, phase, state_after, state_decided_in, last_left}
-use Rattle.kernel_history.proofs.AloneCalls.{ok_first}
+use Rattle.trace_laws.proofs.AloneCalls.{ok_first}
 use Rattle.kernel_history.proofs.Steps.{last_left-there}
 use Rattle.stage_pins.specs.Counts.{later}
 use Rattle.stage_pins.specs.Held.{stamp_of_change}
@@ -61,16 +61,16 @@ use Rattle.core_invariant.specs.Words.{WordIs, NumberIs}
 use Rattle.core_invariant.specs.Knows.{KnowsUndecided, WorksIn}
 use Rattle.core_invariant.specs.Stands.{holds_at, holds_in, holds, held_by, times_of, Stands}
 use Rattle.core_invariant.proofs.Bare.{counts_bare}
-use Rattle.core_invariant.proofs.Calm.{IsPlain, plain_begins, plain_stamp, plain_flush}
-use Rattle.core_invariant.proofs.Good.{spares_kept}
-use Rattle.core_invariant.proofs.Lent.{lent_kept}
-use Rattle.core_invariant.proofs.Loads.{inner, next_at}
-use Rattle.core_invariant.proofs.OwnChanges.{decides_changing}
-use Rattle.core_invariant.proofs.Refusals.{GoodTook, not_spent}
-use Rattle.core_invariant.proofs.Users.{spares_none}
-use Rattle.core_invariant.proofs.WordFrames.{marks_own, carry_marks, word_stays}
-use Rattle.kernel_history.proofs.Small.{last_small}
-use Rattle.core_invariant.proofs.Writes.{same_marks}
+use Rattle.kept_words.proofs.Calm.{IsPlain, plain_begins, plain_stamp, plain_flush}
+use Rattle.step_ways.proofs.Good.{spares_kept}
+use Rattle.lent_words.proofs.Lent.{lent_kept}
+use Rattle.step_ways.proofs.Loads.{inner, next_at}
+use Rattle.step_ways.proofs.OwnChanges.{decides_changing}
+use Rattle.step_ways.proofs.Refusals.{GoodTook, not_spent}
+use Rattle.step_ways.proofs.Users.{spares_none}
+use Rattle.kept_words.proofs.WordFrames.{marks_own, carry_marks, word_stays}
+use Rattle.trace_laws.proofs.Small.{last_small}
+use Rattle.step_ways.proofs.Writes.{same_marks}
 use Rattle.count_invariant.proofs.CapChanges.{counts_commit, counts_sum, dues_of}
 use Rattle.count_invariant.proofs.StackCounts.{invoke_threads}
 use Rattle.live_invariant.proofs.Numbers.{shows_some}

@@ -58,9 +58,9 @@ use Rattle.core_invariant.specs.Words.{IsFrameWord, count_room}
 use Rattle.core_invariant.specs.Knows.{KnowsAct, KnowsWork, KnowsTail, KnowsAt, CallIs, phase_at}
 use Rattle.core_invariant.specs.Shares.{KnowsStoresAt}
 use Rattle.core_invariant.specs.Stands.{holds_act, holds_making, holds_killing, holds_comp, holds_share, holds_shared, holds_head, holds_heads, holds_work, holds_tail, is_done, holds_at, holds_in, holds, held_by, Stands}
-use Rattle.core_invariant.proofs.Carries.{slot_relies}
+use Rattle.kept_knowledge.proofs.Carries.{slot_relies}
 use Rattle.core_invariant.proofs.Freezing.{release_entry}
-use Rattle.core_invariant.proofs.Lent.{runs_on_own}
+use Rattle.lent_words.proofs.Lent.{runs_on_own}
 use Rattle.thread_invariant.proofs.OwnStack.{own_thread}
 
 pub counts_apart : (fate : Option (Option ℕ)) (xs : List Acquired) (f i : ℕ) → (holds_counts fate xs).marks (EntryAt f i) ≡ false

@@ -34,8 +34,8 @@ use Rattle.call_stages.specs.Fits.{StageFits, HasRoom}
 use Rattle.call_stages.specs.View.{Core}
 use Rattle.core_invariant.specs.Knows.{HasFound, KnowsUndecided, own_in, phase_at}
 use Rattle.core_invariant.specs.Stands.{Stands}
-use Rattle.core_invariant.proofs.Carries.{own_kept}
-use Rattle.core_invariant.proofs.Loads.{call_is, is_active}
+use Rattle.kept_knowledge.proofs.Carries.{own_kept}
+use Rattle.step_ways.proofs.Loads.{call_is, is_active}
 use Rattle.look_invariant.proofs.Findings.{own_is, found_named, way_gone}
 use Rattle.count_invariant.proofs.Acquiring.{plan_leads, goes_by}
 use Rattle.count_invariant.proofs.StackCounts.{IsInvoke, invoke_of, invoke_near}

@@ -16,15 +16,15 @@ use Rattle.kernel_rules.specs.References.{named_by}
 use Rattle.kernel_rules.specs.Rules.{Found, Refused, RuleMay, named, of_kind, outcome, unless, first_of}
 use Rattle.kernel_rules.specs.InvocationCalls.{is_live_in, pushes}
 use Rattle.kernel_rules.specs.CallRelation.{rule_of, change_of, are_calls_spent}
-use Rattle.kernel_rules.proofs.Facts.{named_fit}
-use Rattle.kernel_rules.proofs.SoundRuns.{opened}
-use Rattle.kernel_rules.proofs.Stays.{name_parts}
+use Rattle.kernel_invariant.proofs.Facts.{named_fit}
+use Rattle.kernel_invariant.proofs.SoundRuns.{opened}
+use Rattle.found_stays.proofs.Stays.{name_parts}
 use Rattle.kernel_history.specs.Events.{events_of}
 use Rattle.kernel_history.specs.Legal.{IsLegal}
 use Rattle.kernel_history.specs.Trace.{Step, Trace, Open, phase, state_after, last_left}
-use Rattle.kernel_history.proofs.AloneCalls.{refused_first}
-use Rattle.kernel_history.proofs.Carries.{Carries}
-use Rattle.kernel_history.proofs.Stays.{sound_of, opened_is, guarded_usable}
+use Rattle.trace_laws.proofs.AloneCalls.{refused_first}
+use Rattle.trace_laws.proofs.Carries.{Carries}
+use Rattle.trace_laws.proofs.Stays.{sound_of, opened_is, guarded_usable}
 use Rattle.stage_pins.specs.declared.held.Acquired.{Acquired}
 use Rattle.call_plans.specs.GoesBy.{GoesBy, own_pages}
 use Rattle.call_plans.specs.After.{rule_after, Leads, LeadsIn}
@@ -45,9 +45,9 @@ use Rattle.core_invariant.specs.Components.{HasComp, InvokesBy}
 use Rattle.core_invariant.specs.Holding.{holds_counts}
 use Rattle.core_invariant.specs.Knows.{due_of, NamesAre, phase_at}
 use Rattle.core_invariant.specs.Stands.{holds_in, Stands}
-use Rattle.core_invariant.proofs.Carries.{invoking_on}
-use Rattle.core_invariant.proofs.Loads.{OnlyLooks, step_to, call_is, core_is, loads_on, decides_on}
-use Rattle.core_invariant.proofs.Refusals.{GoodTook, not_spent}
+use Rattle.kept_knowledge.proofs.Carries.{invoking_on}
+use Rattle.step_ways.proofs.Loads.{OnlyLooks, step_to, call_is, core_is, loads_on, decides_on}
+use Rattle.step_ways.proofs.Refusals.{GoodTook, not_spent}
 use Rattle.thread_invariant.proofs.InvokeCalls.{entering}
 
 -- What a name leads to is of a wanted kind, and is what was found.

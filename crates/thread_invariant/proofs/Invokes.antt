@@ -20,7 +20,7 @@ use Rattle.kernel_history.specs.Marks.{live_mark}
 use Rattle.kernel_history.specs.Marking.{marked_by}
 use Rattle.kernel_history.specs.Stamps.{stamp}
 use Rattle.kernel_history.specs.Trace.{Step, Trace, state_after, last_left}
-use Rattle.kernel_history.proofs.Carries.{Carries}
+use Rattle.trace_laws.proofs.Carries.{Carries}
 use Rattle.stage_pins.specs.declared.held.Acquired.{Acquired}
 use Rattle.act_states.specs.declared.invocations.Invoking.{Invoking}
 use Rattle.act_states.specs.declared.invocations.InvokingAt.{InvokingAt}
@@ -42,9 +42,9 @@ use Rattle.core_invariant.specs.Holding.{holds_counts, settled_by}
 use Rattle.core_invariant.specs.Words.{NumberIs}
 use Rattle.core_invariant.specs.Knows.{due_of, KnowsUndecided}
 use Rattle.core_invariant.specs.Stands.{holds_at, holds_in, held_by, Stands}
-use Rattle.core_invariant.proofs.Carries.{names_on, invoking_on}
-use Rattle.core_invariant.proofs.Loads.{OnlyLooks, step_to, next_at, loads_on}
-use Rattle.core_invariant.proofs.Refusals.{GoodTook, refuses_busy, refuses_dead, ticks_at}
+use Rattle.kept_knowledge.proofs.Carries.{names_on, invoking_on}
+use Rattle.step_ways.proofs.Loads.{OnlyLooks, step_to, next_at, loads_on}
+use Rattle.step_ways.proofs.Refusals.{GoodTook, refuses_busy, refuses_dead, ticks_at}
 use Rattle.count_invariant.proofs.Acquiring.{knows_next, next_holds, one_apart}
 use Rattle.live_invariant.proofs.Numbers.{no_number, shows_live, lives_as_shown}
 use Rattle.thread_invariant.proofs.CompWords.{comp_says, table_below, pages_below}

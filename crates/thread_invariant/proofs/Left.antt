@@ -21,14 +21,14 @@ use Rattle.kernel_rules.specs.References.{times, refs}
 use Rattle.kernel_rules.specs.InvocationCalls.{pops}
 use Rattle.kernel_rules.specs.CallRelation.{MayReply, change_of, changed, counted, begins_in, ends_by, flushes_by}
 use Rattle.kernel_rules.specs.GracePeriods.{same_thing, new_grace}
-use Rattle.kernel_rules.proofs.Sums.{times_cons}
+use Rattle.kernel_invariant.proofs.Sums.{times_cons}
 use Rattle.kernel_history.specs.Discipline.{changes_threads, raises_clock}
 use Rattle.kernel_history.specs.Graces.{KeepsTime}
 use Rattle.kernel_history.specs.Marking.{marked_by}
 use Rattle.kernel_history.specs.ObjectWords.{at_height}
 use Rattle.kernel_history.specs.Stamps.{begins_in as begins_then, ends_in, flushes_in, begins_at, ends_at, flushes_at, stamp, clock, flush_of, flush_stored}
 use Rattle.kernel_history.specs.Trace.{Step, Trace, Open, phase, state_after, state_decided_in, last_left}
-use Rattle.kernel_history.proofs.AloneCalls.{ok_first}
+use Rattle.trace_laws.proofs.AloneCalls.{ok_first}
 use Rattle.kernel_history.proofs.Steps.{stamp-begins, stamp-kept, flush_of-own, flush_stored-own, flush_stored-other}
 use Rattle.stage_quiet.specs.Clocks.{drawn_stamp}
 use Rattle.stage_pins.specs.Counts.{later}
@@ -59,16 +59,16 @@ use Rattle.core_invariant.specs.Words.{WordIs}
 use Rattle.core_invariant.specs.Knows.{due_of, flushing_in, KnowsUndecided, WorksIn}
 use Rattle.core_invariant.specs.Stands.{holds_at, holds_in, holds, held_by, times_of, counted_in, Stands}
 use Rattle.core_invariant.proofs.Bare.{counts_bare}
-use Rattle.core_invariant.proofs.Draws.{raised}
-use Rattle.core_invariant.proofs.Flushing.{open_flushed}
-use Rattle.core_invariant.proofs.Good.{spares_other}
-use Rattle.core_invariant.proofs.Lent.{lent_elsewhere}
-use Rattle.core_invariant.proofs.Loads.{inner, next_at}
-use Rattle.core_invariant.proofs.OwnChanges.{decides_timed}
-use Rattle.core_invariant.proofs.Refusals.{GoodTook, not_spent}
-use Rattle.core_invariant.proofs.Users.{spares_none}
-use Rattle.core_invariant.proofs.WordFrames.{marks_own, carry_marks}
-use Rattle.core_invariant.proofs.Writes.{same_marks, clock_small}
+use Rattle.step_ways.proofs.Draws.{raised}
+use Rattle.step_ways.proofs.Flushing.{open_flushed}
+use Rattle.step_ways.proofs.Good.{spares_other}
+use Rattle.lent_words.proofs.Lent.{lent_elsewhere}
+use Rattle.step_ways.proofs.Loads.{inner, next_at}
+use Rattle.step_ways.proofs.OwnChanges.{decides_timed}
+use Rattle.step_ways.proofs.Refusals.{GoodTook, not_spent}
+use Rattle.step_ways.proofs.Users.{spares_none}
+use Rattle.kept_words.proofs.WordFrames.{marks_own, carry_marks}
+use Rattle.step_ways.proofs.Writes.{same_marks, clock_small}
 use Rattle.count_invariant.proofs.CapChanges.{counts_commit, counts_sum, dues_of}
 use Rattle.thread_invariant.proofs.EntryMarks.{counts_apart}
 use Rattle.thread_invariant.proofs.CompWords.{holds_comp}

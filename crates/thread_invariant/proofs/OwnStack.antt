@@ -6,15 +6,15 @@ use Rattle.spk_nums.specs.declared.kinds.Kind.TheVariants as kind
 use Rattle.kernel_rules.specs.State.{Frame, Kernel, Thread, State, first_of_stack, thread_in, thread_of}
 use Rattle.kernel_rules.specs.Fitting.{fits}
 use Rattle.kernel_rules.specs.References.{times, frame_names, refs}
-use Rattle.kernel_rules.proofs.Sound.{IsSound, IsStack, IsObjectGood}
-use Rattle.kernel_rules.proofs.SoundRemovals.{below_by}
-use Rattle.kernel_rules.proofs.SoundRuns.{opened}
-use Rattle.kernel_rules.proofs.Stays.{object_named}
-use Rattle.kernel_rules.proofs.Sums.{times_cons, times_first}
+use Rattle.kernel_invariant.proofs.Sound.{IsSound, IsStack, IsObjectGood}
+use Rattle.kernel_invariant.proofs.SoundRemovals.{below_by}
+use Rattle.kernel_invariant.proofs.SoundRuns.{opened}
+use Rattle.found_stays.proofs.Stays.{object_named}
+use Rattle.kernel_invariant.proofs.Sums.{times_cons, times_first}
 use Rattle.kernel_history.specs.Events.{events_of}
 use Rattle.kernel_history.specs.Legal.{IsLegal}
 use Rattle.kernel_history.specs.Trace.{Trace, state_after}
-use Rattle.kernel_history.proofs.Stays.{sound_of}
+use Rattle.trace_laws.proofs.Stays.{sound_of}
 use Rattle.core_invariant.specs.Components.{HasComp, below_of}
 use Rattle.core_invariant.proofs.Sounds.{limits_of}
 

@@ -11,7 +11,7 @@ use Rattle.word_map.specs.Word.{Word, EntryAt, FrameAt, CountAt, CoreAt, FlushAt
 use Rattle.word_map.specs.Moves.{Move, word_of, left_of}
 use Rattle.kernel_rules.specs.State.{Grace, Thing, PlaceOf, NumberOf, ThreadFields, Kernel, Thread, State, thread_of, put}
 use Rattle.kernel_rules.specs.References.{sum_below, times, refs}
-use Rattle.kernel_rules.proofs.Sums.{sum_one}
+use Rattle.kernel_invariant.proofs.Sums.{sum_one}
 use Rattle.kernel_history.specs.Marks.{mark_of, mark_in_frame}
 use Rattle.kernel_history.specs.Marking.{marked_by}
 use Rattle.kernel_history.specs.ObjectWords.{at_height, thread_value}
@@ -24,12 +24,12 @@ use Rattle.call_stages.specs.View.{Core}
 use Rattle.core_invariant.specs.Holding.{settled}
 use Rattle.core_invariant.specs.Words.{IsFrameWord, IsThreadWord, WordIs, count_room}
 use Rattle.core_invariant.specs.Stands.{holds, held_by, times_of, counted_in, IsLent, SaysRunning, Stands}
-use Rattle.core_invariant.proofs.Calm.{plain_exit}
-use Rattle.core_invariant.proofs.Keeping.{keeping_words}
-use Rattle.core_invariant.proofs.Lent.{runs_on_own}
-use Rattle.core_invariant.proofs.Loads.{inner}
+use Rattle.kept_words.proofs.Calm.{plain_exit}
+use Rattle.step_ways.proofs.Keeping.{keeping_words}
+use Rattle.lent_words.proofs.Lent.{runs_on_own}
+use Rattle.step_ways.proofs.Loads.{inner}
 use Rattle.core_invariant.proofs.Sounds.{limits_of}
-use Rattle.core_invariant.proofs.WordFrames.{ReadsAlike, SameFor, StaysSaid, word_stays}
+use Rattle.kept_words.proofs.WordFrames.{ReadsAlike, SameFor, StaysSaid, word_stays}
 use Rattle.thread_invariant.proofs.EntryMarks.{thread_unmarked}
 use Rattle.thread_invariant.proofs.OwnStack.{own_thread, thread_below}
 use Rattle.thread_invariant.proofs.OwnWords.{thread_says as own_says}

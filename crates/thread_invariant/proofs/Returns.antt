@@ -18,7 +18,7 @@ use Rattle.kernel_history.specs.Justified.{HasReached}
 use Rattle.kernel_history.specs.ObjectWords.{at_height}
 use Rattle.kernel_history.specs.Trace.{Step, Trace, Open, phase, state_after, last_left, own_left}
 use Rattle.kernel_history.specs.Ways.{ways}
-use Rattle.kernel_history.proofs.Carries.{Carries}
+use Rattle.trace_laws.proofs.Carries.{Carries}
 use Rattle.stage_pins.specs.declared.held.Acquired.{Acquired}
 use Rattle.act_states.specs.declared.invocations.Returning.{Returning}
 use Rattle.act_states.specs.declared.invocations.ReturningAt.{ReturningAt}
@@ -39,9 +39,9 @@ use Rattle.core_invariant.specs.Holding.{holds_counts}
 use Rattle.core_invariant.specs.Knows.{due_of, KnowsUndecided, phase_at}
 use Rattle.core_invariant.specs.Stands.{holds_at, holds_in, holds, Stands}
 use Rattle.core_invariant.proofs.Bare.{counts_bare}
-use Rattle.core_invariant.proofs.Carries.{names_on, returning_on}
-use Rattle.core_invariant.proofs.Loads.{OnlyLooks, step_to, next_at, call_is, is_active, loads_on}
-use Rattle.core_invariant.proofs.Refusals.{GoodTook}
+use Rattle.kept_knowledge.proofs.Carries.{names_on, returning_on}
+use Rattle.step_ways.proofs.Loads.{OnlyLooks, step_to, next_at, call_is, is_active, loads_on}
+use Rattle.step_ways.proofs.Refusals.{GoodTook}
 use Rattle.count_invariant.proofs.Acquiring.{knows_next, next_holds, one_apart}
 use Rattle.count_invariant.proofs.StackCounts.{stack_near, thread_near, below_one}
 use Rattle.thread_invariant.proofs.EntryMarks.{counts_apart}

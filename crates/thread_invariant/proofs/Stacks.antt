@@ -29,8 +29,8 @@ use Rattle.core_invariant.specs.Holding.{Holding, keeps_bare, holds_counts}
 use Rattle.core_invariant.specs.Knows.{KnowsPush, KnowsPop}
 use Rattle.core_invariant.specs.Stands.{done_by, holds_push, holds_pop, Stands}
 use Rattle.core_invariant.proofs.Bare.{AsBefore, counts_bare}
-use Rattle.core_invariant.proofs.Loads.{core_is, is_active}
-use Rattle.core_invariant.proofs.Refusals.{GoodTook}
+use Rattle.step_ways.proofs.Loads.{core_is, is_active}
+use Rattle.step_ways.proofs.Refusals.{GoodTook}
 use Rattle.thread_invariant.proofs.Stores.{stack_good}
 
 -- A word that is kept, and another.

@@ -24,12 +24,12 @@ use Rattle.core_invariant.specs.Holding.{Holding, holds_counts, settled_by}
 use Rattle.core_invariant.specs.Knows.{phase_at, KnowsTail}
 use Rattle.core_invariant.specs.Stands.{done_by, holds_tail, holds_at, holds_in, holds, held_by, IsLent, IsOfThread, Stands}
 use Rattle.core_invariant.proofs.Bare.{AsBefore, none_kept}
-use Rattle.core_invariant.proofs.Carries.{counts_on}
-use Rattle.core_invariant.proofs.Counting as counters
-use Rattle.core_invariant.proofs.Good.{Spared}
-use Rattle.core_invariant.proofs.Lent.{lent_unmarked, one_keeper, own_value}
-use Rattle.core_invariant.proofs.Loads.{core_at, inner, call_is}
-use Rattle.core_invariant.proofs.Refusals.{GoodTook}
+use Rattle.kept_knowledge.proofs.Carries.{counts_on}
+use Rattle.step_ways.proofs.Counting as counters
+use Rattle.step_ways.proofs.Good.{Spared}
+use Rattle.lent_words.proofs.Lent.{lent_unmarked, one_keeper, own_value}
+use Rattle.step_ways.proofs.Loads.{core_at, inner, call_is}
+use Rattle.step_ways.proofs.Refusals.{GoodTook}
 
 none_some : (d : ℕ) → None ≡ Some d → ⊥
 none_some d h = cc

@@ -22,12 +22,12 @@ use Rattle.kernel_rules.specs.MemoryCalls.{retype_rule, touch_by, translation_of
 use Rattle.kernel_rules.specs.InvocationCalls.{with_thread, running, switch_to}
 use Rattle.kernel_rules.specs.TimeCalls.{with_tcap, with_budget, with_qualities, tcap_at, moved, merged_list}
 use Rattle.kernel_rules.specs.CallRelation.{rule_of, change_of, changed, owed_by, state_by, ends, ends_by}
-use Rattle.kernel_rules.proofs.Sound.{put_all}
+use Rattle.kernel_invariant.proofs.Sound.{put_all}
 use Rattle.kernel_rules.proofs.Within.{put_same, put_other}
-use Rattle.kernel_rules.proofs.SoundCalls.{IsOpen, blank_by, untyped_by}
-use Rattle.kernel_rules.proofs.Facts.{ChangesFrom, outcome_from, none_some, some_none}
+use Rattle.kernel_invariant.proofs.SoundCalls.{IsOpen, blank_by, untyped_by}
+use Rattle.kernel_invariant.proofs.Facts.{ChangesFrom, outcome_from, none_some, some_none}
 use Rattle.kernel_rules.proofs.Changes.{IfFound}
-use Rattle.kernel_rules.proofs.Spares.{RunsOn}
+use Rattle.found_stays.proofs.Spares.{RunsOn}
 
 -- Whether a frame has a thread, and where that runs.
 abbrev pub is_thread : Frame → Bool

@@ -10,17 +10,17 @@ use Rattle.kernel_rules.specs.Relies.{IsGuarded}
 use Rattle.kernel_rules.specs.CallRelation.{MayReply, ends}
 use Rattle.kernel_rules.specs.Runs.{after, core_of}
 use Rattle.kernel_rules.specs.Runs as plain
-use Rattle.kernel_rules.proofs.Ends.{MayEnd, ends_by_rule}
-use Rattle.kernel_rules.proofs.Spares.{RunsOn}
-use Rattle.kernel_rules.proofs.SparesRuns.{runs_of, inside_of, inside_facts}
-use Rattle.kernel_rules.proofs.SoundRuns.{opened}
-use Rattle.kernel_rules.proofs.Stays.{event_stay_in}
+use Rattle.kernel_invariant.proofs.Ends.{MayEnd, ends_by_rule}
+use Rattle.found_stays.proofs.Spares.{RunsOn}
+use Rattle.found_stays.proofs.SparesRuns.{runs_of, inside_of, inside_facts}
+use Rattle.kernel_invariant.proofs.SoundRuns.{opened}
+use Rattle.found_stays.proofs.Stays.{event_stay_in}
 use Rattle.kernel_history.specs.Events.{with_entry, events_of, plain_phase}
 use Rattle.kernel_history.specs.Legal.{MayDecide, MayFollow, IsLegal}
 use Rattle.kernel_history.specs.Stamps.{is_in}
 use Rattle.kernel_history.specs.Trace.{Step, Trace, Phase, Out, Open, Decided, phase, after_enter, state_after, state_entered, state_decided, state_returned, state_before}
 use Rattle.kernel_history.proofs.Events.{entered_events, before_is, entry_apart, entered_run, phase_is, run_of, state_is}
-use Rattle.kernel_history.proofs.Opens.{opens, open_inj}
+use Rattle.trace_laws.proofs.Opens.{opens, open_inj}
 use Rattle.thread_laws.proofs.IdleThreads.{is_thread, runs_at, RestsIn, decided_rests}
 
 entered_frame : (o : Option Call) (s : State) (c f : ℕ) → (state_entered o s c).frame f ≡ s.frame f

@@ -11,7 +11,7 @@ use Rattle.kernel_history.specs.Events.{events_of}
 use Rattle.kernel_history.specs.Legal.{IsLegal}
 use Rattle.kernel_history.specs.Trace.{Trace, state_after}
 use Rattle.kernel_history.proofs.Events.{state_is, run_of}
-use Rattle.kernel_history.proofs.Stays.{sound_of}
+use Rattle.trace_laws.proofs.Stays.{sound_of}
 use Rattle.core_invariant.proofs.Sounds.{limits_of}
 
 -- A frame has a temporal capability.

@@ -19,7 +19,7 @@ use Rattle.call_stages.specs.Steps.{landed}
 use Rattle.call_stages.specs.View.{Core}
 use Rattle.core_invariant.specs.Knows.{ChargesBy, HasHead, KnowsUndecided}
 use Rattle.core_invariant.specs.Stands.{Stands}
-use Rattle.core_invariant.proofs.Refusals.{GoodTook}
+use Rattle.step_ways.proofs.Refusals.{GoodTook}
 use Rattle.time_invariant.proofs.TickCalls.{tick_of}
 use Rattle.time_invariant.proofs.Ticks.{here_is, load_good, won_good, lost_good}
 

@@ -1,7 +1,7 @@
 -- The steps of a tick are good: the load of the head of its core's temporal capability, and the compare, which is lost to another core or
 -- charges the ticks that are due.
 use Rattle.core_invariant.proofs.Bare.{counts_bare}
-use Rattle.core_invariant.proofs.Lent.{unlent_head_value, unlent_head_word, lent_none, lent_kept, lent_free}
+use Rattle.lent_words.proofs.Lent.{unlent_head_value, unlent_head_word, lent_none, lent_kept, lent_free}
 use Rattle.std.specs.Prelude.{min, IsSome}
 use Rattle.std.proofs.lemmas.List.Elements.{All-nil}
 use Rattle.std.proofs.Common.{◌≡◌, ◌≢◌, inl, inr, ℕ, zero, suc, map, ◌+◌, ◌-◌, ◌*◌, ◌^◌, ◌<◌, ◌≤◌, ◌==◌, true, false, List, [], ◌∷◌, length, Option, Some, None, arith, refl, sym, ◌∙◌, ap, subst, if◌then◌else◌}
@@ -25,9 +25,9 @@ use Rattle.kernel_rules.specs.Rules.{Change, Found, IsFoundAnd}
 use Rattle.kernel_rules.specs.TimeCalls.{owing, with_tcap, charge, charges}
 use Rattle.kernel_rules.specs.CallRelation.{rule_of, change_of, changed, counted, state_by, begins, ends, flushes, MayReply}
 use Rattle.kernel_rules.specs.Laws.{calls_counted}
-use Rattle.kernel_rules.proofs.Refs.{frame_refs}
-use Rattle.kernel_rules.proofs.Sums.{sum_one}
-use Rattle.kernel_rules.proofs.SparesRuns.{core_same_refs}
+use Rattle.kernel_invariant.proofs.Refs.{frame_refs}
+use Rattle.kernel_invariant.proofs.Sums.{sum_one}
+use Rattle.found_stays.proofs.SparesRuns.{core_same_refs}
 use Rattle.kernel_rules.proofs.Within.{put_same, put_other}
 use Rattle.kernel_history.specs.Marks.{mark_of, mark_in_frame, head_mark}
 use Rattle.kernel_history.specs.Marking.{marked_by}
@@ -35,16 +35,16 @@ use Rattle.kernel_history.specs.Alone.{IsAlone}
 use Rattle.kernel_history.specs.ObjectWords.{is_node, frame_value}
 use Rattle.kernel_history.specs.Ways.{ways}
 use Rattle.kernel_rules.specs.Access.{Slot}
-use Rattle.core_invariant.proofs.Carries.{names_on}
+use Rattle.kept_knowledge.proofs.Carries.{names_on}
 use Rattle.kernel_history.specs.Discipline.{changes_in_frame}
 use Rattle.kernel_history.specs.Footprint.{is_one_of, frames_near}
 use Rattle.kernel_history.specs.Justified.{HasReached, IsJustified, IsRaceLost, IsHeldUp}
 use Rattle.kernel_history.specs.Stamps.{begins_in, ends_in, flushes_in, stamp}
 use Rattle.kernel_history.specs.Trace.{Step, Trace, Open, phase, state_after, last_left, state_decided_in, own_left}
-use Rattle.kernel_history.proofs.AloneCalls.{ok_first}
+use Rattle.trace_laws.proofs.AloneCalls.{ok_first}
 use Rattle.kernel_history.proofs.Inside.{decided-inside}
 use Rattle.kernel_history.proofs.Laws.{not_inside, not_changed}
-use Rattle.kernel_history.proofs.Small.{last_small}
+use Rattle.trace_laws.proofs.Small.{last_small}
 use Rattle.kernel_history.proofs.Steps.{own_read-here}
 use Rattle.stage_pins.specs.declared.held.Acquired.{Acquired}
 use Rattle.stage_tcap.specs.Heads.{head, raised, debited}
@@ -69,18 +69,18 @@ use Rattle.core_invariant.specs.Holding.{holds_counts, settled_by, settled}
 use Rattle.core_invariant.specs.Words.{HeadIs, IsFrameWord, WordIs, count_room}
 use Rattle.core_invariant.specs.Knows.{due_of, charged_tcap, ChargesBy, HasHead, KnowsUndecided, WorksIn, phase_at, untypes}
 use Rattle.core_invariant.specs.Stands.{holds_at, holds_in, holds, held_by, times_of, counted_in, Stands, done_by}
-use Rattle.core_invariant.proofs.Calm.{IsPlain, plain_begins, plain_stamp, plain_flush, plain_exit}
-use Rattle.core_invariant.proofs.CountSums.{counted_refs}
+use Rattle.kept_words.proofs.Calm.{IsPlain, plain_begins, plain_stamp, plain_flush, plain_exit}
+use Rattle.kept_words.proofs.CountSums.{counted_refs}
 use Rattle.core_invariant.specs.Shares.{list_changed, TurnsHead, SparesTcap}
-use Rattle.core_invariant.proofs.Good.{Spared, SparesBlanks, spares_kept}
-use Rattle.core_invariant.proofs.Loads.{IsOfCall, OnlyLooks, next_at, inner, call_is, is_active, loads_on}
+use Rattle.step_ways.proofs.Good.{Spared, SparesBlanks, spares_kept}
+use Rattle.step_ways.proofs.Loads.{IsOfCall, OnlyLooks, next_at, inner, call_is, is_active, loads_on}
 use Rattle.core_invariant.proofs.Markers.{marker_inside}
-use Rattle.core_invariant.proofs.OwnChanges.{IsSameCore, decides_changing}
-use Rattle.core_invariant.proofs.Refusals.{GoodTook, not_spent}
+use Rattle.step_ways.proofs.OwnChanges.{IsSameCore, decides_changing}
+use Rattle.step_ways.proofs.Refusals.{GoodTook, not_spent}
 use Rattle.core_invariant.proofs.Sounds.{limits_of}
-use Rattle.core_invariant.proofs.Sums.{sums_keep}
-use Rattle.core_invariant.proofs.WordFrames.{SameFor, ReadsAlike, StaysSaid, marks_own, settled_on, load_keeps, load_marks, load_words, word_stays, carry_marks, carry_words, others_settled}
-use Rattle.core_invariant.proofs.Writes.{same_marks, room_left}
+use Rattle.kept_words.proofs.Sums.{sums_keep}
+use Rattle.kept_words.proofs.WordFrames.{SameFor, ReadsAlike, StaysSaid, marks_own, settled_on, load_keeps, load_marks, load_words, word_stays, carry_marks, carry_words, others_settled}
+use Rattle.step_ways.proofs.Writes.{same_marks, room_left}
 use Rattle.time_invariant.proofs.Budgets.{tcap_is, IsTcap, Numbers, numbers_of}
 use Rattle.time_invariant.proofs.TickCalls.{IsTick, tick_of, own_near, raced_head}
 

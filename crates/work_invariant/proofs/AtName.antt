@@ -19,8 +19,8 @@ use Rattle.kernel_rules.specs.CapabilityCalls.{has_frame, outside}
 use Rattle.kernel_rules.specs.MemoryCalls.{not_retyped, retypes}
 use Rattle.kernel_rules.specs.CallRelation.{rule_of, change_of, are_calls_spent, MayReply, counted, begins, ends, flushes, state_by}
 use Rattle.kernel_history.specs.Trace.{Step, Trace, Open, state_after, last_left, own_left}
-use Rattle.kernel_history.proofs.AloneCalls.{refused_first, ok_first}
-use Rattle.kernel_history.proofs.Carries.{Carries}
+use Rattle.trace_laws.proofs.AloneCalls.{refused_first, ok_first}
+use Rattle.trace_laws.proofs.Carries.{Carries}
 use Rattle.call_plans.specs.GoesBy.{GoesBy, own_pages, wants}
 use Rattle.call_plans.specs.After.{rule_after, Leads, LeadsIn, with_found, names_after}
 use Rattle.call_plans.proofs.AfterNames.{outcome_left, left_may}
@@ -49,12 +49,12 @@ use Rattle.kernel_rules.specs.Alone.{alone}
 use Rattle.kernel_history.specs.Ways.{way_to}
 use Rattle.kernel_history.specs.Justified.{HasReached, IsJustified}
 use Rattle.call_plans.specs.declared.plans.Name.{Name}
-use Rattle.core_invariant.proofs.Carries.{own_kept}
+use Rattle.kept_knowledge.proofs.Carries.{own_kept}
 use Rattle.look_invariant.proofs.Lookups.{Arrives}
 use Rattle.look_invariant.proofs.Findings.{own_is, way_gone, gone_with}
 use Rattle.work_invariant.proofs.ByCall.{one_left, first_same, look_state, look_begins, look_answers}
-use Rattle.core_invariant.proofs.Loads.{OnlyLooks, step_to, core_is, loads_on, decides_on}
-use Rattle.core_invariant.proofs.Refusals.{GoodTook, not_spent}
+use Rattle.step_ways.proofs.Loads.{OnlyLooks, step_to, core_is, loads_on, decides_on}
+use Rattle.step_ways.proofs.Refusals.{GoodTook, not_spent}
 
 -- A frame of a range is one of the machine's.
 pub range_below : (frames : ℕ) (kind : Kind) (first number f : ℕ) → kind ≡ Range → end_of_frames kind first number ≤ frames

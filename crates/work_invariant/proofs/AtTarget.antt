@@ -22,13 +22,13 @@ use Rattle.kernel_rules.specs.Access.{found, only}
 use Rattle.kernel_rules.specs.Fitting.{EndsWithin, IsGood}
 use Rattle.kernel_rules.specs.Rules.{Found as Found_it, named}
 use Rattle.kernel_rules.specs.CapabilityCalls.{has_frame}
-use Rattle.kernel_rules.proofs.Facts.{named_good}
-use Rattle.kernel_rules.proofs.Sound.{only_is}
-use Rattle.kernel_rules.proofs.SoundRuns.{opened}
+use Rattle.kernel_invariant.proofs.Facts.{named_good}
+use Rattle.kernel_invariant.proofs.Sound.{only_is}
+use Rattle.kernel_invariant.proofs.SoundRuns.{opened}
 use Rattle.kernel_history.specs.Events.{events_of}
 use Rattle.kernel_history.specs.Legal.{IsLegal}
 use Rattle.kernel_history.specs.Trace.{Trace, Out, Open, phase, state_after, WasAt}
-use Rattle.kernel_history.proofs.Stays.{sound_of, opened_is}
+use Rattle.trace_laws.proofs.Stays.{sound_of, opened_is}
 use Rattle.stage_look.specs.declared.look.Found.{Found}
 use Rattle.stage_quiet.specs.Scan.{quiet_scan}
 use Rattle.call_plans.specs.declared.plans.Nth.{Nth}

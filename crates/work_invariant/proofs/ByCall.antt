@@ -14,7 +14,7 @@ use Rattle.kernel_rules.specs.Access.{Slot, Named, found, capability, any, place
 use Rattle.kernel_rules.specs.Rules.{Refused, IsFoundAnd, Does, outcome, answers, Found as Found_it, and_then, or_refuse, unless, not_vacant, named, vacant, held}
 use Rattle.kernel_rules.specs.CallRelation.{change_of, changed, counted, begins_in}
 use Rattle.kernel_rules.specs.CapabilityCalls.{look_rule}
-use Rattle.kernel_rules.proofs.Facts.{some_inj}
+use Rattle.kernel_invariant.proofs.Facts.{some_inj}
 use Rattle.stage_look.specs.declared.look.Found.{Found}
 use Rattle.call_plans.specs.declared.plans.Nth.TheVariants.{First, Second}
 use Rattle.call_plans.specs.declared.plans.Name.{Name}

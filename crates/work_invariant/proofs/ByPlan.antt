@@ -18,11 +18,11 @@ use Rattle.kernel_rules.specs.State.{State, Thing, PlaceOf, comp_of}
 use Rattle.kernel_rules.specs.Access.{Slot, any, root_at, place_at, held_in, reached, has_no_slot, own, Target as place}
 use Rattle.kernel_rules.specs.Rules.{RuleMay, Refused, Found as Found_it, named, vacant, held}
 use Rattle.kernel_rules.specs.CallRelation.{rule_of, change_of}
-use Rattle.kernel_rules.proofs.Facts.{none_some, some_inj}
+use Rattle.kernel_invariant.proofs.Facts.{none_some, some_inj}
 use Rattle.kernel_history.specs.Trace.{Step, Trace, Open, phase, state_after, last_left, WasAt}
 use Rattle.kernel_history.specs.Ways.{wide_way_to, wide_ways}
 use Rattle.kernel_history.specs.Justified.{is_slot_in, IsRemoved}
-use Rattle.kernel_history.proofs.Carries.{Carries, was_now}
+use Rattle.trace_laws.proofs.Carries.{Carries, was_now}
 use Rattle.kernel_history.proofs.Steps.{own_read-here}
 use Rattle.stage_look.specs.Shown.{shown_in}
 use Rattle.stage_look.specs.Lookup.{look_move, found_at}
@@ -52,10 +52,10 @@ use Rattle.call_stages.specs.declared.stages.ActiveCall.{ActiveCall}
 use Rattle.spk_nums.specs.declared.kinds.FrameKind.{FrameKind}
 use Rattle.spk_nums.specs.declared.kinds.FrameKind.TheVariants as frame_kind
 use Rattle.spk_nums.specs.declared.kinds.Kind.TheVariants.{Range as range_kind, Comp as comp_kind, Gate as gate_kind}
-use Rattle.kernel_rules.proofs.Sound.{only_is}
+use Rattle.kernel_invariant.proofs.Sound.{only_is}
 use Rattle.work_invariant.proofs.AtName.{IsTypedBy, one_name, ranges_good, looked_good}
 use Rattle.live_invariant.proofs.KillStarts.{kills_good}
-use Rattle.share_invariant.proofs.ShareStarts.{transfers_good, delegates_good, tests_good}
+use Rattle.pair_invariant.proofs.ShareStarts.{transfers_good, delegates_good, tests_good}
 use Rattle.switch_invariant.proofs.SwitchStarts.{switches_good}
 use Rattle.act_states.specs.declared.work.WorkStep.TheVariants.{Goes}
 use Rattle.stage_pins.specs.declared.held.Acquired.{Acquired}
@@ -67,7 +67,7 @@ use Rattle.call_stages.specs.Fits.{CountsAt, HasRoom}
 use Rattle.core_invariant.specs.Holding.{holds_counts}
 use Rattle.core_invariant.specs.Knows.{due_of, ReadIs, ReadBefore, IsScanned, MayFill, KnowsAct, KnowsQuiet, LooksUp, own_in, HasFound, NamesAre, LooksFor, KnowsUndecided, phase_at, HasFlushed}
 use Rattle.count_invariant.proofs.Acquiring.{knows_next, next_holds, one_apart}
-use Rattle.place_invariant.proofs.Scans.{ScanBegins, AtCores, AtFlushes, scan_begins, scan_none, ShowsSince, since_is}
+use Rattle.scan_invariant.proofs.Scans.{ScanBegins, AtCores, AtFlushes, scan_begins, scan_none, ShowsSince, since_is}
 use Rattle.place_invariant.proofs.Starts.{starts_good}
 use Rattle.place_invariant.proofs.Outside.{refused_vacant}
 use Rattle.place_invariant.proofs.Paging.{paging_by}
@@ -80,10 +80,10 @@ use Rattle.call_stages.specs.Steps.{landed, found_more, next_by as what_next, na
 use Rattle.act_fits.proofs.DuesFit.{cap_one}
 use Rattle.call_stages.specs.View.{Core}
 use Rattle.core_invariant.specs.Stands.{holds_at, holds_in, Stands}
-use Rattle.core_invariant.proofs.Carries.{names_on, read_before_on}
-use Rattle.core_invariant.proofs.Loads.{OnlyLooks, next_at, call_is, is_active, loads_on}
+use Rattle.kept_knowledge.proofs.Carries.{names_on, read_before_on}
+use Rattle.step_ways.proofs.Loads.{OnlyLooks, next_at, call_is, is_active, loads_on}
 use Rattle.core_invariant.proofs.Sounds.{limits_of}
-use Rattle.core_invariant.proofs.Refusals.{GoodTook, refuses_empty, refuses_wrong, refuses_occupied}
+use Rattle.step_ways.proofs.Refusals.{GoodTook, refuses_empty, refuses_wrong, refuses_occupied}
 use Rattle.look_invariant.proofs.Lookups.{Shows, ShowsHeld, Arrives, under_step, in_root_step}
 use Rattle.look_invariant.proofs.Findings.{own_is, reaches_none, reaches_held, reaches_other, use_held, use_free, use_removed_at, named_of, named_no_slot, named_empty, named_wrong, found_named, arriving, reached_now, found_now}
 use Rattle.look_invariant.proofs.Next.{MayUse, Rest, ANameLeft, NoneLeft, rest_of, next_name, next_end}

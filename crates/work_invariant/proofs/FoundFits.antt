@@ -6,7 +6,7 @@ use Rattle.spk_nums.specs.declared.kinds.Kind.{Kind}
 use Rattle.entry_words.specs.EntryWord.{EntryFits}
 use Rattle.entry_words.specs.declared.entry.Entry.TheVariants as entry
 use Rattle.kernel_rules.specs.Access.{Named, found}
-use Rattle.kernel_rules.proofs.Facts.{none_some, some_inj}
+use Rattle.kernel_invariant.proofs.Facts.{none_some, some_inj}
 use Rattle.kernel_history.specs.Trace.{Trace}
 use Rattle.call_plans.specs.declared.plans.Name.{Name}
 use Rattle.call_plans.specs.declared.plans.Nth.{Nth}

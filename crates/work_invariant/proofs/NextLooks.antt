@@ -13,9 +13,9 @@ use Rattle.kernel_rules.specs.Access.{Slot, Named, found, root_at, reached, has_
 use Rattle.kernel_rules.specs.Rules.{RuleMay, Refused}
 use Rattle.kernel_rules.specs.CallRelation.{rule_of, change_of, are_calls_spent}
 use Rattle.kernel_history.specs.Trace.{Step, Trace, Open, phase, state_after, last_left}
-use Rattle.kernel_history.proofs.AloneCalls.{refused_first}
-use Rattle.kernel_history.proofs.Carries.{Carries}
-use Rattle.kernel_history.proofs.Stays.{relies_table}
+use Rattle.trace_laws.proofs.AloneCalls.{refused_first}
+use Rattle.trace_laws.proofs.Carries.{Carries}
+use Rattle.trace_laws.proofs.Stays.{relies_table}
 use Rattle.stage_look.specs.declared.look.Look.{Look}
 use Rattle.stage_look.specs.declared.look.Look.TheVariants.{AtRoot, AtEntry}
 use Rattle.call_plans.specs.declared.plans.Spot.{Spot}
@@ -46,8 +46,8 @@ use Rattle.act_states.specs.Lookups.{read_first, looks_under, looks_entry, looks
 use Rattle.call_stages.specs.Steps.{landed, found_more, next_by as what_next}
 use Rattle.call_stages.specs.View.{Core}
 use Rattle.core_invariant.specs.Stands.{holds_in, Stands}
-use Rattle.core_invariant.proofs.Loads.{OnlyLooks, core_is, call_is, is_active, loads_on, decides_on, step_to}
-use Rattle.core_invariant.proofs.Refusals.{GoodTook, not_spent}
+use Rattle.step_ways.proofs.Loads.{OnlyLooks, core_is, call_is, is_active, loads_on, decides_on, step_to}
+use Rattle.step_ways.proofs.Refusals.{GoodTook, not_spent}
 use Rattle.look_invariant.proofs.Findings.{own_is, past_slot, past_unreached, named_no_slot}
 use Rattle.look_invariant.proofs.Next.{MayUse, spot_relies, Rest, ANameLeft, NoneLeft, rest_of, next_name, next_end}
 use Rattle.work_invariant.proofs.ByCall.{vacant_no_slot, held_no_slot, past_entry, past_entry_unreached, own_unnamed}

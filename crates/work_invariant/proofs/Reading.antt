@@ -15,9 +15,9 @@ use Rattle.word_map.specs.Moves.{LoadOf}
 use Rattle.kernel_rules.specs.State.{State, Kernel, Comp, PlaceOf, comp_in}
 use Rattle.kernel_rules.specs.Access.{only}
 use Rattle.kernel_rules.specs.References.{named_by}
-use Rattle.kernel_rules.proofs.Facts.{named_good}
-use Rattle.kernel_rules.proofs.Sound.{only_is}
-use Rattle.kernel_rules.proofs.SoundRuns.{opened}
+use Rattle.kernel_invariant.proofs.Facts.{named_good}
+use Rattle.kernel_invariant.proofs.Sound.{only_is}
+use Rattle.kernel_invariant.proofs.SoundRuns.{opened}
 use Rattle.kernel_history.specs.Events.{events_of}
 use Rattle.kernel_history.specs.Footprint.{is_one_of, frames_near}
 use Rattle.kernel_history.specs.Legal.{IsLegal}
@@ -25,7 +25,7 @@ use Rattle.kernel_history.specs.Marks.{mark_in_frame}
 use Rattle.kernel_history.specs.Marking.{marked_by}
 use Rattle.kernel_history.specs.Stamps.{stamp}
 use Rattle.kernel_history.specs.Trace.{Step, Trace, Open, phase, state_after, last_left}
-use Rattle.kernel_history.proofs.Stays.{sound_of, opened_is}
+use Rattle.trace_laws.proofs.Stays.{sound_of, opened_is}
 use Rattle.stage_look.specs.declared.look.Look.{Look}
 use Rattle.call_plans.specs.declared.plans.Nth.TheVariants.{First}
 use Rattle.call_plans.specs.declared.plans.Plan.{Plan}
@@ -42,13 +42,13 @@ use Rattle.core_invariant.specs.Holding.{settled_by}
 use Rattle.core_invariant.specs.Words.{IsFrameWord, count_room}
 use Rattle.core_invariant.specs.Knows.{HasComp, LooksFor, ReadIs, ReadBefore, KnowsUndecided, phase_at}
 use Rattle.core_invariant.specs.Stands.{holds_at, held_by, Stands}
-use Rattle.core_invariant.proofs.Carries.{names_on, looks_on}
-use Rattle.core_invariant.proofs.Loads.{OnlyLooks, step_to, call_is, is_active, reads_on}
-use Rattle.core_invariant.proofs.Refusals.{GoodTook}
+use Rattle.kept_knowledge.proofs.Carries.{names_on, looks_on}
+use Rattle.step_ways.proofs.Loads.{OnlyLooks, step_to, call_is, is_active, reads_on}
+use Rattle.step_ways.proofs.Refusals.{GoodTook}
 use Rattle.live_invariant.proofs.KillStarts.{comp_named}
 use Rattle.live_invariant.proofs.Numbers.{comp_is}
 use Rattle.count_invariant.proofs.Acquiring.{plan_leads}
-use Rattle.core_invariant.proofs.Lent.{may_keep, unlent_value}
+use Rattle.lent_words.proofs.Lent.{may_keep, unlent_value}
 
 -- It is a component, which no other core may retype.
 pub reads_comp : (setup : Setting) → IsSetting setup → (t : Trace) → IsLegal setup t → (c : ℕ) (call : Call) → phase t c ≡ Open call

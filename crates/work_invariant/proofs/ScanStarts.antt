@@ -11,7 +11,7 @@ use Rattle.kernel_rules.specs.Access.{Slot, Target as place}
 use Rattle.kernel_history.specs.Justified.{IsRemoved}
 use Rattle.kernel_history.specs.Stamps.{clock, stamp}
 use Rattle.kernel_history.specs.Trace.{Step, Trace, Open, phase, state_after, last_left, WasAt}
-use Rattle.kernel_history.proofs.Carries.{was_now}
+use Rattle.trace_laws.proofs.Carries.{was_now}
 use Rattle.call_plans.specs.declared.plans.Plan.{Plan}
 use Rattle.call_plans.specs.PlanOf.{plan_for}
 use Rattle.call_plans.specs.After.{Leads, LeadsIn, NextFree, next_of}
@@ -20,10 +20,10 @@ use Rattle.call_stages.specs.declared.stages.ActiveCall.{ActiveCall}
 use Rattle.call_stages.specs.View.{Core}
 use Rattle.core_invariant.specs.Knows.{HasFlushed, IsScanned}
 use Rattle.core_invariant.specs.Stands.{Stands}
-use Rattle.core_invariant.proofs.Loads.{step_to, is_active}
+use Rattle.step_ways.proofs.Loads.{step_to, is_active}
 use Rattle.look_invariant.proofs.Lookups.{Arrives}
 use Rattle.place_invariant.proofs.Paging.{paging_by}
-use Rattle.place_invariant.proofs.Scans.{ShowsSince, since_is}
+use Rattle.scan_invariant.proofs.Scans.{ShowsSince, since_is}
 use Rattle.place_invariant.proofs.Vacancy.{unpaged_flushed}
 use Rattle.work_invariant.proofs.AtTarget.{was_while_open}
 

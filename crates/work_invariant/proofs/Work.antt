@@ -19,19 +19,19 @@ use Rattle.call_stages.specs.View.{Core}
 use Rattle.call_stages.specs.Steps.{work_move, took_look, took_work}
 use Rattle.core_invariant.specs.Knows.{KnowsUndecided}
 use Rattle.core_invariant.specs.Stands.{Stands}
-use Rattle.core_invariant.proofs.Refusals.{GoodTook}
+use Rattle.step_ways.proofs.Refusals.{GoodTook}
 use Rattle.stage_pins.specs.declared.pin.Pin.TheVariants.{AtLoad, AtCompare}
 use Rattle.count_invariant.proofs.Acquiring.{acquire_good}
 use Rattle.work_invariant.proofs.ByPlan.{lookup_good}
 use Rattle.work_invariant.proofs.Reading.{read_good}
 use Rattle.sweep_invariant.proofs.UntypeSteps.{untype_good}
-use Rattle.core_invariant.proofs.Loads.{is_active}
+use Rattle.step_ways.proofs.Loads.{is_active}
 use Rattle.place_invariant.proofs.Fills.{fill_good}
 use Rattle.place_invariant.proofs.Mappings.{map_good}
 use Rattle.place_invariant.proofs.Removals.{remove_good}
-use Rattle.place_invariant.proofs.ScanSteps.{scan_good}
+use Rattle.scan_invariant.proofs.ScanSteps.{scan_good}
 use Rattle.frame_invariant.proofs.Typings.{typing_good}
-use Rattle.frame_invariant.proofs.MadeComps.{comp_good}
+use Rattle.comp_invariant.proofs.MadeComps.{comp_good}
 use Rattle.frame_invariant.proofs.MadeObjects.{making_good}
 use Rattle.time_invariant.proofs.TickSteps.{tick_good}
 use Rattle.live_invariant.proofs.Killed.{killing_good}

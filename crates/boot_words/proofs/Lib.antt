@@ -1,0 +1,4 @@
+-- The start.
+pub mod StartRefs
+pub mod Fillings
+pub mod BootRepresents

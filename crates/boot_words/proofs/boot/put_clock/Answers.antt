@@ -1,0 +1,10 @@
+use Rattle.std.proofs.Common.{ap, ◌∙◌, refl}
+use Rattle.word_map.specs.Word.{ClockAt}
+use Rattle.word_map.specs.Places.{place_of}
+use Rattle.boot_words.proofs.Fillings.{puts}
+use Rattle.boot_words.proofs.boot.put_clock.Goals as goal
+
+pub returns : goal.returns
+returns c =
+    puts c.args.setup.now c.requires.limits c.args.words.now (ClockAt) c.requires.size tt _ _
+    (c.clock_at-at.ensures.place ∙ ap (λ s. place_of s (ClockAt)) c.requires.shape) refl

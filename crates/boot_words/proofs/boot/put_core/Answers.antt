@@ -1,0 +1,10 @@
+use Rattle.std.proofs.Common.{ap, ◌∙◌}
+use Rattle.word_map.specs.Word.{CoreAt}
+use Rattle.word_map.specs.Places.{place_of}
+use Rattle.boot_words.proofs.Fillings.{puts}
+use Rattle.boot_words.proofs.boot.put_core.Goals as goal
+
+pub returns : goal.returns
+returns c =
+    puts c.args.setup.now c.requires.limits c.args.words.now (CoreAt c.args.core) c.requires.size c.requires.is_in _ _
+    (c.core_at-at.ensures.place ∙ ap (λ s. place_of s (CoreAt c.args.core)) c.requires.shape) cc

@@ -1,0 +1,9 @@
+use Rattle.std.proofs.Common.{ℕ, ◌<◌}
+use Rattle.boot_words.specs.Filling.{Fills, IsFrameRight}
+use Rattle.boot_words.proofs.boot.put_frames.Given as goal
+
+abbrev pub invariant-frames : goal.invariant-frames
+invariant-frames l = record {
+  fills : Fills l.setup l.initial.words l.words;
+  right : (f : ℕ) → f < l.frame → IsFrameRight l.setup l.words f;
+}

@@ -1,0 +1,2 @@
+pub mod BootLaws
+pub mod Filling

@@ -1,0 +1,240 @@
+-- What a call that makes a component knows of its rule: what is left of it after its names, and what refuses it; and what it knows of the frame
+-- and of the number that it has marked.
+use Rattle.std.specs.Prelude.{if◌then◌else◌, List}
+use Rattle.std.proofs.Common.{◌≡◌, ◌+◌, arith, Bool, true, false, Option, Some, None, refl, ℕ, ◌<◌, ◌≢◌, sym, ◌&&◌, [], ◌∷◌, ap, ◌∙◌, subst, IsTrue, not, inr}
+use Rattle.std.proofs.lemmas.Bool.{lt-ltb, false≢true}
+use Rattle.spk_nums.specs.Capability.{Capability}
+use Rattle.spk_nums.specs.Setting.{Setting, IsSetting}
+use Rattle.spk_nums.specs.declared.calls.Call.TheVariants.{Make as make_call}
+use Rattle.spk_nums.specs.declared.calls.Make.TheVariants as make_of
+use Rattle.spk_nums.specs.declared.kinds.Kind.TheVariants as kind
+use Rattle.spk_nums.specs.declared.replies.Reply.{Reply}
+use Rattle.spk_nums.specs.declared.replies.Reply.TheVariants as reply
+use Rattle.frame_words.specs.Frame.{frame_of_word}
+use Rattle.frame_words.specs.Live.{live_of_word}
+use Rattle.word_map.specs.Word.{EntryAt, FrameAt, LiveAt}
+use Rattle.kernel_rules.specs.Access.{found, Target, Under, Slot, reached, only}
+use Rattle.kernel_rules.specs.CallRelation.{rule_of, change_of}
+use Rattle.kernel_rules.specs.CapabilityCalls.{has_frame, not_blank, not_taken, is_frame, is_blank, makes_comp}
+use Rattle.kernel_rules.specs.Fitting.{fits}
+use Rattle.kernel_rules.specs.Relies.{is_node}
+use Rattle.kernel_rules.specs.Rules.{Found, Change, first_cause, and_then, unless, vacant, outcome, first_of, RuleMay, OneMay}
+use Rattle.kernel_rules.specs.State.{Blank, Kernel, State, Leaf, NumberOf}
+use Rattle.kernel_invariant.proofs.Facts.{named_fit}
+use Rattle.kernel_invariant.proofs.SoundRuns.{opened}
+use Rattle.kernel_history.specs.Events.{events_of}
+use Rattle.trace_laws.proofs.Stays.{sound_of, opened_is}
+use Rattle.kernel_history.specs.Marking.{marked_by}
+use Rattle.kernel_history.specs.Marks.{mark_in_frame}
+use Rattle.kernel_history.specs.ObjectWords.{frame_value}
+use Rattle.kernel_history.specs.Stamps.{stamp}
+use Rattle.kernel_history.specs.Trace.{Trace, Open, phase, state_after, last_left}
+use Rattle.kernel_history.specs.Ways.{target_of}
+use Rattle.call_plans.proofs.AfterNames.{outcome_left, left_may}
+use Rattle.plan_ways.proofs.Ways.{target_is as target_is_of}
+use Rattle.call_plans.specs.After.{names_after, Leads, NextFree, next_of, rule_after, LeadsIn}
+use Rattle.call_plans.specs.GoesBy.{own_pages, GoesBy}
+use Rattle.call_plans.specs.PlanOf.{plan_for}
+use Rattle.call_plans.specs.declared.plans.Plan.{Plan}
+use Rattle.plan_ways.specs.Laws.{IsTargetOf}
+use Rattle.act_states.specs.Comps.{CompMakingFits, comp_due_list}
+use Rattle.act_states.specs.declared.comps.CompMaking.{CompMaking}
+use Rattle.act_states.specs.declared.work.Act.TheVariants.{MakeComp as comp_act}
+use Rattle.act_states.specs.declared.work.Work.TheVariants.{Act}
+use Rattle.call_stages.specs.Fits.{StageFits, HasRoom}
+use Rattle.call_stages.specs.View.{Core}
+use Rattle.call_stages.specs.declared.stages.ActiveCall.{ActiveCall}
+use Rattle.call_stages.specs.declared.stages.Stage.TheVariants.{Undecided}
+use Rattle.step_ways.proofs.Good.{blank_is}
+use Rattle.step_ways.proofs.Loads.{is_active, call_is}
+use Rattle.core_invariant.proofs.Sounds.{limits_of}
+use Rattle.core_invariant.specs.Holding.{settled_by, settled}
+use Rattle.core_invariant.specs.Knows.{AreDuesApart, phase_at, KnowsUndecided, KnowsComp, SaysBlank}
+use Rattle.core_invariant.specs.Stands.{Stands, holds, held_by}
+use Rattle.core_invariant.specs.Words.{NumberIs}
+use Rattle.count_invariant.proofs.Acquiring.{plan_leads, goes_by}
+use Rattle.count_invariant.proofs.CompCounts.{IsCompCall, comp_call}
+use Rattle.place_invariant.proofs.CompMakes.{IsCompMake, comp_make, comp_rest, new_comp, comp_dues_apart}
+use Rattle.place_invariant.proofs.Outside.{none_left_of}
+use Rattle.place_invariant.proofs.Vacancy.{in_leaf}
+
+module _ (setup : Setting) (setting : IsSetting setup) (cores : ℕ → Core) (t : Trace) (stands : Stands setup cores t) (c : ℕ)
+    (here : c < setup.cores)
+    (a : ActiveCall) (active : (cores c).active ≡ Some a) (m : CompMaking) (stage_is : a.stage ≡ Undecided (Act (comp_act m)))
+    (has : KnowsUndecided setup t c (cores c).own.table a (Act (comp_act m))) where
+  abbrev s : State
+  s = state_after setup t
+
+  abbrev pub knows : KnowsComp setup t c a.call a.plan a.found setup.cores m
+  knows = has.knows.knows
+
+  abbrev slot : Slot
+  slot = record { node = m.fill.node; index = m.fill.entry }
+
+  pub is : IsCompCall a.call a.found m
+  is = comp_call a.call a.found m knows.makes
+
+  pub opens : phase_at a.call a.stage ≡ Open a.call
+  opens = ap (phase_at a.call) stage_is
+
+  pub is_open : phase t c ≡ Open a.call
+  is_open = (call_is setup setting cores t stands c here a active).phase ∙ opens
+
+  pub room : (cores c).own.made < (cores c).own.limit
+  room = subst (HasRoom (cores c).own.made (cores c).own.limit) stage_is (is_active setup setting cores t stands c here a active).room
+
+  pub fits_in : CompMakingFits (cores c).own.layout m
+  fits_in = subst (StageFits (cores c).own.layout) stage_is (is_active setup setting cores t stands c here a active).stage
+
+  frames_are : (cores c).own.layout.frames ≡ s.limits.frames
+  frames_are = ap (λ x. x.frames) (stands.each c here).shape ∙ sym (ap (λ l. l.frames) (limits_of setup t))
+
+  pub below : m.frame < s.limits.frames
+  below = subst (λ (n : ℕ). m.frame < n) frames_are fits_in.frame
+
+  pub table_below : m.table < s.limits.frames
+  table_below = subst (λ (n : ℕ). m.table < n) frames_are fits_in.table
+
+  pub pages_below : m.pages < s.limits.frames
+  pages_below = subst (λ (n : ℕ). m.pages < n) frames_are fits_in.pages
+
+  pub node_below : m.fill.node < s.limits.frames
+  node_below = subst (λ (n : ℕ). m.fill.node < n) frames_are fits_in.fill.node
+
+  pub cores_are : m.cores ≡ setup.cores
+  cores_are = fits_in.cores ∙ ap (λ x. x.cores) (stands.each c here).shape
+
+  pub epochs_are : m.epochs ≡ s.limits.epochs
+  epochs_are = knows.epochs ∙ sym (ap (λ l. l.epochs) (limits_of setup t))
+
+  pub leads : Leads (LeadsIn s c) a.plan.names [] a.found
+  leads = plan_leads setup setting cores t stands c here a active has.names
+
+  pub by_plan : GoesBy (own_pages s c) a.plan (rule_of s c a.call)
+  by_plan = goes_by setup setting cores t stands c here a active has.names
+
+  plan_call : a.plan ≡ plan_for (make_call (make_of.Comp is.x is.p m.number) is.name m.frame is.root is.slot)
+  plan_call = (is_active setup setting cores t stands c here a active).plan ∙ ap plan_for is.call_is
+
+  pub make : IsCompMake s c is.name m.frame is.root is.slot is.x is.p m.number a.found
+  make = comp_make s c is.name m.frame is.root is.slot is.x is.p m.number a.found
+      (subst (λ (p : Plan). Leads (LeadsIn s c) p.names [] a.found) plan_call leads)
+      (subst (λ (p : Plan). names_after p.names a.found ≡ []) plan_call
+      (none_left_of a.plan a.found knows.spot.target knows.spot.next))
+
+  same_caps : (k j i h : Capability) (k' j' i' h' : Capability) → k ∷ j ∷ i ∷ h ∷ [] ≡ k' ∷ j' ∷ i' ∷ h' ∷ []
+      → (k ≡ k') × (i ≡ i') × (h ≡ h')
+  same_caps k j i h k' j' i' h' same = (cc, cc, cc)
+
+  caps_are : (make.range ≡ is.range) × (make.table ≡ is.table) × (make.pages ≡ is.pages)
+  caps_are = same_caps _ _ _ _ _ _ _ _ (sym make.found_is ∙ is.found_is)
+
+  pub table_is : make.table.frame ≡ m.table
+  table_is = ap (λ (k : Capability). k.frame) caps_are.1 ∙ sym is.table_is
+
+  pub pages_is : make.pages.frame ≡ m.pages
+  pages_is = ap (λ (k : Capability). k.frame) caps_are.2 ∙ sym is.pages_is
+
+  abbrev pub target : Target
+  target = Under (found make.second) is.slot
+
+  pub target_is : target ≡ knows.spot.target
+  target_is = same _ _ (sym make.next ∙ ap (λ p. next_of p a.found) (sym plan_call) ∙ knows.spot.next)
+    where
+      same : (p q : Target) → NextFree p ≡ NextFree q → p ≡ q
+      same p q h = cc
+
+  pub reached_is : reached s c target ≡ Some slot
+  reached_is = ap (reached s c) target_is ∙ knows.spot.way.reached
+
+  pub leaf : s.frame m.fill.node ≡ Kernel Leaf
+  leaf = in_leaf setup setting t stands.legal c a.call is_open is.root is.slot make.second slot make.under reached_is
+
+  pub in_node : IsTrue (is_node (s.frame m.fill.node))
+  in_node = ap is_node leaf
+
+  pub within : has_frame (found make.range) m.frame ≡ true
+  within = ap (λ (k : Capability). has_frame (found k) m.frame) caps_are.0 ∙ is.within
+
+  pub left : rule_after (rule_of s c a.call) a.found ≡ comp_rest s make.range m.frame m.table m.pages m.number target
+  left = ap (λ x. rule_after (rule_of s c x) a.found) is.call_is ∙ make.rule
+      ∙ ap (λ (x : ℕ). comp_rest s make.range m.frame x make.pages.frame m.number target) table_is
+      ∙ ap (λ (x : ℕ). comp_rest s make.range m.frame m.table x m.number target) pages_is
+
+  pub target_slot : target_of s c (rule_of s c a.call) ≡ Some slot
+  target_slot = subst (λ x. IsTargetOf s c x (target_of s c (rule_of s c a.call))) knows.spot.next
+      (target_is_of s c (own_pages s c) a.plan (rule_of s c a.call) a.found by_plan leads)
+      ∙ knows.spot.way.reached
+
+  -- the change that it makes, and what comes of the call where its target is vacant
+  abbrev pub change : Change
+  change = makes_comp s m.frame (new_comp s m.table m.pages m.number) slot
+
+  abbrev pub taken : Option Reply
+  taken = first_cause s c (not_taken s m.number)
+
+  pub by_blank : vacant s c target ≡ Found slot → (blank : Bool) → is_blank (s.frame m.frame) ≡ blank
+      → change_of s c a.call ≡ unless (first_of (if not blank then Some reply.FrameKind else None) taken) change
+  by_blank free blank at_frame =
+      outcome_left s c (own_pages s c) a.plan (rule_of s c a.call) a.found by_plan leads ∙ ap (outcome s c) left
+      ∙ ap (λ x. and_then x λ at. unless (first_of (if not (has_frame (found make.range) m.frame) then Some reply.OutOfRange else None)
+      (first_cause s c (not_blank s m.frame ∷ not_taken s m.number)))
+      (makes_comp s m.frame (new_comp s m.table m.pages m.number) at)) free
+      ∙ ap (λ b. unless (first_of (if not b then Some reply.OutOfRange else None)
+      (first_cause s c (not_blank s m.frame ∷ not_taken s m.number))) change) within
+      ∙ ap (λ b. unless (first_of (if b && not (is_blank (s.frame m.frame)) then Some reply.FrameKind else None) taken) change)
+      (lt-ltb m.frame s.limits.frames below)
+      ∙ ap (λ b. unless (first_of (if not b then Some reply.FrameKind else None) taken) change) at_frame
+
+  pub by_taken : vacant s c target ≡ Found slot → s.frame m.frame ≡ Kernel Blank → (o : Option Reply) → taken ≡ o
+      → change_of s c a.call ≡ unless o change
+  by_taken free blank o so = by_blank free true (ap is_blank blank) ∙ ap (λ x. unless x change) so
+
+  -- a cause for which its number is not taken may refuse it
+  pub may_refuse : (r : Reply) → OneMay s c (not_taken s m.number) r → RuleMay s c (rule_of s c a.call) r
+  may_refuse r may = left_may s c (own_pages s c) a.plan (rule_of s c a.call) a.found by_plan leads r
+      (subst (λ x. RuleMay s c x r) (sym left) (inr (inr (inr may))))
+
+  -- its table and its pages are such
+  pub table_fits : IsTrue (fits kind.Table (s.frame m.table))
+  table_fits = subst (λ (x : ℕ). IsTrue (fits kind.Table (s.frame x))) table_is
+      (named_fit s (opened (events_of t)) c is.x kind.Table make.table (sound_of setup setting t stands.legal)
+      (opened_is t c a.call is_open) make.third)
+
+  pub pages_fits : IsTrue (fits kind.Pages (s.frame m.pages))
+  pages_fits = subst (λ (x : ℕ). IsTrue (fits kind.Pages (s.frame x))) pages_is
+      (named_fit s (opened (events_of t)) c is.p kind.Pages make.pages (sound_of setup setting t stands.legal)
+      (opened_is t c a.call is_open) make.fourth)
+
+  pub counts_apart : s.frame m.frame ≡ Kernel Blank → AreDuesApart (comp_due_list m)
+  counts_apart blank = comp_dues_apart s m blank table_fits pages_fits
+
+  -- Where the frame is marked for it, as it was found, the frame is blank.
+  module _ (word : ℕ) (marks_it : (holds (cores c)).marks (FrameAt m.frame) ≡ true)
+      (stands_for : (holds (cores c)).stands (FrameAt m.frame) ≡ word) (says : SaysBlank word) where
+    pub own_mark : marked_by setup t (FrameAt m.frame) ≡ Some c
+    own_mark = (stands.marks (FrameAt m.frame) c).kept marks_it
+
+    settled_is : settled setup (held_by cores) t (FrameAt m.frame) ≡ word
+    settled_is = ap (λ o. settled_by o (held_by cores) (FrameAt m.frame) (last_left setup t (FrameAt m.frame))) own_mark ∙ stands_for
+
+    pub blank : s.frame m.frame ≡ Kernel Blank
+    blank = blank_is (s.frame m.frame)
+        (sym (subst (λ (x : ℕ). frame_of_word x ≡ Some (frame_value (s.frame m.frame))) settled_is (stands.words (FrameAt m.frame))) ∙ says)
+
+    pub apart : m.frame ≢ m.fill.node
+    apart same = false≢true (sym (ap is_node (sym (ap s.frame same) ∙ blank)) ∙ in_node)
+
+    pub no_mark : (i : ℕ) → marked_by setup t (EntryAt m.frame i) ≡ None
+    no_mark i = ap (λ x. mark_in_frame x i (last_left setup t (EntryAt m.frame i))) blank
+
+  -- Where the number is marked for it, its word as it was found says what the number is.
+  module _ (live : ℕ) (marks_number : (holds (cores c)).marks (LiveAt m.number) ≡ true)
+      (stands_number : (holds (cores c)).stands (LiveAt m.number) ≡ live) where
+    pub number_mark : marked_by setup t (LiveAt m.number) ≡ Some c
+    number_mark = (stands.marks (LiveAt m.number) c).kept marks_number
+
+    pub number_says : NumberIs (s.number m.number) (stamp setup t (NumberOf m.number)) (live_of_word live)
+    number_says = subst (λ (x : ℕ). NumberIs (s.number m.number) (stamp setup t (NumberOf m.number)) (live_of_word x))
+        (ap (λ o. settled_by o (held_by cores) (LiveAt m.number) (last_left setup t (LiveAt m.number))) number_mark ∙ stands_number)
+        (stands.words (LiveAt m.number))

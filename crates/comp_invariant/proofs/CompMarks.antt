@@ -1,0 +1,396 @@
+-- The first steps by which a call makes a component: the load of the frame's word, and the compare that marks it.
+use Rattle.std.specs.Prelude.{if◌then◌else◌, List}
+use Rattle.std.proofs.Common.{◌≡◌, ◌≤◌, Bool, true, false, cond, Option, Some, None, refl, ℕ, ◌<◌, ◌^◌, ◌==◌, arith, ◌≢◌, ◌+◌, sym, nat_lt, ◌&&◌, [], ◌∷◌, ◌++◌, length, ap, ◌∙◌, subst, IsTrue, inl, inr, not, is_some, map}
+use Rattle.std.proofs.lemmas.Bool.{lt-ltb, eqb-true, eqb-false, ltb-false, cases_eq, eq-eqb, false≢true}
+use Rattle.spk_nums.specs.Capability.{Capability}
+use Rattle.spk_nums.specs.Setting.{Setting, IsSetting}
+use Rattle.spk_nums.specs.WordSteps.{left_if}
+use Rattle.spk_nums.specs.declared.calls.Call.{Call}
+use Rattle.spk_nums.specs.declared.calls.Call.TheVariants.{Make as make_call, Map}
+use Rattle.spk_nums.specs.declared.kinds.FrameKind.{FrameKind}
+use Rattle.spk_nums.specs.declared.kinds.FrameKind.TheVariants.{Untyped as FrameUntyped, User as FrameUser, Kernel as FrameKernel}
+use Rattle.spk_nums.specs.declared.kinds.Obj.{Obj}
+use Rattle.spk_nums.specs.declared.kinds.Obj.TheVariants as obj
+use Rattle.spk_nums.specs.declared.replies.Reply.{Reply}
+use Rattle.spk_nums.specs.declared.replies.Reply.TheVariants as reply
+use Rattle.entry_words.specs.EntryWord.{word_of_entry}
+use Rattle.entry_words.specs.declared.entry.Entry.TheVariants as entry
+use Rattle.frame_words.proofs.FrameLemmas as frames
+use Rattle.frame_words.specs.Frame.{frame_of_word, FrameFits, word_of_frame}
+use Rattle.frame_words.specs.declared.frame_word.FrameWord.{FrameWord}
+use Rattle.word_map.proofs.WordLemmas.{same_same}
+use Rattle.word_map.specs.Moves.{left_of, word_of, LoadOf, Move, StoreOf, CompareOf}
+use Rattle.word_map.specs.Word.{EntryAt, FrameAt}
+use Rattle.kernel_rules.proofs.Within.{put_same}
+use Rattle.kernel_rules.specs.Access.{Target}
+use Rattle.kernel_rules.specs.Alone.{alone}
+use Rattle.kernel_rules.specs.CallRelation.{rule_of, change_of, are_calls_spent}
+use Rattle.kernel_rules.specs.CapabilityCalls.{is_frame, is_blank}
+use Rattle.kernel_rules.specs.Rules.{Refused, RuleMay}
+use Rattle.kernel_rules.specs.State.{Untyped, Blank, Table, Pages, User, Kernel, State, put, Leaf, Pleaf, Comp, Thread, Tcap, Frame, PlaceOf}
+use Rattle.trace_laws.proofs.AloneCalls.{refused_first}
+use Rattle.trace_laws.proofs.Carries.{Carries}
+use Rattle.kernel_history.proofs.Names.{same_word-other}
+use Rattle.kernel_history.proofs.Steps.{last_left-here, last_left-there, own_read-here, own_read-there}
+use Rattle.kernel_history.specs.Alone.{IsAlone}
+use Rattle.kernel_history.specs.Discipline.{changes_places, changes_frames, changes_in_frame, looks_at_frames}
+use Rattle.kernel_history.specs.Footprint.{frames_near, is_one_of}
+use Rattle.kernel_history.specs.Justified.{IsSlot}
+use Rattle.kernel_history.specs.Marking.{marked_by}
+use Rattle.kernel_history.specs.Marks.{frame_mark, mark_in_frame}
+use Rattle.kernel_history.specs.ObjectWords.{frame_value}
+use Rattle.kernel_history.specs.Stamps.{stamp}
+use Rattle.kernel_history.specs.Trace.{Trace, Open, phase, state_after, Step, last_left, own_read}
+use Rattle.call_plans.proofs.AfterNames.{left_may}
+use Rattle.call_plans.specs.GoesBy.{own_pages}
+use Rattle.plan_ways.proofs.Ways.{next_on_way}
+use Rattle.plan_ways.specs.Laws.{NextPlace}
+use Rattle.stage_pins.specs.declared.held.Acquired.{Acquired}
+use Rattle.act_states.specs.Acts.{dues, next_work, comp_marks}
+use Rattle.act_states.specs.Comps.{comp_dues, comp_meets, comp_meets_object, comp_meets_blank, comp_meets_kernel}
+use Rattle.act_states.specs.Makings.{marked}
+use Rattle.act_states.specs.WorkSteps.{refuse}
+use Rattle.act_states.specs.declared.comps.CompMaking.{CompMaking}
+use Rattle.act_states.specs.declared.comps.CompAt.{CompAt}
+use Rattle.act_states.specs.declared.comps.CompAt.TheVariants.{Load, Mark, LoadLive}
+use Rattle.act_states.specs.declared.refusals.Refusal.TheVariants as refusal
+use Rattle.act_states.specs.declared.work.Act.{Act as ActOf}
+use Rattle.act_states.specs.declared.work.Act.TheVariants.{MakeComp as comp_act}
+use Rattle.act_states.specs.declared.work.Tail.TheVariants.{Nothing, Unmark}
+use Rattle.act_states.specs.declared.work.Work.TheVariants.{Act}
+use Rattle.act_states.specs.declared.work.WorkStep.TheVariants.{Goes}
+use Rattle.call_stages.specs.Steps.{GoesOn, landed, went_with}
+use Rattle.call_stages.specs.View.{Core}
+use Rattle.call_stages.specs.declared.stages.ActiveCall.{ActiveCall}
+use Rattle.call_stages.specs.declared.stages.Stage.TheVariants.{Undecided, Decided}
+use Rattle.kept_knowledge.proofs.Carries.{names_on, counts_on, spot_on}
+use Rattle.step_ways.proofs.Counting as counting
+use Rattle.step_ways.proofs.Good.{spares_other, blank_is}
+use Rattle.step_ways.proofs.Loads.{decides_on, step_to, OnlyLooks, next_at, loads_on, IsOfCall, core_at, inner, call_is, core_is}
+use Rattle.step_ways.proofs.Refusals.{GoodTook, ticks_at, refuses_busy, refuses_raced, raced_leaving, not_spent}
+use Rattle.step_ways.proofs.Writes.{stores_on}
+use Rattle.core_invariant.specs.Holding.{holds_counts, Holding, settled_by, settled, keeps}
+use Rattle.core_invariant.specs.Knows.{phase_at, due_of, KnowsUndecided, KnowsComp, KnowsCompAt, blank_word, HasBlank}
+use Rattle.core_invariant.specs.Stands.{holds_at, holds_in, Stands, done_by, holds, held_by, holds_comp}
+use Rattle.core_invariant.specs.Words.{IsFrameWord}
+use Rattle.look_invariant.proofs.Lookups.{near_way}
+use Rattle.count_invariant.proofs.Acquiring.{knows_next, next_holds}
+use Rattle.count_invariant.proofs.CompCounts.{IsCompCall, makes_comp_on, comp_changes, comp_near}
+use Rattle.place_invariant.proofs.Fills.{target_way, changes_node}
+use Rattle.place_invariant.proofs.Outside.{vacant_slot, vacant_here, stands_alone}
+use Rattle.comp_invariant.proofs.CompCalls as calls
+use Rattle.frame_invariant.proofs.Makes.{made_looks, not_blank_by, not_kernel_by, marked_fits}
+use Rattle.core_invariant.proofs.Bare.{as_none, counts_bare}
+use Rattle.lent_words.proofs.Lent.{lent_elsewhere}
+
+module _ (setup : Setting) (setting : IsSetting setup) (cores : ℕ → Core) (t : Trace) (stands : Stands setup cores t) (c : ℕ)
+    (here : c < setup.cores)
+    (a : ActiveCall) (active : (cores c).active ≡ Some a) (m : CompMaking) (stage_is : a.stage ≡ Undecided (Act (comp_act m)))
+    (has : KnowsUndecided setup t c (cores c).own.table a (Act (comp_act m))) where
+  abbrev s : State
+  s = state_after setup t
+
+  abbrev f : ℕ
+  f = m.frame
+
+  abbrev was : ℕ
+  was = last_left setup t (FrameAt f)
+
+  abbrev knows : KnowsComp setup t c a.call a.plan a.found setup.cores m
+  knows = has.knows.knows
+
+  abbrev node : ℕ
+  node = m.fill.node
+
+  abbrev index : ℕ
+  index = m.fill.entry
+
+  opens : phase_at a.call a.stage ≡ Open a.call
+  opens = ap (phase_at a.call) stage_is
+
+  is_open : phase t c ≡ Open a.call
+  is_open = (call_is setup setting cores t stands c here a active).phase ∙ opens
+
+  room : (cores c).own.made < (cores c).own.limit
+  room = calls.room setup setting cores t stands c here a active m stage_is has
+
+  held_at : (at : CompAt) → m.at ≡ at → holds_in (Some a) ≡ holds_comp m at (holds_counts None a.counts)
+  held_at at is = ap (λ stage. holds_at stage a.counts) stage_is ∙ ap (λ x. holds_comp m x (holds_counts None a.counts)) is
+
+  dues_at : (at : CompAt) → m.at ≡ at → comp_dues m at ≡ map due_of a.counts
+  dues_at at is = ap (comp_dues m) (sym is) ∙ has.knows.all
+
+  knows_at : (at : CompAt) → m.at ≡ at → KnowsCompAt setup t c m at
+  knows_at at is = subst (KnowsCompAt setup t c m) is knows.at
+
+  is : IsCompCall a.call a.found m
+  is = calls.is setup setting cores t stands c here a active m stage_is has
+
+  near : is_one_of f (frames_near s c a.call) ≡ true
+  near = comp_near a.call a.found m is s c
+
+  loading : OnlyLooks setup t c a.call (LoadOf (FrameAt f))
+  loading = record {
+    of_call = record { moves = made_looks a.call (comp_changes a.call a.found m is); near = inl near };
+    kept = refl;
+    apart = λ d. refl;
+  }
+
+  -- where it goes on, what it knows of its target it still knows after a step on another word
+  goes_on_at : (e : Step) → e.core ≡ c → e.enters ≡ None → EntryAt node index ≢ word_of e.move → Carries setup t e c → (at : CompAt)
+      → KnowsCompAt setup (e ∷ t) c m at
+      → KnowsComp setup (e ∷ t) c a.call a.plan a.found setup.cores (record m { at = at })
+  goes_on_at e own no_entry there carries at now = record {
+    spot = spot_on setup setting t e stands.legal c a.call is_open carries a.plan a.found setup.cores node index m.fill.word
+        (own_read-there c e t (sym own) (EntryAt node index) there ∙ ap (λ o. cond (is_some o) None (own_read t c (EntryAt node index)))
+        no_entry)
+        knows.spot;
+    makes = makes_comp_on a.call a.found m at knows.makes;
+    core = knows.core;
+    epochs = knows.epochs;
+    cap = knows.cap;
+    at = now;
+  }
+
+  frame_says : marked_by setup t (FrameAt f) ≡ None → frame_of_word was ≡ Some (frame_value (s.frame f))
+  frame_says unmarked = subst (λ o. frame_of_word (settled_by o (held_by cores) (FrameAt f) was) ≡ Some (frame_value (s.frame f))) unmarked
+      (stands.words (FrameAt f))
+
+  some_word : (v u : FrameWord) → Some v ≡ Some u → v ≡ u
+  some_word v u h = cc
+
+  -- The load.
+  module _ (at_is : m.at ≡ Load) where
+    held_is : holds_in (Some a) ≡ holds_counts None a.counts
+    held_is = held_at Load at_is
+
+    no_counts : a.counts ≡ []
+    no_counts = none_of a.counts (dues_at Load at_is)
+      where
+        none_of : (xs : List Acquired) → [] ≡ map due_of xs → xs ≡ []
+        none_of [] h = refl
+        none_of (x ∷ xs) h = absurd (cc)
+
+    marked_good : (d : ℕ) → marked_by setup t (FrameAt f) ≡ Some d
+        → GoodTook setup cores t c (LoadOf (FrameAt f)) (landed a (refuse (refusal.Busy d)))
+    marked_good d mark = refuses_busy setup setting cores t stands c here a active opens held_is room (LoadOf (FrameAt f)) loading
+        (ap ticks_at stage_is) d
+        (ap (λ (xs : List Acquired). (holds_counts None xs).marks (FrameAt f)) no_counts) mark tt
+
+    abbrev target : Target
+    target = calls.target setup setting cores t stands c here a active m stage_is has
+
+    -- the frame is not blank
+    kind_good : is_blank (s.frame f) ≡ false → GoodTook setup cores t c (LoadOf (FrameAt f)) (landed a (refuse refusal.FrameKind))
+    kind_good other lands =
+        let unspent : are_calls_spent s c ≡ false = not_spent setup (cores c) t c
+        (core_is setup setting cores t stands c here a active) room in
+        decides_on setup setting cores t stands c here a active (LoadOf (FrameAt f)) reply.FrameKind a.found loading lands (sym held_is)
+        opens
+        refl refl
+        (λ x. refl) (λ x. refl) refl (unspent, may) tt
+        (λ is_alone. refused_first s c a.call reply.FrameKind unspent (first is_alone))
+      where
+        stands_so : (is_frame s f && not (is_blank (s.frame f))) ≡ true
+        stands_so = ap (λ b. b && not (is_blank (s.frame f)))
+            (lt-ltb f s.limits.frames (calls.below setup setting cores t stands c here a active m stage_is has)) ∙ ap (λ b. not b) other
+
+        may : RuleMay s c (rule_of s c a.call) reply.FrameKind
+        may = left_may s c (own_pages s c) a.plan (rule_of s c a.call) a.found
+            (calls.by_plan setup setting cores t stands c here a active m stage_is has)
+            (calls.leads setup setting cores t stands c here a active m stage_is has) reply.FrameKind
+            (subst (λ x. RuleMay s c x reply.FrameKind) (sym (calls.left setup setting cores t stands c here a active m stage_is has))
+            (inr (inr (inl (stands_so, refl)))))
+
+        first : IsAlone t (step_to c None (LoadOf (FrameAt f)) was (Some reply.FrameKind) None)
+            → change_of s c a.call ≡ Refused reply.FrameKind
+        first alone = calls.by_blank setup setting cores t stands c here a active m stage_is has
+            (vacant_slot s c target (record { node = node; index = index })
+            (calls.reached_is setup setting cores t stands c here a active m stage_is has)
+            (vacant_here setup setting cores t stands c here a active opens has.names node index m.fill.word knows.spot
+            (calls.fits_in setup setting cores t stands c here a active m stage_is has).fill.entry
+            (calls.leaf setup setting cores t stands c here a active m stage_is has)
+            (stands_alone setup t c node index m.fill.word knows.spot.own
+            (LoadOf (FrameAt f)) reply.FrameKind alone)).vacant) false other
+
+    -- it is blank
+    blank_good : frame_of_word was ≡ Some blank_word
+        → GoodTook setup cores t c (LoadOf (FrameAt f)) (landed a (Goes (Act (comp_act (record m { at = Mark was })))))
+    blank_good shown lands =
+        let e : Step = step_to c None (LoadOf (FrameAt f)) was None None in
+        loads_on setup setting cores t stands c here a active (LoadOf (FrameAt f)) a.found
+        (Undecided (Act (comp_act (record m { at = Mark was })))) loading lands (sym held_is) opens
+        (λ carries. record {
+          names = names_on setup setting t e stands.legal c a.call is_open carries (cores c).own.table a.plan a.found has.names;
+          knows = record {
+            knows = goes_on_at e refl refl (λ h. cc) carries (Mark was) (record {
+              own = own_read-here c e t refl (FrameAt f) refl ∙ ap (λ b. if b then Some was else None) (eq-eqb was was refl);
+              says = shown;
+            });
+            all = dues_at Load at_is;
+            goes = refl;
+          };
+        })
+
+    pub load_good : GoodTook setup cores t c (LoadOf (FrameAt f)) (landed a (comp_meets m was (frame_of_word was)))
+    load_good = by_word (frame_of_word was) refl
+      where
+        not_none : (v : FrameWord) → None ≡ Some v → ⊥
+        not_none v h = cc
+
+        value : (v : FrameWord) → frame_of_word was ≡ Some v → v.mark ≡ None → frame_value (s.frame f) ≡ v
+        value v shown no_mark = some_word (frame_value (s.frame f)) v (sym (frame_says (ap frame_mark shown ∙ no_mark)) ∙ shown)
+
+        by_object : (v : FrameWord) → frame_of_word was ≡ Some v → v.mark ≡ None → v.kind ≡ FrameKernel → (o : Obj) → v.object ≡ o
+            → GoodTook setup cores t c (LoadOf (FrameAt f)) (landed a (comp_meets_object m was o))
+        by_object v shown no_mark kind_is o object_is = blank_or o (word_blank v o kind_is object_is no_mark) (value v shown no_mark)
+          where
+            word_blank : (v : FrameWord) (o : Obj) → v.kind ≡ FrameKernel → v.object ≡ o → v.mark ≡ None
+                → v ≡ record { kind = FrameKernel; object = o; mark = None }
+            word_blank v o kind_is object_is no_mark =
+                ap (λ x. record { kind = x; object = v.object; mark = v.mark }) kind_is
+                ∙ ap (λ x. record { kind = FrameKernel; object = x; mark = v.mark }) object_is
+                ∙ ap (λ x. record { kind = FrameKernel; object = o; mark = x }) no_mark
+
+            blank_or : (o : Obj) → v ≡ record { kind = FrameKernel; object = o; mark = None } → frame_value (s.frame f) ≡ v
+                → GoodTook setup cores t c (LoadOf (FrameAt f)) (landed a (comp_meets_object m was o))
+            blank_or obj.Blank is same = blank_good (shown ∙ ap (λ (v : FrameWord). Some v) is)
+            blank_or obj.Table is same = kind_good (not_blank_by (s.frame f) obj.Table (ap (λ v. v.object) (same ∙ is)) (λ h. cc))
+            blank_or obj.Leaf is same = kind_good (not_blank_by (s.frame f) obj.Leaf (ap (λ v. v.object) (same ∙ is)) (λ h. cc))
+            blank_or obj.Pages is same = kind_good (not_blank_by (s.frame f) obj.Pages (ap (λ v. v.object) (same ∙ is)) (λ h. cc))
+            blank_or obj.Pleaf is same = kind_good (not_blank_by (s.frame f) obj.Pleaf (ap (λ v. v.object) (same ∙ is)) (λ h. cc))
+            blank_or obj.Comp is same = kind_good (not_blank_by (s.frame f) obj.Comp (ap (λ v. v.object) (same ∙ is)) (λ h. cc))
+            blank_or obj.Thread is same = kind_good (not_blank_by (s.frame f) obj.Thread (ap (λ v. v.object) (same ∙ is)) (λ h. cc))
+            blank_or obj.Tcap is same = kind_good (not_blank_by (s.frame f) obj.Tcap (ap (λ v. v.object) (same ∙ is)) (λ h. cc))
+
+        by_kind : (v : FrameWord) → frame_of_word was ≡ Some v → v.mark ≡ None → (k : FrameKind) → v.kind ≡ k
+            → GoodTook setup cores t c (LoadOf (FrameAt f)) (landed a (comp_meets_kernel m was k v.object))
+        by_kind v shown no_mark FrameKernel kind_is = by_object v shown no_mark kind_is v.object refl
+        by_kind v shown no_mark FrameUntyped kind_is =
+            kind_good (not_kernel_by (s.frame f) FrameUntyped (ap (λ v. v.kind) (value v shown no_mark) ∙ kind_is) (λ h. cc))
+        by_kind v shown no_mark FrameUser kind_is =
+            kind_good (not_kernel_by (s.frame f) FrameUser (ap (λ v. v.kind) (value v shown no_mark) ∙ kind_is) (λ h. cc))
+
+        by_mark : (v : FrameWord) → frame_of_word was ≡ Some v → (mark : Option ℕ) → v.mark ≡ mark
+            → GoodTook setup cores t c (LoadOf (FrameAt f)) (landed a (comp_meets_blank m was v.kind v.object mark))
+        by_mark v shown None no_mark = by_kind v shown no_mark v.kind refl
+        by_mark v shown (Some d) mark = marked_good d (ap frame_mark shown ∙ mark)
+
+        by_word : (o : Option FrameWord) → frame_of_word was ≡ o
+            → GoodTook setup cores t c (LoadOf (FrameAt f)) (landed a (comp_meets m was o))
+        by_word None shown = absurd (not_none (frame_value (s.frame f)) (sym shown ∙ frame_says (ap frame_mark shown)))
+        by_word (Some v) shown = by_mark v shown v.mark refl
+
+  -- The compare that marks the frame.
+  module _ (word : ℕ) (at_is : m.at ≡ Mark word) where
+    abbrev new : ℕ
+    new = word_of_frame (marked m.core)
+
+    abbrev mark_it : Move
+    mark_it = CompareOf (FrameAt f) word new
+
+    abbrev act : ActOf
+    act = comp_act (record m { at = LoadLive word })
+
+    abbrev next : ActiveCall
+    next = next_at a a.found (Undecided (next_work m.core 0 act))
+
+    abbrev after : Core
+    after = core_at (cores c) (cores c).own.made next
+
+    met : HasBlank t c f word
+    met = knows_at (Mark word) at_is
+
+    mark_of_call : IsOfCall setup t c a.call mark_it
+    mark_of_call = record { moves = comp_changes a.call a.found m is; near = inl near }
+
+    mark_lost : (was == word) ≡ false → GoodTook setup cores t c mark_it (landed a (comp_marks m word false))
+    mark_lost other =
+        refuses_raced setup setting cores t stands c here a active opens (held_at (Mark word) at_is) room mark_it
+        (record { of_call = mark_of_call; kept = kept; apart = λ d. refl }) (ap ticks_at stage_is)
+        (record {
+          at = tt;
+          reads = eq-eqb (left_of mark_it was) was kept;
+          own = word;
+          has_read = met.own;
+          changed = eqb-false was word
+              other;
+        })
+      where
+        kept : left_of mark_it was ≡ was
+        kept = ap (λ b. left_if b was new) other
+
+    mark_won : (was == word) ≡ true → GoodTook setup cores t c mark_it (landed a (comp_marks m word true))
+    mark_won equal lands =
+        let e : Step = inner setup setting cores t stands c here a active mark_it None None in
+        counting.holds_on setup setting cores t stands c here a active mark_it next (λ b. refl) (λ h. cc) refl mark_of_call lands
+        (subst (λ (n : ℕ). n < 2 ^ 64) (sym leaves_it) (frames.spelling.small (marked m.core) fits))
+        (λ w there. (
+          ap (λ h. h.marks w) held_now ∙ ap (λ b. if b then true else (holds_counts None a.counts).marks w) (same_word-other w (FrameAt f)
+              there)
+              ∙ sym (ap (λ h. h.marks w) held_before),
+          ap (λ h. h.stands w) held_now ∙ ap (λ b. if b then word else (holds_counts None a.counts).stands w)
+              (same_word-other w (FrameAt f) there)
+              ∙ sym (ap (λ h. h.stands w) held_before),
+        ))
+        (as_none (holds (cores c)) (holds after) (FrameAt f)
+        (λ g i. ap (λ h. h.bare g i) held_before ∙ counts_bare None a.counts g i)
+        (λ g i. ap (λ h. h.bare g i) held_now ∙ counts_bare None a.counts g i))
+        (ap (λ (n : ℕ). frame_mark (frame_of_word n)) leaves_it ∙ ap frame_mark (frames.spelling.reads (marked m.core) fits)
+        ∙ ap (λ (n : ℕ). Some n) knows.core ∙ ap (λ b. if b then Some c else None) (sym marks_it))
+        (λ b other is. none_some b (sym bare ∙ is))
+        (ap (λ b. settled_by (if b then Some c else None) (held_by (put cores c after)) (FrameAt f) (left_of mark_it was)) marks_it
+        ∙ ap (λ k. (holds k).stands (FrameAt f)) (put_same cores c after c refl) ∙ ap (λ h. h.stands (FrameAt f)) held_now
+        ∙ ap (λ b. if b then word else (holds_counts None a.counts).stands (FrameAt f)) (same_same (FrameAt f))
+        ∙ sym (ap (λ o. settled_by o (held_by cores) (FrameAt f) was) bare ∙ eqb-true was word equal))
+        opens
+        (λ carries. record {
+          names = names_on setup setting t e stands.legal c a.call is_open carries (cores c).own.table a.plan a.found has.names;
+          knows = knows_next setup (e ∷ t) c (cores c).own.table next m.core act (dues act) knows.core
+              (goes_on_at e refl refl (λ h. cc) carries (LoadLive word) met.says)
+              (ap (λ (xs : List Acquired). map due_of xs ++ dues act) (sym no_counts))
+              (calls.counts_apart setup setting cores t stands c here a active m stage_is has blank) 0
+              (ap (λ (xs : List Acquired). length xs) (sym no_counts)) refl refl;
+        })
+        (counts_on setup t e c a.call (λ own. refl) a.counts (call_is setup setting cores t stands c here a active).counts)
+        (call_is setup setting cores t stands c here a active).apart
+        (spares_other setup t e (λ g i h. cc)) (lent_elsewhere cores e (λ g i h. cc))
+      where
+        no_counts : a.counts ≡ []
+        no_counts = none_of a.counts (dues_at (Mark word) at_is)
+          where
+            none_of : (xs : List Acquired) → [] ≡ map due_of xs → xs ≡ []
+            none_of [] h = refl
+            none_of (x ∷ xs) h = absurd (cc)
+
+        none_some : (b : ℕ) → None ≡ Some b → ⊥
+        none_some b h = cc
+
+        leaves_it : left_of mark_it was ≡ new
+        leaves_it = ap (λ b. left_if b was new) equal
+
+        fits : FrameFits (marked m.core)
+        fits = marked_fits m.core (let few = setting.most_cores in let own = knows.core in omega (arith, few, own, here))
+
+        held_before : holds (cores c) ≡ holds_counts None a.counts
+        held_before = ap holds_in active ∙ held_at (Mark word) at_is
+
+        held_now : holds after ≡ keeps (FrameAt f) word (holds_counts None a.counts)
+        held_now = next_holds m.core 0 act (holds_counts None a.counts)
+
+        marks_it : (holds after).marks (FrameAt f) ≡ true
+        marks_it = ap (λ h. h.marks (FrameAt f)) held_now
+            ∙ ap (λ b. if b then true else (holds_counts None a.counts).marks (FrameAt f)) (same_same (FrameAt f))
+
+        bare : marked_by setup t (FrameAt f) ≡ None
+        bare = ap (λ (n : ℕ). frame_mark (frame_of_word n)) (eqb-true was word equal) ∙ ap frame_mark met.says
+
+        blank : s.frame f ≡ Kernel Blank
+        blank = blank_is (s.frame f) (sym (frame_says bare) ∙ ap frame_of_word (eqb-true was word equal) ∙ met.says)
+
+    pub mark_good : GoodTook setup cores t c mark_it (landed a (comp_marks m word (was == word)))
+    mark_good = by_test (was == word) refl
+      where
+        by_test : (equal : Bool) → (was == word) ≡ equal → GoodTook setup cores t c mark_it (landed a (comp_marks m word equal))
+        by_test true same = mark_won same
+        by_test false other = mark_lost other

@@ -1,5 +1,0 @@
-use Rattle.flight.proofs.Places.{places_found}
-use Rattle.flight.proofs.laws.places_found.Goals as goal
-
-pub returns : goal.returns
-returns c = places_found

@@ -1,0 +1,300 @@
+-- What holds of frames that are made untyped, and that a node through which a call has looked stays till the call returns.
+use Rattle.std.proofs.Common.{◌≡◌, ◌≢◌, ◌⊎◌, inl, inr, ℕ, ◌<◌, Bool, true, false, IsTrue, [], ◌∷◌, ◌++◌, Option, Some, None, refl, sym, ◌∙◌, ap, subst}
+use Rattle.std.proofs.lemmas.Bool.{cases_eq, eq-eqb, eqb-true, false≢true}
+use Rattle.spk_nums.specs.Setting.{Setting, IsSetting}
+use Rattle.spk_nums.specs.CallLimits.{InLimits}
+use Rattle.spk_nums.specs.declared.kinds.FrameKind.TheVariants as frame_kind
+use Rattle.spk_nums.specs.declared.kinds.Kind.TheVariants as kind
+use Rattle.spk_nums.specs.declared.calls.Call.{Call}
+use Rattle.spk_nums.specs.declared.calls.Call.TheVariants.{Retype, Make as make_call}
+use Rattle.spk_nums.specs.declared.calls.Make.TheVariants as make
+use Rattle.spk_nums.specs.declared.replies.Reply.{Reply}
+use Rattle.spk_nums.specs.declared.replies.Reply.TheVariants.{Ok}
+use Rattle.word_map.specs.Word.{EntryAt, CountAt}
+use Rattle.word_map.specs.Moves.{word_of}
+use Rattle.kernel_rules.specs.State.{Frame, FrameOf, State}
+use Rattle.kernel_rules.specs.References.{refs}
+use Rattle.kernel_rules.specs.Fitting.{fits}
+use Rattle.kernel_rules.specs.Relies.{is_node, Relies}
+use Rattle.kernel_rules.specs.CallRelation.{MayReply, ends}
+use Rattle.found_stays.proofs.Apart.{node_fixed}
+use Rattle.kernel_invariant.proofs.Ends.{ends_by_rule}
+use Rattle.kernel_invariant.proofs.SoundCalls.{IsOpen}
+use Rattle.kernel_invariant.proofs.SoundRuns.{opened, open_limits}
+use Rattle.kernel_history.specs.Legal.{MayEnter, DecidesBy, MayDecide, MayFollow, IsLegal}
+use Rattle.kernel_history.specs.Marking.{marked_by}
+use Rattle.kernel_history.specs.Stamps.{is_in, ends_at, ends_in}
+use Rattle.kernel_history.specs.Trace.{Step, Trace, Phase, Out, Open, Decided, phase, after_enter, after_decide, after_return, state_after, state_before, state_entered, state_decided, state_returned, own_read, only_reads}
+use Rattle.kernel_history.specs.Events.{plain_phase}
+use Rattle.kernel_history.proofs.Events.{entered_events, entered_phase, entered_run, run_of}
+use Rattle.kernel_history.proofs.Names.{cases_word}
+use Rattle.trace_laws.proofs.Opens.{opens, open_inj}
+use Rattle.trace_laws.proofs.Stays.{Stays, stays_other, stays_in_other, stays_plain, sound_of, opened_is}
+use Rattle.kernel_history.proofs.Steps.{phase-own, phase-other, own_read-here, own_read-there, own_read-other}
+use Rattle.state_laws.proofs.Flushes.{frame_flushed}
+use Rattle.state_laws.proofs.Relied.{own_frame, own_relies}
+use Rattle.kept_words.proofs.CountSums.{counter_all}
+use Rattle.core_invariant.specs.Stands.{Stands}
+use Rattle.flight_laws.specs.Frames.{MakesUntyped, IsUnused, UntypedFramesAreUnused, CountedFramesStay, GoesOn, IsLooked, LookedNodesStay}
+use Rattle.flight.specs.Made.{cores_after, IsMade}
+use Rattle.flight.proofs.Made.{made_stands, made_counted}
+use Rattle.flight_laws.proofs.Places.{IsNoEntry, IsBeside, beside_other, beside_own, beside_no_node, WasOpen, was_open, has_read, entered_none, comp_no_node, tcap_no_node, swept_other, swept_own, no_entry_kept, enters_none, read_rests}
+use Rattle.flight_laws.proofs.Sweeping.{IsSwept, swept_no_node}
+
+-- It is the end of the frame's grace period.
+untyping_ends : (t : Trace) (e : Step) (f : ℕ) → MakesUntyped t e f → ends_at t e (FrameOf f) ≡ true
+untyping_ends t e f is = ap (λ o. ends_in o (after_enter e.enters (phase t e.core)) (FrameOf f)) is.decides
+    ∙ ap (λ p. ends_in (Some (Ok is.value)) p (FrameOf f)) is.call ∙ eq-eqb f f refl
+
+ends_untyping : (t : Trace) (e : Step) (f : ℕ) → ends_at t e (FrameOf f) ≡ true → MakesUntyped t e f
+ends_untyping t e f ended = by e.decides refl (after_enter e.enters (phase t e.core)) refl ended
+  where
+    by_call : (call : Call) (r : Reply) → e.decides ≡ Some r → after_enter e.enters (phase t e.core) ≡ Open call
+        → ends call r (FrameOf f) ≡ true → MakesUntyped t e f
+    by_call (Retype r g frame_kind.Untyped) (Ok v) decides is h = record {
+      range = r;
+      value = v;
+      decides = decides;
+      call = is ∙ ap (λ (n : ℕ). Open (Retype r n frame_kind.Untyped)) (sym (eqb-true f g h));
+    }
+    by_call (make_call make.Table r g t b) (Ok v) decides is h = absurd (false≢true h)
+    by_call (make_call make.Leaf r g t b) (Ok v) decides is h = absurd (false≢true h)
+    by_call (make_call make.Pages r g t b) (Ok v) decides is h = absurd (false≢true h)
+    by_call (make_call make.Pleaf r g t b) (Ok v) decides is h = absurd (false≢true h)
+    by_call call (Ok v) decides is h = absurd (false≢true h)
+    by_call call r decides is h = absurd (false≢true h)
+
+    by : (o : Option Reply) → e.decides ≡ o → (p : Phase) → after_enter e.enters (phase t e.core) ≡ p → ends_in o p (FrameOf f) ≡ true
+        → MakesUntyped t e f
+    by None decides p is h = absurd (false≢true h)
+    by (Some r) decides Out is h = absurd (false≢true h)
+    by (Some r) decides (Open call) is h = by_call call r decides is h
+    by (Some r) decides (Decided call q) is h = absurd (false≢true h)
+
+pub counted_frames_stay : CountedFramesStay
+counted_frames_stay setup setting t e made f is d below c mark = same_core c e.core (sym mark
+    ∙ counter_all (λ k. marked_by setup t (CountAt f k) ≡ Some e.core) setup.cores d below
+    (made_counted setup setting t e made f (untyping_ends t e f is)))
+  where
+    same_core : (x y : ℕ) → Some x ≡ Some y → x ≡ y
+    same_core x y h = cc
+
+pub untyped_unused : UntypedFramesAreUnused
+untyped_unused setup setting t e made f is = record { none = ended.0; waits = ended.1; flushed = all_flushed }
+  where
+    legal : IsLegal setup (e ∷ t)
+    legal = (made_stands setup setting (e ∷ t) made).legal
+
+    call : Call
+    call = Retype is.range f frame_kind.Untyped
+
+    may : DecidesBy setup t e (Ok is.value) (Open call)
+    may = subst (DecidesBy setup t e (Ok is.value)) is.call
+        (subst (λ o. MayDecide setup t e o (after_enter e.enters (phase t e.core))) is.decides legal.1.decides)
+
+    permitted : MayReply (state_before setup t e) e.core call (Ok is.value)
+    permitted = subst (λ k. MayReply (state_before setup t e) e.core k (Ok is.value)) (open_inj may.call call may.is_open) may.permitted
+
+    open_now : IsOpen (state_before setup t e) (opened (entered_events t e)) e.core
+    open_now = opens setup setting t legal.0 e legal.1 call is.call
+
+    ended : (refs (state_before setup t e) f ≡ 0)
+        × ((d : ℕ) → d < (state_before setup t e).limits.cores → d ≢ e.core → ((state_before setup t e).grace (FrameOf f)).waits d ≡ false)
+    ended = ends_by_rule (state_before setup t e) (opened (entered_events t e)) e.core open_now call (Ok is.value) (FrameOf f) permitted
+        (eq-eqb f f refl)
+
+    all_flushed : (d : ℕ) → d < (state_before setup t e).limits.cores → ((state_before setup t e).grace (FrameOf f)).unflushed d ≡ false
+    all_flushed = frame_flushed (state_before setup t e) e.core call (Ok is.value) f permitted (eq-eqb f f refl)
+
+-- A call that is open, and has looked through a node, relies on it.
+abbrev Rests : Setting → Trace → ℕ → ℕ → Type 0
+Rests setup t c f = Relies (state_after setup t) c f ⊎ IsNoEntry setup t c f
+
+abbrev LookedRests : Setting → Trace → Type 0
+LookedRests setup t = (c : ℕ) (call : Call) → phase t c ≡ Open call → (f i w : ℕ)
+    → own_read t c (EntryAt f i) ≡ Some w → IsLooked call w → Rests setup t c f
+
+none_some : (w : ℕ) → None ≡ Some w → ⊥
+none_some w h = cc
+
+module _ (setup : Setting) (setting : IsSetting setup) where
+  rests_kept : (t : Trace) (e : Step) (c f : ℕ) → Stays setup t e c
+      → (IsSwept (cores_after setup t c).active f → IsSwept (cores_after setup (e ∷ t) c).active f)
+      → (IsBeside (state_after setup t) c f → IsBeside (state_after setup (e ∷ t)) c f) → Rests setup t c f
+      → Rests setup (e ∷ t) c f
+  rests_kept t e c f stays sweeps beside (inl relies) = inl (stays.relies f relies)
+  rests_kept t e c f stays sweeps beside (inr none) = inr (no_entry_kept setup setting t e c f stays sweeps beside none)
+
+  rests_on : (t : Trace) (e : Step) → IsMade setup (e ∷ t) → LookedRests setup t → LookedRests setup (e ∷ t)
+  rests_on t e made rests c call is f i w read looked = elim (cases_eq c e.core) [
+    | inr other ↦ (let before : phase t c ≡ Open call = sym (phase-other c e t other) ∙ is in
+        let legal : IsLegal setup (e ∷ t) = (made_stands setup setting (e ∷ t) made).legal in
+        rests_kept t e c f (stays_other setup setting t legal.0 e legal.1 c other call before) (swept_other setup setting t e c f other)
+        (beside_other setup setting t e made c f call other before)
+        (rests c call before f i w (sym (own_read-other c e t other (EntryAt f i)) ∙ read) looked))
+    | inl same ↦ subst (λ (d : ℕ). Rests setup (e ∷ t) d f) (sym same)
+        (by_own (subst (λ (d : ℕ). phase (e ∷ t) d ≡ Open call) same is)
+        (subst (λ (d : ℕ). own_read (e ∷ t) d (EntryAt f i) ≡ Some w) same read))
+  ] where
+    opened_so : e.enters ≡ None → phase (e ∷ t) e.core ≡ Open call → WasOpen e.decides e.returns (phase t e.core) call
+    opened_so no_entry now = was_open e.decides e.returns (phase t e.core) call
+        (ap (λ o. after_return e.returns (after_decide e.decides (after_enter o (phase t e.core)))) (sym no_entry)
+        ∙ sym (phase-own e.core e t refl) ∙ now)
+
+    through : e.enters ≡ None → WasOpen e.decides e.returns (phase t e.core) call → Stays setup t e e.core
+    through no_entry was = stays_plain setup t e e.core no_entry was.no_decision was.no_return
+
+    by_own : phase (e ∷ t) e.core ≡ Open call → own_read (e ∷ t) e.core (EntryAt f i) ≡ Some w → Rests setup (e ∷ t) e.core f
+    by_own now read_so = elim (cases_word (EntryAt f i) (word_of e.move)) [
+      | inl on ↦ (let no_entry : e.enters ≡ None = enters_none setup setting t e made e.enters refl f i on in
+          let was : WasOpen e.decides e.returns (phase t e.core) call = opened_so no_entry now in
+          read_rests setup setting t e made call was.before no_entry was.no_decision was.no_return f i w on
+          (has_read e w (only_reads e) refl (sym (own_read-here e.core e t refl (EntryAt f i) on) ∙ read_so)) looked)
+      | inr there ↦ (let had : (e.enters ≡ None) × (own_read t e.core (EntryAt f i) ≡ Some w) =
+          entered_none e.enters (own_read t e.core (EntryAt f i)) w
+          (sym (own_read-there e.core e t refl (EntryAt f i) there) ∙ read_so) in
+          let was : WasOpen e.decides e.returns (phase t e.core) call = opened_so had.0 now in
+          rests_kept t e e.core f (through had.0 was)
+          (swept_own setup setting t e made.1 had.0 was.no_decision was.no_return f)
+          (beside_own setup setting t e had.0 was.no_decision was.no_return e.core f)
+          (rests e.core call was.before f i w had.1 looked))
+    ]
+
+  rests_along : (t : Trace) → IsMade setup t → LookedRests setup t
+  rests_along [] made = λ c call is f i w read looked. absurd (none_some w read)
+  rests_along (e ∷ t) made = rests_on t e made (rests_along t made.0)
+
+  looked_relies : (t : Trace) → IsMade setup t → (c : ℕ) (call : Call) → phase t c ≡ Open call → (f i w : ℕ)
+      → own_read t c (EntryAt f i) ≡ Some w → IsLooked call w → IsTrue (is_node ((state_after setup t).frame f))
+      → Relies (state_after setup t) c f
+  looked_relies t made c call is f i w read looked node = by (rests_along t made c call is f i w read looked)
+    where
+      stands : Stands setup (cores_after setup t) t
+      stands = made_stands setup setting t made
+
+      below : c < (state_after setup t).limits.cores
+      below = ((sound_of setup setting t stands.legal).inside c (opened_is t c call is)).1
+
+      by : Rests setup t c f → Relies (state_after setup t) c f
+      by (inl relies) = relies
+      by (inr (inl own)) = absurd (false≢true (sym (tcap_no_node ((state_after setup t).frame f)
+          (subst (λ (g : ℕ). IsTrue (fits kind.Tcap ((state_after setup t).frame g))) own
+          ((sound_of setup setting t stands.legal).cores c below).1)) ∙ node))
+      by (inr (inr (inl comp))) = absurd (comp_no_node ((state_after setup t).frame f) comp.comp node)
+      by (inr (inr (inr (inl swept)))) =
+          absurd (false≢true (sym (swept_no_node setup (cores_after setup t) t stands c f swept) ∙ node))
+      by (inr (inr (inr (inr is)))) = absurd (false≢true
+          (sym (beside_no_node (state_after setup t) c f ((sound_of setup setting t stands.legal).cores c below).0 is) ∙ node))
+
+-- A core that is in a call relies on a node, which is this still.
+record IsThere (setup : Setting) (t : Trace) (c f : ℕ) (x : Frame) : Type 0 where
+  inside : is_in (phase t c) ≡ true
+  relies : Relies (state_after setup t) c f
+  same : (state_after setup t).frame f ≡ x
+
+-- So it is after a step by which the core does not return, and does not make the frame untyped.
+module _ (setup : Setting) (setting : IsSetting setup) (t : Trace) (legal : IsLegal setup t) (e : Step) (follows : MayFollow setup t e)
+    (c f : ℕ) (x : Frame) (there : IsThere setup t c f x) where
+  there_other : c ≢ e.core → IsThere setup (e ∷ t) c f x
+  there_other other =
+      let stays = stays_in_other setup setting t legal e follows c other there.inside in record {
+        inside = ap is_in (phase-other c e t other) ∙ there.inside;
+        relies = stays.relies f there.relies;
+        same = stays.frame f (node_fixed ((state_after setup t).frame f) there.relies.node) there.relies.guarded ∙ there.same;
+      }
+
+  module _ (own : e.core ≡ c) (no_return : e.returns ≡ None) (not_ends : ends_at t e (FrameOf f) ≡ false) where
+    abbrev before : State
+    before = state_before setup t e
+
+    abbrev entered : Phase
+    entered = after_enter e.enters (phase t e.core)
+
+    inside_own : is_in (phase t e.core) ≡ true
+    inside_own = ap (λ (d : ℕ). is_in (phase t d)) own ∙ there.inside
+
+    no_entry : e.enters ≡ None
+    no_entry = by e.enters refl follows.enters
+      where
+        by : (o : Option Call) → e.enters ≡ o → MayEnter o (phase t e.core) → e.enters ≡ None
+        by None is may = is
+        by (Some call) is may = absurd (false≢true (sym (ap is_in may.0) ∙ inside_own))
+
+    before_is : before ≡ state_after setup t
+    before_is = ap (λ o. state_entered o (state_after setup t) e.core) no_entry
+
+    relies_before : Relies before e.core f
+    relies_before = subst (λ s. Relies s e.core f) (sym before_is)
+        (subst (λ (d : ℕ). Relies (state_after setup t) d f) (sym own) there.relies)
+
+    same_before : before.frame f ≡ x
+    same_before = ap (λ s. s.frame f) before_is ∙ there.same
+
+    -- what a decision leaves of it
+    record Keeps (s : State) : Type 0 where
+      keeps : Relies s e.core f
+      still : s.frame f ≡ x
+
+    by_decision : (o : Option Reply) (p : Phase) → entered ≡ p → MayDecide setup t e o p → ends_in o p (FrameOf f) ≡ false
+        → Keeps (state_decided o p before e.core)
+    by_decision None p is may none = record { keeps = relies_before; still = same_before }
+    by_decision (Some r) Out is may none = record { keeps = relies_before; still = same_before }
+    by_decision (Some r) (Decided call q) is may none = record { keeps = relies_before; still = same_before }
+    by_decision (Some r) (Open call) is may none =
+        let now : IsOpen before (opened (entered_events t e)) e.core = opens setup setting t legal e follows call is in
+        let limits : InLimits call = open_limits setup (entered_events t e) e.core call
+        (entered_run setup t e legal follows (run_of setup t legal)) (entered_phase t e ∙ ap plain_phase is) in
+        let permitted : MayReply before e.core call r = subst (λ k. MayReply before e.core k r) (open_inj may.call call may.is_open)
+        may.permitted in
+        record {
+          keeps = own_relies before (opened (entered_events t e)) e.core call r now limits permitted f none relies_before;
+          still = own_frame before (opened (entered_events t e)) e.core call r now limits permitted f none relies_before.node ∙ same_before;
+        }
+
+    keeps_now : Keeps (state_after setup (e ∷ t))
+    keeps_now = subst (λ q. Keeps (state_returned q (state_decided e.decides entered before e.core) e.core)) (sym no_return)
+        (by_decision e.decides entered refl follows.decides not_ends)
+
+    stays_in : (o : Option Reply) (p : Phase) → is_in p ≡ true → is_in (after_decide o p) ≡ true
+    stays_in None p is = is
+    stays_in (Some r) Out is = is
+    stays_in (Some r) (Open call) is = refl
+    stays_in (Some r) (Decided call q) is = refl
+
+    there_own : IsThere setup (e ∷ t) c f x
+    there_own = record {
+      inside = ap is_in (phase-own c e t (sym own))
+          ∙ ap (λ q. is_in (after_return q (after_decide e.decides (after_enter e.enters (phase t c))))) no_return
+          ∙ ap (λ o. is_in (after_decide e.decides (after_enter o (phase t c)))) no_entry
+          ∙ stays_in e.decides (phase t c) there.inside;
+      relies = subst (λ (d : ℕ). Relies (state_after setup (e ∷ t)) d f) own keeps_now.keeps;
+      same = keeps_now.still;
+    }
+
+there_along : (setup : Setting) → IsSetting setup → (u t : Trace) → IsMade setup (u ++ t) → (c f : ℕ)
+    → (x : Frame) → IsThere setup t c f x → GoesOn u t c f → IsThere setup (u ++ t) c f x
+there_along setup setting [] t made c f x there goes = there
+there_along setup setting (e ∷ u) t made c f x there goes =
+    let legal : IsLegal setup (e ∷ u ++ t) = (made_stands setup setting (e ∷ u ++ t) made).legal in
+    let before : IsThere setup (u ++ t) c f x = there_along setup setting u t made.0 c f x there goes.0 in
+    elim (cases_eq e.core c) [
+      | inr other ↦ there_other setup setting (u ++ t) legal.0 e legal.1 c f x before (λ same. other (sym same))
+      | inl own ↦ there_own setup setting (u ++ t) legal.0 e legal.1 c f x before own (goes.1 own).0
+          (not_true (ends_at (u ++ t) e (FrameOf f)) (λ ends. (goes.1 own).1 (ends_untyping (u ++ t) e f ends)))
+    ]
+  where
+    not_true : (b : Bool) → (b ≡ true → ⊥) → b ≡ false
+    not_true true never = absurd (never refl)
+    not_true false never = refl
+
+pub looked_nodes_stay : LookedNodesStay
+looked_nodes_stay setup setting u t made c call is f i w read looked node goes =
+    (there_along setup setting u t made c f ((state_after setup t).frame f) (record {
+      inside = ap is_in is;
+      relies = looked_relies setup setting t (made_before u t made) c call is f i w read looked node;
+      same = refl;
+    }) goes).same
+  where
+    made_before : (u t : Trace) → IsMade setup (u ++ t) → IsMade setup t
+    made_before [] t made = made
+    made_before (g ∷ u) t made = made_before u t made.0

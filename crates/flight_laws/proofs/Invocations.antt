@@ -1,0 +1,91 @@
+-- A call through a gate that is carried out enters a component that lives.
+use Rattle.std.proofs.Common.{◌≡◌, ◌<◌, ◌&&◌, ℕ, ◌==◌, nat_le, length, not, List, [], ◌∷◌, ◌++◌, Bool, true, false, if◌then◌else◌, Option, Some, None, refl, sym, ◌∙◌, ap, subst}
+use Rattle.std.proofs.lemmas.Bool.{eqb-true, false≢true}
+use Rattle.spk_nums.specs.Capability.{Capability}
+use Rattle.spk_nums.specs.Setting.{Setting, IsSetting}
+use Rattle.spk_nums.specs.declared.calls.Call.{Call}
+use Rattle.spk_nums.specs.declared.calls.Call.TheVariants.{Call as call_gate}
+use Rattle.spk_nums.specs.declared.kinds.Kind.TheVariants as kind
+use Rattle.spk_nums.specs.declared.replies.Reply.TheVariants as reply
+use Rattle.spk_nums.specs.declared.replies.Value.{Value}
+use Rattle.kernel_rules.specs.State.{Liveness, Unused, Live, Dead, State, comp_in, thread_of}
+use Rattle.kernel_rules.specs.Access.{Named, found, only}
+use Rattle.kernel_rules.specs.Rules.{Found, Rule, Does, When, IsFoundAnd, RuleAnswers, and_then, first_of, named, outcome, unless}
+use Rattle.kernel_rules.specs.InvocationCalls.{call_rule, is_live_in, not_live, pushes}
+use Rattle.kernel_rules.specs.CallRelation.{MayReply}
+use Rattle.kernel_rules.specs.Runs.{after, IsRun}
+use Rattle.kernel_history.specs.Events.{events_of}
+use Rattle.kernel_history.specs.Legal.{MayDecide, MayFollow}
+use Rattle.kernel_history.specs.Trace.{Step, Trace, Open, phase, after_enter, state_before, state_entered, state_after}
+use Rattle.kernel_history.proofs.Events.{state_is, run_of}
+use Rattle.trace_laws.proofs.Opens.{open_inj}
+use Rattle.state_laws.proofs.Lives.{dead_stays}
+use Rattle.core_invariant.specs.Stands.{Stands}
+use Rattle.comp_invariant.proofs.LaterEvents.{Later, later_events}
+use Rattle.flight_laws.specs.Invocations.{GoesThrough, number_through, EntersTheLiving, EntersNoneKilled}
+use Rattle.flight.specs.Made.{IsMade, cores_after}
+use Rattle.flight.proofs.Made.{made_stands}
+
+-- What the rule of a call answers through a gate.
+module _ (s : State) (c n : ℕ) (v : Value) (gate : Capability) where
+  abbrev entering : Named → Rule
+  entering g = Does (
+      When (nat_le 16 (length (thread_of s c).stack)) reply.Deep
+      ∷ not_live s g (comp_in (s.frame g.frame)).number g.arg
+      ∷ []) (pushes s c g.frame)
+
+  by_causes : (deep lives : Bool)
+      → IsFoundAnd (unless (first_of (if deep then Some reply.Deep else None)
+      (first_of (if true && not lives then Some reply.Dead else None) None)) (pushes s c gate.frame)) (λ change. change.value ≡ v)
+      → lives ≡ true
+  by_causes deep true is = refl
+  by_causes true false is = absurd is
+  by_causes false false is = absurd is
+
+  lives_at : named s c n (only kind.Gate) ≡ Found gate → RuleAnswers s c (call_rule s c n) v
+      → is_live_in (s.number (comp_in (s.frame gate.frame)).number) gate.arg ≡ true
+  lives_at leads answers =
+      by_causes (nat_le 16 (length (thread_of s c).stack)) (is_live_in (s.number (comp_in (s.frame gate.frame)).number) gate.arg)
+      (subst (λ o. IsFoundAnd (and_then o λ k. outcome s c (entering (found k))) (λ change. change.value ≡ v)) leads answers)
+
+pub enters_the_living : EntersTheLiving
+enters_the_living setup setting t e made gate is =
+    lives_at (state_before setup t e) e.core is.name is.value gate is.leads (subst
+    (λ k. MayReply (state_before setup t e) e.core k (reply.Ok is.value))
+    (open_inj decides.call (call_gate is.name) decides.is_open) decides.permitted).1
+  where
+    follows : MayFollow setup t e
+    follows = (made_stands setup setting (e ∷ t) made).legal.1
+
+    decides : MayDecide setup t e (Some (reply.Ok is.value)) (Open (call_gate is.name))
+    decides = subst (MayDecide setup t e (Some (reply.Ok is.value))) is.call
+        (subst (λ o. MayDecide setup t e o (after_enter e.enters (phase t e.core))) is.decides follows.decides)
+
+-- A number that is live in an epoch.
+record LivesIn (x : Liveness) (epoch : ℕ) : Type 0 where
+  frame : ℕ
+  is : x ≡ Live epoch frame
+
+lives_in : (x : Liveness) (epoch : ℕ) → is_live_in x epoch ≡ true → LivesIn x epoch
+lives_in Unused epoch h = absurd (false≢true h)
+lives_in (Live e f) epoch h = record { frame = f; is = ap (λ (n : ℕ). Live n f) (eqb-true e epoch h) }
+lives_in (Dead e) epoch h = absurd (false≢true h)
+
+-- An entry leaves the numbers.
+entered_number : (o : Option Call) (s : State) (c l : ℕ) → (state_entered o s c).number l ≡ s.number l
+entered_number None s c l = refl
+entered_number (Some call) s c l = refl
+
+pub enters_none_killed : EntersNoneKilled
+enters_none_killed setup setting u t e made gate is epoch dead =
+    let stands : Stands setup (cores_after setup (u ++ t)) (u ++ t) = made_stands setup setting (u ++ t) made.0 in
+    let had : Later (events_of (u ++ t)) (events_of t) = later_events u t in
+    let l : ℕ = number_through (state_before setup (u ++ t) e) gate in
+    let lives : LivesIn ((state_before setup (u ++ t) e).number l) gate.arg =
+    lives_in ((state_before setup (u ++ t) e).number l) gate.arg (enters_the_living setup setting (u ++ t) e made gate is) in
+    dead_stays setup had.later (events_of t) (subst (IsRun setup) had.adds (run_of setup (u ++ t) stands.legal)) l epoch gate.arg
+    lives.frame
+    (ap (λ (y : State). y.number l) (sym (state_is setup t)) ∙ dead)
+    (ap (λ xs. (after setup xs).number l) (sym had.adds)
+    ∙ ap (λ (y : State). y.number l) (sym (state_is setup (u ++ t)))
+    ∙ sym (entered_number e.enters (state_after setup (u ++ t)) e.core l) ∙ lives.is)

@@ -1,0 +1,37 @@
+-- A liveness number that was killed lives later in higher epochs alone.
+use Rattle.std.proofs.Common.{◌≡◌, ℕ, List, [], ◌∷◌, ◌++◌, Option, Some, None, refl, sym, ◌∙◌, ap, subst}
+use Rattle.spk_nums.specs.declared.calls.Call.{Call}
+use Rattle.spk_nums.specs.declared.replies.Reply.{Reply}
+use Rattle.frame_words.specs.Live.{live_of_word}
+use Rattle.word_map.specs.Word.{LiveAt}
+use Rattle.kernel_rules.specs.State.{Live, NumberOf, State}
+use Rattle.kernel_rules.specs.Runs.{Event, Enters, Decides, Returns, after, IsRun}
+use Rattle.kernel_history.specs.Events.{with_entry, with_decision, with_return, events_of}
+use Rattle.kernel_history.specs.Marks.{live_mark}
+use Rattle.kernel_history.specs.Stamps.{stamp}
+use Rattle.kernel_history.specs.Trace.{Trace, Phase, Out, Open, Decided, phase, after_enter, state_after, last_left}
+use Rattle.kernel_history.proofs.Events.{state_is, run_of}
+use Rattle.state_laws.proofs.Lives.{dead_stays}
+use Rattle.core_invariant.specs.Holding.{settled_by}
+use Rattle.core_invariant.specs.Words.{NumberIs}
+use Rattle.core_invariant.specs.Stands.{held_by, Stands}
+use Rattle.comp_invariant.proofs.LaterEvents.{Later, later_events}
+use Rattle.live_invariant.proofs.Numbers.{number_is}
+use Rattle.flight_laws.specs.Lives.{DeadForGood}
+use Rattle.flight.specs.Made.{cores_after}
+use Rattle.flight.proofs.Made.{made_stands}
+
+pub dead_for_good : DeadForGood
+dead_for_good setup setting u t made l e d f dead shows =
+    let stands : Stands setup (cores_after setup (u ++ t)) (u ++ t) = made_stands setup setting (u ++ t) made in
+    let had : Later (events_of (u ++ t)) (events_of t) = later_events u t in
+    let s : State = state_after setup (u ++ t) in
+    let lives : s.number l ≡ Live d f =
+    number_is (s.number l) (stamp setup (u ++ t) (NumberOf l)) d f (live_of_word (last_left setup (u ++ t) (LiveAt l)))
+    (subst (λ o. NumberIs (s.number l) (stamp setup (u ++ t) (NumberOf l))
+    (live_of_word (settled_by o (held_by (cores_after setup (u ++ t))) (LiveAt l) (last_left setup (u ++ t) (LiveAt l)))))
+    (ap live_mark shows) (stands.words (LiveAt l))) shows in
+    dead_stays setup had.later (events_of t) (subst (IsRun setup) had.adds (run_of setup (u ++ t) stands.legal)) l e d f
+    (ap (λ (y : State). y.number l) (sym (state_is setup t)) ∙ dead)
+    (ap (λ xs. (after setup xs).number l) (sym had.adds)
+    ∙ ap (λ (y : State). y.number l) (sym (state_is setup (u ++ t))) ∙ lives)

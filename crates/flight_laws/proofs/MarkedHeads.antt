@@ -1,0 +1,252 @@
+-- What the head of a temporal capability says that a core has marked in a call that is not decided: the mark, and the budget still.
+use Rattle.std.proofs.Common.{◌≡◌, ◌<◌, inl, inr, ℕ, zero, suc, true, false, if◌then◌else◌, Option, Some, None, IsTrue, arith, refl, sym, ◌∙◌, ap, subst}
+use Rattle.std.proofs.lemmas.Bool.{false≢true}
+use Rattle.spk_nums.specs.Setting.{Setting, IsSetting}
+use Rattle.spk_nums.specs.declared.kinds.Kind.TheVariants as kind
+use Rattle.spk_nums.specs.declared.calls.Call.{Call}
+use Rattle.tcap_words.specs.Head.{HeadFits, word_of_head, head_of_word}
+use Rattle.tcap_words.specs.declared.head_word.HeadWord.{HeadWord}
+use Rattle.tcap_words.proofs.HeadLemmas.{spelling}
+use Rattle.word_map.specs.Word.{EntryAt}
+use Rattle.word_map.proofs.WordLemmas.{same_same}
+use Rattle.kernel_rules.specs.State.{Frame, Kernel, Table, Leaf, Pages, Pleaf, Thread, Tcap, TcapFields, State}
+use Rattle.kernel_rules.specs.Fitting.{fits}
+use Rattle.kernel_rules.specs.Relies.{is_node}
+use Rattle.kernel_history.specs.Marking.{marked_by}
+use Rattle.kernel_history.specs.Trace.{Trace, Open, phase, state_after, last_left}
+use Rattle.kernel_history.specs.Trace as history
+use Rattle.kernel_history.proofs.Names.{cases_word, same_word-other}
+use Rattle.stage_quiet.specs.declared.close.Close.TheVariants.{AtCompare, AtDraw, AtStore}
+use Rattle.stage_tcap.specs.Heads.{marked}
+use Rattle.stage_tcap.specs.declared.pair.Pair.{Pair}
+use Rattle.stage_tcap.specs.declared.pair.PairAt.{PairAt}
+use Rattle.stage_tcap.specs.declared.pair.PairAt.TheVariants as pair
+use Rattle.stage_thread.specs.declared.claim.Claim.TheVariants as claim
+use Rattle.act_states.specs.declared.comps.CompAt.{CompAt}
+use Rattle.act_states.specs.declared.comps.CompAt.TheVariants as comp_at
+use Rattle.act_states.specs.declared.comps.CompMaking.{CompMaking}
+use Rattle.act_states.specs.declared.kills.KillingAt.{KillingAt}
+use Rattle.act_states.specs.declared.kills.KillingAt.TheVariants.{LoadComp, LoadLive, Close as kill_close, Draw as kill_draw}
+use Rattle.act_states.specs.declared.makings.MakingAt.{MakingAt}
+use Rattle.act_states.specs.declared.makings.MakingAt.TheVariants.{Load as making_load, Mark, Store, Fill as making_fill}
+use Rattle.act_states.specs.declared.switches.Switching.{Switching}
+use Rattle.act_states.specs.declared.switches.SwitchAt.{SwitchAt}
+use Rattle.act_states.specs.declared.switches.SwitchAt.TheVariants as switch
+use Rattle.act_states.specs.declared.untypings.UntypingAt.{UntypingAt}
+use Rattle.act_states.specs.declared.untypings.UntypingAt.TheVariants as untype
+use Rattle.act_states.specs.Untypings.{release_of}
+use Rattle.act_states.specs.declared.work.Act.{Act as ActOf}
+use Rattle.act_states.specs.declared.work.Act.TheVariants.{Fill as fill_act, Remove as remove_act, Retype as type_act, Make as make_act, Outside, Tick as tick_act, Touch as touch_act, Flush as flush_act, Kill as kill_act, Untype as untype_act, Map as map_act, MakeComp as comp_act, Invoke as invoke_act, Return as return_act, Share as share_act, Switch as switch_act}
+use Rattle.act_states.specs.declared.work.Work.{Work}
+use Rattle.act_states.specs.declared.work.Work.TheVariants.{Lookup, Read, Scan, Acquire, Act}
+use Rattle.call_stages.specs.declared.stages.Stage.{Stage}
+use Rattle.call_stages.specs.declared.stages.Stage.TheVariants.{Enter, Undecided, Decided, Leave}
+use Rattle.call_stages.specs.declared.stages.ActiveCall.{ActiveCall}
+use Rattle.call_stages.specs.View.{Core}
+use Rattle.stage_sweep.specs.Freeze.{swept_of}
+use Rattle.core_invariant.specs.Frozen.{holds_untyping}
+use Rattle.core_invariant.specs.Holding.{Holding, nothing, keeps, holds_counts}
+use Rattle.core_invariant.specs.Threads.{holds_switching, claimed_by}
+use Rattle.core_invariant.specs.Words.{HeadIs, count_room}
+use Rattle.core_invariant.specs.Knows.{KnowsAct, KnowsWork, KnowsAt, CallIs, phase_at}
+use Rattle.core_invariant.specs.Shares.{HasMarkedA, KnowsPairAt}
+use Rattle.core_invariant.specs.Stands.{holds_act, holds_making, holds_killing, holds_comp, holds_share, holds_head, holds_work, holds_at, holds_in, holds, held_by, Stands}
+use Rattle.kept_knowledge.proofs.Carries.{slot_relies}
+use Rattle.core_invariant.proofs.Freezing.{release_entry}
+use Rattle.lent_words.proofs.Tcaps.{is_tcap}
+use Rattle.pair_invariant.proofs.ShareSteps.{marked_says}
+use Rattle.thread_invariant.proofs.EntryMarks.{counts_apart, holder_below}
+use Rattle.thread_invariant.proofs.OwnStack.{own_thread}
+use Rattle.flight.specs.Made.{cores_after}
+use Rattle.flight_laws.specs.Time.{ShowsMarked, OpenHeadsSay}
+use Rattle.flight.proofs.Made.{made_stands}
+
+pub node_no_tcap : (x : Frame) → IsTrue (is_node x) → is_tcap x ≡ false
+node_no_tcap (Kernel Table) node = refl
+node_no_tcap (Kernel Leaf) node = refl
+node_no_tcap (Kernel Pages) node = refl
+node_no_tcap (Kernel Pleaf) node = refl
+node_no_tcap _ node = absurd (false≢true node)
+
+pub thread_no_tcap : (x : Frame) → IsTrue (fits kind.Thread x) → is_tcap x ≡ false
+thread_no_tcap (Kernel (Thread k)) fit = refl
+thread_no_tcap _ fit = absurd (false≢true fit)
+
+pub same_frame : (f i g j : ℕ) → EntryAt f i ≡ EntryAt g j → f ≡ g
+same_frame f i g j h = cc
+
+-- The word is a head with the core's mark, and stands for that head without it.
+record IsMarkedHead (setup : Setting) (t : Trace) (f d : ℕ) (h : Holding) : Type 0 where
+  head : HeadWord
+  raw : last_left setup t (EntryAt f 0) ≡ word_of_head (marked d head)
+  fits : HeadFits head
+  stands : h.stands (EntryAt f 0) ≡ word_of_head head
+
+module _ (setup : Setting) (setting : IsSetting setup) (cores : ℕ → Core) (t : Trace) (stands : Stands setup cores t) (f d : ℕ)
+    (tcap : IsTrue (is_tcap ((state_after setup t).frame f))) (below : d < setup.cores) where
+  abbrev s : State
+  s = state_after setup t
+
+  abbrev IsFree : Holding → Type 0
+  IsFree h = h.marks (EntryAt f 0) ≡ false
+
+  abbrev Tells : Holding → Type 0
+  Tells h = h.marks (EntryAt f 0) ≡ true → IsMarkedHead setup t f d h
+
+  none : (h : Holding) → IsFree h → Tells h
+  none h free is = absurd (false≢true (sym free ∙ is))
+
+  -- an entry of a frame that has no temporal capability
+  beside : (h : Holding) (g j x : ℕ) → IsFree h → is_tcap (s.frame g) ≡ false → IsFree (keeps (EntryAt g j) x h)
+  beside h g j x free not = elim (cases_word (EntryAt f 0) (EntryAt g j)) [
+    | inl same ↦ absurd (false≢true (sym not ∙ ap (λ (n : ℕ). is_tcap (s.frame n)) (sym (same_frame f 0 g j same)) ∙ tcap))
+    | inr other ↦ ap (λ b. if b then true else h.marks (EntryAt f 0)) (same_word-other (EntryAt f 0) (EntryAt g j) other) ∙ free
+  ]
+
+  -- the head of the first of two temporal capabilities
+  first : (p : Pair) (n : ℕ) (h : Holding) → HasMarkedA setup t p n → p.core ≡ d → IsFree h → Tells (holds_head p false h)
+  first p n h has core free is = elim (cases_word (EntryAt f 0) (EntryAt p.a 0)) [
+    | inl same ↦ record {
+      head = p.head_a;
+      raw = ap (last_left setup t) same ∙ has.raw ∙ ap (λ (c : ℕ). word_of_head (marked c p.head_a)) core;
+      fits = has.fits;
+      stands = ap (λ w. (holds_head p false h).stands w) same
+          ∙ ap (λ b. if b then word_of_head p.head_a else h.stands (EntryAt p.a 0)) (same_same (EntryAt p.a 0));
+    }
+    | inr other ↦ absurd (false≢true (sym (ap (λ b. if b then true else h.marks (EntryAt f 0))
+        (same_word-other (EntryAt f 0) (EntryAt p.a 0) other) ∙ free) ∙ is))
+  ]
+
+  shares : (p : Pair) (at : PairAt) (h : Holding) → KnowsPairAt setup t d p at → p.core ≡ d → IsFree h → Tells (holds_share p at h)
+  shares p pair.LoadA h has core free = none h free
+  shares p pair.MarkA h has core free = none h free
+  shares p (pair.ListA zero) h has core free = absurd has
+  shares p (pair.ListA (suc n)) h has core free = first p n h has.0 core free
+  shares p pair.LoadB h has core free = first p 8 h has.0 core free
+  shares p (pair.ListB zero) h has core free = absurd has
+  shares p (pair.ListB (suc n)) h has core free = first p 8 h has.0 core free
+  shares p pair.CompareB h has core free = first p 8 h has.a core free
+  shares p (pair.AgainB r) h has core free = first p 8 h has.a core free
+  shares p (pair.StoreList n) h has core free = absurd has
+  shares p pair.StoreB h has core free = absurd has
+  shares p (pair.StoreA moved v) h has core free = absurd has
+
+  switching : (m : Switching) (at : SwitchAt) (h : Holding) → is_tcap (s.frame m.old) ≡ false → is_tcap (s.frame (claimed_by at)) ≡ false
+      → IsFree h → IsFree (holds_switching m at h)
+  switching m (switch.Claim (claim.AtLoad g core)) h own other free = free
+  switching m (switch.Claim (claim.AtCompare g core depth)) h own other free = free
+  switching m (switch.Claim (claim.AtStack g depth)) h own other free = beside h g 0 0 free other
+  switching m (switch.LoadTable to) h own other free = beside h to.thread 0 0 free other
+  switching m (switch.LoadPages to table) h own other free = beside h to.thread 0 0 free other
+  switching m (switch.Leave to table pages) h own other free = beside h to.thread 0 0 free other
+  switching m (switch.Draw to table pages) h own other free =
+      beside (keeps (EntryAt m.old 0) 0 h) to.thread 0 0 (beside h m.old 0 0 free own) other
+
+  making : (g : ℕ) (at : MakingAt) (h : Holding) → (holds_making g at h).marks (EntryAt f 0) ≡ h.marks (EntryAt f 0)
+  making g making_load h = refl
+  making g (Mark word) h = refl
+  making g (Store word entry) h = refl
+  making g (making_fill word) h = refl
+
+  killing : (at : KillingAt) (h : Holding) → (holds_killing at h).marks (EntryAt f 0) ≡ h.marks (EntryAt f 0)
+  killing LoadComp h = refl
+  killing (LoadLive life) h = refl
+  killing (kill_close life word) h = refl
+  killing (kill_draw life word) h = refl
+
+  comp : (m : CompMaking) (at : CompAt) (h : Holding) → (holds_comp m at h).marks (EntryAt f 0) ≡ h.marks (EntryAt f 0)
+  comp m comp_at.Load h = refl
+  comp m (comp_at.Mark word) h = refl
+  comp m (comp_at.LoadLive word) h = refl
+  comp m (comp_at.Scan word last q) h = refl
+  comp m (comp_at.Close word last) h = refl
+  comp m (comp_at.Store word last entry) h = refl
+  comp m (comp_at.Fill word last) h = refl
+
+  untyping : (g : ℕ) (at : UntypingAt) (h : Holding) → (holds_untyping g at h).marks (EntryAt f 0) ≡ h.marks (EntryAt f 0)
+  untyping g untype.Load h = refl
+  untyping g (untype.Mark word v) h = refl
+  untyping g (untype.Sweep word w) h = (release_entry (release_of g word (swept_of w) false) h f 0).0
+  untyping g (untype.Draw word w) h = (release_entry (release_of g word w false) h f 0).0
+
+  own_no_tcap : (g : ℕ) → g ≡ (s.core d).thread → is_tcap (s.frame g) ≡ false
+  own_no_tcap g own = ap (λ (n : ℕ). is_tcap (s.frame n)) own ∙ ap is_tcap (own_thread setup setting t stands.legal d below)
+
+  module _ (a : ActiveCall) where
+    by_act : (act : ActOf) (h : Holding) → phase t d ≡ Open a.call → KnowsAct setup t d a.call a.plan a.found setup.cores act
+        → IsFree h → Tells (holds_act act h)
+    by_act (fill_act fill) h opens has free = none h free
+    by_act (remove_act (AtCompare n index word by) cap) h opens has free = none h free
+    by_act (remove_act (AtDraw n index) cap) h opens has free = none (holds_act (remove_act (AtDraw n index) cap) h)
+        (beside h n index 0 free (node_no_tcap (s.frame n)
+        (slot_relies setup setting t stands.legal d a.call opens has.target (record { node = n; index = index }) has.way).node))
+    by_act (remove_act (AtStore n index x) cap) h opens has free = none h free
+    by_act (type_act typing) h opens has free = none h free
+    by_act (make_act m) h opens has free = none (holds_making m.frame m.at h) (making m.frame m.at h ∙ free)
+    by_act (map_act fill) h opens has free = none h free
+    by_act (Outside n entry word) h opens has free = none h free
+    by_act (tick_act charge) h opens has free = none h free
+    by_act (touch_act m) h opens has free = none h free
+    by_act (flush_act by) h opens has free = none h free
+    by_act (kill_act m) h opens has free = none (holds_killing m.at h) (killing m.at h ∙ free)
+    by_act (untype_act m) h opens has free = none (holds_untyping m.frame m.at h) (untyping m.frame m.at h ∙ free)
+    by_act (comp_act m) h opens has free = none (holds_comp m m.at h) (comp m m.at h ∙ free)
+    by_act (invoke_act m) h opens has free = none h free
+    by_act (return_act m) h opens has free = none h free
+    by_act (share_act p) h opens has free = shares p p.at h has.at has.core free
+    by_act (switch_act m) h opens has free = none (holds_switching m m.at h) (switching m m.at h (own_no_tcap m.old has.leaves.thread)
+        (thread_no_tcap (s.frame (claimed_by m.at)) has.thread.thread) free)
+
+    by_work : (table : ℕ) (work : Work) → phase t d ≡ Open a.call → KnowsWork setup t d table a work
+        → Tells (holds_work work (holds_counts None a.counts))
+    by_work table (Lookup look) opens has = none (holds_counts None a.counts) (counts_apart None a.counts f 0)
+    by_work table (Read c look) opens has = none (holds_counts None a.counts) (counts_apart None a.counts f 0)
+    by_work table (Scan q act) opens has = none (holds_counts None a.counts) (counts_apart None a.counts f 0)
+    by_work table (Acquire pin change act) opens has =
+        by_act act (holds_counts None a.counts) opens has.knows (counts_apart None a.counts f 0)
+    by_work table (Act act) opens has = by_act act (holds_counts None a.counts) opens has.knows (counts_apart None a.counts f 0)
+
+    by_stage : (call : Call) (table : ℕ) (stage : Stage) → phase t d ≡ Open call → phase t d ≡ phase_at a.call stage
+        → KnowsAt setup t d table a stage → Tells (holds_at stage a.counts)
+    by_stage call table Enter undecided at knows = absurd knows
+    by_stage call table (Undecided work) undecided at knows = by_work table work at knows.knows
+    by_stage call table (Decided r drawn tail) undecided at knows = absurd (unlike (sym undecided ∙ at))
+      where
+        unlike : Open call ≡ history.Decided a.call r → ⊥
+        unlike h = cc
+    by_stage call table (Leave r x) undecided at knows = none (holds_counts None a.counts) (counts_apart None a.counts f 0)
+
+  by_call : (call : Call) (table : ℕ) (o : Option ActiveCall) → phase t d ≡ Open call → CallIs setup t d table o → Tells (holds_in o)
+  by_call call table None undecided at = none nothing refl
+  by_call call table (Some a) undecided at = by_stage a call table a.stage undecided at.phase at.knows
+
+pub open_heads_say : OpenHeadsSay
+open_heads_say setup setting t made f q d call is mark undecided = record {
+  version = told.head.version;
+  says = ap head_of_word told.raw ∙ spelling.reads (marked d told.head) fits
+      ∙ ap (λ (b : ℕ). Some (record { budget = b; mark = Some d; version = told.head.version })) budget;
+}
+  where
+    stands : Stands setup (cores_after setup t) t
+    stands = made_stands setup setting t made
+
+    below : d < setup.cores
+    below = holder_below setup setting (cores_after setup t) t stands d f 0 mark
+
+    told : IsMarkedHead setup t f d (holds (cores_after setup t d))
+    told = by_call setup setting (cores_after setup t) t stands f d (subst (λ x. IsTrue (is_tcap x)) (sym is) refl) below call
+        (cores_after setup t d).own.table (cores_after setup t d).active undecided (stands.each d below).active
+        ((stands.marks (EntryAt f 0) d).owned mark)
+
+    fits : HeadFits (marked d told.head)
+    fits = (told.fits.0, (let most = setting.most_cores in omega (arith, most, below)), told.fits.2)
+
+    same_head : (v u : HeadWord) → Some v ≡ Some u → v ≡ u
+    same_head v u h = cc
+
+    says : HeadIs q (count_room (state_after setup t)) (Some told.head)
+    says = subst (HeadIs q (count_room (state_after setup t))) (ap head_of_word told.stands ∙ spelling.reads told.head told.fits)
+        (marked_says setup setting (cores_after setup t) t stands f q is d mark)
+
+    budget : told.head.budget ≡ q.budget
+    budget = ap (λ v. v.budget) (same_head _ _ says.says)

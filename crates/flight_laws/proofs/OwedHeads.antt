@@ -1,0 +1,249 @@
+-- What the head of a temporal capability shows that a core has marked in a call that is decided: the mark, and the budget but for the ticks
+-- that the call has still to store there.
+use Rattle.std.proofs.Common.{◌≡◌, ◌⊎◌, inl, inr, ℕ, ◌+◌, ◌<◌, ◌^◌, Bool, true, false, if◌then◌else◌, List, [], ◌∷◌, Option, Some, None, IsTrue, arith, refl, sym, ◌∙◌, ap, subst}
+use Rattle.std.proofs.lemmas.Bool.{false≢true}
+use Rattle.word_map.proofs.WordLemmas.{same_same}
+use Rattle.spk_nums.specs.Setting.{Setting, IsSetting}
+use Rattle.spk_nums.specs.declared.kinds.Kind.TheVariants as kind
+use Rattle.spk_nums.specs.declared.calls.Call.{Call}
+use Rattle.spk_nums.specs.declared.replies.Reply.{Reply}
+use Rattle.tcap_words.specs.Head.{HeadFits, word_of_head, head_of_word}
+use Rattle.tcap_words.specs.declared.head_word.HeadWord.{HeadWord}
+use Rattle.tcap_words.proofs.HeadLemmas.{spelling}
+use Rattle.word_map.specs.Word.{Word, EntryAt, FrameAt}
+use Rattle.kernel_rules.specs.State.{Frame, Kernel, Table, Leaf, Pages, Pleaf, Thread, Tcap, TcapFields, State}
+use Rattle.kernel_rules.specs.Fitting.{fits}
+use Rattle.kernel_rules.specs.Relies.{is_node}
+use Rattle.kernel_history.specs.Discipline.{changes_budgets}
+use Rattle.kernel_history.specs.Marking.{marked_by}
+use Rattle.kernel_history.specs.Trace.{Trace, Phase, phase, state_after, last_left}
+use Rattle.kernel_history.specs.Trace as history
+use Rattle.kernel_history.proofs.Names.{cases_word, same_word-other}
+use Rattle.stage_quiet.specs.declared.close.Close.TheVariants.{AtCompare, AtDraw, AtStore}
+use Rattle.stage_tcap.specs.Heads.{marked, debited, credited}
+use Rattle.stage_tcap.specs.Pairs.{amount_of, left_a}
+use Rattle.stage_tcap.specs.declared.pair.Pair.{Pair}
+use Rattle.stage_tcap.specs.declared.pair.PairAt.{PairAt}
+use Rattle.stage_tcap.specs.declared.pair.PairAt.TheVariants as pair
+use Rattle.stage_thread.specs.declared.stack.Push.TheVariants as push
+use Rattle.stage_thread.specs.declared.stack.Pop.TheVariants as pop
+use Rattle.act_states.specs.declared.work.Tail.{Tail}
+use Rattle.act_states.specs.declared.work.Tail.TheVariants.{Nothing, Quiesce, Unmark, StoreDead, StoreFlush, Release, StoreLive, Push, Pop, Share, StoreRunning, StoreIdle}
+use Rattle.call_stages.specs.declared.stages.Stage.{Stage}
+use Rattle.call_stages.specs.declared.stages.Stage.TheVariants.{Enter, Undecided, Decided, Leave}
+use Rattle.call_stages.specs.declared.stages.ActiveCall.{ActiveCall}
+use Rattle.call_stages.specs.View.{Core}
+use Rattle.core_invariant.specs.Frozen.{holds_release}
+use Rattle.core_invariant.specs.Holding.{Holding, nothing, keeps, holds_counts}
+use Rattle.core_invariant.specs.Threads.{holds_idle}
+use Rattle.core_invariant.specs.Words.{HeadIs, count_room}
+use Rattle.core_invariant.specs.Knows.{KnowsTail, KnowsAt, CallIs, phase_at}
+use Rattle.core_invariant.specs.Shares.{StoresA, StoresB, KnowsStoresAt}
+use Rattle.core_invariant.specs.Stands.{holds_head, holds_heads, holds_shared, holds_tail, is_done, holds_at, holds_in, holds, Stands}
+use Rattle.core_invariant.proofs.Freezing.{release_entry}
+use Rattle.lent_words.proofs.Tcaps.{is_tcap}
+use Rattle.pair_invariant.proofs.ShareSteps.{marked_says}
+use Rattle.thread_invariant.proofs.EntryMarks.{counts_apart, holder_below}
+use Rattle.thread_invariant.proofs.OwnStack.{own_thread}
+use Rattle.flight.specs.Made.{IsMade, cores_after}
+use Rattle.flight_laws.specs.Time.{ShowsMarked, Owes, ShowsOwed, state_of_decision, MarkedHeadsSay}
+use Rattle.flight.proofs.Made.{made_stands}
+use Rattle.flight_laws.proofs.MarkedHeads.{node_no_tcap, thread_no_tcap, same_frame}
+use Rattle.flight_laws.proofs.ShareTails.{OwesFirst, OwesAt, OwesTail, OwesStage, OwesIn}
+use Rattle.flight_laws.proofs.OwedTails.{made_owes}
+
+-- The word is a head with the core's mark, and stands for another that the core has still to store, which owes this.
+record IsOwedHead (setup : Setting) (t : Trace) (s : State) (r : Reply) (call : Call) (f d : ℕ) (h : Holding) : Type 0 where
+  head : HeadWord
+  left : HeadWord
+  raw : last_left setup t (EntryAt f 0) ≡ word_of_head (marked d head)
+  fits : HeadFits head
+  stands : h.stands (EntryAt f 0) ≡ word_of_head left
+  left_fits : HeadFits left
+  owes : Owes s d r call f head.budget left.budget
+
+module _ (setup : Setting) (setting : IsSetting setup) (cores : ℕ → Core) (t : Trace) (stands : Stands setup cores t) (f d : ℕ)
+    (tcap : IsTrue (is_tcap ((state_after setup t).frame f))) (below : d < setup.cores) (decided_in : State) where
+  abbrev s : State
+  s = state_after setup t
+
+  abbrev IsFree : Holding → Type 0
+  IsFree h = h.marks (EntryAt f 0) ≡ false
+
+  abbrev Tells : Reply → Call → Holding → Type 0
+  Tells r call h = h.marks (EntryAt f 0) ≡ true → IsOwedHead setup t decided_in r call f d h
+
+  none : (r : Reply) (call : Call) (h : Holding) → IsFree h → Tells r call h
+  none r call h free is = absurd (false≢true (sym free ∙ is))
+
+  -- an entry of a frame that has no temporal capability
+  beside : (h : Holding) (g j x : ℕ) → IsFree h → is_tcap (s.frame g) ≡ false → IsFree (keeps (EntryAt g j) x h)
+  beside h g j x free not = elim (cases_word (EntryAt f 0) (EntryAt g j)) [
+    | inl same ↦ absurd (false≢true (sym not ∙ ap (λ (n : ℕ). is_tcap (s.frame n)) (sym (same_frame f 0 g j same)) ∙ tcap))
+    | inr other ↦ ap (λ b. if b then true else h.marks (EntryAt f 0)) (same_word-other (EntryAt f 0) (EntryAt g j) other) ∙ free
+  ]
+
+  -- a head that stands for another
+  head_at : (r : Reply) (call : Call) (g core : ℕ) (old new : HeadWord) (h : Holding) → core ≡ d
+      → last_left setup t (EntryAt g 0) ≡ word_of_head (marked core old) → HeadFits old → HeadFits new
+      → Owes decided_in d r call g old.budget new.budget → Tells r call h → Tells r call (keeps (EntryAt g 0) (word_of_head new) h)
+  head_at r call g core old new h own raw old_fits new_fits owes rest is = elim (cases_word (EntryAt f 0) (EntryAt g 0)) [
+    | inl same ↦ record {
+      head = old;
+      left = new;
+      raw = ap (last_left setup t) same ∙ raw ∙ ap (λ (c : ℕ). word_of_head (marked c old)) own;
+      fits = old_fits;
+      stands = ap (λ w. (keeps (EntryAt g 0) (word_of_head new) h).stands w) same
+          ∙ ap (λ b. if b then word_of_head new else h.stands (EntryAt g 0)) (same_same (EntryAt g 0));
+      left_fits = new_fits;
+      owes = subst (λ (n : ℕ). Owes decided_in d r call n old.budget new.budget) (sym (same_frame f 0 g 0 same)) owes;
+    }
+    | inr other ↦
+        (let apart = same_word-other (EntryAt f 0) (EntryAt g 0) other in
+        let told = rest (sym (ap (λ b. if b then true else h.marks (EntryAt f 0)) apart) ∙ is) in
+        record {
+          head = told.head;
+          left = told.left;
+          raw = told.raw;
+          fits = told.fits;
+          stands = ap (λ b. if b then word_of_head new else h.stands (EntryAt f 0)) apart ∙ told.stands;
+          left_fits = told.left_fits;
+          owes = told.owes;
+        })
+  ]
+
+  debited_fits : (h : HeadWord) (ticks : ℕ) → HeadFits h → HeadFits (debited h ticks)
+  debited_fits h ticks has = (let low = has.0 in omega (arith, low), tt, omega arith)
+
+  credited_fits : (h : HeadWord) (ticks : ℕ) → HeadFits (credited h ticks)
+  credited_fits h ticks = (omega arith, tt, omega arith)
+
+  -- the head of the first, which is less the ticks or as it was found
+  first_less : (r : Reply) (call : Call) (p : Pair) (h : Holding) → StoresA setup t p → p.core ≡ d → OwesFirst decided_in d r call p
+      → IsFree h → Tells r call (holds_head p true h)
+  first_less r call p h has core owes free =
+      head_at r call p.a p.core p.head_a (debited p.head_a (amount_of p.what)) h core has.raw has.fits
+      (debited_fits p.head_a (amount_of p.what) has.fits) owes (none r call h free)
+
+  first_same : (r : Reply) (call : Call) (p : Pair) (h : Holding) → StoresA setup t p → p.core ≡ d
+      → ((g shown : ℕ) → Owes decided_in d r call g shown shown) → IsFree h → Tells r call (holds_head p false h)
+  first_same r call p h has core owes free =
+      head_at r call p.a p.core p.head_a p.head_a h core has.raw has.fits has.fits (owes p.a p.head_a.budget) (none r call h free)
+
+  -- the heads of both
+  both : (r : Reply) (call : Call) (p : Pair) (h : Holding) → StoresB setup t d call p → p.core ≡ d
+      → OwesAt decided_in d r call p pair.StoreB → IsFree h → Tells r call (holds_heads p h)
+  both r call p h has core owes free =
+      head_at r call p.b p.core p.head_b (credited p.head_b (amount_of p.what)) (holds_head p true h) core has.raw has.fits
+      (credited_fits p.head_b (amount_of p.what)) owes.1 (first_less r call p h has.a core owes.0 free)
+
+  shared : (r : Reply) (call : Call) (p : Pair) (at : PairAt) (h : Holding) → KnowsStoresAt setup t d call p at → p.core ≡ d
+      → OwesAt decided_in d r call p at → IsFree h → Tells r call (holds_shared p at h)
+  shared r call p pair.LoadA h has core owes free = absurd has
+  shared r call p pair.MarkA h has core owes free = absurd has
+  shared r call p (pair.ListA n) h has core owes free = absurd has
+  shared r call p pair.LoadB h has core owes free = absurd has
+  shared r call p (pair.ListB n) h has core owes free = absurd has
+  shared r call p pair.CompareB h has core owes free = absurd has
+  shared r call p (pair.AgainB x) h has core owes free = absurd has
+  shared r call p (pair.StoreList n) h has core owes free is =
+      let told = both r call p h has.2 core owes free is in
+      record {
+        head = told.head;
+        left = told.left;
+        raw = told.raw;
+        fits = told.fits;
+        stands = told.stands;
+        left_fits = told.left_fits;
+        owes = told.owes;
+      }
+  shared r call p pair.StoreB h has core owes free = both r call p h has core owes free
+  shared r call p (pair.StoreA true v) h has core owes free = first_less r call p h has core owes free
+  shared r call p (pair.StoreA false v) h has core owes free = first_same r call p h has core owes free
+
+  own_no_tcap : (g : ℕ) → g ≡ (s.core d).thread → is_tcap (s.frame g) ≡ false
+  own_no_tcap g own = ap (λ (n : ℕ). is_tcap (s.frame n)) own ∙ ap is_tcap (own_thread setup setting t stands.legal d below)
+
+  module _ (a : ActiveCall) where
+    by_tail : (r : Reply) (tail : Tail) (h : Holding) → KnowsTail setup t d a.call a.counts tail
+        → (changes_budgets a.call ≡ true → OwesTail decided_in d r a.call tail) → IsFree h → Tells r a.call (holds_tail tail h)
+    by_tail r Nothing h has owes free = none r a.call h free
+    by_tail r (Quiesce (AtCompare n index word by)) h has owes free = absurd has
+    by_tail r (Quiesce (AtDraw n index)) h has owes free = absurd has
+    by_tail r (Quiesce (AtStore n index x)) h has owes free =
+        none r a.call (holds_tail (Quiesce (AtStore n index x)) h) (beside h n index 0 free (node_no_tcap (s.frame n) has.relies.node))
+    by_tail r (Unmark g word) h has owes free = none r a.call (keeps (FrameAt g) word h) free
+    by_tail r (StoreDead life x) h has owes free = none r a.call (holds_tail (StoreDead life x) h) free
+    by_tail r (StoreFlush by x) h has owes free = none r a.call (holds_tail (StoreFlush by x) h) free
+    by_tail r (Release x) h has owes free = none r a.call (holds_release x h) ((release_entry x h f 0).0 ∙ free)
+    by_tail r (StoreLive l live g word) h has owes free = none r a.call (holds_tail (StoreLive l live g word) h) free
+    by_tail r (Push (push.AtStack g core depth c)) h has owes free = none r a.call (holds_tail (Push (push.AtStack g core depth c)) h) free
+    by_tail r (Push (push.AtThread g core depth)) h has owes free = none r a.call (holds_tail (Push (push.AtThread g core depth)) h) free
+    by_tail r (Pop (pop.AtThread g core depth)) h has owes free = none r a.call (holds_tail (Pop (pop.AtThread g core depth)) h) free
+    by_tail r (Pop (pop.AtStack g depth)) h has owes free = none r a.call (holds_tail (Pop (pop.AtStack g depth)) h) free
+    by_tail r (Share p) h has owes free = shared r a.call p p.at h has.at has.core (owes has.budgets) free
+    by_tail r (StoreRunning g core depth old old_depth) h has owes free =
+        none r a.call (holds_tail (StoreRunning g core depth old old_depth) h)
+        (beside (holds_idle old old_depth h) g 0 0 (beside h old 0 0 free (thread_no_tcap (s.frame old) has.rest.thread.thread))
+        (own_no_tcap g has.own))
+    by_tail r (StoreIdle g depth) h has owes free =
+        none r a.call (holds_idle g depth h) (beside h g 0 0 free (thread_no_tcap (s.frame g) has.thread.thread))
+
+    by_stage : (call : Call) (r : Reply) (table : ℕ) (stage : Stage) → phase t d ≡ history.Decided call r
+        → phase t d ≡ phase_at a.call stage → KnowsAt setup t d table a stage
+        → (changes_budgets a.call ≡ true → OwesStage decided_in d a.call stage)
+        → Tells r call (holds_at stage a.counts)
+    by_stage call r table Enter is at knows owes = absurd knows
+    by_stage call r table (Undecided work) is at knows owes = absurd (unlike (sym is ∙ at))
+      where
+        unlike : history.Decided call r ≡ history.Open a.call → ⊥
+        unlike h = cc
+    by_stage call r table (Decided x drawn tail) is at knows owes =
+        subst (λ (k : Call). Tells r k (holds_at (Decided x drawn tail) a.counts)) (same_call (sym at ∙ is))
+        (subst (λ (y : Reply). Tells y a.call (holds_at (Decided x drawn tail) a.counts)) (same_reply (sym at ∙ is))
+        (by_tail x tail (holds_counts (is_done (Decided x drawn tail)) a.counts) knows owes
+        (counts_apart (is_done (Decided x drawn tail)) a.counts f 0)))
+      where
+        same_call : history.Decided a.call x ≡ history.Decided call r → a.call ≡ call
+        same_call h = cc
+
+        same_reply : history.Decided a.call x ≡ history.Decided call r → x ≡ r
+        same_reply h = cc
+    by_stage call r table (Leave x n) is at knows owes =
+        none r call (holds_counts None a.counts) (counts_apart None a.counts f 0)
+
+  by_call : (call : Call) (r : Reply) (table : ℕ) (o : Option ActiveCall) → phase t d ≡ history.Decided call r → CallIs setup t d table o
+      → OwesIn decided_in d o → Tells r call (holds_in o)
+  by_call call r table None is at owes = none r call nothing refl
+  by_call call r table (Some a) is at owes = by_stage a call r table a.stage is at.phase at.knows owes
+
+pub marked_heads_say : MarkedHeadsSay
+marked_heads_say setup setting t made f q d call r is mark decided = record {
+  shown = told.head.budget;
+  shows = record { version = told.head.version; says = ap head_of_word told.raw ∙ spelling.reads (marked d told.head) fits };
+  owes = subst (λ (n : ℕ). Owes (state_of_decision setup t d) d r call f told.head.budget n) budget told.owes;
+}
+  where
+    stands : Stands setup (cores_after setup t) t
+    stands = made_stands setup setting t made
+
+    below : d < setup.cores
+    below = holder_below setup setting (cores_after setup t) t stands d f 0 mark
+
+    told : IsOwedHead setup t (state_of_decision setup t d) r call f d (holds (cores_after setup t d))
+    told = by_call setup setting (cores_after setup t) t stands f d (subst (λ x. IsTrue (is_tcap x)) (sym is) refl) below
+        (state_of_decision setup t d) call r (cores_after setup t d).own.table (cores_after setup t d).active decided
+        (stands.each d below).active (made_owes setup setting t made d) ((stands.marks (EntryAt f 0) d).owned mark)
+
+    fits : HeadFits (marked d told.head)
+    fits = (told.fits.0, (let most = setting.most_cores in omega (arith, most, below)), told.fits.2)
+
+    same_head : (v u : HeadWord) → Some v ≡ Some u → v ≡ u
+    same_head v u h = cc
+
+    says : HeadIs q (count_room (state_after setup t)) (Some told.left)
+    says = subst (HeadIs q (count_room (state_after setup t))) (ap head_of_word told.stands ∙ spelling.reads told.left told.left_fits)
+        (marked_says setup setting (cores_after setup t) t stands f q is d mark)
+
+    budget : told.left.budget ≡ q.budget
+    budget = ap (λ v. v.budget) (same_head _ _ says.says)

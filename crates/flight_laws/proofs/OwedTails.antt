@@ -1,0 +1,479 @@
+-- What the heads owe that a decided call on two temporal capabilities has marked, along a trace that is the machine's: its deciding step
+-- tells it, and each store after it leaves it so.
+use Rattle.std.proofs.Common.{◌≡◌, ◌≢◌, inl, inr, ℕ, zero, suc, ◌+◌, ◌-◌, ◌<◌, ◌≤◌, ◌^◌, ◌==◌, ◌&&◌, nat_lt, Bool, true, false, if◌then◌else◌, List, [], ◌∷◌, length, Option, Some, None, arith, refl, sym, ◌∙◌, ap, subst}
+use Rattle.std.specs.Prelude.{min, is_some, IsSome}
+use Rattle.std.proofs.lemmas.Bool.{false≢true, cases_eq, eq-eqb, ne_eqb}
+use Rattle.spk_nums.specs.Setting.{Setting, IsSetting}
+use Rattle.spk_nums.specs.Capability.{Capability}
+use Rattle.spk_nums.specs.declared.calls.Call.{Call}
+use Rattle.spk_nums.specs.declared.calls.Call.TheVariants as call_as
+use Rattle.spk_nums.specs.declared.kinds.Kind.TheVariants as kind
+use Rattle.spk_nums.specs.declared.kinds.FrameKind.TheVariants.{Untyped}
+use Rattle.spk_nums.specs.declared.calls.Make.TheVariants as make
+use Rattle.spk_nums.specs.declared.replies.Reply.{Reply}
+use Rattle.spk_nums.specs.declared.replies.Reply.TheVariants as reply
+use Rattle.spk_nums.specs.declared.replies.Value.{Value}
+use Rattle.spk_nums.specs.declared.replies.Value.TheVariants as value
+use Rattle.spk_nums.specs.declared.steps.StageEnd.{StageEnd}
+use Rattle.spk_nums.specs.declared.steps.StageEnd.TheVariants as ends
+use Rattle.tcap_words.specs.Head.{word_of_head, head_of_word}
+use Rattle.tcap_words.specs.Quality.{quality_of_word}
+use Rattle.tcap_words.specs.declared.head_word.HeadWord.{HeadWord}
+use Rattle.tcap_words.specs.declared.quality_word.QualityWord.{QualityWord}
+use Rattle.word_map.specs.Word.{EntryAt}
+use Rattle.word_map.specs.Moves.{Move, word_of, told_of}
+use Rattle.kernel_rules.specs.Access.{only}
+use Rattle.kernel_rules.specs.Rules.{Found, named}
+use Rattle.kernel_rules.specs.State.{State, TcapFields}
+use Rattle.kernel_rules.proofs.Within.{put_same, put_other}
+use Rattle.kernel_history.specs.Discipline.{changes_budgets}
+use Rattle.kernel_history.specs.Trace.{Step, Trace, state_after, state_entered, state_before, last_left}
+use Rattle.stage_pins.specs.declared.pin.Pin.{Pin}
+use Rattle.stage_pins.specs.declared.pin.Pinned.{Pinned}
+use Rattle.stage_pins.specs.Acquire.{pin_after, pin_end}
+use Rattle.stage_look.specs.Shown.{shown_in}
+use Rattle.stage_look.specs.Lookup.{look_end, look_after}
+use Rattle.frame_words.specs.Comp.{comp_of_word}
+use Rattle.stage_quiet.specs.Scan.{quiet_after, quiet_end}
+use Rattle.stage_quiet.specs.declared.close.Close.TheVariants.{AtCompare, AtDraw, AtStore}
+use Rattle.stage_tcap.specs.Charging.{end_by_mark, head_end, charge_end, charge_after}
+use Rattle.stage_tcap.specs.Heads.{debited, credited}
+use Rattle.stage_tcap.specs.Lists.{in_order, same_list}
+use Rattle.stage_tcap.specs.Pairs.{amount_of, noted_by, pair_after, pair_end, pair_move, judged, by_alike, by_room, at_decided, compared_after, giving_back, at_by_mark, at_by_head, at_marked, at_read, b_next, a_next, marked_end, decided_by_mark, b_end, list_end, again_end, again_value}
+use Rattle.stage_tcap.specs.declared.pair.Pair.{Pair}
+use Rattle.stage_tcap.specs.declared.pair.PairAt.{PairAt}
+use Rattle.stage_tcap.specs.declared.pair.PairAt.TheVariants.{LoadA, MarkA, ListA, LoadB, ListB, CompareB, AgainB, StoreList, StoreB, StoreA}
+use Rattle.stage_tcap.specs.declared.pair.PairWork.{PairWork}
+use Rattle.stage_tcap.specs.declared.pair.PairWork.TheVariants as share
+use Rattle.stage_tcap.specs.declared.charge.Charge.{Charge}
+use Rattle.call_plans.specs.declared.plans.Plan.{Plan}
+use Rattle.call_plans.specs.After.{Leads, LeadsIn}
+use Rattle.call_plans.specs.PlanOf.{plan_for}
+use Rattle.act_states.specs.declared.comps.CompMaking.{CompMaking}
+use Rattle.act_states.specs.declared.invocations.Invoking.{Invoking}
+use Rattle.act_states.specs.declared.makings.Making.{Making}
+use Rattle.act_states.specs.declared.own.Own.{Own}
+use Rattle.act_states.specs.declared.refusals.Refusal.{Refusal}
+use Rattle.act_states.specs.declared.refusals.Refusal.TheVariants as refusal
+use Rattle.act_states.specs.declared.typings.Typing.{Typing}
+use Rattle.act_states.specs.declared.untypings.Untyping.{Untyping}
+use Rattle.act_states.specs.declared.work.Act.{Act as ActOf}
+use Rattle.act_states.specs.declared.work.Act.TheVariants.{Fill as fill_act, Remove as remove_act, Retype as type_act, Make as make_act, Outside, Tick as tick_act, Touch as touch_act, Flush as flush_act, Kill as kill_act, Untype as untype_act, Map as map_act, MakeComp as comp_act, Invoke as invoke_act, Return as return_act, Share as share_act, Switch as switch_act}
+use Rattle.act_states.specs.declared.work.Tail.{Tail}
+use Rattle.act_states.specs.declared.work.Tail.TheVariants.{Share as share_tail}
+use Rattle.act_states.specs.declared.work.Work.{Work}
+use Rattle.act_states.specs.declared.work.Work.TheVariants.{Lookup, Read, Scan, Acquire, Act}
+use Rattle.act_states.specs.declared.work.WorkStep.{WorkStep}
+use Rattle.act_states.specs.Acts.{took_act, put_by, removes_by, undo}
+use Rattle.act_states.specs.Refusals.{reply_of, refusal_of}
+use Rattle.act_states.specs.Shares.{shared, took_shared, took_share, is_carried}
+use Rattle.act_states.specs.Ticks.{took_charge, took_tick, ticks_of}
+use Rattle.call_stages.specs.declared.stages.Stage.{Stage}
+use Rattle.call_stages.specs.declared.stages.Stage.TheVariants.{Enter, Undecided, Decided, Leave}
+use Rattle.call_stages.specs.declared.stages.ActiveCall.{ActiveCall}
+use Rattle.call_stages.specs.Cores.{move_of, told_in, told_by, absorbed_in, fresh, core_after as after_took}
+use Rattle.call_stages.specs.Steps.{stage_move, Took, GoesOn, Decides, Returns, Changes, landed, took, took_at, took_count, took_scan, took_look, took_read, is_spent}
+use Rattle.call_stages.specs.Tails.{took_tail, tail_counts}
+use Rattle.call_stages.specs.View.{Core}
+use Rattle.core_invariant.specs.Events.{decided_in}
+use Rattle.core_invariant.specs.Knows.{KnowsAct, KnowsUndecided, KnowsAt, Knows, CallIs, TypesBy, MakesBy, OutsideBy, KillsBy, MakesCompBy, is_mapping}
+use Rattle.core_invariant.specs.Components.{InvokesBy}
+use Rattle.core_invariant.specs.Sweeps.{UntypesBy}
+use Rattle.core_invariant.specs.Threads.{SwitchesBy}
+use Rattle.core_invariant.specs.Shares.{SharesBy}
+use Rattle.core_invariant.specs.Stands.{Stands}
+use Rattle.step_ways.proofs.Loads.{is_active}
+use Rattle.share_invariant.proofs.Compared as compared
+use Rattle.pair_invariant.proofs.ShareCalls as calls
+use Rattle.pair_invariant.proofs.ShareSteps.{shares_same}
+use Rattle.flight.specs.Made.{turned, MayStep, core_after, cores_after, core_at, IsMadeStep, IsMade}
+use Rattle.flight.specs.Theorems.{found_by}
+use Rattle.flight_laws.specs.Time.{LeadsTo, Owes, state_of_decision}
+use Rattle.flight.proofs.Made.{made_stands, finds}
+use Rattle.flight_laws.proofs.ShareTails.{OwesAt, OwesStage, OwesIn, OwesTook, StoresNone, LeavesNone, tail_on, landed_none, enter_none, end_none, reading_none, scan_none}
+
+-- The acts of the calls that change budgets
+
+abbrev pub IsBudgetAct : ActOf → Type 0
+IsBudgetAct (tick_act charge) = Unit {0}
+IsBudgetAct (share_act p) = Unit {0}
+IsBudgetAct act = ⊥
+
+puts_none : (call : Call) (ks : List Capability) (read : Option ℕ) (k : Capability) → changes_budgets call ≡ true
+    → put_by call ks read ≡ Some k → ⊥
+puts_none (call_as.Tick n) ks read k budgets h = absurd (cc)
+puts_none (call_as.Transfer x y m) ks read k budgets h = absurd (cc)
+puts_none (call_as.Delegate x y m) ks read k budgets h = absurd (cc)
+puts_none (call_as.Test x y) ks read k budgets h = absurd (cc)
+puts_none call ks read k budgets h = false≢true budgets
+
+removes_none : (call : Call) → changes_budgets call ≡ true → removes_by call ≡ true → ⊥
+removes_none (call_as.Remove t b) budgets h = false≢true budgets
+removes_none (call_as.Shrink t i) budgets h = false≢true budgets
+removes_none (call_as.Unmap p v) budgets h = false≢true budgets
+removes_none call budgets h = false≢true h
+
+types_none : (call : Call) (ks : List Capability) (y : Typing) → changes_budgets call ≡ true → TypesBy call ks y → ⊥
+types_none (call_as.Retype r f k) ks y budgets h = false≢true budgets
+types_none call ks y budgets h = h
+
+untypes_none : (call : Call) (ks : List Capability) (m : Untyping) → changes_budgets call ≡ true → UntypesBy call ks m → ⊥
+untypes_none (call_as.Retype r f k) ks m budgets h = false≢true budgets
+untypes_none call ks m budgets h = h
+
+makes_none : (call : Call) (ks : List Capability) (m : Making) → changes_budgets call ≡ true → MakesBy call ks m → ⊥
+makes_none (call_as.Make what r f u b) ks m budgets h = false≢true budgets
+makes_none call ks m budgets h = h
+
+comps_none : (call : Call) (ks : List Capability) (m : CompMaking) → changes_budgets call ≡ true → MakesCompBy call ks m → ⊥
+comps_none (call_as.Make what r f u b) ks m budgets h = false≢true budgets
+comps_none call ks m budgets h = h
+
+maps_none : (call : Call) → changes_budgets call ≡ true → is_mapping call ≡ true → ⊥
+maps_none (call_as.Map p v r f w) budgets h = false≢true budgets
+maps_none call budgets h = false≢true h
+
+outside_none : (call : Call) (ks : List Capability) → changes_budgets call ≡ true → OutsideBy call ks → ⊥
+outside_none (call_as.Make what r f u b) ks budgets h = false≢true budgets
+outside_none (call_as.Map p v r f w) ks budgets h = false≢true budgets
+outside_none call ks budgets h = h
+
+kills_none : (call : Call) (ks : List Capability) (f : ℕ) → changes_budgets call ≡ true → KillsBy call ks f → ⊥
+kills_none (call_as.Kill name) ks f budgets h = false≢true budgets
+kills_none call ks f budgets h = h
+
+invokes_none : (call : Call) (ks : List Capability) (m : Invoking) → changes_budgets call ≡ true → InvokesBy call ks m → ⊥
+invokes_none (call_as.Call g) ks m budgets h = false≢true budgets
+invokes_none call ks m budgets h = h
+
+switches_none : (call : Call) (ks : List Capability) (f q : ℕ) → changes_budgets call ≡ true → SwitchesBy call ks f q → ⊥
+switches_none (call_as.Switch h q) ks f g budgets is = false≢true budgets
+switches_none call ks f g budgets is = is
+
+module _ (setup : Setting) (t : Trace) (c : ℕ) (call : Call) (plan : Plan) (ks : List Capability) (upto : ℕ)
+    (budgets : changes_budgets call ≡ true) where
+  budget_acts : (act : ActOf) → KnowsAct setup t c call plan ks upto act → IsBudgetAct act
+  budget_acts (fill_act fill) has = absurd (puts_none call ks has.read fill.cap budgets has.puts)
+  budget_acts (remove_act (AtCompare n i word by) cap) has = absurd (removes_none call budgets has.removal.removes)
+  budget_acts (remove_act (AtDraw n i) cap) has = absurd (removes_none call budgets has.removes)
+  budget_acts (remove_act (AtStore n i x) cap) has = absurd has
+  budget_acts (type_act y) has = absurd (types_none call ks y budgets has.types)
+  budget_acts (make_act m) has = absurd (makes_none call ks m budgets has.makes)
+  budget_acts (map_act fill) has = absurd (maps_none call budgets has.maps)
+  budget_acts (Outside n i word) has = absurd (outside_none call ks budgets has.outside)
+  budget_acts (tick_act charge) has = tt
+  budget_acts (touch_act m) has = absurd (false≢true (sym (ap changes_budgets has.call_is) ∙ budgets))
+  budget_acts (flush_act by) has = absurd (false≢true (sym (ap changes_budgets has.call_is) ∙ budgets))
+  budget_acts (kill_act m) has = absurd (kills_none call ks m.comp budgets has.kills)
+  budget_acts (untype_act m) has = absurd (untypes_none call ks m budgets has.untypes)
+  budget_acts (comp_act m) has = absurd (comps_none call ks m budgets has.makes)
+  budget_acts (invoke_act m) has = absurd (invokes_none call ks m budgets has.invokes)
+  budget_acts (return_act m) has = absurd (false≢true (sym (ap changes_budgets has.call_is) ∙ budgets))
+  budget_acts (share_act p) has = tt
+  budget_acts (switch_act m) has = absurd (switches_none call ks _ _ budgets has.switches)
+
+undo_none : (act : ActOf) → IsBudgetAct act → StoresNone (undo act)
+undo_none (tick_act charge) is = tt
+undo_none (share_act p) is = tt
+undo_none act is = absurd is
+
+count_none : (core n : ℕ) (change : Rattle.std.specs.Prelude.ℤ) (act : ActOf) (pin : Pin) (end : StageEnd Pinned) → IsBudgetAct act
+    → LeavesNone (took_count core n change act pin end)
+count_none core n change act pin ends.Going is = tt
+count_none core n change act pin (ends.Decided r) is = undo_none act is
+count_none core n change act pin (ends.Done x) is = tt
+count_none core n change act pin (ends.Refuse r) is = undo_none act is
+
+tick_none : (due : ℕ) (charge : Charge) (end : StageEnd Value) → LeavesNone (took_charge due charge end)
+tick_none due charge ends.Going = tt
+tick_none due charge (ends.Decided r) = tt
+tick_none due charge (ends.Done v) = tt
+tick_none due charge (ends.Refuse r) = tt
+
+-- What a decision owes
+
+-- A refusal owes nothing.
+still : (r : Reply) → is_carried r ≡ false → (s : State) (c : ℕ) (call : Call) (f n : ℕ) → Owes s c r call f n n
+still (reply.Ok v) not s c call f n = absurd (cc)
+still r not s c call f n = refl
+
+refused : (f : Refusal) → is_carried (reply_of f) ≡ false
+refused refusal.Raced = refl
+refused f = refl
+
+-- The compare that carries the call out: the ticks are no more than the first has, and the second has room for them.
+wins : (s : State) (c : ℕ) (call : Call) (ks : List Capability) (p : Pair) (v : Value) → SharesBy call ks p
+    → Leads (LeadsIn s c) (plan_for call).names [] ks
+    → amount_of p.what ≤ p.head_a.budget → p.head_b.budget + amount_of p.what < 2 ^ 32
+    → OwesAt s c (reply.Ok v) call (record p { at = at_decided p.what }) (at_decided p.what)
+wins s c (call_as.Transfer x y m) (a ∷ b ∷ []) p v is leads enough room =
+    subst (λ w. OwesAt s c (reply.Ok v) (call_as.Transfer x y m) (record p { at = at_decided p.what }) (at_decided w)) (sym is.work) (
+      record { cap = a; is_named = leads.0; frame = sym is.first },
+      (let ticks : amount_of p.what ≡ m = ap amount_of is.work in omega (arith, enough, ticks)),
+    )
+wins s c (call_as.Delegate x y m) (a ∷ b ∷ []) p v is leads enough room =
+    subst (λ w. OwesAt s c (reply.Ok v) (call_as.Delegate x y m) (record p { at = at_decided p.what }) (at_decided w)) (sym is.work) (
+      inl (
+        record { cap = a; is_named = leads.0; frame = sym is.first },
+        (let ticks : amount_of p.what ≡ m = ap amount_of is.work in omega (arith, enough, ticks)),
+      ),
+      inr (
+        record { cap = b; is_named = leads.1.0; frame = sym is.second },
+        (let ticks : amount_of p.what ≡ m = ap amount_of is.work in omega (arith, room, ticks)),
+      ),
+    )
+wins s c (call_as.Test x y) (a ∷ b ∷ []) p v is leads enough room =
+    subst (λ w. OwesAt s c (reply.Ok v) (call_as.Test x y) (record p { at = at_decided p.what }) (at_decided w)) (sym is.work) (λ f n. refl)
+wins s c call ks p v is leads enough room = absurd is
+
+-- The second load carries a test out alone.
+alike_not : (same : Bool) (v : Value) → by_alike same ≡ AgainB (reply.Ok v) → ⊥
+alike_not true v h = absurd (cc)
+alike_not false v h = absurd (cc)
+
+room_not : (o : Option (List (ℕ × ℕ))) (v : Value) → by_room o ≡ AgainB (reply.Ok v) → ⊥
+room_not None v h = absurd (cc)
+room_not (Some xs) v h = absurd (cc)
+
+answers : (s : State) (c : ℕ) (call : Call) (ks : List Capability) (p : Pair) (v : Value) → SharesBy call ks p
+    → judged p.what p ≡ AgainB (reply.Ok v) → (f n : ℕ) → Owes s c (reply.Ok v) call f n n
+answers s c (call_as.Transfer x y m) (a ∷ b ∷ []) p v is judges f n =
+    absurd (alike_not (same_list (in_order p.list_a) (in_order p.list_b)) v
+    (subst (λ w. judged w p ≡ AgainB (reply.Ok v)) is.work judges))
+answers s c (call_as.Delegate x y m) (a ∷ b ∷ []) p v is judges f n =
+    absurd (room_not p.list_b v (subst (λ w. judged w p ≡ AgainB (reply.Ok v)) is.work judges))
+answers s c (call_as.Test x y) (a ∷ b ∷ []) p v is judges f n = refl
+answers s c call ks p v is judges f n = absurd is
+
+-- The steps of the act
+
+module _ (now before : State) (c : ℕ) (a : ActiveCall) where
+  abbrev Owed : WorkStep → Type 0
+  Owed step = OwesTook now before c (landed a step)
+
+  gives_back : (p : Pair) (r : Reply) → is_carried r ≡ false → Owed (shared (record p { at = giving_back }) r)
+  gives_back p (reply.Ok v) not = absurd (cc)
+  gives_back p r not = λ budgets f n. still (reply_of (refusal_of r)) (refused (refusal_of r)) now c a.call f n
+
+  loads_head : (p : Pair) (o : Option HeadWord) → Owed (took_shared p (head_end o))
+  loads_head p None = λ budgets. tt
+  loads_head p (Some h) = by h.mark
+    where
+      by : (mark : Option ℕ) → Owed (took_shared p (end_by_mark mark))
+      by None = λ budgets. tt
+      by (Some d) = λ budgets. tt
+
+  marks_head : (p : Pair) (same short : Bool) (budget : ℕ)
+      → Owed (took_shared (record p { at = at_marked same short }) (marked_end same short budget))
+  marks_head p true true budget = gives_back p (reply.Short budget) refl
+  marks_head p true false budget = λ budgets. tt
+  marks_head p false short budget = λ budgets. tt
+
+  loads_second : (p : Pair) (next : PairAt) (o : Option HeadWord)
+      → Owed (took_shared (record p { at = at_by_head next giving_back o }) (b_end o))
+  loads_second p next None = gives_back p reply.Raced refl
+  loads_second p next (Some h) = by h.mark
+    where
+      by : (mark : Option ℕ) → Owed (took_shared (record p { at = at_by_mark next giving_back mark }) (decided_by_mark mark))
+      by None = λ budgets. tt
+      by (Some d) = gives_back p (reply.Busy d) refl
+
+  reads_list : (p : Pair) (next : PairAt) (o : Option QualityWord) → Owed (took_shared (record p { at = at_read o next }) (list_end o))
+  reads_list p next None = gives_back p reply.Raced refl
+  reads_list p next (Some v) = λ budgets. tt
+
+  compares : (p : Pair) → OwesAt now c (reply.Ok value.Nothing) a.call (record p { at = at_decided p.what }) (at_decided p.what)
+      → (same : Bool)
+      → Owed (took_shared (record p { at = compared_after same p.what }) (again_end same (reply.Ok value.Nothing)))
+  compares p owes true = λ budgets. owes
+  compares p owes false = gives_back p reply.Raced refl
+
+  loads_again : (p : Pair) (r : Reply) → ((v : Value) → r ≡ reply.Ok v → (f n : ℕ) → Owes now c (reply.Ok v) a.call f n n) → (same : Bool)
+      → Owed (took_shared (record p { at = StoreA false (again_value same r) }) (again_end same r))
+  loads_again p r owes false = gives_back p reply.Raced refl
+  loads_again p (reply.Ok v) owes true = λ budgets f n. owes v refl f n
+  loads_again p r owes true = λ budgets f n. still (reply_of (refusal_of r)) (refused (refusal_of r)) now c a.call f n
+
+module _ (setup : Setting) (setting : IsSetting setup) (cores : ℕ → Core) (t : Trace) (stands : Stands setup cores t) (c : ℕ)
+    (here : c < setup.cores) (before : State) (a : ActiveCall) (active : (cores c).active ≡ Some a) where
+  abbrev s : State
+  s = state_after setup t
+
+  -- what is told of the word that its next step finds
+  abbrev ToldBy : Move → ℕ
+  ToldBy move = told_of move (last_left setup t (word_of move))
+
+  abbrev ShareOwes : Pair → Type 0
+  ShareOwes p = OwesTook s before c (landed a (took_share p (ToldBy (pair_move p))))
+
+  module _ (p : Pair) (stage_is : a.stage ≡ Undecided (Act (share_act p)))
+      (has : KnowsUndecided setup t c (cores c).own.table a (Act (share_act p))) where
+    leads : Leads (LeadsIn s c) (plan_for a.call).names [] a.found
+    leads = subst (λ (q : Plan). Leads (LeadsIn s c) q.names [] a.found) (is_active setup setting cores t stands c here a active).plan
+        (calls.leads setup setting cores t stands c here a active p stage_is has)
+
+  compare_owes : (p : Pair) → a.stage ≡ Undecided (Act (share_act (record p { at = CompareB })))
+      → KnowsUndecided setup t c (cores c).own.table a (Act (share_act (record p { at = CompareB })))
+      → ShareOwes (record p { at = CompareB })
+  compare_owes p is has = by (last_left setup t (EntryAt p.b 0) == word_of_head p.head_b) refl
+    where
+      old : ℕ
+      old = word_of_head p.head_b
+
+      shares : SharesBy a.call a.found p
+      shares = shares_same a.call a.found (record p { at = CompareB }) p refl refl refl
+          has.knows.knows.shares
+
+      won : (last_left setup t (EntryAt p.b 0) == old) ≡ true
+          → OwesAt s c (reply.Ok value.Nothing) a.call (record p { at = at_decided p.what }) (at_decided p.what)
+      won equal =
+          let sum = compared.sum setup setting cores t stands c here a active p is has equal in
+          let same_b = compared.budget_b setup setting cores t stands c here a active p is has equal in
+          let less = compared.enough setup setting cores t stands c here a active p is has equal in
+          wins s c a.call a.found p value.Nothing shares (leads (record p { at = CompareB }) is has) has.knows.knows.at.a.enough
+          (omega (arith, sum, same_b, less))
+
+      by : (same : Bool) → (last_left setup t (EntryAt p.b 0) == old) ≡ same
+          → OwesTook s before c
+          (landed a (took_shared (record p { at = compared_after same p.what }) (again_end same (reply.Ok value.Nothing))))
+      by true equal = compares s before c a p (won equal) true
+      by false other = λ budgets f n. refl
+
+  share_owes : (p : Pair) → a.stage ≡ Undecided (Act (share_act p))
+      → KnowsUndecided setup t c (cores c).own.table a (Act (share_act p)) → ShareOwes p
+  share_owes p is has = by p.at is has
+    where
+      by : (at : PairAt) → a.stage ≡ Undecided (Act (share_act (record p { at = at })))
+          → KnowsUndecided setup t c (cores c).own.table a (Act (share_act (record p { at = at }))) → ShareOwes (record p { at = at })
+      by LoadA is has = loads_head s before c a (pair_after (record p { at = LoadA }) (last_left setup t (EntryAt p.a 0)))
+          (head_of_word (last_left setup t (EntryAt p.a 0)))
+      by MarkA is has = marks_head s before c a p (last_left setup t (EntryAt p.a 0) == word_of_head p.head_a)
+          (nat_lt p.head_a.budget (amount_of p.what)) p.head_a.budget
+      by (ListA n) is has = reads_list s before c a (pair_after (record p { at = ListA n }) (last_left setup t (EntryAt p.a n)))
+          (a_next (nat_lt n 8) n) (quality_of_word (last_left setup t (EntryAt p.a n)))
+      by LoadB is has = loads_second s before c a (pair_after (record p { at = LoadB }) (last_left setup t (EntryAt p.b 0))) (ListB 1)
+          (head_of_word (last_left setup t (EntryAt p.b 0)))
+      by (ListB n) is has = reads_list s before c a (pair_after (record p { at = ListB n }) (last_left setup t (EntryAt p.b n)))
+          (b_next (nat_lt n 8) n (noted_by (record p { at = ListB n }) (last_left setup t (EntryAt p.b n))))
+          (quality_of_word (last_left setup t (EntryAt p.b n)))
+      by CompareB is has = compare_owes p is has
+      by (AgainB r) is has =
+          loads_again s before c a p r
+          (λ v ok. answers s c a.call a.found (record p { at = AgainB r }) v has.knows.knows.shares
+          (has.knows.knows.at.judges ∙ ap (λ (x : Reply). AgainB x) ok)) (last_left setup t (EntryAt p.b 0) == word_of_head p.head_b)
+      by (StoreList n) is has = absurd has.knows.knows.at
+      by StoreB is has = absurd has.knows.knows.at
+      by (StoreA moved v) is has = absurd has.knows.knows.at
+
+  -- The work of a call that is not decided.
+  abbrev WorkOwes : Work → Type 0
+  WorkOwes work = OwesTook s before c
+      (took_at (cores c).own a (Undecided work) (ToldBy (stage_move (cores c).own a.counts (Undecided work))))
+
+  act_owes : (act : ActOf) → a.stage ≡ Undecided (Act act) → KnowsUndecided setup t c (cores c).own.table a (Act act) → WorkOwes (Act act)
+  act_owes (share_act p) is has = share_owes p is has
+  act_owes (tick_act charge) is has = landed_none s before c a _ (λ budgets. tick_none (ticks_of charge) _ _)
+  act_owes act is has = landed_none s before c a _ (λ budgets. absurd
+      (budget_acts setup t c a.call a.plan a.found setup.cores budgets act has.knows.knows))
+
+  work_owes : (work : Work) → a.stage ≡ Undecided work → KnowsUndecided setup t c (cores c).own.table a work → WorkOwes work
+  work_owes (Lookup look) is has = end_none s before c (cores c).own a _ _
+  work_owes (Read comp look) is has = reading_none s before c a look _
+  work_owes (Scan q act) is has = landed_none s before c a _ (λ budgets. scan_none (cores c).own.core act _ _)
+  work_owes (Acquire pin change act) is has =
+      landed_none s before c a _ (λ budgets. count_none (cores c).own.core (length a.counts) change act _ _
+      (budget_acts setup t c a.call a.plan a.found setup.cores budgets act has.knows.knows))
+  work_owes (Act act) is has = act_owes act is has
+
+  -- A step of a call, wherever it stands.
+  stage_owes : (stage : Stage) → a.stage ≡ stage → KnowsAt setup t c (cores c).own.table a stage
+      → (changes_budgets a.call ≡ true → OwesStage before c a.call stage)
+      → OwesTook s before c (took_at (cores c).own a stage (ToldBy (stage_move (cores c).own a.counts stage)))
+  stage_owes Enter is has owes = absurd has
+  stage_owes (Undecided work) is has owes = work_owes work is has
+  stage_owes (Decided r drawn tail) is has owes = λ budgets. tail_on before c r drawn a.call tail a.counts _ (owes budgets)
+  stage_owes (Leave r x) is has owes = tt
+
+-- Along a trace
+
+-- The core after what its step led to.
+after_owes : (now before : State) (c : ℕ) (own : Own) (k : Took) → OwesTook now before c k
+    → OwesIn (if is_some (decided_in (told_by k)) then now else before) c (after_took own k).active
+after_owes now before c own (GoesOn a) owes = owes
+after_owes now before c own (Decides r a) owes = owes
+after_owes now before c own (Returns r x) owes = tt
+after_owes now before c own (Changes r change a) owes = owes
+
+-- What a core with this call is told of its next step.
+abbrev told_to : Setting → Trace → Own → Option ActiveCall → ℕ
+told_to setup t own o = told_of (move_of (record { own = own; active = o })) (found_by setup t (record { own = own; active = o }))
+
+-- The core's call, wherever it stands.
+call_owes : (setup : Setting) → IsSetting setup → (cores : ℕ → Core) (t : Trace) → Stands setup cores t → (c : ℕ) → c < setup.cores
+    → (before : State) → IsSome (cores c).active → OwesIn before c (cores c).active
+    → OwesIn (if is_some (decided_in (told_in (cores c).own (cores c).active (told_to setup t (cores c).own (cores c).active)))
+    then state_after setup t else before) c
+    (absorbed_in (cores c).own (cores c).active (told_to setup t (cores c).own (cores c).active)).active
+call_owes setup setting cores t stands c here before some owes =
+    by (cores c).active refl some (stands.each c here).active owes
+  where
+    by : (o : Option ActiveCall) → (cores c).active ≡ o → IsSome o → CallIs setup t c (cores c).own.table o → OwesIn before c o
+        → OwesIn (if is_some (decided_in (told_in (cores c).own o (told_to setup t (cores c).own o)))
+        then state_after setup t else before) c
+        (absorbed_in (cores c).own o (told_to setup t (cores c).own o)).active
+    by None active some is owes = absurd (cc)
+    by (Some a) active some is owes =
+        after_owes (state_after setup t) before c (cores c).own (took (cores c).own a (told_to setup t (cores c).own (Some a)))
+        (stage_owes setup setting cores t stands c here before a active a.stage refl is.knows owes)
+
+module _ (setup : Setting) (setting : IsSetting setup) (t : Trace) (e : Step) (made : IsMade setup t) (step : IsMadeStep setup t e)
+    (owes : OwesIn (state_of_decision setup t e.core) e.core (cores_after setup t e.core).active) where
+  abbrev cores : ℕ → Core
+  cores = cores_after setup t
+
+  abbrev before : State
+  before = state_of_decision setup t e.core
+
+  -- its core, where a call may begin
+  abbrev AfterOwes : Option Call → Type 0
+  AfterOwes o =
+      OwesIn (if is_some (decided_in (told_in (turned o (cores e.core)).own (turned o (cores e.core)).active
+      (told_of (move_of (turned o (cores e.core))) (found_by setup t (turned o (cores e.core))))))
+      then state_entered o (state_after setup t) e.core else before) e.core
+      (core_after (turned o (cores e.core)) (found_by setup t (turned o (cores e.core)))).active
+
+  own_owes : (o : Option Call) → MayStep o (cores e.core) → AfterOwes o
+  own_owes None may =
+      call_owes setup setting cores t (made_stands setup setting t made) e.core step.is_core before may owes
+  own_owes (Some call) may =
+      after_owes (state_entered (Some call) (state_after setup t) e.core) before e.core (cores e.core).own
+      (took (cores e.core).own (fresh call) _)
+      (enter_none (state_entered (Some call) (state_after setup t) e.core) before e.core (is_spent (cores e.core).own) (cores e.core).own
+      (fresh call))
+
+  on : OwesIn (state_of_decision setup (e ∷ t) e.core) e.core (cores_after setup (e ∷ t) e.core).active
+  on =
+      subst (λ (core : Core). OwesIn (state_of_decision setup (e ∷ t) e.core) e.core core.active)
+      (sym (put_same cores e.core (core_after (core_at setup t e) e.found) e.core refl))
+      (subst (λ b. OwesIn (if b && is_some e.decides then state_before setup t e else before) e.core
+      (core_after (core_at setup t e) e.found).active) (sym (eq-eqb e.core e.core refl))
+      (subst (λ (o : Option Reply). OwesIn (if is_some o then state_before setup t e else before) e.core
+      (core_after (core_at setup t e) e.found).active) (sym (ap (λ (x : Step). x.decides) step.made))
+      (subst (λ (n : ℕ). OwesIn (if is_some (decided_in (told_in (core_at setup t e).own (core_at setup t e).active
+      (told_of (move_of (core_at setup t e)) n))) then state_before setup t e else before) e.core
+      (core_after (core_at setup t e) n).active) (sym (finds setup t e step)) (own_owes e.enters step.may))))
+
+-- After each trace that is the machine's the heads owe what they show besides the budgets.
+pub made_owes : (setup : Setting) → IsSetting setup → (t : Trace) → IsMade setup t → (c : ℕ)
+    → OwesIn (state_of_decision setup t c) c (cores_after setup t c).active
+made_owes setup setting [] made c = tt
+made_owes setup setting (e ∷ t) made c = elim (cases_eq c e.core) [
+  | inl same ↦
+      subst (λ (d : ℕ). OwesIn (state_of_decision setup (e ∷ t) d) d (cores_after setup (e ∷ t) d).active) (sym same)
+      (on setup setting t e made.0 made.1 (made_owes setup setting t made.0 e.core))
+  | inr other ↦
+      subst (λ (core : Core). OwesIn (state_of_decision setup (e ∷ t) c) c core.active)
+      (sym (put_other (cores_after setup t) e.core (core_after (core_at setup t e) e.found) c other))
+      (subst (λ b. OwesIn (if b && is_some e.decides then state_before setup t e else state_of_decision setup t c) c
+      (cores_after setup t c).active) (sym (ne_eqb c e.core other)) (made_owes setup setting t made.0 c))
+]

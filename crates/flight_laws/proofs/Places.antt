@@ -1,0 +1,675 @@
+-- What an undecided call has found held stays usable; and whom a scan has passed is waited for no longer.
+use Rattle.std.proofs.Common.{◌≡◌, ◌≢◌, ◌⊎◌, inl, inr, ℕ, ◌<◌, ◌/◌, ◌&&◌, Bool, true, false, IsTrue, cond, [], ◌∷◌, ◌++◌, Option, Some, None, refl, sym, ◌∙◌, ap, subst}
+use Rattle.std.specs.Prelude.{is_some, IsTrue}
+use Rattle.std.proofs.lemmas.Bool.{cases_eq, eqb-true, false≢true}
+use Rattle.spk_nums.specs.Capability.{Capability}
+use Rattle.spk_nums.specs.Setting.{Setting, IsSetting}
+use Rattle.spk_nums.specs.declared.calls.Call.{Call}
+use Rattle.spk_nums.specs.declared.replies.Reply.{Reply}
+use Rattle.entry_words.specs.declared.entry.Entry.{Entry}
+use Rattle.entry_words.specs.declared.entry.Entry.TheVariants.{Held, Closing}
+use Rattle.entry_words.specs.EntryWord.{entry_of_word}
+use Rattle.frame_words.specs.Core.{core_of_word}
+use Rattle.frame_words.specs.declared.core_word.CoreWord.{CoreWord}
+use Rattle.word_map.specs.Word.{Word, EntryAt, CoreAt}
+use Rattle.word_map.specs.Moves.{Move, LoadOf, CompareOf, StoreOf, AddOf, word_of, left_of, told_of}
+use Rattle.word_map.specs.Places.{IsIn}
+use Rattle.kernel_rules.specs.State.{Thing, PlaceOf, Frame, Kernel, Tcap, Comp, Thread, State}
+use Rattle.spk_nums.specs.declared.kinds.Kind.TheVariants.{Comp as comp_kind}
+use Rattle.kernel_rules.specs.Fitting.{fits}
+use Rattle.kernel_rules.specs.Access.{Target, Under, InRoot, usable_in}
+use Rattle.kernel_rules.specs.Relies.{is_node, Relies, is_fixed}
+use Rattle.spk_nums.specs.declared.kinds.Kind.TheVariants as kind
+use Rattle.spk_nums.specs.declared.calls.Call.TheVariants.{Tick}
+use Rattle.stage_tcap.specs.Charging.{charge_move}
+use Rattle.stage_tcap.specs.declared.charge.Charge.{Charge}
+use Rattle.stage_tcap.specs.declared.charge.Charge.TheVariants.{AtLoad as charge_load, AtCompare as charge_compare}
+use Rattle.kernel_invariant.proofs.Facts.{some_inj, none_some}
+use Rattle.kernel_rules.proofs.Within.{put_same, put_other}
+use Rattle.kernel_history.specs.Trace.{Step, Trace, Phase, Out, Open, Decided as decided_phase, phase, after_enter, after_decide, after_return, state_after, last_left, own_read, reads, only_reads}
+use Rattle.kernel_history.specs.Graces.{KeepsTime}
+use Rattle.kernel_history.specs.Legal.{IsLegal, MayFollow}
+use Rattle.kernel_history.specs.Stamps.{stamp, clock, exit_of, is_in}
+use Rattle.kernel_history.proofs.Names.{cases_word}
+use Rattle.trace_laws.proofs.Stays.{Stays, stays_other, stays_plain, state_plain, relies_reached, sound_of, opened_is}
+use Rattle.kernel_history.proofs.Steps.{phase-own, phase-other, own_read-here, own_read-there, own_read-other, last_left-here}
+use Rattle.trace_laws.proofs.Waiting.{Passed, out_passed, later_passed, still_past, passed_on}
+use Rattle.stage_look.specs.Lookup.{look_move}
+use Rattle.stage_look.specs.declared.look.Look.{Look}
+use Rattle.stage_look.specs.declared.look.Look.TheVariants.{AtRoot, AtLeaf, AtEntry}
+use Rattle.stage_pins.specs.declared.pin.Pin.TheVariants.{AtLoad, AtCompare as pin_compare}
+use Rattle.stage_quiet.specs.declared.close.Close.{Close}
+use Rattle.stage_quiet.specs.declared.close.Close.TheVariants.{AtCompare, AtDraw, AtStore}
+use Rattle.stage_quiet.specs.declared.quiet.Quiet.TheVariants.{AtCore, AtFlush}
+use Rattle.stage_quiet.specs.Removal.{close_move}
+use Rattle.call_plans.specs.After.{Next, NextName, NextFree, NextHeld, NextOwn, NextNothing, next_of}
+use Rattle.act_states.specs.declared.own.Own.{Own}
+use Rattle.act_states.specs.declared.work.Act.TheVariants.{Fill, Remove, Retype, Make, Outside, Tick as tick_act, Flush, Kill, Untype, Map as map_act, MakeComp, Invoke, Return, Touch, Share, Switch}
+use Rattle.act_states.specs.declared.typings.Typing.{Typing}
+use Rattle.act_states.specs.declared.typings.TypingAt.{TypingAt}
+use Rattle.act_states.specs.declared.typings.TypingAt.TheVariants.{Load, Compare as type_compare}
+use Rattle.act_states.specs.Typings.{typing_at}
+use Rattle.act_states.specs.Comps.{comp_at}
+use Rattle.act_states.specs.declared.comps.CompAt.{CompAt}
+use Rattle.act_states.specs.declared.comps.CompAt.TheVariants as comp_stands
+use Rattle.act_states.specs.declared.comps.CompMaking.{CompMaking}
+use Rattle.act_states.specs.Invocations.{invoking_at, returning_at}
+use Rattle.act_states.specs.declared.invocations.InvokingAt.{InvokingAt}
+use Rattle.act_states.specs.declared.invocations.InvokingAt.TheVariants as invoking
+use Rattle.act_states.specs.declared.invocations.ReturningAt.{ReturningAt}
+use Rattle.act_states.specs.declared.invocations.ReturningAt.TheVariants as returning
+use Rattle.act_states.specs.Switches.{switching_at}
+use Rattle.act_states.specs.declared.switches.Switching.{Switching}
+use Rattle.act_states.specs.declared.switches.SwitchAt.{SwitchAt}
+use Rattle.act_states.specs.declared.switches.SwitchAt.TheVariants as switch
+use Rattle.stage_thread.specs.declared.claim.Claim.TheVariants as claim
+use Rattle.stage_tcap.specs.Pairs.{move_at}
+use Rattle.stage_tcap.specs.declared.pair.Pair.{Pair}
+use Rattle.stage_tcap.specs.declared.pair.PairAt.{PairAt}
+use Rattle.stage_tcap.specs.declared.pair.PairAt.TheVariants as pair
+use Rattle.act_states.specs.declared.kills.KillingAt.{KillingAt}
+use Rattle.act_states.specs.declared.kills.KillingAt.TheVariants.{LoadComp, LoadLive, Close as kill_close, Draw as kill_draw}
+use Rattle.act_states.specs.Kills.{killing_at}
+use Rattle.act_states.specs.declared.fills.Fill.{Fill as FillOf}
+use Rattle.act_states.specs.declared.makings.MakingAt.{MakingAt}
+use Rattle.act_states.specs.declared.makings.MakingAt.TheVariants as making
+use Rattle.act_states.specs.declared.objects.NewObject.{NewObject}
+use Rattle.act_states.specs.Makings.{making_at}
+use Rattle.act_states.specs.declared.untypings.Untyping.{Untyping}
+use Rattle.act_states.specs.declared.work.Work.{Work}
+use Rattle.act_states.specs.declared.work.Work.TheVariants.{Lookup, Read, Scan, Acquire, Act}
+use Rattle.call_stages.specs.declared.stages.Absorbed.{Absorbed}
+use Rattle.call_stages.specs.declared.stages.Absorbed.TheVariants as told_as
+use Rattle.call_stages.specs.declared.stages.Stage.{Stage}
+use Rattle.call_stages.specs.declared.stages.Stage.TheVariants.{Enter, Undecided, Decided, Leave}
+use Rattle.call_stages.specs.declared.stages.ActiveCall.{ActiveCall}
+use Rattle.call_stages.specs.Steps.{work_move, stage_move}
+use Rattle.call_stages.specs.Cores.{move_in, move_of, absorbed, absorbed_in, told_in, told_of_step}
+use Rattle.call_stages.specs.View.{Core}
+use Rattle.core_invariant.specs.Events.{decided_in, returned_in}
+use Rattle.core_invariant.specs.Knows.{IsSpot, LooksUp, own_in, LooksFor, KnowsClose, ChargesBy, KnowsWork, KnowsAt, CallIs, phase_at, HasComp}
+use Rattle.core_invariant.specs.Components.{HasLoadedBelow}
+use Rattle.core_invariant.specs.Shares.{HasTcap, KnowsPairAt}
+use Rattle.core_invariant.specs.Threads.{HasThread, KnowsSwitchAt, claimed_by}
+use Rattle.core_invariant.specs.Stands.{Stands}
+use Rattle.kept_words.proofs.Claimed.{guarded_thread}
+use Rattle.core_invariant.proofs.Sounds.{limits_of}
+use Rattle.lent_words.proofs.Tcaps.{tcap_stays}
+use Rattle.kept_knowledge.proofs.Carries.{slot_relies}
+use Rattle.step_ways.proofs.Places.{IsMarked, IsPlain, place_reads}
+use Rattle.look_invariant.proofs.Lookups.{leaf_reached}
+use Rattle.place_invariant.proofs.Removals.{holds_place}
+use Rattle.flight_laws.specs.Frames.{IsLooked, is_held}
+use Rattle.flight.specs.Made.{turned, MayStep, core_after, cores_after, core_at, IsMadeStep, IsMade}
+use Rattle.flight_laws.specs.Places.{MayUse, PlacesFound, ShowsPassed, ScannedCores}
+use Rattle.flight.proofs.Made.{made_stands, made_times}
+use Rattle.flight.proofs.Spelling.{moves_are_words}
+use Rattle.flight_laws.proofs.Sweeping.{untyping_in, untyping_of, untyping_now, IsSwept, swept_on, swept_no_node, looks_untypes, looks_swept}
+
+-- The frame of an entry's word.
+abbrev frame_in : Word → ℕ
+frame_in (EntryAt f i) = f
+frame_in _ = 0
+
+-- A call that is open after a step without an entry was so before it, and the step has neither decided nor returned it.
+pub record WasOpen (decides returns : Option Reply) (p : Phase) (call : Call) : Type 0 where
+  pub no_decision : decides ≡ None
+  pub no_return : returns ≡ None
+  pub before : p ≡ Open call
+
+pub was_open : (d r : Option Reply) (p : Phase) (call : Call) → after_return r (after_decide d p) ≡ Open call → WasOpen d r p call
+was_open None None p call is = record { no_decision = refl; no_return = refl; before = is }
+was_open (Some q) None Out call is = absurd (cc)
+was_open (Some q) None (Open other) call is = absurd (cc)
+was_open (Some q) None (decided_phase other v) call is = absurd (cc)
+was_open d (Some r) p call is = absurd (cc)
+
+-- The word is of the temporal capability of core c.
+abbrev pub IsOwnTcap : Setting → Trace → ℕ → ℕ → Type 0
+IsOwnTcap setup t c f = ((state_after setup t).core c).tcap ≡ f
+
+-- It is of the thread of core c, or of a thread or a temporal capability that no other core may retype.
+abbrev pub IsBeside : State → ℕ → ℕ → Type 0
+IsBeside s c f = ((s.core c).thread ≡ f) ⊎ (HasThread s c f ⊎ HasTcap s c f)
+
+-- The word is of no node: of the temporal capability of core c, of a component that no other core may retype, of a frame that the call of
+-- c makes untyped, or of a thread or a temporal capability.
+abbrev pub IsNoEntry : Setting → Trace → ℕ → ℕ → Type 0
+IsNoEntry setup t c f =
+    IsOwnTcap setup t c f
+    ⊎ (HasComp (state_after setup t) c f ⊎ (IsSwept (cores_after setup t c).active f ⊎ IsBeside (state_after setup t) c f))
+
+-- An undecided call relies on the node of the entry on which it steps next, unless it stores there an entry of a node that it makes, looks
+-- at the object of a frame that it makes untyped, or the word is of no node.
+module _ (setup : Setting) (setting : IsSetting setup) (t : Trace) (cores : ℕ → Core) (stands : Stands setup cores t)
+    (c : ℕ) (call : Call) (is_open : phase t c ≡ Open call) (f i : ℕ) where
+  abbrev Rests : Type 0
+  Rests = Relies (state_after setup t) c f ⊎ IsNoEntry setup t c f
+
+  of_frame : (g j : ℕ) → EntryAt g j ≡ EntryAt f i → Relies (state_after setup t) c g → Rests
+  of_frame g j on relies = inl (subst (Relies (state_after setup t) c) (ap frame_in on) relies)
+
+  by_look : (target : Target) (look : Look) → LooksUp setup t c target look → word_of (look_move look) ≡ EntryAt f i → Rests
+  by_look (Under table n) (AtRoot root number) looks on =
+      of_frame root (number / 64) on (subst (Relies (state_after setup t) c) looks.at.frame looks.relies)
+  by_look (Under table n) (AtLeaf leaf number) looks on = of_frame leaf _ on
+      (relies_reached setup setting t stands.legal c call is_open table n _
+      (leaf_reached (state_after setup t) c table n leaf looks.at.found looks.at.within looks.at.link))
+  by_look (Under table n) (AtEntry root index) looks on = absurd looks.at
+  by_look (InRoot table j) (AtRoot root number) looks on = absurd looks.at
+  by_look (InRoot table j) (AtLeaf leaf number) looks on = absurd looks.at
+  by_look (InRoot table j) (AtEntry root index) looks on =
+      of_frame root index on (subst (Relies (state_after setup t) c) looks.at.frame looks.relies)
+
+  by_next : (table : ℕ) (next : Next) (look : Look) → LooksFor setup t c table next look → word_of (look_move look) ≡ EntryAt f i → Rests
+  by_next table (NextName n wanted) look looks on = by_look (own_in table n) look looks on
+  by_next table (NextFree target) look looks on = by_look target look looks on
+  by_next table (NextHeld target) look looks on = by_look target look looks on
+  by_next table (NextOwn v) look looks on = absurd looks
+  by_next table NextNothing look looks on = absurd looks
+
+  by_close : (a : ActiveCall) (close : Close) (cap : Capability) → KnowsClose setup t c a.call a.plan a.found close cap
+      → word_of (close_move close) ≡ EntryAt f i → Rests
+  by_close a (AtCompare node index word by) cap has on = of_frame node index on
+      (slot_relies setup setting t stands.legal c call is_open has.removal.target (record { node = node; index = index }) has.removal.way)
+  by_close a (AtDraw node index) cap has on = absurd (cc)
+  by_close a (AtStore node index at) cap has on = absurd has
+
+  by_typing : (g : ℕ) (y : Typing) (at : TypingAt) → word_of (typing_at g y.kind at) ≡ EntryAt f i → Rests
+  by_typing g y Load on = absurd (cc)
+  by_typing g y (type_compare word) on = absurd (cc)
+
+  by_making : (a : ActiveCall) (g : ℕ) (object : NewObject) (core : ℕ) (fill : FillOf) (at : MakingAt)
+      → IsSpot setup t c a.plan a.found setup.cores fill.node fill.entry fill.word
+      → word_of (making_at g object core fill at) ≡ EntryAt f i → reads (making_at g object core fill at) ≡ true → Rests
+  by_making a g object core fill making.Load spot on read = absurd (cc)
+  by_making a g object core fill (making.Mark word) spot on read = absurd (cc)
+  by_making a g object core fill (making.Store word entry) spot on read = absurd (false≢true read)
+  by_making a g object core fill (making.Fill word) spot on read = of_frame fill.node fill.entry on
+      (slot_relies setup setting t stands.legal c call is_open spot.target (record { node = fill.node; index = fill.entry }) spot.way)
+
+  -- the word is of the core's own thread, of a component, or of a thread or a temporal capability that the call guards
+  of_comp : (g j : ℕ) → EntryAt g j ≡ EntryAt f i → HasComp (state_after setup t) c g → Rests
+  of_comp g j on comp = inr (inr (inl (subst (HasComp (state_after setup t) c) (ap frame_in on) comp)))
+
+  of_own : (g j : ℕ) → EntryAt g j ≡ EntryAt f i → g ≡ ((state_after setup t).core c).thread → Rests
+  of_own g j on own = inr (inr (inr (inr (inl (sym own ∙ ap frame_in on)))))
+
+  of_thread : (g j : ℕ) → EntryAt g j ≡ EntryAt f i → HasThread (state_after setup t) c g → Rests
+  of_thread g j on has = inr (inr (inr (inr (inr (inl (subst (HasThread (state_after setup t) c) (ap frame_in on) has))))))
+
+  of_tcap : (g j : ℕ) → EntryAt g j ≡ EntryAt f i → HasTcap (state_after setup t) c g → Rests
+  of_tcap g j on has = inr (inr (inr (inr (inr (inr (subst (HasTcap (state_after setup t) c) (ap frame_in on) has))))))
+
+  by_invoking : (g : ℕ) (at : InvokingAt) → HasComp (state_after setup t) c g → word_of (invoking_at g at) ≡ EntryAt f i → Rests
+  by_invoking g invoking.LoadTable comp on = of_comp g 0 on comp
+  by_invoking g (invoking.LoadPages table) comp on = of_comp g 1 on comp
+  by_invoking g (invoking.LoadComp table pages) comp on = of_comp g 2 on comp
+  by_invoking g (invoking.LoadLive table pages life) comp on = absurd (cc)
+
+  by_returning : (thread depth : ℕ) (at : ReturningAt) → thread ≡ ((state_after setup t).core c).thread
+      → HasLoadedBelow (state_after setup t) c at → word_of (returning_at thread depth at) ≡ EntryAt f i → Rests
+  by_returning thread depth returning.LoadBelow own at on = of_own thread _ on own
+  by_returning thread depth (returning.LoadTable comp) own at on = of_comp comp 0 on at.comp
+  by_returning thread depth (returning.LoadPages comp table) own at on = of_comp comp 1 on at.0.comp
+  by_returning thread depth (returning.Draw comp table pages) own at on = absurd (cc)
+
+  by_sharing : (p : Pair) (at : PairAt) → HasTcap (state_after setup t) c p.a → HasTcap (state_after setup t) c p.b
+      → KnowsPairAt setup t c p at → word_of (move_at p at) ≡ EntryAt f i → Rests
+  by_sharing p pair.LoadA a b at on = of_tcap p.a 0 on a
+  by_sharing p pair.MarkA a b at on = of_tcap p.a 0 on a
+  by_sharing p (pair.ListA n) a b at on = of_tcap p.a n on a
+  by_sharing p pair.LoadB a b at on = of_tcap p.b 0 on b
+  by_sharing p (pair.ListB n) a b at on = of_tcap p.b n on b
+  by_sharing p pair.CompareB a b at on = of_tcap p.b 0 on b
+  by_sharing p (pair.AgainB r) a b at on = of_tcap p.b 0 on b
+  by_sharing p (pair.StoreList n) a b at on = absurd at
+  by_sharing p pair.StoreB a b at on = absurd at
+  by_sharing p (pair.StoreA moved v) a b at on = absurd at
+
+  by_switching : (m : Switching) (at : SwitchAt) → HasThread (state_after setup t) c (claimed_by at) → KnowsSwitchAt setup t c at
+      → word_of (switching_at m at) ≡ EntryAt f i → reads (switching_at m at) ≡ true → Rests
+  by_switching m (switch.Claim (claim.AtLoad g core)) has at on read = of_thread g 0 on has
+  by_switching m (switch.Claim (claim.AtCompare g core depth)) has at on read = of_thread g 0 on has
+  by_switching m (switch.Claim (claim.AtStack g depth)) has at on read = of_thread g depth on has
+  by_switching m (switch.LoadTable to) has at on read = of_comp to.comp 0 on at.comp
+  by_switching m (switch.LoadPages to table) has at on read = of_comp to.comp 1 on at.top.comp
+  by_switching m (switch.Leave to table pages) has at on read = absurd (false≢true read)
+  by_switching m (switch.Draw to table pages) has at on read = absurd (cc)
+
+  by_charge : (call : Call) (charge : Charge) → ChargesBy (state_after setup t) c call charge → word_of (charge_move charge) ≡ EntryAt f i
+      → Rests
+  by_charge (Tick n) (charge_load g ticks) has on = inr (inl (sym has.tcap ∙ ap frame_in on))
+  by_charge (Tick n) (charge_compare g ticks budget version) has on = inr (inl (sym has.tcap ∙ ap frame_in on))
+  by_charge call charge has on = absurd has
+
+  by_killing : (g core : ℕ) (at : KillingAt) → HasComp (state_after setup t) c g → word_of (killing_at g core at) ≡ EntryAt f i → Rests
+  by_killing g core LoadComp comp on = inr (inr (inl (subst (HasComp (state_after setup t) c) (ap frame_in on) comp)))
+  by_killing g core (LoadLive life) comp on = absurd (cc)
+  by_killing g core (kill_close life word) comp on = absurd (cc)
+  by_killing g core (kill_draw life word) comp on = absurd (cc)
+
+  by_comp : (a : ActiveCall) (m : CompMaking) (at : CompAt)
+      → IsSpot setup t c a.plan a.found setup.cores m.fill.node m.fill.entry m.fill.word
+      → word_of (comp_at m at) ≡ EntryAt f i → reads (comp_at m at) ≡ true → Rests
+  by_comp a m comp_stands.Load spot on read = absurd (cc)
+  by_comp a m (comp_stands.Mark word) spot on read = absurd (cc)
+  by_comp a m (comp_stands.LoadLive word) spot on read = absurd (cc)
+  by_comp a m (comp_stands.Scan word last (AtCore x by at page)) spot on read = absurd (cc)
+  by_comp a m (comp_stands.Scan word last (AtFlush x at)) spot on read = absurd (cc)
+  by_comp a m (comp_stands.Close word last) spot on read = absurd (cc)
+  by_comp a m (comp_stands.Store word last entry) spot on read = absurd (false≢true read)
+  by_comp a m (comp_stands.Fill word last) spot on read = of_frame m.fill.node m.fill.entry on
+      (slot_relies setup setting t stands.legal c call is_open spot.target (record { node = m.fill.node; index = m.fill.entry }) spot.way)
+
+  some_act : (m : Untyping) → Some m ≡ None → ⊥
+  some_act m h = cc
+
+  by_work : (table : ℕ) (a : ActiveCall) (work : Work) → KnowsWork setup t c table a work → word_of (work_move work) ≡ EntryAt f i
+      → reads (work_move work) ≡ true → untyping_in work ≡ None → Rests
+  by_work table a (Lookup look) has on read none = by_next table (next_of a.plan a.found) look has.looks on
+  by_work table a (Read g look) has on read none = inr (inr (inl (subst (HasComp (state_after setup t) c) (ap frame_in on) has.comp)))
+  by_work table a (Scan (AtCore at by upto page) act) has on read none = absurd (cc)
+  by_work table a (Scan (AtFlush at upto) act) has on read none = absurd (cc)
+  by_work table a (Acquire (AtLoad frame core) change act) has on read none = absurd (cc)
+  by_work table a (Acquire (pin_compare frame core count stamp) change act) has on read none = absurd (cc)
+  by_work table a (Act (Fill fill)) has on read none = of_frame fill.node fill.entry on
+      (slot_relies setup setting t stands.legal c call is_open has.knows.target (record { node = fill.node; index = fill.entry })
+      has.knows.way)
+  by_work table a (Act (Remove close cap)) has on read none = by_close a close cap has.knows on
+  by_work table a (Act (Retype typing)) has on read none = by_typing typing.frame typing typing.at on
+  by_work table a (Act (Make m)) has on read none = by_making a m.frame m.object m.core m.fill m.at has.knows.spot on read
+  by_work table a (Act (map_act fill)) has on read none = absurd (cc)
+  by_work table a (Act (Outside node entry word)) has on read none = absurd (false≢true has.goes)
+  by_work table a (Act (tick_act charge)) has on read none = by_charge a.call charge has.knows.charges on
+  by_work table a (Act (Touch m)) has on read none = by_look (own_in m.pages m.page) m.look has.knows.looks on
+  by_work table a (Act (Flush core)) has on read none = absurd (cc)
+  by_work table a (Act (Kill m)) has on read none = by_killing m.comp m.core m.at has.knows.comp on
+  by_work table a (Act (Untype m)) has on read none = absurd (some_act m none)
+  by_work table a (Act (Share p)) has on read none = by_sharing p p.at has.knows.tcap_a has.knows.tcap_b has.knows.at on
+  by_work table a (Act (Switch m)) has on read none = by_switching m m.at has.knows.thread has.knows.at on read
+  by_work table a (Act (MakeComp m)) has on read none = by_comp a m m.at has.knows.spot on read
+  by_work table a (Act (Invoke m)) has on read none = by_invoking m.comp m.at has.knows.comp on
+  by_work table a (Act (Return m)) has on read none = by_returning m.thread m.depth m.at has.knows.on.thread has.knows.at on
+
+  by_stage : (table : ℕ) (own : Own) (a : ActiveCall) (stage : Stage) → phase_at a.call stage ≡ Open call
+      → KnowsAt setup t c table a stage
+      → word_of (stage_move own a.counts stage) ≡ EntryAt f i → reads (stage_move own a.counts stage) ≡ true → untyping_of stage ≡ None
+      → Rests
+  by_stage table own a Enter is has on read none = absurd has
+  by_stage table own a (Undecided work) is has on read none = by_work table a work has.knows on read none
+  by_stage table own a (Decided r drawn tail) is has on read none = absurd (cc)
+  by_stage table own a (Leave r x) is has on read none = absurd (cc)
+
+  step_relies : (table : ℕ) (own : Own) (o : Option ActiveCall) → CallIs setup t c table o → word_of (move_in own o) ≡ EntryAt f i
+      → reads (move_in own o) ≡ true → untyping_now o ≡ None → Rests
+  step_relies table own None is on read none = absurd (cc)
+  step_relies table own (Some a) is on read none = by_stage table own a a.stage (sym is.phase ∙ is_open) is.knows on read none
+
+-- A step has read what it has found and left.
+pub record HasReadIt (e : Step) (w : ℕ) : Type 0 where
+  pub by_read : reads e.move ≡ true
+  pub found : e.found ≡ w
+  pub left : left_of e.move e.found ≡ e.found
+
+and_left : (a b : Bool) → (a && b) ≡ true → a ≡ true
+and_left true b h = refl
+and_left false b h = absurd (false≢true h)
+
+and_right : (a b : Bool) → (a && b) ≡ true → b ≡ true
+and_right true b h = h
+and_right false b h = absurd (false≢true h)
+
+pub has_read : (e : Step) (w : ℕ) (b : Bool) → only_reads e ≡ b → cond b (Some e.found) None ≡ Some w → HasReadIt e w
+has_read e w true is h = record {
+  by_read = and_left _ _ is;
+  found = some_inj e.found w h;
+  left = eqb-true (left_of e.move e.found) e.found (and_right _ _ is);
+}
+has_read e w false is h = absurd (none_some w h)
+
+-- What a step on a word that it reads is told.
+told_read : (move : Move) → reads move ≡ true → (x : ℕ) → told_of move x ≡ x
+told_read (LoadOf w) is x = refl
+told_read (CompareOf w expected new) is x = refl
+told_read (StoreOf w new) is x = absurd (false≢true is)
+told_read (AddOf w by) is x = absurd (false≢true is)
+
+-- What an entry holds.
+record HeldIn (o : Option Entry) : Type 0 where
+  cap : Capability
+  is : o ≡ Some (Held cap)
+
+held_in : (o : Option Entry) → is_held o ≡ true → HeldIn o
+held_in (Some (Held k)) h = record { cap = k; is = refl }
+held_in None h = absurd (false≢true h)
+held_in (Some x) h = absurd (false≢true h)
+
+-- What a call had read before a step that leaves it so; and that step begins no call.
+pub entered_none : (o : Option Call) (r : Option ℕ) (w : ℕ) → cond (is_some o) None r ≡ Some w → (o ≡ None) × (r ≡ Some w)
+entered_none None r w h = (refl, h)
+entered_none (Some call) r w h = absurd (none_some w h)
+
+-- What an undecided call has found held, its core may use still, unless the word is of no node.
+abbrev IsFound : Setting → Trace → ℕ → ℕ → ℕ → Capability → Type 0
+IsFound setup t c f i k = MayUse (state_after setup t) c (record { node = f; index = i }) k ⊎ IsNoEntry setup t c f
+
+abbrev FoundLasts : Setting → Trace → Type 0
+FoundLasts setup t = (c : ℕ) (call : Call) → phase t c ≡ Open call → (f i w : ℕ) (k : Capability)
+    → own_read t c (EntryAt f i) ≡ Some w → entry_of_word w ≡ Some (Held k) → IsFound setup t c f i k
+
+-- A component is no node, and no call changes it; nor is a temporal capability a node.
+comp_fixed : (x : Frame) → IsTrue (fits comp_kind x) → IsTrue (is_fixed x)
+comp_fixed (Kernel (Comp k)) h = refl
+comp_fixed _ h = absurd (false≢true h)
+
+pub comp_no_node : (x : Frame) → IsTrue (fits comp_kind x) → IsTrue (is_node x) → ⊥
+comp_no_node (Kernel (Comp k)) h node = false≢true node
+comp_no_node _ h node = absurd (false≢true h)
+
+pub tcap_no_node : (x : Frame) → IsTrue (fits kind.Tcap x) → is_node x ≡ false
+tcap_no_node (Kernel (Tcap q)) fit = refl
+tcap_no_node x fit = absurd (false≢true fit)
+
+pub thread_no_node : (x : Frame) → IsTrue (fits kind.Thread x) → is_node x ≡ false
+thread_no_node (Kernel (Thread k)) fit = refl
+thread_no_node x fit = absurd (false≢true fit)
+
+pub beside_no_node : (s : State) (c f : ℕ) → IsTrue (fits kind.Thread (s.frame (s.core c).thread)) → IsBeside s c f
+    → is_node (s.frame f) ≡ false
+beside_no_node s c f own (inl is) = thread_no_node (s.frame f) (subst (λ (g : ℕ). IsTrue (fits kind.Thread (s.frame g))) is own)
+beside_no_node s c f own (inr (inl has)) = thread_no_node (s.frame f) has.thread
+beside_no_node s c f own (inr (inr has)) = tcap_no_node (s.frame f) has.tcap
+
+-- A step that neither decides nor returns goes on.
+going_told : (said : Absorbed) → decided_in said ≡ None → returned_in said ≡ None → said ≡ told_as.Going
+going_told told_as.Going d r = refl
+going_told (told_as.Decided q) d r = absurd (cc)
+going_told (told_as.Returned q) d r = absurd (cc)
+
+module _ (setup : Setting) (setting : IsSetting setup) where
+  goes_on_told : (t : Trace) (e : Step) → IsMadeStep setup t e → e.decides ≡ None → e.returns ≡ None
+      → told_of_step (core_at setup t e) (told_of (move_of (core_at setup t e)) e.found) ≡ told_as.Going
+  goes_on_told t e made no_decision no_return =
+      going_told (told_of_step (core_at setup t e) (told_of (move_of (core_at setup t e)) e.found))
+      (sym (ap (λ (x : Step). x.decides) made.made) ∙ no_decision) (sym (ap (λ (x : Step). x.returns) made.made) ∙ no_return)
+
+  -- what a call may use, it may use after a step through which it stays
+  kept : (t : Trace) (e : Step) (c f i : ℕ) (k : Capability) → Stays setup t e c
+      → MayUse (state_after setup t) c (record { node = f; index = i }) k
+      → MayUse (state_after setup (e ∷ t)) c (record { node = f; index = i }) k
+  kept t e c f i k stays may = record {
+    relies = stays.relies f may.relies;
+    usable = stays.usable (record { node = f; index = i }) k may.relies may.usable;
+  }
+
+  comp_kept : (t : Trace) (e : Step) (c f : ℕ) → Stays setup t e c → HasComp (state_after setup t) c f
+      → HasComp (state_after setup (e ∷ t)) c f
+  comp_kept t e c f stays has = record {
+    comp = subst (λ x. IsTrue (fits comp_kind x))
+        (sym (stays.frame f (comp_fixed ((state_after setup t).frame f) has.comp) has.guarded)) has.comp;
+    guarded = stays.guarded f has.guarded;
+  }
+
+  -- what is known of a frame that the call makes untyped stays while other cores step, and at an own step with which the call goes on
+  pub swept_other : (t : Trace) (e : Step) (c f : ℕ) → c ≢ e.core → IsSwept (cores_after setup t c).active f
+      → IsSwept (cores_after setup (e ∷ t) c).active f
+  swept_other t e c f other has = subst (λ k. IsSwept k.active f)
+      (sym (put_other (cores_after setup t) e.core (core_after (core_at setup t e) e.found) c other)) has
+
+  pub swept_own : (t : Trace) (e : Step) → IsMadeStep setup t e → e.enters ≡ None → e.decides ≡ None → e.returns ≡ None → (f : ℕ)
+      → IsSwept (cores_after setup t e.core).active f → IsSwept (cores_after setup (e ∷ t) e.core).active f
+  swept_own t e made no_entry no_decision no_return f has = subst (λ k. IsSwept k.active f)
+      (sym (put_same (cores_after setup t) e.core (core_after (core_at setup t e) e.found) e.core refl))
+      (swept_on (core_at setup t e) f (told_of (move_of (core_at setup t e)) e.found)
+      (subst (λ o. IsSwept (turned o (cores_after setup t e.core)).active f) (sym no_entry) has)
+      (goes_on_told t e made no_decision no_return))
+
+  -- so does what is known of a thread or of a temporal capability
+  pub beside_other : (t : Trace) (e : Step) → IsMade setup (e ∷ t) → (c f : ℕ) (call : Call) → c ≢ e.core → phase t c ≡ Open call
+      → IsBeside (state_after setup t) c f → IsBeside (state_after setup (e ∷ t)) c f
+  beside_other t e made c f call other is has = by has
+    where
+      before : Stands setup (cores_after setup t) t
+      before = made_stands setup setting t made.0
+
+      follows : MayFollow setup t e
+      follows = (made_stands setup setting (e ∷ t) made).legal.1
+
+      here : c < setup.cores
+      here = subst (λ (n : ℕ). c < n) (ap (λ l. l.cores) (limits_of setup t))
+          ((sound_of setup setting t before.legal).inside c (opened_is t c call is)).1
+
+      by : IsBeside (state_after setup t) c f → IsBeside (state_after setup (e ∷ t)) c f
+      by (inl own) = inl (ap (λ k. k.thread) (stays_other setup setting t before.legal e follows c other call is).core ∙ own)
+      by (inr (inl thread)) =
+          inr (inl (guarded_thread setup setting (cores_after setup t) t before e follows c other (ap is_in is) f thread))
+      by (inr (inr tcap)) = inr (inr (tcap_stays setup setting t before.legal e follows c here other (ap is_in is) f tcap))
+
+  pub beside_own : (t : Trace) (e : Step) → e.enters ≡ None → e.decides ≡ None → e.returns ≡ None → (c f : ℕ)
+      → IsBeside (state_after setup t) c f → IsBeside (state_after setup (e ∷ t)) c f
+  beside_own t e no_entry no_decision no_return c f has =
+      subst (λ s. IsBeside s c f) (sym (state_plain setup t e no_entry no_decision no_return)) has
+
+  pub no_entry_kept : (t : Trace) (e : Step) (c f : ℕ) → Stays setup t e c
+      → (IsSwept (cores_after setup t c).active f → IsSwept (cores_after setup (e ∷ t) c).active f)
+      → (IsBeside (state_after setup t) c f → IsBeside (state_after setup (e ∷ t)) c f) → IsNoEntry setup t c f
+      → IsNoEntry setup (e ∷ t) c f
+  no_entry_kept t e c f stays sweeps beside (inl own) = inl (ap (λ x. x.tcap) stays.core ∙ own)
+  no_entry_kept t e c f stays sweeps beside (inr (inl comp)) = inr (inl (comp_kept t e c f stays comp))
+  no_entry_kept t e c f stays sweeps beside (inr (inr (inl swept))) = inr (inr (inl (sweeps swept)))
+  no_entry_kept t e c f stays sweeps beside (inr (inr (inr is))) = inr (inr (inr (beside is)))
+
+  found_kept : (t : Trace) (e : Step) (c f i : ℕ) (k : Capability) → Stays setup t e c
+      → (IsSwept (cores_after setup t c).active f → IsSwept (cores_after setup (e ∷ t) c).active f)
+      → (IsBeside (state_after setup t) c f → IsBeside (state_after setup (e ∷ t)) c f) → IsFound setup t c f i k
+      → IsFound setup (e ∷ t) c f i k
+  found_kept t e c f i k stays sweeps beside (inl may) = inl (kept t e c f i k stays may)
+  found_kept t e c f i k stays sweeps beside (inr none) = inr (no_entry_kept t e c f stays sweeps beside none)
+
+  -- what an unmarked word of a node says to be held is usable
+  holds_it : (t : Trace) → IsMade setup t → (c f i : ℕ) (k : Capability) → Relies (state_after setup t) c f → i < 64
+      → entry_of_word (last_left setup t (EntryAt f i)) ≡ Some (Held k)
+      → MayUse (state_after setup t) c (record { node = f; index = i }) k
+  holds_it t made c f i k relies below held =
+      by_read (place_reads setup (cores_after setup t) t (made_stands setup setting t made) f i relies.node below)
+    where
+      by_read : IsMarked setup t f i ⊎ IsPlain setup t f i → MayUse (state_after setup t) c (record { node = f; index = i }) k
+      by_read (inl m) = absurd (not_closing (sym m.says ∙ held))
+        where
+          not_closing : Some (Closing m.by) ≡ Some (Held k) → ⊥
+          not_closing h = cc
+      by_read (inr p) = record {
+        relies = relies;
+        usable = ap (λ q. usable_in q (((state_after setup t).grace (PlaceOf f i)).waits c))
+            (holds_place setup.frames ((state_after setup t).place f i) (stamp setup t (PlaceOf f i))
+            (entry_of_word (last_left setup t (EntryAt f i))) k p.says held);
+      }
+
+  -- a step within a call is made by the call of its core
+  module _ (t : Trace) (e : Step) (made : IsMade setup (e ∷ t)) where
+    stands : Stands setup (cores_after setup t) t
+    stands = made_stands setup setting t made.0
+
+    move_is : e.move ≡ move_of (core_at setup t e)
+    move_is = ap (λ (x : Step). x.move) made.1.made
+
+    -- a call that begins steps on no entry
+    pub enters_none : (o : Option Call) → e.enters ≡ o → (f i : ℕ) → EntryAt f i ≡ word_of e.move → e.enters ≡ None
+    enters_none None is f i on = is
+    enters_none (Some call) is f i on =
+        absurd (apart (on ∙ ap word_of move_is ∙ ap (λ o. word_of (move_of (turned o (cores_after setup t e.core)))) is))
+      where
+        apart : EntryAt f i ≡ CoreAt (cores_after setup t e.core).own.core → ⊥
+        apart h = cc
+
+    -- its own step on the entry, with which it goes on
+    module _ (call : Call) (is_open : phase t e.core ≡ Open call) (no_entry : e.enters ≡ None) (no_decision : e.decides ≡ None)
+        (no_return : e.returns ≡ None) (f i w : ℕ) (on : EntryAt f i ≡ word_of e.move) (read : HasReadIt e w) (looked : IsLooked call w)
+      where
+        abbrev core : Core
+        core = cores_after setup t e.core
+
+        moves : word_of (move_of core) ≡ EntryAt f i
+        moves = sym (on ∙ ap word_of move_is ∙ ap (λ o. word_of (move_of (turned o core))) no_entry)
+
+        reads_it : reads (move_of core) ≡ true
+        reads_it = sym (ap reads move_is ∙ ap (λ o. reads (move_of (turned o core))) no_entry) ∙ read.by_read
+
+        pub read_in : (f < core.own.layout.frames) × (i < 64)
+        read_in = subst (IsIn core.own.layout) moves
+            (moves_are_words core (stands.each e.core made.1.is_core).fits (subst (λ o. MayStep o core) no_entry made.1.may)).is_in
+
+        through : Stays setup t e e.core
+        through = stays_plain setup t e e.core no_entry no_decision no_return
+
+        after_is : (cores_after setup (e ∷ t) e.core).active ≡ (absorbed_in core.own core.active w).active
+        after_is = ap (λ (k : Core). k.active) (put_same (cores_after setup t) e.core (core_after (core_at setup t e) e.found) e.core refl)
+            ∙ ap (λ o. (absorbed (turned o core) (told_of (move_of (turned o core)) e.found)).active) no_entry
+            ∙ ap (λ (n : ℕ). (absorbed core n).active) (told_read (move_of core) reads_it e.found ∙ read.found)
+
+        goes : told_in core.own core.active w ≡ told_as.Going
+        goes = sym (ap (λ o. told_of_step (turned o core) (told_of (move_of (turned o core)) e.found)) no_entry
+            ∙ ap (λ (n : ℕ). told_of_step core n) (told_read (move_of core) reads_it e.found ∙ read.found))
+            ∙ goes_on_told t e made.1 no_decision no_return
+
+        its : CallIs setup t e.core core.own.table core.active
+        its = (stands.each e.core made.1.is_core).active
+
+        swept_now : (m : Untyping) → untyping_now core.active ≡ Some m → IsSwept (cores_after setup (e ∷ t) e.core).active f
+        swept_now m at = subst (λ o. IsSwept o f) (sym after_is) (elim looked [
+          | inl not ↦ absurd (false≢true (sym not
+              ∙ looks_untypes setup t e.core core.own.table core.own call is_open f i core.active its moves m at))
+          | inr held ↦ (let cap : HeldIn (entry_of_word w) = held_in (entry_of_word w) held in
+              looks_swept setup t e.core core.own.table core.own call is_open f i core.active its moves m at w cap.cap cap.is goes)
+        ])
+
+        pub read_rests : Relies (state_after setup (e ∷ t)) e.core f ⊎ IsNoEntry setup (e ∷ t) e.core f
+        read_rests = by (untyping_now core.active) refl
+          where
+            kept_so : Relies (state_after setup t) e.core f ⊎ IsNoEntry setup t e.core f
+                → Relies (state_after setup (e ∷ t)) e.core f ⊎ IsNoEntry setup (e ∷ t) e.core f
+            kept_so (inl relies) = inl (through.relies f relies)
+            kept_so (inr none) =
+                inr (no_entry_kept t e e.core f through (swept_own t e made.1 no_entry no_decision no_return f)
+                (beside_own t e no_entry no_decision no_return e.core f) none)
+
+            by : (o : Option Untyping) → untyping_now core.active ≡ o
+                → Relies (state_after setup (e ∷ t)) e.core f ⊎ IsNoEntry setup (e ∷ t) e.core f
+            by None at = kept_so (step_relies setup setting t (cores_after setup t) stands e.core call is_open f i core.own.table core.own
+                core.active its moves reads_it at)
+            by (Some m) at = inr (inr (inr (inl (swept_now m at))))
+
+        -- what it has found held there
+        pub read_now : (k : Capability) → entry_of_word w ≡ Some (Held k) → IsFound setup (e ∷ t) e.core f i k
+        read_now k held = by read_rests
+          where
+            by : Relies (state_after setup (e ∷ t)) e.core f ⊎ IsNoEntry setup (e ∷ t) e.core f → IsFound setup (e ∷ t) e.core f i k
+            by (inl relies) = inl (holds_it (e ∷ t) made e.core f i k relies read_in.1
+                (ap entry_of_word (last_left-here setup (EntryAt f i) e t on ∙ read.left ∙ read.found) ∙ held))
+            by (inr none) = inr none
+
+  -- what holds before a step within a call or beside it holds after it
+  lasts_on : (t : Trace) (e : Step) → IsMade setup (e ∷ t) → FoundLasts setup t → FoundLasts setup (e ∷ t)
+  lasts_on t e made found c call is f i w k own held = elim (cases_eq c e.core) [
+    | inr other ↦ (let before : phase t c ≡ Open call = sym (phase-other c e t other) ∙ is in
+        let legal : IsLegal setup (e ∷ t) = (made_stands setup setting (e ∷ t) made).legal in
+        found_kept t e c f i k (stays_other setup setting t legal.0 e legal.1 c other call before) (swept_other t e c f other)
+        (beside_other t e made c f call other before)
+        (found c call before f i w k (sym (own_read-other c e t other (EntryAt f i)) ∙ own) held))
+    | inl same ↦ subst (λ (d : ℕ). IsFound setup (e ∷ t) d f i k) (sym same)
+        (by_own (subst (λ (d : ℕ). phase (e ∷ t) d ≡ Open call) same is)
+        (subst (λ (d : ℕ). own_read (e ∷ t) d (EntryAt f i) ≡ Some w) same own))
+  ] where
+    opened : e.enters ≡ None → phase (e ∷ t) e.core ≡ Open call → WasOpen e.decides e.returns (phase t e.core) call
+    opened no_entry now = was_open e.decides e.returns (phase t e.core) call
+        (ap (λ o. after_return e.returns (after_decide e.decides (after_enter o (phase t e.core)))) (sym no_entry)
+        ∙ sym (phase-own e.core e t refl) ∙ now)
+
+    through : e.enters ≡ None → WasOpen e.decides e.returns (phase t e.core) call → Stays setup t e e.core
+    through no_entry was = stays_plain setup t e e.core no_entry was.no_decision was.no_return
+
+    by_own : phase (e ∷ t) e.core ≡ Open call → own_read (e ∷ t) e.core (EntryAt f i) ≡ Some w
+        → IsFound setup (e ∷ t) e.core f i k
+    by_own now read = elim (cases_word (EntryAt f i) (word_of e.move)) [
+      | inl on ↦ (let no_entry : e.enters ≡ None = enters_none t e made e.enters refl f i on in
+          let was : WasOpen e.decides e.returns (phase t e.core) call = opened no_entry now in
+          read_now t e made call was.before no_entry was.no_decision was.no_return f i w on
+          (has_read e w (only_reads e) refl (sym (own_read-here e.core e t refl (EntryAt f i) on) ∙ read)) (inr (ap is_held held)) k held)
+      | inr there ↦ (let had : (e.enters ≡ None) × (own_read t e.core (EntryAt f i) ≡ Some w) =
+          entered_none e.enters (own_read t e.core (EntryAt f i)) w (sym (own_read-there e.core e t refl (EntryAt f i) there) ∙ read) in
+          let was : WasOpen e.decides e.returns (phase t e.core) call = opened had.0 now in
+          found_kept t e e.core f i k (through had.0 was) (swept_own t e made.1 had.0 was.no_decision was.no_return f)
+          (beside_own t e had.0 was.no_decision was.no_return e.core f)
+          (found e.core call was.before f i w k had.1 held))
+    ]
+
+  lasts_along : (t : Trace) → IsMade setup t → FoundLasts setup t
+  lasts_along [] made = λ c call is f i w k own held. absurd (none_some w own)
+  lasts_along (e ∷ t) made = lasts_on t e made (lasts_along t made.0)
+
+pub places_found : PlacesFound
+places_found setup setting t made c call is f i w k own held node = by (lasts_along setup setting t made c call is f i w k own held)
+  where
+    stands : Stands setup (cores_after setup t) t
+    stands = made_stands setup setting t made
+
+    below : c < (state_after setup t).limits.cores
+    below = ((sound_of setup setting t stands.legal).inside c (opened_is t c call is)).1
+
+    by : IsFound setup t c f i k → MayUse (state_after setup t) c (record { node = f; index = i }) k
+    by (inl may) = may
+    by (inr (inl own)) = absurd (false≢true (sym (tcap_no_node ((state_after setup t).frame f)
+        (subst (λ (g : ℕ). IsTrue (fits kind.Tcap ((state_after setup t).frame g))) own
+        ((sound_of setup setting t stands.legal).cores c below).1)) ∙ node))
+    by (inr (inr (inl comp))) = absurd (comp_no_node ((state_after setup t).frame f) comp.comp node)
+    by (inr (inr (inr (inl swept)))) =
+        absurd (false≢true (sym (swept_no_node setup (cores_after setup t) t stands c f swept) ∙ node))
+    by (inr (inr (inr (inr is)))) = absurd (false≢true
+        (sym (beside_no_node (state_after setup t) c f ((sound_of setup setting t stands.legal).cores c below).0 is) ∙ node))
+
+-- A scan for a stamp that is past has passed a core.
+record HasPassed (setup : Setting) (t : Trace) (x : Thing) (at d : ℕ) : Type 0 where
+  pub past : at < clock setup t
+  pub passed : Passed setup t x at d
+
+module _ (setup : Setting) (setting : IsSetting setup) where
+  -- it has passed the core after each further step
+  passes_on : (t : Trace) (e : Step) → IsMade setup (e ∷ t) → (x : Thing) (at d : ℕ) → HasPassed setup t x at d
+      → HasPassed setup (e ∷ t) x at d
+  passes_on t e made x at d has =
+      let stands : Stands setup (cores_after setup t) t = made_stands setup setting t made.0 in
+      let follows : MayFollow setup t e = (made_stands setup setting (e ∷ t) made).legal.1 in
+      let time : KeepsTime setup t e = made_times setup setting t e made in
+      record {
+        past = still_past setup t e follows time stands.graces at has.past;
+        passed = passed_on setup t e follows time stands.graces x at d has.past has.passed;
+      }
+
+  -- before the step that finds the core's word, the core does not wait
+  passes : (t : Trace) (e : Step) → IsMade setup (e ∷ t) → (d : ℕ) (v : CoreWord) → word_of e.move ≡ CoreAt d
+      → core_of_word e.found ≡ Some v → (at : ℕ) → ShowsPassed v at → (x : Thing) → Passed setup t x at d
+  passes t e made d v on shows at passed x = by_word passed
+    where
+      stands : Stands setup (cores_after setup t) t
+      stands = made_stands setup setting t made.0
+
+      says : v ≡ record { inside = ((state_after setup t).core d).inside; stamp = exit_of t d }
+      says = some_inj v _ (sym shows ∙ ap core_of_word (made.1.found ∙ ap (last_left setup t) on) ∙ stands.words (CoreAt d))
+
+      by_word : ShowsPassed v at → Passed setup t x at d
+      by_word (inl out) = out_passed setup t x (stands.graces x) d at (sym (ap (λ (k : CoreWord). k.inside) says) ∙ out)
+      by_word (inr later) =
+          later_passed setup t x (stands.graces x) d at (subst (λ (n : ℕ). at < n) (ap (λ (k : CoreWord). k.stamp) says) later)
+
+  passes_along : (u t : Trace) (e : Step) → IsMade setup (u ++ e ∷ t) → (d : ℕ) (v : CoreWord) → word_of e.move ≡ CoreAt d
+      → core_of_word e.found ≡ Some v → (at : ℕ) → at < clock setup t → ShowsPassed v at → (x : Thing)
+      → HasPassed setup (u ++ e ∷ t) x at d
+  passes_along [] t e made d v on shows at past passed x =
+      passes_on t e made x at d (record { past = past; passed = passes t e made d v on shows at passed x })
+  passes_along (g ∷ u) t e made d v on shows at past passed x =
+      passes_on (u ++ e ∷ t) g made x at d (passes_along u t e made.0 d v on shows at past passed x)
+
+pub scanned_cores : ScannedCores
+scanned_cores setup setting u t e made d v on shows at past passed x is =
+    (passes_along setup setting u t e made d v on shows at past passed x).passed is

@@ -1,0 +1,394 @@
+-- A call that makes a frame untyped looks at the object in it. What it finds held in the entry of a node refuses it; so a word of the frame
+-- that it reads and goes on from, and that says that something is held, is of no node.
+use Rattle.std.proofs.Common.{◌≡◌, ℕ, ℤ, ◌+◌, nat_le, Bool, true, false, List, [], ◌∷◌, length, slice_get, Option, Some, None, refl, sym, ◌∙◌, ap, subst}
+use Rattle.std.proofs.lemmas.Bool.{false≢true}
+use Rattle.spk_nums.specs.Capability.{Capability}
+use Rattle.spk_nums.specs.Setting.{Setting}
+use Rattle.spk_nums.specs.declared.calls.Call.{Call}
+use Rattle.spk_nums.specs.declared.calls.Call.TheVariants.{Retype}
+use Rattle.spk_nums.specs.declared.kinds.FrameKind.TheVariants as frame_kind
+use Rattle.spk_nums.specs.declared.kinds.Obj.{Obj}
+use Rattle.spk_nums.specs.declared.kinds.Obj.TheVariants as obj
+use Rattle.spk_nums.specs.declared.replies.Reply.{Reply}
+use Rattle.spk_nums.specs.declared.replies.Reply.TheVariants as reply
+use Rattle.spk_nums.specs.declared.steps.StageEnd.{StageEnd}
+use Rattle.spk_nums.specs.declared.steps.StageEnd.TheVariants as ends
+use Rattle.entry_words.specs.EntryWord.{entry_of_word}
+use Rattle.entry_words.specs.declared.entry.Entry.TheVariants as entry
+use Rattle.frame_words.specs.Frame.{frame_of_word}
+use Rattle.frame_words.specs.declared.frame_word.FrameWord.{FrameWord}
+use Rattle.word_map.specs.Word.{Word, EntryAt, FrameAt}
+use Rattle.word_map.specs.Moves.{word_of}
+use Rattle.kernel_rules.specs.State.{Frame, Untyped, User, Kernel, Object, Blank, Table, Leaf, Pages, Pleaf, Comp, Thread, Tcap}
+use Rattle.kernel_rules.specs.Relies.{is_node}
+use Rattle.kernel_history.specs.ObjectWords.{frame_value}
+use Rattle.kernel_history.specs.Trace.{Trace, Open, phase, state_after, last_left}
+use Rattle.trace_laws.proofs.Opens.{open_inj}
+use Rattle.stage_look.specs.Shown.{end_of_frames, entry_within, held_if, shown_in}
+use Rattle.stage_pins.specs.Acquire.{pin_after, pin_end}
+use Rattle.stage_pins.specs.declared.pin.Pin.{Pin}
+use Rattle.stage_pins.specs.declared.pin.Pin.TheVariants.{AtLoad, AtCompare as pin_compare}
+use Rattle.stage_pins.specs.declared.pin.Pinned.{Pinned}
+use Rattle.stage_quiet.specs.declared.quiet.Quiet.TheVariants.{AtCore, AtFlush}
+use Rattle.stage_sweep.specs.Emptiness.{empty_refuses, entry_refuses}
+use Rattle.stage_sweep.specs.Freeze.{end_by, move_at, refuses_at, sweep_after, sweep_end, sweep_kept, sweep_next, sweep_refuses, swept_of}
+use Rattle.stage_sweep.specs.declared.sweep.Sweep.{Sweep}
+use Rattle.stage_sweep.specs.declared.sweep.SweepAt.{SweepAt}
+use Rattle.stage_sweep.specs.declared.sweep.SweepAt.TheVariants.{Load as sweep_load, Compare, Scan as sweep_scan, Empty}
+use Rattle.stage_sweep.specs.declared.sweep.Swept.{Swept}
+use Rattle.act_states.specs.Acts.{acquires, dues, next_work, took_sweep, took_untyping_at}
+use Rattle.act_states.specs.Untypings.{release_of, untyping_at}
+use Rattle.act_states.specs.declared.own.Own.{Own}
+use Rattle.act_states.specs.declared.untypings.UntypingAt.{UntypingAt}
+use Rattle.act_states.specs.declared.untypings.UntypingAt.TheVariants as untype
+use Rattle.act_states.specs.declared.untypings.Untyping.{Untyping}
+use Rattle.act_states.specs.declared.work.Act.{Act as ActOf}
+use Rattle.act_states.specs.declared.work.Act.TheVariants.{Untype}
+use Rattle.act_states.specs.declared.work.Due.{Due}
+use Rattle.act_states.specs.declared.work.Work.{Work}
+use Rattle.act_states.specs.declared.work.WorkStep.TheVariants.{Acquires}
+use Rattle.act_states.specs.declared.work.Work.TheVariants.{Lookup, Read, Scan, Acquire, Act}
+use Rattle.call_stages.specs.Cores.{absorbed, absorbed_in, core_after, move_in, told_by, told_in, told_of_step}
+use Rattle.call_stages.specs.Steps.{landed, stage_move, took_at, took_count}
+use Rattle.call_stages.specs.View.{Core}
+use Rattle.call_stages.specs.declared.stages.Absorbed.TheVariants as told_as
+use Rattle.call_stages.specs.declared.stages.ActiveCall.{ActiveCall}
+use Rattle.call_stages.specs.declared.stages.Stage.{Stage}
+use Rattle.call_stages.specs.declared.stages.Stage.TheVariants.{Enter, Undecided, Decided, Leave}
+use Rattle.core_invariant.specs.Frozen.{holds_untyping}
+use Rattle.core_invariant.specs.Holding.{Holding, holds_counts, settled, settled_by}
+use Rattle.core_invariant.specs.Stands.{Stands, held_by, holds_act, holds_at, holds_in}
+use Rattle.core_invariant.specs.Knows.{CallIs, KnowsAt, phase_at, untypes}
+use Rattle.core_invariant.specs.Sweeps.{KnowsSweep, KnowsUntypingAt, UntypesBy}
+use Rattle.core_invariant.proofs.Freezing.{release_frame}
+
+-- Whether an object is a node, and whether a frame's word says so.
+abbrev is_node_object : Obj → Bool
+is_node_object obj.Table = true
+is_node_object obj.Leaf = true
+is_node_object obj.Pages = true
+is_node_object obj.Pleaf = true
+is_node_object _ = false
+
+abbrev is_node_word : Option FrameWord → Bool
+is_node_word None = false
+is_node_word (Some v) = is_node_object v.object
+
+node_value : (x : Frame) → is_node_object (frame_value x).object ≡ is_node x
+node_value Untyped = refl
+node_value User = refl
+node_value (Kernel Blank) = refl
+node_value (Kernel Table) = refl
+node_value (Kernel Leaf) = refl
+node_value (Kernel Pages) = refl
+node_value (Kernel Pleaf) = refl
+node_value (Kernel (Comp k)) = refl
+node_value (Kernel (Thread k)) = refl
+node_value (Kernel (Tcap k)) = refl
+
+-- The act that makes a frame untyped, at which a call stands, and the frame's word as it was found, from when it is marked.
+abbrev untyping_act : ActOf → Option Untyping
+untyping_act (Untype m) = Some m
+untyping_act _ = None
+
+abbrev pub untyping_in : Work → Option Untyping
+untyping_in (Lookup look) = None
+untyping_in (Read comp look) = None
+untyping_in (Scan q act) = None
+untyping_in (Acquire pin change act) = untyping_act act
+untyping_in (Act act) = untyping_act act
+
+abbrev pub untyping_of : Stage → Option Untyping
+untyping_of Enter = None
+untyping_of (Undecided work) = untyping_in work
+untyping_of (Decided r drawn tail) = None
+untyping_of (Leave r x) = None
+
+abbrev word_found : UntypingAt → Option ℕ
+word_found untype.Load = None
+word_found (untype.Mark word v) = None
+word_found (untype.Sweep word w) = Some word
+word_found (untype.Draw word w) = Some word
+
+-- A call is making this frame untyped, has marked its word, and that says that it is no node.
+pub record IsSweptIn (a : ActiveCall) (f : ℕ) : Type 0 where
+  pub act : Untyping
+  pub at : untyping_of a.stage ≡ Some act
+  pub frame : act.frame ≡ f
+  pub word : ℕ
+  pub found : word_found act.at ≡ Some word
+  pub plain : is_node_word (frame_of_word word) ≡ false
+
+abbrev pub IsSwept : Option ActiveCall → ℕ → Type 0
+IsSwept None f = ⊥
+IsSwept (Some a) f = IsSweptIn a f
+
+none_some : {A : Type 0} (x : A) → None ≡ Some x → ⊥
+none_some x h = cc
+
+some_act : (m n : Untyping) → Some m ≡ Some n → m ≡ n
+some_act m n h = cc
+
+act_is : (act : ActOf) (m : Untyping) → untyping_act act ≡ Some m → act ≡ Untype m
+act_is (Untype m) n is = ap (λ x. Untype x) (some_act m n is)
+act_is act n is = absurd (none_some n is)
+
+not_going : (r : Reply) → told_as.Decided r ≡ told_as.Going → ⊥
+not_going r h = cc
+
+-- What a core knows that goes on at such an act.
+module _ (own : Own) (a : ActiveCall) (f : ℕ) where
+  -- from the act, where the word stays
+  from_act : (act : Untyping) (word : ℕ) → act.frame ≡ f → is_node_word (frame_of_word word) ≡ false → (at : UntypingAt)
+      → word_found at ≡ Some word → (found : ℕ)
+      → told_by (landed a (took_untyping_at own.layout act at found)) ≡ told_as.Going
+      → IsSwept (core_after own (landed a (took_untyping_at own.layout act at found))).active f
+  from_act act word same plain untype.Load is found goes = absurd (none_some word is)
+  from_act act word same plain (untype.Mark x v) is found goes = absurd (none_some word is)
+  from_act act word same plain (untype.Draw x w) is found goes = absurd (not_going _ goes)
+  from_act act word same plain (untype.Sweep x w) is found goes = by (sweep_end own.layout w found) goes
+    where
+      by : (e : StageEnd Swept) → told_by (landed a (took_sweep act x (sweep_after own.layout w found) e)) ≡ told_as.Going
+          → IsSwept (core_after own (landed a (took_sweep act x (sweep_after own.layout w found) e))).active f
+      by ends.Going goes = record {
+        act = record act { at = untype.Sweep x (sweep_after own.layout w found) };
+        at = refl;
+        frame = same;
+        word = word;
+        found = is;
+        plain = plain;
+      }
+      by (ends.Decided r) goes = absurd (not_going _ goes)
+      by (ends.Refuse r) goes = absurd (not_going _ goes)
+      by (ends.Done swept) goes = by_due (slice_get (dues (Untype drawing)) 0)
+        where
+          drawing : Untyping
+          drawing = record act { at = untype.Draw x swept }
+
+          by_due : (o : Option Due)
+              → IsSweptIn (record a { steps = a.steps + 1; stage = Undecided (acquires act.core (Untype drawing) o) }) f
+          by_due None = record { act = drawing; at = refl; frame = same; word = word; found = is; plain = plain }
+          by_due (Some due) = record { act = drawing; at = refl; frame = same; word = word; found = is; plain = plain }
+
+  -- from the acquiring of a count
+  from_count : (core n : ℕ) (change : ℤ) (act : Untyping) (word : ℕ) → act.frame ≡ f → is_node_word (frame_of_word word) ≡ false
+      → word_found act.at ≡ Some word → (pin : Pin) (e : StageEnd Pinned)
+      → told_by (landed a (took_count core n change (Untype act) pin e)) ≡ told_as.Going
+      → IsSwept (core_after own (landed a (took_count core n change (Untype act) pin e))).active f
+  from_count core n change act word same plain is pin ends.Going goes =
+      record { act = act; at = refl; frame = same; word = word; found = is; plain = plain }
+  from_count core n change act word same plain is pin (ends.Decided r) goes = absurd (not_going _ goes)
+  from_count core n change act word same plain is pin (ends.Refuse r) goes = absurd (not_going _ goes)
+  from_count core n change act word same plain is pin (ends.Done p) goes = by (slice_get (dues (Untype act)) (n + 1))
+    where
+      by : (o : Option Due) → IsSwept (core_after own (landed a
+          (Acquires (record { pin = p; change = change })
+          (acquires core (Untype act) o)))).active f
+      by None = record { act = act; at = refl; frame = same; word = word; found = is; plain = plain }
+      by (Some due) = record { act = act; at = refl; frame = same; word = word; found = is; plain = plain }
+
+  by_work : (work : Work) (m : Untyping) → untyping_in work ≡ Some m → (word : ℕ) → m.frame ≡ f → word_found m.at ≡ Some word
+      → is_node_word (frame_of_word word) ≡ false → (found : ℕ)
+      → told_by (took_at own a (Undecided work) found) ≡ told_as.Going
+      → IsSwept (core_after own (took_at own a (Undecided work) found)).active f
+  by_work (Lookup look) m is word same shown plain found goes = absurd (none_some m is)
+  by_work (Read comp look) m is word same shown plain found goes = absurd (none_some m is)
+  by_work (Scan q act) m is word same shown plain found goes = absurd (none_some m is)
+  by_work (Acquire pin change act) m is word same shown plain found goes =
+      subst (λ x. told_by (took_at own a (Undecided (Acquire pin change x)) found) ≡ told_as.Going
+      → IsSwept (core_after own (took_at own a (Undecided (Acquire pin change x)) found)).active f) (sym (act_is act m is))
+      (from_count own.core (length a.counts) change m word same plain shown (pin_after pin found) (pin_end pin found)) goes
+  by_work (Act act) m is word same shown plain found goes =
+      subst (λ x. told_by (took_at own a (Undecided (Act x)) found) ≡ told_as.Going
+      → IsSwept (core_after own (took_at own a (Undecided (Act x)) found)).active f) (sym (act_is act m is))
+      (from_act m word same plain m.at shown found) goes
+
+  by_stage : (stage : Stage) (m : Untyping) → untyping_of stage ≡ Some m → (word : ℕ) → m.frame ≡ f → word_found m.at ≡ Some word
+      → is_node_word (frame_of_word word) ≡ false → (found : ℕ) → told_by (took_at own a stage found) ≡ told_as.Going
+      → IsSwept (core_after own (took_at own a stage found)).active f
+  by_stage Enter m is word same shown plain found goes = absurd (none_some m is)
+  by_stage (Undecided work) m is word same shown plain found goes = by_work work m is word same shown plain found goes
+  by_stage (Decided r drawn tail) m is word same shown plain found goes = absurd (none_some m is)
+  by_stage (Leave r x) m is word same shown plain found goes = absurd (none_some m is)
+
+-- It stays so while the call goes on.
+swept_in_on : (own : Own) (o : Option ActiveCall) (f found : ℕ) → IsSwept o f → told_in own o found ≡ told_as.Going
+    → IsSwept (absorbed_in own o found).active f
+swept_in_on own None f found has goes = absurd has
+swept_in_on own (Some a) f found has goes =
+    by_stage own a f a.stage has.act has.at has.word has.frame has.found has.plain found goes
+
+pub swept_on : (core : Core) (f found : ℕ) → IsSwept core.active f → told_of_step core found ≡ told_as.Going
+    → IsSwept (absorbed core found).active f
+swept_on core f found has goes = swept_in_on core.own core.active f found has goes
+
+-- A word of a node's entry which says that something is held refuses the call.
+refuses_held : (frames : ℕ) (o : Obj) (at found : ℕ) (k : Capability) → entry_of_word found ≡ Some (entry.Held k)
+    → is_node_object o ≡ true → empty_refuses frames o at found ≡ None → ⊥
+refuses_held frames o at found k held node none = by o node none
+  where
+    shown : entry_refuses (shown_in frames found) ≡ None → ⊥
+    shown none = by_within (nat_le (end_of_frames k.kind k.frame k.arg) frames)
+        (ap (λ x. entry_refuses (entry_within frames x)) (sym held) ∙ none)
+      where
+        by_within : (b : Bool) → entry_refuses (held_if b k) ≡ None → ⊥
+        by_within true h = cc
+        by_within false h = cc
+
+    by : (o : Obj) → is_node_object o ≡ true → empty_refuses frames o at found ≡ None → ⊥
+    by obj.Table node none = shown none
+    by obj.Leaf node none = shown none
+    by obj.Pages node none = shown none
+    by obj.Pleaf node none = shown none
+    by _ node none = absurd (false≢true node)
+
+-- A load of an entry by which a call looks at an object, and goes on, though it has found there that something is held: the frame is no node.
+module _ (setup : Setting) (t : Trace) (c : ℕ) (own : Own) (a : ActiveCall) (m : Untyping) (f i found : ℕ) (k : Capability)
+    (held : entry_of_word found ≡ Some (entry.Held k)) where
+  -- what it leads to
+  abbrev Leads : UntypingAt → Type 0
+  Leads at = told_by (landed a (took_untyping_at own.layout m at found)) ≡ told_as.Going
+      → IsSwept (core_after own (landed a (took_untyping_at own.layout m at found))).active f
+
+  same_frame : (g j : ℕ) → EntryAt g j ≡ EntryAt f i → g ≡ f
+  same_frame g j h = cc
+
+  at_entry : (word entry_no : ℕ) (w : Sweep) → w.at ≡ Empty entry_no → KnowsSweep setup t c m.frame word w → w.frame ≡ f
+      → Leads (untype.Sweep word w)
+  at_entry word entry_no w at_is knows same goes = by (is_node_object w.word.object) refl
+    where
+      refused : (o : Option Reply) → sweep_refuses own.layout w found ≡ o → is_node_object w.word.object ≡ true → ⊥
+      refused None none node = refuses_held own.layout.frames w.word.object entry_no found k held node
+          (ap (λ x. refuses_at own.layout w.word.object (sweep_kept w found) x found) (sym at_is) ∙ none)
+      refused (Some r) some node = not_going _ (subst
+          (λ o. told_by (landed a (took_sweep m word (sweep_after own.layout w found)
+          (end_by o (sweep_next own.layout w found) (swept_of (sweep_after own.layout w found))))) ≡ told_as.Going) some goes)
+
+      by : (b : Bool) → is_node_object w.word.object ≡ b
+          → IsSwept (core_after own (landed a (took_untyping_at own.layout m (untype.Sweep word w) found))).active f
+      by true node = absurd (refused (sweep_refuses own.layout w found) refl node)
+      by false plain = from_act own a f m word (sym knows.frame ∙ same) (ap is_node_word knows.met.says ∙ plain) (untype.Sweep word w) refl
+          found goes
+
+  at_sweep : (word : ℕ) (w : Sweep) → KnowsSweep setup t c m.frame word w → (at : SweepAt) → w.at ≡ at
+      → word_of (move_at w.frame w.core (length w.kept) at) ≡ EntryAt f i → Leads (untype.Sweep word w)
+  at_sweep word w knows sweep_load is on goes = absurd (cc)
+  at_sweep word w knows (Compare count stamp) is on goes = absurd (cc)
+  at_sweep word w knows (sweep_scan (AtCore x by at page)) is on goes = absurd (cc)
+  at_sweep word w knows (sweep_scan (AtFlush x at)) is on goes = absurd (cc)
+  at_sweep word w knows (Empty entry_no) is on goes = at_entry word entry_no w is knows (same_frame w.frame entry_no on) goes
+
+  at_act : (at : UntypingAt) → KnowsUntypingAt setup t c m.frame at → word_of (untyping_at m.frame m.core at) ≡ EntryAt f i → Leads at
+  at_act untype.Load knows on goes = absurd (cc)
+  at_act (untype.Mark word v) knows on goes = absurd (cc)
+  at_act (untype.Sweep word w) knows on goes = at_sweep word w knows w.at refl on goes
+  at_act (untype.Draw word w) knows on goes = absurd (cc)
+
+-- The frame of such an act is none.
+holds_word : (f : ℕ) (at : UntypingAt) (word : ℕ) → word_found at ≡ Some word → (h : Holding)
+    → ((holds_untyping f at h).marks (FrameAt f) ≡ true) × ((holds_untyping f at h).stands (FrameAt f) ≡ word)
+holds_word f untype.Load word is h = absurd (none_some word is)
+holds_word f (untype.Mark x v) word is h = absurd (none_some word is)
+holds_word f (untype.Sweep x w) word is h =
+    let frame = release_frame (release_of f x (swept_of w) false) h in (frame.0, frame.1 ∙ same_word x word is)
+  where
+    same_word : (x y : ℕ) → Some x ≡ Some y → x ≡ y
+    same_word x y h = cc
+holds_word f (untype.Draw x w) word is h =
+    let frame = release_frame (release_of f x w false) h in (frame.0, frame.1 ∙ same_word x word is)
+  where
+    same_word : (x y : ℕ) → Some x ≡ Some y → x ≡ y
+    same_word x y h = cc
+
+holds_stage_word : (a : ActiveCall) (m : Untyping) (stage : Stage) → untyping_of stage ≡ Some m → (word : ℕ) → word_found m.at ≡ Some word
+    → ((holds_at stage a.counts).marks (FrameAt m.frame) ≡ true) × ((holds_at stage a.counts).stands (FrameAt m.frame) ≡ word)
+holds_stage_word a m Enter is word shown = absurd (none_some m is)
+holds_stage_word a m (Decided r drawn tail) is word shown = absurd (none_some m is)
+holds_stage_word a m (Leave r x) is word shown = absurd (none_some m is)
+holds_stage_word a m (Undecided (Lookup look)) is word shown = absurd (none_some m is)
+holds_stage_word a m (Undecided (Read comp look)) is word shown = absurd (none_some m is)
+holds_stage_word a m (Undecided (Scan q act)) is word shown = absurd (none_some m is)
+holds_stage_word a m (Undecided (Acquire pin change act)) is word shown =
+    subst (λ x. ((holds_act x (holds_counts None a.counts)).marks (FrameAt m.frame) ≡ true)
+    × ((holds_act x (holds_counts None a.counts)).stands (FrameAt m.frame) ≡ word)) (sym (act_is act m is))
+    (holds_word m.frame m.at word shown (holds_counts None a.counts))
+holds_stage_word a m (Undecided (Act act)) is word shown =
+    subst (λ x. ((holds_act x (holds_counts None a.counts)).marks (FrameAt m.frame) ≡ true)
+    × ((holds_act x (holds_counts None a.counts)).stands (FrameAt m.frame) ≡ word)) (sym (act_is act m is))
+    (holds_word m.frame m.at word shown (holds_counts None a.counts))
+
+pub swept_no_node : (setup : Setting) (cores : ℕ → Core) (t : Trace) → Stands setup cores t → (c f : ℕ) → IsSwept (cores c).active f
+    → is_node ((state_after setup t).frame f) ≡ false
+swept_no_node setup cores t stands c f has = by (cores c).active refl has
+  where
+    by : (o : Option ActiveCall) → (cores c).active ≡ o → IsSwept o f → is_node ((state_after setup t).frame f) ≡ false
+    by None active has = absurd has
+    by (Some a) active has =
+        subst (λ (n : ℕ). is_node ((state_after setup t).frame n) ≡ false) has.frame
+        (let held = holds_stage_word a has.act a.stage has.at has.word has.found in
+        let w : Word = FrameAt has.act.frame in
+        let mine : (held_by cores c).marks w ≡ true = ap (λ o. (holds_in o).marks w) active ∙ held.0 in
+        let settled_is : settled setup (held_by cores) t w ≡ has.word =
+        ap (λ o. settled_by o (held_by cores) w (last_left setup t w)) ((stands.marks w c).kept mine)
+        ∙ ap (λ o. (holds_in o).stands w) active ∙ held.1 in
+        let says : frame_of_word has.word ≡ Some (frame_value ((state_after setup t).frame has.act.frame)) =
+        subst (λ (n : ℕ). frame_of_word n ≡ Some (frame_value ((state_after setup t).frame has.act.frame))) settled_is (stands.words w) in
+        sym (node_value ((state_after setup t).frame has.act.frame)) ∙ ap is_node_word (sym says) ∙ has.plain)
+
+-- The act at which a core stands that makes a frame untyped.
+abbrev pub untyping_now : Option ActiveCall → Option Untyping
+untyping_now None = None
+untyping_now (Some a) = untyping_of a.stage
+
+untypes_true : (call : Call) (ks : List Capability) (m : Untyping) → UntypesBy call ks m → untypes call ≡ true
+untypes_true (Retype r f frame_kind.Untyped) (range ∷ []) m is = refl
+untypes_true (Retype r f frame_kind.Untyped) [] m is = absurd is
+untypes_true (Retype r f frame_kind.Untyped) (range ∷ k ∷ ks) m is = absurd is
+untypes_true call ks m is = absurd is
+
+-- Such a core steps on an entry only where its call looks at the object: the call makes a frame untyped, and an entry that it goes on from,
+-- though it says that something is held, is of no node.
+module _ (setup : Setting) (t : Trace) (c table : ℕ) (own : Own) (call : Call) (is_open : phase t c ≡ Open call) (f i : ℕ) where
+  its_call : (a : ActiveCall) → phase t c ≡ Open a.call → untypes a.call ≡ true → untypes call ≡ true
+  its_call a phase_is is = ap untypes (open_inj call a.call (sym phase_is ∙ is_open)) ∙ is
+
+  stage_untypes : (a : ActiveCall) (m : Untyping) (stage : Stage) → phase t c ≡ phase_at a.call stage → KnowsAt setup t c table a stage
+      → word_of (stage_move own a.counts stage) ≡ EntryAt f i → untyping_of stage ≡ Some m → untypes call ≡ true
+  stage_untypes a m Enter at has on is = absurd (none_some m is)
+  stage_untypes a m (Decided r drawn tail) at has on is = absurd (none_some m is)
+  stage_untypes a m (Leave r x) at has on is = absurd (none_some m is)
+  stage_untypes a m (Undecided (Lookup look)) at has on is = absurd (none_some m is)
+  stage_untypes a m (Undecided (Read comp look)) at has on is = absurd (none_some m is)
+  stage_untypes a m (Undecided (Scan q act)) at has on is = absurd (none_some m is)
+  stage_untypes a m (Undecided (Acquire (AtLoad frame core) change act)) at has on is = absurd (cc)
+  stage_untypes a m (Undecided (Acquire (pin_compare frame core count stamp) change act)) at has on is = absurd (cc)
+  stage_untypes a m (Undecided (Act (Untype n))) at has on is =
+      its_call a at (untypes_true a.call a.found n has.knows.knows.untypes)
+  stage_untypes a m (Undecided (Act act)) at has on is = absurd (none_some m is)
+
+  pub looks_untypes : (o : Option ActiveCall) → CallIs setup t c table o → word_of (move_in own o) ≡ EntryAt f i → (m : Untyping)
+      → untyping_now o ≡ Some m → untypes call ≡ true
+  looks_untypes None has on m is = absurd (none_some m is)
+  looks_untypes (Some a) has on m is = stage_untypes a m a.stage has.phase has.knows on is
+
+  stage_swept : (a : ActiveCall) (m : Untyping) (stage : Stage) → KnowsAt setup t c table a stage
+      → word_of (stage_move own a.counts stage) ≡ EntryAt f i → untyping_of stage ≡ Some m → (found : ℕ) (k : Capability)
+      → entry_of_word found ≡ Some (entry.Held k) → told_by (took_at own a stage found) ≡ told_as.Going
+      → IsSwept (core_after own (took_at own a stage found)).active f
+  stage_swept a m Enter has on is found k held goes = absurd (none_some m is)
+  stage_swept a m (Decided r drawn tail) has on is found k held goes = absurd (none_some m is)
+  stage_swept a m (Leave r x) has on is found k held goes = absurd (none_some m is)
+  stage_swept a m (Undecided (Lookup look)) has on is found k held goes = absurd (none_some m is)
+  stage_swept a m (Undecided (Read comp look)) has on is found k held goes = absurd (none_some m is)
+  stage_swept a m (Undecided (Scan q act)) has on is found k held goes = absurd (none_some m is)
+  stage_swept a m (Undecided (Acquire (AtLoad frame core) change act)) has on is found k held goes = absurd (cc)
+  stage_swept a m (Undecided (Acquire (pin_compare frame core count stamp) change act)) has on is found k held goes = absurd (cc)
+  stage_swept a m (Undecided (Act (Untype n))) has on is found k held goes =
+      at_act setup t c own a n f i found k held n.at has.knows.knows.at on goes
+  stage_swept a m (Undecided (Act act)) has on is found k held goes = absurd (none_some m is)
+
+  pub looks_swept : (o : Option ActiveCall) → CallIs setup t c table o → word_of (move_in own o) ≡ EntryAt f i → (m : Untyping)
+      → untyping_now o ≡ Some m → (found : ℕ) (k : Capability) → entry_of_word found ≡ Some (entry.Held k)
+      → told_in own o found ≡ told_as.Going → IsSwept (absorbed_in own o found).active f
+  looks_swept None has on m is found k held goes = absurd (none_some m is)
+  looks_swept (Some a) has on m is found k held goes = stage_swept a m a.stage has.knows on is found k held goes

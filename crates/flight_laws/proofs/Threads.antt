@@ -1,0 +1,95 @@
+-- No thread is the current one of two cores, and what the words of threads show is so.
+use Rattle.std.proofs.Common.{◌≡◌, ◌<◌, ℕ, length, Bool, true, false, Option, Some, None, IsTrue, refl, sym, ◌∙◌, ap, subst}
+use Rattle.spk_nums.specs.Setting.{Setting, IsSetting}
+use Rattle.spk_nums.specs.declared.kinds.Kind.TheVariants as kind
+use Rattle.tcap_words.specs.Thread.{thread_of_word}
+use Rattle.tcap_words.specs.declared.thread_word.ThreadWord.{ThreadWord}
+use Rattle.tcap_words.specs.declared.thread_word.ThreadWord.TheVariants.{Idle, Running, Claimed}
+use Rattle.word_map.specs.Word.{EntryAt}
+use Rattle.kernel_rules.specs.State.{State, thread_in}
+use Rattle.kernel_rules.specs.Fitting.{fits}
+use Rattle.kernel_history.specs.Marking.{marked_by}
+use Rattle.kernel_history.specs.Marks.{thread_mark}
+use Rattle.kernel_history.specs.Trace.{Trace, state_after, last_left}
+use Rattle.call_stages.specs.View.{Core}
+use Rattle.core_invariant.specs.Stands.{holds, Stands}
+use Rattle.lent_words.proofs.Lent.{runs_on_own}
+use Rattle.core_invariant.proofs.Markers.{marker_inside}
+use Rattle.core_invariant.proofs.Sounds.{limits_of}
+use Rattle.kernel_history.proofs.Events.{state_is, run_of}
+use Rattle.kernel_history.specs.Events.{events_of}
+use Rattle.state_laws.proofs.Threads.{threads_run}
+use Rattle.switch_invariant.proofs.ThreadWords.{first_mark, none_some, same_some, same_value}
+use Rattle.switch_invariant.proofs.Words.{ShowsRun, shows}
+use Rattle.thread_invariant.proofs.EntryMarks.{thread_unmarked}
+use Rattle.flight.specs.Made.{cores_after}
+use Rattle.flight_laws.specs.Threads.{IsShown, ThreadsRunApart, ThreadWordsSay}
+use Rattle.flight.proofs.Made.{made_stands}
+
+pub threads_apart : ThreadsRunApart
+threads_apart setup setting t made c d c_below d_below same =
+    let stands : Stands setup (cores_after setup t) t = made_stands setup setting t made in
+    same_some c d (sym (runs_on_own setup setting (cores_after setup t) t stands c c_below)
+    ∙ ap (λ (g : ℕ). (thread_in ((state_after setup t).frame g)).runs_on) same
+    ∙ runs_on_own setup setting (cores_after setup t) t stands d d_below)
+
+module _ (setup : Setting) (setting : IsSetting setup) (cores : ℕ → Core) (t : Trace) (stands : Stands setup cores t) (f : ℕ)
+    (thread : IsTrue (fits kind.Thread ((state_after setup t).frame f))) where
+  abbrev s : State
+  s = state_after setup t
+
+  mark_is : (v : ThreadWord) → thread_of_word (last_left setup t (EntryAt f 0)) ≡ Some v → marked_by setup t (EntryAt f 0) ≡ thread_mark (Some v)
+  mark_is v says = first_mark (s.frame f) (last_left setup t (EntryAt f 0)) thread ∙ ap thread_mark says
+
+  runs_of : (c : ℕ) → c < setup.cores → (s.core c).thread ≡ f → (thread_in (s.frame f)).runs_on ≡ Some c
+  runs_of c below same = ap (λ (g : ℕ). (thread_in (s.frame g)).runs_on) (sym same) ∙ runs_on_own setup setting cores t stands c below
+
+  -- a thread that runs on a core is that core's
+  runs_back : (d : ℕ) → (thread_in (s.frame f)).runs_on ≡ Some d → (d < setup.cores) × ((s.core d).thread ≡ f)
+  runs_back d runs =
+      let back = (threads_run setup setting (events_of t) (run_of setup t stands.legal) f d).current
+      (ap (λ (y : State). (thread_in (y.frame f)).runs_on) (sym (state_is setup t)) ∙ runs) in (
+        subst (λ (n : ℕ). d < n) (ap (λ (y : State). y.limits.cores) (sym (state_is setup t)) ∙ ap (λ l. l.cores) (limits_of setup t)) back.0,
+        ap (λ (y : State). (y.core d).thread) (state_is setup t) ∙ back.1,
+      )
+
+  shown : (v : ThreadWord) → thread_of_word (last_left setup t (EntryAt f 0)) ≡ Some v → IsShown setup t f v
+  shown (Idle depth) says = λ c below same. by (thread_in (s.frame f)).runs_on refl
+      (shows setup setting cores t stands f thread (thread_in (s.frame f)).runs_on refl (mark_is (Idle depth) says)) c (runs_of c below same)
+    where
+      by : (o : Option ℕ) → (thread_in (s.frame f)).runs_on ≡ o
+          → ShowsRun o (length (thread_in (s.frame f)).stack) (last_left setup t (EntryAt f 0)) → (c : ℕ)
+          → (thread_in (s.frame f)).runs_on ≡ Some c → ⊥
+      by None so shown c runs = none_some c (sym so ∙ runs)
+      by (Some d) so shown c runs = unlike d shown.depth (same_value (Running d shown.depth) (Idle depth) (sym shown.says ∙ says))
+        where
+          unlike : (d n : ℕ) → Running d n ≡ Idle depth → ⊥
+          unlike d n h = cc
+  shown (Running d depth) says = runs_back d (by (thread_in (s.frame f)).runs_on refl
+      (shows setup setting cores t stands f thread (thread_in (s.frame f)).runs_on refl (mark_is (Running d depth) says)))
+    where
+      by : (o : Option ℕ) → (thread_in (s.frame f)).runs_on ≡ o
+          → ShowsRun o (length (thread_in (s.frame f)).stack) (last_left setup t (EntryAt f 0)) → (thread_in (s.frame f)).runs_on ≡ Some d
+      by None so shown = absurd (unlike (length (thread_in (s.frame f)).stack) (same_value _ _ (sym shown ∙ says)))
+        where
+          unlike : (n : ℕ) → Idle n ≡ Running d depth → ⊥
+          unlike n h = cc
+      by (Some b) so shown = so ∙ ap (λ (n : ℕ). Some n) (same b shown.depth (same_value _ _ (sym shown.says ∙ says)))
+        where
+          same : (b n : ℕ) → Running b n ≡ Running d depth → b ≡ d
+          same b n h = cc
+  shown (Claimed d depth) says = (
+    marker_inside setup cores t stands (EntryAt f 0) d (mark_is (Claimed d depth) says),
+    λ c below same. by c below
+        (subst (λ (g : ℕ). marked_by setup t (EntryAt g 0) ≡ Some d) (sym same) (mark_is (Claimed d depth) says))
+        ((holds (cores c)).marks (EntryAt (s.core c).thread 0)) refl,
+  )
+    where
+      by : (c : ℕ) → c < setup.cores → marked_by setup t (EntryAt (s.core c).thread 0) ≡ Some d → (b : Bool)
+          → (holds (cores c)).marks (EntryAt (s.core c).thread 0) ≡ b → c ≡ d
+      by c below mark true mine = same_some c d (sym ((stands.marks (EntryAt (s.core c).thread 0) c).kept mine) ∙ mark)
+      by c below mark false mine = absurd (none_some d (sym (thread_unmarked setup setting cores t stands c below 0 mine) ∙ mark))
+
+pub words_say : ThreadWordsSay
+words_say setup setting t made f thread v says =
+    shown setup setting (cores_after setup t) t (made_stands setup setting t made) f thread v says

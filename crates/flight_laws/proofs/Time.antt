@@ -1,0 +1,96 @@
+-- The time of a machine is that of the sequential kernel, whose laws hold of each legal trace; and heads say it.
+use Rattle.lent_words.proofs.Lent.{unlent_head_value}
+use Rattle.std.proofs.Common.{◌≡◌, ℕ, ◌+◌, ◌∷◌, [], ◌&&◌, ◌==◌, Bool, true, false, Option, Some, None, if◌then◌else◌, refl, sym, ◌∙◌, ap, subst}
+use Rattle.spk_nums.specs.Setting.{Setting, IsSetting}
+use Rattle.tcap_words.specs.Head.{head_of_word}
+use Rattle.word_map.specs.Word.{EntryAt}
+use Rattle.kernel_rules.specs.Laws.{ticks}
+use Rattle.kernel_rules.specs.State.{PlaceOf, State}
+use Rattle.kernel_laws.proofs.TicksLaw.{ticks_kept}
+use Rattle.kernel_laws.proofs.Spending.{spending_sums}
+use Rattle.kernel_history.specs.Events.{events_of}
+use Rattle.kernel_history.specs.Legal.{IsLegal, MayDecide}
+use Rattle.kernel_history.specs.Stamps.{stamp}
+use Rattle.kernel_history.specs.Trace.{Trace, state_after, last_left, Step, Open, phase, after_enter, state_before}
+use Rattle.kernel_history.proofs.Events.{state_is, run_of}
+use Rattle.core_invariant.specs.Holding.{settled_by, settled}
+use Rattle.core_invariant.specs.Stands.{held_by, Stands}
+use Rattle.core_invariant.specs.Words.{HeadIs, IsFrameWord, count_room}
+use Rattle.flight.specs.Made.{IsMade, cores_after}
+use Rattle.flight_laws.specs.Time.{TimeIsKept, TicksAreCounted, HeadsSay, ListsSay, TellsOf, TestsTell}
+use Rattle.flight.proofs.Made.{made_stands}
+use Rattle.pair_invariant.proofs.ShareSteps.{list_plain}
+use Rattle.spk_nums.specs.Capability.{Capability}
+use Rattle.spk_nums.specs.declared.calls.Call.{Call}
+use Rattle.spk_nums.specs.declared.calls.Call.TheVariants.{Test}
+use Rattle.spk_nums.specs.declared.kinds.Kind.TheVariants as kind
+use Rattle.spk_nums.specs.declared.replies.Reply.TheVariants as reply
+use Rattle.spk_nums.specs.declared.replies.Value.{Value}
+use Rattle.kernel_rules.specs.Access.{only, found}
+use Rattle.kernel_rules.specs.Rules.{Judged, Found, Refused, IsFoundAnd, named, and_then, unless, first_of, answers}
+use Rattle.kernel_rules.specs.TimeCalls.{tcap_at, preemption, preempts}
+use Rattle.kernel_rules.specs.CallRelation.{change_of, MayReply}
+
+legal_of : (setup : Setting) → IsSetting setup → (t : Trace) → IsMade setup t → IsLegal setup t
+legal_of setup setting t made = (made_stands setup setting t made).legal
+
+pub time_kept : TimeIsKept
+time_kept setup setting t made =
+    ap ticks (state_is setup t) ∙ ticks_kept setup setting (events_of t) (run_of setup t (legal_of setup setting t made))
+
+pub ticks_counted : TicksAreCounted
+ticks_counted setup setting t made c =
+    ap (λ s. (s.core c).spent + (s.core c).owed) (state_is setup t)
+    ∙ spending_sums setup (events_of t) (run_of setup t (legal_of setup setting t made)) c
+
+pub heads_say : HeadsSay
+heads_say setup setting t made f q is unmarked = record { version = says.version; says = says.says }
+  where
+    stands : Stands setup (cores_after setup t) t
+    stands = made_stands setup setting t made
+
+    says : HeadIs q (count_room (state_after setup t)) (head_of_word (last_left setup t (EntryAt f 0)))
+    says = subst (λ (n : ℕ). HeadIs q (count_room (state_after setup t)) (head_of_word n))
+        (unlent_head_value setup (cores_after setup t) t stands f q is (last_left setup t (EntryAt f 0)))
+        (subst (λ o. HeadIs q (count_room (state_after setup t)) (head_of_word (settled_by o (held_by (cores_after setup t)) (EntryAt f 0) (last_left setup t (EntryAt f 0)))))
+        unmarked
+        (subst (λ x. IsFrameWord (state_after setup t).limits.frames (count_room (state_after setup t)) x ((state_after setup t).place f 0) (stamp setup t (PlaceOf f 0)) 0
+        (settled setup (held_by (cores_after setup t)) t (EntryAt f 0))) is (stands.words (EntryAt f 0))))
+
+pub lists_say : ListsSay
+lists_say setup setting t made f q is unmarked j low =
+    list_plain setup setting (cores_after setup t) t (made_stands setup setting t made) f q is unmarked j low
+
+-- What is answered to a test is what its rule answers.
+told_by : (s : State) (c x y : ℕ) (v : Value) → IsFoundAnd (change_of s c (Test x y)) (λ change. change.value ≡ v) → TellsOf s c x y v
+told_by s c x y v h = by (named s c x (only kind.Tcap)) (named s c y (only kind.Tcap)) refl refl h
+  where
+    rest : Capability → Capability → Judged Rattle.kernel_rules.specs.Rules.Change
+    rest a b = unless (first_of (if true && (true && a.frame == b.frame) then Some reply.Same else None) None)
+        (answers s (preemption (preempts (tcap_at s a.frame) (tcap_at s b.frame))))
+
+    last : (a b : Capability) → named s c x (only kind.Tcap) ≡ Found a → named s c y (only kind.Tcap) ≡ Found b → (same : Bool)
+        → IsFoundAnd (unless (first_of (if same then Some reply.Same else None) None)
+        (answers s (preemption (preempts (tcap_at s a.frame) (tcap_at s b.frame))))) (λ change. change.value ≡ v) → TellsOf s c x y v
+    last a b first second true h = absurd h
+    last a b first second false h = record { first = a; second = b; first_named = first; second_named = second; answer = sym h }
+
+    by : (j k : Judged Capability) → named s c x (only kind.Tcap) ≡ j → named s c y (only kind.Tcap) ≡ k
+        → IsFoundAnd (and_then j λ a. and_then k λ b. rest a b) (λ change. change.value ≡ v) → TellsOf s c x y v
+    by (Refused r) k first second h = absurd h
+    by (Found a) (Refused r) first second h = absurd h
+    by (Found a) (Found b) first second h = last a b first second (true && (true && a.frame == b.frame)) h
+
+pub tests_tell : TestsTell
+tests_tell setup setting e t made x y v opens decides = told_by (state_before setup t e) e.core x y v
+    (subst (λ (call : Call). MayReply (state_before setup t e) e.core call (reply.Ok v)) (sym (same_call may.is_open)) may.permitted).1
+  where
+    legal : IsLegal setup (e ∷ t)
+    legal = legal_of setup setting (e ∷ t) made
+
+    may : MayDecide setup t e (Some (reply.Ok v)) (Open (Test x y))
+    may = subst (λ p. MayDecide setup t e (Some (reply.Ok v)) p) opens
+        (subst (λ o. MayDecide setup t e o (after_enter e.enters (phase t e.core))) decides legal.1.decides)
+
+    same_call : {call : Call} → Open (Test x y) ≡ Open call → Test x y ≡ call
+    same_call h = cc

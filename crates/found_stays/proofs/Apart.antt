@@ -1,0 +1,219 @@
+-- What a change by core d leaves to the other cores in opened calls: each part of a change.
+use Rattle.std.proofs.Common.{◌≡◌, ◌≢◌, inl, inr, ℕ, ◌<◌, Bool, true, false, ◌&&◌, cond, refl, sym, ◌∙◌, ap, subst, ◌==◌, IsTrue, List, ◌∷◌, Some, None}
+use Rattle.std.proofs.lemmas.Bool.{cases_eq, false≢true, true≢false, eq-eqb, ne_eqb, eqb-true, or_from, or_left}
+use Rattle.std.specs.List.{list_any}
+use Rattle.spk_nums.specs.Capability.{Capability}
+use Rattle.kernel_rules.specs.State.{Place, Free, Holds, Quiescing, Table, Leaf, Pages, Pleaf, Frame, Kernel, Liveness, Core, Grace, Thing, PlaceOf, FrameOf, State, put, with_place, with_frame, with_number, with_core}
+use Rattle.kernel_rules.specs.Start.{no_grace}
+use Rattle.kernel_rules.specs.References.{place_names}
+use Rattle.kernel_rules.specs.GracePeriods.{same_thing, new_grace, begun, flushed}
+use Rattle.kernel_rules.specs.Access.{usable_in}
+use Rattle.kernel_rules.specs.Rules.{frames_of}
+use Rattle.kernel_rules.specs.CapabilityCalls.{cleared}
+use Rattle.kernel_rules.proofs.Within.{put_same, put_other}
+use Rattle.kernel_rules.specs.Relies.{is_node, is_fixed}
+use Rattle.kernel_invariant.proofs.SoundRemovals.{frames_no_place}
+use Rattle.kernel_invariant.proofs.Facts.{some_inj, none_some}
+
+-- From s to t: other cores stay as they are, and the frames of their threads; nodes and components stay; what other cores in
+-- opened calls may use in nodes they still may; and they still wait for the frames for which they waited.
+pub record IsApart (s t : State) (o : ℕ → Bool) (d : ℕ) : Type 0 where
+  pub core : (c : ℕ) → c ≢ d → t.core c ≡ s.core c
+  pub frame : (f : ℕ) → IsTrue (is_fixed (s.frame f)) → t.frame f ≡ s.frame f
+  pub thread : (c : ℕ) → c ≢ d → c < s.limits.cores → t.frame (s.core c).thread ≡ s.frame (s.core c).thread
+  pub place : (c f i : ℕ) (k : Capability) → c ≢ d → o c ≡ true → IsTrue (is_node (s.frame f))
+      → usable_in (s.place f i) ((s.grace (PlaceOf f i)).waits c) ≡ Some k → usable_in (t.place f i) ((t.grace (PlaceOf f i)).waits c) ≡ Some k
+  pub waits : (c f : ℕ) → c ≢ d → o c ≡ true → IsTrue ((s.grace (FrameOf f)).waits c) → IsTrue ((t.grace (FrameOf f)).waits c)
+  pub limits : t.limits ≡ s.limits
+
+pub node_fixed : (x : Frame) → IsTrue (is_node x) → IsTrue (is_fixed x)
+node_fixed (Kernel Table) h = refl
+node_fixed (Kernel Leaf) h = refl
+node_fixed (Kernel Pages) h = refl
+node_fixed (Kernel Pleaf) h = refl
+node_fixed _ h = absurd (false≢true h)
+
+pub apart_same : (s : State) (o : ℕ → Bool) (d : ℕ) → IsApart s s o d
+apart_same s o d = record {
+  core = λ c other. refl;
+  frame = λ f fixed. refl;
+  thread = λ c other below. refl;
+  place = λ c f i k other opened node had. had;
+  waits = λ c f other opened w. w;
+  limits = refl;
+}
+
+pub apart_then : (s t u : State) (o : ℕ → Bool) (d : ℕ) → IsApart s t o d → IsApart t u o d → IsApart s u o d
+apart_then s t u o d a b = record {
+  core = λ c other. b.core c other ∙ a.core c other;
+  frame = λ f fixed. b.frame f (subst (λ x. IsTrue (is_fixed x)) (sym (a.frame f fixed)) fixed) ∙ a.frame f fixed;
+  thread = λ c other below.
+      subst (λ k. u.frame k.thread ≡ t.frame k.thread) (a.core c other) (b.thread c other (subst (λ l. c < l.cores) (sym a.limits) below)) ∙ a.thread c other below;
+  place = λ c f i k other opened node had.
+      b.place c f i k other opened (subst (λ x. IsTrue (is_node x)) (sym (a.frame f (node_fixed (s.frame f) node))) node) (a.place c f i k other opened node had);
+  waits = λ c f other opened w. b.waits c f other opened (a.waits c f other opened w);
+  limits = b.limits ∙ a.limits;
+}
+
+-- A place by its two numbers.
+both : (x y : Bool) → (x && y) ≡ true → (x ≡ true) × (y ≡ true)
+both true true e = (refl, refl)
+both true false e = absurd (false≢true e)
+both false y e = absurd (false≢true e)
+
+pub slot_is : (f g i j : ℕ) → (f == g && i == j) ≡ true → (f ≡ g) × (i ≡ j)
+slot_is f g i j e = let p = both (f == g) (i == j) e in (eqb-true f g p.0, eqb-true i j p.1)
+
+pub place_here : (s : State) (g j : ℕ) (p : Place) (f i : ℕ) → f ≡ g → i ≡ j → put s.place g (put (s.place g) j p) f i ≡ p
+place_here s g j p f i same at = ap (λ r. r i) (put_same s.place g (put (s.place g) j p) f same) ∙ put_same (s.place g) j p i at
+
+pub place_there : (s : State) (g j : ℕ) (p : Place) (f i : ℕ) → (f == g && i == j) ≡ false → put s.place g (put (s.place g) j p) f i ≡ s.place f i
+place_there s g j p f i apart = elim (cases_eq f g) [
+  | inl same ↦
+      ap (λ r. r i) (put_same s.place g (put (s.place g) j p) f same)
+      ∙ put_other (s.place g) j p i (λ at. true≢false (sym (ap (λ b. b && i == j) (eq-eqb f g same) ∙ eq-eqb i j at) ∙ apart))
+      ∙ ap (λ n. s.place n i) (sym same)
+  | inr other ↦ ap (λ r. r i) (put_other s.place g (put (s.place g) j p) f other)
+]
+
+-- A place is filled in which no other core may use anything.
+pub fill_apart : (s : State) (o : ℕ → Bool) (d g j : ℕ) (k : Capability)
+    → ((c : ℕ) → c ≢ d → o c ≡ true → usable_in (s.place g j) ((s.grace (PlaceOf g j)).waits c) ≡ None)
+    → IsApart s (with_place s g j (Holds k)) o d
+fill_apart s o d g j k none = record {
+  core = λ c other. refl;
+  frame = λ f fixed. refl;
+  thread = λ c other below. refl;
+  place = λ c f i m other opened node had. by_slot c f i m other opened had (f == g && i == j) refl;
+  waits = λ c f other opened w. w;
+  limits = refl;
+}
+  where
+    by_slot : (c f i : ℕ) (m : Capability) → c ≢ d → o c ≡ true → usable_in (s.place f i) ((s.grace (PlaceOf f i)).waits c) ≡ Some m
+        → (b : Bool) → (f == g && i == j) ≡ b → usable_in (put s.place g (put (s.place g) j (Holds k)) f i) ((s.grace (PlaceOf f i)).waits c) ≡ Some m
+    by_slot c f i m other opened had true is =
+        let at : (f ≡ g) × (i ≡ j) = slot_is f g i j is in
+        let here : usable_in (s.place g j) ((s.grace (PlaceOf g j)).waits c) ≡ usable_in (s.place f i) ((s.grace (PlaceOf f i)).waits c) =
+        ap (λ n. usable_in (s.place n j) ((s.grace (PlaceOf n j)).waits c)) (sym at.0) ∙ ap (λ n. usable_in (s.place f n) ((s.grace (PlaceOf f n)).waits c)) (sym at.1) in
+        absurd (none_some m (sym (none c other opened) ∙ here ∙ had))
+    by_slot c f i m other opened had false is =
+        ap (λ p. usable_in p ((s.grace (PlaceOf f i)).waits c)) (place_there s g j (Holds k) f i is) ∙ had
+
+-- A chosen grace period, and one that is not.
+chosen : (b : Bool) (x y : Grace) → b ≡ true → cond b x y ≡ x
+chosen b x y e = ap (λ b. cond b x y) e
+
+left : (b : Bool) (x y : Grace) → b ≡ false → cond b x y ≡ y
+left b x y e = ap (λ b. cond b x y) e
+
+-- Who is in a call waits for a frame whose grace period begins, and for the others as before.
+pub frame_waits : (s : State) (b : Bool) (x : Thing) (h : Grace) (c : ℕ) → IsTrue (s.core c).inside → IsTrue (h.waits c)
+    → IsTrue ((cond b (new_grace s x) h).waits c)
+frame_waits s true x h c inside w = inside
+frame_waits s false x h c inside w = w
+
+-- A place that holds a capability is removed.
+pub remove_apart : (s : State) (o : ℕ → Bool) (d g j : ℕ) (k : Capability) → ((c : ℕ) → o c ≡ true → IsTrue (s.core c).inside) → s.place g j ≡ Holds k
+    → IsApart s (begun s (PlaceOf g j ∷ frames_of (place_names (Holds k))) (with_place s g j (Quiescing k))) o d
+remove_apart s o d g j k inside held = record {
+  core = λ c other. refl;
+  frame = λ f fixed. refl;
+  thread = λ c other below. refl;
+  place = λ c f i m other opened node had. by_slot c f i m opened had (f == g && i == j) refl;
+  waits = λ c f other opened w. frame_waits s (list_any (same_thing (FrameOf f)) things) (FrameOf f) (s.grace (FrameOf f)) c (inside c opened) w;
+  limits = refl;
+}
+  where
+    things : List Thing
+    things = PlaceOf g j ∷ frames_of (place_names (Holds k))
+
+    new : State
+    new = begun s things (with_place s g j (Quiescing k))
+
+    by_slot : (c f i : ℕ) (m : Capability) → o c ≡ true → usable_in (s.place f i) ((s.grace (PlaceOf f i)).waits c) ≡ Some m
+        → (b : Bool) → (f == g && i == j) ≡ b → usable_in (new.place f i) ((new.grace (PlaceOf f i)).waits c) ≡ Some m
+    by_slot c f i m opened had true is =
+        let at : (f ≡ g) × (i ≡ j) = slot_is f g i j is in
+        let place : s.place f i ≡ Holds k = ap (λ n. s.place n i) at.0 ∙ ap (s.place g) at.1 ∙ held in
+        let mine : list_any (same_thing (PlaceOf f i)) things ≡ true = or_left (f == g && i == j) (list_any (same_thing (PlaceOf f i)) (frames_of (place_names (Holds k)))) is in
+        let same : k ≡ m = some_inj k m (ap (λ p. usable_in p ((s.grace (PlaceOf f i)).waits c)) (sym place) ∙ had) in
+        ap (λ p. usable_in p ((new.grace (PlaceOf f i)).waits c)) (place_here s g j (Quiescing k) f i at.0 at.1)
+        ∙ ap (λ h. usable_in (Quiescing k) (h.waits c)) (chosen (list_any (same_thing (PlaceOf f i)) things) (new_grace s (PlaceOf f i)) (s.grace (PlaceOf f i)) mine)
+        ∙ ap (usable_in (Quiescing k)) (inside c opened) ∙ ap Some same
+    by_slot c f i m opened had false is =
+        let not_mine : list_any (same_thing (PlaceOf f i)) things ≡ false =
+        or_from (f == g && i == j) (list_any (same_thing (PlaceOf f i)) (frames_of (place_names (Holds k)))) is (frames_no_place f i (place_names (Holds k))) in
+        ap (λ p. usable_in p ((new.grace (PlaceOf f i)).waits c)) (place_there s g j (Quiescing k) f i is)
+        ∙ ap (λ h. usable_in (s.place f i) (h.waits c)) (left (list_any (same_thing (PlaceOf f i)) things) (new_grace s (PlaceOf f i)) (s.grace (PlaceOf f i)) not_mine)
+        ∙ had
+
+-- The grace periods of things begin that are no places.
+pub begin_apart : (s next : State) (o : ℕ → Bool) (d : ℕ) (things : List Thing) → ((c : ℕ) → o c ≡ true → IsTrue (s.core c).inside)
+    → ((f i : ℕ) → list_any (same_thing (PlaceOf f i)) things ≡ false) → IsApart next (begun s things next) o d
+begin_apart s next o d things inside apart = record {
+  core = λ c other. refl;
+  frame = λ f fixed. refl;
+  thread = λ c other below. refl;
+  place = λ c f i m other opened node had.
+      ap (λ h. usable_in (next.place f i) (h.waits c)) (left (list_any (same_thing (PlaceOf f i)) things) (new_grace s (PlaceOf f i)) (next.grace (PlaceOf f i)) (apart f i)) ∙ had;
+  waits = λ c f other opened w. frame_waits s (list_any (same_thing (FrameOf f)) things) (FrameOf f) (next.grace (FrameOf f)) c (inside c opened) w;
+  limits = refl;
+}
+
+-- A frame changes that is no node or component, and no other core's thread.
+pub frame_apart : (s : State) (o : ℕ → Bool) (d f : ℕ) (y : Frame) → is_fixed (s.frame f) ≡ false
+    → ((c : ℕ) → c ≢ d → c < s.limits.cores → (s.core c).thread ≢ f) → IsApart s (with_frame s f y) o d
+frame_apart s o d f y loose away = record {
+  core = λ c other. refl;
+  frame = λ g fixed. put_other s.frame f y g (λ same. false≢true (sym loose ∙ ap (λ n. is_fixed (s.frame n)) (sym same) ∙ fixed));
+  thread = λ c other below. put_other s.frame f y (s.core c).thread (away c other below);
+  place = λ c g i m other opened node had. had;
+  waits = λ c g other opened w. w;
+  limits = refl;
+}
+
+-- The core itself changes, or a liveness number.
+pub core_apart : (s : State) (o : ℕ → Bool) (d : ℕ) (k : Core) → IsApart s (with_core s d k) o d
+core_apart s o d k = record {
+  core = λ c other. put_other s.core d k c other;
+  frame = λ f fixed. refl;
+  thread = λ c other below. refl;
+  place = λ c f i m other opened node had. had;
+  waits = λ c f other opened w. w;
+  limits = refl;
+}
+
+pub number_apart : (s : State) (o : ℕ → Bool) (d l : ℕ) (x : Liveness) → IsApart s (with_number s l x) o d
+number_apart s o d l x = record {
+  core = λ c other. refl;
+  frame = λ f fixed. refl;
+  thread = λ c other below. refl;
+  place = λ c f i m other opened node had. had;
+  waits = λ c f other opened w. w;
+  limits = refl;
+}
+
+-- Every place of a frame that is no node is free.
+pub clear_apart : (s : State) (o : ℕ → Bool) (d g : ℕ) → is_node (s.frame g) ≡ false → IsApart s (cleared s g) o d
+clear_apart s o d g bare = record {
+  core = λ c other. refl;
+  frame = λ f fixed. refl;
+  thread = λ c other below. refl;
+  place = λ c f i m other opened node had.
+      let away : f ≢ g = λ same. false≢true (sym bare ∙ ap (λ n. is_node (s.frame n)) (sym same) ∙ node) in
+      ap (λ r. usable_in (r i) (((cleared s g).grace (PlaceOf f i)).waits c)) (put_other s.place g (λ i. Free) f away)
+      ∙ ap (λ h. usable_in (s.place f i) (h.waits c)) (left (f == g) no_grace (s.grace (PlaceOf f i)) (ne_eqb f g away)) ∙ had;
+  waits = λ c f other opened w. w;
+  limits = refl;
+}
+
+-- The core flushes.
+pub flush_apart : (s : State) (o : ℕ → Bool) (d : ℕ) → IsApart s (flushed s d) o d
+flush_apart s o d = record {
+  core = λ c other. put_other s.core d _ c other;
+  frame = λ f fixed. refl;
+  thread = λ c other below. refl;
+  place = λ c f i m other opened node had. had;
+  waits = λ c f other opened w. w;
+  limits = refl;
+}

@@ -1,0 +1,281 @@
+-- The steps by which a call that makes a frame untyped freezes its counters: the load, which finds another core's mark or a count that no core
+-- holds; and the compare, which is lost to another core or freezes the counter. After the last, references refuse the call, or the scan begins.
+use Rattle.std.specs.Prelude.{if◌then◌else◌, min, All}
+use Rattle.std.proofs.Common.{◌≡◌, ◌≢◌, inl, inr, ℕ, ℤ, pos, negsuc, ◌+ℤ◌, ◌+◌, ◌^◌, ◌<◌, ◌≤◌, ◌==◌, ◌++◌, map, max, nat_lt, length, slice_get, Bool, true, false, List, [], ◌∷◌, Option, Some, None, IsTrue, arith, refl, sym, ◌∙◌, ap, subst, lt-ltb}
+use Rattle.std.proofs.lemmas.Bool.{eqb-true, eqb-false, eq-eqb, false≢true, ltb-true, ltb-false}
+use Rattle.std.proofs.lemmas.Int.{ints}
+use Rattle.std.proofs.lemmas.List.Elements.{All-nil, All-cons}
+use Rattle.spk_nums.specs.Setting.{Setting, IsSetting}
+use Rattle.spk_nums.specs.WordSteps.{left_if}
+use Rattle.spk_nums.specs.declared.replies.Reply.{Reply}
+use Rattle.spk_nums.specs.declared.replies.Reply.TheVariants as reply
+use Rattle.spk_nums.specs.declared.steps.StageEnd.{StageEnd}
+use Rattle.frame_words.specs.Count.{CountFits, word_of_count, count_of_word}
+use Rattle.frame_words.specs.declared.count_word.CountWord.{CountWord}
+use Rattle.frame_words.specs.declared.count_word.Hold.{Hold}
+use Rattle.frame_words.specs.declared.count_word.Hold.TheVariants as hold
+use Rattle.frame_words.specs.declared.frame_word.FrameWord.{FrameWord}
+use Rattle.frame_words.proofs.CountLemmas as counts
+use Rattle.word_map.specs.Word.{Word, EntryAt, FrameAt, CountAt, ClockAt, same_word}
+use Rattle.word_map.specs.Moves.{Move, LoadOf, CompareOf, word_of, left_of}
+use Rattle.word_map.specs.Places.{Shape}
+use Rattle.kernel_rules.specs.State.{State, FrameOf}
+use Rattle.kernel_rules.specs.References.{refs}
+use Rattle.kernel_rules.proofs.Within.{put_same}
+use Rattle.kernel_history.specs.Marks.{count_mark}
+use Rattle.kernel_history.specs.Marking.{marked_by}
+use Rattle.kernel_history.specs.ObjectWords.{frame_value}
+use Rattle.kernel_history.specs.Stamps.{stamp}
+use Rattle.kernel_history.specs.Trace.{Step, Trace, state_after, last_left}
+use Rattle.kernel_history.proofs.Names.{same_word-other, same_word-same}
+use Rattle.kernel_history.proofs.Steps.{own_read-here}
+use Rattle.stage_pins.specs.Counts.{unheld}
+use Rattle.stage_pins.specs.declared.held.Acquired.{Acquired}
+use Rattle.stage_sweep.specs.Counters.{counters_of, sum_of_counts, latest_stamp}
+use Rattle.stage_sweep.specs.Freeze.{frozen, load_refuses, load_next, hold_refuses, at_after, end_by, swept_of}
+use Rattle.stage_sweep.specs.Release.{thaw_of}
+use Rattle.stage_sweep.specs.declared.empty.Owned.{Owned}
+use Rattle.stage_sweep.specs.declared.sweep.Sweep.{Sweep}
+use Rattle.stage_sweep.specs.declared.sweep.SweepAt.{SweepAt}
+use Rattle.stage_sweep.specs.declared.sweep.SweepAt.TheVariants.{Load as sweep_load, Compare, Scan, Empty}
+use Rattle.stage_sweep.specs.declared.sweep.Swept.{Swept}
+use Rattle.act_states.specs.declared.refusals.Refusal.TheVariants as refusal
+use Rattle.act_states.specs.Acts.{took_sweep}
+use Rattle.act_states.specs.Untypings.{release_of, untyping_dues}
+use Rattle.act_states.specs.declared.untypings.Release.{Release}
+use Rattle.act_states.specs.declared.untypings.Untyping.{Untyping}
+use Rattle.act_states.specs.declared.untypings.UntypingAt.TheVariants.{Sweep as sweep_at, Draw}
+use Rattle.act_states.specs.declared.work.Act.TheVariants.{Untype as untype_act}
+use Rattle.act_states.specs.declared.work.Tail.{Tail}
+use Rattle.act_states.specs.declared.work.Tail.TheVariants.{Release as release_tail}
+use Rattle.act_states.specs.declared.work.Work.TheVariants.{Act}
+use Rattle.act_states.specs.declared.work.WorkStep.TheVariants.{Goes, Refuses}
+use Rattle.call_stages.specs.declared.stages.Stage.TheVariants.{Undecided}
+use Rattle.call_stages.specs.declared.stages.ActiveCall.{ActiveCall}
+use Rattle.call_stages.specs.Steps.{landed}
+use Rattle.call_stages.specs.View.{Core}
+use Rattle.core_invariant.specs.Frozen.{holds_release, holds_thaw, is_frozen}
+use Rattle.core_invariant.specs.Holding.{Holding, holds_counts, settled_by, settled}
+use Rattle.core_invariant.specs.Knows.{due_of, KnowsTail, KnowsUndecided}
+use Rattle.core_invariant.specs.Stands.{holds, holds_in, holds_tail, held_by, Stands}
+use Rattle.core_invariant.specs.Sweeps.{AreFrozen, AreKept, HasReadCount, KnowsRelease, KnowsSweep, KnowsUntyping, SaysTyped, ThawsFrame}
+use Rattle.core_invariant.specs.Words.{SaysCount, count_room}
+use Rattle.core_invariant.proofs.Bare.{as_none, counts_bare}
+use Rattle.kept_knowledge.proofs.Carries.{names_on, counts_on}
+use Rattle.core_invariant.proofs.Freezing.{SameAt, IsFrozenWord, frozen_word, thaw_all, thaw_from, thaws_own, release_bare}
+use Rattle.kept_knowledge.proofs.Swept.{HoldsSwept, release_swept, frame_says, no_refs, stamp_is}
+use Rattle.step_ways.proofs.Loads.{IsOfCall, OnlyLooks, step_to, next_at, core_at, inner, call_is, loads_on}
+use Rattle.step_ways.proofs.Refusals.{GoodTook, ticks_at, raced_leaving, busy_leaving}
+use Rattle.freeze_invariant.proofs.UntypeCalls as calls
+use Rattle.freeze_invariant.proofs.UntypeCalls.{IsUntype, untypes_on}
+
+none_some : (d : ℕ) → None ≡ Some d → ⊥
+none_some d h = cc
+
+not_some : (v : CountWord) → None ≡ Some v → ⊥
+not_some v h = cc
+
+-- A counter that is not frozen yet is not held.
+pub thaw_past : (w : Swept) (clear : Bool) (h : Holding) (d : ℕ) → length w.words ≤ d
+    → SameAt (holds_thaw (thaw_of w clear) h) h (CountAt w.frame d)
+thaw_past w clear h d past =
+    let all = thaw_all w clear h (CountAt w.frame d) in (
+      all.0 ∙ ap (λ b. if b then true else h.marks (CountAt w.frame d)) (none (is_frozen (thaw_from w clear) (CountAt w.frame d)) refl),
+      all.1 ∙ ap (λ b. if b then Rattle.core_invariant.specs.Frozen.thawed (thaw_from w clear) (CountAt w.frame d) else
+          h.stands (CountAt w.frame d)) (none (is_frozen (thaw_from w clear) (CountAt w.frame d)) refl),
+    )
+  where
+    same_count : (g i f j : ℕ) → CountAt g i ≡ CountAt f j → i ≡ j
+    same_count g i f j h = cc
+
+    none : (b : Bool) → is_frozen (thaw_from w clear) (CountAt w.frame d) ≡ b → b ≡ false
+    none false at = refl
+    none true at =
+        let word : IsFrozenWord (thaw_from w clear) (CountAt w.frame d) = frozen_word (thaw_from w clear) (CountAt w.frame d) at in
+        let same : d ≡ word.d = same_count w.frame d w.frame word.d word.word in
+        let below = word.below in
+        absurd (omega (arith, past, same, below))
+
+-- A sweep with these parts stands here.
+abbrev pub sweeping : ℕ → FrameWord → ℕ → List CountWord → Owned → SweepAt → Sweep
+sweeping g v b kept o at = record { frame = g; word = v; core = b; kept = kept; owned = o; at = at }
+
+abbrev pub untyping_by : ℕ → ℕ → ℕ → Sweep → Untyping
+untyping_by f core word w = record { frame = f; core = core; at = sweep_at word w }
+
+-- What a call has of its sweep, wherever this stands.
+module _ (setup : Setting) (setting : IsSetting setup) (cores : ℕ → Core) (t : Trace) (stands : Stands setup cores t) (c : ℕ)
+    (here : c < setup.cores)
+    (a : ActiveCall) (active : (cores c).active ≡ Some a) (f core word : ℕ) (w : Sweep)
+    (stage_is : a.stage ≡ Undecided (Act (untype_act (untyping_by f core word w))))
+    (has : KnowsUndecided setup t c (cores c).own.table a (Act (untype_act (untyping_by f core word w)))) where
+  abbrev sweep_call : Untyping
+  sweep_call = untyping_by f core word w
+
+  pub sweep_is : IsUntype a.call a.found f
+  sweep_is = calls.is setup setting cores t stands c here a active sweep_call stage_is has
+
+  pub sweep_knows : KnowsSweep setup t c f word w
+  sweep_knows = has.knows.knows.at
+
+  pub sweep_held : holds_in (Some a) ≡ holds_release (release_of f word (swept_of w) false) (holds_counts None a.counts)
+  sweep_held = calls.held_at setup setting cores t stands c here a active sweep_call stage_is has (sweep_at word w) refl
+
+  pub sweep_counts : a.counts ≡ []
+  sweep_counts = calls.none_acquired setup setting cores t stands c here a active sweep_call stage_is has (sweep_at word w) refl refl
+
+  -- what a refusal has to store, where the counters frozen then are these
+  abbrev pub undo_with : List CountWord → Tail
+  undo_with kept = release_tail (release_of f word (swept_of (record w { kept = kept })) false)
+
+  pub undo_known : (u : Trace) (kept : List CountWord) → KnowsTail setup u c a.call a.counts (undo_with kept)
+  undo_known u kept = (
+    calls.leaves_word setup setting cores t stands c here a active sweep_call stage_is has word w.word sweep_knows.met,
+    record {
+      range = sweep_is.name;
+      retypes = sweep_is.call_is;
+      counting = calls.untype_counts a.call a.found f sweep_is;
+      thaws = subst (λ (n : ℕ). ThawsFrame n (thaw_of (swept_of (record w { kept = kept })) false)) sweep_knows.frame
+          (thaws_own (swept_of (record w { kept = kept })) false);
+      apart = subst (All (λ y. y.pin.frame ≢ f)) (sym sweep_counts) (All-nil (λ y. y.pin.frame ≢ f));
+    },
+  )
+
+  -- a step on one of its counters is one of the call
+  pub counter_near : (move : Move) (d : ℕ) → word_of move ≡ CountAt w.frame d → IsTrue (Rattle.kernel_history.specs.Discipline.counts_references a.call)
+  counter_near move d at = calls.untype_counts a.call a.found f sweep_is
+
+  pub near_counter : (d : ℕ) → Rattle.kernel_history.specs.Footprint.IsNearIn c a.call (CountAt w.frame d) (state_after setup t)
+  near_counter d = subst (λ (n : ℕ). Rattle.kernel_history.specs.Footprint.IsNearIn c a.call (CountAt n d) (state_after setup t))
+      (sym sweep_knows.frame) (calls.near setup setting cores t stands c here a active sweep_call stage_is has)
+
+  -- its next counter is not held yet
+  pub next_bare : (d : ℕ) → length w.kept ≤ d → (holds_in (Some a)).marks (CountAt w.frame d) ≡ false
+  next_bare d past = ap (λ h. h.marks (CountAt w.frame d)) sweep_held
+      ∙ (thaw_past (swept_of w) false (holds_counts None a.counts) d past).0
+      ∙ ap (λ (xs : List Acquired). (holds_counts None xs).marks (CountAt w.frame d)) sweep_counts
+
+  -- what it holds stands for what was found, so the frame is what its word says
+  pub sweep_settles : (q : Word) → (holds (cores c)).marks q ≡ true → settled setup (held_by cores) t q ≡ (holds (cores c)).stands q
+  sweep_settles q is = ap (λ x. settled_by x (held_by cores) q (last_left setup t q)) ((stands.marks q c).kept is)
+
+  pub sweep_holds : HoldsSwept (holds (cores c)) f word w.kept
+  sweep_holds = subst (λ h. HoldsSwept h f word w.kept) (sym (ap holds_in active ∙ sweep_held))
+      (release_swept f word (swept_of w) (holds_counts None a.counts) sweep_knows.frame)
+
+  pub sweep_frame : w.word ≡ frame_value ((state_after setup t).frame f)
+  sweep_frame = same_value w.word (frame_value ((state_after setup t).frame f)) (sym sweep_knows.met.says
+      ∙ frame_says setup cores t stands c f word w.kept (holds (cores c)) sweep_settles sweep_holds sweep_knows.kept)
+    where
+      same_value : (x y : FrameWord) → Some x ≡ Some y → x ≡ y
+      same_value x y h = cc
+
+  -- where all counters are frozen nothing refers to the frame, and their latest stamp is the frame's
+  pub sweep_refs : AreFrozen setup.cores w.kept → refs (state_after setup t) f ≡ 0
+  sweep_refs all = no_refs setup cores t stands c f word w.kept (holds (cores c)) sweep_settles sweep_holds sweep_knows.kept all
+
+  pub sweep_since : AreFrozen setup.cores w.kept → stamp setup t (FrameOf f) ≡ latest_stamp w.kept
+  sweep_since all = stamp_is setup cores t stands c f word w.kept (holds (cores c)) sweep_settles sweep_holds sweep_knows.kept all
+
+-- The load of a counter.
+module _ (setup : Setting) (setting : IsSetting setup) (cores : ℕ → Core) (t : Trace) (stands : Stands setup cores t) (c : ℕ)
+    (here : c < setup.cores)
+    (a : ActiveCall) (active : (cores c).active ≡ Some a) (f core word g : ℕ) (v : FrameWord) (b : ℕ) (kept : List CountWord) (o : Owned)
+    (stage_is : a.stage ≡ Undecided (Act (untype_act (untyping_by f core word (sweeping g v b kept o sweep_load)))))
+    (has : KnowsUndecided setup t c (cores c).own.table a (Act (untype_act (untyping_by f core word (sweeping g v b kept o sweep_load)))))
+  where
+    abbrev s : State
+    s = state_after setup t
+
+    abbrev w : Sweep
+    w = sweeping g v b kept o sweep_load
+
+    abbrev m : Untyping
+    m = untyping_by f core word w
+
+    abbrev at : Word
+    at = CountAt g (length kept)
+
+    abbrev was : ℕ
+    was = last_left setup t at
+
+    abbrev load : Move
+    load = LoadOf at
+
+    loads_counter : OnlyLooks setup t c a.call load
+    loads_counter = record {
+      of_call = record {
+        moves = counter_near setup setting cores t stands c here a active f core word w stage_is has load (length kept) refl;
+        near = inl (near_counter setup setting cores t stands c here a active f core word w stage_is has (length kept));
+      };
+      kept = refl;
+      apart = λ d. refl;
+    }
+
+    abbrev After : Option CountWord → Sweep
+    After shown = sweeping g v b kept o (at_after sweep_load (load_refuses shown) (load_next shown))
+
+    abbrev Goal : Option CountWord → Type 0
+    Goal shown = GoodTook setup cores t c load (landed a (took_sweep m word (After shown)
+        (end_by (load_refuses shown) (load_next shown) (swept_of (After shown)))))
+
+    held_good : (d : ℕ) → marked_by setup t at ≡ Some d
+        → GoodTook setup cores t c load (landed a (Refuses (refusal.Busy d) (release_tail (release_of f word (swept_of w) false))))
+    held_good d mark = busy_leaving setup setting cores t stands c here a active
+        (calls.opens setup setting cores t stands c here a active m stage_is has)
+        (undo_with setup setting cores t stands c here a active f core word w stage_is has kept)
+        (sym (sweep_held setup setting cores t stands c here a active f core word w stage_is has))
+        (λ e. undo_known setup setting cores t stands c here a active f core word w stage_is has (e ∷ t) kept)
+        (calls.room setup setting cores t stands c here a active m stage_is has) load loads_counter (ap ticks_at stage_is) d
+        (next_bare setup setting cores t stands c here a active f core word w stage_is has (length kept) (omega arith)) mark tt
+
+    free_good : (count : ℤ) (stamp : ℕ) → count_of_word was ≡ Some (unheld count stamp)
+        → GoodTook setup cores t c load (landed a (Goes (Act (untype_act (untyping_by f core word (sweeping g v b kept o (Compare count stamp)))))))
+    free_good count stamp shown lands =
+        let e : Step = step_to c None load was None None in
+        let is_open = calls.is_open setup setting cores t stands c here a active m stage_is has in
+        let knows = sweep_knows setup setting cores t stands c here a active f core word w stage_is has in
+        let spells = counts.spelling.spells was (unheld count stamp) shown in
+        loads_on setup setting cores t stands c here a active load a.found
+        (Undecided (Act (untype_act (untyping_by f core word (sweeping g v b kept o (Compare count stamp)))))) loads_counter lands
+        (sym (sweep_held setup setting cores t stands c here a active f core word w stage_is has))
+        (calls.opens setup setting cores t stands c here a active m stage_is has)
+        (λ carries. record {
+          names = names_on setup setting t e stands.legal c a.call is_open carries (cores c).own.table a.plan a.found has.names;
+          knows = record {
+            knows = record {
+              untypes = untypes_on a.call a.found m (untyping_by f core word (sweeping g v b kept o (Compare count stamp))) refl
+                  has.knows.knows.untypes;
+              core = has.knows.knows.core;
+              at = record {
+                frame = knows.frame;
+                core = knows.core;
+                met = knows.met;
+                kept = knows.kept;
+                at = subst (λ (n : ℕ). HasReadCount (e ∷ t) c n (length kept) (unheld count stamp)) knows.frame (record {
+                  own = own_read-here c e t refl at refl ∙ ap (λ x. if x then Some was else None) (eq-eqb was was refl)
+                      ∙ ap (λ (n : ℕ). Some n) (sym spells.1);
+                  fits = spells.0;
+                });
+              };
+            };
+            all = has.knows.all;
+            goes = refl;
+          };
+        })
+
+    says : marked_by setup t at ≡ None → SaysCount (count_room s) (count_of_word was)
+    says bare = subst (λ x. SaysCount (count_room s) (count_of_word (settled_by x (held_by cores) at was))) bare (stands.words at)
+
+    pub counter_load_good : Goal (count_of_word was)
+    counter_load_good = by_word (count_of_word was) refl
+      where
+        by_hold : (h : Hold) (count : ℤ) (stamp : ℕ) → count_of_word was ≡ Some (record { hold = h; count = count; stamp = stamp })
+            → Goal (Some (record { hold = h; count = count; stamp = stamp }))
+        by_hold hold.Unheld count stamp shown = free_good count stamp shown
+        by_hold (hold.Pinned d) count stamp shown = held_good d (ap count_mark shown)
+        by_hold (hold.Closed d) count stamp shown = held_good d (ap count_mark shown)
+
+        by_word : (shown : Option CountWord) → count_of_word was ≡ shown → Goal shown
+        by_word None shown = absurd (not_some _ (sym shown ∙ (says (ap count_mark shown)).says))
+        by_word (Some u) shown = by_hold u.hold u.count u.stamp shown

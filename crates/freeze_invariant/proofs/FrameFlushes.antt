@@ -1,0 +1,258 @@
+-- The step of a retype to untyped that scans a flush word: it is refused where the core may not have flushed since.
+use Rattle.std.specs.Prelude.{if◌then◌else◌}
+use Rattle.std.specs.List.{list_any}
+use Rattle.std.proofs.Common.{◌≡◌, ◌≢◌, ◌⊎◌, inl, inr, ℕ, ◌+◌, ◌<◌, ◌≤◌, ◌==◌, ◌&&◌, ◌||◌, nat_lt, nat_le, length, Bool, true, false, List, [], ◌∷◌, Option, Some, None, IsTrue, arith, refl, sym, ◌∙◌, ap, subst}
+use Rattle.std.proofs.lemmas.Bool.{cases_eq, eq-eqb, eqb-true, false≢true, ltb-true, ltb-false, leb-true, leb-false}
+use Rattle.spk_nums.specs.Setting.{Setting, IsSetting}
+use Rattle.spk_nums.specs.declared.calls.Call.{Call}
+use Rattle.spk_nums.specs.declared.replies.Reply.{Reply}
+use Rattle.spk_nums.specs.declared.replies.Reply.TheVariants as reply
+use Rattle.frame_words.specs.Core.{core_of_word}
+use Rattle.frame_words.specs.Flush.{flush_of_word}
+use Rattle.frame_words.specs.declared.core_word.CoreWord.{CoreWord}
+use Rattle.frame_words.specs.declared.flush_word.FlushWord.{FlushWord}
+use Rattle.frame_words.specs.declared.count_word.CountWord.{CountWord}
+use Rattle.frame_words.specs.declared.frame_word.FrameWord.{FrameWord}
+use Rattle.word_map.specs.Word.{CoreAt, FlushAt, same_word}
+use Rattle.word_map.specs.Moves.{Move, LoadOf}
+use Rattle.kernel_rules.specs.State.{State, Thing, FrameOf}
+use Rattle.kernel_rules.specs.MemoryCalls.{is_untyped}
+use Rattle.kernel_rules.specs.GracePeriods.{same_thing, is_translated, lowest, unflushed_by, MayWait, MayBeUnflushed}
+use Rattle.kernel_rules.specs.Rules.{Refused}
+use Rattle.kernel_rules.specs.CallRelation.{rule_of, change_of}
+use Rattle.kernel_history.specs.Alone.{IsAlone}
+use Rattle.kernel_history.specs.Justified.{IsRemoved, IsWaiting, IsUnflushed}
+use Rattle.kernel_history.specs.ObjectWords.{frame_value}
+use Rattle.kernel_history.specs.Stamps.{awaits_flushes, exit_of, flush_of, flush_stored, stamp}
+use Rattle.kernel_history.specs.Trace.{Step, Trace, Out, Open, phase, state_after, last_left}
+use Rattle.kernel_history.specs.Ways.{asked_of, waited_in, flushed_in}
+use Rattle.trace_laws.proofs.AloneCalls.{refused_first, nobody_waits}
+use Rattle.trace_laws.proofs.Awaits.{awaits_are}
+use Rattle.trace_laws.proofs.Carries.{was_at_once}
+use Rattle.kernel_history.proofs.Laws.{not_inside}
+use Rattle.trace_laws.proofs.Waiting.{out_passed, later_passed, may_wait}
+use Rattle.call_plans.specs.GoesBy.{own_pages}
+use Rattle.plan_ways.proofs.Ways.{asked_left}
+use Rattle.stage_quiet.specs.declared.quiet.Quiet.{Quiet}
+use Rattle.stage_quiet.specs.declared.quiet.Quiet.TheVariants.{AtCore, AtFlush}
+use Rattle.stage_quiet.specs.Scan.{next_other, core_scan, flush_scan, core_refuses, flush_refuses, scan_end, scan_after, quiet_next, quiet_end, quiet_after}
+use Rattle.stage_sweep.specs.Counters.{latest_stamp}
+use Rattle.stage_sweep.specs.Emptiness.{may_be_cached}
+use Rattle.stage_sweep.specs.Freeze.{refusal_of, scan_goes, empty_next, at_after, end_by, swept_of}
+use Rattle.stage_sweep.specs.declared.empty.Owned.{Owned}
+use Rattle.stage_sweep.specs.declared.sweep.Sweep.{Sweep}
+use Rattle.stage_sweep.specs.declared.sweep.SweepAt.{SweepAt}
+use Rattle.stage_sweep.specs.declared.sweep.SweepAt.TheVariants.{Scan, Empty}
+use Rattle.act_states.specs.Acts.{took_sweep}
+use Rattle.act_states.specs.Untypings.{release_of, UntypingFits}
+use Rattle.act_states.specs.declared.untypings.Untyping.{Untyping}
+use Rattle.act_states.specs.declared.work.Act.TheVariants.{Untype as untype_act}
+use Rattle.act_states.specs.declared.work.Work.{Work}
+use Rattle.act_states.specs.declared.work.Work.TheVariants.{Act}
+use Rattle.act_states.specs.declared.work.WorkStep.{WorkStep}
+use Rattle.act_states.specs.declared.refusals.Refusal.TheVariants as refusal
+use Rattle.act_states.specs.declared.work.Tail.TheVariants.{Release as release_tail}
+use Rattle.act_states.specs.declared.work.WorkStep.TheVariants.{Goes, Refuses}
+use Rattle.call_stages.specs.declared.stages.Stage.TheVariants.{Undecided}
+use Rattle.call_stages.specs.declared.stages.ActiveCall.{ActiveCall}
+use Rattle.call_stages.specs.Steps.{landed}
+use Rattle.call_stages.specs.View.{Core}
+use Rattle.core_invariant.specs.Frozen.{holds_release}
+use Rattle.core_invariant.specs.Holding.{Holding, holds_counts}
+use Rattle.core_invariant.specs.Knows.{KnowsUndecided, KnowsWork}
+use Rattle.core_invariant.specs.Stands.{holds_in, holds_work, Stands}
+use Rattle.core_invariant.specs.Sweeps.{AreFrozen, IsQuiet, IsScanning, KnowsSweep, KnowsSweepScan}
+use Rattle.kept_knowledge.proofs.Carries.{names_on, quiet_frame_on}
+use Rattle.step_ways.proofs.Loads.{OnlyLooks, step_to, next_at, inner, loads_on, decides_with}
+use Rattle.step_ways.proofs.Refusals.{GoodTook}
+use Rattle.core_invariant.proofs.Sounds.{limits_of}
+use Rattle.scan_invariant.proofs.FlushScans.{flush_is_stored, flush_shown, lowest_is, still_unflushed, unflushed_shown}
+use Rattle.scan_invariant.proofs.Scans.{before_next}
+use Rattle.place_invariant.proofs.Vacancy.{none_waits}
+use Rattle.freeze_invariant.proofs.Counters.{sweeping, untyping_by, sweep_knows, sweep_held, sweep_counts, sweep_frame, sweep_refs, sweep_since, undo_with, undo_known}
+use Rattle.freeze_invariant.proofs.FrameScans.{all_scanned, scans_on, page_known, known_typed}
+use Rattle.freeze_invariant.proofs.FrameQuiet as quieting
+use Rattle.freeze_invariant.proofs.FrameQuiet.{cached_is, unpaged_frame}
+use Rattle.freeze_invariant.proofs.UntypeCalls as calls
+use Rattle.freeze_invariant.proofs.UntypeCalls.{untypes_on, typed_is}
+
+module _ (setup : Setting) (setting : IsSetting setup) (cores : ℕ → Core) (t : Trace) (stands : Stands setup cores t) (c : ℕ)
+    (here : c < setup.cores)
+    (a : ActiveCall) (active : (cores c).active ≡ Some a) (f core word g : ℕ) (v : FrameWord) (b : ℕ) (kept : List CountWord) (o : Owned)
+    (x at : ℕ)
+    (stage_is : a.stage ≡ Undecided (Act (untype_act (untyping_by f core word (sweeping g v b kept o (Scan (AtFlush x at)))))))
+    (has : KnowsUndecided setup t c (cores c).own.table a
+    (Act (untype_act (untyping_by f core word (sweeping g v b kept o (Scan (AtFlush x at))))))) where
+  abbrev s : State
+  s = state_after setup t
+
+  abbrev thing : Thing
+  thing = FrameOf f
+
+  abbrev q : Quiet
+  q = AtFlush x at
+
+  abbrev w : Sweep
+  w = sweeping g v b kept o (Scan q)
+
+  abbrev m : Untyping
+  m = untyping_by f core word w
+
+  abbrev load : Move
+  load = LoadOf (FlushAt at)
+
+  abbrev was : ℕ
+  was = last_left setup t (FlushAt at)
+
+  knows : KnowsSweep setup t c f word w
+  knows = sweep_knows setup setting cores t stands c here a active f core word w stage_is has
+
+  scan : IsScanning setup t c f w x c setup.cores at true
+  scan = knows.at
+
+  fits : UntypingFits (cores c).own.layout m
+  fits = calls.fits setup setting cores t stands c here a active m stage_is has
+
+  below : at < setup.cores
+  below = subst (λ (n : ℕ). at < n) (ap (λ y. y.cores) (stands.each c here).shape) fits.at.fits.at
+
+  is_open : phase t c ≡ Open a.call
+  is_open = calls.is_open setup setting cores t stands c here a active m stage_is has
+
+  -- a load of the own flush word leaves the last flush as it is stored
+  stored_own : (hit own : Bool) (d : ℕ) → (d == c) ≡ own
+      → (if hit then (if own then flush_of t d else flush_stored t d) else flush_stored t d) ≡ flush_stored t d
+  stored_own false own d is = refl
+  stored_own true false d is = refl
+  stored_own true true d is =
+      let same : d ≡ c = eqb-true d c is in
+      sym (subst (λ (n : ℕ). flush_stored t n ≡ flush_of t n) (sym same)
+      (flush_is_stored setup cores t stands c here (inr (a.call, is_open))))
+
+  looks : OnlyLooks setup t c a.call load
+  looks = record {
+    of_call = record { moves = refl; near = inl tt };
+    kept = refl;
+    apart = λ d. stored_own (same_word (FlushAt d) (FlushAt at)) (d == c) d refl;
+  }
+
+  since : stamp setup t thing ≡ x
+  since = sweep_since setup setting cores t stands c here a active f core word w stage_is has scan.frozen ∙ sym scan.stamp
+
+  awaits : awaits_flushes setup t thing ≡ true
+  awaits = (awaits_are setup setting t stands.legal f).frame (let z = since in let d = scan.some in omega (arith, z, d))
+      ∙ sym (page_known setup setting cores t stands c here a active f core word g v b kept o q stage_is has load looks)
+      ∙ sym scan.page
+
+  abbrev Judged : Option Reply → Option Quiet → Type 0
+  Judged r next = GoodTook setup cores t c load (landed a (took_sweep m word
+      (sweeping g v b kept o (at_after (Scan q) (refusal_of (scan_end r next)) (scan_goes v.object (scan_end r next) (scan_after q r next))))
+      (end_by (refusal_of (scan_end r next)) (scan_goes v.object (scan_end r next) (scan_after q r next)) (swept_of
+      (sweeping g v b kept o (at_after (Scan q) (refusal_of (scan_end r next)) (scan_goes v.object (scan_end r next) (scan_after q r next))))))))
+
+  -- The core may not have flushed since.
+  module _ (early : flush_stored t at ≤ x) where
+    abbrev e : Step
+    e = inner setup setting cores t stands c here a active load (Some (reply.Unflushed at)) None
+
+    unflushed : MayBeUnflushed s thing at
+    unflushed = unflushed_shown setup cores t stands thing x at below awaits (let z = since in omega (arith, z)) early
+
+    justified : IsUnflushed setup t e s (rule_of s c a.call) at
+    justified = record {
+      thing = thing;
+      asked = subst (λ things. IsTrue (list_any (same_thing thing) things))
+          (sym (asked_left s c (own_pages s c) a.plan (rule_of s c a.call) a.found
+          (calls.by_plan setup setting cores t stands c here a active m stage_is has)
+          (calls.leads setup setting cores t stands c here a active m stage_is has) flushed_in
+          ∙ ap (asked_of flushed_in s c) (calls.left setup setting cores t stands c here a active m stage_is has)))
+          (ap (λ b. b || false) (eq-eqb f f refl));
+      may_be_unflushed = unflushed;
+      was_removed = was_at_once (IsRemoved thing) setup t e refl tt;
+    }
+
+    -- where the call is alone, this core is the first that has not flushed
+    module _ (alone : IsAlone t e) where
+      undecided : (phase t at ≡ Out) ⊎ ((call : Call) × (phase t at ≡ Open call))
+      undecided = elim (cases_eq at c) [
+        | inl own ↦ inr (a.call, ap (phase t) own ∙ is_open)
+        | inr other ↦ inl (alone.others_out at other)
+      ]
+
+      first_unflushed : lowest s (s.grace thing).unflushed ≡ Some at
+      first_unflushed = lowest_is s (s.grace thing).unflushed at
+          (subst (λ (n : ℕ). at < n) (sym (ap (λ l. l.cores) (limits_of setup t))) below)
+          (λ d lower. scan.quiet.flushed d lower since)
+          (still_unflushed setup cores t stands thing at below undecided awaits (let z = since in let h = early in omega (arith, z, h)))
+
+      refused : change_of s c a.call ≡ Refused (reply.Unflushed at)
+      refused = calls.by_causes setup setting cores t stands c here a active m stage_is has None None None (Some (reply.Unflushed at)) _
+          (calls.kind_none setup setting cores t stands c here a active m stage_is has
+          (known_typed setup setting cores t stands c here a active f core word g v b kept o q stage_is has load looks))
+          (calls.refs_none setup setting cores t stands c here a active m stage_is has
+          (sweep_refs setup setting cores t stands c here a active f core word w stage_is has scan.frozen))
+          (none_waits s c thing (λ d low other. nobody_waits setup t e stands.legal tt alone a.call is_open thing d))
+          (ap unflushed_by first_unflushed) refl
+
+    not_flushed : GoodTook setup cores t c load (landed a (Refuses (refusal.Unflushed at)
+        (release_tail (release_of f word (swept_of w) false))))
+    not_flushed lands =
+        let unspent = calls.unspent setup setting cores t stands c here a active m stage_is has in
+        decides_with setup setting cores t stands c here a active load (reply.Unflushed at)
+        (undo_with setup setting cores t stands c here a active f core word w stage_is has kept) a.found looks lands
+        (sym (sweep_held setup setting cores t stands c here a active f core word w stage_is has))
+        (calls.opens setup setting cores t stands c here a active m stage_is has) refl refl
+        (λ y. refl) (λ y. refl) refl (
+          unspent,
+          calls.may_refuse setup setting cores t stands c here a active m stage_is has (reply.Unflushed at)
+              (inr (inr (inr (inr (inl unflushed))))),
+        )
+        justified
+        (λ is_alone. refused_first s c a.call (reply.Unflushed at) unspent (refused is_alone))
+        (undo_known setup setting cores t stands c here a active f core word w stage_is has (e ∷ t) kept)
+
+  -- The core has flushed since.
+  module _ (flushed : stamp setup t thing ≡ x → (s.grace thing).unflushed at ≡ false) where
+    flushed_to : (upto : ℕ) → ((d : ℕ) → d < upto → (d < at) ⊎ (d ≡ at)) → IsQuiet setup t c f x setup.cores upto
+    flushed_to upto before = record {
+      past = scan.quiet.past;
+      passed = scan.quiet.passed;
+      flushed = λ d under same. by_place d same (before d under);
+    }
+      where
+        by_place : (d : ℕ) → stamp setup t thing ≡ x → (d < at) ⊎ (d ≡ at) → (s.grace thing).unflushed d ≡ false
+        by_place d same (inl earlier) = scan.quiet.flushed d earlier same
+        by_place d same (inr is) = ap (s.grace thing).unflushed is ∙ flushed same
+
+    has_flushed : Judged None (quiet_next setup.cores q)
+    has_flushed = by_next (nat_lt (at + 1) setup.cores) refl
+      where
+        below_one : (n d : ℕ) → n ≤ at + 1 → d < n → (d < at) ⊎ (d ≡ at)
+        below_one n d most under = elim (cases_eq d at) [ inl same ↦ inr same | inr apart ↦ inl (omega (arith, most, under, apart)) ]
+
+        by_next : (there : Bool) → nat_lt (at + 1) setup.cores ≡ there → Judged None (if there then Some (AtFlush x (at + 1)) else None)
+        by_next true is = scans_on setup setting cores t stands c here a active f core word g v b kept o q stage_is has load looks
+            (AtFlush x (at + 1))
+            (λ u carry. record {
+              frozen = scan.frozen;
+              core = refl;
+              stamp = scan.stamp;
+              some = scan.some;
+              quiet = carry x setup.cores (at + 1) (flushed_to (at + 1) (λ d under. below_one (at + 1) d (omega arith) under));
+              page = scan.page;
+            })
+        by_next false is = all_scanned setup setting cores t stands c here a active f core word g v b kept o q stage_is has load looks x since
+            scan.frozen scan.stamp
+            (flushed_to setup.cores (λ d under. below_one setup.cores d (ltb-false (at + 1) setup.cores is) under))
+
+  word_is : flush_of_word was ≡ Some (record { stamp = flush_stored t at })
+  word_is = stands.words (FlushAt at)
+
+  pub flush_scan_good : Judged (flush_refuses x at (flush_of_word was)) (quiet_next setup.cores q)
+  flush_scan_good = subst (λ r. Judged (flush_refuses x at r) (quiet_next setup.cores q)) (sym word_is)
+      (by_stamp (nat_le (flush_stored t at) x) refl)
+    where
+      by_stamp : (early : Bool) → nat_le (flush_stored t at) x ≡ early
+          → Judged (if early then Some (reply.Unflushed at) else None) (quiet_next setup.cores q)
+      by_stamp true le = not_flushed (leb-true (flush_stored t at) x le)
+      by_stamp false le = has_flushed (flush_shown setup cores t stands thing x at (leb-false (flush_stored t at) x le))

@@ -1,0 +1,166 @@
+-- A step of the scan for a frame that is made untyped: it is refused by a core that may still use the frame, or that may not have flushed it, or
+-- goes on to the next word, and from the last to the object in the frame.
+use Rattle.std.specs.Prelude.{if◌then◌else◌}
+use Rattle.std.specs.List.{list_any}
+use Rattle.std.proofs.Common.{◌≡◌, ◌≢◌, ◌⊎◌, inl, inr, ℕ, ◌+◌, ◌<◌, ◌≤◌, ◌==◌, ◌&&◌, ◌||◌, nat_lt, nat_le, length, Bool, true, false, List, [], ◌∷◌, Option, Some, None, IsTrue, arith, refl, sym, ◌∙◌, ap, subst}
+use Rattle.std.proofs.lemmas.Bool.{cases_eq, eq-eqb, eqb-true, false≢true, ltb-true, ltb-false, leb-true, leb-false}
+use Rattle.spk_nums.specs.Setting.{Setting, IsSetting}
+use Rattle.spk_nums.specs.declared.calls.Call.{Call}
+use Rattle.spk_nums.specs.declared.replies.Reply.{Reply}
+use Rattle.spk_nums.specs.declared.replies.Reply.TheVariants as reply
+use Rattle.frame_words.specs.Core.{core_of_word}
+use Rattle.frame_words.specs.Flush.{flush_of_word}
+use Rattle.frame_words.specs.declared.core_word.CoreWord.{CoreWord}
+use Rattle.frame_words.specs.declared.flush_word.FlushWord.{FlushWord}
+use Rattle.frame_words.specs.declared.count_word.CountWord.{CountWord}
+use Rattle.frame_words.specs.declared.frame_word.FrameWord.{FrameWord}
+use Rattle.word_map.specs.Word.{CoreAt, FlushAt, same_word}
+use Rattle.word_map.specs.Moves.{Move, LoadOf}
+use Rattle.kernel_rules.specs.State.{State, Thing, FrameOf}
+use Rattle.kernel_rules.specs.MemoryCalls.{is_untyped}
+use Rattle.kernel_rules.specs.GracePeriods.{same_thing, is_translated, lowest, unflushed_by, MayWait, MayBeUnflushed}
+use Rattle.kernel_rules.specs.Rules.{Refused}
+use Rattle.kernel_rules.specs.CallRelation.{rule_of, change_of}
+use Rattle.kernel_history.specs.Alone.{IsAlone}
+use Rattle.kernel_history.specs.Justified.{IsRemoved, IsWaiting, IsUnflushed}
+use Rattle.kernel_history.specs.ObjectWords.{frame_value}
+use Rattle.kernel_history.specs.Stamps.{awaits_flushes, exit_of, flush_of, flush_stored, stamp}
+use Rattle.kernel_history.specs.Trace.{Step, Trace, Out, Open, phase, state_after, last_left}
+use Rattle.kernel_history.specs.Ways.{asked_of, waited_in, flushed_in}
+use Rattle.trace_laws.proofs.AloneCalls.{refused_first, nobody_waits}
+use Rattle.trace_laws.proofs.Awaits.{awaits_are}
+use Rattle.trace_laws.proofs.Carries.{was_at_once}
+use Rattle.kernel_history.proofs.Laws.{not_inside}
+use Rattle.trace_laws.proofs.Waiting.{out_passed, later_passed, may_wait}
+use Rattle.call_plans.specs.GoesBy.{own_pages}
+use Rattle.plan_ways.proofs.Ways.{asked_left}
+use Rattle.stage_quiet.specs.declared.quiet.Quiet.{Quiet}
+use Rattle.stage_quiet.specs.declared.quiet.Quiet.TheVariants.{AtCore, AtFlush}
+use Rattle.stage_quiet.specs.Scan.{next_other, core_scan, flush_scan, core_refuses, flush_refuses, scan_end, scan_after, quiet_next, quiet_end, quiet_after}
+use Rattle.stage_sweep.specs.Counters.{latest_stamp}
+use Rattle.stage_sweep.specs.Emptiness.{may_be_cached}
+use Rattle.stage_sweep.specs.Freeze.{refusal_of, scan_goes, empty_next, at_after, end_by, swept_of}
+use Rattle.stage_sweep.specs.declared.empty.Owned.{Owned}
+use Rattle.stage_sweep.specs.declared.sweep.Sweep.{Sweep}
+use Rattle.stage_sweep.specs.declared.sweep.SweepAt.{SweepAt}
+use Rattle.stage_sweep.specs.declared.sweep.SweepAt.TheVariants.{Scan, Empty}
+use Rattle.act_states.specs.Acts.{took_sweep}
+use Rattle.act_states.specs.Untypings.{release_of, UntypingFits}
+use Rattle.act_states.specs.declared.untypings.Untyping.{Untyping}
+use Rattle.act_states.specs.declared.work.Act.TheVariants.{Untype as untype_act}
+use Rattle.act_states.specs.declared.work.Work.{Work}
+use Rattle.act_states.specs.declared.work.Work.TheVariants.{Act}
+use Rattle.act_states.specs.declared.work.WorkStep.{WorkStep}
+use Rattle.act_states.specs.declared.refusals.Refusal.TheVariants as refusal
+use Rattle.act_states.specs.declared.work.Tail.TheVariants.{Release as release_tail}
+use Rattle.act_states.specs.declared.work.WorkStep.TheVariants.{Goes, Refuses}
+use Rattle.call_stages.specs.declared.stages.Stage.TheVariants.{Undecided}
+use Rattle.call_stages.specs.declared.stages.ActiveCall.{ActiveCall}
+use Rattle.call_stages.specs.Steps.{landed}
+use Rattle.call_stages.specs.View.{Core}
+use Rattle.core_invariant.specs.Frozen.{holds_release}
+use Rattle.core_invariant.specs.Holding.{Holding, holds_counts}
+use Rattle.core_invariant.specs.Knows.{KnowsUndecided, KnowsWork}
+use Rattle.core_invariant.specs.Stands.{holds_in, holds_work, Stands}
+use Rattle.core_invariant.specs.Sweeps.{AreFrozen, IsQuiet, IsScanning, KnowsSweep, KnowsSweepScan}
+use Rattle.kept_knowledge.proofs.Carries.{names_on, quiet_frame_on}
+use Rattle.step_ways.proofs.Loads.{OnlyLooks, step_to, next_at, inner, loads_on, decides_with}
+use Rattle.step_ways.proofs.Refusals.{GoodTook}
+use Rattle.core_invariant.proofs.Sounds.{limits_of}
+use Rattle.scan_invariant.proofs.FlushScans.{flush_is_stored, flush_shown, lowest_is, still_unflushed, unflushed_shown}
+use Rattle.scan_invariant.proofs.Scans.{before_next}
+use Rattle.place_invariant.proofs.Vacancy.{none_waits}
+use Rattle.freeze_invariant.proofs.Counters.{sweeping, untyping_by, sweep_knows, sweep_held, sweep_counts, sweep_frame, sweep_refs, sweep_since, undo_with, undo_known}
+use Rattle.freeze_invariant.proofs.FrameQuiet as quieting
+use Rattle.freeze_invariant.proofs.FrameQuiet.{cached_is, unpaged_frame}
+use Rattle.freeze_invariant.proofs.UntypeCalls as calls
+use Rattle.freeze_invariant.proofs.UntypeCalls.{untypes_on, typed_is}
+
+-- What is common to the two kinds of word.
+module _ (setup : Setting) (setting : IsSetting setup) (cores : ℕ → Core) (t : Trace) (stands : Stands setup cores t) (c : ℕ)
+    (here : c < setup.cores)
+    (a : ActiveCall) (active : (cores c).active ≡ Some a) (f core word g : ℕ) (v : FrameWord) (b : ℕ) (kept : List CountWord) (o : Owned)
+    (q : Quiet)
+    (stage_is : a.stage ≡ Undecided (Act (untype_act (untyping_by f core word (sweeping g v b kept o (Scan q))))))
+    (has : KnowsUndecided setup t c (cores c).own.table a (Act (untype_act (untyping_by f core word (sweeping g v b kept o (Scan q))))))
+    (move : Move) (looks : OnlyLooks setup t c a.call move) where
+  abbrev s : State
+  s = state_after setup t
+
+  abbrev w : Sweep
+  w = sweeping g v b kept o (Scan q)
+
+  abbrev m : Untyping
+  m = untyping_by f core word w
+
+  knows : KnowsSweep setup t c f word w
+  knows = sweep_knows setup setting cores t stands c here a active f core word w stage_is has
+
+  no_counts : a.counts ≡ []
+  no_counts = sweep_counts setup setting cores t stands c here a active f core word w stage_is has
+
+  pub frame_is : v ≡ frame_value (s.frame f)
+  frame_is = sweep_frame setup setting cores t stands c here a active f core word w stage_is has
+
+  pub known_typed : is_untyped (s.frame f) ≡ false
+  known_typed = typed_is (s.frame f) v frame_is knows.met.kind
+
+  pub known_own : b ≡ c
+  known_own = knows.core
+
+  pub page_known : may_be_cached v.kind v.object ≡ is_translated (s.frame f)
+  page_known = ap (λ y. may_be_cached y.kind y.object) frame_is ∙ cached_is (s.frame f)
+
+  pub frame_near : f < setup.frames
+  frame_near = subst (λ (n : ℕ). f < n) (ap (λ l. l.frames) (limits_of setup t))
+      (calls.below setup setting cores t stands c here a active m stage_is has)
+
+  abbrev pub Result : Option Reply → Option SweepAt → Type 0
+  Result r next = GoodTook setup cores t c move (landed a
+      (took_sweep m word (sweeping g v b kept o (at_after (Scan q) r next)) (end_by r next (swept_of (sweeping g v b kept o (at_after (Scan q) r next))))))
+
+  -- it goes on, to what it knows after the step
+  pub goes_by : (ws : WorkStep) (work : Work) → ws ≡ Goes work
+      → ((h : Holding) → holds_work work h ≡ holds_release (release_of f word (swept_of w) false) h)
+      → ((u : Trace) → (state_after setup u).frame f ≡ s.frame f
+      → ((y upto flushes : ℕ) → IsQuiet setup t c f y upto flushes → IsQuiet setup u c f y upto flushes)
+      → KnowsWork setup u c (cores c).own.table (next_at a a.found (Undecided work)) work)
+      → GoodTook setup cores t c move (landed a ws)
+  goes_by ws work goes holds_it knows_it = subst (λ x. GoodTook setup cores t c move (landed a x)) (sym goes) (λ lands.
+      let e : Step = step_to c None move (last_left setup t (Rattle.word_map.specs.Moves.word_of move)) None None in
+      let is_open = calls.is_open setup setting cores t stands c here a active m stage_is has in
+      loads_on setup setting cores t stands c here a active move a.found (Undecided work) looks lands
+      (holds_it (holds_counts None a.counts) ∙ sym (sweep_held setup setting cores t stands c here a active f core word w stage_is has))
+      (calls.opens setup setting cores t stands c here a active m stage_is has)
+      (λ carries. record {
+        names = names_on setup setting t e stands.legal c a.call is_open carries (cores c).own.table a.plan a.found has.names;
+        knows = knows_it (e ∷ t) refl
+            (λ y upto flushes. quiet_frame_on setup setting t e stands.legal c a.call is_open carries f y upto flushes);
+      }))
+
+  -- all were scanned: it looks at the object
+  pub all_scanned : (x : ℕ) → stamp setup t (FrameOf f) ≡ x → AreFrozen setup.cores kept → x ≡ latest_stamp kept
+      → IsQuiet setup t c f x setup.cores setup.cores → Result None (empty_next v.object)
+  all_scanned x since frozen latest quiet =
+      let next = quieting.past_scans setup setting cores t stands c f x since (cores c).own.table a no_counts core word has.knows.knows.core
+      (λ n is. untypes_on a.call a.found m n is has.knows.knows.untypes) g v b knows.core kept o (Scan q) knows.frame knows.met knows.kept
+      (calls.fits setup setting cores t stands c here a active m stage_is has).at.object frozen latest frame_is quiet in
+      goes_by (took_sweep m word (sweeping g v b kept o (at_after (Scan q) None (empty_next v.object)))
+      (end_by None (empty_next v.object) (swept_of (sweeping g v b kept o (at_after (Scan q) None (empty_next v.object))))))
+      next.work next.goes next.holds next.knows
+
+  -- the next word is scanned
+  pub scans_on : (r : Quiet) → ((u : Trace) → ((y upto flushes : ℕ) → IsQuiet setup t c f y upto flushes → IsQuiet setup u c f y upto flushes)
+      → KnowsSweepScan setup u c f (sweeping g v b kept o (Scan r)) r) → Result None (Some (Scan r))
+  scans_on r known =
+      goes_by (took_sweep m word (sweeping g v b kept o (Scan r)) (end_by None (Some (Scan r)) (swept_of (sweeping g v b kept o (Scan r)))))
+      (Act (untype_act (untyping_by f core word (sweeping g v b kept o (Scan r))))) refl (λ h. refl)
+      (λ u stays carry. record {
+        knows = record {
+          untypes = untypes_on a.call a.found m (untyping_by f core word (sweeping g v b kept o (Scan r))) refl has.knows.knows.untypes;
+          core = has.knows.knows.core;
+          at = record { frame = knows.frame; core = knows.core; met = knows.met; kept = knows.kept; at = known u carry };
+        };
+        all = has.knows.all;
+        goes = refl;
+      })

@@ -1,0 +1,224 @@
+-- What a step leaves of that on which a call's knowledge of its act rests.
+use Rattle.act_states.specs.Objects.{last_word}
+use Rattle.act_states.specs.declared.objects.NewObject.{NewObject}
+use Rattle.frame_words.specs.Live.{live_of_word}
+use Rattle.frame_words.specs.declared.live_word.LiveWord.{LiveWord}
+use Rattle.frame_words.specs.declared.live_word.LiveWord.TheVariants as live_word
+use Rattle.act_states.specs.declared.comps.CompAt.{CompAt}
+use Rattle.act_states.specs.declared.comps.CompAt.TheVariants as comp_at
+use Rattle.act_states.specs.declared.comps.CompMaking.{CompMaking}
+use Rattle.act_states.specs.declared.comps.LastEpoch.{LastEpoch}
+use Rattle.act_states.specs.Comps.{comp_is_marked, comp_word_at}
+use Rattle.act_states.specs.Makings.{is_marked}
+use Rattle.act_states.specs.declared.makings.MakingAt.TheVariants.{Load as making_load, Mark, Store, Fill as making_fill}
+use Rattle.act_states.specs.declared.makings.MakingAt.{MakingAt}
+use Rattle.std.proofs.Common.{map, ◌+◌, ◌≡◌, ◌≤◌, arith, inl, inr, ℕ, ◌&&◌, nat_le, if◌then◌else◌, cond, [], ◌∷◌, ◌++◌, List, Bool, true, false, Option, Some, None, refl, ◌∙◌, ap, subst, ◌==◌, sym, IsTrue}
+use Rattle.std.specs.Prelude.{IsSome, is_some, All, length}
+use Rattle.std.proofs.lemmas.Bool.{eq-eqb, false≢true}
+use Rattle.std.proofs.lemmas.List.Elements.{All-nil, All-cons, All-head, All-tail}
+use Rattle.stage_pins.specs.declared.held.Acquired.{Acquired}
+use Rattle.core_invariant.specs.Holding.{count_of}
+use Rattle.spk_nums.specs.Capability.{Capability}
+use Rattle.spk_nums.specs.Setting.{Setting, IsSetting}
+use Rattle.spk_nums.specs.declared.kinds.Kind.{Kind}
+use Rattle.spk_nums.specs.declared.kinds.Kind.TheVariants.{Comp as comp_kind}
+use Rattle.frame_words.specs.declared.comp_word.CompWord.{CompWord}
+use Rattle.act_states.specs.declared.kills.KillingAt.{KillingAt}
+use Rattle.act_states.specs.declared.kills.KillingAt.TheVariants.{LoadComp, LoadLive, Close as kill_close, Draw as kill_draw}
+use Rattle.spk_nums.specs.declared.calls.Call.{Call}
+use Rattle.word_map.specs.Word.{Word, EntryAt, CountAt, FrameAt, LiveAt}
+use Rattle.word_map.specs.Places.{counter_of}
+use Rattle.word_map.specs.Moves.{word_of}
+use Rattle.stage_look.specs.declared.look.Look.{Look}
+use Rattle.stage_look.specs.declared.look.Look.TheVariants.{AtRoot, AtLeaf, AtEntry}
+use Rattle.kernel_rules.specs.MemoryCalls.{translation_of}
+use Rattle.kernel_rules.specs.Access.{Slot, Named, root_at, found, Target, Under, InRoot, usable, linked, root_slot, reached}
+use Rattle.kernel_invariant.proofs.Facts.{some_inj, none_some}
+use Rattle.kernel_rules.specs.Fitting.{fits}
+use Rattle.kernel_rules.specs.Relies.{is_fixed, Relies}
+use Rattle.kernel_history.specs.Trace.{Step, Trace, Open, phase, state_after, own_left, own_read, last_left}
+use Rattle.kernel_history.specs.Justified.{HasReached}
+use Rattle.kernel_history.specs.Legal.{IsLegal}
+use Rattle.kernel_history.proofs.Names.{cases_word}
+use Rattle.kernel_history.proofs.Steps.{own_left-here, own_left-there}
+use Rattle.trace_laws.proofs.Stays.{relies_reached}
+use Rattle.trace_laws.proofs.Carries.{Carries, was_stays}
+use Rattle.kernel_history.specs.Footprint.{IsNearIn}
+use Rattle.call_plans.specs.declared.plans.Name.{Name}
+use Rattle.call_plans.specs.declared.plans.Plan.{Plan}
+use Rattle.call_plans.specs.GoesBy.{wants}
+use Rattle.call_plans.specs.After.{Leads, Next, NextName, NextFree, NextHeld, NextOwn, NextNothing, next_of}
+use Rattle.act_states.specs.declared.fills.Fill.{Fill}
+use Rattle.entry_words.specs.declared.entry.Entry.{Entry}
+use Rattle.entry_words.specs.declared.entry.Entry.TheVariants as entry
+use Rattle.entry_words.specs.EntryWord.{entry_of_word}
+use Rattle.kernel_rules.specs.State.{User, Thing, PlaceOf, Frame, Kernel, Comp, comp_in, first_of_stack, NumberOf, FrameOf, thread_in}
+use Rattle.kernel_history.specs.Stamps.{stamp}
+use Rattle.stage_quiet.specs.declared.close.Close.{Close}
+use Rattle.stage_quiet.specs.declared.close.Close.TheVariants.{AtCompare, AtDraw, AtStore}
+use Rattle.stage_quiet.specs.declared.quiet.Quiet.{Quiet}
+use Rattle.stage_quiet.specs.declared.quiet.Quiet.TheVariants.{AtCore, AtFlush}
+use Rattle.stage_pins.specs.declared.pin.Pin.{Pin}
+use Rattle.stage_pins.specs.declared.pin.Pin.TheVariants.{AtLoad, AtCompare as pin_compare}
+use Rattle.act_states.specs.declared.work.Act.{Act as ActOf}
+use Rattle.act_states.specs.declared.work.Act.TheVariants.{Fill as fill_act, Remove as remove_act, Retype as type_act, Make as make_act, Outside, Tick as tick_act, Flush as flush_act, Kill as kill_act, Untype as untype_act, Map as map_act, MakeComp as comp_act, Invoke as invoke_act, Return as return_act, Touch as touch_act, Share as share_act, Switch as switch_act}
+use Rattle.act_states.specs.declared.work.Work.{Work}
+use Rattle.act_states.specs.declared.work.Work.TheVariants.{Lookup, Read, Scan, Acquire, Act}
+use Rattle.act_states.specs.Acts.{reads_of, dues}
+use Rattle.core_invariant.specs.Shares.{KnowsShare}
+use Rattle.call_stages.specs.declared.stages.ActiveCall.{ActiveCall}
+use Rattle.act_states.specs.declared.work.Due.{Due}
+use Rattle.stage_tcap.specs.declared.pair.Pair.{Pair}
+use Rattle.core_invariant.specs.Knows.{is_start, due_of, IsCount, IsReached, HasFound, LookIs, LooksUp, own_in, NamesAre, LooksFor, IsScanned, MayFill, IsFill, IsRemoval, KnowsClose, KnowsAct, KnowsQuiet, KnowsStore, HasLoaded, KnowsWork, KnowsUndecided, KnowsTyping, HasMetAt, ChargesBy, HasHeadAt, KnowsTick, IsSpot, HasStored, KnowsMakingAt, HasLife, HasComp, KnowsKillingAt, KnowsDead, ReadIs, ReadBefore, scanned_for, KnowsScan, HasUser, IsUser, MayTake, TakesNumber, KnowsNumber, HasWords, KnowsCompAt, KnowsLive}
+use Rattle.stage_tcap.specs.declared.charge.Charge.{Charge}
+use Rattle.stage_tcap.specs.declared.charge.Charge.TheVariants.{AtLoad as charge_load, AtCompare as charge_compare}
+use Rattle.act_states.specs.Ticks.{ticks_due}
+use Rattle.spk_nums.specs.declared.calls.Call.TheVariants.{Map, Tick}
+use Rattle.act_states.specs.declared.typings.Typing.{Typing}
+use Rattle.act_states.specs.declared.typings.TypingAt.{TypingAt}
+use Rattle.act_states.specs.declared.typings.TypingAt.TheVariants.{Load, Compare as type_compare}
+use Rattle.frame_words.specs.declared.count_word.CountWord.{CountWord}
+use Rattle.kernel_rules.specs.References.{frame_names}
+use Rattle.stage_sweep.specs.Counters.{latest_stamp}
+use Rattle.stage_sweep.specs.Emptiness.{loads_of}
+use Rattle.stage_sweep.specs.declared.empty.Owned.{Owned}
+use Rattle.stage_sweep.specs.declared.sweep.Sweep.{Sweep}
+use Rattle.stage_sweep.specs.declared.sweep.SweepAt.{SweepAt}
+use Rattle.stage_sweep.specs.declared.sweep.SweepAt.TheVariants.{Load as sweep_load, Compare as sweep_compare, Scan as sweep_scan, Empty as sweep_empty}
+use Rattle.act_states.specs.declared.untypings.UntypingAt.{UntypingAt}
+use Rattle.act_states.specs.declared.untypings.UntypingAt.TheVariants as untype
+use Rattle.act_states.specs.declared.invocations.Invoking.{Invoking}
+use Rattle.act_states.specs.declared.invocations.Returning.{Returning}
+use Rattle.act_states.specs.declared.invocations.ReturningAt.{ReturningAt}
+use Rattle.act_states.specs.declared.invocations.ReturningAt.TheVariants as returning
+use Rattle.core_invariant.specs.Components.{IsOnThread, HasLoadedComp, KnowsInvoking, IsBelow, HasLoadedBelow, KnowsReturning, below_of}
+use Rattle.stage_thread.specs.declared.claim.Claim.TheVariants as claim
+use Rattle.stage_thread.specs.declared.claim.Claimed.{Claimed}
+use Rattle.act_states.specs.declared.switches.SwitchAt.{SwitchAt}
+use Rattle.act_states.specs.declared.switches.SwitchAt.TheVariants as switch_at
+use Rattle.core_invariant.specs.Threads.{HasThread, IsTop, HasTable, HasRoots, KnowsSwitchAt, claimed_by, is_claimed}
+use Rattle.core_invariant.specs.Sweeps.{IsQuiet, IsSwept, KnowsSweepScan, KnowsSweepAt, KnowsUntypingAt}
+use Rattle.kept_knowledge.proofs.Swept.{LeavesFrame, looked_on}
+
+-- The frame whose words an act has stored.
+abbrev pub stores_in : ActOf → ℕ → Bool
+stores_in (fill_act fill) f = false
+stores_in (remove_act close cap) f = false
+stores_in (type_act typing) f = false
+stores_in (make_act m) f = is_marked m.at && f == m.frame
+stores_in (map_act fill) f = false
+stores_in (Outside node entry word) f = false
+stores_in (tick_act charge) f = false
+stores_in (touch_act m) f = false
+stores_in (flush_act by) f = false
+stores_in (kill_act m) f = false
+stores_in (untype_act m) f = false
+stores_in (comp_act m) f = comp_is_marked m.at && f == m.frame
+stores_in (invoke_act m) f = false
+stores_in (return_act m) f = false
+stores_in (share_act p) f = false
+stores_in (switch_act m) f = false
+
+abbrev pub stores_of : Work → ℕ → Bool
+stores_of (Lookup look) f = false
+stores_of (Read comp look) f = false
+stores_of (Scan q act) f = stores_in act f
+stores_of (Acquire pin change act) f = stores_in act f
+stores_of (Act act) f = stores_in act f
+
+-- The counter on which an act that makes a frame untyped is to step next, and the frame of which it has looked at the object.
+abbrev pub freezes : SweepAt → Bool
+freezes sweep_load = false
+freezes (sweep_compare count stamp) = true
+freezes (sweep_scan q) = false
+freezes (sweep_empty entry) = false
+
+abbrev pub looks_at : SweepAt → Bool
+looks_at sweep_load = false
+looks_at (sweep_compare count stamp) = false
+looks_at (sweep_scan q) = false
+looks_at (sweep_empty entry) = true
+
+abbrev pub freezes_at : UntypingAt → Bool
+freezes_at untype.Load = false
+freezes_at (untype.Mark word v) = false
+freezes_at (untype.Sweep word w) = freezes w.at
+freezes_at (untype.Draw word w) = false
+
+abbrev pub looks_in : UntypingAt → Bool
+looks_in untype.Load = false
+looks_in (untype.Mark word v) = false
+looks_in (untype.Sweep word w) = looks_at w.at
+looks_in (untype.Draw word w) = true
+
+abbrev pub reads_counts : ActOf → Bool
+reads_counts (untype_act m) = freezes_at m.at
+reads_counts _ = false
+
+abbrev pub looked_in : ActOf → ℕ → Bool
+looked_in (untype_act m) f = looks_in m.at && f == m.frame
+looked_in _ f = false
+
+abbrev pub looked_of : Work → ℕ → Bool
+looked_of (Lookup look) f = false
+looked_of (Read comp look) f = false
+looked_of (Scan q act) f = looked_in act f
+looked_of (Acquire pin change act) f = looked_in act f
+looked_of (Act act) f = looked_in act f
+
+-- Whether an act has claimed the thread in a frame.
+abbrev pub claimed_in : ActOf → ℕ → Bool
+claimed_in (switch_act m) f = is_claimed m.at && f == claimed_by m.at
+claimed_in act f = false
+
+abbrev pub claimed_of : Work → ℕ → Bool
+claimed_of (Lookup look) f = false
+claimed_of (Read comp look) f = false
+claimed_of (Scan q act) f = claimed_in act f
+claimed_of (Acquire pin change act) f = claimed_in act f
+claimed_of (Act act) f = claimed_in act f
+
+-- A step leaves each thread that core c guards a thread that it guards, and those that it has claimed as they were.
+pub record KeepsThreads (setup : Setting) (t : Trace) (e : Step) (c : ℕ) (claimed : ℕ → Bool) : Type 0 where
+  pub guards : (f : ℕ) → HasThread (state_after setup t) c f → HasThread (state_after setup (e ∷ t)) c f
+  pub rests : (f : ℕ) → claimed f ≡ true → HasThread (state_after setup t) c f
+      → (state_after setup (e ∷ t)).frame f ≡ (state_after setup t).frame f
+
+-- A step leaves each user frame of which core c holds its count, and the count held.
+abbrev pub KeepsUsers : Setting → Trace → Step → ℕ → Type 0
+KeepsUsers setup t e c = (f : ℕ) → IsUser setup t c f → IsUser setup (e ∷ t) c f
+
+-- What is known of two temporal capabilities stays known; no count is acquired and no core scanned for an act on them.
+abbrev pub PairsStay : Setting → Trace → Step → ℕ → ActOf → Type 0
+PairsStay setup t e c act =
+    (p : Pair) → act ≡ share_act p → (of : Call) (ks : List Capability) → KnowsShare setup t c of ks p → KnowsShare setup (e ∷ t) c of ks p
+
+pub start_pairs : (setup : Setting) (t : Trace) (e : Step) (c : ℕ) (act : ActOf) → is_start act ≡ true → PairsStay setup t e c act
+start_pairs setup t e c act starts p is of ks has = absurd (false≢true (sym (ap is_start is) ∙ starts))
+
+pub due_pairs : (setup : Setting) (t : Trace) (e : Step) (c : ℕ) (act : ActOf) (before : List Due) (due : Due) (rest : List Due)
+    → dues act ≡ before ++ due ∷ rest → PairsStay setup t e c act
+due_pairs setup t e c act before due rest has_due p is of ks has = absurd (none before (sym (ap dues is) ∙ has_due))
+  where
+    none : (xs : List Due) → [] ≡ xs ++ due ∷ rest → ⊥
+    none [] h = cc
+    none (x ∷ xs) h = cc
+
+pub quiet_starts : (setup : Setting) (t : Trace) (c : ℕ) (a : ActiveCall) (q : Quiet) (act : ActOf) → KnowsQuiet setup t c a q act
+    → is_start act ≡ true
+quiet_starts setup t c a (AtCore at core upto page) act has = has.starts
+quiet_starts setup t c a (AtFlush at upto) act has = has.starts
+
+-- A step leaves what the core's last steps on entries, on frames' words and on liveness words have read, and the words of the frame that
+-- the act has stored; and user frames of which it holds its count; and what its last step on the counter has read that it is to freeze, and
+-- a frame of which it has looked at the object; and threads.
+pub record ReadsSame (setup : Setting) (t : Trace) (e : Step) (c : ℕ) (act : ActOf) : Type 0 where
+  pub entries : (f i : ℕ) → own_read (e ∷ t) c (EntryAt f i) ≡ own_read t c (EntryAt f i)
+  pub frames : (f : ℕ) → own_read (e ∷ t) c (FrameAt f) ≡ own_read t c (FrameAt f)
+  pub numbers : (l : ℕ) → own_read (e ∷ t) c (LiveAt l) ≡ own_read t c (LiveAt l)
+  pub stored : (f i : ℕ) → stores_in act f ≡ true → last_left setup (e ∷ t) (EntryAt f i) ≡ last_left setup t (EntryAt f i)
+  pub users : KeepsUsers setup t e c
+  pub counts : reads_counts act ≡ true → (f d : ℕ) → own_read (e ∷ t) c (CountAt f d) ≡ own_read t c (CountAt f d)
+  pub rests : (f : ℕ) → looked_in act f ≡ true → LeavesFrame (state_after setup t) (state_after setup (e ∷ t)) f
+  pub threads : KeepsThreads setup t e c (λ f. claimed_in act f)
+  pub pairs : PairsStay setup t e c act

@@ -1,0 +1,5 @@
+-- Words and what is said of them.
+pub mod Swept
+-- What calls know.
+pub mod Carries
+pub mod KeptReads

@@ -1,0 +1,217 @@
+-- What the frozen counters of a frame say: while a core holds them all, nothing refers to the frame where their sum is 0, and their latest stamp
+-- is that of the frame's last release. So nobody else uses the frame, and what was found of its object stays.
+use Rattle.std.proofs.Common.{◌≡◌, ◌≢◌, ◌⊎◌, inl, inr, ℕ, suc, ℤ, pos, ◌+ℤ◌, ◌+◌, ◌<◌, ◌≤◌, max, Bool, true, false, List, [], ◌∷◌, length, slice_get, Option, Some, None, IsTrue, arith, refl, sym, ◌∙◌, ap, subst}
+use Rattle.std.specs.Prelude.{All}
+use Rattle.std.proofs.lemmas.Bool.{false≢true, true≢false}
+use Rattle.std.proofs.lemmas.Int.{ints}
+use Rattle.std.proofs.lemmas.List.Elements.{All-head}
+use Rattle.spk_nums.specs.Setting.{Setting, IsSetting}
+use Rattle.spk_nums.specs.declared.kinds.FrameKind.TheVariants as frame_kind
+use Rattle.spk_nums.specs.declared.kinds.Obj.TheVariants as obj
+use Rattle.frame_words.specs.Count.{CountFits, word_of_count, count_of_word}
+use Rattle.frame_words.specs.Frame.{frame_of_word}
+use Rattle.frame_words.specs.declared.count_word.CountWord.{CountWord}
+use Rattle.frame_words.specs.declared.frame_word.FrameWord.{FrameWord}
+use Rattle.frame_words.proofs.CountLemmas as counts
+use Rattle.word_map.specs.Word.{Word, CountAt, FrameAt}
+use Rattle.kernel_rules.specs.State.{Frame, Untyped, User, Kernel, Object, Blank, Table, Leaf, Pages, Pleaf, Comp, Thread, Tcap, FrameOf, State}
+use Rattle.kernel_rules.specs.Access.{held_in}
+use Rattle.kernel_rules.specs.References.{refs}
+use Rattle.kernel_rules.specs.Relies.{is_node}
+use Rattle.kernel_invariant.proofs.FrameTurns.{is_typed}
+use Rattle.kernel_history.specs.Counts.{counters, count_in, count_sum}
+use Rattle.kernel_history.specs.Legal.{MayFollow}
+use Rattle.kernel_history.specs.ObjectWords.{frame_value, name_of_object}
+use Rattle.kernel_history.specs.Stamps.{stamp}
+use Rattle.kernel_history.specs.Trace.{Step, Trace, state_after}
+use Rattle.resting_frames.proofs.Rests.{step_rests}
+use Rattle.stage_pins.specs.Counts.{unheld}
+use Rattle.stage_sweep.specs.Counters.{sum_of_counts, latest_stamp}
+use Rattle.stage_sweep.specs.Release.{released}
+use Rattle.stage_sweep.specs.declared.empty.Owned.{Owned}
+use Rattle.stage_sweep.specs.declared.sweep.Swept.{Swept}
+use Rattle.act_states.specs.Untypings.{release_of}
+use Rattle.call_stages.specs.View.{Core}
+use Rattle.core_invariant.specs.CountWords.{stamp_in, newest_of}
+use Rattle.core_invariant.specs.Frozen.{holds_release}
+use Rattle.core_invariant.specs.Holding.{Holding, settled}
+use Rattle.core_invariant.specs.Stands.{Stands, held_by, count_shown}
+use Rattle.core_invariant.specs.Sweeps.{AreFrozen, AreKept, IsLookedAt, IsQuiet, SaysTyped}
+use Rattle.core_invariant.proofs.Freezing.{release_frame, thaw_all, thaw_from, thaw_here}
+
+-- A frame of which the word says that it is a blank kernel frame.
+pub kernel_is : (x : Frame) → (frame_value x).kind ≡ frame_kind.Kernel → (frame_value x).object ≡ obj.Blank → x ≡ Kernel Blank
+kernel_is (Kernel Blank) kind object = refl
+kernel_is Untyped kind object = absurd (not_kernel kind)
+  where
+    not_kernel : frame_kind.Untyped ≡ frame_kind.Kernel → ⊥
+    not_kernel h = cc
+kernel_is User kind object = absurd (not_kernel kind)
+  where
+    not_kernel : frame_kind.User ≡ frame_kind.Kernel → ⊥
+    not_kernel h = cc
+kernel_is (Kernel x) kind object = object_is x object
+  where
+    object_is : (x : Object) → name_of_object x ≡ obj.Blank → Kernel x ≡ Kernel Blank
+    object_is Blank h = refl
+    object_is Table h = absurd (cc)
+    object_is Leaf h = absurd (cc)
+    object_is Pages h = absurd (cc)
+    object_is Pleaf h = absurd (cc)
+    object_is (Comp k) h = absurd (cc)
+    object_is (Thread k) h = absurd (cc)
+    object_is (Tcap k) h = absurd (cc)
+
+-- What a core holds that sweeps this frame: the frame's word, and each counter that it has frozen, which stand for what was found.
+pub record HoldsSwept (h : Holding) (f word : ℕ) (kept : List CountWord) : Type 0 where
+  pub marks : h.marks (FrameAt f) ≡ true
+  pub stands : h.stands (FrameAt f) ≡ word
+  pub counts : (d : ℕ) → d < length kept
+      → (h.marks (CountAt f d) ≡ true) × (h.stands (CountAt f d) ≡ word_of_count (released false (slice_get kept d)))
+
+pub release_counter : (f word : ℕ) (w : Swept) (clear : Bool) (h : Holding) (d : ℕ) → w.frame ≡ f → d < length w.words
+    → ((holds_release (release_of f word w clear) h).marks (CountAt f d) ≡ true)
+    × ((holds_release (release_of f word w clear) h).stands (CountAt f d) ≡ word_of_count (released clear (slice_get w.words d)))
+release_counter f word w clear h d same below =
+    subst (λ (n : ℕ). ((holds_release (release_of n word w clear) h).marks (CountAt n d) ≡ true)
+    × ((holds_release (release_of n word w clear) h).stands (CountAt n d) ≡ word_of_count (released clear (slice_get w.words d)))) same
+    (let all = thaw_all w clear h (CountAt w.frame d) in
+    let here = thaw_here (thaw_from w clear) h d (omega arith) below in
+    (all.0 ∙ here.0, all.1 ∙ here.1))
+
+pub release_swept : (f word : ℕ) (w : Swept) (h : Holding) → w.frame ≡ f → HoldsSwept (holds_release (release_of f word w false) h) f word w.words
+release_swept f word w h same = record {
+  marks = (release_frame (release_of f word w false) h).0;
+  stands = (release_frame (release_of f word w false) h).1;
+  counts = λ d below. release_counter f word w false h d same below;
+}
+
+-- Where a frame rests, what was found of its object stays.
+pub record LeavesFrame (s s' : State) (f : ℕ) : Type 0 where
+  pub frame : s'.frame f ≡ s.frame f
+  pub place : (i : ℕ) → IsTrue (is_node (s.frame f)) → s'.place f i ≡ s.place f i
+
+pub looked_on : (s s' : State) (f n : ℕ) (o : Owned) → LeavesFrame s s' f → IsLookedAt s f (s.frame f) n o
+    → IsLookedAt s' f (s'.frame f) n o
+looked_on s s' f n o rests has = subst (λ x. IsLookedAt s' f x n o) (sym rests.frame) (by (s.frame f) (rests.place) has)
+  where
+    by : (x : Frame) → ((i : ℕ) → IsTrue (is_node x) → s'.place f i ≡ s.place f i) → IsLookedAt s f x n o → IsLookedAt s' f x n o
+    by (Kernel Table) place has = λ i below. ap held_in (place i refl) ∙ has i below
+    by (Kernel Leaf) place has = λ i below. ap held_in (place i refl) ∙ has i below
+    by (Kernel Pages) place has = λ i below. ap held_in (place i refl) ∙ has i below
+    by (Kernel Pleaf) place has = λ i below. ap held_in (place i refl) ∙ has i below
+    by (Kernel (Comp k)) place has = has
+    by (Kernel (Thread k)) place has = has
+    by (Kernel (Tcap q)) place has = has
+    by (Kernel Blank) place has = tt
+    by User place has = tt
+    by Untyped place has = tt
+
+-- The counters that a core holds of a frame.
+module _ (setup : Setting) (cores : ℕ → Core) (t : Trace) (stands : Stands setup cores t) (c f word : ℕ) (kept : List CountWord)
+    (h : Holding) (held_settles : (w : Word) → h.marks w ≡ true → settled setup (held_by cores) t w ≡ h.stands w)
+    (has : HoldsSwept h f word kept) (fits : AreKept kept) where
+  -- the frame is what its word says
+  pub frame_says : frame_of_word word ≡ Some (frame_value ((state_after setup t).frame f))
+  frame_says = subst (λ (n : ℕ). frame_of_word n ≡ Some (frame_value ((state_after setup t).frame f)))
+      (held_settles (FrameAt f) has.marks ∙ has.stands) (stands.words (FrameAt f))
+
+  -- a counter shows what was found there
+  pub counter_shows : (d : ℕ) (v : CountWord) → d < length kept → slice_get kept d ≡ Some v → CountFits (unheld v.count v.stamp)
+      → count_shown setup (held_by cores) t f d ≡ Some (unheld v.count v.stamp)
+  counter_shows d v below at fit =
+      ap count_of_word (held_settles (CountAt f d) (has.counts d below).0 ∙ (has.counts d below).1
+      ∙ ap (λ o. word_of_count (released false o)) at)
+      ∙ counts.spelling.reads (unheld v.count v.stamp) fit
+
+  module _ (frozen : AreFrozen setup.cores kept) where
+    abbrev s : State
+    s = state_after setup t
+
+    first_sum : (x : ℤ) → pos 0 +ℤ x ≡ pos 0 → (n : ℕ) → x +ℤ pos 0 ≡ pos n → n ≡ 0
+    first_sum x none n is = zero_is n (sym is ∙ swap x none)
+      where
+        swap : (x : ℤ) → pos 0 +ℤ x ≡ pos 0 → x +ℤ pos 0 ≡ pos 0
+        swap x h = omega (arith, ints)
+
+        zero_is : (n : ℕ) → pos n ≡ pos 0 → n ≡ 0
+        zero_is n h = cc
+
+    -- nothing refers to the frame
+    pub no_refs : refs s f ≡ 0
+    no_refs = by kept frozen.all frozen.none fits (λ d v. counter_shows d v)
+      where
+        by : (xs : List CountWord) → length xs ≡ length (counters setup.cores) → sum_of_counts xs ≡ pos 0 → AreKept xs
+            → ((d : ℕ) (v : CountWord) → d < length xs → slice_get xs d ≡ Some v → CountFits (unheld v.count v.stamp)
+            → count_shown setup (held_by cores) t f d ≡ Some (unheld v.count v.stamp))
+            → refs s f ≡ 0
+        by [] all none fit shows = absurd (omega arith)
+        by (v ∷ []) all none fit shows =
+            let shown = shows 0 v (omega arith) refl (All-head (λ v. CountFits (unheld v.count v.stamp)) v [] fit) in
+            first_sum v.count none (refs s f) (ap (λ o. count_in o +ℤ pos 0) (sym shown) ∙ (stands.sums f).sum)
+        by (v ∷ u ∷ xs) all none fit shows = absurd (omega (arith, all))
+
+    -- and the latest stamp is the frame's
+    pub stamp_is : stamp setup t (FrameOf f) ≡ latest_stamp kept
+    stamp_is = by kept frozen.all fits (λ d v. counter_shows d v)
+      where
+        by : (xs : List CountWord) → length xs ≡ length (counters setup.cores) → AreKept xs
+            → ((d : ℕ) (v : CountWord) → d < length xs → slice_get xs d ≡ Some v → CountFits (unheld v.count v.stamp)
+            → count_shown setup (held_by cores) t f d ≡ Some (unheld v.count v.stamp))
+            → stamp setup t (FrameOf f) ≡ latest_stamp xs
+        by [] all fit shows = absurd (omega arith)
+        by (v ∷ []) all fit shows =
+            let shown = shows 0 v (omega arith) refl (All-head (λ v. CountFits (unheld v.count v.stamp)) v [] fit) in
+            let newest : max v.stamp 0 ≡ stamp setup t (FrameOf f) = ap (λ o. max (stamp_in o) 0) (sym shown) ∙ (stands.sums f).newest in
+            omega (arith, newest)
+        by (v ∷ u ∷ xs) all fit shows = absurd (omega (arith, all))
+
+    -- no other core waits for it
+    pub none_waits : (at upto flushes : ℕ) → latest_stamp kept ≡ at → IsQuiet setup t c f at upto flushes → (d : ℕ) → d < upto → d ≢ c
+        → (s.grace (FrameOf f)).waits d ≡ false
+    none_waits at upto flushes same quiet d below other = quiet.passed d below other (stamp_is ∙ same)
+
+    -- so the frame rests while another core steps, where the step does not change what the frame is
+    module _ (setting : IsSetting setup) (e : Step) (follows : MayFollow setup t e) (other : c ≢ e.core) (v : FrameWord)
+        (met : SaysTyped word v) (value : frame_value ((state_after setup (e ∷ t)).frame f) ≡ frame_value (s.frame f))
+        (quiet : IsQuiet setup t c f (latest_stamp kept) setup.cores setup.cores) where
+      abbrev s' : State
+      s' = state_after setup (e ∷ t)
+
+      shown : v ≡ frame_value (s.frame f)
+      shown = same v (frame_value (s.frame f)) (sym met.says ∙ frame_says)
+        where
+          same : (x y : FrameWord) → Some x ≡ Some y → x ≡ y
+          same x y h = cc
+
+      waits_not : (s.grace (FrameOf f)).waits e.core ≡ false
+      waits_not = none_waits (latest_stamp kept) setup.cores setup.cores refl quiet e.core follows.is_core (λ same. other (sym same))
+
+      typed_rests : IsTrue (is_typed (s.frame f)) → LeavesFrame s s' f
+      typed_rests typed = elim (step_rests setup setting t stands.legal e follows f typed no_refs waits_not) [
+        | inl untyped ↦ absurd (met.kind (ap (λ x. x.kind) shown ∙ ap (λ x. x.kind) (sym value)
+            ∙ ap (λ x. (frame_value x).kind) untyped))
+        | inr rests ↦ record { frame = rests.frame; place = λ i node. rests.place i }
+      ]
+
+      blank_rests : s.frame f ≡ Kernel Blank → LeavesFrame s s' f
+      blank_rests at = record {
+        frame = kernel_is (s'.frame f) (ap (λ x. x.kind) value ∙ ap (λ x. (frame_value x).kind) at)
+            (ap (λ x. x.object) value ∙ ap (λ x. (frame_value x).object) at) ∙ sym at;
+        place = λ i node. absurd (false≢true (sym (ap is_node at) ∙ node));
+      }
+
+      pub swept_rests : LeavesFrame s s' f
+      swept_rests = by (s.frame f) refl
+        where
+          by : (x : Frame) → s.frame f ≡ x → LeavesFrame s s' f
+          by Untyped at = absurd (met.kind (ap (λ x. x.kind) shown ∙ ap (λ x. (frame_value x).kind) at))
+          by (Kernel Blank) at = blank_rests at
+          by User at = typed_rests (ap is_typed at)
+          by (Kernel Table) at = typed_rests (ap is_typed at)
+          by (Kernel Leaf) at = typed_rests (ap is_typed at)
+          by (Kernel Pages) at = typed_rests (ap is_typed at)
+          by (Kernel Pleaf) at = typed_rests (ap is_typed at)
+          by (Kernel (Comp k)) at = typed_rests (ap is_typed at)
+          by (Kernel (Thread k)) at = typed_rests (ap is_typed at)
+          by (Kernel (Tcap q)) at = typed_rests (ap is_typed at)

@@ -1,0 +1,105 @@
+-- What a call knows of two temporal capabilities it knows still after a step of another core.
+use Rattle.std.proofs.Common.{◌≡◌, ◌≢◌, ◌<◌, ℕ, Bool, true, List, ◌∷◌, Some, arith, sym, ◌∙◌, ap, subst}
+use Rattle.spk_nums.specs.Setting.{Setting, IsSetting}
+use Rattle.spk_nums.specs.Capability.{Capability}
+use Rattle.spk_nums.specs.declared.calls.Call.{Call}
+use Rattle.tcap_words.specs.Head.{HeadFits, word_of_head, head_of_word}
+use Rattle.tcap_words.specs.declared.head_word.HeadWord.{HeadWord}
+use Rattle.tcap_words.proofs.HeadLemmas as heads
+use Rattle.word_map.specs.Word.{EntryAt}
+use Rattle.word_map.specs.Moves.{word_of, left_of}
+use Rattle.kernel_rules.specs.State.{Kernel, Tcap, TcapFields}
+use Rattle.kernel_history.specs.Footprint.{IsNearIn}
+use Rattle.kernel_history.specs.Legal.{MayFollow, IsLegal}
+use Rattle.kernel_history.specs.Trace.{Step, Trace, phase, state_after, last_left}
+use Rattle.kernel_history.specs.Stamps.{is_in}
+use Rattle.kernel_history.proofs.Steps.{own_read-other}
+use Rattle.trace_laws.proofs.Carries.{was_stays}
+use Rattle.stage_tcap.specs.Heads.{marked}
+use Rattle.stage_tcap.specs.declared.pair.Pair.{Pair}
+use Rattle.stage_tcap.specs.declared.pair.PairAt.{PairAt}
+use Rattle.stage_tcap.specs.declared.pair.PairAt.TheVariants.{LoadA, MarkA, ListA, LoadB, ListB, CompareB, AgainB, StoreList, StoreB, StoreA}
+use Rattle.core_invariant.specs.Shares.{SparesTcap, HasTcap, KnowsShare, StoresA, StoresB, KnowsStoresAt, KnowsShared}
+use Rattle.lent_words.proofs.Pairs.{tcap_mark, kept_all, left_same, pair_other, stores_on_a}
+use Rattle.lent_words.proofs.Tcaps.{TcapOf, tcap_of, tcap_stays}
+
+-- What core c knows of them stays known, while its call is undecided and after.
+pub record SharesStay (setup : Setting) (t : Trace) (e : Step) (c : ℕ) : Type 0 where
+  pub undecided : is_in (phase t c) ≡ true → (call : Call) (ks : List Capability) (p : Pair) → KnowsShare setup t c call ks p
+      → KnowsShare setup (e ∷ t) c call ks p
+  pub decided : is_in (phase t c) ≡ true → (call : Call) (p : Pair) → KnowsShared setup t c call p → KnowsShared setup (e ∷ t) c call p
+
+module _ (setup : Setting) (setting : IsSetting setup) (t : Trace) (legal : IsLegal setup t) (e : Step) (follows : MayFollow setup t e)
+    (c : ℕ) (here : c < setup.cores) (other : c ≢ e.core)
+    (spares : (f i : ℕ) (q : TcapFields) → (state_after setup t).frame f ≡ Kernel (Tcap q) → word_of e.move ≡ EntryAt f i
+    → SparesTcap setup t e f i) where
+  few : (p : Pair) → p.core ≡ c → p.core < 8
+  few p core = let most = setting.most_cores in omega (arith, most, here, core)
+
+  undecided_stays : is_in (phase t c) ≡ true → (call : Call) (ks : List Capability) (p : Pair) → KnowsShare setup t c call ks p
+      → KnowsShare setup (e ∷ t) c call ks p
+  undecided_stays inside call ks p has =
+      let a = tcap_of ((state_after setup t).frame p.a) has.tcap_a.tcap in
+      let b = tcap_of ((state_after setup t).frame p.b) has.tcap_b.tcap in record {
+        shares = has.shares;
+        core = has.core;
+        tcap_a = tcap_stays setup setting t legal e follows c here other inside p.a has.tcap_a;
+        tcap_b = tcap_stays setup setting t legal e follows c here other inside p.b has.tcap_b;
+        at = pair_other setup t e follows.found c other p has.core (own_read-other c e t other)
+            (tcap_mark setup t p.a a.fields a.is) (λ i at. spares p.a i a.fields a.is at) (few p has.core)
+            (tcap_mark setup t p.b b.fields b.is) (λ i at. spares p.b i b.fields b.is at) p.at has.at;
+      }
+
+  -- A step of another core leaves the words of a temporal capability whose head this core has marked.
+  kept : (f core : ℕ) (h : HeadWord) → HasTcap (state_after setup t) c f → core ≡ c → core < 8 → HeadFits h
+      → last_left setup t (EntryAt f 0) ≡ word_of_head (marked core h)
+      → (i : ℕ) → EntryAt f i ≡ word_of e.move → left_of e.move e.found ≡ e.found
+  kept f core h has own low fits raw =
+      let q = tcap_of ((state_after setup t).frame f) has.tcap in
+      kept_all setup t e follows.found f c other (marked core h)
+      (ap head_of_word raw ∙ heads.spelling.reads (marked core h) (fits.0, low, fits.2)) (ap (λ (x : ℕ). Some x) own)
+      (tcap_mark setup t f q.fields q.is) (λ i at. spares f i q.fields q.is at)
+
+  a_stays : (p : Pair) → HasTcap (state_after setup t) c p.a → p.core ≡ c → StoresA setup t p → StoresA setup (e ∷ t) p
+  a_stays p tcap core has =
+      stores_on_a setup t e follows.found p (kept p.a p.core p.head_a tcap core (few p core) has.fits has.raw) has
+
+  b_stays : is_in (phase t c) ≡ true → (call : Call) (p : Pair) → HasTcap (state_after setup t) c p.a → p.core ≡ c
+      → StoresB setup t c call p → StoresB setup (e ∷ t) c call p
+  b_stays inside call p tcap core has = record {
+    a = a_stays p tcap core has.a;
+    raw = left_same setup t e follows.found (EntryAt p.b 0)
+        (kept p.b p.core p.head_b has.tcap core (few p core) has.fits has.raw 0) ∙ has.raw;
+    fits = has.fits;
+    bare = has.bare;
+    few = has.few;
+    near = was_stays (IsNearIn c call (EntryAt p.b 0)) setup t e c (λ own. absurd (other own)) has.near;
+    tcap = tcap_stays setup setting t legal e follows c here other inside p.b has.tcap;
+    differ = has.differ;
+    spelled = has.spelled;
+  }
+
+  stored_stays : is_in (phase t c) ≡ true → (call : Call) (p : Pair) (at : PairAt) → HasTcap (state_after setup t) c p.a → p.core ≡ c
+      → KnowsStoresAt setup t c call p at → KnowsStoresAt setup (e ∷ t) c call p at
+  stored_stays inside call p (StoreA moved v) tcap core has = a_stays p tcap core has
+  stored_stays inside call p LoadA tcap core has = has
+  stored_stays inside call p MarkA tcap core has = has
+  stored_stays inside call p (ListA n) tcap core has = has
+  stored_stays inside call p LoadB tcap core has = has
+  stored_stays inside call p (ListB n) tcap core has = has
+  stored_stays inside call p CompareB tcap core has = has
+  stored_stays inside call p (AgainB r) tcap core has = has
+  stored_stays inside call p (StoreList n) tcap core has = (has.0, has.1, b_stays inside call p tcap core has.2)
+  stored_stays inside call p StoreB tcap core has = b_stays inside call p tcap core has
+
+  pub shares_other : SharesStay setup t e c
+  shares_other = record {
+    undecided = undecided_stays;
+    decided = λ inside call p has. record {
+      budgets = has.budgets;
+      core = has.core;
+      near = was_stays (IsNearIn c call (EntryAt p.a 0)) setup t e c (λ own. absurd (other own)) has.near;
+      tcap_a = tcap_stays setup setting t legal e follows c here other inside p.a has.tcap_a;
+      at = stored_stays inside call p p.at has.tcap_a has.core has.at;
+    };
+  }

@@ -1,0 +1,361 @@
+-- The load of the head of the second of two temporal capabilities, and the loads of its list.
+use Rattle.std.proofs.Common.{◌≡◌, ◌≢◌, ◌⊎◌, inl, inr, ℕ, zero, suc, ◌+◌, ◌<◌, nat_lt, Bool, true, false, if◌then◌else◌, List, ◌∷◌, Option, Some, None, IsSome, is_some, arith, refl, sym, ◌∙◌, ap, subst}
+use Rattle.std.proofs.lemmas.Bool.{eq-eqb, ltb-false, false≢true}
+use Rattle.spk_nums.specs.Setting.{Setting, IsSetting}
+use Rattle.spk_nums.specs.Capability.{Capability}
+use Rattle.spk_nums.specs.declared.calls.Call.{Call}
+use Rattle.spk_nums.specs.declared.calls.Call.TheVariants as call_as
+use Rattle.spk_nums.specs.declared.replies.Reply.TheVariants as reply
+use Rattle.spk_nums.specs.declared.replies.Value.TheVariants as value
+use Rattle.tcap_words.specs.Head.{head_of_word}
+use Rattle.tcap_words.specs.Quality.{quality_of_word}
+use Rattle.tcap_words.specs.declared.head_word.HeadWord.{HeadWord}
+use Rattle.tcap_words.specs.declared.quality_word.QualityWord.{QualityWord}
+use Rattle.tcap_words.proofs.HeadLemmas.{spelling}
+use Rattle.word_map.specs.Word.{Word, EntryAt}
+use Rattle.word_map.specs.Moves.{LoadOf}
+use Rattle.kernel_rules.specs.State.{State}
+use Rattle.kernel_rules.specs.CallRelation.{owed_by, counted, rule_of}
+use Rattle.kernel_history.specs.Justified.{IsHeldUp}
+use Rattle.kernel_history.specs.Marks.{head_mark}
+use Rattle.kernel_history.specs.Marking.{marked_by}
+use Rattle.kernel_history.specs.ObjectWords.{is_node}
+use Rattle.kernel_history.specs.Trace.{Step, Trace, state_after, last_left}
+use Rattle.kernel_history.proofs.Laws.{not_inside}
+use Rattle.kernel_history.proofs.Names.{same_word-other}
+use Rattle.kernel_history.proofs.Steps.{own_read-here, own_read-there, last_left-here}
+use Rattle.stage_tcap.specs.Heads.{head}
+use Rattle.stage_tcap.specs.Lists.{read_word, in_order, same_list}
+use Rattle.stage_tcap.specs.Pairs.{at_by_mark, at_by_head, at_read, b_next, b_end, decided_by_mark, noted, list_end, judged, by_alike, by_room, whole_b, read_b, giving_back}
+use Rattle.stage_tcap.specs.declared.pair.Pair.{Pair}
+use Rattle.stage_tcap.specs.declared.pair.PairAt.{PairAt}
+use Rattle.stage_tcap.specs.declared.pair.PairAt.TheVariants.{LoadB, ListB}
+use Rattle.stage_tcap.specs.declared.pair.PairWork.{PairWork}
+use Rattle.stage_tcap.specs.declared.pair.PairWork.TheVariants.{Transfer, Delegate, Test}
+use Rattle.act_states.specs.declared.work.Act.TheVariants.{Share as share_act}
+use Rattle.act_states.specs.declared.work.Work.TheVariants.{Act}
+use Rattle.act_states.specs.declared.work.WorkStep.TheVariants.{Goes}
+use Rattle.act_states.specs.Shares.{took_shared, took_share}
+use Rattle.call_stages.specs.declared.stages.Stage.TheVariants.{Undecided}
+use Rattle.call_stages.specs.declared.stages.ActiveCall.{ActiveCall}
+use Rattle.call_stages.specs.Steps.{landed}
+use Rattle.call_stages.specs.View.{Core}
+use Rattle.core_invariant.specs.Holding.{Holding, holds_counts}
+use Rattle.core_invariant.specs.Knows.{KnowsUndecided}
+use Rattle.core_invariant.specs.Shares.{list_word, read_up, SparesTcap, HasMarkedA, HasSeenB, HasReadB, HasBoth, ReadsHead, SharesBy, KnowsPairAt}
+use Rattle.core_invariant.specs.Stands.{holds_in, holds_head, holds_share, held_by, Stands}
+use Rattle.step_ways.proofs.Loads.{step_to, inner, core_is}
+use Rattle.core_invariant.proofs.Markers.{marker_inside}
+use Rattle.lent_words.proofs.Pairs.{marked_on, seen_on, tcap_mark, left_same}
+use Rattle.step_ways.proofs.Refusals.{GoodTook, not_spent}
+use Rattle.lent_words.proofs.Tcaps.{TcapOf}
+use Rattle.pair_invariant.proofs.ShareCalls as calls
+use Rattle.pair_invariant.proofs.ShareSteps.{mark_is, head_says, list_plain, loading, load_goes, load_decides}
+
+-- Such a call charges no ticks.
+pub owes_share : (s : State) (c : ℕ) (call : Call) (ks : List Capability) (p : Pair) → SharesBy call ks p → owed_by s c call ≡ s
+owes_share s c (call_as.Transfer x y m) ks p is = refl
+owes_share s c (call_as.Delegate x y m) ks p is = refl
+owes_share s c (call_as.Test x y) ks p is = refl
+owes_share s c call ks p is = absurd is
+
+-- What is known of A does not depend on what is known of B.
+pub marked_also : (setup : Setting) (t : Trace) (p : Pair) (n : ℕ) (h : HeadWord) (list : Option (List (ℕ × ℕ))) (at : PairAt)
+    → HasMarkedA setup t p n → HasMarkedA setup t (record p { head_b = h; list_b = list; at = at }) n
+marked_also setup t p n h list at has = record {
+  raw = has.raw;
+  fits = has.fits;
+  bare = has.bare;
+  enough = has.enough;
+  list = has.list;
+  clean = has.clean;
+}
+
+-- What the lists lead to.
+judged_same : (what : PairWork) (p q : Pair) → q.head_a ≡ p.head_a → q.head_b ≡ p.head_b → q.list_a ≡ p.list_a → q.list_b ≡ p.list_b
+    → judged what q ≡ judged what p
+judged_same (Transfer m) p q first second list_a list_b =
+    ap (λ xs. by_alike (same_list (in_order xs) (in_order q.list_b))) list_a
+    ∙ ap (λ xs. by_alike (same_list (in_order p.list_a) (in_order xs))) list_b
+judged_same (Delegate m) p q first second list_a list_b = ap by_room list_b
+judged_same Test p q first second list_a list_b =
+    ap (λ h. Rattle.stage_tcap.specs.Pairs.by_preempting (Rattle.spk_nums.specs.Merging.preempts_by h.budget (in_order q.list_a) q.head_b.budget (in_order q.list_b))) first
+    ∙ ap (λ h. Rattle.stage_tcap.specs.Pairs.by_preempting (Rattle.spk_nums.specs.Merging.preempts_by p.head_a.budget (in_order q.list_a) h.budget (in_order q.list_b))) second
+    ∙ ap (λ xs. Rattle.stage_tcap.specs.Pairs.by_preempting (Rattle.spk_nums.specs.Merging.preempts_by p.head_a.budget (in_order xs) p.head_b.budget (in_order q.list_b))) list_a
+    ∙ ap (λ xs. Rattle.stage_tcap.specs.Pairs.by_preempting (Rattle.spk_nums.specs.Merging.preempts_by p.head_a.budget (in_order p.list_a) p.head_b.budget (in_order xs))) list_b
+
+record IsJudged (setup : Setting) (t : Trace) (c : ℕ) (q : Pair) (h : Holding) (at : PairAt) : Type 0 where
+  holds_same : holds_share q at h ≡ holds_head q false h
+  knows : HasBoth setup t c q at → KnowsPairAt setup t c q at
+
+is_judged : (setup : Setting) (t : Trace) (c : ℕ) (q : Pair) (h : Holding) (what : PairWork) (p : Pair)
+    → IsJudged setup t c q h (judged what p)
+is_judged setup t c q h (Transfer m) p = by (same_list (in_order p.list_a) (in_order p.list_b))
+  where
+    by : (b : Bool) → IsJudged setup t c q h (by_alike b)
+    by true = record { holds_same = refl; knows = λ has. has }
+    by false = record { holds_same = refl; knows = λ has. has }
+is_judged setup t c q h (Delegate m) p = by p.list_b
+  where
+    by : (o : Option (List (ℕ × ℕ))) → IsJudged setup t c q h (by_room o)
+    by None = record { holds_same = refl; knows = λ has. has }
+    by (Some xs) = record { holds_same = refl; knows = λ has. has }
+is_judged setup t c q h Test p = record { holds_same = refl; knows = λ has. has }
+
+module _ (setup : Setting) (setting : IsSetting setup) (cores : ℕ → Core) (t : Trace) (stands : Stands setup cores t) (c : ℕ)
+    (here : c < setup.cores)
+    (a : ActiveCall) (active : (cores c).active ≡ Some a) (p : Pair)
+    (stage_is : a.stage ≡ Undecided (Act (share_act (record p { at = LoadB }))))
+    (has : KnowsUndecided setup t c (cores c).own.table a (Act (share_act (record p { at = LoadB })))) where
+  abbrev now_p : Pair
+  now_p = record p { at = LoadB }
+
+  abbrev s : State
+  s = state_after setup t
+
+  abbrev at : Word
+  at = EntryAt p.b 0
+
+  abbrev was : ℕ
+  was = last_left setup t at
+
+  abbrev e : Step
+  e = step_to c None (LoadOf at) was None None
+
+  tcap : TcapOf (s.frame p.b)
+  tcap = calls.tcap_b setup setting cores t stands c here a active now_p stage_is has
+
+  held : holds_in (Some a) ≡ holds_head now_p false (holds_counts None a.counts)
+  held = calls.held_is setup setting cores t stands c here a active now_p stage_is has
+
+  none_some : (v : HeadWord) → None ≡ Some v → ⊥
+  none_some v h = cc
+
+  word_kept : (w : Word) → last_left setup (e ∷ t) w ≡ last_left setup t w
+  word_kept w = left_same setup t e refl w (λ h. refl)
+
+  free_good : (budget version : ℕ) → head_of_word was ≡ Some (head budget version)
+      → GoodTook setup cores t c (LoadOf at) (landed a (Goes (Act (share_act (record p { head_b = head budget version; at = ListB 1 })))))
+  free_good budget version reads =
+      let spells = spelling.spells was (head budget version) reads in
+      load_goes setup setting cores t stands c here a active now_p stage_is has p.b 0
+      (calls.near_b setup setting cores t stands c here a active now_p stage_is has)
+      (record p { head_b = head budget version; at = ListB 1 }) refl refl refl refl refl (
+        marked_also setup (e ∷ t) now_p 8 (head budget version) p.list_b (ListB 1)
+            (marked_on setup t e refl now_p 8 (λ i h. refl) has.knows.knows.at.0),
+        record {
+          head = record {
+            own = own_read-here c e t refl at refl ∙ ap (λ b. if b then Some was else None) (eq-eqb was was refl)
+                ∙ ap (λ (x : ℕ). Some x) (sym spells.1);
+            fits = spells.0;
+            bare = refl;
+          };
+          seen = record {
+            now = head budget version;
+            shown = ap head_of_word (last_left-here setup at e t refl) ∙ reads;
+            later = omega arith;
+            same = λ is. inl has.knows.knows.at.1;
+            valid = λ j low. subst IsSome (sym (ap quality_of_word (word_kept (EntryAt p.b (suc j)))
+                ∙ list_plain setup setting cores t stands p.b tcap.fields tcap.is
+                (mark_is setup setting cores t stands p.b tcap.fields tcap.is was ∙ ap head_mark reads) j low)) refl;
+          };
+        },
+      )
+
+  busy_good : (d : ℕ) → marked_by setup t at ≡ Some d
+      → GoodTook setup cores t c (LoadOf at)
+      (landed a (took_shared (record p { head_b = noted p.head_b (head_of_word was); at = giving_back }) (decided_by_mark (Some d))))
+  busy_good d mark lands =
+      let is = has.knows.knows.shares in
+      load_decides setup setting cores t stands c here a active now_p stage_is has 8 has.knows.knows.at.0 held (LoadOf at)
+      (loading setup setting cores t stands c here a active now_p stage_is has p.b 0
+      (calls.near_b setup setting cores t stands c here a active now_p stage_is has)) (reply.Busy d)
+      (record p { head_b = noted p.head_b (head_of_word was); at = giving_back }) value.Nothing refl refl refl refl (sym held)
+      (ap (λ x. counted x c) (owes_share s c a.call a.found now_p is)) refl (λ x. refl) (λ x. refl) refl (
+        not_spent setup (cores c) t c (core_is setup setting cores t stands c here a active)
+            (calls.room setup setting cores t stands c here a active now_p stage_is has),
+        tt,
+      ) blocked
+      (λ is_alone. absurd (not_inside setup t (inner setup setting cores t stands c here a active (LoadOf at) (Some (reply.Busy d)) None) refl
+      is_alone d blocked.other blocked.is_inside)) lands
+    where
+      apart : at ≢ EntryAt p.a 0
+      apart h = calls.differ setup setting cores t stands c here a active now_p stage_is has (sym (frame_is h))
+        where
+          frame_is : EntryAt p.b 0 ≡ EntryAt p.a 0 → p.b ≡ p.a
+          frame_is h = cc
+
+      no_mark : (holds_in (Some a)).marks at ≡ false
+      no_mark = ap (λ h. h.marks at) held
+          ∙ ap (λ b. if b then true else (holds_counts None a.counts).marks at) (same_word-other at (EntryAt p.a 0) apart)
+          ∙ ap (λ xs. (holds_counts None xs).marks at) (calls.no_counts setup setting cores t stands c here a active now_p stage_is has)
+
+      blocked : IsHeldUp setup t (inner setup setting cores t stands c here a active (LoadOf at) (Some (reply.Busy d)) None) s
+          (rule_of s c a.call) d
+      blocked = record {
+        marked = mark;
+        other = λ own. false≢true (sym (ap (λ h. h.marks at) (ap (λ (k : ℕ). held_by cores k) own ∙ ap holds_in active) ∙ no_mark)
+            ∙ (stands.marks at d).owned mark);
+        is_inside = marker_inside setup cores t stands at d mark;
+        has_marked = stands.marked at d mark;
+        on_way = λ node. absurd (false≢true (ap is_node (sym tcap.is) ∙ node));
+      }
+
+  by_mark : (budget version : ℕ) (mark : Option ℕ) → head_of_word was ≡ Some (record { budget = budget; mark = mark; version = version })
+      → GoodTook setup cores t c (LoadOf at)
+      (landed a (took_shared (record p { head_b = head budget version; at = at_by_mark (ListB 1) giving_back mark }) (decided_by_mark mark)))
+  by_mark budget version None shown = free_good budget version shown
+  by_mark budget version (Some d) shown =
+      subst (λ (h : HeadWord). GoodTook setup cores t c (LoadOf at)
+      (landed a (took_shared (record p { head_b = h; at = giving_back }) (decided_by_mark (Some d)))))
+      (ap (noted p.head_b) shown)
+      (busy_good d (mark_is setup setting cores t stands p.b tcap.fields tcap.is was ∙ ap head_mark shown))
+
+  by_word : (o : Option HeadWord) → head_of_word was ≡ o
+      → GoodTook setup cores t c (LoadOf at)
+      (landed a (took_shared (record p { head_b = noted p.head_b o; at = at_by_head (ListB 1) giving_back o }) (b_end o)))
+  by_word None shown =
+      let says = (head_says setup setting cores t stands p.b tcap.fields tcap.is
+      (mark_is setup setting cores t stands p.b tcap.fields tcap.is was ∙ ap head_mark shown)).says in
+      absurd (none_some _ (sym shown ∙ says))
+  by_word (Some v) shown = by_mark v.budget v.version v.mark shown
+
+  pub load_b_good : GoodTook setup cores t c (LoadOf at) (landed a (took_share now_p was))
+  load_b_good = by_word (head_of_word was) refl
+
+-- The load of a word of list B.
+module _ (setup : Setting) (setting : IsSetting setup) (cores : ℕ → Core) (t : Trace) (stands : Stands setup cores t) (c : ℕ)
+    (here : c < setup.cores)
+    (a : ActiveCall) (active : (cores c).active ≡ Some a) (p : Pair) (n : ℕ)
+    (stage_is : a.stage ≡ Undecided (Act (share_act (record p { at = ListB (suc n) }))))
+    (has : KnowsUndecided setup t c (cores c).own.table a (Act (share_act (record p { at = ListB (suc n) })))) where
+  abbrev list_p : Pair
+  list_p = record p { at = ListB (suc n) }
+
+  abbrev word_at : Word
+  word_at = EntryAt p.b (suc n)
+
+  abbrev found : ℕ
+  found = last_left setup t word_at
+
+  abbrev loads : Step
+  loads = step_to c None (LoadOf word_at) found None None
+
+  low : n < 8
+  low = let fits = (calls.fits setup setting cores t stands c here a active list_p stage_is has).at.1 in omega (arith, fits)
+
+  tcap_here : TcapOf ((state_after setup t).frame p.b)
+  tcap_here = calls.tcap_b setup setting cores t stands c here a active list_p stage_is has
+
+  abbrev next_list : Option (List (ℕ × ℕ))
+  next_list = read_word p.list_b (quality_of_word found)
+
+  spares_load : (i : ℕ) → SparesTcap setup t loads p.b i
+  spares_load zero = inl refl
+  spares_load (suc j) = inl refl
+
+  seen_before : HasSeenB setup (loads ∷ t) p.b p.head_b.version p.list_b n
+  seen_before = seen_on setup t loads refl p.b p.head_b.version p.list_b n has.knows.knows.at.1.seen
+      (tcap_mark setup t p.b tcap_here.fields tcap_here.is) (λ i h. spares_load i)
+
+  -- what is known of B after the load, with the word that it has found
+  seen_next : HasSeenB setup (loads ∷ t) p.b p.head_b.version next_list (suc n)
+  seen_next = record {
+    now = seen_before.now;
+    shown = seen_before.shown;
+    later = seen_before.later;
+    same = λ is. on (seen_before.same is);
+    valid = seen_before.valid;
+  }
+    where
+      on : (p.list_b ≡ read_up (list_word setup (loads ∷ t) p.b) n)
+          ⊎ ((Rattle.core_invariant.specs.Shares.list_changed (loads ∷ t) p.b ≡ true) × IsSome seen_before.now.mark)
+          → (next_list ≡ read_up (list_word setup (loads ∷ t) p.b) (suc n))
+          ⊎ ((Rattle.core_invariant.specs.Shares.list_changed (loads ∷ t) p.b ≡ true) × IsSome seen_before.now.mark)
+      on (inl is) = inl (ap (λ o. read_word o (quality_of_word found)) is
+          ∙ ap (λ (x : ℕ). read_word (read_up (list_word setup (loads ∷ t) p.b) n) (quality_of_word x))
+          (sym (left_same setup t loads refl word_at (λ h. refl))))
+      on (inr is) = inr is
+
+  head_next : ReadsHead (loads ∷ t) c p.b p.head_b
+  head_next = record {
+    own = own_read-there c loads t refl (EntryAt p.b 0) (λ h. absurd (apart h)) ∙ has.knows.knows.at.1.head.own;
+    fits = has.knows.knows.at.1.head.fits;
+    bare = has.knows.knows.at.1.head.bare;
+  }
+    where
+      apart : EntryAt p.b 0 ≡ EntryAt p.b (suc n) → ⊥
+      apart h = let same : 0 ≡ suc n = index h in omega (arith, same)
+        where
+          index : EntryAt p.b 0 ≡ EntryAt p.b (suc n) → 0 ≡ suc n
+          index h = cc
+
+  a_next : (list : Option (List (ℕ × ℕ))) (where_at : PairAt) → HasMarkedA setup (loads ∷ t) (record p { list_b = list; at = where_at }) 8
+  a_next list where_at = marked_also setup (loads ∷ t) list_p 8 p.head_b list where_at
+      (marked_on setup t loads refl list_p 8 (λ i h. refl) has.knows.knows.at.0)
+
+  goes : (list : Option (List (ℕ × ℕ))) (to : PairAt)
+      → holds_share (record p { list_b = list; at = to }) to (holds_counts None a.counts)
+      ≡ holds_share list_p (ListB (suc n)) (holds_counts None a.counts)
+      → KnowsPairAt setup (loads ∷ t) c (record p { list_b = list; at = to }) to
+      → GoodTook setup cores t c (LoadOf word_at) (landed a (Goes (Act (share_act (record p { list_b = list; at = to })))))
+  goes list to holds_same knows =
+      load_goes setup setting cores t stands c here a active list_p stage_is has p.b (suc n)
+      (calls.near_b setup setting cores t stands c here a active list_p stage_is has) (record p { list_b = list; at = to })
+      refl refl refl refl holds_same knows
+
+  -- the pair with both lists read, before it is judged
+  abbrev both_p : Pair
+  both_p = record p { list_b = whole_b p.what (in_order p.list_a) (in_order next_list); at = ListB (suc n) }
+
+  abbrev to_at : PairAt
+  to_at = judged p.what both_p
+
+  abbrev done_p : Pair
+  done_p = record p { list_b = whole_b p.what (in_order p.list_a) (in_order next_list); at = to_at }
+
+  by_more : (more : Bool) → nat_lt (suc n) 8 ≡ more
+      → GoodTook setup cores t c (LoadOf word_at)
+      (landed a (Goes (Act (share_act (record p {
+        list_b = read_b more p.what (in_order p.list_a) next_list;
+        at = b_next more (suc n) (record p { list_b = read_b more p.what (in_order p.list_a) next_list; at = ListB (suc n) });
+      })))))
+  by_more true is =
+      let same : suc (suc n) ≡ suc n + 1 = omega arith in
+      goes next_list (ListB (suc n + 1)) refl
+      (subst (λ (m : ℕ). KnowsPairAt setup (loads ∷ t) c (record p { list_b = next_list; at = ListB (suc n + 1) }) (ListB m)) same
+      (a_next next_list (ListB (suc n + 1)), record { head = head_next; seen = seen_next }))
+  by_more false is =
+      let past = ltb-false (suc n) 8 is in
+      let all : suc n ≡ 8 = (let below = low in omega (arith, past, below)) in
+      let judge : IsJudged setup (loads ∷ t) c done_p (holds_counts None a.counts) to_at =
+      is_judged setup (loads ∷ t) c done_p (holds_counts None a.counts) p.what both_p in
+      goes (whole_b p.what (in_order p.list_a) (in_order next_list)) to_at judge.holds_same
+      (judge.knows (record {
+        a = a_next (whole_b p.what (in_order p.list_a) (in_order next_list)) to_at;
+        read = next_list;
+        b = record {
+          head = head_next;
+          seen = subst (λ (m : ℕ). HasSeenB setup (loads ∷ t) p.b p.head_b.version next_list m) all seen_next;
+        };
+        whole = refl;
+        judges = judged_same p.what both_p done_p refl refl refl refl;
+      }))
+
+  none_quality : (v : QualityWord) → None ≡ Some v → ⊥
+  none_quality v h = cc
+
+  abbrev found_list : Option (List (ℕ × ℕ))
+  found_list = read_b (nat_lt (suc n) 8) p.what (in_order p.list_a) next_list
+
+  by_quality : (o : Option QualityWord) → quality_of_word found ≡ o
+      → GoodTook setup cores t c (LoadOf word_at)
+      (landed a (took_shared (record p {
+        list_b = found_list;
+        at = at_read o (b_next (nat_lt (suc n) 8) (suc n) (record p { list_b = found_list; at = ListB (suc n) }));
+      }) (list_end o)))
+  by_quality None is = absurd (false≢true (sym (ap is_some is) ∙ has.knows.knows.at.1.seen.valid n low))
+  by_quality (Some v) is = by_more (nat_lt (suc n) 8) refl
+
+  pub list_b_good : GoodTook setup cores t c (LoadOf word_at) (landed a (took_share list_p found))
+  list_b_good = by_quality (quality_of_word found) refl

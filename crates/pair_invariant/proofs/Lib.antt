@@ -1,0 +1,14 @@
+-- What the words and the rule of such a call say.
+pub mod ListsRead
+pub mod ShareCalls
+pub mod ShareSteps
+pub mod Marking
+-- Its loads, and the mark of the first head.
+pub mod HeadsA
+pub mod HeadsB
+pub mod MarksA
+pub mod ListsKnown
+-- Its decision.
+pub mod Moved
+-- Where it begins, and all its steps.
+pub mod ShareStarts

@@ -1,0 +1,390 @@
+-- The compare that marks the head of the first of two temporal capabilities.
+use Rattle.std.proofs.Common.{◌≡◌, inl, inr, ℕ, ◌+◌, ◌<◌, ◌≤◌, ◌^◌, ◌==◌, ◌&&◌, not, nat_lt, Bool, true, false, if◌then◌else◌, [], ◌∷◌, Some, None, arith, refl, sym, ◌∙◌, ap, subst}
+use Rattle.std.proofs.lemmas.Bool.{eq-eqb, ne_eqb, eqb-true, eqb-false, ltb-true, ltb-false}
+use Rattle.spk_nums.specs.Setting.{Setting, IsSetting}
+use Rattle.spk_nums.specs.WordSteps.{left_if}
+use Rattle.spk_nums.specs.declared.replies.Reply.{Reply}
+use Rattle.spk_nums.specs.declared.replies.Reply.TheVariants as reply
+use Rattle.tcap_words.specs.Head.{HeadFits, word_of_head, head_of_word}
+use Rattle.tcap_words.specs.declared.head_word.HeadWord.{HeadWord}
+use Rattle.tcap_words.proofs.HeadLemmas.{spelling}
+use Rattle.word_map.specs.Word.{Word, EntryAt}
+use Rattle.word_map.specs.Moves.{Move, CompareOf, left_of}
+use Rattle.word_map.proofs.WordLemmas.{same_same}
+use Rattle.kernel_rules.specs.State.{Kernel, Tcap, TcapFields, State, put, tcap_in}
+use Rattle.kernel_rules.specs.Access.{found as named_by}
+use Rattle.kernel_rules.specs.Rules.{Refused, Does, RuleMay, unless, first_cause}
+use Rattle.kernel_rules.specs.TimeCalls.{tcap_at}
+use Rattle.kernel_rules.specs.CallRelation.{rule_of, change_of}
+use Rattle.kernel_rules.proofs.Within.{put_same}
+use Rattle.kernel_history.specs.Discipline.{changes_in_frame}
+use Rattle.kernel_history.specs.Justified.{HasRacedHead}
+use Rattle.kernel_history.specs.Marks.{mark_of, head_mark}
+use Rattle.kernel_history.specs.Marking.{marked_by}
+use Rattle.kernel_history.specs.Trace.{Step, Trace, state_after, last_left, state_decided_in}
+use Rattle.trace_laws.proofs.AloneCalls.{refused_first}
+use Rattle.kernel_history.proofs.Names.{same_word-other}
+use Rattle.kernel_history.proofs.Steps.{last_left-here}
+use Rattle.trace_laws.proofs.Carries.{was_stays}
+use Rattle.stage_tcap.specs.Heads.{marked}
+use Rattle.stage_tcap.specs.Pairs.{amount_of, at_marked, marked_end, giving_back}
+use Rattle.stage_tcap.specs.declared.pair.Pair.{Pair}
+use Rattle.stage_tcap.specs.declared.pair.PairAt.TheVariants.{MarkA, ListA}
+use Rattle.stage_tcap.specs.declared.pair.PairWork.{PairWork}
+use Rattle.stage_tcap.specs.declared.pair.PairWork.TheVariants.{Transfer, Delegate, Test}
+use Rattle.act_states.specs.declared.refusals.Refusal.TheVariants as refusal
+use Rattle.act_states.specs.declared.work.Act.TheVariants.{Share as share_act}
+use Rattle.act_states.specs.declared.work.Work.TheVariants.{Act}
+use Rattle.act_states.specs.declared.work.Tail.TheVariants.{Share as share_tail}
+use Rattle.act_states.specs.WorkSteps.{refuse}
+use Rattle.act_states.specs.Shares.{took_shared, took_share}
+use Rattle.call_stages.specs.declared.stages.Stage.TheVariants.{Undecided, Decided}
+use Rattle.call_stages.specs.declared.stages.ActiveCall.{ActiveCall}
+use Rattle.call_stages.specs.Steps.{landed, went, GoesOn}
+use Rattle.call_stages.specs.View.{Core}
+use Rattle.core_invariant.specs.Holding.{holds_counts, settled_by}
+use Rattle.core_invariant.specs.Words.{HeadIs, count_room}
+use Rattle.core_invariant.specs.Knows.{KnowsUndecided}
+use Rattle.core_invariant.specs.Shares.{list_changed, TurnsHead, SparesTcap, HasTcap, HasMarkedA}
+use Rattle.core_invariant.specs.Stands.{holds_in, holds, held_by, Stands}
+use Rattle.core_invariant.proofs.Bare.{as_none, counts_bare}
+use Rattle.kept_knowledge.proofs.Carries.{names_on, counts_on}
+use Rattle.step_ways.proofs.Counting as counters
+use Rattle.step_ways.proofs.Good.{Spared, SparesBlanks}
+use Rattle.lent_words.proofs.Lent.{unlent_head_value, unlent_head_word, lent_free}
+use Rattle.step_ways.proofs.Loads.{IsOfCall, core_at, core_is, call_is, inner}
+use Rattle.step_ways.proofs.Refusals.{GoodTook, ticks_at, not_spent, refuses_raced}
+use Rattle.lent_words.proofs.Tcaps.{TcapOf}
+use Rattle.step_ways.proofs.Writes.{room_left}
+use Rattle.pair_invariant.proofs.Marking.{decides_marking}
+use Rattle.pair_invariant.proofs.ShareCalls as calls
+use Rattle.pair_invariant.proofs.ShareCalls.{causes_of, change_by}
+use Rattle.pair_invariant.proofs.ShareSteps.{mark_is, head_says, now_was, counted_tcap, shares_same}
+
+-- A step on a word of a temporal capability alone spares the words that others rely on, where it does so of this word.
+pub spares_one : (setup : Setting) (t : Trace) (e : Step) (f i : ℕ) (q : TcapFields)
+    → Rattle.word_map.specs.Moves.word_of e.move ≡ EntryAt f i → (state_after setup t).frame f ≡ Kernel (Tcap q)
+    → SparesTcap setup t e f i → SparesBlanks setup t e
+spares_one setup t e f i q at is turns g j on =
+    subst (λ (m : ℕ). Spared setup t e m j ((state_after setup t).frame m)) (same_frame g j (sym at ∙ on))
+    (subst (λ x. Spared setup t e f j x) (sym is) (subst (λ (m : ℕ). SparesTcap setup t e f m) (same_index g j (sym at ∙ on)) turns))
+  where
+    same_frame : (g j : ℕ) → EntryAt f i ≡ EntryAt g j → f ≡ g
+    same_frame g j h = cc
+
+    same_index : (g j : ℕ) → EntryAt f i ≡ EntryAt g j → i ≡ j
+    same_index g j h = cc
+
+module _ (setup : Setting) (setting : IsSetting setup) (cores : ℕ → Core) (t : Trace) (stands : Stands setup cores t) (c : ℕ)
+    (here : c < setup.cores)
+    (a : ActiveCall) (active : (cores c).active ≡ Some a) (p : Pair)
+    (stage_is : a.stage ≡ Undecided (Act (share_act (record p { at = MarkA }))))
+    (has : KnowsUndecided setup t c (cores c).own.table a (Act (share_act (record p { at = MarkA })))) where
+  abbrev s : State
+  s = state_after setup t
+
+  abbrev mark_p : Pair
+  mark_p = record p { at = MarkA }
+
+  abbrev at : Word
+  at = EntryAt p.a 0
+
+  abbrev was : ℕ
+  was = last_left setup t at
+
+  abbrev old : ℕ
+  old = word_of_head p.head_a
+
+  abbrev new : ℕ
+  new = word_of_head (marked p.core p.head_a)
+
+  abbrev compare : Move
+  compare = CompareOf at old new
+
+  tcap : TcapOf (s.frame p.a)
+  tcap = calls.tcap_a setup setting cores t stands c here a active mark_p stage_is has
+
+  abbrev q : TcapFields
+  q = tcap.fields
+
+  is : calls.IsShare s c a.call a.found mark_p
+  is = calls.is setup setting cores t stands c here a active mark_p stage_is has
+
+  held_counts : holds_in (Some a) ≡ holds_counts None a.counts
+  held_counts = calls.held_is setup setting cores t stands c here a active mark_p stage_is has
+
+  room : (cores c).own.made < (cores c).own.limit
+  room = calls.room setup setting cores t stands c here a active mark_p stage_is has
+
+  of_call : IsOfCall setup t c a.call compare
+  of_call = record {
+    moves = ap (changes_in_frame a.call) tcap.is ∙ is.budgets;
+    near = inl (calls.near_a setup setting cores t stands c here a active mark_p stage_is has);
+  }
+
+  lost_good : (was == old) ≡ false → GoodTook setup cores t c compare (landed a (refuse refusal.Raced))
+  lost_good other =
+      refuses_raced setup setting cores t stands c here a active
+      (calls.opens setup setting cores t stands c here a active mark_p stage_is has) held_counts room compare
+      (record { of_call = of_call; kept = kept; apart = λ d. refl }) (ap ticks_at stage_is)
+      (record {
+        at = inr (subst HasRacedHead (sym tcap.is) tt, refl);
+        reads = eq-eqb (left_of compare was) was kept;
+        own = old;
+        has_read = has.knows.knows.at.0.own;
+        changed = eqb-false was old other;
+      })
+    where
+      kept : left_of compare was ≡ was
+      kept = ap (λ b. left_if b was new) other
+
+  -- It is won.
+  module _ (equal : (was == old) ≡ true) where
+    same : was ≡ old
+    same = eqb-true was old equal
+
+    leaves : left_of compare was ≡ new
+    leaves = ap (λ b. left_if b was new) equal
+
+    shown : head_of_word was ≡ Some p.head_a
+    shown = ap head_of_word same ∙ spelling.reads p.head_a has.knows.knows.at.0.fits
+
+    bare : marked_by setup t at ≡ None
+    bare = mark_is setup setting cores t stands p.a q tcap.is was ∙ ap head_mark shown ∙ has.knows.knows.at.0.bare
+
+    says : HeadIs q (count_room s) (Some p.head_a)
+    says = subst (HeadIs q (count_room s)) shown (head_says setup setting cores t stands p.a q tcap.is bare)
+
+    same_head : (v u : HeadWord) → Some v ≡ Some u → v ≡ u
+    same_head v u h = cc
+
+    budget_is : p.head_a.budget ≡ (tcap_at s is.a.frame).budget
+    budget_is = ap (λ v. v.budget) (same_head _ _ says.says) ∙ ap (λ x. (tcap_in x).budget) (sym tcap.is)
+        ∙ ap (λ (f : ℕ). (tcap_at s f).budget) is.shared.first
+
+    few : p.head_a.version + 1 < 2 ^ 28
+    few =
+        let low : p.head_a.version ≤ count_room s =
+        subst (λ (m : ℕ). m ≤ count_room s) (sym (ap (λ v. v.version) (same_head _ _ says.says))) says.within in
+        let most = room_left setup setting cores t stands in omega (arith, low, most)
+
+    core_is_c : p.core ≡ c
+    core_is_c = has.knows.knows.core
+
+    marked_fits : HeadFits (marked p.core p.head_a)
+    marked_fits = (
+      has.knows.knows.at.0.fits.0,
+      (let most = setting.most_cores in let own = core_is_c in omega (arith, most, here, own)),
+      has.knows.knows.at.0.fits.2,
+    )
+
+    reads_new : head_of_word new ≡ Some (marked p.core p.head_a)
+    reads_new = spelling.reads (marked p.core p.head_a) marked_fits
+
+    small : left_of compare was < 2 ^ 64
+    small = subst (λ (n : ℕ). n < 2 ^ 64) (sym leaves) (spelling.small (marked p.core p.head_a) marked_fits)
+
+    changes : (left_of compare was == was) ≡ false
+    changes = ne_eqb (left_of compare was) was (λ h. absurd (not_same (sym reads_new ∙ ap head_of_word (sym leaves ∙ h) ∙ shown)))
+      where
+        mark_of_head : (v u : HeadWord) → Some v ≡ Some u → v.mark ≡ u.mark
+        mark_of_head v u h = cc
+
+        some_none : (d : ℕ) → Some d ≡ None → ⊥
+        some_none d h = cc
+
+        not_same : Some (marked p.core p.head_a) ≡ Some p.head_a → ⊥
+        not_same h = some_none p.core (mark_of_head _ _ h ∙ has.knows.knows.at.0.bare)
+
+    held_before : holds (cores c) ≡ holds_counts None a.counts
+    held_before = ap holds_in active ∙ held_counts
+
+    now_marked : mark_of s at (left_of compare was) ≡ Some c
+    now_marked = ap (mark_of s at) leaves ∙ mark_is setup setting cores t stands p.a q tcap.is new ∙ ap head_mark reads_new
+        ∙ ap (λ (d : ℕ). Some d) core_is_c
+
+    none_some : (d : ℕ) → None ≡ Some d → ⊥
+    none_some d h = cc
+
+    turns : (e : Step) → e.core ≡ c → e.move ≡ compare → e.found ≡ was → SparesTcap setup t e p.a 0
+    turns e own move_is found_is = inr (subst (λ o. TurnsHead e.core (list_changed t p.a) (head_of_word e.found) o)
+        (sym (ap head_of_word (ap (λ m. left_of m e.found) move_is ∙ ap (left_of compare) found_is ∙ leaves) ∙ reads_new))
+        (subst (λ o. TurnsHead e.core (list_changed t p.a) o (Some (marked p.core p.head_a)))
+        (sym (ap head_of_word found_is ∙ shown))
+        (inl has.knows.knows.at.0.bare, inr (refl, inl has.knows.knows.at.0.bare))))
+
+    clean : (e : Step) → Rattle.word_map.specs.Moves.word_of e.move ≡ at → (left_of e.move e.found == e.found) ≡ false
+        → list_changed (e ∷ t) p.a ≡ false
+    clean e on other =
+        ap (λ (w : Word). Rattle.core_invariant.specs.Shares.turns_list w (left_of e.move e.found == e.found) p.a (list_changed t p.a)) on
+        ∙ ap (λ b. if b && not (left_of e.move e.found == e.found) then false else list_changed t p.a) (eq-eqb p.a p.a refl)
+        ∙ ap (λ b. if not b then false else list_changed t p.a) other
+
+    -- what is left of the rule where the budget is less than the ticks
+    short_may : (what : PairWork) → nat_lt p.head_a.budget (amount_of what) ≡ true
+        → RuleMay s c (Does (causes_of s what (named_by is.a) (named_by is.b)) (change_by s what is.a.frame is.b.frame))
+        (reply.Short p.head_a.budget)
+    short_may (Transfer m) less = inr (inl (ap (λ (n : ℕ). nat_lt n m) (sym budget_is) ∙ less, ap (λ (n : ℕ). reply.Short n) budget_is))
+    short_may (Delegate m) less = inr (inl (ap (λ (n : ℕ). nat_lt n m) (sym budget_is) ∙ less, ap (λ (n : ℕ). reply.Short n) budget_is))
+    short_may Test less = absurd (let low = ltb-true p.head_a.budget 0 less in omega (arith, low))
+
+    short_first : (what : PairWork) → nat_lt p.head_a.budget (amount_of what) ≡ true
+        → unless (first_cause s c (causes_of s what (named_by is.a) (named_by is.b))) (change_by s what is.a.frame is.b.frame)
+        ≡ Refused (reply.Short p.head_a.budget)
+    unfolding is
+    short_first Test less = absurd (let low = ltb-true p.head_a.budget 0 less in omega (arith, low))
+    short_first (Transfer m) less =
+        ap (λ b. unless (Rattle.kernel_rules.specs.Rules.first_of (if b then Some reply.Same else None)
+        (first_cause s c (Rattle.kernel_rules.specs.TimeCalls.is_short s (named_by is.a) m
+        ∷ Rattle.kernel_rules.specs.TimeCalls.are_unlike s (named_by is.a) (named_by is.b) ∷ [])))
+        (change_by s (Transfer m) is.a.frame is.b.frame))
+        (calls.not_same setup setting cores t stands c here a active mark_p stage_is has)
+        ∙ ap (λ b. unless (Rattle.kernel_rules.specs.Rules.first_of (if b then Some (reply.Short (tcap_at s is.a.frame).budget) else None)
+        (first_cause s c (Rattle.kernel_rules.specs.TimeCalls.are_unlike s (named_by is.a) (named_by is.b) ∷ [])))
+        (change_by s (Transfer m) is.a.frame is.b.frame)) (ap (λ (n : ℕ). nat_lt n m) (sym budget_is) ∙ less)
+        ∙ ap (λ (n : ℕ). Refused (reply.Short n)) (sym budget_is)
+    short_first (Delegate m) less =
+        ap (λ b. unless (Rattle.kernel_rules.specs.Rules.first_of (if b then Some reply.Same else None)
+        (first_cause s c (Rattle.kernel_rules.specs.TimeCalls.is_short s (named_by is.a) m
+        ∷ Rattle.kernel_rules.specs.TimeCalls.are_many s (named_by is.a) (named_by is.b) ∷ [])))
+        (change_by s (Delegate m) is.a.frame is.b.frame))
+        (calls.not_same setup setting cores t stands c here a active mark_p stage_is has)
+        ∙ ap (λ b. unless (Rattle.kernel_rules.specs.Rules.first_of (if b then Some (reply.Short (tcap_at s is.a.frame).budget) else None)
+        (first_cause s c (Rattle.kernel_rules.specs.TimeCalls.are_many s (named_by is.a) (named_by is.b) ∷ [])))
+        (change_by s (Delegate m) is.a.frame is.b.frame)) (ap (λ (n : ℕ). nat_lt n m) (sym budget_is) ∙ less)
+        ∙ ap (λ (n : ℕ). Refused (reply.Short n)) (sym budget_is)
+
+    -- its budget is less than the ticks
+    short_good : nat_lt p.head_a.budget (amount_of p.what) ≡ true
+        → GoodTook setup cores t c compare (landed a (took_shared (record p { at = giving_back }) (marked_end true true p.head_a.budget)))
+    unfolding is
+    short_good less lands =
+        let r : Reply = reply.Short p.head_a.budget in
+        let e : Step = inner setup setting cores t stands c here a active compare (Some r) None in
+        let unspent = not_spent setup (cores c) t c (core_is setup setting cores t stands c here a active) room in
+        let opens = calls.opens setup setting cores t stands c here a active mark_p stage_is has in
+        let now : state_after setup (e ∷ t) ≡ Rattle.kernel_rules.specs.CallRelation.counted s c =
+        ap (λ x. state_decided_in x r s c) (calls.is_open setup setting cores t stands c here a active mark_p stage_is has) in
+        decides_marking setup setting cores t stands c here a active compare r (share_tail (record p { at = giving_back }))
+        (λ b. refl) (λ h. cc) of_call lands small
+        (λ w there. (
+          ap (λ b. if b then true else (holds_counts None a.counts).marks w) (same_word-other w at there) ∙ sym (ap (λ h. h.marks w) held_before),
+          ap (λ b. if b then old else (holds_counts None a.counts).stands w) (same_word-other w at there)
+              ∙ sym (ap (λ h. h.stands w) held_before),
+        ))
+        (as_none (holds (cores c)) _ at (λ g i. ap (λ h. h.bare g i) held_before ∙ counts_bare None a.counts g i) (counts_bare None a.counts))
+        (now_marked ∙ sym (ap (λ b. if b then Some c else None)
+        (ap (λ b. if b then true else (holds_counts None a.counts).marks at) (same_same at))))
+        (λ b other is_marked. none_some b (sym bare ∙ is_marked))
+        (settles (core_at (cores c) ((cores c).own.made + 1)
+        (Rattle.step_ways.proofs.Loads.next_at a a.found (Decided r None (share_tail (record p { at = giving_back })))))
+        (ap (λ b. if b then true else (holds_counts None a.counts).marks at) (same_same at))
+        (ap (λ b. if b then old else (holds_counts None a.counts).stands at) (same_same at)))
+        opens refl refl (λ x. refl) (λ x. refl) refl
+        (unspent, calls.may setup setting cores t stands c here a active mark_p stage_is has r (short_may p.what less)) tt
+        (λ is_alone. refused_first s c a.call r unspent
+        (calls.change_is setup setting cores t stands c here a active mark_p stage_is has ∙ short_first p.what less))
+        (record {
+          budgets = is.budgets;
+          core = core_is_c;
+          near = was_stays (Rattle.kernel_history.specs.Footprint.IsNearIn c a.call at) setup t e c (λ own. refl)
+              (now_was (Rattle.kernel_history.specs.Footprint.IsNearIn c a.call at) setup t c a.call
+              (calls.is_open setup setting cores t stands c here a active mark_p stage_is has)
+              (calls.near_a setup setting cores t stands c here a active mark_p stage_is has));
+          tcap_a = subst (λ x. HasTcap x c p.a) (sym now) (counted_tcap s c p.a has.knows.knows.tcap_a);
+          at = record {
+            raw = last_left-here setup at e t refl ∙ leaves;
+            fits = has.knows.knows.at.0.fits;
+            bare = has.knows.knows.at.0.bare;
+            few = few;
+            clean = clean e refl changes;
+          };
+        })
+        (spares_one setup t e p.a 0 q refl tcap.is (turns e refl refl refl))
+        (lent_free cores e (unlent_head_word setup cores t stands p.a tcap.fields tcap.is))
+      where
+        settles : (after : Core) → (holds after).marks at ≡ true → (holds after).stands at ≡ old
+            → settled_by (if (holds after).marks at then Some c else None) (held_by (put cores c after)) at (left_of compare was)
+            ≡ Rattle.core_invariant.specs.Holding.settled setup (held_by cores) t at
+        settles after marks stands_for =
+            ap (λ b. settled_by (if b then Some c else None) (held_by (put cores c after)) at (left_of compare was)) marks
+            ∙ ap (λ k. (holds k).stands at) (put_same cores c after c refl)
+            ∙ stands_for ∙ sym same ∙ sym (unlent_head_value setup cores t stands p.a tcap.fields tcap.is was)
+            ∙ sym (ap (λ o. settled_by o (held_by cores) at was) bare)
+
+    -- it is no less: the head is marked
+    abbrev goes_p : Pair
+    goes_p = record p { at = ListA 1 }
+
+    abbrev next : ActiveCall
+    next = went a (Undecided (Act (share_act goes_p)))
+
+    abbrev after : Core
+    after = core_at (cores c) (cores c).own.made next
+
+    marks_it : (holds after).marks at ≡ true
+    marks_it = ap (λ b. if b then true else (holds_counts None a.counts).marks at) (same_same at)
+
+    won_good : nat_lt p.head_a.budget (amount_of p.what) ≡ false → GoodTook setup cores t c compare (GoesOn next)
+    won_good enough lands =
+        let e : Step = inner setup setting cores t stands c here a active compare None None in
+        let is_open = calls.is_open setup setting cores t stands c here a active mark_p stage_is has in
+        counters.holds_on setup setting cores t stands c here a active compare next (λ b. refl) (λ h. cc) refl of_call lands small
+        (λ w there. (
+          ap (λ b. if b then true else (holds_counts None a.counts).marks w) (same_word-other w at there) ∙ sym (ap (λ h. h.marks w) held_before),
+          ap (λ b. if b then old else (holds_counts None a.counts).stands w) (same_word-other w at there)
+              ∙ sym (ap (λ h. h.stands w) held_before),
+        ))
+        (as_none (holds (cores c)) (holds after) at (λ g i. ap (λ h. h.bare g i) held_before ∙ counts_bare None a.counts g i)
+        (counts_bare None a.counts))
+        (now_marked ∙ sym (ap (λ b. if b then Some c else None) marks_it))
+        (λ b other is_marked. none_some b (sym bare ∙ is_marked))
+        (ap (λ b. settled_by (if b then Some c else None) (held_by (put cores c after)) at (left_of compare was)) marks_it
+        ∙ ap (λ k. (holds k).stands at) (put_same cores c after c refl)
+        ∙ ap (λ b. if b then old else (holds_counts None a.counts).stands at) (same_same at)
+        ∙ sym same ∙ sym (unlent_head_value setup cores t stands p.a tcap.fields tcap.is was)
+        ∙ sym (ap (λ o. settled_by o (held_by cores) at was) bare))
+        (calls.opens setup setting cores t stands c here a active mark_p stage_is has)
+        (λ carries. record {
+          names = names_on setup setting t e stands.legal c a.call is_open carries (cores c).own.table a.plan a.found has.names;
+          knows = record {
+            knows = record {
+              shares = shares_same a.call a.found mark_p goes_p refl refl refl has.knows.knows.shares;
+              core = has.knows.knows.core;
+              tcap_a = has.knows.knows.tcap_a;
+              tcap_b = has.knows.knows.tcap_b;
+              at = (
+                record {
+                  raw = last_left-here setup at e t refl ∙ leaves;
+                  fits = has.knows.knows.at.0.fits;
+                  bare = has.knows.knows.at.0.bare;
+                  enough = ltb-false p.head_a.budget (amount_of p.what) enough;
+                  list = has.knows.knows.at.1;
+                  clean = clean e refl changes;
+                },
+                has.knows.knows.at.2,
+              );
+            };
+            all = has.knows.all;
+            goes = refl;
+          };
+        })
+        (counts_on setup t e c a.call (λ own. refl) a.counts (call_is setup setting cores t stands c here a active).counts)
+        (call_is setup setting cores t stands c here a active).apart
+        (spares_one setup t e p.a 0 q refl tcap.is (turns e refl refl refl))
+        (lent_free cores e (unlent_head_word setup cores t stands p.a tcap.fields tcap.is))
+
+  pub mark_a_good : GoodTook setup cores t c compare (landed a (took_share mark_p was))
+  mark_a_good = by_same (was == old) refl
+    where
+      by_short : (equal : (was == old) ≡ true) → (short : Bool) → nat_lt p.head_a.budget (amount_of p.what) ≡ short
+          → GoodTook setup cores t c compare
+          (landed a (took_shared (record p { at = at_marked true short }) (marked_end true short p.head_a.budget)))
+      by_short equal true is_short = short_good equal is_short
+      by_short equal false is_short = won_good equal is_short
+
+      by_same : (equal : Bool) → (was == old) ≡ equal
+          → GoodTook setup cores t c compare (landed a (took_shared (record p { at = at_marked equal (nat_lt p.head_a.budget (amount_of p.what)) })
+          (marked_end equal (nat_lt p.head_a.budget (amount_of p.what)) p.head_a.budget)))
+      by_same true is_same = by_short is_same (nat_lt p.head_a.budget (amount_of p.what)) refl
+      by_same false is_same = lost_good is_same

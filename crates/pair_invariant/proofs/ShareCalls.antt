@@ -1,0 +1,192 @@
+-- What a call on two temporal capabilities knows of its rule: what is left of it after its names, and what refuses it.
+use Rattle.std.proofs.Common.{◌≡◌, ◌≢◌, ℕ, ◌<◌, ◌==◌, ◌&&◌, ◌||◌, true, false, List, [], ◌∷◌, Some, None, map, refl, sym, ◌∙◌, ap, subst}
+use Rattle.std.proofs.lemmas.Bool.{eq-eqb, ne_eqb}
+use Rattle.spk_nums.specs.Setting.{Setting, IsSetting}
+use Rattle.spk_nums.specs.Capability.{Capability}
+use Rattle.spk_nums.specs.declared.calls.Call.{Call}
+use Rattle.spk_nums.specs.declared.calls.Call.TheVariants as call_as
+use Rattle.spk_nums.specs.declared.kinds.Kind.{Kind}
+use Rattle.spk_nums.specs.declared.kinds.Kind.TheVariants as kind
+use Rattle.spk_nums.specs.declared.replies.Reply.{Reply}
+use Rattle.kernel_rules.specs.State.{Thing, State}
+use Rattle.kernel_rules.specs.Access.{Named, found}
+use Rattle.kernel_rules.specs.References.{named_by}
+use Rattle.kernel_rules.specs.Rules.{Change, Cause, Does, RuleMay, answers, leaves, outcome, unless, first_cause}
+use Rattle.kernel_rules.specs.TimeCalls.{tcap_at, moved, with_qualities, merged_list, are_same, is_short, are_unlike, are_many, preemption, preempts}
+use Rattle.kernel_rules.specs.CallRelation.{rule_of, change_of, ends_by, flushes_by}
+use Rattle.kernel_history.specs.Discipline.{changes_budgets}
+use Rattle.kernel_history.specs.Footprint.{is_one_of, frames_near}
+use Rattle.kernel_history.specs.Trace.{Trace, Open, phase, state_after}
+use Rattle.call_plans.specs.declared.plans.Nth.{Nth}
+use Rattle.call_plans.specs.declared.plans.Nth.TheVariants.{First, Second}
+use Rattle.call_plans.specs.declared.plans.Plan.{Plan}
+use Rattle.call_plans.specs.Plans.{at_place}
+use Rattle.call_plans.specs.PlanOf.{plan_for}
+use Rattle.call_plans.specs.GoesBy.{GoesBy, own_pages}
+use Rattle.call_plans.specs.After.{rule_after, Leads, LeadsIn}
+use Rattle.call_plans.proofs.AfterNames.{leads_by, outcome_left, left_may}
+use Rattle.call_plans.proofs.CallsGoBy.{calls_go}
+use Rattle.look_invariant.proofs.Findings.{found_named}
+use Rattle.plan_ways.proofs.Near.{near_found}
+use Rattle.stage_pins.specs.declared.held.Acquired.{Acquired}
+use Rattle.stage_tcap.specs.Pairs.{PairFits}
+use Rattle.stage_tcap.specs.declared.pair.Pair.{Pair}
+use Rattle.stage_tcap.specs.declared.pair.PairWork.{PairWork}
+use Rattle.stage_tcap.specs.declared.pair.PairWork.TheVariants.{Transfer, Delegate, Test}
+use Rattle.act_states.specs.declared.work.Act.TheVariants.{Share as share_act}
+use Rattle.act_states.specs.declared.work.Work.TheVariants.{Act}
+use Rattle.call_stages.specs.declared.stages.Stage.TheVariants.{Undecided}
+use Rattle.call_stages.specs.declared.stages.ActiveCall.{ActiveCall}
+use Rattle.call_stages.specs.Fits.{StageFits, HasRoom}
+use Rattle.call_stages.specs.View.{Core}
+use Rattle.core_invariant.specs.Holding.{holds_counts}
+use Rattle.core_invariant.specs.Knows.{due_of, KnowsUndecided, phase_at, HasFound, own_in}
+use Rattle.core_invariant.specs.Shares.{IsShared, SharesBy}
+use Rattle.core_invariant.specs.Stands.{holds_share, holds_at, holds_in, Stands}
+use Rattle.step_ways.proofs.Loads.{call_is, is_active}
+use Rattle.lent_words.proofs.Tcaps.{TcapOf, tcap_of}
+
+-- What refuses such a call after its names, in order, and what it changes.
+abbrev pub causes_of : State → PairWork → Named → Named → List Cause
+causes_of s (Transfer m) a b = are_same a b ∷ is_short s a m ∷ are_unlike s a b ∷ []
+causes_of s (Delegate m) a b = are_same a b ∷ is_short s a m ∷ are_many s a b ∷ []
+causes_of s Test a b = are_same a b ∷ []
+
+abbrev pub change_by : State → PairWork → ℕ → ℕ → Change
+change_by s (Transfer m) a b = leaves (moved s a b m)
+change_by s (Delegate m) a b = leaves (with_qualities (moved s a b m) b (merged_list s a b))
+change_by s Test a b = answers s (preemption (preempts (tcap_at s a) (tcap_at s b)))
+
+-- The call and what its names have led to.
+pub record IsShare (s : State) (c : ℕ) (call : Call) (ks : List Capability) (p : Pair) : Type 0 where
+  pub a : Capability
+  pub b : Capability
+  pub found_is : ks ≡ a ∷ b ∷ []
+  pub shared : IsShared a b p.what p
+  pub left : rule_after (rule_of s c call) ks ≡ Does (causes_of s p.what (found a) (found b)) (change_by s p.what a.frame b.frame)
+  pub budgets : changes_budgets call ≡ true
+  pub ends_none : (x : Thing) → ends_by call x ≡ false
+  pub flush_none : flushes_by call ≡ false
+
+pub share_of : (s : State) (c : ℕ) (call : Call) (ks : List Capability) (p : Pair) → SharesBy call ks p → IsShare s c call ks p
+share_of s c (call_as.Transfer x y m) (a ∷ b ∷ []) p is = record {
+  a = a;
+  b = b;
+  found_is = refl;
+  shared = record { first = is.first; second = is.second; first_kind = is.first_kind; second_kind = is.second_kind; differ = is.differ; work = refl };
+  left = ap (λ w. Does (causes_of s w (found a) (found b)) (change_by s w a.frame b.frame)) (sym is.work);
+  budgets = refl;
+  ends_none = λ x. refl;
+  flush_none = refl;
+}
+share_of s c (call_as.Delegate x y m) (a ∷ b ∷ []) p is = record {
+  a = a;
+  b = b;
+  found_is = refl;
+  shared = record { first = is.first; second = is.second; first_kind = is.first_kind; second_kind = is.second_kind; differ = is.differ; work = refl };
+  left = ap (λ w. Does (causes_of s w (found a) (found b)) (change_by s w a.frame b.frame)) (sym is.work);
+  budgets = refl;
+  ends_none = λ x. refl;
+  flush_none = refl;
+}
+share_of s c (call_as.Test x y) (a ∷ b ∷ []) p is = record {
+  a = a;
+  b = b;
+  found_is = refl;
+  shared = record { first = is.first; second = is.second; first_kind = is.first_kind; second_kind = is.second_kind; differ = is.differ; work = refl };
+  left = ap (λ w. Does (causes_of s w (found a) (found b)) (change_by s w a.frame b.frame)) (sym is.work);
+  budgets = refl;
+  ends_none = λ x. refl;
+  flush_none = refl;
+}
+share_of s c call ks p is = absurd is
+
+-- A frame to which a name has led is near the call.
+name_near : (s : State) (c : ℕ) (call : Call) (ks : List Capability) → Leads (LeadsIn s c) (plan_for call).names [] ks
+    → (at : Nth) (k : Capability) → at_place ks at ≡ Some k → k.kind ≡ kind.Tcap → (f : ℕ) → f ≡ k.frame
+    → is_one_of f (frames_near s c call) ≡ true
+name_near s c call ks leads at k is kind_is f frame_is =
+    near_found s c call ks leads at k is f
+    (ap (λ (j : Kind). is_one_of f (named_by j k.frame)) kind_is ∙ ap (λ b. b || false) (eq-eqb k.frame f (sym frame_is)))
+
+module _ (setup : Setting) (setting : IsSetting setup) (cores : ℕ → Core) (t : Trace) (stands : Stands setup cores t) (c : ℕ)
+    (here : c < setup.cores)
+    (a : ActiveCall) (active : (cores c).active ≡ Some a) (p : Pair) (stage_is : a.stage ≡ Undecided (Act (share_act p)))
+    (has : KnowsUndecided setup t c (cores c).own.table a (Act (share_act p))) where
+  abbrev s : State
+  s = state_after setup t
+
+  pub is : IsShare s c a.call a.found p
+  is = share_of s c a.call a.found p has.knows.knows.shares
+
+  pub opens : phase_at a.call a.stage ≡ Open a.call
+  opens = ap (phase_at a.call) stage_is
+
+  pub is_open : phase t c ≡ Open a.call
+  is_open = (call_is setup setting cores t stands c here a active).phase ∙ opens
+
+  pub room : (cores c).own.made < (cores c).own.limit
+  room = subst (HasRoom (cores c).own.made (cores c).own.limit) stage_is (is_active setup setting cores t stands c here a active).room
+
+  pub fits : PairFits (cores c).own.layout p
+  fits = subst (StageFits (cores c).own.layout) stage_is (is_active setup setting cores t stands c here a active).stage
+
+  pub leads : Leads (LeadsIn s c) a.plan.names [] a.found
+  leads = leads_by (λ n wanted k. HasFound setup t c (own_in (cores c).own.table n) wanted k) (LeadsIn s c)
+      (λ n wanted k had. found_named setup t c (cores c).own.table n wanted k (stands.each c here).works.table had) a.plan.names []
+      a.found has.names
+
+  pub by_plan : GoesBy (own_pages s c) a.plan (rule_of s c a.call)
+  by_plan = subst (λ q. GoesBy (own_pages s c) q (rule_of s c a.call))
+      (sym (is_active setup setting cores t stands c here a active).plan) (calls_go s c a.call)
+
+  -- no count is acquired
+  pub no_counts : a.counts ≡ []
+  no_counts = none_of a.counts has.knows.all
+    where
+      none_of : (xs : List Acquired) → [] ≡ map due_of xs → xs ≡ []
+      none_of [] h = refl
+      none_of (x ∷ xs) h = absurd (cc)
+
+  pub held_is : holds_in (Some a) ≡ holds_share p p.at (holds_counts None a.counts)
+  held_is = ap (λ s. holds_at s a.counts) stage_is
+
+  -- the two
+  pub tcap_a : TcapOf (s.frame p.a)
+  tcap_a = tcap_of (s.frame p.a) has.knows.knows.tcap_a.tcap
+
+  pub tcap_b : TcapOf (s.frame p.b)
+  tcap_b = tcap_of (s.frame p.b) has.knows.knows.tcap_b.tcap
+
+  pub differ : p.a ≢ p.b
+  differ same = is.shared.differ (sym is.shared.first ∙ same ∙ is.shared.second)
+
+  abbrev pub names : List Capability
+  names = is.a ∷ is.b ∷ []
+
+  call_leads : Leads (LeadsIn s c) (plan_for a.call).names [] a.found
+  call_leads = subst (λ (q : Plan). Leads (LeadsIn s c) q.names [] a.found) (is_active setup setting cores t stands c here a active).plan leads
+
+  pub near_a : is_one_of p.a (frames_near s c a.call) ≡ true
+  near_a = name_near s c a.call a.found call_leads First is.a (ap (λ xs. at_place xs First) is.found_is) is.shared.first_kind p.a is.shared.first
+
+  pub near_b : is_one_of p.b (frames_near s c a.call) ≡ true
+  near_b = name_near s c a.call a.found call_leads Second is.b (ap (λ xs. at_place xs Second) is.found_is) is.shared.second_kind p.b is.shared.second
+
+  -- what is left of the rule
+  pub left : rule_after (rule_of s c a.call) a.found
+      ≡ Does (causes_of s p.what (found is.a) (found is.b)) (change_by s p.what is.a.frame is.b.frame)
+  left = is.left
+
+  pub change_is : change_of s c a.call
+      ≡ unless (first_cause s c (causes_of s p.what (found is.a) (found is.b))) (change_by s p.what is.a.frame is.b.frame)
+  change_is = outcome_left s c (own_pages s c) a.plan (rule_of s c a.call) a.found by_plan leads ∙ ap (outcome s c) left
+
+  pub may : (r : Reply) → RuleMay s c (Does (causes_of s p.what (found is.a) (found is.b)) (change_by s p.what is.a.frame is.b.frame)) r
+      → RuleMay s c (rule_of s c a.call) r
+  may r is_may = left_may s c (own_pages s c) a.plan (rule_of s c a.call) a.found by_plan leads r
+      (subst (λ x. RuleMay s c x r) (sym left) is_may)
+
+  -- they are not one
+  pub not_same : (true && (true && is.a.frame == is.b.frame)) ≡ false
+  not_same = ne_eqb is.a.frame is.b.frame is.shared.differ

@@ -1,0 +1,235 @@
+-- A call on two temporal capabilities begins where its names have led to them.
+use Rattle.std.proofs.Common.{◌≡◌, inl, ℕ, ◌<◌, ◌==◌, map, Bool, true, false, if◌then◌else◌, List, [], ◌∷◌, Some, None, refl, sym, ◌∙◌, ap, subst}
+use Rattle.std.proofs.lemmas.Bool.{eqb-false}
+use Rattle.spk_nums.specs.Capability.{Capability}
+use Rattle.spk_nums.specs.Setting.{Setting, IsSetting}
+use Rattle.spk_nums.specs.declared.kinds.Kind.{Kind}
+use Rattle.spk_nums.specs.declared.kinds.Kind.TheVariants as kind
+use Rattle.spk_nums.specs.declared.calls.Call.{Call}
+use Rattle.spk_nums.specs.declared.calls.Call.TheVariants.{Transfer, Delegate, Test}
+use Rattle.spk_nums.specs.declared.replies.Reply.TheVariants as reply
+use Rattle.word_map.specs.Moves.{Move, word_of}
+use Rattle.kernel_rules.specs.State.{State}
+use Rattle.kernel_rules.specs.Access.{only, found as named_by_found}
+use Rattle.kernel_rules.specs.References.{named_by}
+use Rattle.kernel_rules.specs.Rules.{Found, Refused, Does, RuleMay, named, of_kind as has_kind, outcome, unless, first_of, first_cause}
+use Rattle.kernel_rules.specs.TimeCalls.{are_same}
+use Rattle.kernel_rules.specs.CallRelation.{rule_of, change_of}
+use Rattle.kernel_invariant.proofs.Facts.{named_fit}
+use Rattle.kernel_invariant.proofs.Sound.{only_is}
+use Rattle.kernel_invariant.proofs.SoundRuns.{opened}
+use Rattle.found_stays.proofs.Stays.{name_parts}
+use Rattle.kernel_history.specs.Events.{events_of}
+use Rattle.kernel_history.specs.Legal.{IsLegal}
+use Rattle.kernel_history.specs.Trace.{Step, Trace, Open, phase, state_after, last_left}
+use Rattle.trace_laws.proofs.AloneCalls.{refused_first}
+use Rattle.trace_laws.proofs.Carries.{Carries}
+use Rattle.trace_laws.proofs.Stays.{sound_of, opened_is, guarded_usable}
+use Rattle.call_plans.specs.declared.plans.Name.{Name}
+use Rattle.call_plans.specs.declared.plans.Plan.{Plan}
+use Rattle.call_plans.specs.After.{rule_after, Leads, LeadsIn, names_after}
+use Rattle.call_plans.specs.GoesBy.{GoesBy, own_pages}
+use Rattle.call_plans.specs.PlanOf.{plan_for, of_kind}
+use Rattle.call_plans.proofs.AfterNames.{outcome_left, left_may}
+use Rattle.stage_pins.specs.declared.held.Acquired.{Acquired}
+use Rattle.stage_tcap.specs.declared.pair.Pair.{Pair}
+use Rattle.stage_tcap.specs.declared.pair.PairWork.{PairWork}
+use Rattle.stage_tcap.specs.declared.pair.PairWork.TheVariants as share
+use Rattle.act_states.specs.declared.work.Act.TheVariants.{Share as share_act}
+use Rattle.act_states.specs.declared.work.Work.TheVariants.{Act}
+use Rattle.act_states.specs.Acts.{act_begun}
+use Rattle.act_states.specs.Shares.{sharing, shares_if}
+use Rattle.call_stages.specs.declared.stages.Stage.TheVariants.{Undecided}
+use Rattle.call_stages.specs.declared.stages.ActiveCall.{ActiveCall}
+use Rattle.call_stages.specs.Steps.{landed, found_more}
+use Rattle.call_stages.specs.View.{Core}
+use Rattle.core_invariant.specs.Holding.{holds_counts}
+use Rattle.core_invariant.specs.Knows.{due_of, NamesAre, phase_at}
+use Rattle.core_invariant.specs.Shares.{HasTcap, IsShared, SharesBy}
+use Rattle.core_invariant.specs.Stands.{holds_in, Stands}
+use Rattle.step_ways.proofs.Loads.{OnlyLooks, step_to, call_is, core_is, is_active, loads_on, decides_on}
+use Rattle.step_ways.proofs.Refusals.{GoodTook, not_spent}
+use Rattle.pair_invariant.proofs.ShareCalls.{causes_of, change_by}
+
+-- What a name leads to is of a wanted kind, and is what was found.
+same_found : (wanted : Kind → Bool) (j k : Capability) → has_kind wanted j ≡ Found k → (j ≡ k) × (wanted k.kind ≡ true)
+same_found wanted j k = by (wanted j.kind) refl
+  where
+    same : Found j ≡ Found k → j ≡ k
+    same h = cc
+
+    by : (b : Bool) → wanted j.kind ≡ b → (if b then Found j else Refused reply.WrongCap) ≡ Found k → (j ≡ k) × (wanted k.kind ≡ true)
+    by true is h = (same h, subst (λ (x : Capability). wanted x.kind ≡ true) (same h) is)
+    by false is h = absurd (cc)
+
+-- A temporal capability that an open call has named is there, and no other core may retype it.
+record IsNamed (s : State) (c : ℕ) (k : Capability) : Type 0 where
+  kind_is : k.kind ≡ kind.Tcap
+  tcap : HasTcap s c k.frame
+
+tcap_named : (setup : Setting) → IsSetting setup → (t : Trace) → IsLegal setup t → (c : ℕ) (call : Call) → phase t c ≡ Open call
+    → (n : ℕ) (k : Capability) → named (state_after setup t) c n (only kind.Tcap) ≡ Found k → IsNamed (state_after setup t) c k
+tcap_named setup setting t legal c call is n k found =
+    let s : State = state_after setup t in
+    let parts = name_parts s c n (only kind.Tcap) k found in
+    let same = same_found (only kind.Tcap) parts.2 k parts.4 in
+    let kind_is : k.kind ≡ kind.Tcap = only_is kind.Tcap k.kind same.1 in
+    record {
+      kind_is = kind_is;
+      tcap = record {
+        tcap = named_fit s (opened (events_of t)) c n kind.Tcap k (sound_of setup setting t legal) (opened_is t c call is) found;
+        guarded = guarded_usable setup setting t legal c call is parts.0 k
+            (ap (λ (j : Kind). named_by j k.frame) kind_is)
+            (parts.3 ∙ ap (λ (j : Capability). Some j) same.0);
+      };
+    }
+
+-- Two names have led to these two.
+record TwoLed (s : State) (c x y : ℕ) (ks : List Capability) : Type 0 where
+  first : Capability
+  second : Capability
+  both : ks ≡ first ∷ second ∷ []
+  first_led : named s c x (only kind.Tcap) ≡ Found first
+  second_led : named s c y (only kind.Tcap) ≡ Found second
+
+abbrev two_names : ℕ → ℕ → List Name
+two_names x y = of_kind kind.Tcap x ∷ of_kind kind.Tcap y ∷ []
+
+two_led : (s : State) (c x y : ℕ) (ks : List Capability) → Leads (LeadsIn s c) (two_names x y) [] ks → names_after (two_names x y) ks ≡ []
+    → TwoLed s c x y ks
+two_led s c x y [] leads none = absurd (cc)
+two_led s c x y (j ∷ []) leads none = absurd (cc)
+two_led s c x y (j ∷ k ∷ []) leads none = record { first = j; second = k; both = refl; first_led = leads.0; second_led = leads.1.0 }
+two_led s c x y (j ∷ k ∷ l ∷ ks) leads none = absurd (leads.1.1)
+
+module _ (setup : Setting) (setting : IsSetting setup) (cores : ℕ → Core) (t : Trace) (stands : Stands setup cores t) (c : ℕ)
+    (here : c < setup.cores)
+    (a : ActiveCall) (active : (cores c).active ≡ Some a) (opens : phase_at a.call a.stage ≡ Open a.call)
+    (held_is : holds_in (Some a) ≡ holds_counts None a.counts) (no_counts : a.counts ≡ [])
+    (room : (cores c).own.made < (cores c).own.limit)
+    (by_plan : GoesBy (own_pages (state_after setup t) c) a.plan (rule_of (state_after setup t) c a.call))
+    (move : Move) (looks : OnlyLooks setup t c a.call move) where
+  abbrev s : State
+  s = state_after setup t
+
+  abbrev e : Step
+  e = step_to c None move (last_left setup t (word_of move)) None None
+
+  open_now : phase t c ≡ Open a.call
+  open_now = (call_is setup setting cores t stands c here a active).phase ∙ opens
+
+  module _ (j k : Capability) (what : PairWork) (leads : Leads (LeadsIn s c) a.plan.names [] (j ∷ k ∷ []))
+      (names : Carries setup t e c → NamesAre setup (e ∷ t) c (cores c).own.table a.plan (j ∷ k ∷ []))
+      (first : IsNamed s c j) (second : IsNamed s c k)
+      (left : rule_after (rule_of s c a.call) (j ∷ k ∷ []) ≡ Does (causes_of s what (named_by_found j) (named_by_found k)) (change_by s what j.frame k.frame))
+      (shares : (p : Pair) → IsShared j k what p → SharesBy a.call (j ∷ k ∷ []) p) where
+    -- the causes of each begin with `same`
+    same_may : (w : PairWork) → (j.frame == k.frame) ≡ true
+        → RuleMay s c (Does (causes_of s w (named_by_found j) (named_by_found k)) (change_by s w j.frame k.frame)) reply.Same
+    same_may (share.Transfer m) same = inl (same, refl)
+    same_may (share.Delegate m) same = inl (same, refl)
+    same_may share.Test same = inl (same, refl)
+
+    same_first : (w : PairWork) → (j.frame == k.frame) ≡ true
+        → unless (first_cause s c (causes_of s w (named_by_found j) (named_by_found k))) (change_by s w j.frame k.frame) ≡ Refused reply.Same
+    same_first (share.Transfer m) same = ap (λ b. unless (first_of (if b then Some reply.Same else None)
+        (first_cause s c (Rattle.kernel_rules.specs.TimeCalls.is_short s (named_by_found j) m
+        ∷ Rattle.kernel_rules.specs.TimeCalls.are_unlike s (named_by_found j) (named_by_found k) ∷ [])))
+        (change_by s (share.Transfer m) j.frame k.frame)) same
+    same_first (share.Delegate m) same = ap (λ b. unless (first_of (if b then Some reply.Same else None)
+        (first_cause s c (Rattle.kernel_rules.specs.TimeCalls.is_short s (named_by_found j) m
+        ∷ Rattle.kernel_rules.specs.TimeCalls.are_many s (named_by_found j) (named_by_found k) ∷ [])))
+        (change_by s (share.Delegate m) j.frame k.frame)) same
+    same_first share.Test same = ap (λ b. unless (first_of (if b then Some reply.Same else None) None) (change_by s share.Test j.frame k.frame)) same
+
+    abbrev Begins : Bool → Type 0
+    Begins same = GoodTook setup cores t c move
+        (landed (found_more a (j ∷ k ∷ [])) (shares_if same (cores c).own.core what j.frame k.frame))
+
+    unspent : Rattle.kernel_rules.specs.CallRelation.are_calls_spent s c ≡ false
+    unspent = not_spent setup (cores c) t c (core_is setup setting cores t stands c here a active) room
+
+    refused : (j.frame == k.frame) ≡ true → Begins true
+    refused same lands =
+        decides_on setup setting cores t stands c here a active move reply.Same (j ∷ k ∷ []) looks lands
+        (sym held_is) opens refl refl (λ x. refl) (λ x. refl) refl (
+          unspent,
+          left_may s c (own_pages s c) a.plan (rule_of s c a.call) (j ∷ k ∷ []) by_plan leads reply.Same
+              (subst (λ x. RuleMay s c x reply.Same) (sym left) (same_may what same)),
+        ) tt
+        (λ is_alone. refused_first s c a.call reply.Same unspent
+        (outcome_left s c (own_pages s c) a.plan (rule_of s c a.call) (j ∷ k ∷ []) by_plan leads ∙ ap (outcome s c) left ∙ same_first what same))
+
+    begins : (j.frame == k.frame) ≡ false → Begins false
+    begins other lands =
+        loads_on setup setting cores t stands c here a active move (j ∷ k ∷ [])
+        (Undecided (Act (share_act (sharing (cores c).own.core what j.frame k.frame)))) looks lands (sym held_is) opens
+        (λ carries. record {
+          names = names carries;
+          knows = record {
+            knows = record {
+              shares = shares (sharing (cores c).own.core what j.frame k.frame) (record {
+                first = refl;
+                second = refl;
+                first_kind = first.kind_is;
+                second_kind = second.kind_is;
+                differ = eqb-false j.frame k.frame other;
+                work = refl;
+              });
+              core = (stands.each c here).number;
+              tcap_a = first.tcap;
+              tcap_b = second.tcap;
+              at = (refl, refl);
+            };
+            all = ap (λ (xs : List Acquired). map due_of xs) (sym no_counts);
+            goes = refl;
+          };
+        })
+
+    two_good : Begins (j.frame == k.frame)
+    two_good = by (j.frame == k.frame) refl
+      where
+        by : (same : Bool) → (j.frame == k.frame) ≡ same → Begins same
+        by true same = refused same
+        by false other = begins other
+
+  -- the names of such a call have led to what they lead to
+  module _ (call : Call) (call_so : a.call ≡ call) (ks : List Capability) (leads : Leads (LeadsIn s c) a.plan.names [] ks)
+      (none : names_after a.plan.names ks ≡ [])
+      (names : Carries setup t e c → NamesAre setup (e ∷ t) c (cores c).own.table a.plan ks)
+      (x y : ℕ) (what : PairWork) (names_so : (plan_for call).names ≡ two_names x y)
+      (begun_so : (j k : Capability) → act_begun (cores c).own call (j ∷ k ∷ []) None None ≡ shares_if (j.frame == k.frame) (cores c).own.core what j.frame k.frame)
+      (left_so : (j k : Capability) → rule_after (rule_of s c call) (j ∷ k ∷ []) ≡ Does (causes_of s what (named_by_found j) (named_by_found k)) (change_by s what j.frame k.frame))
+      (shares_so : (j k : Capability) (p : Pair) → IsShared j k what p → SharesBy call (j ∷ k ∷ []) p) where
+    plan_names : a.plan.names ≡ two_names x y
+    plan_names = ap (λ (p : Plan). p.names) ((is_active setup setting cores t stands c here a active).plan ∙ ap plan_for call_so) ∙ names_so
+
+    led : TwoLed s c x y ks
+    led = two_led s c x y ks (subst (λ (ns : List Name). Leads (LeadsIn s c) ns [] ks) plan_names leads)
+        (subst (λ (ns : List Name). names_after ns ks ≡ []) plan_names none)
+
+    starts : GoodTook setup cores t c move (landed (found_more a ks) (act_begun (cores c).own call ks None None))
+    starts = subst (λ (xs : List Capability). GoodTook setup cores t c move (landed (found_more a xs) (act_begun (cores c).own call xs None None)))
+        (sym led.both)
+        (subst (λ w. GoodTook setup cores t c move (landed (found_more a (led.first ∷ led.second ∷ [])) w)) (sym (begun_so led.first led.second))
+        (two_good led.first led.second what
+        (subst (λ (xs : List Capability). Leads (LeadsIn s c) a.plan.names [] xs) led.both leads)
+        (λ carries. subst (λ (xs : List Capability). NamesAre setup (e ∷ t) c (cores c).own.table a.plan xs) led.both (names carries))
+        (tcap_named setup setting t stands.legal c a.call open_now x led.first led.first_led)
+        (tcap_named setup setting t stands.legal c a.call open_now y led.second led.second_led)
+        (ap (λ z. rule_after (rule_of s c z) (led.first ∷ led.second ∷ [])) call_so ∙ left_so led.first led.second)
+        (λ p is. subst (λ z. SharesBy z (led.first ∷ led.second ∷ []) p) (sym call_so) (shares_so led.first led.second p is))))
+
+  module _ (ks : List Capability) (leads : Leads (LeadsIn s c) a.plan.names [] ks) (none : names_after a.plan.names ks ≡ [])
+      (names : Carries setup t e c → NamesAre setup (e ∷ t) c (cores c).own.table a.plan ks) (x y : ℕ) where
+    pub transfers_good : (m : ℕ) → a.call ≡ Transfer x y m
+        → GoodTook setup cores t c move (landed (found_more a ks) (act_begun (cores c).own (Transfer x y m) ks None None))
+    transfers_good m is = starts (Transfer x y m) is ks leads none names x y (share.Transfer m) refl (λ j k. refl) (λ j k. refl) (λ j k p h. h)
+
+    pub delegates_good : (m : ℕ) → a.call ≡ Delegate x y m
+        → GoodTook setup cores t c move (landed (found_more a ks) (act_begun (cores c).own (Delegate x y m) ks None None))
+    delegates_good m is = starts (Delegate x y m) is ks leads none names x y (share.Delegate m) refl (λ j k. refl) (λ j k. refl) (λ j k p h. h)
+
+    pub tests_good : a.call ≡ Test x y
+        → GoodTook setup cores t c move (landed (found_more a ks) (act_begun (cores c).own (Test x y) ks None None))
+    tests_good is = starts (Test x y) is ks leads none names x y share.Test refl (λ j k. refl) (λ j k. refl) (λ j k p h. h)

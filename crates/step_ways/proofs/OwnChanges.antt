@@ -1,0 +1,164 @@
+-- A decision that changes what its core has of its own, beside the calls that it has counted: of whatever reply, and of whatever it makes
+-- of its word. What it leaves of marks, words and sums is its own to show.
+use Rattle.std.proofs.Common.{◌≡◌, ℕ, ◌+◌, ◌^◌, ◌<◌, ◌≤◌, false, ◌∷◌, Some, None, arith, refl, sym, ◌∙◌, ap, subst}
+use Rattle.spk_nums.specs.Setting.{Setting, IsSetting}
+use Rattle.spk_nums.specs.declared.replies.Reply.{Reply}
+use Rattle.word_map.specs.Word.{Word}
+use Rattle.word_map.specs.Moves.{Move, word_of, left_of}
+use Rattle.kernel_rules.specs.State.{put}
+use Rattle.kernel_rules.specs.Alone.{alone}
+use Rattle.kernel_history.specs.Trace.{Step, Trace, Open, Decided, phase, after_decide, state_after, last_left}
+use Rattle.kernel_history.specs.Alone.{IsAlone, IsFirst}
+use Rattle.kernel_history.specs.Discipline.{MarksOwn, KeepsMarked}
+use Rattle.kernel_history.specs.Graces.{KeepsTime}
+use Rattle.kernel_history.specs.Legal.{MayDecide}
+use Rattle.kernel_history.specs.Stamps.{clock, flush_of, flush_stored}
+use Rattle.kernel_history.proofs.Steps.{phase-own, steps_in_call-own}
+use Rattle.act_states.specs.declared.own.Own.{Own}
+use Rattle.call_stages.specs.declared.stages.Stage.{Stage}
+use Rattle.call_stages.specs.declared.stages.ActiveCall.{ActiveCall}
+use Rattle.call_stages.specs.View.{Core}
+use Rattle.core_invariant.specs.Holding.{MarkIs, settled}
+use Rattle.core_invariant.specs.Words.{WordIs}
+use Rattle.core_invariant.specs.Knows.{phase_at, Knows, WorksIn, CoreIs, is_flushing, flushing_in}
+use Rattle.core_invariant.specs.Stands.{held_by, times_of, counted_in, SumIs, Stands, holds, IsLent}
+use Rattle.kept_words.proofs.Calm.{BeginsNone, none_time, none_flushed, plain_exit}
+use Rattle.kept_knowledge.proofs.Carries.{counts_on}
+use Rattle.step_ways.proofs.Flushing.{open_flushed}
+use Rattle.step_ways.proofs.Good.{IsGood, SparesBlanks}
+use Rattle.step_ways.proofs.Users.{SparesBy, spared}
+use Rattle.lent_words.proofs.Lent.{SparesLent}
+use Rattle.step_ways.proofs.Loads.{Lands, IsOfCall, next_at, core_is, call_is, in_call, inner, inner_within, inner_disciplined, inner_near}
+
+-- A core is where it was, on its machine.
+pub record IsSameCore (own own' : Own) : Type 0 where
+  pub core : own'.core ≡ own.core
+  pub layout : own'.layout ≡ own.layout
+  pub limit : own'.limit ≡ own.limit
+  pub epochs : own'.epochs ≡ own.epochs
+  pub exit : own'.exit ≡ own.exit
+
+module _ (setup : Setting) (setting : IsSetting setup) (cores : ℕ → Core) (t : Trace) (stands : Stands setup cores t) (c : ℕ)
+    (here : c < setup.cores)
+    (a : ActiveCall) (active : (cores c).active ≡ Some a) (move : Move) (r : Reply) (own : Own) (stage : Stage)
+    (same : IsSameCore (cores c).own own) where
+  abbrev pub changing : Step
+  changing = inner setup setting cores t stands c here a active move (Some r) None
+
+  abbrev pub changed_core : Core
+  changed_core = record { own = own; active = Some (next_at a a.found stage) }
+
+  -- it may draw a stamp; its last flush is stored, or still to be
+  pub decides_timed : left_of move (last_left setup t (word_of move)) < 2 ^ 64 → IsOfCall setup t c a.call move
+      → Lands setup changed_core (word_of move)
+      → phase_at a.call a.stage ≡ Open a.call → phase_at a.call stage ≡ Decided a.call r
+      → MarksOwn setup t changing → KeepsMarked setup t changing → KeepsTime setup t changing
+      → clock setup (changing ∷ t) ≤ 1 + counted_in setup (state_after setup (changing ∷ t))
+      → (is_flushing stage ≡ false → flush_stored (changing ∷ t) c ≡ flush_of (changing ∷ t) c) → SparesBlanks setup t changing
+      → SparesBy setup t changing a.call
+      → WorksIn own (state_after setup (changing ∷ t)) c
+      → ((w : Word) (d : ℕ) → MarkIs setup (held_by (put cores c changed_core)) (changing ∷ t) w d)
+      → ((w : Word) → WordIs (state_after setup (changing ∷ t)) (times_of setup (changing ∷ t)) w
+      (settled setup (held_by (put cores c changed_core)) (changing ∷ t) w))
+      → ((f i v : ℕ) → (holds changed_core).bare f i ≡ Some v → IsLent setup (changing ∷ t) c f i)
+      → SparesLent cores changing
+      → ((f : ℕ) → SumIs setup (held_by (put cores c changed_core)) (changing ∷ t) f)
+      → MayDecide setup t changing (Some r) (phase t c)
+      → (IsAlone t changing → r ≡ alone (state_after setup t) c a.call)
+      → Knows setup (changing ∷ t) c own.table (next_at a a.found stage)
+      → IsGood setup cores t changing changed_core
+  decides_timed small of_call lands opens closes puts keeps time draws flushed blanks counted works marks words lent spares sums
+      may first knows =
+      let now : CoreIs setup (cores c) t c = core_is setup setting cores t stands c here a active in
+      let in_flight = call_is setup setting cores t stands c here a active in
+      record {
+        follows = record {
+          is_core = here;
+          is_in = lands.is_in;
+          is_named = lands.is_named;
+          found = refl;
+          small = small;
+          enters = tt;
+          in_call = in_call setup setting cores t stands c here a active;
+          decides = may;
+          returns = tt;
+        };
+        within = inner_within setup setting cores t stands c here a active move (Some r) None;
+        alone = λ is_alone. subst (IsFirst setup t changing (Some r)) (sym (in_flight.phase ∙ opens)) (first is_alone);
+        disciplined = inner_disciplined setup setting cores t stands c here a active move (Some r) None of_call puts keeps;
+        near = inner_near setup setting cores t stands c here a active move (Some r) None of_call;
+        blanks = blanks;
+        counted = spared setup t changing a.call (in_flight.phase ∙ opens) counted;
+        marks = marks;
+        words = words;
+        lent = lent;
+        spares = spares;
+        sums = sums;
+        draws = draws;
+        time = time;
+        leaves = tt;
+        own = record {
+          fits = lands.fits;
+          number = same.core ∙ now.number;
+          shape = same.layout ∙ now.shape;
+          limit = same.limit ∙ now.limit;
+          epochs = same.epochs ∙ now.epochs;
+          works = works;
+          exit = same.exit ∙ now.exit ∙ sym (plain_exit t changing refl c);
+          flushed = flushed;
+          active = record {
+            phase = phase-own c changing t refl ∙ ap (after_decide (Some r)) (in_flight.phase ∙ opens) ∙ sym closes;
+            steps = steps_in_call-own c changing t refl ∙ ap (λ (n : ℕ). n + 1) in_flight.steps;
+            knows = knows;
+            counts = counts_on setup t changing c a.call (λ own. refl) a.counts in_flight.counts;
+            apart = in_flight.apart;
+          };
+        };
+      }
+
+  -- it keeps the clock, and its last flush is stored, or still to be
+  pub decides_owning : left_of move (last_left setup t (word_of move)) < 2 ^ 64 → IsOfCall setup t c a.call move
+      → Lands setup changed_core (word_of move)
+      → phase_at a.call a.stage ≡ Open a.call → phase_at a.call stage ≡ Decided a.call r
+      → MarksOwn setup t changing → KeepsMarked setup t changing → KeepsTime setup t changing
+      → clock setup (changing ∷ t) ≤ clock setup t
+      → (is_flushing stage ≡ false → flush_stored (changing ∷ t) c ≡ flush_of (changing ∷ t) c) → SparesBlanks setup t changing
+      → SparesBy setup t changing a.call
+      → counted_in setup (state_after setup t) ≤ counted_in setup (state_after setup (changing ∷ t))
+      → WorksIn own (state_after setup (changing ∷ t)) c
+      → ((w : Word) (d : ℕ) → MarkIs setup (held_by (put cores c changed_core)) (changing ∷ t) w d)
+      → ((w : Word) → WordIs (state_after setup (changing ∷ t)) (times_of setup (changing ∷ t)) w
+      (settled setup (held_by (put cores c changed_core)) (changing ∷ t) w))
+      → ((f i v : ℕ) → (holds changed_core).bare f i ≡ Some v → IsLent setup (changing ∷ t) c f i)
+      → SparesLent cores changing
+      → ((f : ℕ) → SumIs setup (held_by (put cores c changed_core)) (changing ∷ t) f)
+      → MayDecide setup t changing (Some r) (phase t c)
+      → (IsAlone t changing → r ≡ alone (state_after setup t) c a.call)
+      → Knows setup (changing ∷ t) c own.table (next_at a a.found stage)
+      → IsGood setup cores t changing changed_core
+  decides_owning small of_call lands opens closes puts keeps time same_clock flushed blanks counted rises =
+      decides_timed small of_call lands opens closes puts keeps time
+      (let d = stands.draws in let b = same_clock in let g = rises in omega (arith, d, b, g)) flushed blanks counted
+
+  -- no grace period begins, and nothing is flushed
+  pub decides_changing : left_of move (last_left setup t (word_of move)) < 2 ^ 64 → IsOfCall setup t c a.call move
+      → Lands setup changed_core (word_of move)
+      → phase_at a.call a.stage ≡ Open a.call → phase_at a.call stage ≡ Decided a.call r
+      → MarksOwn setup t changing → KeepsMarked setup t changing → BeginsNone setup t changing → SparesBlanks setup t changing
+      → SparesBy setup t changing a.call
+      → counted_in setup (state_after setup t) ≤ counted_in setup (state_after setup (changing ∷ t))
+      → WorksIn own (state_after setup (changing ∷ t)) c
+      → ((w : Word) (d : ℕ) → MarkIs setup (held_by (put cores c changed_core)) (changing ∷ t) w d)
+      → ((w : Word) → WordIs (state_after setup (changing ∷ t)) (times_of setup (changing ∷ t)) w
+      (settled setup (held_by (put cores c changed_core)) (changing ∷ t) w))
+      → ((f i v : ℕ) → (holds changed_core).bare f i ≡ Some v → IsLent setup (changing ∷ t) c f i)
+      → SparesLent cores changing
+      → ((f : ℕ) → SumIs setup (held_by (put cores c changed_core)) (changing ∷ t) f)
+      → MayDecide setup t changing (Some r) (phase t c)
+      → (IsAlone t changing → r ≡ alone (state_after setup t) c a.call)
+      → Knows setup (changing ∷ t) c own.table (next_at a a.found stage)
+      → IsGood setup cores t changing changed_core
+  decides_changing small of_call lands opens closes puts keeps none =
+      decides_owning small of_call lands opens closes puts keeps (none_time setup t changing none) (let b = none.same in omega arith)
+      (λ done. none_flushed setup t changing none c ((core_is setup setting cores t stands c here a active).flushed
+      (ap flushing_in active ∙ open_flushed a.call a.stage opens)))

@@ -1,0 +1,406 @@
+-- The refusals of a call at a load: each leaves all as it was, but counts the call.
+use Rattle.act_states.specs.declared.work.Tail.{Tail}
+use Rattle.std.proofs.Common.{◌≡◌, ◌≢◌, ℕ, ◌+◌, ◌<◌, Option, Bool, true, false, Some, None, arith, refl, sym, ◌∙◌, ap, subst, List, [], ◌∷◌, inl, inr}
+use Rattle.std.proofs.lemmas.Bool.{false≢true, lt-leb}
+use Rattle.spk_nums.specs.Setting.{Setting, IsSetting}
+use Rattle.spk_nums.specs.declared.calls.Call.{Call}
+use Rattle.spk_nums.specs.declared.calls.Call.TheVariants.{Look, Copy, Remove, Shrink, Unmap, Retype, Make, Tick, Gate, Kill, Call as call_gate, Ret, Grow, Flush, Map, Touch, Transfer, Delegate, Test, Switch}
+use Rattle.spk_nums.specs.declared.replies.Reply.{Reply}
+use Rattle.spk_nums.specs.declared.replies.Reply.TheVariants as reply
+use Rattle.word_map.specs.Moves.{Move, word_of}
+use Rattle.kernel_rules.specs.State.{Thing, State}
+use Rattle.kernel_rules.specs.Rules.{RuleMay, Refused}
+use Rattle.kernel_rules.specs.CallRelation.{rule_of, change_of, are_calls_spent, owed_by, counted, state_by}
+use Rattle.kernel_rules.specs.Alone.{alone}
+use Rattle.kernel_history.specs.Trace.{Step, Trace, Open, state_after, state_decided_in, last_left}
+use Rattle.kernel_history.specs.Justified.{IsOnWay, IsRaceLost, IsHeldUp}
+use Rattle.kernel_history.specs.Alone.{IsAlone}
+use Rattle.trace_laws.proofs.AloneCalls.{refused_first, nobody_waits}
+use Rattle.kernel_history.proofs.Laws.{not_inside, not_changed}
+use Rattle.act_states.specs.Acts.{reads_of}
+use Rattle.call_stages.specs.declared.stages.ActiveCall.{ActiveCall}
+use Rattle.call_stages.specs.declared.stages.Stage.{Stage}
+use Rattle.call_plans.specs.declared.plans.Plan.{Plan}
+use Rattle.call_plans.specs.PlanOf.{plan_for}
+use Rattle.call_plans.specs.After.{next_of}
+use Rattle.spk_nums.specs.Capability.{Capability}
+use Rattle.stage_look.specs.declared.look.Look.{Look as LookOf}
+use Rattle.stage_quiet.specs.declared.close.Close.TheVariants.{AtCompare, AtDraw, AtStore}
+use Rattle.stage_quiet.specs.declared.quiet.Quiet.TheVariants.{AtCore, AtFlush}
+use Rattle.act_states.specs.declared.work.Act.{Act as ActOf}
+use Rattle.act_states.specs.declared.work.Act.TheVariants.{Fill as fill_act, Remove as remove_act, Retype as type_act, Make as make_act, Outside, Tick as tick_act, Flush as flush_act, Kill as kill_act, Untype as untype_act, Map as map_act, MakeComp as comp_act, Invoke as invoke_act, Return as return_act, Touch as touch_act, Share as share_act, Switch as switch_act}
+use Rattle.act_states.specs.declared.work.Work.{Work}
+use Rattle.act_states.specs.declared.work.Work.TheVariants.{Lookup, Read, Scan, Acquire, Act}
+use Rattle.call_stages.specs.View.{Core}
+use Rattle.kernel_rules.specs.Laws.{calls_counted}
+use Rattle.act_states.specs.declared.work.Tail.TheVariants.{Nothing}
+use Rattle.call_stages.specs.declared.stages.Stage.TheVariants.{Enter, Undecided, Decided, Leave}
+use Rattle.call_stages.specs.Steps.{Took}
+use Rattle.call_stages.specs.Cores.{core_after, told_by}
+use Rattle.kernel_history.specs.Marking.{marked_by}
+use Rattle.core_invariant.specs.Holding.{holds_counts}
+use Rattle.core_invariant.specs.Knows.{phase_at, CoreIs, KnowsTail, NamesAre, LooksFor, KnowsAct, KnowsUndecided, KnowsAt}
+use Rattle.core_invariant.specs.Stands.{holds_in, held_by, Stands, holds_tail}
+use Rattle.core_invariant.specs.Events.{decided_in, returned_in}
+use Rattle.step_ways.proofs.Good.{IsGood}
+use Rattle.step_ways.proofs.Loads.{Lands, OnlyLooks, step_to, next_at, core_at, core_is, call_is, is_active, inner, decides_on, decides_with}
+use Rattle.core_invariant.proofs.Sounds.{limits_of}
+use Rattle.core_invariant.proofs.Markers.{marker_inside}
+
+-- The step of core c from which this was taken.
+abbrev pub step_with : ℕ → Move → ℕ → Took → Step
+step_with c move found took = step_to c None move found (decided_in (told_by took)) (returned_in (told_by took))
+
+-- The step of core c, from which this was taken, is good where it leaves the core in its ranges.
+abbrev pub GoodTook : Setting → (ℕ → Core) → Trace → ℕ → Move → Took → Type 0
+GoodTook setup cores t c move took =
+    Lands setup (core_after (cores c).own took) (word_of move) → IsGood setup cores t
+    (step_with c move (last_left setup t (word_of move)) took) (core_after (cores c).own took)
+
+-- No core waits in a grace period; so it is where a call is alone.
+abbrev pub NobodyWaits : State → Type 0
+NobodyWaits s = (x : Thing) (d : ℕ) → (s.grace x).waits d ≡ false
+
+-- No call owes ticks, but a tick.
+pub only_tick_owes : (s : State) (c : ℕ) (call : Call) → ((n : ℕ) → call ≢ Tick n) → owed_by s c call ≡ s
+only_tick_owes s c (Look a) other = refl
+only_tick_owes s c (Copy a u b) other = refl
+only_tick_owes s c (Remove u b) other = refl
+only_tick_owes s c (Grow u i l) other = refl
+only_tick_owes s c (Shrink u i) other = refl
+only_tick_owes s c (Map p v r f w) other = refl
+only_tick_owes s c (Unmap p v) other = refl
+only_tick_owes s c (Retype r f k) other = refl
+only_tick_owes s c (Make what r f u b) other = refl
+only_tick_owes s c (Touch v) other = refl
+only_tick_owes s c Flush other = refl
+only_tick_owes s c (Tick n) other = absurd (other n refl)
+only_tick_owes s c (Gate k u b) other = refl
+only_tick_owes s c (Kill k) other = refl
+only_tick_owes s c (call_gate g) other = refl
+only_tick_owes s c Ret other = refl
+only_tick_owes s c (Transfer x y m) other = refl
+only_tick_owes s c (Delegate x y m) other = refl
+only_tick_owes s c (Test x y) other = refl
+only_tick_owes s c (Switch x y) other = refl
+
+-- Whether a call charges ticks where it stands.
+abbrev pub ticks_in : ActOf → Bool
+ticks_in (fill_act fill) = false
+ticks_in (remove_act close cap) = false
+ticks_in (type_act typing) = false
+ticks_in (make_act m) = false
+ticks_in (map_act fill) = false
+ticks_in (Outside node entry word) = false
+ticks_in (tick_act charge) = true
+ticks_in (touch_act m) = false
+ticks_in (flush_act by) = false
+ticks_in (kill_act m) = false
+ticks_in (untype_act m) = false
+ticks_in (comp_act m) = false
+ticks_in (invoke_act m) = false
+ticks_in (return_act m) = false
+ticks_in (share_act p) = false
+ticks_in (switch_act m) = false
+
+abbrev pub ticks_work : Work → Bool
+ticks_work (Lookup look) = false
+ticks_work (Read comp look) = false
+ticks_work (Scan q act) = ticks_in act
+ticks_work (Acquire pin change act) = ticks_in act
+ticks_work (Act act) = ticks_in act
+
+abbrev pub ticks_at : Stage → Bool
+ticks_at Enter = false
+ticks_at (Undecided work) = ticks_work work
+ticks_at (Decided r drawn tail) = false
+ticks_at (Leave r x) = false
+
+-- A tick looks nothing up, and does nothing but to charge.
+module _ (setup : Setting) (t : Trace) (c table n : ℕ) where
+  act_ticks : (plan : Plan) (ks : List Capability) (upto : ℕ) (act : ActOf) → KnowsAct setup t c (Tick n) plan ks upto act
+      → ticks_in act ≡ false → ⊥
+  act_ticks plan ks upto (fill_act fill) has is = none_some has.puts
+    where
+      none_some : None ≡ Some fill.cap → ⊥
+      none_some h = cc
+  act_ticks plan ks upto (remove_act (AtCompare node index word by) cap) has is = false≢true has.removal.removes
+  act_ticks plan ks upto (remove_act (AtDraw node index) cap) has is = false≢true has.removes
+  act_ticks plan ks upto (remove_act (AtStore node index x) cap) has is = has
+  act_ticks plan ks upto (type_act typing) has is = has.types
+  act_ticks plan ks upto (make_act m) has is = has.makes
+  act_ticks plan ks upto (map_act fill) has is = false≢true has.maps
+  act_ticks plan ks upto (Outside node entry word) has is = has.outside
+  act_ticks plan ks upto (tick_act charge) has is = false≢true (sym is)
+  act_ticks plan ks upto (touch_act m) has is = no_touch m.page has.call_is
+    where
+      no_touch : (v : ℕ) → Tick n ≡ Touch v → ⊥
+      no_touch v h = cc
+  act_ticks plan ks upto (flush_act by) has is = no_flush has.call_is
+    where
+      no_flush : Tick n ≡ Flush → ⊥
+      no_flush h = cc
+  act_ticks plan ks upto (kill_act m) has is = has.kills
+  act_ticks plan ks upto (untype_act m) has is = has.untypes
+  act_ticks plan ks upto (comp_act m) has is = has.makes
+  act_ticks plan ks upto (invoke_act m) has is = has.invokes
+  act_ticks plan ks upto (return_act m) has is = no_return has.call_is
+    where
+      no_return : Tick n ≡ Ret → ⊥
+      no_return h = cc
+  act_ticks plan ks upto (share_act p) has is = has.shares
+  act_ticks plan ks upto (switch_act m) has is = has.switches
+
+  look_ticks : (ks : List Capability) (look : LookOf) → NamesAre setup t c table (plan_for (Tick n)) ks
+      → LooksFor setup t c table (next_of (plan_for (Tick n)) ks) look → ⊥
+  look_ticks [] look names looks = looks
+  look_ticks (k ∷ ks) look names looks = names
+
+  work_ticks : (a : ActiveCall) (work : Work) → a.call ≡ Tick n → a.plan ≡ plan_for a.call → KnowsUndecided setup t c table a work
+      → ticks_work work ≡ false → ⊥
+  work_ticks a (Lookup look) of plan has is =
+      look_ticks a.found look (subst (λ p. NamesAre setup t c table p a.found) (plan ∙ ap plan_for of) has.names)
+      (subst (λ p. LooksFor setup t c table (next_of p a.found) look) (plan ∙ ap plan_for of) has.knows.looks)
+  work_ticks a (Read f look) of plan has is = none_some (subst (λ x. reads_of x a.found ≡ Some f) of has.knows.reads)
+    where
+      none_some : None ≡ Some f → ⊥
+      none_some h = cc
+  work_ticks a (Scan (AtCore at core upto page) act) of plan has is =
+      act_ticks a.plan a.found 0 act (subst (λ x. KnowsAct setup t c x a.plan a.found 0 act) of has.knows.knows) is
+  work_ticks a (Scan (AtFlush at upto) act) of plan has is =
+      act_ticks a.plan a.found upto act (subst (λ x. KnowsAct setup t c x a.plan a.found upto act) of has.knows.knows) is
+  work_ticks a (Acquire pin change act) of plan has is =
+      act_ticks a.plan a.found setup.cores act (subst (λ x. KnowsAct setup t c x a.plan a.found setup.cores act) of has.knows.knows) is
+  work_ticks a (Act act) of plan has is =
+      act_ticks a.plan a.found setup.cores act (subst (λ x. KnowsAct setup t c x a.plan a.found setup.cores act) of has.knows.knows) is
+
+  stage_ticks : (a : ActiveCall) (stage : Stage) → a.call ≡ Tick n → a.plan ≡ plan_for a.call → KnowsAt setup t c table a stage
+      → phase_at a.call stage ≡ Open a.call → ticks_at stage ≡ false → ⊥
+  stage_ticks a Enter of plan knows opens is = knows
+  stage_ticks a (Undecided work) of plan knows opens is = work_ticks a work of plan knows is
+  stage_ticks a (Decided r drawn tail) of plan knows opens is = cc
+  stage_ticks a (Leave r x) of plan knows opens is = cc
+
+-- The calls of a core are not spent where it may count one more.
+pub not_spent : (setup : Setting) (core : Core) (t : Trace) (c : ℕ) → CoreIs setup core t c → core.own.made < core.own.limit
+    → are_calls_spent (state_after setup t) c ≡ false
+not_spent setup core t c is room =
+    let limit : (state_after setup t).limits.calls ≡ setup.calls = ap (λ l. l.calls) (limits_of setup t) in
+    let made : core.own.made ≡ ((state_after setup t).core c).counted = is.works.made in
+    let most : core.own.limit ≡ setup.calls = is.limit in
+    lt-leb (state_after setup t).limits.calls ((state_after setup t).core c).counted (omega arith)
+
+module _ (setup : Setting) (setting : IsSetting setup) (cores : ℕ → Core) (t : Trace) (stands : Stands setup cores t) (c : ℕ)
+    (here : c < setup.cores)
+    (a : ActiveCall) (active : (cores c).active ≡ Some a) (opens : phase_at a.call a.stage ≡ Open a.call)
+    (held : holds_in (Some a) ≡ holds_counts None a.counts)
+    (room : (cores c).own.made < (cores c).own.limit) (move : Move) (looks : OnlyLooks setup t c a.call move) where
+  -- a refusal holds what the call held
+  still : (fate : Option (Option ℕ)) → fate ≡ None → holds_counts fate a.counts ≡ holds_in (Some a)
+  still fate is = ap (λ x. holds_counts x a.counts) is ∙ sym held
+
+  unspent : are_calls_spent (state_after setup t) c ≡ false
+  unspent = not_spent setup (cores c) t c (core_is setup setting cores t stands c here a active) room
+
+  -- where the call is alone, no core waits
+  nobody : (r : Reply) → IsAlone t (inner setup setting cores t stands c here a active move (Some r) None)
+      → NobodyWaits (state_after setup t)
+  nobody r alone x d = nobody_waits setup t (inner setup setting cores t stands c here a active move (Some r) None) stands.legal tt alone
+      a.call
+      ((call_is setup setting cores t stands c here a active).phase ∙ opens) x d
+
+  -- What refuses a call whatever its steps were: the first cause in order, where no core waits.
+  abbrev pub IsFirstCause : Reply → Type 0
+  IsFirstCause r = NobodyWaits (state_after setup t) → change_of (state_after setup t) c a.call ≡ Refused r
+
+  -- the call is refused with this reply, and its names have led to what they had
+  abbrev pub RefusedWith : Reply → Type 0
+  RefusedWith r = Lands setup (core_at (cores c) ((cores c).own.made + calls_counted r) (next_at a a.found (Decided r None Nothing)))
+      (word_of move)
+      → IsGood setup cores t (inner setup setting cores t stands c here a active move (Some r) None)
+      (core_at (cores c) ((cores c).own.made + calls_counted r) (next_at a a.found (Decided r None Nothing)))
+
+  first_of : (r : Reply) → IsFirstCause r → IsAlone t (inner setup setting cores t stands c here a active move (Some r) None)
+      → r ≡ alone (state_after setup t) c a.call
+  first_of r first is_alone = refused_first (state_after setup t) c a.call r unspent (first (nobody r is_alone))
+
+  pub refuses_no_slot : RuleMay (state_after setup t) c (rule_of (state_after setup t) c a.call) reply.NoSlot → IsFirstCause reply.NoSlot
+      → RefusedWith reply.NoSlot
+  refuses_no_slot may first lands =
+      decides_on setup setting cores t stands c here a active move reply.NoSlot a.found looks lands (still None refl) opens refl refl
+      (λ x. refl) (λ x. refl) refl (unspent, may) tt
+      (first_of reply.NoSlot first)
+
+  pub refuses_empty : RuleMay (state_after setup t) c (rule_of (state_after setup t) c a.call) reply.Empty → IsFirstCause reply.Empty
+      → RefusedWith reply.Empty
+  refuses_empty may first lands =
+      decides_on setup setting cores t stands c here a active move reply.Empty a.found looks lands (still None refl) opens refl refl
+      (λ x. refl) (λ x. refl) refl (unspent, may) tt
+      (first_of reply.Empty first)
+
+  pub refuses_wrong : RuleMay (state_after setup t) c (rule_of (state_after setup t) c a.call) reply.WrongCap
+      → IsFirstCause reply.WrongCap → RefusedWith reply.WrongCap
+  refuses_wrong may first lands =
+      decides_on setup setting cores t stands c here a active move reply.WrongCap a.found looks lands (still None refl) opens refl refl
+      (λ x. refl) (λ x. refl) refl (unspent, may) tt
+      (first_of reply.WrongCap first)
+
+  pub refuses_occupied : RuleMay (state_after setup t) c (rule_of (state_after setup t) c a.call) reply.Occupied
+      → IsFirstCause reply.Occupied → RefusedWith reply.Occupied
+  refuses_occupied may first lands =
+      decides_on setup setting cores t stands c here a active move reply.Occupied a.found looks lands (still None refl) opens refl refl
+      (λ x. refl) (λ x. refl) refl (unspent, may) tt
+      (first_of reply.Occupied first)
+
+  pub refuses_frame_kind : RuleMay (state_after setup t) c (rule_of (state_after setup t) c a.call) reply.FrameKind
+      → IsFirstCause reply.FrameKind → RefusedWith reply.FrameKind
+  refuses_frame_kind may first lands =
+      decides_on setup setting cores t stands c here a active move reply.FrameKind a.found looks lands (still None refl) opens refl refl
+      (λ x. refl) (λ x. refl) refl (unspent, may) tt
+      (first_of reply.FrameKind first)
+
+  pub refuses_fault : RuleMay (state_after setup t) c (rule_of (state_after setup t) c a.call) reply.Fault
+      → IsFirstCause reply.Fault → RefusedWith reply.Fault
+  refuses_fault may first lands =
+      decides_on setup setting cores t stands c here a active move reply.Fault a.found looks lands (still None refl) opens refl refl
+      (λ x. refl) (λ x. refl) refl (unspent, may) tt
+      (first_of reply.Fault first)
+
+  -- and owes no ticks, where it charges none
+  owes_none : ticks_at a.stage ≡ false → owed_by (state_after setup t) c a.call ≡ state_after setup t
+  owes_none plain = only_tick_owes (state_after setup t) c a.call
+      (λ n of. stage_ticks setup t c (cores c).own.table n a a.stage of (is_active setup setting cores t stands c here a active).plan
+      (call_is setup setting cores t stands c here a active).knows opens plain)
+
+  pub refuses_dead : RuleMay (state_after setup t) c (rule_of (state_after setup t) c a.call) reply.Dead → IsFirstCause reply.Dead
+      → RefusedWith reply.Dead
+  refuses_dead may first lands =
+      decides_on setup setting cores t stands c here a active move reply.Dead a.found looks lands (still None refl) opens refl refl
+      (λ x. refl) (λ x. refl) refl (unspent, may) tt
+      (first_of reply.Dead first)
+
+  pub refuses_running : (d : ℕ) → RuleMay (state_after setup t) c (rule_of (state_after setup t) c a.call) (reply.Running d)
+      → IsFirstCause (reply.Running d) → RefusedWith (reply.Running d)
+  refuses_running d may first lands =
+      decides_on setup setting cores t stands c here a active move (reply.Running d) a.found looks lands (still None refl) opens refl refl
+      (λ x. refl) (λ x. refl) refl (unspent, may) tt
+      (first_of (reply.Running d) first)
+
+  -- a word that has changed since the call's last step on it
+  pub refuses_raced : ticks_at a.stage ≡ false → IsRaceLost t (inner setup setting cores t stands c here a active move (Some reply.Raced) None) (state_after setup t)
+      (rule_of (state_after setup t) c a.call) → RefusedWith reply.Raced
+  refuses_raced plain lost lands =
+      decides_on setup setting cores t stands c here a active move reply.Raced a.found looks lands (still None refl) opens
+      (ap (λ s. counted s c) (owes_none plain))
+      refl (λ x. refl) (λ x. refl) refl (unspent, tt) lost
+      (λ is_alone. absurd (not_changed setup t (inner setup setting cores t stands c here a active move (Some reply.Raced) None) refl
+      is_alone lost.own lost.has_read lost.changed))
+
+  -- another core's mark
+  pub refuses_busy : ticks_at a.stage ≡ false → (d : ℕ) → (holds_counts None a.counts).marks (word_of move) ≡ false → marked_by setup t (word_of move) ≡ Some d
+      → IsOnWay (state_after setup t) c (rule_of (state_after setup t) c a.call) (word_of move) → RefusedWith (reply.Busy d)
+  refuses_busy plain d bare mark on_way lands =
+      decides_on setup setting cores t stands c here a active move (reply.Busy d) a.found looks lands (still None refl) opens
+      (ap (λ s. counted s c) (owes_none plain))
+      refl (λ x. refl) (λ x. refl) refl (unspent, tt) blocked
+      (λ is_alone. absurd (not_inside setup t (inner setup setting cores t stands c here a active move (Some (reply.Busy d)) None) refl
+      is_alone d blocked.other blocked.is_inside))
+    where
+      blocked : IsHeldUp setup t (inner setup setting cores t stands c here a active move (Some (reply.Busy d)) None)
+          (state_after setup t) (rule_of (state_after setup t) c a.call) d
+      blocked = record {
+        marked = mark;
+        other = λ own. false≢true (sym (ap (λ h. h.marks (word_of move)) (ap (λ (e : ℕ). held_by cores e) own ∙ ap holds_in active ∙ held)
+            ∙ bare) ∙ (stands.marks (word_of move) d).owned mark);
+        is_inside = marker_inside setup cores t stands (word_of move) d mark;
+        has_marked = stands.marked (word_of move) d mark;
+        on_way = on_way;
+      }
+
+-- A step that refuses: the core's own, which enters no call, and which counts the call and changes nothing else.
+pub record IsRefusing (setup : Setting) (t : Trace) (c : ℕ) (e : Step) : Type 0 where
+  pub own : c ≡ e.core
+  pub entry : e.enters ≡ None
+  pub state : state_after setup (e ∷ t) ≡ counted (state_after setup t) c
+
+-- Refusals that leave something to be stored, of which this is known at such a step.
+module _ (setup : Setting) (setting : IsSetting setup) (cores : ℕ → Core) (t : Trace) (stands : Stands setup cores t) (c : ℕ)
+    (here : c < setup.cores)
+    (a : ActiveCall) (active : (cores c).active ≡ Some a) (opens : phase_at a.call a.stage ≡ Open a.call) (tail : Tail)
+    (same : holds_tail tail (holds_counts None a.counts) ≡ holds_in (Some a))
+    (left : (e : Step) → IsRefusing setup t c e → KnowsTail setup (e ∷ t) c a.call a.counts tail)
+    (room : (cores c).own.made < (cores c).own.limit) (move : Move) (looks : OnlyLooks setup t c a.call move) where
+  unspent_here : are_calls_spent (state_after setup t) c ≡ false
+  unspent_here = not_spent setup (cores c) t c (core_is setup setting cores t stands c here a active) room
+
+  abbrev pub RefusedLeaving : Reply → Type 0
+  RefusedLeaving r = Lands setup (core_at (cores c) ((cores c).own.made + calls_counted r) (next_at a a.found (Decided r None tail)))
+      (word_of move)
+      → IsGood setup cores t (inner setup setting cores t stands c here a active move (Some r) None)
+      (core_at (cores c) ((cores c).own.made + calls_counted r) (next_at a a.found (Decided r None tail)))
+
+  owes_not : ticks_at a.stage ≡ false → owed_by (state_after setup t) c a.call ≡ state_after setup t
+  owes_not plain = only_tick_owes (state_after setup t) c a.call
+      (λ n of. stage_ticks setup t c (cores c).own.table n a a.stage of (is_active setup setting cores t stands c here a active).plan
+      (call_is setup setting cores t stands c here a active).knows opens plain)
+
+  refusing : (r : Reply) → state_by (state_after setup t) c a.call r ≡ counted (state_after setup t) c
+      → IsRefusing setup t c (inner setup setting cores t stands c here a active move (Some r) None)
+  refusing r state = record {
+    own = refl;
+    entry = refl;
+    state = ap (λ p. state_decided_in p r (state_after setup t) c)
+        ((call_is setup setting cores t stands c here a active).phase ∙ opens) ∙ state;
+  }
+
+  pub raced_knowing : ticks_at a.stage ≡ false → IsRaceLost t (inner setup setting cores t stands c here a active move (Some reply.Raced) None) (state_after setup t)
+      (rule_of (state_after setup t) c a.call) → RefusedLeaving reply.Raced
+  raced_knowing plain lost lands =
+      decides_with setup setting cores t stands c here a active move reply.Raced tail a.found looks lands same opens
+      (ap (λ s. counted s c) (owes_not plain))
+      refl (λ x. refl) (λ x. refl) refl (unspent_here, tt) lost
+      (λ is_alone. absurd (not_changed setup t (inner setup setting cores t stands c here a active move (Some reply.Raced) None) refl
+      is_alone lost.own lost.has_read lost.changed))
+      (left (inner setup setting cores t stands c here a active move (Some reply.Raced) None)
+      (refusing reply.Raced (ap (λ s. counted s c) (owes_not plain))))
+
+  pub busy_knowing : ticks_at a.stage ≡ false → (d : ℕ) → (holds_in (Some a)).marks (word_of move) ≡ false → marked_by setup t (word_of move) ≡ Some d
+      → IsOnWay (state_after setup t) c (rule_of (state_after setup t) c a.call) (word_of move) → RefusedLeaving (reply.Busy d)
+  busy_knowing plain d bare mark on_way lands =
+      decides_with setup setting cores t stands c here a active move (reply.Busy d) tail a.found looks lands same opens
+      (ap (λ s. counted s c) (owes_not plain))
+      refl (λ x. refl) (λ x. refl) refl (unspent_here, tt) blocked
+      (λ is_alone. absurd (not_inside setup t (inner setup setting cores t stands c here a active move (Some (reply.Busy d)) None) refl
+      is_alone d blocked.other blocked.is_inside))
+      (left (inner setup setting cores t stands c here a active move (Some (reply.Busy d)) None)
+      (refusing (reply.Busy d) (ap (λ s. counted s c) (owes_not plain))))
+    where
+      blocked : IsHeldUp setup t (inner setup setting cores t stands c here a active move (Some (reply.Busy d)) None)
+          (state_after setup t) (rule_of (state_after setup t) c a.call) d
+      blocked = record {
+        marked = mark;
+        other = λ own. false≢true (sym (ap (λ h. h.marks (word_of move)) (ap (λ (e : ℕ). held_by cores e) own ∙ ap holds_in active)
+            ∙ bare) ∙ (stands.marks (word_of move) d).owned mark);
+        is_inside = marker_inside setup cores t stands (word_of move) d mark;
+        has_marked = stands.marked (word_of move) d mark;
+        on_way = on_way;
+      }
+
+-- The same, where this is known at each step.
+module _ (setup : Setting) (setting : IsSetting setup) (cores : ℕ → Core) (t : Trace) (stands : Stands setup cores t) (c : ℕ)
+    (here : c < setup.cores)
+    (a : ActiveCall) (active : (cores c).active ≡ Some a) (opens : phase_at a.call a.stage ≡ Open a.call) (tail : Tail)
+    (same : holds_tail tail (holds_counts None a.counts) ≡ holds_in (Some a))
+    (left : (e : Step) → KnowsTail setup (e ∷ t) c a.call a.counts tail)
+    (room : (cores c).own.made < (cores c).own.limit) (move : Move) (looks : OnlyLooks setup t c a.call move) where
+  pub raced_leaving : ticks_at a.stage ≡ false → IsRaceLost t (inner setup setting cores t stands c here a active move (Some reply.Raced) None) (state_after setup t)
+      (rule_of (state_after setup t) c a.call)
+      → RefusedLeaving setup setting cores t stands c here a active opens tail same (λ e is. left e) room move looks reply.Raced
+  raced_leaving plain lost lands =
+      raced_knowing setup setting cores t stands c here a active opens tail same (λ e is. left e) room move looks plain lost lands
+
+  pub busy_leaving : ticks_at a.stage ≡ false → (d : ℕ) → (holds_in (Some a)).marks (word_of move) ≡ false → marked_by setup t (word_of move) ≡ Some d
+      → IsOnWay (state_after setup t) c (rule_of (state_after setup t) c a.call) (word_of move)
+      → RefusedLeaving setup setting cores t stands c here a active opens tail same (λ e is. left e) room move looks (reply.Busy d)
+  busy_leaving plain d bare mark on_way lands =
+      busy_knowing setup setting cores t stands c here a active opens tail same (λ e is. left e) room move looks plain d bare mark on_way lands

@@ -1,0 +1,17 @@
+-- Each word has 64 bits, after each legal trace.
+use Rattle.std.proofs.Common.{inl, inr, ℕ, ◌<◌, ◌^◌, [], ◌∷◌, sym, subst}
+use Rattle.spk_nums.specs.Setting.{Setting, IsSetting}
+use Rattle.word_map.specs.Word.{Word}
+use Rattle.word_map.specs.Moves.{word_of}
+use Rattle.kernel_history.specs.Trace.{Trace, last_left}
+use Rattle.kernel_history.specs.Legal.{IsLegal}
+use Rattle.kernel_history.proofs.Names.{cases_word}
+use Rattle.kernel_history.proofs.Steps.{last_left-here, last_left-there}
+use Rattle.boot_words.proofs.BootRepresents.{boot_small}
+
+pub last_small : (setup : Setting) → IsSetting setup → (t : Trace) → IsLegal setup t → (w : Word) → last_left setup t w < 2 ^ 64
+last_small setup lim [] legal w = boot_small setup lim w
+last_small setup lim (e ∷ t) legal w = elim (cases_word w (word_of e.move)) [
+  | inl here ↦ subst (λ (n : ℕ). n < 2 ^ 64) (sym (last_left-here setup w e t here)) legal.1.small
+  | inr there ↦ subst (λ (n : ℕ). n < 2 ^ 64) (sym (last_left-there setup w e t there)) (last_small setup lim t legal.0 w)
+]
