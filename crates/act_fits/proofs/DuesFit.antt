@@ -32,7 +32,7 @@ use Rattle.call_plans.specs.declared.plans.Target.TheVariants.{Nowhere, Free, He
 use Rattle.call_plans.specs.declared.plans.Plan.{Plan}
 use Rattle.call_plans.specs.Plans.{at_place}
 use Rattle.call_plans.specs.PlanOf.{plan_for}
-use Rattle.call_plans.specs.GoesBy.{earlier, place_of}
+use Rattle.call_plans.specs.GoesBy.{earlier, place_of_spot}
 use Rattle.call_plans.specs.After.{with_found, names_after, Leads, next_in}
 use Rattle.call_plans.specs.Bounds.{look_steps, retype_steps, make_steps, act_steps}
 use Rattle.call_plans.specs.Rooted.{root_of, WantsRoot, IsRooted}

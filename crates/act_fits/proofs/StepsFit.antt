@@ -32,7 +32,7 @@ use Rattle.call_plans.specs.declared.plans.Target.TheVariants.{Nowhere, Free, He
 use Rattle.call_plans.specs.declared.plans.Plan.{Plan}
 use Rattle.call_plans.specs.Plans.{at_place}
 use Rattle.call_plans.specs.PlanOf.{plan_for}
-use Rattle.call_plans.specs.GoesBy.{earlier, place_of}
+use Rattle.call_plans.specs.GoesBy.{earlier, place_of_spot}
 use Rattle.call_plans.specs.After.{with_found, names_after, Leads, next_in}
 use Rattle.call_plans.specs.Bounds.{look_steps, retype_steps, make_steps, act_steps}
 use Rattle.call_plans.specs.Rooted.{root_of, WantsRoot, IsRooted}
@@ -660,7 +660,7 @@ target_below frames plan ks (own_page v) root fits none = tt
 -- what comes next of a call, where these of its names are left
 pub at_fits : (s : Shape) (ks : List Capability) (spot : Spot) (later acts : ℕ) → later ≤ acts
     → (earlier (with_found [] ks) (root_of spot)).frame < s.frames
-    → StepFits s [] later (look_steps [] (Free spot) + acts) (looks_at (place_of (with_found [] ks) spot))
+    → StepFits s [] later (look_steps [] (Free spot) + acts) (looks_at (place_of_spot (with_found [] ks) spot))
 at_fits s ks (Under i n) later acts most below = looks_fits s _ _ n later _ refl below (omega arith)
 at_fits s ks (InRoot i e) later acts most below = entry_fits s _ _ e later _ refl below (omega arith)
 
@@ -739,16 +739,16 @@ next_case own call found [] (Free spot) h first objects limits roots = by (reads
   where
     by : (o : Option ℕ) → reads_of call found ≡ o
         → StepFits own.layout [] (0 + after_reading call own.layout.cores) (look_steps [] (Free spot) + act_steps call own.layout.cores)
-        (read_first o (looks_at (place_of (with_found [] found) spot)))
+        (read_first o (looks_at (place_of_spot (with_found [] found) spot)))
     by None is =
         let most = after_most call own.layout.cores in
         at_fits own.layout found spot _ (act_steps call own.layout.cores) (omega (arith, most)) (roots refl)
     by (Some f) is =
         let one = after_one call found f own.layout.cores is in
         more_steps own.layout _ (1 + (look_steps [] (Free spot) + after_reading call own.layout.cores)) _
-        (read_first (Some f) (looks_at (place_of (with_found [] found) spot))) (omega (arith, one))
+        (read_first (Some f) (looks_at (place_of_spot (with_found [] found) spot))) (omega (arith, one))
         (read_fits own.layout _ (look_steps [] (Free spot) + after_reading call own.layout.cores) f _
-        (reads_below own.layout.frames call found f is objects) (at_looks (place_of (with_found [] found) spot))
+        (reads_below own.layout.frames call found f is objects) (at_looks (place_of_spot (with_found [] found) spot))
         (at_fits own.layout found spot _ (after_reading call own.layout.cores) (omega arith) (roots refl)))
 next_case own call found [] (Held spot) h first objects limits roots =
     let most = after_most call own.layout.cores in

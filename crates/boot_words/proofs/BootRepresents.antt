@@ -33,7 +33,7 @@ use Rattle.kernel_rules.specs.State.{Place, Free, Holds, Quiescing, TcapFields, 
 use Rattle.word_map.specs.Word.{Word, EntryAt, FrameAt, CountAt, CoreAt, FlushAt, LiveAt, ClockAt}
 use Rattle.kernel_rules.specs.Start.{start, start_place, start_cap, core_cap, start_comp, start_frame, start_number, place_with, granted}
 use Rattle.kernel_rules.specs.References.{refs}
-use Rattle.kernel_history.specs.ObjectWords.{is_node, frame_value, comp_word, at_height}
+use Rattle.kernel_history.specs.ObjectWords.{holds_node, frame_value, comp_word, at_height}
 use Rattle.kernel_history.specs.BootWords.{boot_entry, boot_frame, boot_thread, boot_tcap, boot_live, boot_word}
 use Rattle.kernel_history.specs.FinalWords.{SaysPlace, AreThread, AreTcap, AreFrame, SaysNumber, HoldNothing}
 use Rattle.kernel_history.specs.Counts.{count_at, IsUnheld, count_in}
@@ -156,11 +156,11 @@ module _ (setup : Setting) (lim : IsSetting setup) where
       choose P (nat_lt f (4 + setup.cores)) _ _ (λ e. are_thread (f - 4) (omega (arith, n, ltb-true f (4 + setup.cores) e))) λ e.
       choose P (nat_lt f (4 + 2 * setup.cores)) _ _ (λ e. are_tcap (granted (slice_get setup.grants (f - 4 - setup.cores))) (granted_fits _ (grant_fits setup lim (f - 4 - setup.cores)))) λ e. tt
 
-  bare : (f : ℕ) → is_node (start_frame setup f) ≡ false → HoldNothing (start_place setup f)
+  bare : (f : ℕ) → holds_node (start_frame setup f) ≡ false → HoldNothing (start_place setup f)
   bare f leafless i h = elim (cases_eq f 0) [
-    | inl is ↦ absurd (true≢false (subst (λ g. is_node (start_frame setup g) ≡ false) is leafless))
+    | inl is ↦ absurd (true≢false (subst (λ g. holds_node (start_frame setup g) ≡ false) is leafless))
     | inr past ↦ elim (cases_eq f 1) [
-      | inl is ↦ absurd (true≢false (subst (λ g. is_node (start_frame setup g) ≡ false) is leafless))
+      | inl is ↦ absurd (true≢false (subst (λ g. holds_node (start_frame setup g) ≡ false) is leafless))
       | inr other ↦ rw (ne_eqb f 0 past, ne_eqb f 1 other)
     ]
   ]

@@ -11,7 +11,7 @@ use Rattle.call_plans.specs.declared.plans.Target.{Target}
 use Rattle.call_plans.specs.declared.plans.Target.TheVariants.{Nowhere, Free, Held, Own}
 use Rattle.call_plans.specs.declared.plans.Plan.{Plan}
 use Rattle.call_plans.specs.Plans.{head}
-use Rattle.call_plans.specs.GoesBy.{OwnPages, wants, place_of}
+use Rattle.call_plans.specs.GoesBy.{OwnPages, wants, place_of_spot}
 
 -- The rule after its first names, which have led to these capabilities.
 abbrev pub rule_after : Rule → List Capability → Rule
@@ -51,8 +51,8 @@ pub data Next : Type 0 where
 
 abbrev pub next_target : List Named → Target → Next
 next_target caps Nowhere = NextNothing
-next_target caps (Free spot) = NextFree (place_of caps spot)
-next_target caps (Held spot) = NextHeld (place_of caps spot)
+next_target caps (Free spot) = NextFree (place_of_spot caps spot)
+next_target caps (Held spot) = NextHeld (place_of_spot caps spot)
 next_target caps (Own v) = NextOwn v
 
 abbrev pub next_by : List Named → Option Name → Target → Next

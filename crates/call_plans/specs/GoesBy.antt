@@ -34,9 +34,9 @@ wants caps Root = root
 wants caps (LeafOf i) = leaf_for (earlier caps i)
 
 -- The place of a spot.
-abbrev pub place_of : List Named → Spot → place
-place_of caps (Under i n) = under (earlier caps i) n
-place_of caps (InRoot i e) = in_root (earlier caps i) e
+abbrev pub place_of_spot : List Named → Spot → place
+place_of_spot caps (Under i n) = under (earlier caps i) n
+place_of_spot caps (InRoot i e) = in_root (earlier caps i) e
 
 -- A rule with nothing to look up.
 abbrev pub OnlyDoes : Rule → Type 0
@@ -55,8 +55,8 @@ own_pages s c = record { table = (comp_of s c).pages; cached = λ v. is_some (tr
 -- where its translation is not cached.
 abbrev pub GoesTo : OwnPages → Target → List Named → Rule → Type 0
 GoesTo pages Nowhere caps rule = OnlyDoes rule
-GoesTo pages (Free spot) caps (vacant_rule target rest) = (target ≡ place_of caps spot) × ((at : Slot) → OnlyDoes (rest at))
-GoesTo pages (Held spot) caps (held_rule target rest) = (target ≡ place_of caps spot)
+GoesTo pages (Free spot) caps (vacant_rule target rest) = (target ≡ place_of_spot caps spot) × ((at : Slot) → OnlyDoes (rest at))
+GoesTo pages (Held spot) caps (held_rule target rest) = (target ≡ place_of_spot caps spot)
     × ((at : Slot) (k : Capability) → OnlyDoes (rest at k))
 GoesTo pages (Own v) caps (mapped_rule table n rest) = (table ≡ pages.table) × (n ≡ v) × IsFalse (pages.cached v)
     × ((k : Capability) → OnlyDoes (rest k))

@@ -13,7 +13,7 @@ ghost use Rattle.call_stages.specs.Steps.{is_last, decides_at_name, work_ready, 
 ghost use Rattle.call_stages.specs.Fits.{WorkFits, StageFits, IsLater, TailFits};
 ghost use Rattle.stage_pins.specs.Acquire.{pin_after, pin_end};
 ghost use Rattle.stage_quiet.specs.Scan.{quiet_after, quiet_end};
-ghost use Rattle.call_plans.specs.GoesBy.{place_of};
+ghost use Rattle.call_plans.specs.GoesBy.{place_of_spot};
 ghost use Rattle.act_states.specs.WorkSteps.{refuse};
 ghost use Rattle.act_states.specs.Acts.{act_begun, reads_of};
 ghost use Rattle.act_states.specs.Lookups.{read_first, looks_under, looks_entry, looks_at, met_free, met_held};
@@ -478,9 +478,9 @@ fn look_next(active: &mut ActiveCall, own: &Own) -> Told
 fn look_free(active: &mut ActiveCall, spot: Spot) -> Told
     requires { active.old.steps < 1000 }
     ensures told { result ≡ told (landed active.old
-        (read_first (reads_of active.old.call active.old.found) (looks_at (place_of (with_found [] active.old.found) spot)))) }
+        (read_first (reads_of active.old.call active.old.found) (looks_at (place_of_spot (with_found [] active.old.found) spot)))) }
     ensures after { active.new ≡ call_after active.old (landed active.old
-        (read_first (reads_of active.old.call active.old.found) (looks_at (place_of (with_found [] active.old.found) spot)))) }
+        (read_first (reads_of active.old.call active.old.found) (looks_at (place_of_spot (with_found [] active.old.found) spot)))) }
 {
     match reads_of(&active.call, &active.found) {
         None => look_at(active, spot),
@@ -492,9 +492,9 @@ fn look_free(active: &mut ActiveCall, spot: Spot) -> Told
 #[inline(never)]
 fn read_at(active: &mut ActiveCall, comp: FrameNo, spot: Spot) -> Told
     requires { active.old.steps < 1000 }
-    ensures told { result ≡ told (landed active.old (read_first (Some comp) (looks_at (place_of (with_found [] active.old.found) spot)))) }
+    ensures told { result ≡ told (landed active.old (read_first (Some comp) (looks_at (place_of_spot (with_found [] active.old.found) spot)))) }
     ensures after { active.new
-        ≡ call_after active.old (landed active.old (read_first (Some comp) (looks_at (place_of (with_found [] active.old.found) spot)))) }
+        ≡ call_after active.old (landed active.old (read_first (Some comp) (looks_at (place_of_spot (with_found [] active.old.found) spot)))) }
 {
     match spot {
         Spot::Under { root, number } => {
@@ -605,8 +605,8 @@ fn look_entry(active: &mut ActiveCall, root: FrameNo, entry: EntryNo) -> Told
 #[inline]
 fn look_at(active: &mut ActiveCall, spot: Spot) -> Told
     requires { active.old.steps < 1000 }
-    ensures told { result ≡ told (landed active.old (looks_at (place_of (with_found [] active.old.found) spot))) }
-    ensures after { active.new ≡ call_after active.old (landed active.old (looks_at (place_of (with_found [] active.old.found) spot))) }
+    ensures told { result ≡ told (landed active.old (looks_at (place_of_spot (with_found [] active.old.found) spot))) }
+    ensures after { active.new ≡ call_after active.old (landed active.old (looks_at (place_of_spot (with_found [] active.old.found) spot))) }
 {
     match spot {
         Spot::Under { root, number } => {

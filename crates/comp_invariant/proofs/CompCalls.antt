@@ -50,7 +50,7 @@ use Rattle.step_ways.proofs.Loads.{is_active, call_is}
 use Rattle.core_invariant.proofs.Sounds.{limits_of}
 use Rattle.core_invariant.specs.Holding.{settled_by, settled}
 use Rattle.core_invariant.specs.Knows.{AreDuesApart, phase_at, KnowsUndecided, KnowsComp, SaysBlank}
-use Rattle.core_invariant.specs.Stands.{Stands, holds, held_by}
+use Rattle.core_invariant.specs.Invariant.{Invariant, holds, held_by}
 use Rattle.core_invariant.specs.Words.{NumberIs}
 use Rattle.count_invariant.proofs.Acquiring.{plan_leads, goes_by}
 use Rattle.count_invariant.proofs.CompCounts.{IsCompCall, comp_call}
@@ -58,7 +58,7 @@ use Rattle.place_invariant.proofs.CompMakes.{IsCompMake, comp_make, comp_rest, n
 use Rattle.place_invariant.proofs.Outside.{none_left_of}
 use Rattle.place_invariant.proofs.Vacancy.{in_leaf}
 
-module _ (setup : Setting) (setting : IsSetting setup) (cores : ℕ → Core) (t : Trace) (stands : Stands setup cores t) (c : ℕ)
+module _ (setup : Setting) (setting : IsSetting setup) (cores : ℕ → Core) (t : Trace) (stands : Invariant setup cores t) (c : ℕ)
     (here : c < setup.cores)
     (a : ActiveCall) (active : (cores c).active ≡ Some a) (m : CompMaking) (stage_is : a.stage ≡ Undecided (Act (comp_act m)))
     (has : KnowsUndecided setup t c (cores c).own.table a (Act (comp_act m))) where

@@ -66,12 +66,12 @@ use Rattle.call_stages.specs.declared.stages.Stage.TheVariants.{Undecided, Decid
 use Rattle.kept_knowledge.proofs.Carries.{names_on, counts_on, spot_on}
 use Rattle.step_ways.proofs.Counting as counting
 use Rattle.step_ways.proofs.Good.{spares_other, blank_is}
-use Rattle.step_ways.proofs.Loads.{decides_on, step_to, OnlyLooks, next_at, loads_on, IsOfCall, core_at, inner, call_is, core_is}
+use Rattle.step_ways.proofs.Loads.{decides_on, step_to, OnlyLooks, next_at, loads_on, IsOfCall, core_in_call, inner, call_is, core_is}
 use Rattle.step_ways.proofs.Refusals.{GoodTook, ticks_at, refuses_busy, refuses_raced, raced_leaving, not_spent}
 use Rattle.step_ways.proofs.Writes.{stores_on}
 use Rattle.core_invariant.specs.Holding.{holds_counts, Holding, settled_by, settled, keeps}
 use Rattle.core_invariant.specs.Knows.{phase_at, due_of, KnowsUndecided, KnowsComp, KnowsCompAt, blank_word, HasBlank}
-use Rattle.core_invariant.specs.Stands.{holds_at, holds_in, Stands, done_by, holds, held_by, holds_comp}
+use Rattle.core_invariant.specs.Invariant.{holds_at, holds_in, Invariant, done_by, holds, held_by, holds_comp}
 use Rattle.core_invariant.specs.Words.{IsFrameWord}
 use Rattle.look_invariant.proofs.Lookups.{near_way}
 use Rattle.count_invariant.proofs.Acquiring.{knows_next, next_holds}
@@ -83,7 +83,7 @@ use Rattle.frame_invariant.proofs.Makes.{made_looks, not_blank_by, not_kernel_by
 use Rattle.core_invariant.proofs.Bare.{as_none, counts_bare}
 use Rattle.lent_words.proofs.Lent.{lent_elsewhere}
 
-module _ (setup : Setting) (setting : IsSetting setup) (cores : ℕ → Core) (t : Trace) (stands : Stands setup cores t) (c : ℕ)
+module _ (setup : Setting) (setting : IsSetting setup) (cores : ℕ → Core) (t : Trace) (stands : Invariant setup cores t) (c : ℕ)
     (here : c < setup.cores)
     (a : ActiveCall) (active : (cores c).active ≡ Some a) (m : CompMaking) (stage_is : a.stage ≡ Undecided (Act (comp_act m)))
     (has : KnowsUndecided setup t c (cores c).own.table a (Act (comp_act m))) where
@@ -296,7 +296,7 @@ module _ (setup : Setting) (setting : IsSetting setup) (cores : ℕ → Core) (t
     next = next_at a a.found (Undecided (next_work m.core 0 act))
 
     abbrev after : Core
-    after = core_at (cores c) (cores c).own.made next
+    after = core_in_call (cores c) (cores c).own.made next
 
     met : HasBlank t c f word
     met = knows_at (Mark word) at_is

@@ -49,7 +49,7 @@ use Rattle.step_ways.proofs.Loads.{step_to, OnlyLooks, loads_on, IsOfCall, inner
 use Rattle.step_ways.proofs.Refusals.{GoodTook, ticks_at, not_spent, busy_leaving}
 use Rattle.core_invariant.specs.Holding.{holds_counts, settled_by, keeps}
 use Rattle.core_invariant.specs.Knows.{phase_at, due_of, KnowsUndecided, KnowsComp, KnowsCompAt, HasPassed, IsScanned, SaysBlank, MayTake, ScansNumber, KnowsUnmark, HasFlushed}
-use Rattle.core_invariant.specs.Stands.{holds_in, Stands, holds, held_by, holds_comp}
+use Rattle.core_invariant.specs.Invariant.{holds_in, Invariant, holds, held_by, holds_comp}
 use Rattle.core_invariant.specs.Words.{NumberIs}
 use Rattle.count_invariant.proofs.CompCounts.{IsCompCall, makes_comp_on, comp_changes, comp_argument, number_near}
 use Rattle.place_invariant.proofs.Outside.{vacant_slot, vacant_here, stands_alone}
@@ -157,7 +157,7 @@ shows_none (Dead d) r o is none = not_none (live_word.Dead d r) (sym none ∙ is
     not_none : (v : LiveWord) → None ≡ Some v → ⊥
     not_none v h = cc
 
-module _ (setup : Setting) (setting : IsSetting setup) (cores : ℕ → Core) (t : Trace) (stands : Stands setup cores t) (c : ℕ)
+module _ (setup : Setting) (setting : IsSetting setup) (cores : ℕ → Core) (t : Trace) (stands : Invariant setup cores t) (c : ℕ)
     (here : c < setup.cores)
     (a : ActiveCall) (active : (cores c).active ≡ Some a) (m : CompMaking) (stage_is : a.stage ≡ Undecided (Act (comp_act m)))
     (has : KnowsUndecided setup t c (cores c).own.table a (Act (comp_act m))) (word : ℕ)

@@ -41,12 +41,12 @@ use Rattle.call_stages.specs.declared.stages.Stage.TheVariants.{Undecided, Decid
 use Rattle.kept_knowledge.proofs.Carries.{names_on, counts_on, spot_on, takes_on}
 use Rattle.step_ways.proofs.Counting as counting
 use Rattle.step_ways.proofs.Good.{spares_blank, spares_other}
-use Rattle.step_ways.proofs.Loads.{IsOfCall, core_at, inner, call_is}
+use Rattle.step_ways.proofs.Loads.{IsOfCall, core_in_call, inner, call_is}
 use Rattle.step_ways.proofs.Refusals.{GoodTook, ticks_at, raced_leaving}
 use Rattle.step_ways.proofs.Writes.{stores_on}
 use Rattle.core_invariant.specs.Holding.{holds_counts, Holding, settled_by, settled, keeps}
 use Rattle.core_invariant.specs.Knows.{phase_at, KnowsUndecided, KnowsUnmark, KnowsComp, KnowsCompAt, SaysBlank, MayTake, TakesNumber, HasWords, KnowsLive}
-use Rattle.core_invariant.specs.Stands.{holds_at, holds_in, Stands, done_by, holds, held_by, holds_comp}
+use Rattle.core_invariant.specs.Invariant.{holds_at, holds_in, Invariant, done_by, holds, held_by, holds_comp}
 use Rattle.core_invariant.specs.Words.{IsFrameWord, count_room}
 use Rattle.look_invariant.proofs.Lookups.{near_way}
 use Rattle.count_invariant.proofs.MakingCounts.{blank_left}
@@ -78,7 +78,7 @@ small_word w v shown =
     let spells = lives.spelling.spells w v shown in subst (λ (n : ℕ). n < 2 ^ 64) spells.1 (lives.spelling.small v spells.0)
 
 -- The compare that marks the number's word.
-module _ (setup : Setting) (setting : IsSetting setup) (cores : ℕ → Core) (t : Trace) (stands : Stands setup cores t) (c : ℕ)
+module _ (setup : Setting) (setting : IsSetting setup) (cores : ℕ → Core) (t : Trace) (stands : Invariant setup cores t) (c : ℕ)
     (here : c < setup.cores)
     (a : ActiveCall) (active : (cores c).active ≡ Some a) (m : CompMaking) (stage_is : a.stage ≡ Undecided (Act (comp_act m)))
     (has : KnowsUndecided setup t c (cores c).own.table a (Act (comp_act m))) (word : ℕ) (last : LastEpoch)
@@ -174,7 +174,7 @@ module _ (setup : Setting) (setting : IsSetting setup) (cores : ℕ → Core) (t
     next = went a (Undecided (Act (comp_act (record m { at = now_at }))))
 
     abbrev after : Core
-    after = core_at (cores c) (cores c).own.made next
+    after = core_in_call (cores c) (cores c).own.made next
 
     abbrev before_held : Holding
     before_held = keeps (FrameAt m.frame) word (holds_counts None a.counts)
@@ -239,7 +239,7 @@ module _ (setup : Setting) (setting : IsSetting setup) (cores : ℕ → Core) (t
       by_test false lost = close_lost lost
 
 -- Where both are marked.
-module _ (setup : Setting) (setting : IsSetting setup) (cores : ℕ → Core) (t : Trace) (stands : Stands setup cores t) (c : ℕ)
+module _ (setup : Setting) (setting : IsSetting setup) (cores : ℕ → Core) (t : Trace) (stands : Invariant setup cores t) (c : ℕ)
     (here : c < setup.cores)
     (a : ActiveCall) (active : (cores c).active ≡ Some a) (m : CompMaking) (stage_is : a.stage ≡ Undecided (Act (comp_act m)))
     (has : KnowsUndecided setup t c (cores c).own.table a (Act (comp_act m))) (word : ℕ) (last : LastEpoch)
@@ -276,7 +276,7 @@ module _ (setup : Setting) (setting : IsSetting setup) (cores : ℕ → Core) (t
   still_marked = calls.own_mark setup setting cores t stands c here a active m stage_is has word frame_marked frame_stands says
 
 -- The store of a word.
-module _ (setup : Setting) (setting : IsSetting setup) (cores : ℕ → Core) (t : Trace) (stands : Stands setup cores t) (c : ℕ)
+module _ (setup : Setting) (setting : IsSetting setup) (cores : ℕ → Core) (t : Trace) (stands : Invariant setup cores t) (c : ℕ)
     (here : c < setup.cores)
     (a : ActiveCall) (active : (cores c).active ≡ Some a) (m : CompMaking) (stage_is : a.stage ≡ Undecided (Act (comp_act m)))
     (has : KnowsUndecided setup t c (cores c).own.table a (Act (comp_act m))) (word : ℕ) (last : LastEpoch) (n : ℕ)
@@ -423,7 +423,7 @@ module _ (setup : Setting) (setting : IsSetting setup) (cores : ℕ → Core) (t
       ]
 
 -- The compare of the target, where it is lost.
-module _ (setup : Setting) (setting : IsSetting setup) (cores : ℕ → Core) (t : Trace) (stands : Stands setup cores t) (c : ℕ)
+module _ (setup : Setting) (setting : IsSetting setup) (cores : ℕ → Core) (t : Trace) (stands : Invariant setup cores t) (c : ℕ)
     (here : c < setup.cores)
     (a : ActiveCall) (active : (cores c).active ≡ Some a) (m : CompMaking) (stage_is : a.stage ≡ Undecided (Act (comp_act m)))
     (has : KnowsUndecided setup t c (cores c).own.table a (Act (comp_act m))) (word : ℕ) (last : LastEpoch)
@@ -497,7 +497,7 @@ module _ (setup : Setting) (setting : IsSetting setup) (cores : ℕ → Core) (t
       kept = ap (λ b. left_if b found_there (word_of_entry (entry.Held m.fill.cap))) other
 
 -- The store that gives the number's word back; then the frame's is still to be stored.
-module _ (setup : Setting) (setting : IsSetting setup) (cores : ℕ → Core) (t : Trace) (stands : Stands setup cores t) (c : ℕ)
+module _ (setup : Setting) (setting : IsSetting setup) (cores : ℕ → Core) (t : Trace) (stands : Invariant setup cores t) (c : ℕ)
     (here : c < setup.cores)
     (a : ActiveCall) (active : (cores c).active ≡ Some a) (r : Reply) (drawn : Option ℕ) (l live f word : ℕ)
     (stage_is : a.stage ≡ Decided r drawn (StoreLive l live f word)) (has : KnowsLive setup t c a.call l live f word) where
@@ -525,7 +525,7 @@ module _ (setup : Setting) (setting : IsSetting setup) (cores : ℕ → Core) (t
   give_live_good lands =
       let next : ActiveCall = went_with a a.counts (Decided r drawn (Unmark f word)) in
       let e : Step = inner setup setting cores t stands c here a active give_back None None in
-      let after : Core = core_at (cores c) (cores c).own.made next in
+      let after : Core = core_in_call (cores c) (cores c).own.made next in
       counting.holds_on setup setting cores t stands c here a active give_back next (λ b. refl) (λ h. cc) refl
       (record { moves = has.numbers; near = inr has.near }) lands has.small
       (λ w there. (

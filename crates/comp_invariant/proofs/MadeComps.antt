@@ -67,7 +67,7 @@ use Rattle.kept_words.proofs.Calm.{calm_counted, plain_exit, counted_rises, Begi
 use Rattle.kept_knowledge.proofs.Carries.{own_kept}
 use Rattle.kept_words.proofs.CountSums.{counted_refs, times_here, times_there}
 use Rattle.step_ways.proofs.Good.{spares_node}
-use Rattle.step_ways.proofs.Loads.{next_at, IsOfCall, core_at, inner, call_is}
+use Rattle.step_ways.proofs.Loads.{next_at, IsOfCall, core_in_call, inner, call_is}
 use Rattle.step_ways.proofs.Places.{IsMarked, place_reads, IsPlain as IsUnmarked, node_mark}
 use Rattle.step_ways.proofs.Refusals.{GoodTook, not_spent}
 use Rattle.core_invariant.proofs.Sounds.{limits_of}
@@ -76,7 +76,7 @@ use Rattle.step_ways.proofs.Writes.{same_marks, decides_writing}
 use Rattle.core_invariant.specs.CountWords.{IsWithin}
 use Rattle.core_invariant.specs.Holding.{holds_counts, settled_by, settled, keeps}
 use Rattle.core_invariant.specs.Knows.{AreDuesApart, HasFound, own_in, phase_at, due_of, KnowsUndecided, WorksIn, MayFill, KnowsComp, KnowsCompAt, MayTake, KnowsLive, untypes}
-use Rattle.core_invariant.specs.Stands.{holds_at, holds_in, Stands, holds, held_by, times_of, SumIs, counted_in, holds_comp}
+use Rattle.core_invariant.specs.Invariant.{holds_at, holds_in, Invariant, holds, held_by, times_of, SumIs, counted_in, holds_comp}
 use Rattle.core_invariant.specs.Words.{PlaceIs, count_room, IsFrameWord, WordIs, NumberIs, IsCompWord}
 use Rattle.look_invariant.proofs.Findings.{found_named, own_is, way_gone}
 use Rattle.stage_pins.specs.Counts.{later}
@@ -125,7 +125,7 @@ record IsTaken (s : State) (c l last : ℕ) : Type 0 where
   names : number_names (s.number l) ≡ []
   waits : waits_of s c (NumberOf l) ≡ None
 
-module _ (setup : Setting) (setting : IsSetting setup) (cores : ℕ → Core) (t : Trace) (stands : Stands setup cores t) (c : ℕ)
+module _ (setup : Setting) (setting : IsSetting setup) (cores : ℕ → Core) (t : Trace) (stands : Invariant setup cores t) (c : ℕ)
     (here : c < setup.cores)
     (a : ActiveCall) (active : (cores c).active ≡ Some a) (m : CompMaking) (stage_is : a.stage ≡ Undecided (Act (comp_act m)))
     (has : KnowsUndecided setup t c (cores c).own.table a (Act (comp_act m))) (word : ℕ) (last : LastEpoch) (at_is : m.at ≡ Fill word last) where
@@ -285,7 +285,7 @@ module _ (setup : Setting) (setting : IsSetting setup) (cores : ℕ → Core) (t
     count = (cores c).own.made + calls_counted (reply.Ok Nothing)
 
     abbrev after : Core
-    after = core_at (cores c) count (next_at a a.found stage)
+    after = core_in_call (cores c) count (next_at a a.found stage)
 
     abbrev framed : State
     framed = with_frame (with_number s l lives) f (Kernel object)
@@ -743,7 +743,7 @@ module _ (setup : Setting) (setting : IsSetting setup) (cores : ℕ → Core) (t
       by_test false is = put_lost setup setting cores t stands c here a active m stage_is has word last at_is is
 
 -- A step of the making of a component is good.
-pub comp_good : (setup : Setting) → IsSetting setup → (cores : ℕ → Core) (t : Trace) → Stands setup cores t → (c : ℕ) → c < setup.cores
+pub comp_good : (setup : Setting) → IsSetting setup → (cores : ℕ → Core) (t : Trace) → Invariant setup cores t → (c : ℕ) → c < setup.cores
     → (a : ActiveCall) → (cores c).active ≡ Some a → (m : CompMaking)
     → a.stage ≡ Undecided (Act (comp_act m))
     → KnowsUndecided setup t c (cores c).own.table a (Act (comp_act m))

@@ -26,7 +26,7 @@ use Rattle.call_stages.specs.declared.stages.Stage.TheVariants.{Enter, Undecided
 use Rattle.core_invariant.specs.Holding.{Holding}
 use Rattle.core_invariant.specs.Frozen.{holds_untyping}
 use Rattle.core_invariant.specs.Knows.{phase_at}
-use Rattle.core_invariant.specs.Stands.{holds_making, holds_killing, holds_act, holds_comp, holds_share, holds_work, holds_at}
+use Rattle.core_invariant.specs.Invariant.{holds_making, holds_killing, holds_act, holds_comp, holds_share, holds_work, holds_at}
 use Rattle.core_invariant.proofs.Bare.{counts_bare}
 use Rattle.core_invariant.proofs.Freezing.{release_bare}
 use Rattle.core_invariant.proofs.ThreadHolds.{switching_bare}

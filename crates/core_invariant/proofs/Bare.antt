@@ -7,7 +7,7 @@ use Rattle.kernel_rules.proofs.Within.{put_same, put_other}
 use Rattle.stage_pins.specs.declared.held.Acquired.{Acquired}
 use Rattle.call_stages.specs.View.{Core}
 use Rattle.core_invariant.specs.Holding.{Holding, holds_counts, kept_or, kept_below, bare_value}
-use Rattle.core_invariant.specs.Stands.{holds, held_by}
+use Rattle.core_invariant.specs.Invariant.{holds, held_by}
 
 -- A word that no core keeps settles to itself.
 pub none_kept : (n : ℕ) (held : ℕ → Holding) (f i x : ℕ) → ((d : ℕ) → (held d).bare f i ≡ None) → kept_below n held f i x ≡ x

@@ -14,7 +14,7 @@ use Rattle.call_stages.specs.declared.stages.Stage.TheVariants.{Enter, Undecided
 use Rattle.call_stages.specs.declared.stages.ActiveCall.{ActiveCall}
 use Rattle.call_stages.specs.View.{Core}
 use Rattle.core_invariant.specs.Knows.{phase_at, KnowsAt, Knows, CallIs}
-use Rattle.core_invariant.specs.Stands.{holds_in, Stands}
+use Rattle.core_invariant.specs.Invariant.{holds_in, Invariant}
 
 -- A call that has entered is in its phase.
 phase_at_in : (setup : Setting) (t : Trace) (c table : ℕ) (a : ActiveCall) (stage : Stage) → KnowsAt setup t c table a stage
@@ -49,7 +49,7 @@ in_phase (Rattle.kernel_history.specs.Trace.Open call) h = refl
 in_phase (Rattle.kernel_history.specs.Trace.Decided call r) h = refl
 
 -- A core whose mark a word carries is in a call.
-pub marker_inside : (setup : Setting) (cores : ℕ → Core) (t : Trace) → Stands setup cores t → (w : Word) (d : ℕ)
+pub marker_inside : (setup : Setting) (cores : ℕ → Core) (t : Trace) → Invariant setup cores t → (w : Word) (d : ℕ)
     → marked_by setup t w ≡ Some d
     → ((state_after setup t).core d).inside ≡ true
 marker_inside setup cores t stands w d is = elim (cases_lt d setup.cores) [

@@ -11,7 +11,7 @@ use Rattle.act_states.specs.declared.switches.Switching.{Switching}
 use Rattle.act_states.specs.declared.switches.SwitchAt.{SwitchAt}
 use Rattle.act_states.specs.declared.switches.SwitchAt.TheVariants.{Claim, LoadTable, LoadPages, Leave, Draw}
 use Rattle.core_invariant.specs.Holding.{Holding, keeps}
-use Rattle.core_invariant.specs.Stands.{holds_tail}
+use Rattle.core_invariant.specs.Invariant.{holds_tail}
 use Rattle.core_invariant.specs.Threads.{holds_idle, holds_switching, claimed_by, is_claimed}
 
 -- Of flush words, and of counts.

@@ -10,4 +10,4 @@ pub mod Components
 pub mod Reaching
 pub mod Acting
 pub mod Knows
-pub mod Stands
+pub mod Invariant

@@ -23,7 +23,7 @@ use Rattle.call_stages.specs.Fits.{IsCore}
 use Rattle.flight.specs.Histories.{IsHistory}
 use Rattle.flight.specs.Made.{turned, MayStep, core_after, cores_after, IsMade, IsMadeStep}
 use Rattle.flight.specs.Phases.{IsWord}
-use Rattle.core_invariant.specs.Stands.{Stands}
+use Rattle.core_invariant.specs.Invariant.{Invariant}
 use Rattle.call_stages.specs.Cores.{started, move_of, absorbed}
 use Rattle.flight.proofs.ByPlace.{place_is, left_is, told_is, apart_places}
 use Rattle.flight.proofs.CoreFits.{begun_fits}
@@ -128,7 +128,7 @@ module _ (setup : Setting) (setting : IsSetting setup) (start : Start CoreRun) (
     may : MayStep e.call (cores_after setup (trace_of setup t) c)
     may = subst (MayStep e.call) was (may_step m.program e.call m.step.op m.step.may m.step.next)
 
-    stands : Stands setup (cores_after setup (trace_of setup t)) (trace_of setup t)
+    stands : Invariant setup (cores_after setup (trace_of setup t)) (trace_of setup t)
     stands = made_stands setup setting (trace_of setup t) a.made
 
     fits : IsCore core

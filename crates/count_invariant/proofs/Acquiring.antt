@@ -95,14 +95,14 @@ use Rattle.act_states.specs.Untypings.{is_drawing}
 use Rattle.core_invariant.specs.Holding.{Holding, count_of, committed, holds_counts, AreApart, settled_by, settled, keeps}
 use Rattle.core_invariant.specs.Words.{SaysCount, count_room}
 use Rattle.core_invariant.specs.Knows.{AreDuesApart, own_in, HasFound, NamesAre, due_of, pin_frame, pin_core, IsRemoval, KnowsClose, KnowsAct, KnowsWork, KnowsUndecided, IsCount, HasRead, phase_at, KnowsTail, goes_on, is_counting, untypes}
-use Rattle.core_invariant.specs.Stands.{done_by, holds_act, holds_work, holds_at, holds_in, holds, held_by, Stands, holds_tail, holds_making, holds_killing, holds_comp}
+use Rattle.core_invariant.specs.Invariant.{done_by, holds_act, holds_work, holds_at, holds_in, holds, held_by, Invariant, holds_tail, holds_making, holds_killing, holds_comp}
 use Rattle.kept_knowledge.proofs.Carries.{names_on, act_on, counts_on, KeepsUsers, KeepsThreads, claimed_in, ReadsSame, freezes_at, reads_counts, due_pairs}
 use Rattle.kept_knowledge.proofs.Swept.{LeavesFrame}
 use Rattle.step_ways.proofs.Writes.{same_marks}
 use Rattle.step_ways.proofs.Good.{IsGood, spares_other}
 use Rattle.step_ways.proofs.Counting as counters
 use Rattle.step_ways.proofs.Users.{users_kept}
-use Rattle.step_ways.proofs.Loads.{IsOfCall, Lands, step_to, core_at, inner, call_is, is_active, loads_on}
+use Rattle.step_ways.proofs.Loads.{IsOfCall, Lands, step_to, core_in_call, inner, call_is, is_active, loads_on}
 use Rattle.step_ways.proofs.Refusals.{GoodTook, IsRefusing, ticks_in, ticks_at, raced_knowing, busy_knowing}
 use Rattle.count_invariant.proofs.PutCounts.{put_counts, put_near}
 
@@ -237,7 +237,7 @@ stored_by (reply.Ok v) drawn x = refl
 stored_by r drawn x = refl
 
 -- A call acquires a count.
-module _ (setup : Setting) (setting : IsSetting setup) (cores : ℕ → Core) (t : Trace) (stands : Stands setup cores t) (c : ℕ)
+module _ (setup : Setting) (setting : IsSetting setup) (cores : ℕ → Core) (t : Trace) (stands : Invariant setup cores t) (c : ℕ)
     (here : c < setup.cores)
     (a : ActiveCall) (active : (cores c).active ≡ Some a) (frame d : ℕ) (pin : Pin) (change : ℤ) (act : ActOf)
     (frame_is : pin_frame pin ≡ frame) (core_is : pin_core pin ≡ d)
@@ -465,12 +465,12 @@ module _ (setup : Setting) (setting : IsSetting setup) (cores : ℕ → Core) (t
       abbrev more : List Acquired → ActiveCall
       more xs = went_with a xs (Undecided (next_work (cores c).own.core (length a.counts + 1) act))
 
-      won : Lands setup (core_at (cores c) (cores c).own.made (more grown)) at
+      won : Lands setup (core_in_call (cores c) (cores c).own.made (more grown)) at
           → IsGood setup cores t (inner setup setting cores t stands c here a active compare None None)
-          (core_at (cores c) (cores c).own.made (more grown))
+          (core_in_call (cores c) (cores c).own.made (more grown))
       won lands =
           let e : Step = inner setup setting cores t stands c here a active compare None None in
-          let after : Core = core_at (cores c) (cores c).own.made (more grown) in
+          let after : Core = core_in_call (cores c) (cores c).own.made (more grown) in
           let after_is : holds after ≡ holds_act act (holds_counts None grown) = next_holds (cores c).own.core (length a.counts + 1) act
           (holds_counts None grown) in
           counters.holds_on setup setting cores t stands c here a active compare (more grown) (λ b. refl) (not_clock frame (counter_of d))
@@ -539,7 +539,7 @@ module _ (setup : Setting) (setting : IsSetting setup) (cores : ℕ → Core) (t
         by false other = count_lost other
 
 -- A step by which a call acquires a count is good, where its frame is near the call.
-acquire_near : (setup : Setting) → IsSetting setup → (cores : ℕ → Core) (t : Trace) → Stands setup cores t → (c : ℕ) → c < setup.cores
+acquire_near : (setup : Setting) → IsSetting setup → (cores : ℕ → Core) (t : Trace) → Invariant setup cores t → (c : ℕ) → c < setup.cores
     → (a : ActiveCall) → (cores c).active ≡ Some a
     → (pin : Pin) (change : ℤ) (act : ActOf) → a.stage ≡ Undecided (Acquire pin change act)
     → KnowsUndecided setup t c (cores c).own.table a (Acquire pin change act)
@@ -586,7 +586,7 @@ usable_is (Holds j) waits k is = is
 usable_is (Removed j) true k is = is
 usable_is (Removed j) false k is = absurd (cc)
 
-module _ (setup : Setting) (setting : IsSetting setup) (cores : ℕ → Core) (t : Trace) (stands : Stands setup cores t) (c : ℕ)
+module _ (setup : Setting) (setting : IsSetting setup) (cores : ℕ → Core) (t : Trace) (stands : Invariant setup cores t) (c : ℕ)
     (here : c < setup.cores)
     (a : ActiveCall) (active : (cores c).active ≡ Some a) (names : NamesAre setup t c (cores c).own.table a.plan a.found) where
   abbrev now : State
@@ -634,7 +634,7 @@ module _ (setup : Setting) (setting : IsSetting setup) (cores : ℕ → Core) (t
   removal_does (AtStore node index at) cap has = absurd has
 
 -- The frame of a count that an act changes is near the call, which is one that changes references.
-pub acquire_good : (setup : Setting) → IsSetting setup → (cores : ℕ → Core) (t : Trace) → Stands setup cores t → (c : ℕ) → c < setup.cores
+pub acquire_good : (setup : Setting) → IsSetting setup → (cores : ℕ → Core) (t : Trace) → Invariant setup cores t → (c : ℕ) → c < setup.cores
     → (a : ActiveCall) → (cores c).active ≡ Some a
     → (pin : Pin) (change : ℤ) (act : ActOf) → a.stage ≡ Undecided (Acquire pin change act)
     → KnowsUndecided setup t c (cores c).own.table a (Acquire pin change act)
@@ -733,7 +733,7 @@ acquire_good setup setting cores t stands c here a active pin change (comp_act m
     not_true false h = refl
 
 -- A decided call commits its earliest count.
-module _ (setup : Setting) (setting : IsSetting setup) (cores : ℕ → Core) (t : Trace) (stands : Stands setup cores t) (c : ℕ)
+module _ (setup : Setting) (setting : IsSetting setup) (cores : ℕ → Core) (t : Trace) (stands : Invariant setup cores t) (c : ℕ)
     (here : c < setup.cores)
     (a : ActiveCall) (active : (cores c).active ≡ Some a) (r : Reply) (drawn : Option ℕ) (stage_is : a.stage ≡ Decided r drawn Nothing)
     (x : Acquired) (xs : List Acquired) (counts_are : a.counts ≡ x ∷ xs) where
@@ -775,7 +775,7 @@ module _ (setup : Setting) (setting : IsSetting setup) (cores : ℕ → Core) (t
   commit_good lands =
       let next : ActiveCall = went_with a xs (Decided r drawn Nothing) in
       let e : Step = inner setup setting cores t stands c here a active store None None in
-      let after : Core = core_at (cores c) (cores c).own.made next in
+      let after : Core = core_in_call (cores c) (cores c).own.made next in
       let spells = counts.spelling.spells stored _ stored_says.says in
       counters.holds_on setup setting cores t stands c here a active store next (λ b. refl)
       (not_clock x.pin.frame (counter_of x.pin.core)) refl

@@ -4,7 +4,7 @@ use Rattle.word_map.specs.Word.{Word}
 use Rattle.stage_pins.specs.declared.held.Acquired.{Acquired}
 use Rattle.act_states.specs.declared.work.Act.{Act as ActOf}
 use Rattle.core_invariant.specs.Holding.{Holding, holds_counts}
-use Rattle.core_invariant.specs.Stands.{holds_act}
+use Rattle.core_invariant.specs.Invariant.{holds_act}
 use Rattle.core_invariant.proofs.ActBares.{act_bare}
 use Rattle.core_invariant.proofs.Bare.{AsBefore, as_none, counts_bare}
 

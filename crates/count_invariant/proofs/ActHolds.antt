@@ -31,7 +31,7 @@ use Rattle.core_invariant.proofs.Freezing.{release_over, thaw_away, thaws_own}
 use Rattle.core_invariant.specs.Holding.{Holding, keeps}
 use Rattle.core_invariant.specs.Knows.{is_counting}
 use Rattle.core_invariant.proofs.ThreadHolds.{switching_count, switching_over, switching_undo_holds}
-use Rattle.core_invariant.specs.Stands.{holds_act, holds, holds_tail, holds_making, holds_killing, holds_comp, holds_head, holds_share}
+use Rattle.core_invariant.specs.Invariant.{holds_act, holds, holds_tail, holds_making, holds_killing, holds_comp, holds_head, holds_share}
 use Rattle.stage_tcap.specs.declared.pair.PairAt.{PairAt}
 use Rattle.stage_tcap.specs.declared.pair.PairAt.TheVariants.{LoadA, MarkA, ListA, LoadB, ListB, CompareB, AgainB, StoreList, StoreB, StoreA}
 use Rattle.stage_tcap.specs.Pairs.{amount_of, left_a}

@@ -23,7 +23,7 @@ use Rattle.core_invariant.specs.CountWords.{IsWithin}
 use Rattle.core_invariant.specs.Holding.{holds_counts}
 use Rattle.core_invariant.specs.Words.{count_room, WordIs}
 use Rattle.core_invariant.specs.Knows.{due_of}
-use Rattle.core_invariant.specs.Stands.{holds, held_by, times_of, SumIs, Stands}
+use Rattle.core_invariant.specs.Invariant.{holds, held_by, times_of, SumIs, Invariant}
 use Rattle.step_ways.proofs.Loads.{inner}
 use Rattle.core_invariant.proofs.Ranges.{within_more}
 use Rattle.kept_words.proofs.WordFrames.{ReadsAlike}
@@ -42,7 +42,7 @@ each_change P z holds (f ∷ fs) = All-cons (λ d. P d.change) (record { frame =
     (each_change P z holds fs)
 
 -- The call has drawn this stamp or none, each count that its act changes is changed by z, and the frames of these are fs.
-module _ (setup : Setting) (setting : IsSetting setup) (cores : ℕ → Core) (t : Trace) (stands : Stands setup cores t) (c : ℕ)
+module _ (setup : Setting) (setting : IsSetting setup) (cores : ℕ → Core) (t : Trace) (stands : Invariant setup cores t) (c : ℕ)
     (here : c < setup.cores)
     (a : ActiveCall) (active : (cores c).active ≡ Some a) (z : ℤ) (small_change : IsWithin z 1) (drawn : Option ℕ)
     (drawn_small : later 0 drawn < 2 ^ 28)

@@ -31,7 +31,7 @@ use Rattle.core_invariant.specs.CountWords.{stamp_in, newest_of, IsWithin}
 use Rattle.core_invariant.specs.Holding.{count_of, committed, holds_counts, AreApart, settled_by, settled}
 use Rattle.core_invariant.specs.Words.{SaysCount, count_room, WordIs}
 use Rattle.core_invariant.specs.Knows.{due_of, IsCount}
-use Rattle.core_invariant.specs.Stands.{holds, held_by, times_of, count_shown, SumIs, Stands}
+use Rattle.core_invariant.specs.Invariant.{holds, held_by, times_of, count_shown, SumIs, Invariant}
 use Rattle.kept_words.proofs.CountSums.{counter_once, sum_same, sum_by, newest_same, newest_one}
 use Rattle.step_ways.proofs.Counting.{first_marked, first_stands}
 use Rattle.step_ways.proofs.Loads.{call_is, inner}
@@ -161,7 +161,7 @@ count_word (x ∷ xs) w mark = elim (cases_word w (count_of x)) [
 
 -- The call has drawn this stamp or none, and the dues of the counts that it has acquired are these. Of a frame that is spared the core holds
 -- no count beside those; the frames of these are spared.
-module _ (setup : Setting) (setting : IsSetting setup) (cores : ℕ → Core) (t : Trace) (stands : Stands setup cores t) (c : ℕ)
+module _ (setup : Setting) (setting : IsSetting setup) (cores : ℕ → Core) (t : Trace) (stands : Invariant setup cores t) (c : ℕ)
     (here : c < setup.cores)
     (a : ActiveCall) (active : (cores c).active ≡ Some a) (drawn : Option ℕ) (drawn_small : later 0 drawn < 2 ^ 28)
     (ds : List Due) (all : ds ≡ map due_of a.counts) (small_changes : All (λ d. IsWithin d.change 4) ds)
@@ -389,7 +389,7 @@ all_unit [] = All-nil (λ x. Unit {0})
 all_unit (x ∷ xs) = All-cons (λ x. Unit {0}) x xs tt (all_unit xs)
 
 -- The core holds no other count.
-module _ (setup : Setting) (setting : IsSetting setup) (cores : ℕ → Core) (t : Trace) (stands : Stands setup cores t) (c : ℕ)
+module _ (setup : Setting) (setting : IsSetting setup) (cores : ℕ → Core) (t : Trace) (stands : Invariant setup cores t) (c : ℕ)
     (here : c < setup.cores)
     (a : ActiveCall) (active : (cores c).active ≡ Some a) (drawn : Option ℕ) (drawn_small : later 0 drawn < 2 ^ 28)
     (ds : List Due) (all : ds ≡ map due_of a.counts) (small_changes : All (λ d. IsWithin d.change 4) ds)

@@ -43,7 +43,7 @@ use Rattle.call_stages.specs.View.{Core}
 use Rattle.core_invariant.specs.Frozen.{holds_release, holds_untyping}
 use Rattle.core_invariant.specs.Holding.{Holding, holds_counts, settled, settled_by}
 use Rattle.core_invariant.specs.Knows.{KnowsTail, KnowsUnmark, KnowsUndecided, due_of, pin_frame}
-use Rattle.core_invariant.specs.Stands.{Stands, held_by, holds_act, holds_at, holds_in}
+use Rattle.core_invariant.specs.Invariant.{Invariant, held_by, holds_act, holds_at, holds_in}
 use Rattle.core_invariant.specs.Sweeps.{KnowsSwept, KnowsUntyping, KnowsUntypingAt, UntypesBy, ThawsFrame, names_of}
 use Rattle.core_invariant.proofs.Freezing.{thaws_own}
 use Rattle.step_ways.proofs.Loads.{is_active}
@@ -112,7 +112,7 @@ each_acquired P before (x ∷ xs) rest ds is each = All-cons (λ y. P y.pin.fram
     shift (a ∷ zs) y ys = ap (λ (l : List Due). due_of a ∷ l) (shift zs y ys)
 
 -- What a call knows that acquires the counts of the object in the frame.
-module _ (setup : Setting) (setting : IsSetting setup) (cores : ℕ → Core) (t : Trace) (stands : Stands setup cores t) (c : ℕ)
+module _ (setup : Setting) (setting : IsSetting setup) (cores : ℕ → Core) (t : Trace) (stands : Invariant setup cores t) (c : ℕ)
     (here : c < setup.cores)
     (a : ActiveCall) (active : (cores c).active ≡ Some a) (pin : Pin) (change : ℤ) (m : Untyping)
     (stage_is : a.stage ≡ Undecided (Acquire pin change (untype_act m)))

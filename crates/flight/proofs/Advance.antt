@@ -25,7 +25,7 @@ use Rattle.call_stages.specs.Steps.{core_word, stage_move, Took, GoesOn, Returns
 use Rattle.call_stages.specs.Cores.{fresh, begun, told_by}
 use Rattle.call_stages.specs.Cores as cores_of
 use Rattle.core_invariant.specs.Knows.{KnowsAt, Knows, CallIs}
-use Rattle.core_invariant.specs.Stands.{done_by, holds_at, Stands}
+use Rattle.core_invariant.specs.Invariant.{done_by, holds_at, Invariant}
 use Rattle.step_ways.proofs.Good.{IsGood, stands_on}
 use Rattle.step_ways.proofs.Loads.{step_to, is_active, loads_on}
 use Rattle.step_ways.proofs.Writes.{clock_small, leaves_on}
@@ -52,7 +52,7 @@ abbrev pub StepGood : Setting → (ℕ → Core) → Trace → ℕ → Option Ca
 StepGood setup cores t c enters core =
     IsGood setup cores t (step_of c enters core (found_by setup t core)) (core_after core (found_by setup t core))
 
-module _ (setup : Setting) (setting : IsSetting setup) (cores : ℕ → Core) (t : Trace) (stands : Stands setup cores t) (c : ℕ)
+module _ (setup : Setting) (setting : IsSetting setup) (cores : ℕ → Core) (t : Trace) (stands : Invariant setup cores t) (c : ℕ)
     (here : c < setup.cores) where
   -- what a call takes at its stage from the word of its move
   abbrev TakenAt : ActiveCall → Stage → Took
@@ -182,7 +182,7 @@ in_its_call setup t c table None is some = absurd (false≢true some)
 in_its_call setup t c table (Some a) is some = (a, refl, is.knows)
 
 -- A step of any core is good, whether a call begins with it or goes on.
-pub good_on : (setup : Setting) → IsSetting setup → (cores : ℕ → Core) (t : Trace) → Stands setup cores t → (c : ℕ) → c < setup.cores
+pub good_on : (setup : Setting) → IsSetting setup → (cores : ℕ → Core) (t : Trace) → Invariant setup cores t → (c : ℕ) → c < setup.cores
     → (enters : Option Call) → MayStep enters (cores c) → StepGood setup cores t c enters (turned enters (cores c))
 good_on setup setting cores t stands c here None may =
     let a = in_its_call setup t c (cores c).own.table (cores c).active (stands.each c here).active may in

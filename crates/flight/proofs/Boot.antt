@@ -40,7 +40,7 @@ use Rattle.core_invariant.specs.Words.{PlaceIs, IsObjectWord, IsFrameWord, Numbe
 use Rattle.tcap_words.specs.Head.{word_of_head, head_of_word}
 use Rattle.tcap_words.specs.declared.head_word.HeadWord.{HeadWord}
 use Rattle.tcap_words.proofs.HeadLemmas as heads
-use Rattle.core_invariant.specs.Stands.{held_by, times_of, count_shown, SumIs}
+use Rattle.core_invariant.specs.Invariant.{held_by, times_of, count_shown, SumIs}
 use Rattle.core_invariant.specs.CountWords.{stamp_in}
 use Rattle.kernel_history.specs.Counts.{count_in}
 use Rattle.std.proofs.lemmas.Int.{ints}

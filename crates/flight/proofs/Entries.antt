@@ -52,7 +52,7 @@ use Rattle.call_stages.specs.Steps.{core_word, Took, landed, next_by, took_enter
 use Rattle.call_stages.specs.Cores.{fresh, core_after, told_by}
 use Rattle.core_invariant.specs.Events.{decided_in, returned_in}
 use Rattle.core_invariant.specs.Knows.{LooksUp, own_in, LooksFor, ReadBefore, CallIs, ChargesBy}
-use Rattle.core_invariant.specs.Stands.{Stands}
+use Rattle.core_invariant.specs.Invariant.{Invariant}
 use Rattle.core_invariant.proofs.Sounds.{limits_of}
 use Rattle.step_ways.proofs.Good.{IsGood}
 use Rattle.kept_words.proofs.Calm.{calm_entered, calm_counted, calm_then}
@@ -64,7 +64,7 @@ use Rattle.plan_ways.proofs.Ways.{next_first}
 use Rattle.look_invariant.proofs.Findings.{past_slot, past_unreached, named_no_slot}
 use Rattle.page_invariant.proofs.TouchCalls.{past_may, past_first}
 
-module _ (setup : Setting) (setting : IsSetting setup) (cores : ℕ → Core) (t : Trace) (stands : Stands setup cores t) (c : ℕ)
+module _ (setup : Setting) (setting : IsSetting setup) (cores : ℕ → Core) (t : Trace) (stands : Invariant setup cores t) (c : ℕ)
     (here : c < setup.cores)
     (call : Call) (may : MayBegin call (cores c)) where
   abbrev s : State
@@ -409,7 +409,7 @@ module _ (setup : Setting) (setting : IsSetting setup) (cores : ℕ → Core) (t
         by false deep = returns_on unspent deep
 
 -- a call enters
-module _ (setup : Setting) (setting : IsSetting setup) (cores : ℕ → Core) (t : Trace) (stands : Stands setup cores t) (c : ℕ)
+module _ (setup : Setting) (setting : IsSetting setup) (cores : ℕ → Core) (t : Trace) (stands : Invariant setup cores t) (c : ℕ)
     (here : c < setup.cores) where
   enters_first : (call : Call) (may : MayBegin call (cores c)) → is_spent (cores c).own ≡ false
       → GoodEntry setup setting cores t stands c here call may (landed (fresh call) (next_by (cores c).own (fresh call)))

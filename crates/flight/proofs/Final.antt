@@ -18,10 +18,10 @@ use Rattle.frame_words.specs.declared.count_word.CountWord.{CountWord}
 use Rattle.word_map.specs.Word.{Word, EntryAt, FrameAt, CountAt, CoreAt, LiveAt}
 use Rattle.kernel_rules.specs.State.{Place, Free, Holds, Quiescing, Blank, Table, Leaf, Pages, Pleaf, Comp, Thread, Tcap, Frame, Untyped, User, Kernel, Liveness, Unused, Live, Dead, PlaceOf, NumberOf, State}
 use Rattle.kernel_rules.specs.Access.{held_in}
-use Rattle.kernel_rules.specs.Relies.{is_node as is_sound_node}
+use Rattle.kernel_rules.specs.Relies.{holds_node as is_sound_node}
 use Rattle.kernel_rules.specs.Start.{start}
 use Rattle.kernel_history.specs.Counts.{counters, count_at, IsUnheld, RepresentCounts}
-use Rattle.kernel_history.specs.ObjectWords.{is_node, at_height}
+use Rattle.kernel_history.specs.ObjectWords.{holds_node, at_height}
 use Rattle.kernel_history.specs.FinalWords.{SaysPlace, AreFrame, SaysNumber, Represent, end_of as end_in}
 use Rattle.kernel_history.specs.Moments.{EntrySays, CoreSays}
 use Rattle.kernel_history.specs.Trace.{Trace, Phase, Out, Open, Decided, phase, state_after, last_left}
@@ -34,14 +34,14 @@ use Rattle.kernel_history.specs.Marking.{marked_by}
 use Rattle.core_invariant.specs.Holding.{settled_by, settled}
 use Rattle.core_invariant.specs.Words.{PlaceIs, IsFrameWord, SaysCount, count_room, NumberIs, WordIs}
 use Rattle.core_invariant.specs.Knows.{CallIs, WorksIn}
-use Rattle.core_invariant.specs.Stands.{holds_in, held_by, times_of, count_shown, Stands as Invariant}
+use Rattle.core_invariant.specs.Invariant.{holds_in, held_by, times_of, count_shown, Invariant}
 use Rattle.flight.specs.Theorems.{SaysWords, AreBetween, Represents, RepresentsCounts}
 use Rattle.kept_words.proofs.CountSums.{sum_same}
 use Rattle.core_invariant.proofs.Sounds.{limits_of}
 use Rattle.core_invariant.proofs.Markers.{marker_inside}
 use Rattle.step_ways.proofs.Places.{IsMarked, IsPlain, place_reads}
 
-sound_node : (x : Frame) → IsTrue (is_node x) → IsTrue (is_sound_node x)
+sound_node : (x : Frame) → IsTrue (holds_node x) → IsTrue (is_sound_node x)
 sound_node Untyped h = absurd (false≢true h)
 sound_node User h = absurd (false≢true h)
 sound_node (Kernel Blank) h = absurd (false≢true h)
@@ -53,7 +53,7 @@ sound_node (Kernel (Comp k)) h = absurd (false≢true h)
 sound_node (Kernel (Thread t)) h = absurd (false≢true h)
 sound_node (Kernel (Tcap q)) h = absurd (false≢true h)
 
-node_sound : (x : Frame) → IsTrue (is_sound_node x) → is_node x ≡ false → ⊥
+node_sound : (x : Frame) → IsTrue (is_sound_node x) → holds_node x ≡ false → ⊥
 node_sound (Kernel Table) h none = true≢false none
 node_sound (Kernel Leaf) h none = true≢false none
 node_sound (Kernel Pages) h none = true≢false none
@@ -83,7 +83,7 @@ phase_inside (Decided call r) h = refl
 pub says_words : SaysWords
 says_words setup setting cores t stands = record { entries = entries; cores = core_says }
   where
-    entries : (f i : ℕ) → f < setup.frames → i < 64 → IsTrue (is_node ((state_after setup t).frame f)) → EntrySays setup t f i
+    entries : (f i : ℕ) → f < setup.frames → i < 64 → IsTrue (holds_node ((state_after setup t).frame f)) → EntrySays setup t f i
     entries f i here below node = by_read (place_reads setup cores t stands f i (sound_node ((state_after setup t).frame f) node) below)
       where
         by_read : IsMarked setup t f i ⊎ IsPlain setup t f i → EntrySays setup t f i

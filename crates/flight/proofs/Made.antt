@@ -4,10 +4,10 @@ use Rattle.spk_nums.specs.Setting.{Setting, IsSetting}
 use Rattle.word_map.specs.Moves.{word_of}
 use Rattle.kernel_history.specs.Moments.{WordsSayAlong}
 use Rattle.kernel_history.specs.Trace.{Step, Trace, last_left}
-use Rattle.flight.specs.Made.{step_of, core_after, cores_after, core_at, IsMadeStep, IsMade}
+use Rattle.flight.specs.Made.{step_of, core_after, cores_after, stepping_core, IsMadeStep, IsMade}
 use Rattle.flight.specs.Histories.{MadeHistories}
 use Rattle.kernel_history.specs.Graces.{KeepsTime}
-use Rattle.core_invariant.specs.Stands.{Stands}
+use Rattle.core_invariant.specs.Invariant.{Invariant}
 use Rattle.step_ways.proofs.Good.{IsGood, stands_on}
 use Rattle.step_ways.proofs.Users.{SparesCounted}
 use Rattle.flight.specs.Theorems.{found_by, MadeStands}
@@ -16,25 +16,25 @@ use Rattle.flight.proofs.Advance.{good_on}
 use Rattle.flight.proofs.Final.{says_words}
 
 -- What a made step found is what its core finds.
-pub finds : (setup : Setting) (t : Trace) (e : Step) → IsMadeStep setup t e → e.found ≡ found_by setup t (core_at setup t e)
+pub finds : (setup : Setting) (t : Trace) (e : Step) → IsMadeStep setup t e → e.found ≡ found_by setup t (stepping_core setup t e)
 finds setup t e step = step.found ∙ ap (λ m. last_left setup t (word_of m)) (ap (λ (x : Step). x.move) step.made)
 
 -- A made step is good.
-made_good : (setup : Setting) → IsSetting setup → (t : Trace) (e : Step) → IsMadeStep setup t e → Stands setup (cores_after setup t) t
-    → IsGood setup (cores_after setup t) t e (core_after (core_at setup t e) e.found)
+made_good : (setup : Setting) → IsSetting setup → (t : Trace) (e : Step) → IsMadeStep setup t e → Invariant setup (cores_after setup t) t
+    → IsGood setup (cores_after setup t) t e (core_after (stepping_core setup t e) e.found)
 made_good setup lim t e step stands =
-    subst (λ (x : Step). IsGood setup (cores_after setup t) t x (core_after (core_at setup t e) e.found)) (sym step.made)
+    subst (λ (x : Step). IsGood setup (cores_after setup t) t x (core_after (stepping_core setup t e) e.found)) (sym step.made)
     (subst Goal (sym (finds setup t e step)) (good_on setup lim (cores_after setup t) t stands e.core step.is_core e.enters step.may))
   where
     Goal : ℕ → Type 0
     Goal found =
-        IsGood setup (cores_after setup t) t (step_of e.core e.enters (core_at setup t e) found) (core_after (core_at setup t e) found)
+        IsGood setup (cores_after setup t) t (step_of e.core e.enters (stepping_core setup t e) found) (core_after (stepping_core setup t e) found)
 
 pub made_stands : MadeStands
 made_stands setup lim [] made = boots setup lim
 made_stands setup lim (e ∷ t) made =
     let stands = made_stands setup lim t made.0 in
-    stands_on setup lim (cores_after setup t) t stands e (core_after (core_at setup t e) e.found) (made_good setup lim t e made.1 stands)
+    stands_on setup lim (cores_after setup t) t stands e (core_after (stepping_core setup t e) e.found) (made_good setup lim t e made.1 stands)
 
 -- A made step keeps time.
 pub made_times : (setup : Setting) → IsSetting setup → (t : Trace) (e : Step) → IsMade setup (e ∷ t) → KeepsTime setup t e

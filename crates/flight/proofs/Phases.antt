@@ -20,7 +20,7 @@ use Rattle.spk_nums.specs.Capability.{Capability}
 use Rattle.call_plans.specs.declared.plans.Plan.{Plan}
 use Rattle.core_invariant.specs.Events.{decided_in, returned_in}
 use Rattle.flight.specs.Decided.{is_decided_at, is_decided_in, Turns}
-use Rattle.flight.specs.Made.{turned, MayStep, core_after, cores_after, core_at, IsMadeStep}
+use Rattle.flight.specs.Made.{turned, MayStep, core_after, cores_after, stepping_core, IsMadeStep}
 use Rattle.flight.specs.Phases.{IsInPhase, MadePhases, MadeOfItsCores, AreEvents, MadeEvents, DecidedIsReady}
 use Rattle.call_stages.specs.declared.stages.ActiveCall.{ActiveCall}
 use Rattle.call_stages.specs.declared.stages.Stage.{Stage}
@@ -123,31 +123,31 @@ steps_phase core p (Some call) found is may = in_flight core.own (Some (fresh ca
 module _ (setup : Setting) (t : Trace) (e : Step) (step : IsMadeStep setup t e)
     (before : (c : ℕ) → c < setup.cores → IsInPhase (cores_after setup t c) (phase t c)) where
   abbrev told_here : ℕ
-  told_here = told_of (move_of (core_at setup t e)) e.found
+  told_here = told_of (move_of (stepping_core setup t e)) e.found
 
-  own : IsInPhase (core_after (core_at setup t e) e.found) (phase (e ∷ t) e.core)
+  own : IsInPhase (core_after (stepping_core setup t e) e.found) (phase (e ∷ t) e.core)
   own =
       let is = steps_phase (cores_after setup t e.core) (phase t e.core) e.enters told_here (before e.core step.is_core) step.may in
-      let decides : decided_in (told_in (core_at setup t e).own (core_at setup t e).active told_here) ≡ e.decides = sym
+      let decides : decided_in (told_in (stepping_core setup t e).own (stepping_core setup t e).active told_here) ≡ e.decides = sym
       (ap (λ x. x.decides) step.made) in
-      let returns : returned_in (told_in (core_at setup t e).own (core_at setup t e).active told_here) ≡ e.returns = sym
+      let returns : returned_in (told_in (stepping_core setup t e).own (stepping_core setup t e).active told_here) ≡ e.returns = sym
       (ap (λ x. x.returns) step.made) in
-      subst (λ p. IsInPhase (core_after (core_at setup t e) e.found) p) (sym (phase-own e.core e t refl))
-      (subst (λ r. IsInPhase (core_after (core_at setup t e) e.found)
+      subst (λ p. IsInPhase (core_after (stepping_core setup t e) e.found) p) (sym (phase-own e.core e t refl))
+      (subst (λ r. IsInPhase (core_after (stepping_core setup t e) e.found)
       (after_return r (after_decide e.decides (after_enter e.enters (phase t e.core))))) returns
-      (subst (λ d. IsInPhase (core_after (core_at setup t e) e.found)
-      (after_return (returned_in (told_in (core_at setup t e).own (core_at setup t e).active told_here))
+      (subst (λ d. IsInPhase (core_after (stepping_core setup t e) e.found)
+      (after_return (returned_in (told_in (stepping_core setup t e).own (stepping_core setup t e).active told_here))
       (after_decide d (after_enter e.enters (phase t e.core))))) decides is))
 
   pub phases_on : (c : ℕ) → c < setup.cores → IsInPhase (cores_after setup (e ∷ t) c) (phase (e ∷ t) c)
   phases_on c here = elim (cases_eq c e.core) [
     | inl same ↦
         subst (λ core. IsInPhase core (phase (e ∷ t) c)) (sym (put_same (cores_after setup t) e.core
-        (core_after (core_at setup t e) e.found) c same))
-        (subst (λ (i : ℕ). IsInPhase (core_after (core_at setup t e) e.found) (phase (e ∷ t) i)) (sym same) own)
+        (core_after (stepping_core setup t e) e.found) c same))
+        (subst (λ (i : ℕ). IsInPhase (core_after (stepping_core setup t e) e.found) (phase (e ∷ t) i)) (sym same) own)
     | inr other ↦
         subst (λ core. IsInPhase core (phase (e ∷ t) c)) (sym (put_other (cores_after setup t) e.core
-        (core_after (core_at setup t e) e.found) c other))
+        (core_after (stepping_core setup t e) e.found) c other))
         (subst (λ p. IsInPhase (cores_after setup t c) p) (sym (phase-other c e t other)) (before c here))
   ]
 
@@ -196,7 +196,7 @@ in_call_at (Some call) core may = refl
 
 pub made_events : MadeEvents
 made_events setup t e step =
-    let core = core_at setup t e in
+    let core = stepping_core setup t e in
     let told_here = told_of (move_of core) e.found in
     let are = events_in core.own core.active told_here (in_call_at e.enters (cores_after setup t e.core) step.may) in
     let decides : decided_in (told_in core.own core.active told_here) ≡ e.decides = sym (ap (λ x. x.decides) step.made) in

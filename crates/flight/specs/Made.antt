@@ -55,8 +55,8 @@ cores_after setup [] = boot_cores setup
 cores_after setup (e ∷ t) = put (cores_after setup t) e.core (core_after (turned e.enters (cores_after setup t e.core)) e.found)
 
 -- The core that makes the step e after t, its call begun.
-abbrev pub core_at : Setting → Trace → Step → Core
-core_at setup t e = turned e.enters (cores_after setup t e.core)
+abbrev pub stepping_core : Setting → Trace → Step → Core
+stepping_core setup t e = turned e.enters (cores_after setup t e.core)
 
 -- The step e after t is the machine's: it is of one of its cores, which may make a step; it finds what was last left in its word;
 -- and it is the one that the core makes for what it found.
@@ -64,7 +64,7 @@ pub record IsMadeStep (setup : Setting) (t : Trace) (e : Step) : Type 0 where
   pub is_core : e.core < setup.cores
   pub may : MayStep e.enters (cores_after setup t e.core)
   pub found : e.found ≡ last_left setup t (word_of e.move)
-  pub made : e ≡ step_of e.core e.enters (core_at setup t e) e.found
+  pub made : e ≡ step_of e.core e.enters (stepping_core setup t e) e.found
 
 -- Each step of the trace is the machine's.
 abbrev pub IsMade : Setting → Trace → Type 0

@@ -11,7 +11,7 @@ use Rattle.call_stages.specs.View.{Core}
 use Rattle.call_stages.specs.Cores.{move_of, ready_of}
 use Rattle.call_stages.specs.Fits.{IsCore}
 use Rattle.flight.specs.Decided.{is_decided_in}
-use Rattle.flight.specs.Made.{core_after, cores_after, core_at, IsMade, IsMadeStep}
+use Rattle.flight.specs.Made.{core_after, cores_after, stepping_core, IsMade, IsMadeStep}
 
 -- The word is one of the machine's, by the one name of its place.
 pub record IsWord (shape : Shape) (w : Word) : Type 0 where
@@ -53,8 +53,8 @@ pub record AreEvents (before after : Core) (decides returns : Option Reply) : Ty
 
 -- The events of a step of the machine are those of its core.
 abbrev pub MadeEvents : Type 0
-MadeEvents = (setup : Setting) (t : Trace) (e : Step) → IsMadeStep setup t e → AreEvents (core_at setup t e)
-    (core_after (core_at setup t e) e.found) e.decides e.returns
+MadeEvents = (setup : Setting) (t : Trace) (e : Step) → IsMadeStep setup t e → AreEvents (stepping_core setup t e)
+    (core_after (stepping_core setup t e) e.found) e.decides e.returns
 
 -- A core whose call is decided is ready.
 abbrev pub DecidedIsReady : Type 0

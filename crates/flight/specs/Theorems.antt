@@ -11,11 +11,11 @@ use Rattle.kernel_history.specs.Moments.{WordsSay}
 use Rattle.call_stages.specs.View.{Core}
 use Rattle.call_stages.specs.Cores.{move_of, end_of}
 use Rattle.flight.specs.Made.{boot_cores, turned, MayStep, step_of, core_after, cores_after, IsMade}
-use Rattle.core_invariant.specs.Stands.{Stands}
+use Rattle.core_invariant.specs.Invariant.{Invariant}
 
 -- The start stands for no step.
 abbrev pub Boots : Type 0
-Boots = (setup : Setting) → IsSetting setup → Stands setup (boot_cores setup) []
+Boots = (setup : Setting) → IsSetting setup → Invariant setup (boot_cores setup) []
 
 -- What a core finds in the word of its next step.
 abbrev pub found_by : Setting → Trace → Core → ℕ
@@ -23,18 +23,18 @@ found_by setup t core = last_left setup t (word_of (move_of core))
 
 -- A step of any core, at which a call may begin, leaves cores that stand for the trace with that step.
 abbrev pub StepsOn : Type 0
-StepsOn = (setup : Setting) → IsSetting setup → (cores : ℕ → Core) (t : Trace) → Stands setup cores t
+StepsOn = (setup : Setting) → IsSetting setup → (cores : ℕ → Core) (t : Trace) → Invariant setup cores t
     → (c : ℕ) → c < setup.cores → (enters : Option Call) → MayStep enters (cores c)
-    → Stands setup (put cores c (core_after (turned enters (cores c)) (found_by setup t (turned enters (cores c)))))
+    → Invariant setup (put cores c (core_after (turned enters (cores c)) (found_by setup t (turned enters (cores c)))))
     (step_of c enters (turned enters (cores c)) (found_by setup t (turned enters (cores c))) ∷ t)
 
 -- Where the cores are after a trace that is the machine's, they stand for it.
 abbrev pub MadeStands : Type 0
-MadeStands = (setup : Setting) → IsSetting setup → (t : Trace) → IsMade setup t → Stands setup (cores_after setup t) t
+MadeStands = (setup : Setting) → IsSetting setup → (t : Trace) → IsMade setup t → Invariant setup (cores_after setup t) t
 
 -- At each moment the words say what the state is.
 abbrev pub SaysWords : Type 0
-SaysWords = (setup : Setting) → IsSetting setup → (cores : ℕ → Core) (t : Trace) → Stands setup cores t → WordsSay setup t
+SaysWords = (setup : Setting) → IsSetting setup → (cores : ℕ → Core) (t : Trace) → Invariant setup cores t → WordsSay setup t
 
 -- All cores of the machine are between calls.
 abbrev pub AreBetween : Setting → (ℕ → Core) → Type 0
@@ -42,10 +42,10 @@ AreBetween setup cores = (c : ℕ) → c < setup.cores → (cores c).active ≡ 
 
 -- Where all cores are between calls, the words and the cores' ends represent the state.
 abbrev pub Represents : Type 0
-Represents = (setup : Setting) → IsSetting setup → (cores : ℕ → Core) (t : Trace) → Stands setup cores t → AreBetween setup cores
+Represents = (setup : Setting) → IsSetting setup → (cores : ℕ → Core) (t : Trace) → Invariant setup cores t → AreBetween setup cores
     → Represent (last_left setup t) (λ c. end_of (cores c)) (state_after setup t)
 
 -- And then no count is held, and those of each frame sum to the references to it.
 abbrev pub RepresentsCounts : Type 0
-RepresentsCounts = (setup : Setting) → IsSetting setup → (cores : ℕ → Core) (t : Trace) → Stands setup cores t → AreBetween setup cores
+RepresentsCounts = (setup : Setting) → IsSetting setup → (cores : ℕ → Core) (t : Trace) → Invariant setup cores t → AreBetween setup cores
     → RepresentCounts (last_left setup t) (state_after setup t)

@@ -34,7 +34,7 @@ use Rattle.kernel_history.proofs.Steps.{phase-own, phase-other, own_read-here, o
 use Rattle.state_laws.proofs.Flushes.{frame_flushed}
 use Rattle.state_laws.proofs.Relied.{own_frame, own_relies}
 use Rattle.kept_words.proofs.CountSums.{counter_all}
-use Rattle.core_invariant.specs.Stands.{Stands}
+use Rattle.core_invariant.specs.Invariant.{Invariant}
 use Rattle.flight_laws.specs.Frames.{MakesUntyped, IsUnused, UntypedFramesAreUnused, CountedFramesStay, GoesOn, IsLooked, LookedNodesStay}
 use Rattle.flight.specs.Made.{cores_after, IsMade}
 use Rattle.flight.proofs.Made.{made_stands, made_counted}
@@ -169,7 +169,7 @@ module _ (setup : Setting) (setting : IsSetting setup) where
       → Relies (state_after setup t) c f
   looked_relies t made c call is f i w read looked node = by (rests_along t made c call is f i w read looked)
     where
-      stands : Stands setup (cores_after setup t) t
+      stands : Invariant setup (cores_after setup t) t
       stands = made_stands setup setting t made
 
       below : c < (state_after setup t).limits.cores

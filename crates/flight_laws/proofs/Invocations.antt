@@ -20,7 +20,7 @@ use Rattle.kernel_history.specs.Trace.{Step, Trace, Open, phase, after_enter, st
 use Rattle.kernel_history.proofs.Events.{state_is, run_of}
 use Rattle.trace_laws.proofs.Opens.{open_inj}
 use Rattle.state_laws.proofs.Lives.{dead_stays}
-use Rattle.core_invariant.specs.Stands.{Stands}
+use Rattle.core_invariant.specs.Invariant.{Invariant}
 use Rattle.comp_invariant.proofs.LaterEvents.{Later, later_events}
 use Rattle.flight_laws.specs.Invocations.{GoesThrough, number_through, EntersTheLiving, EntersNoneKilled}
 use Rattle.flight.specs.Made.{IsMade, cores_after}
@@ -78,7 +78,7 @@ entered_number (Some call) s c l = refl
 
 pub enters_none_killed : EntersNoneKilled
 enters_none_killed setup setting u t e made gate is epoch dead =
-    let stands : Stands setup (cores_after setup (u ++ t)) (u ++ t) = made_stands setup setting (u ++ t) made.0 in
+    let stands : Invariant setup (cores_after setup (u ++ t)) (u ++ t) = made_stands setup setting (u ++ t) made.0 in
     let had : Later (events_of (u ++ t)) (events_of t) = later_events u t in
     let l : ℕ = number_through (state_before setup (u ++ t) e) gate in
     let lives : LivesIn ((state_before setup (u ++ t) e).number l) gate.arg =

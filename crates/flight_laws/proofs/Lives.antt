@@ -14,7 +14,7 @@ use Rattle.kernel_history.proofs.Events.{state_is, run_of}
 use Rattle.state_laws.proofs.Lives.{dead_stays}
 use Rattle.core_invariant.specs.Holding.{settled_by}
 use Rattle.core_invariant.specs.Words.{NumberIs}
-use Rattle.core_invariant.specs.Stands.{held_by, Stands}
+use Rattle.core_invariant.specs.Invariant.{held_by, Invariant}
 use Rattle.comp_invariant.proofs.LaterEvents.{Later, later_events}
 use Rattle.live_invariant.proofs.Numbers.{number_is}
 use Rattle.flight_laws.specs.Lives.{DeadForGood}
@@ -23,7 +23,7 @@ use Rattle.flight.proofs.Made.{made_stands}
 
 pub dead_for_good : DeadForGood
 dead_for_good setup setting u t made l e d f dead shows =
-    let stands : Stands setup (cores_after setup (u ++ t)) (u ++ t) = made_stands setup setting (u ++ t) made in
+    let stands : Invariant setup (cores_after setup (u ++ t)) (u ++ t) = made_stands setup setting (u ++ t) made in
     let had : Later (events_of (u ++ t)) (events_of t) = later_events u t in
     let s : State = state_after setup (u ++ t) in
     let lives : s.number l ≡ Live d f =

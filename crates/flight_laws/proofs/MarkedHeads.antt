@@ -50,7 +50,7 @@ use Rattle.core_invariant.specs.Threads.{holds_switching, claimed_by}
 use Rattle.core_invariant.specs.Words.{HeadIs, count_room}
 use Rattle.core_invariant.specs.Knows.{KnowsAct, KnowsWork, KnowsAt, CallIs, phase_at}
 use Rattle.core_invariant.specs.Shares.{HasMarkedA, KnowsPairAt}
-use Rattle.core_invariant.specs.Stands.{holds_act, holds_making, holds_killing, holds_comp, holds_share, holds_head, holds_work, holds_at, holds_in, holds, held_by, Stands}
+use Rattle.core_invariant.specs.Invariant.{holds_act, holds_making, holds_killing, holds_comp, holds_share, holds_head, holds_work, holds_at, holds_in, holds, held_by, Invariant}
 use Rattle.kept_knowledge.proofs.Carries.{slot_relies}
 use Rattle.core_invariant.proofs.Freezing.{release_entry}
 use Rattle.lent_words.proofs.Tcaps.{is_tcap}
@@ -82,7 +82,7 @@ record IsMarkedHead (setup : Setting) (t : Trace) (f d : ℕ) (h : Holding) : Ty
   fits : HeadFits head
   stands : h.stands (EntryAt f 0) ≡ word_of_head head
 
-module _ (setup : Setting) (setting : IsSetting setup) (cores : ℕ → Core) (t : Trace) (stands : Stands setup cores t) (f d : ℕ)
+module _ (setup : Setting) (setting : IsSetting setup) (cores : ℕ → Core) (t : Trace) (stands : Invariant setup cores t) (f d : ℕ)
     (tcap : IsTrue (is_tcap ((state_after setup t).frame f))) (below : d < setup.cores) where
   abbrev s : State
   s = state_after setup t
@@ -227,7 +227,7 @@ open_heads_say setup setting t made f q d call is mark undecided = record {
       ∙ ap (λ (b : ℕ). Some (record { budget = b; mark = Some d; version = told.head.version })) budget;
 }
   where
-    stands : Stands setup (cores_after setup t) t
+    stands : Invariant setup (cores_after setup t) t
     stands = made_stands setup setting t made
 
     below : d < setup.cores

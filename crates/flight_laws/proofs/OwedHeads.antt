@@ -39,7 +39,7 @@ use Rattle.core_invariant.specs.Threads.{holds_idle}
 use Rattle.core_invariant.specs.Words.{HeadIs, count_room}
 use Rattle.core_invariant.specs.Knows.{KnowsTail, KnowsAt, CallIs, phase_at}
 use Rattle.core_invariant.specs.Shares.{StoresA, StoresB, KnowsStoresAt}
-use Rattle.core_invariant.specs.Stands.{holds_head, holds_heads, holds_shared, holds_tail, is_done, holds_at, holds_in, holds, Stands}
+use Rattle.core_invariant.specs.Invariant.{holds_head, holds_heads, holds_shared, holds_tail, is_done, holds_at, holds_in, holds, Invariant}
 use Rattle.core_invariant.proofs.Freezing.{release_entry}
 use Rattle.lent_words.proofs.Tcaps.{is_tcap}
 use Rattle.pair_invariant.proofs.ShareSteps.{marked_says}
@@ -62,7 +62,7 @@ record IsOwedHead (setup : Setting) (t : Trace) (s : State) (r : Reply) (call : 
   left_fits : HeadFits left
   owes : Owes s d r call f head.budget left.budget
 
-module _ (setup : Setting) (setting : IsSetting setup) (cores : ℕ → Core) (t : Trace) (stands : Stands setup cores t) (f d : ℕ)
+module _ (setup : Setting) (setting : IsSetting setup) (cores : ℕ → Core) (t : Trace) (stands : Invariant setup cores t) (f d : ℕ)
     (tcap : IsTrue (is_tcap ((state_after setup t).frame f))) (below : d < setup.cores) (decided_in : State) where
   abbrev s : State
   s = state_after setup t
@@ -224,7 +224,7 @@ marked_heads_say setup setting t made f q d call r is mark decided = record {
   owes = subst (λ (n : ℕ). Owes (state_of_decision setup t d) d r call f told.head.budget n) budget told.owes;
 }
   where
-    stands : Stands setup (cores_after setup t) t
+    stands : Invariant setup (cores_after setup t) t
     stands = made_stands setup setting t made
 
     below : d < setup.cores

@@ -81,12 +81,12 @@ use Rattle.core_invariant.specs.Components.{InvokesBy}
 use Rattle.core_invariant.specs.Sweeps.{UntypesBy}
 use Rattle.core_invariant.specs.Threads.{SwitchesBy}
 use Rattle.core_invariant.specs.Shares.{SharesBy}
-use Rattle.core_invariant.specs.Stands.{Stands}
+use Rattle.core_invariant.specs.Invariant.{Invariant}
 use Rattle.step_ways.proofs.Loads.{is_active}
 use Rattle.share_invariant.proofs.Compared as compared
 use Rattle.pair_invariant.proofs.ShareCalls as calls
 use Rattle.pair_invariant.proofs.ShareSteps.{shares_same}
-use Rattle.flight.specs.Made.{turned, MayStep, core_after, cores_after, core_at, IsMadeStep, IsMade}
+use Rattle.flight.specs.Made.{turned, MayStep, core_after, cores_after, stepping_core, IsMadeStep, IsMade}
 use Rattle.flight.specs.Theorems.{found_by}
 use Rattle.flight_laws.specs.Time.{LeadsTo, Owes, state_of_decision}
 use Rattle.flight.proofs.Made.{made_stands, finds}
@@ -294,7 +294,7 @@ module _ (now before : State) (c : ℕ) (a : ActiveCall) where
   loads_again p (reply.Ok v) owes true = λ budgets f n. owes v refl f n
   loads_again p r owes true = λ budgets f n. still (reply_of (refusal_of r)) (refused (refusal_of r)) now c a.call f n
 
-module _ (setup : Setting) (setting : IsSetting setup) (cores : ℕ → Core) (t : Trace) (stands : Stands setup cores t) (c : ℕ)
+module _ (setup : Setting) (setting : IsSetting setup) (cores : ℕ → Core) (t : Trace) (stands : Invariant setup cores t) (c : ℕ)
     (here : c < setup.cores) (before : State) (a : ActiveCall) (active : (cores c).active ≡ Some a) where
   abbrev s : State
   s = state_after setup t
@@ -409,7 +409,7 @@ abbrev told_to : Setting → Trace → Own → Option ActiveCall → ℕ
 told_to setup t own o = told_of (move_of (record { own = own; active = o })) (found_by setup t (record { own = own; active = o }))
 
 -- The core's call, wherever it stands.
-call_owes : (setup : Setting) → IsSetting setup → (cores : ℕ → Core) (t : Trace) → Stands setup cores t → (c : ℕ) → c < setup.cores
+call_owes : (setup : Setting) → IsSetting setup → (cores : ℕ → Core) (t : Trace) → Invariant setup cores t → (c : ℕ) → c < setup.cores
     → (before : State) → IsSome (cores c).active → OwesIn before c (cores c).active
     → OwesIn (if is_some (decided_in (told_in (cores c).own (cores c).active (told_to setup t (cores c).own (cores c).active)))
     then state_after setup t else before) c
@@ -454,14 +454,14 @@ module _ (setup : Setting) (setting : IsSetting setup) (t : Trace) (e : Step) (m
   on : OwesIn (state_of_decision setup (e ∷ t) e.core) e.core (cores_after setup (e ∷ t) e.core).active
   on =
       subst (λ (core : Core). OwesIn (state_of_decision setup (e ∷ t) e.core) e.core core.active)
-      (sym (put_same cores e.core (core_after (core_at setup t e) e.found) e.core refl))
+      (sym (put_same cores e.core (core_after (stepping_core setup t e) e.found) e.core refl))
       (subst (λ b. OwesIn (if b && is_some e.decides then state_before setup t e else before) e.core
-      (core_after (core_at setup t e) e.found).active) (sym (eq-eqb e.core e.core refl))
+      (core_after (stepping_core setup t e) e.found).active) (sym (eq-eqb e.core e.core refl))
       (subst (λ (o : Option Reply). OwesIn (if is_some o then state_before setup t e else before) e.core
-      (core_after (core_at setup t e) e.found).active) (sym (ap (λ (x : Step). x.decides) step.made))
-      (subst (λ (n : ℕ). OwesIn (if is_some (decided_in (told_in (core_at setup t e).own (core_at setup t e).active
-      (told_of (move_of (core_at setup t e)) n))) then state_before setup t e else before) e.core
-      (core_after (core_at setup t e) n).active) (sym (finds setup t e step)) (own_owes e.enters step.may))))
+      (core_after (stepping_core setup t e) e.found).active) (sym (ap (λ (x : Step). x.decides) step.made))
+      (subst (λ (n : ℕ). OwesIn (if is_some (decided_in (told_in (stepping_core setup t e).own (stepping_core setup t e).active
+      (told_of (move_of (stepping_core setup t e)) n))) then state_before setup t e else before) e.core
+      (core_after (stepping_core setup t e) n).active) (sym (finds setup t e step)) (own_owes e.enters step.may))))
 
 -- After each trace that is the machine's the heads owe what they show besides the budgets.
 pub made_owes : (setup : Setting) → IsSetting setup → (t : Trace) → IsMade setup t → (c : ℕ)
@@ -473,7 +473,7 @@ made_owes setup setting (e ∷ t) made c = elim (cases_eq c e.core) [
       (on setup setting t e made.0 made.1 (made_owes setup setting t made.0 e.core))
   | inr other ↦
       subst (λ (core : Core). OwesIn (state_of_decision setup (e ∷ t) c) c core.active)
-      (sym (put_other (cores_after setup t) e.core (core_after (core_at setup t e) e.found) c other))
+      (sym (put_other (cores_after setup t) e.core (core_after (stepping_core setup t e) e.found) c other))
       (subst (λ b. OwesIn (if b && is_some e.decides then state_before setup t e else state_of_decision setup t c) c
       (cores_after setup t c).active) (sym (ne_eqb c e.core other)) (made_owes setup setting t made.0 c))
 ]

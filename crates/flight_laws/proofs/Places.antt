@@ -91,7 +91,7 @@ use Rattle.core_invariant.specs.Knows.{IsSpot, LooksUp, own_in, LooksFor, KnowsC
 use Rattle.core_invariant.specs.Components.{HasLoadedBelow}
 use Rattle.core_invariant.specs.Shares.{HasTcap, KnowsPairAt}
 use Rattle.core_invariant.specs.Threads.{HasThread, KnowsSwitchAt, claimed_by}
-use Rattle.core_invariant.specs.Stands.{Stands}
+use Rattle.core_invariant.specs.Invariant.{Invariant}
 use Rattle.kept_words.proofs.Claimed.{guarded_thread}
 use Rattle.core_invariant.proofs.Sounds.{limits_of}
 use Rattle.lent_words.proofs.Tcaps.{tcap_stays}
@@ -100,7 +100,7 @@ use Rattle.step_ways.proofs.Places.{IsMarked, IsPlain, place_reads}
 use Rattle.look_invariant.proofs.Lookups.{leaf_reached}
 use Rattle.place_invariant.proofs.Removals.{holds_place}
 use Rattle.flight_laws.specs.Frames.{IsLooked, is_held}
-use Rattle.flight.specs.Made.{turned, MayStep, core_after, cores_after, core_at, IsMadeStep, IsMade}
+use Rattle.flight.specs.Made.{turned, MayStep, core_after, cores_after, stepping_core, IsMadeStep, IsMade}
 use Rattle.flight_laws.specs.Places.{MayUse, PlacesFound, ShowsPassed, ScannedCores}
 use Rattle.flight.proofs.Made.{made_stands, made_times}
 use Rattle.flight.proofs.Spelling.{moves_are_words}
@@ -141,7 +141,7 @@ IsNoEntry setup t c f =
 
 -- An undecided call relies on the node of the entry on which it steps next, unless it stores there an entry of a node that it makes, looks
 -- at the object of a frame that it makes untyped, or the word is of no node.
-module _ (setup : Setting) (setting : IsSetting setup) (t : Trace) (cores : ℕ → Core) (stands : Stands setup cores t)
+module _ (setup : Setting) (setting : IsSetting setup) (t : Trace) (cores : ℕ → Core) (stands : Invariant setup cores t)
     (c : ℕ) (call : Call) (is_open : phase t c ≡ Open call) (f i : ℕ) where
   abbrev Rests : Type 0
   Rests = Relies (state_after setup t) c f ⊎ IsNoEntry setup t c f
@@ -389,9 +389,9 @@ going_told (told_as.Returned q) d r = absurd (cc)
 
 module _ (setup : Setting) (setting : IsSetting setup) where
   goes_on_told : (t : Trace) (e : Step) → IsMadeStep setup t e → e.decides ≡ None → e.returns ≡ None
-      → told_of_step (core_at setup t e) (told_of (move_of (core_at setup t e)) e.found) ≡ told_as.Going
+      → told_of_step (stepping_core setup t e) (told_of (move_of (stepping_core setup t e)) e.found) ≡ told_as.Going
   goes_on_told t e made no_decision no_return =
-      going_told (told_of_step (core_at setup t e) (told_of (move_of (core_at setup t e)) e.found))
+      going_told (told_of_step (stepping_core setup t e) (told_of (move_of (stepping_core setup t e)) e.found))
       (sym (ap (λ (x : Step). x.decides) made.made) ∙ no_decision) (sym (ap (λ (x : Step). x.returns) made.made) ∙ no_return)
 
   -- what a call may use, it may use after a step through which it stays
@@ -415,13 +415,13 @@ module _ (setup : Setting) (setting : IsSetting setup) where
   pub swept_other : (t : Trace) (e : Step) (c f : ℕ) → c ≢ e.core → IsSwept (cores_after setup t c).active f
       → IsSwept (cores_after setup (e ∷ t) c).active f
   swept_other t e c f other has = subst (λ k. IsSwept k.active f)
-      (sym (put_other (cores_after setup t) e.core (core_after (core_at setup t e) e.found) c other)) has
+      (sym (put_other (cores_after setup t) e.core (core_after (stepping_core setup t e) e.found) c other)) has
 
   pub swept_own : (t : Trace) (e : Step) → IsMadeStep setup t e → e.enters ≡ None → e.decides ≡ None → e.returns ≡ None → (f : ℕ)
       → IsSwept (cores_after setup t e.core).active f → IsSwept (cores_after setup (e ∷ t) e.core).active f
   swept_own t e made no_entry no_decision no_return f has = subst (λ k. IsSwept k.active f)
-      (sym (put_same (cores_after setup t) e.core (core_after (core_at setup t e) e.found) e.core refl))
-      (swept_on (core_at setup t e) f (told_of (move_of (core_at setup t e)) e.found)
+      (sym (put_same (cores_after setup t) e.core (core_after (stepping_core setup t e) e.found) e.core refl))
+      (swept_on (stepping_core setup t e) f (told_of (move_of (stepping_core setup t e)) e.found)
       (subst (λ o. IsSwept (turned o (cores_after setup t e.core)).active f) (sym no_entry) has)
       (goes_on_told t e made no_decision no_return))
 
@@ -430,7 +430,7 @@ module _ (setup : Setting) (setting : IsSetting setup) where
       → IsBeside (state_after setup t) c f → IsBeside (state_after setup (e ∷ t)) c f
   beside_other t e made c f call other is has = by has
     where
-      before : Stands setup (cores_after setup t) t
+      before : Invariant setup (cores_after setup t) t
       before = made_stands setup setting t made.0
 
       follows : MayFollow setup t e
@@ -488,10 +488,10 @@ module _ (setup : Setting) (setting : IsSetting setup) where
 
   -- a step within a call is made by the call of its core
   module _ (t : Trace) (e : Step) (made : IsMade setup (e ∷ t)) where
-    stands : Stands setup (cores_after setup t) t
+    stands : Invariant setup (cores_after setup t) t
     stands = made_stands setup setting t made.0
 
-    move_is : e.move ≡ move_of (core_at setup t e)
+    move_is : e.move ≡ move_of (stepping_core setup t e)
     move_is = ap (λ (x : Step). x.move) made.1.made
 
     -- a call that begins steps on no entry
@@ -524,7 +524,7 @@ module _ (setup : Setting) (setting : IsSetting setup) where
         through = stays_plain setup t e e.core no_entry no_decision no_return
 
         after_is : (cores_after setup (e ∷ t) e.core).active ≡ (absorbed_in core.own core.active w).active
-        after_is = ap (λ (k : Core). k.active) (put_same (cores_after setup t) e.core (core_after (core_at setup t e) e.found) e.core refl)
+        after_is = ap (λ (k : Core). k.active) (put_same (cores_after setup t) e.core (core_after (stepping_core setup t e) e.found) e.core refl)
             ∙ ap (λ o. (absorbed (turned o core) (told_of (move_of (turned o core)) e.found)).active) no_entry
             ∙ ap (λ (n : ℕ). (absorbed core n).active) (told_read (move_of core) reads_it e.found ∙ read.found)
 
@@ -611,7 +611,7 @@ module _ (setup : Setting) (setting : IsSetting setup) where
 pub places_found : PlacesFound
 places_found setup setting t made c call is f i w k own held node = by (lasts_along setup setting t made c call is f i w k own held)
   where
-    stands : Stands setup (cores_after setup t) t
+    stands : Invariant setup (cores_after setup t) t
     stands = made_stands setup setting t made
 
     below : c < (state_after setup t).limits.cores
@@ -638,7 +638,7 @@ module _ (setup : Setting) (setting : IsSetting setup) where
   passes_on : (t : Trace) (e : Step) → IsMade setup (e ∷ t) → (x : Thing) (at d : ℕ) → HasPassed setup t x at d
       → HasPassed setup (e ∷ t) x at d
   passes_on t e made x at d has =
-      let stands : Stands setup (cores_after setup t) t = made_stands setup setting t made.0 in
+      let stands : Invariant setup (cores_after setup t) t = made_stands setup setting t made.0 in
       let follows : MayFollow setup t e = (made_stands setup setting (e ∷ t) made).legal.1 in
       let time : KeepsTime setup t e = made_times setup setting t e made in
       record {
@@ -651,7 +651,7 @@ module _ (setup : Setting) (setting : IsSetting setup) where
       → core_of_word e.found ≡ Some v → (at : ℕ) → ShowsPassed v at → (x : Thing) → Passed setup t x at d
   passes t e made d v on shows at passed x = by_word passed
     where
-      stands : Stands setup (cores_after setup t) t
+      stands : Invariant setup (cores_after setup t) t
       stands = made_stands setup setting t made.0
 
       says : v ≡ record { inside = ((state_after setup t).core d).inside; stamp = exit_of t d }

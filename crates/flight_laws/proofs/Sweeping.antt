@@ -57,7 +57,7 @@ use Rattle.call_stages.specs.declared.stages.Stage.{Stage}
 use Rattle.call_stages.specs.declared.stages.Stage.TheVariants.{Enter, Undecided, Decided, Leave}
 use Rattle.core_invariant.specs.Frozen.{holds_untyping}
 use Rattle.core_invariant.specs.Holding.{Holding, holds_counts, settled, settled_by}
-use Rattle.core_invariant.specs.Stands.{Stands, held_by, holds_act, holds_at, holds_in}
+use Rattle.core_invariant.specs.Invariant.{Invariant, held_by, holds_act, holds_at, holds_in}
 use Rattle.core_invariant.specs.Knows.{CallIs, KnowsAt, phase_at, untypes}
 use Rattle.core_invariant.specs.Sweeps.{KnowsSweep, KnowsUntypingAt, UntypesBy}
 use Rattle.core_invariant.proofs.Freezing.{release_frame}
@@ -317,7 +317,7 @@ holds_stage_word a m (Undecided (Act act)) is word shown =
     × ((holds_act x (holds_counts None a.counts)).stands (FrameAt m.frame) ≡ word)) (sym (act_is act m is))
     (holds_word m.frame m.at word shown (holds_counts None a.counts))
 
-pub swept_no_node : (setup : Setting) (cores : ℕ → Core) (t : Trace) → Stands setup cores t → (c f : ℕ) → IsSwept (cores c).active f
+pub swept_no_node : (setup : Setting) (cores : ℕ → Core) (t : Trace) → Invariant setup cores t → (c f : ℕ) → IsSwept (cores c).active f
     → is_node ((state_after setup t).frame f) ≡ false
 swept_no_node setup cores t stands c f has = by (cores c).active refl has
   where

@@ -12,7 +12,7 @@ use Rattle.kernel_history.specs.Marking.{marked_by}
 use Rattle.kernel_history.specs.Marks.{thread_mark}
 use Rattle.kernel_history.specs.Trace.{Trace, state_after, last_left}
 use Rattle.call_stages.specs.View.{Core}
-use Rattle.core_invariant.specs.Stands.{holds, Stands}
+use Rattle.core_invariant.specs.Invariant.{holds, Invariant}
 use Rattle.lent_words.proofs.Lent.{runs_on_own}
 use Rattle.core_invariant.proofs.Markers.{marker_inside}
 use Rattle.core_invariant.proofs.Sounds.{limits_of}
@@ -28,12 +28,12 @@ use Rattle.flight.proofs.Made.{made_stands}
 
 pub threads_apart : ThreadsRunApart
 threads_apart setup setting t made c d c_below d_below same =
-    let stands : Stands setup (cores_after setup t) t = made_stands setup setting t made in
+    let stands : Invariant setup (cores_after setup t) t = made_stands setup setting t made in
     same_some c d (sym (runs_on_own setup setting (cores_after setup t) t stands c c_below)
     ∙ ap (λ (g : ℕ). (thread_in ((state_after setup t).frame g)).runs_on) same
     ∙ runs_on_own setup setting (cores_after setup t) t stands d d_below)
 
-module _ (setup : Setting) (setting : IsSetting setup) (cores : ℕ → Core) (t : Trace) (stands : Stands setup cores t) (f : ℕ)
+module _ (setup : Setting) (setting : IsSetting setup) (cores : ℕ → Core) (t : Trace) (stands : Invariant setup cores t) (f : ℕ)
     (thread : IsTrue (fits kind.Thread ((state_after setup t).frame f))) where
   abbrev s : State
   s = state_after setup t

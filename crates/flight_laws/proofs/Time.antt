@@ -14,7 +14,7 @@ use Rattle.kernel_history.specs.Stamps.{stamp}
 use Rattle.kernel_history.specs.Trace.{Trace, state_after, last_left, Step, Open, phase, after_enter, state_before}
 use Rattle.kernel_history.proofs.Events.{state_is, run_of}
 use Rattle.core_invariant.specs.Holding.{settled_by, settled}
-use Rattle.core_invariant.specs.Stands.{held_by, Stands}
+use Rattle.core_invariant.specs.Invariant.{held_by, Invariant}
 use Rattle.core_invariant.specs.Words.{HeadIs, IsFrameWord, count_room}
 use Rattle.flight.specs.Made.{IsMade, cores_after}
 use Rattle.flight_laws.specs.Time.{TimeIsKept, TicksAreCounted, HeadsSay, ListsSay, TellsOf, TestsTell}
@@ -46,7 +46,7 @@ ticks_counted setup setting t made c =
 pub heads_say : HeadsSay
 heads_say setup setting t made f q is unmarked = record { version = says.version; says = says.says }
   where
-    stands : Stands setup (cores_after setup t) t
+    stands : Invariant setup (cores_after setup t) t
     stands = made_stands setup setting t made
 
     says : HeadIs q (count_room (state_after setup t)) (head_of_word (last_left setup t (EntryAt f 0)))

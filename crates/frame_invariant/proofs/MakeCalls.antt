@@ -47,7 +47,7 @@ use Rattle.step_ways.proofs.Loads.{is_active, call_is}
 use Rattle.core_invariant.proofs.Sounds.{limits_of}
 use Rattle.core_invariant.specs.Holding.{holds_counts, settled_by, settled, keeps}
 use Rattle.core_invariant.specs.Knows.{AreDuesApart, phase_at, KnowsUndecided, KnowsMaking, MakesBy, blank_word}
-use Rattle.core_invariant.specs.Stands.{holds_in, Stands, holds, held_by}
+use Rattle.core_invariant.specs.Invariant.{holds_in, Invariant, holds, held_by}
 use Rattle.count_invariant.proofs.Acquiring.{plan_leads, goes_by}
 use Rattle.place_invariant.proofs.ObjectMakes.{new_object, readied, make_rest, IsObjectMake, object_make, HasObjects, dues_apart}
 use Rattle.place_invariant.proofs.Outside.{none_left_of}
@@ -90,7 +90,7 @@ makes_on (make_call what r f u b) (range ∷ ks) m at is = record { frame = is.f
 makes_on (make_call what r f u b) [] m at is = absurd is
 makes_on call ks m at is = absurd is
 
-module _ (setup : Setting) (setting : IsSetting setup) (cores : ℕ → Core) (t : Trace) (stands : Stands setup cores t) (c : ℕ)
+module _ (setup : Setting) (setting : IsSetting setup) (cores : ℕ → Core) (t : Trace) (stands : Invariant setup cores t) (c : ℕ)
     (here : c < setup.cores)
     (a : ActiveCall) (active : (cores c).active ≡ Some a) (m : Making) (stage_is : a.stage ≡ Undecided (Act (make_act m)))
     (has : KnowsUndecided setup t c (cores c).own.table a (Act (make_act m))) where

@@ -71,12 +71,12 @@ use Rattle.call_stages.specs.declared.stages.Stage.TheVariants.{Undecided, Decid
 use Rattle.kept_knowledge.proofs.Carries.{names_on, counts_on, spot_on}
 use Rattle.step_ways.proofs.Counting as counting
 use Rattle.step_ways.proofs.Good.{spares_blank, spares_other, blank_is}
-use Rattle.step_ways.proofs.Loads.{decides_on, step_to, OnlyLooks, next_at, loads_on, IsOfCall, core_at, inner, call_is, core_is}
+use Rattle.step_ways.proofs.Loads.{decides_on, step_to, OnlyLooks, next_at, loads_on, IsOfCall, core_in_call, inner, call_is, core_is}
 use Rattle.step_ways.proofs.Refusals.{GoodTook, ticks_at, refuses_busy, refuses_raced, raced_leaving, not_spent}
 use Rattle.step_ways.proofs.Writes.{stores_on}
 use Rattle.core_invariant.specs.Holding.{holds_counts, Holding, settled_by, settled, keeps}
 use Rattle.core_invariant.specs.Knows.{phase_at, due_of, KnowsUndecided, KnowsMaking, MakesBy, KnowsMakingAt, KnowsUnmark, blank_word, HasStored, HasBlank}
-use Rattle.core_invariant.specs.Stands.{holds_at, holds_in, Stands, done_by, holds, held_by, holds_making}
+use Rattle.core_invariant.specs.Invariant.{holds_at, holds_in, Invariant, done_by, holds, held_by, holds_making}
 use Rattle.core_invariant.specs.Words.{IsFrameWord, count_room}
 use Rattle.look_invariant.proofs.Lookups.{near_way}
 use Rattle.count_invariant.proofs.Acquiring.{knows_next, next_holds}
@@ -150,7 +150,7 @@ not_kernel_by (Kernel object) k is other = absurd (other (sym is))
 pub marked_fits : (c : ℕ) → c < 8 → FrameFits (marked c)
 marked_fits c small = (small, omega arith)
 
-module _ (setup : Setting) (setting : IsSetting setup) (cores : ℕ → Core) (t : Trace) (stands : Stands setup cores t) (c : ℕ)
+module _ (setup : Setting) (setting : IsSetting setup) (cores : ℕ → Core) (t : Trace) (stands : Invariant setup cores t) (c : ℕ)
     (here : c < setup.cores)
     (a : ActiveCall) (active : (cores c).active ≡ Some a) (m : Making) (stage_is : a.stage ≡ Undecided (Act (make_act m)))
     (has : KnowsUndecided setup t c (cores c).own.table a (Act (make_act m))) where
@@ -359,7 +359,7 @@ module _ (setup : Setting) (setting : IsSetting setup) (cores : ℕ → Core) (t
     next = next_at a a.found (Undecided (next_work m.core 0 act))
 
     abbrev after : Core
-    after = core_at (cores c) (cores c).own.made next
+    after = core_in_call (cores c) (cores c).own.made next
 
     met : HasBlank t c f word
     met = knows_at (Mark word) at_is
@@ -575,7 +575,7 @@ no_frame fate [] f = refl
 no_frame fate (x ∷ xs) f = no_frame fate xs f
 
 -- The store that gives the frame's word back.
-module _ (setup : Setting) (setting : IsSetting setup) (cores : ℕ → Core) (t : Trace) (stands : Stands setup cores t) (c : ℕ)
+module _ (setup : Setting) (setting : IsSetting setup) (cores : ℕ → Core) (t : Trace) (stands : Invariant setup cores t) (c : ℕ)
     (here : c < setup.cores)
     (a : ActiveCall) (active : (cores c).active ≡ Some a) (r : Reply) (drawn : Option ℕ) (f word : ℕ)
     (stage_is : a.stage ≡ Decided r drawn (Unmark f word)) (has : KnowsUnmark a.call f word) where
@@ -603,7 +603,7 @@ module _ (setup : Setting) (setting : IsSetting setup) (cores : ℕ → Core) (t
   unmark_good lands =
       let next : ActiveCall = went_with a a.counts (Decided r drawn Nothing) in
       let e : Step = inner setup setting cores t stands c here a active give_back None None in
-      let after : Core = core_at (cores c) (cores c).own.made next in
+      let after : Core = core_in_call (cores c) (cores c).own.made next in
       counting.holds_on setup setting cores t stands c here a active give_back next (λ b. refl) (λ h. cc) refl
       (record { moves = has.changes; near = inl (argument_near (state_after setup t) c a.call f has.argument) }) lands has.small
       (λ w there. (

@@ -65,12 +65,12 @@ use Rattle.call_stages.specs.View.{Core}
 use Rattle.core_invariant.specs.Holding.{holds_counts, settled_by, settled}
 use Rattle.core_invariant.specs.Words.{IsFrameWord, WordIs, count_room}
 use Rattle.core_invariant.specs.Knows.{HasFound, own_in, due_of, TypesBy, HasMet, KnowsUndecided, WorksIn, phase_at, untypes}
-use Rattle.core_invariant.specs.Stands.{holds_at, holds_in, holds, held_by, times_of, counted_in, Stands}
-use Rattle.kept_words.proofs.Calm.{counts, calm_counted, own_works, counted_rises, room_rises, IsPlain, plain_begins, plain_stamp, plain_flush, plain_exit}
+use Rattle.core_invariant.specs.Invariant.{holds_at, holds_in, holds, held_by, times_of, counted_in, Invariant}
+use Rattle.kept_words.proofs.Calm.{counts, calm_counted, own_works, counted_rises, room_rises, IsUntimed, plain_begins, plain_stamp, plain_flush, plain_exit}
 use Rattle.kept_knowledge.proofs.Carries.{names_on, own_kept}
 use Rattle.kept_words.proofs.CountSums.{counted_refs}
 use Rattle.step_ways.proofs.Good.{spares_other}
-use Rattle.step_ways.proofs.Loads.{IsOfCall, OnlyLooks, step_to, next_at, core_at, inner, call_is, is_active, loads_on}
+use Rattle.step_ways.proofs.Loads.{IsOfCall, OnlyLooks, step_to, next_at, core_in_call, inner, call_is, is_active, loads_on}
 use Rattle.step_ways.proofs.Refusals.{GoodTook, ticks_at, not_spent, refuses_raced, refuses_busy, refuses_frame_kind}
 use Rattle.core_invariant.proofs.Sounds.{limits_of}
 use Rattle.kept_words.proofs.Sums.{sums_keep}
@@ -184,7 +184,7 @@ retype_near s c r f k = near_about s c (Retype r f k) f
     (one_right f (frame_at_slot s (target_of s c (rule_of s c (Retype r f k)))) (frame_argument (Retype r f k))
     (ap (λ b. b || false) (eq-eqb f f refl))))
 
-module _ (setup : Setting) (setting : IsSetting setup) (cores : ℕ → Core) (t : Trace) (stands : Stands setup cores t) (c : ℕ)
+module _ (setup : Setting) (setting : IsSetting setup) (cores : ℕ → Core) (t : Trace) (stands : Invariant setup cores t) (c : ℕ)
     (here : c < setup.cores)
     (a : ActiveCall) (active : (cores c).active ≡ Some a) (f : ℕ) (k : FrameKind) (at : TypingAt)
     (stage_is : a.stage ≡ Undecided (Act (type_act (record { frame = f; kind = k; at = at }))))
@@ -405,7 +405,7 @@ module _ (setup : Setting) (setting : IsSetting setup) (cores : ℕ → Core) (t
       made = (cores c).own.made + calls_counted (reply.Ok Nothing)
 
       abbrev after : Core
-      after = core_at (cores c) made (next_at a a.found (Decided (reply.Ok Nothing) None no_tail))
+      after = core_in_call (cores c) made (next_at a a.found (Decided (reply.Ok Nothing) None no_tail))
 
       leaves_it : left_of compare was ≡ new
       leaves_it = ap (λ b. left_if b was new) equal
@@ -470,7 +470,7 @@ module _ (setup : Setting) (setting : IsSetting setup) (cores : ℕ → Core) (t
       more_room : count_room s ≤ count_room s'
       more_room = subst (λ y. count_room s ≤ count_room y) (sym now) (room_rises s (counted s c) c (calm_counted s c))
 
-      plain : IsPlain setup t e
+      plain : IsUntimed setup t e
       plain = record {
         begins = λ x. ap (λ p. begins_then (Some (reply.Ok Nothing)) p s c x) is_open ∙ ap (λ y. begins_in y x) change_is;
         ends = λ x. ap (λ p. ends_in (Some (reply.Ok Nothing)) p x) is_open ∙ ap (λ y. ends_by y x) is.call_is ∙ typing_ends is.name f k
@@ -605,7 +605,7 @@ module _ (setup : Setting) (setting : IsSetting setup) (cores : ℕ → Core) (t
         by_test false other = lost other
 
 -- A step of a typing is good.
-pub typing_good : (setup : Setting) → IsSetting setup → (cores : ℕ → Core) (t : Trace) → Stands setup cores t → (c : ℕ) → c < setup.cores
+pub typing_good : (setup : Setting) → IsSetting setup → (cores : ℕ → Core) (t : Trace) → Invariant setup cores t → (c : ℕ) → c < setup.cores
     → (a : ActiveCall) → (cores c).active ≡ Some a → (f : ℕ) (k : FrameKind) (at : TypingAt)
     → a.stage ≡ Undecided (Act (type_act (record { frame = f; kind = k; at = at })))
     → KnowsUndecided setup t c (cores c).own.table a (Act (type_act (record { frame = f; kind = k; at = at })))

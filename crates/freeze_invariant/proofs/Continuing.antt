@@ -36,7 +36,7 @@ use Rattle.step_ways.proofs.Loads.{next_at}
 use Rattle.core_invariant.specs.Frozen.{holds_release}
 use Rattle.core_invariant.specs.Holding.{Holding}
 use Rattle.core_invariant.specs.Knows.{AreDuesApart, due_of, KnowsWork}
-use Rattle.core_invariant.specs.Stands.{holds_work}
+use Rattle.core_invariant.specs.Invariant.{holds_work}
 use Rattle.core_invariant.specs.Sweeps.{AreKept, IsLookedAt, IsSwept, KnowsSwept, KnowsUntyping, SaysTyped, UntypesBy, names_of}
 use Rattle.count_invariant.proofs.Acquiring.{knows_next, next_holds}
 use Rattle.freeze_invariant.proofs.Counters.{sweeping, untyping_by}

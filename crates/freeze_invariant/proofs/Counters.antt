@@ -57,14 +57,14 @@ use Rattle.call_stages.specs.View.{Core}
 use Rattle.core_invariant.specs.Frozen.{holds_release, holds_thaw, is_frozen}
 use Rattle.core_invariant.specs.Holding.{Holding, holds_counts, settled_by, settled}
 use Rattle.core_invariant.specs.Knows.{due_of, KnowsTail, KnowsUndecided}
-use Rattle.core_invariant.specs.Stands.{holds, holds_in, holds_tail, held_by, Stands}
+use Rattle.core_invariant.specs.Invariant.{holds, holds_in, holds_tail, held_by, Invariant}
 use Rattle.core_invariant.specs.Sweeps.{AreFrozen, AreKept, HasReadCount, KnowsRelease, KnowsSweep, KnowsUntyping, SaysTyped, ThawsFrame}
 use Rattle.core_invariant.specs.Words.{SaysCount, count_room}
 use Rattle.core_invariant.proofs.Bare.{as_none, counts_bare}
 use Rattle.kept_knowledge.proofs.Carries.{names_on, counts_on}
 use Rattle.core_invariant.proofs.Freezing.{SameAt, IsFrozenWord, frozen_word, thaw_all, thaw_from, thaws_own, release_bare}
 use Rattle.kept_knowledge.proofs.Swept.{HoldsSwept, release_swept, frame_says, no_refs, stamp_is}
-use Rattle.step_ways.proofs.Loads.{IsOfCall, OnlyLooks, step_to, next_at, core_at, inner, call_is, loads_on}
+use Rattle.step_ways.proofs.Loads.{IsOfCall, OnlyLooks, step_to, next_at, core_in_call, inner, call_is, loads_on}
 use Rattle.step_ways.proofs.Refusals.{GoodTook, ticks_at, raced_leaving, busy_leaving}
 use Rattle.freeze_invariant.proofs.UntypeCalls as calls
 use Rattle.freeze_invariant.proofs.UntypeCalls.{IsUntype, untypes_on}
@@ -104,7 +104,7 @@ abbrev pub untyping_by : ℕ → ℕ → ℕ → Sweep → Untyping
 untyping_by f core word w = record { frame = f; core = core; at = sweep_at word w }
 
 -- What a call has of its sweep, wherever this stands.
-module _ (setup : Setting) (setting : IsSetting setup) (cores : ℕ → Core) (t : Trace) (stands : Stands setup cores t) (c : ℕ)
+module _ (setup : Setting) (setting : IsSetting setup) (cores : ℕ → Core) (t : Trace) (stands : Invariant setup cores t) (c : ℕ)
     (here : c < setup.cores)
     (a : ActiveCall) (active : (cores c).active ≡ Some a) (f core word : ℕ) (w : Sweep)
     (stage_is : a.stage ≡ Undecided (Act (untype_act (untyping_by f core word w))))
@@ -178,7 +178,7 @@ module _ (setup : Setting) (setting : IsSetting setup) (cores : ℕ → Core) (t
   sweep_since all = stamp_is setup cores t stands c f word w.kept (holds (cores c)) sweep_settles sweep_holds sweep_knows.kept all
 
 -- The load of a counter.
-module _ (setup : Setting) (setting : IsSetting setup) (cores : ℕ → Core) (t : Trace) (stands : Stands setup cores t) (c : ℕ)
+module _ (setup : Setting) (setting : IsSetting setup) (cores : ℕ → Core) (t : Trace) (stands : Invariant setup cores t) (c : ℕ)
     (here : c < setup.cores)
     (a : ActiveCall) (active : (cores c).active ≡ Some a) (f core word g : ℕ) (v : FrameWord) (b : ℕ) (kept : List CountWord) (o : Owned)
     (stage_is : a.stage ≡ Undecided (Act (untype_act (untyping_by f core word (sweeping g v b kept o sweep_load)))))

@@ -38,7 +38,7 @@ use Rattle.call_stages.specs.View.{Core}
 use Rattle.core_invariant.specs.Frozen.{holds_release}
 use Rattle.core_invariant.specs.Holding.{Holding}
 use Rattle.core_invariant.specs.Knows.{due_of, KnowsWork}
-use Rattle.core_invariant.specs.Stands.{holds_work, Stands}
+use Rattle.core_invariant.specs.Invariant.{holds_work, Invariant}
 use Rattle.core_invariant.specs.Sweeps.{AreFrozen, AreKept, IsQuiet, IsScanning, KnowsSweepScan, SaysTyped, UntypesBy}
 use Rattle.scan_invariant.proofs.Scans.{ScanBegins, AtCores, AtFlushes, scan_begins, scan_none}
 use Rattle.freeze_invariant.proofs.Continuing as going
@@ -58,7 +58,7 @@ cached_is (Kernel (Comp k)) = refl
 cached_is (Kernel (Thread k)) = refl
 cached_is (Kernel (Tcap q)) = refl
 
-module _ (setup : Setting) (setting : IsSetting setup) (cores : ℕ → Core) (t : Trace) (stands : Stands setup cores t) (c f x : ℕ)
+module _ (setup : Setting) (setting : IsSetting setup) (cores : ℕ → Core) (t : Trace) (stands : Invariant setup cores t) (c f x : ℕ)
     (since : stamp setup t (FrameOf f) ≡ x) where
   pub quiet_past : x < clock setup t
   quiet_past = let past = (stands.graces (FrameOf f)).past in let same = since in omega (arith, past, same)

@@ -59,7 +59,7 @@ use Rattle.core_invariant.specs.CountWords.{stamp_in, newest_of}
 use Rattle.core_invariant.specs.Frozen.{holds_release, holds_thaw, is_frozen, thawed}
 use Rattle.core_invariant.specs.Holding.{Holding, holds_counts, settled_by, settled, keeps}
 use Rattle.core_invariant.specs.Knows.{due_of, KnowsUndecided}
-use Rattle.core_invariant.specs.Stands.{holds, holds_in, held_by, count_shown, Stands}
+use Rattle.core_invariant.specs.Invariant.{holds, holds_in, held_by, count_shown, Invariant}
 use Rattle.core_invariant.specs.Sweeps.{AreFrozen, AreKept, HasReadCount, IsQuiet, KnowsSweep, UntypesBy}
 use Rattle.core_invariant.proofs.Bare.{as_none, counts_bare}
 use Rattle.kept_knowledge.proofs.Carries.{names_on, counts_on, quiet_frame_on}
@@ -67,7 +67,7 @@ use Rattle.step_ways.proofs.Counting as counting
 use Rattle.core_invariant.proofs.Freezing.{SameAt, IsFrozenWord, frozen_word, thaw_here}
 use Rattle.step_ways.proofs.Good.{spares_other}
 use Rattle.lent_words.proofs.Lent.{lent_elsewhere}
-use Rattle.step_ways.proofs.Loads.{IsOfCall, next_at, core_at, inner, call_is}
+use Rattle.step_ways.proofs.Loads.{IsOfCall, next_at, core_in_call, inner, call_is}
 use Rattle.step_ways.proofs.Refusals.{GoodTook, ticks_at, raced_leaving}
 use Rattle.freeze_invariant.proofs.Counters.{sweeping, untyping_by, sweep_is, sweep_knows, sweep_held, sweep_counts, sweep_frame, undo_with, undo_known, near_counter}
 use Rattle.freeze_invariant.proofs.FrameQuiet as quieting
@@ -91,7 +91,7 @@ none_more s = refl
 sum_is : (x : ℤ) (n : ℕ) → x +ℤ pos 0 ≡ pos n → pos 0 +ℤ x ≡ pos n
 sum_is x n h = omega (arith, ints)
 
-module _ (setup : Setting) (setting : IsSetting setup) (cores : ℕ → Core) (t : Trace) (stands : Stands setup cores t) (c : ℕ)
+module _ (setup : Setting) (setting : IsSetting setup) (cores : ℕ → Core) (t : Trace) (stands : Invariant setup cores t) (c : ℕ)
     (here : c < setup.cores)
     (a : ActiveCall) (active : (cores c).active ≡ Some a) (f core word g : ℕ) (v : FrameWord) (b : ℕ) (o : Owned) (count : ℤ) (stamp_found : ℕ)
     (stage_is : a.stage ≡ Undecided (Act (untype_act (untyping_by f core word (sweeping g v b [] o (Compare count stamp_found))))))
@@ -338,7 +338,7 @@ module _ (setup : Setting) (setting : IsSetting setup) (cores : ℕ → Core) (t
       now_fits = calls.fits setup setting cores t stands c here a active m stage_is has
 
       won_by : (ws : WorkStep) (work : Work) → ws ≡ Goes work
-          → ((h : Holding) → Rattle.core_invariant.specs.Stands.holds_work work h ≡ holds_release (release_of f word
+          → ((h : Holding) → Rattle.core_invariant.specs.Invariant.holds_work work h ≡ holds_release (release_of f word
           (swept_of (sweeping g v b (u ∷ []) o (Compare count stamp_found))) false) h)
           → ((q : Trace) → (state_after setup q).frame f ≡ s.frame f
           → ((y upto flushes : ℕ) → IsQuiet setup t c f y upto flushes → IsQuiet setup q c f y upto flushes)
@@ -347,7 +347,7 @@ module _ (setup : Setting) (setting : IsSetting setup) (cores : ℕ → Core) (t
       won_by ws work goes holds_it knows_it = subst (λ x. GoodTook setup cores t c compare (landed a x)) (sym goes) (λ lands.
           let e : Step = inner setup setting cores t stands c here a active compare None None in
           let next_call : ActiveCall = next_at a a.found (Undecided work) in
-          let after : Core = core_at (cores c) (cores c).own.made next_call in
+          let after : Core = core_in_call (cores c) (cores c).own.made next_call in
           let is_open = calls.is_open setup setting cores t stands c here a active m stage_is has in
           let after_is : holds after ≡ held_then = holds_it (holds_counts None a.counts) in
           counting.holds_on setup setting cores t stands c here a active compare next_call (λ d. refl) (λ h. cc) refl of_call lands

@@ -44,14 +44,14 @@ use Rattle.call_stages.specs.Steps.{landed}
 use Rattle.call_stages.specs.View.{Core}
 use Rattle.core_invariant.specs.Holding.{holds_counts, settled_by, keeps}
 use Rattle.core_invariant.specs.Knows.{due_of, KnowsUndecided}
-use Rattle.core_invariant.specs.Stands.{holds, holds_in, held_by, Stands}
+use Rattle.core_invariant.specs.Invariant.{holds, holds_in, held_by, Invariant}
 use Rattle.core_invariant.specs.Sweeps.{HasMetTyped, KnowsUntyping, SaysTyped}
 use Rattle.core_invariant.proofs.Bare.{as_none, counts_bare}
 use Rattle.kept_knowledge.proofs.Carries.{names_on, counts_on}
 use Rattle.step_ways.proofs.Counting as counting
 use Rattle.step_ways.proofs.Good.{spares_other}
 use Rattle.lent_words.proofs.Lent.{lent_elsewhere}
-use Rattle.step_ways.proofs.Loads.{IsOfCall, step_to, next_at, core_at, inner, call_is, loads_on}
+use Rattle.step_ways.proofs.Loads.{IsOfCall, step_to, next_at, core_in_call, inner, call_is, loads_on}
 use Rattle.step_ways.proofs.Refusals.{GoodTook, ticks_at, refuses_raced, refuses_busy, refuses_frame_kind}
 use Rattle.freeze_invariant.proofs.UntypeCalls as calls
 use Rattle.freeze_invariant.proofs.UntypeCalls.{untypes_on}
@@ -70,7 +70,7 @@ untyped_by Untyped is = refl
 untyped_by User is = absurd (cc)
 untyped_by (Kernel object) is = absurd (cc)
 
-module _ (setup : Setting) (setting : IsSetting setup) (cores : ℕ → Core) (t : Trace) (stands : Stands setup cores t) (c : ℕ)
+module _ (setup : Setting) (setting : IsSetting setup) (cores : ℕ → Core) (t : Trace) (stands : Invariant setup cores t) (c : ℕ)
     (here : c < setup.cores)
     (a : ActiveCall) (active : (cores c).active ≡ Some a) (m : Untyping) (stage_is : a.stage ≡ Undecided (Act (untype_act m)))
     (has : KnowsUndecided setup t c (cores c).own.table a (Act (untype_act m))) where
@@ -190,7 +190,7 @@ module _ (setup : Setting) (setting : IsSetting setup) (cores : ℕ → Core) (t
     next = next_at a a.found (Undecided (Act (untype_act next_m)))
 
     abbrev after : Core
-    after = core_at (cores c) (cores c).own.made next
+    after = core_in_call (cores c) (cores c).own.made next
 
     met : HasMetTyped t c f word v
     met = calls.knows_at setup setting cores t stands c here a active m stage_is has (Mark word v) at_is

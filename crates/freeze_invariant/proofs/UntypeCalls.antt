@@ -44,7 +44,7 @@ use Rattle.call_stages.specs.View.{Core}
 use Rattle.core_invariant.specs.Frozen.{holds_untyping}
 use Rattle.core_invariant.specs.Holding.{Holding, holds_counts, settled_by}
 use Rattle.core_invariant.specs.Knows.{due_of, KnowsUndecided, KnowsUnmark, phase_at}
-use Rattle.core_invariant.specs.Stands.{holds_at, holds_in, holds, held_by, Stands}
+use Rattle.core_invariant.specs.Invariant.{holds_at, holds_in, holds, held_by, Invariant}
 use Rattle.core_invariant.specs.Sweeps.{UntypesBy, SaysTyped, KnowsUntyping, KnowsUntypingAt}
 use Rattle.step_ways.proofs.Loads.{IsOfCall, OnlyLooks, call_is, core_is, is_active}
 use Rattle.step_ways.proofs.Refusals.{not_spent}
@@ -105,7 +105,7 @@ typed_is Untyped v same other = absurd (other (ap (λ y. y.kind) same))
 typed_is User v same other = refl
 typed_is (Kernel object) v same other = refl
 
-module _ (setup : Setting) (setting : IsSetting setup) (cores : ℕ → Core) (t : Trace) (stands : Stands setup cores t) (c : ℕ)
+module _ (setup : Setting) (setting : IsSetting setup) (cores : ℕ → Core) (t : Trace) (stands : Invariant setup cores t) (c : ℕ)
     (here : c < setup.cores)
     (a : ActiveCall) (active : (cores c).active ≡ Some a) (m : Untyping) (stage_is : a.stage ≡ Undecided (Act (untype_act m)))
     (has : KnowsUndecided setup t c (cores c).own.table a (Act (untype_act m))) where

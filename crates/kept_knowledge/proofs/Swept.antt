@@ -35,7 +35,7 @@ use Rattle.call_stages.specs.View.{Core}
 use Rattle.core_invariant.specs.CountWords.{stamp_in, newest_of}
 use Rattle.core_invariant.specs.Frozen.{holds_release}
 use Rattle.core_invariant.specs.Holding.{Holding, settled}
-use Rattle.core_invariant.specs.Stands.{Stands, held_by, count_shown}
+use Rattle.core_invariant.specs.Invariant.{Invariant, held_by, count_shown}
 use Rattle.core_invariant.specs.Sweeps.{AreFrozen, AreKept, IsLookedAt, IsQuiet, SaysTyped}
 use Rattle.core_invariant.proofs.Freezing.{release_frame, thaw_all, thaw_from, thaw_here}
 
@@ -108,7 +108,7 @@ looked_on s s' f n o rests has = subst (λ x. IsLookedAt s' f x n o) (sym rests.
     by Untyped place has = tt
 
 -- The counters that a core holds of a frame.
-module _ (setup : Setting) (cores : ℕ → Core) (t : Trace) (stands : Stands setup cores t) (c f word : ℕ) (kept : List CountWord)
+module _ (setup : Setting) (cores : ℕ → Core) (t : Trace) (stands : Invariant setup cores t) (c f word : ℕ) (kept : List CountWord)
     (h : Holding) (held_settles : (w : Word) → h.marks w ≡ true → settled setup (held_by cores) t w ≡ h.stands w)
     (has : HoldsSwept h f word kept) (fits : AreKept kept) where
   -- the frame is what its word says

@@ -19,7 +19,7 @@ use Rattle.kernel_history.specs.Graces.{KeepsTime}
 use Rattle.act_states.specs.declared.own.Own.{Own}
 use Rattle.core_invariant.specs.Words.{count_room}
 use Rattle.core_invariant.specs.Knows.{WorksIn}
-use Rattle.core_invariant.specs.Stands.{times_of, counted_in}
+use Rattle.core_invariant.specs.Invariant.{times_of, counted_in}
 use Rattle.kept_words.proofs.WordFrames.{SameFor}
 
 -- A core that is or is not inside, and has counted so many calls; all else of it stays.
@@ -161,7 +161,7 @@ pub none_stored : (t : Trace) (c d : ℕ) (hit : Bool) → hit ≡ false → sto
 none_stored t c d hit not = ap (stored_by t c d) not
 
 -- A step at which no grace period begins or ends, nothing is flushed, no flush is stored, and the clock stays.
-pub record IsPlain (setup : Setting) (t : Trace) (e : Step) : Type 0 where
+pub record IsUntimed (setup : Setting) (t : Trace) (e : Step) : Type 0 where
   pub begins : (x : Thing) → begins_at setup t e x ≡ false
   pub ends : (x : Thing) → ends_at t e x ≡ false
   pub flushes : flushes_at t e ≡ false
@@ -175,7 +175,7 @@ pub record BeginsNone (setup : Setting) (t : Trace) (e : Step) : Type 0 where
   pub apart : (d : ℕ) → stored_by t e.core d (same_word (FlushAt d) (word_of e.move)) ≡ flush_stored t d
   pub same : clock setup (e ∷ t) ≡ clock setup t
 
-pub plain_begins : (setup : Setting) (t : Trace) (e : Step) → IsPlain setup t e → BeginsNone setup t e
+pub plain_begins : (setup : Setting) (t : Trace) (e : Step) → IsUntimed setup t e → BeginsNone setup t e
 plain_begins setup t e plain = record { begins = plain.begins; flushes = plain.flushes; apart = plain.apart; same = plain.same }
 
 pub none_time : (setup : Setting) (t : Trace) (e : Step) → BeginsNone setup t e → KeepsTime setup t e
@@ -185,10 +185,10 @@ none_time setup t e none = record {
   flushes = λ is. absurd (false≢true (sym none.flushes ∙ is));
 }
 
-pub plain_time : (setup : Setting) (t : Trace) (e : Step) → IsPlain setup t e → KeepsTime setup t e
+pub plain_time : (setup : Setting) (t : Trace) (e : Step) → IsUntimed setup t e → KeepsTime setup t e
 plain_time setup t e plain = none_time setup t e (plain_begins setup t e plain)
 
-pub plain_stamp : (setup : Setting) (t : Trace) (e : Step) → IsPlain setup t e → (x : Thing) → stamp setup (e ∷ t) x ≡ stamp setup t x
+pub plain_stamp : (setup : Setting) (t : Trace) (e : Step) → IsUntimed setup t e → (x : Thing) → stamp setup (e ∷ t) x ≡ stamp setup t x
 plain_stamp setup t e plain x = stamp-kept setup e t x (plain.begins x) (plain.ends x)
 
 pub none_flush : (setup : Setting) (t : Trace) (e : Step) → BeginsNone setup t e → (d : ℕ) → flush_stored (e ∷ t) d ≡ flush_stored t d
@@ -202,7 +202,7 @@ none_flush setup t e none d = elim (cases_eq d e.core) [
     by true own is = sym (ap (λ b. if b then flush_of t d else flush_stored t d) (eq-eqb d e.core own)) ∙ is
     by false own is = refl
 
-pub plain_flush : (setup : Setting) (t : Trace) (e : Step) → IsPlain setup t e → (d : ℕ) → flush_stored (e ∷ t) d ≡ flush_stored t d
+pub plain_flush : (setup : Setting) (t : Trace) (e : Step) → IsUntimed setup t e → (d : ℕ) → flush_stored (e ∷ t) d ≡ flush_stored t d
 plain_flush setup t e plain d = none_flush setup t e (plain_begins setup t e plain) d
 
 -- a core's last flush stays stored
@@ -213,7 +213,7 @@ none_flushed setup t e none d is = elim (cases_eq d e.core) [
   | inr other ↦ none_flush setup t e none d ∙ is ∙ sym (flush_of-other d e t other)
 ]
 
-pub plain_flushed : (setup : Setting) (t : Trace) (e : Step) → IsPlain setup t e → (d : ℕ) → flush_stored t d ≡ flush_of t d
+pub plain_flushed : (setup : Setting) (t : Trace) (e : Step) → IsUntimed setup t e → (d : ℕ) → flush_stored t d ≡ flush_of t d
     → flush_stored (e ∷ t) d ≡ flush_of (e ∷ t) d
 plain_flushed setup t e plain d is = none_flushed setup t e (plain_begins setup t e plain) d is
 
@@ -225,7 +225,7 @@ plain_exit t e none d = elim (cases_eq d e.core) [
 
 -- what is said of words stays: of all but the own core's word, if the places do
 pub calm_words : (setup : Setting) (t : Trace) (e : Step) → IsCalm (state_after setup t) (state_after setup (e ∷ t)) e.core
-    → IsPlain setup t e
+    → IsUntimed setup t e
     → (w : Word) → ((f i : ℕ) → w ≡ EntryAt f i → (state_after setup (e ∷ t)).place f i ≡ (state_after setup t).place f i)
     → ((d : ℕ) → w ≡ CoreAt d
     → ((((state_after setup (e ∷ t)).core d).inside ≡ ((state_after setup t).core d).inside) × (exit_of (e ∷ t) d ≡ exit_of t d)))

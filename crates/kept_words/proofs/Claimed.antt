@@ -22,7 +22,7 @@ use Rattle.thread_laws.proofs.Steps.{thread_stays, idle_stays}
 use Rattle.call_stages.specs.View.{Core}
 use Rattle.core_invariant.specs.Holding.{MarkIs, settled, settled_by}
 use Rattle.core_invariant.specs.Words.{Times, IsFrameWord, WordIs, count_room}
-use Rattle.core_invariant.specs.Stands.{holds, held_by, times_of, Stands}
+use Rattle.core_invariant.specs.Invariant.{holds, held_by, times_of, Invariant}
 use Rattle.core_invariant.specs.Threads.{HasThread}
 use Rattle.core_invariant.proofs.ThreadHolds.{IsIdleIn}
 
@@ -36,7 +36,7 @@ says_idle depth None n says = refl
 says_idle depth (Some d) n says =
     absurd (unlike depth d n (words.spelling.spells (word_of_thread (Idle depth)) (Running d n) says).1)
 
-module _ (setup : Setting) (setting : IsSetting setup) (cores : ℕ → Core) (t : Trace) (stands : Stands setup cores t) (e : Step)
+module _ (setup : Setting) (setting : IsSetting setup) (cores : ℕ → Core) (t : Trace) (stands : Invariant setup cores t) (e : Step)
     (follows : MayFollow setup t e) (c : ℕ) (other : c ≢ e.core) (inside : is_in (phase t c) ≡ true) where
   abbrev s : State
   s = state_after setup t

@@ -10,8 +10,8 @@ use Rattle.kernel_history.specs.Stamps.{stamp}
 use Rattle.kernel_history.specs.Trace.{Step, Trace, state_after}
 use Rattle.core_invariant.specs.Holding.{Holding, settled}
 use Rattle.core_invariant.specs.CountWords.{stamp_in, newest_of}
-use Rattle.core_invariant.specs.Stands.{count_shown, SumIs}
-use Rattle.kept_words.proofs.Calm.{IsCalm, IsPlain, plain_stamp}
+use Rattle.core_invariant.specs.Invariant.{count_shown, SumIs}
+use Rattle.kept_words.proofs.Calm.{IsCalm, IsUntimed, plain_stamp}
 use Rattle.kept_words.proofs.CountSums.{sum_same, newest_same, calm_refs}
 
 module _ (setup : Setting) (t : Trace) (e : Step) (held held' : ℕ → Holding)
@@ -35,14 +35,14 @@ module _ (setup : Setting) (t : Trace) (e : Step) (held held' : ℕ → Holding)
         ∙ (sums f).newest ∙ sym (since f);
   }
 
-  pub sums_keep : IsPlain setup t e → (state_after setup (e ∷ t)).limits ≡ (state_after setup t).limits
+  pub sums_keep : IsUntimed setup t e → (state_after setup (e ∷ t)).limits ≡ (state_after setup t).limits
       → ((f : ℕ) → refs (state_after setup (e ∷ t)) f ≡ refs (state_after setup t) f)
       → ((f : ℕ) → SumIs setup held t f) → (f : ℕ) → SumIs setup held' (e ∷ t) f
   sums_keep plain = sums_since (λ f. plain_stamp setup t e plain (FrameOf f))
 
 pub sums_stay : (setup : Setting) (t : Trace) (e : Step) (held held' : ℕ → Holding)
     → ((f d : ℕ) → settled setup held' (e ∷ t) (CountAt f d) ≡ settled setup held t (CountAt f d))
-    → IsCalm (state_after setup t) (state_after setup (e ∷ t)) e.core → IsPlain setup t e
+    → IsCalm (state_after setup t) (state_after setup (e ∷ t)) e.core → IsUntimed setup t e
     → ((g i : ℕ) → (state_after setup (e ∷ t)).place g i ≡ (state_after setup t).place g i)
     → ((f : ℕ) → SumIs setup held t f) → (f : ℕ) → SumIs setup held' (e ∷ t) f
 sums_stay setup t e held held' same calm plain places sums f =

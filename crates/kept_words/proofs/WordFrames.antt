@@ -19,7 +19,7 @@ use Rattle.core_invariant.specs.Holding.{Holding, bare_value, settled_by, settle
 use Rattle.core_invariant.specs.Words.{Times, IsTcapWord, IsObjectWord, IsFrameWord, NumberIs, count_room, WordIs}
 use Rattle.core_invariant.proofs.Ranges.{within_more}
 use Rattle.core_invariant.proofs.Bare.{same_value, core_bare, AsBefore}
-use Rattle.core_invariant.specs.Stands.{holds, held_by, times_of}
+use Rattle.core_invariant.specs.Invariant.{holds, held_by, times_of}
 
 -- What is said of a word is as before, kind by kind.
 pub record SameEntry (s s' : State) (m m' : Times) (f i : ℕ) : Type 0 where

@@ -19,7 +19,7 @@ use Rattle.word_map.specs.Word.{Word, EntryAt, FrameAt, CoreAt, LiveAt}
 use Rattle.word_map.specs.Places.{Shape, place_of}
 use Rattle.kernel_rules.specs.State.{Place, Free, Holds, Quiescing, CompFields, ThreadFields, TcapFields, Object, Blank, Table, Leaf, Pages, Pleaf, Comp, Thread, Tcap, Frame, Untyped, User, Kernel, Liveness, Unused, Live, Dead, State, first_of_stack, thread_of}
 use Rattle.kernel_rules.specs.Access.{held_in}
-use Rattle.kernel_history.specs.ObjectWords.{is_node, frame_value, thread_value, at_height}
+use Rattle.kernel_history.specs.ObjectWords.{holds_node, frame_value, thread_value, at_height}
 
 -- What the word of a place says that no core is closing: it is free, holds the capability, or is quiescing since some stamp.
 pub record SaysQuiescing (shown : Option Entry) : Type 0 where
@@ -103,7 +103,7 @@ HoldNothing place = (i : ℕ) → i < 64 → held_in (place i) ≡ None
 -- of other frames are no entries.
 pub record Represent (word : Word → ℕ) (end : ℕ → CoreEnd) (s : State) : Type 0 where
   pub objects : (f : ℕ) → f < s.limits.frames → AreFrame (s.frame f) (s.place f) (λ i. word (EntryAt f i))
-  pub bare : (f : ℕ) → f < s.limits.frames → is_node (s.frame f) ≡ false → HoldNothing (s.place f)
+  pub bare : (f : ℕ) → f < s.limits.frames → holds_node (s.frame f) ≡ false → HoldNothing (s.place f)
   pub kinds : (f : ℕ) → f < s.limits.frames → frame_of_word (word (FrameAt f)) ≡ Some (frame_value (s.frame f))
   pub numbers : (l : ℕ) → l < 64 → SaysNumber (s.number l) (live_of_word (word (LiveAt l)))
   pub cores : (c : ℕ) → c < s.limits.cores → SaysOut (core_of_word (word (CoreAt c)))

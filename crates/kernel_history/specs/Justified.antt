@@ -12,7 +12,7 @@ use Rattle.kernel_rules.specs.Access.{Slot}
 use Rattle.kernel_rules.specs.GracePeriods.{same_thing, MayWait, MayBeUnflushed}
 use Rattle.kernel_rules.specs.CallRelation.{rule_of}
 use Rattle.kernel_rules.specs.Rules.{Rule}
-use Rattle.kernel_history.specs.ObjectWords.{is_node}
+use Rattle.kernel_history.specs.ObjectWords.{holds_node}
 use Rattle.kernel_history.specs.Marks.{mark_of}
 use Rattle.kernel_history.specs.Marking.{HasMarked}
 use Rattle.kernel_history.specs.Ways.{ways, wide_ways, target_of, asked_of, waited_in, flushed_in}
@@ -60,7 +60,7 @@ pub record IsRaceLost (t : Trace) (e : Step) (s : State) (rule : Rule) : Type 0 
 -- A word that is an entry is one through which a name, the target or the page of the call is reached, where a root entry whose
 -- link is removed leads on.
 abbrev pub IsOnWay : State → ℕ → Rule → Word → Type 0
-IsOnWay s c rule (EntryAt f i) = IsTrue (is_node (s.frame f)) → IsTrue (is_slot_in (wide_ways s c rule) f i)
+IsOnWay s c rule (EntryAt f i) = IsTrue (holds_node (s.frame f)) → IsTrue (is_slot_in (wide_ways s c rule) f i)
 IsOnWay s c rule _ = Unit {0}
 
 -- The call is held up at e by core d: e found a word with the mark of d, another core, which is in a call and has put the mark

@@ -6,7 +6,7 @@ use Rattle.entry_words.specs.EntryWord.{entry_of_word}
 use Rattle.frame_words.specs.Core.{core_of_word}
 use Rattle.frame_words.specs.declared.core_word.CoreWord.{CoreWord}
 use Rattle.word_map.specs.Word.{EntryAt, CoreAt}
-use Rattle.kernel_history.specs.ObjectWords.{is_node}
+use Rattle.kernel_history.specs.ObjectWords.{holds_node}
 use Rattle.kernel_history.specs.FinalWords.{SaysPlace}
 use Rattle.kernel_history.specs.Trace.{Trace, Out, phase, state_after, last_left}
 
@@ -29,7 +29,7 @@ pub record CoreSays (setup : Setting) (t : Trace) (c : ℕ) : Type 0 where
 
 -- What the words say after the trace.
 pub record WordsSay (setup : Setting) (t : Trace) : Type 0 where
-  pub entries : (f i : ℕ) → f < setup.frames → i < 64 → IsTrue (is_node ((state_after setup t).frame f)) → EntrySays setup t f i
+  pub entries : (f i : ℕ) → f < setup.frames → i < 64 → IsTrue (holds_node ((state_after setup t).frame f)) → EntrySays setup t f i
   pub cores : (c : ℕ) → c < setup.cores → CoreSays setup t c
 
 -- What the words say after each of the trace's steps, and before the first.

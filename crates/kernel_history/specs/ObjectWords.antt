@@ -23,10 +23,10 @@ is_node_object (Thread t) = false
 is_node_object (Tcap q) = false
 
 -- Whether a frame holds a node.
-abbrev pub is_node : Frame → Bool
-is_node Untyped = false
-is_node User = false
-is_node (Kernel object) = is_node_object object
+abbrev pub holds_node : Frame → Bool
+holds_node Untyped = false
+holds_node User = false
+holds_node (Kernel object) = is_node_object object
 
 -- The object's name in the frame's word.
 abbrev pub name_of_object : Object → Obj

@@ -31,7 +31,7 @@ use Rattle.call_stages.specs.View.{Core}
 use Rattle.core_invariant.specs.Holding.{Holding, bare_value, MarkIs}
 use Rattle.core_invariant.specs.Knows.{phase_at}
 use Rattle.core_invariant.specs.Shares.{HasTcap}
-use Rattle.core_invariant.specs.Stands.{holds, holds_in, held_by, IsLent, IsOfThread, IsOfList, SaysRunning, Stands}
+use Rattle.core_invariant.specs.Invariant.{holds, holds_in, held_by, IsLent, IsOfThread, IsOfList, SaysRunning, Invariant}
 use Rattle.core_invariant.proofs.ActBares.{open_bare}
 use Rattle.core_invariant.proofs.Bare.{AsBefore, IsNotKept, none_kept, own_kept, core_bare}
 use Rattle.core_invariant.proofs.Markers.{marker_inside}
@@ -91,7 +91,7 @@ lent_open setup cores t e after a call active opens keeps f i v is =
     absurd (none_some v (sym (ap (λ o. (holds_in o).bare f i) active ∙ open_bare a call opens f i) ∙ keeps f i v is))
 
 -- A step that leaves the state, and after which the core keeps what it kept.
-pub lent_still : (setup : Setting) (cores : ℕ → Core) (t : Trace) → Stands setup cores t → (e : Step) (after : Core)
+pub lent_still : (setup : Setting) (cores : ℕ → Core) (t : Trace) → Invariant setup cores t → (e : Step) (after : Core)
     → KeepsLeft setup cores t e after → state_after setup (e ∷ t) ≡ state_after setup t
     → ((w : Word) (d : ℕ) → MarkIs setup (held_by (put cores e.core after)) (e ∷ t) w d)
     → (f i v : ℕ) → (holds after).bare f i ≡ Some v → IsLent setup (e ∷ t) e.core f i
@@ -161,7 +161,7 @@ list_mark f i v tcap some = ap (λ x. mark_in_frame x i v) (tcap_of f tcap).is
     ∙ ap (λ b. if b then head_mark (head_of_word v) else None) (ne_eqb i 0 (λ none. omega (arith, none, some)))
 
 -- Another core keeps what it kept: its own thread stays, and so does a temporal capability whose head it has marked.
-module _ (setup : Setting) (setting : IsSetting setup) (cores : ℕ → Core) (t : Trace) (stands : Stands setup cores t) (e : Step)
+module _ (setup : Setting) (setting : IsSetting setup) (cores : ℕ → Core) (t : Trace) (stands : Invariant setup cores t) (e : Step)
     (follows : MayFollow setup t e) (marked : KeepsMarked setup t e) (spares : SparesLent cores e) (d f i v : ℕ) (other : d ≢ e.core)
     (is : (held_by cores d).bare f i ≡ Some v) where
   before : IsLent setup t d f i
@@ -235,7 +235,7 @@ lent_thread setup t d f i has not = by has.word
     by (inl w) = w
     by (inr w) = absurd (not w.tcap.tcap)
 
-pub lent_unmarked : (setup : Setting) (cores : ℕ → Core) (t : Trace) → Stands setup cores t → (d f i : ℕ) → IsLent setup t d f i
+pub lent_unmarked : (setup : Setting) (cores : ℕ → Core) (t : Trace) → Invariant setup cores t → (d f i : ℕ) → IsLent setup t d f i
     → (held_by cores d).marks (EntryAt f 0) ≡ false → IsOfThread setup t d f i
 lent_unmarked setup cores t stands d f i has none = by has.word
   where
@@ -276,7 +276,7 @@ no_stack (Kernel (Thread k)) not = absurd (false≢true (sym not))
 no_stack (Kernel (Tcap q)) not = absurd (false≢true (sym not))
 
 -- A word of another frame is kept by no core without a mark, and settles to itself where it carries none.
-pub unlent : (setup : Setting) (cores : ℕ → Core) (t : Trace) → Stands setup cores t → (f : ℕ)
+pub unlent : (setup : Setting) (cores : ℕ → Core) (t : Trace) → Invariant setup cores t → (f : ℕ)
     → may_keep ((state_after setup t).frame f) ≡ false → (i d : ℕ) → (held_by cores d).bare f i ≡ None
 unlent setup cores t stands f not i d = by ((held_by cores d).bare f i) refl
   where
@@ -292,7 +292,7 @@ unlent setup cores t stands f not i d = by ((held_by cores d).bare f i) refl
     by None is = is
     by (Some v) is = absurd (no_word (stands.lent d f i v is).word)
 
-pub unlent_value : (setup : Setting) (cores : ℕ → Core) (t : Trace) → Stands setup cores t → (f : ℕ)
+pub unlent_value : (setup : Setting) (cores : ℕ → Core) (t : Trace) → Invariant setup cores t → (f : ℕ)
     → may_keep ((state_after setup t).frame f) ≡ false → (i x : ℕ) → bare_value (held_by cores) (EntryAt f i) x ≡ x
 unlent_value setup cores t stands f not i x = none_kept 8 (held_by cores) f i x (unlent setup cores t stands f not i)
 
@@ -307,12 +307,12 @@ unkept_word cores f i none g j at d = subst (λ (n : ℕ). (held_by cores d).bar
     index : (f i g j : ℕ) → EntryAt f i ≡ EntryAt g j → i ≡ j
     index f i g j h = cc
 
-pub unlent_word : (setup : Setting) (cores : ℕ → Core) (t : Trace) → Stands setup cores t → (f i : ℕ)
+pub unlent_word : (setup : Setting) (cores : ℕ → Core) (t : Trace) → Invariant setup cores t → (f i : ℕ)
     → may_keep ((state_after setup t).frame f) ≡ false → IsNotKept (held_by cores) (EntryAt f i)
 unlent_word setup cores t stands f i not = unkept_word cores f i (unlent setup cores t stands f not i)
 
 -- So it is after a step whose core keeps none of it.
-pub unlent_after : (setup : Setting) (cores : ℕ → Core) (t : Trace) → Stands setup cores t → (c : ℕ) (after : Core) (f i : ℕ)
+pub unlent_after : (setup : Setting) (cores : ℕ → Core) (t : Trace) → Invariant setup cores t → (c : ℕ) (after : Core) (f i : ℕ)
     → may_keep ((state_after setup t).frame f) ≡ false → (holds after).bare f i ≡ None → (x : ℕ)
     → bare_value (held_by (put cores c after)) (EntryAt f i) x ≡ x
 unlent_after setup cores t stands c after f i not none x =
@@ -320,7 +320,7 @@ unlent_after setup cores t stands c after f i not none x =
     (λ d. core_bare cores c after f i (none ∙ sym (unlent setup cores t stands f not i c)) d ∙ unlent setup cores t stands f not i d)
 
 -- A word of a temporal capability is kept by no core without a mark, where it is the head, or none that has marked the head keeps it.
-module _ (setup : Setting) (cores : ℕ → Core) (t : Trace) (stands : Stands setup cores t) (f : ℕ) (q : TcapFields)
+module _ (setup : Setting) (cores : ℕ → Core) (t : Trace) (stands : Invariant setup cores t) (f : ℕ) (q : TcapFields)
     (is : (state_after setup t).frame f ≡ Kernel (Tcap q)) where
   tcap_is : IsTrue (is_tcap ((state_after setup t).frame f))
   tcap_is = subst (λ x. IsTrue (is_tcap x)) (sym is) refl
@@ -359,7 +359,7 @@ node_keeps_none (Kernel Pleaf) node = refl
 node_keeps_none _ node = absurd (false≢true node)
 
 -- A core's thread runs on it.
-pub runs_on_own : (setup : Setting) → IsSetting setup → (cores : ℕ → Core) (t : Trace) → Stands setup cores t → (b : ℕ) → b < setup.cores
+pub runs_on_own : (setup : Setting) → IsSetting setup → (cores : ℕ → Core) (t : Trace) → Invariant setup cores t → (b : ℕ) → b < setup.cores
     → (thread_in ((state_after setup t).frame ((state_after setup t).core b).thread)).runs_on ≡ Some b
 runs_on_own setup setting cores t stands b below =
     subst (λ s. RunsOn s b) (sym (state_is setup t))
@@ -367,7 +367,7 @@ runs_on_own setup setting cores t stands b below =
     (subst (λ (n : ℕ). b < n) (sym (ap (λ l. l.cores) (limits_stay setup (events_of t)))) below))
 
 -- No word has two keepers: a thread runs on one core, and a head carries one mark.
-pub one_keeper : (setup : Setting) → IsSetting setup → (cores : ℕ → Core) (t : Trace) → Stands setup cores t → (f i c d v u : ℕ)
+pub one_keeper : (setup : Setting) → IsSetting setup → (cores : ℕ → Core) (t : Trace) → Invariant setup cores t → (f i c d v u : ℕ)
     → (held_by cores c).bare f i ≡ Some v → (held_by cores d).bare f i ≡ Some u → c ≡ d
 one_keeper setup setting cores t stands f i c d v u is is' = by (stands.lent c f i v is).word (stands.lent d f i u is').word
   where
@@ -385,7 +385,7 @@ one_keeper setup setting cores t stands f i c d v u is is' = by (stands.lent c f
     by (inr w) (inr u) = same_core c d (sym w.head ∙ u.head)
 
 -- So a word that a core keeps settles to what this has still to store there.
-pub own_value : (setup : Setting) → IsSetting setup → (cores : ℕ → Core) (t : Trace) → Stands setup cores t → (c f i v x : ℕ)
+pub own_value : (setup : Setting) → IsSetting setup → (cores : ℕ → Core) (t : Trace) → Invariant setup cores t → (c f i v x : ℕ)
     → (held_by cores c).bare f i ≡ Some v → bare_value (held_by cores) (EntryAt f i) x ≡ v
 own_value setup setting cores t stands c f i v x is =
     own_kept 8 (held_by cores) f i x v c

@@ -31,7 +31,7 @@ use Rattle.call_stages.specs.Steps.{landed, found_more}
 use Rattle.call_stages.specs.View.{Core}
 use Rattle.core_invariant.specs.Holding.{holds_counts}
 use Rattle.core_invariant.specs.Knows.{due_of, HasComp, KillsBy, NamesAre, phase_at}
-use Rattle.core_invariant.specs.Stands.{holds_in, Stands}
+use Rattle.core_invariant.specs.Invariant.{holds_in, Invariant}
 use Rattle.kept_knowledge.proofs.Carries.{has_comp_on}
 use Rattle.step_ways.proofs.Loads.{OnlyLooks, step_to, call_is, loads_on}
 use Rattle.step_ways.proofs.Refusals.{GoodTook}
@@ -58,7 +58,7 @@ comp_named setup setting t legal c call is n k kind_is found =
           (parts.3 ∙ ap (λ (j : Capability). Some j) (same_found (only kind.Comp) parts.2 k parts.4));
     }
 
-module _ (setup : Setting) (setting : IsSetting setup) (cores : ℕ → Core) (t : Trace) (stands : Stands setup cores t) (c : ℕ)
+module _ (setup : Setting) (setting : IsSetting setup) (cores : ℕ → Core) (t : Trace) (stands : Invariant setup cores t) (c : ℕ)
     (here : c < setup.cores)
     (a : ActiveCall) (active : (cores c).active ≡ Some a) (opens : phase_at a.call a.stage ≡ Open a.call)
     (held_is : holds_in (Some a) ≡ holds_counts None a.counts) (no_counts : a.counts ≡ [])

@@ -67,14 +67,14 @@ use Rattle.core_invariant.specs.CountWords.{IsWithin}
 use Rattle.core_invariant.specs.Holding.{Holding, holds_counts, settled_by, settled}
 use Rattle.core_invariant.specs.Words.{NumberIs, WordIs, count_room}
 use Rattle.core_invariant.specs.Knows.{HasFound, KnowsUndecided, KnowsDead, WorksIn, own_in, phase_at}
-use Rattle.core_invariant.specs.Stands.{done_by, holds_at, holds_in, holds, held_by, times_of, counted_in, Stands}
+use Rattle.core_invariant.specs.Invariant.{done_by, holds_at, holds_in, holds, held_by, times_of, counted_in, Invariant}
 use Rattle.kept_words.proofs.Calm.{counts, calm_counted, own_works, plain_exit, room_grows, counted_grows}
 use Rattle.kept_knowledge.proofs.Carries.{own_kept, counts_on}
 use Rattle.kept_words.proofs.CountSums.{counted_refs}
 use Rattle.step_ways.proofs.Counting as counters
 use Rattle.step_ways.proofs.Draws as drawing
 use Rattle.step_ways.proofs.Good.{spares_other}
-use Rattle.step_ways.proofs.Loads.{call_is, core_at, inner}
+use Rattle.step_ways.proofs.Loads.{call_is, core_in_call, inner}
 use Rattle.step_ways.proofs.Refusals.{GoodTook, not_spent}
 use Rattle.core_invariant.proofs.Sounds.{limits_of}
 use Rattle.kept_words.proofs.WordFrames.{SameFor, ReadsAlike, reads_alike, StaysSaid, word_stays}
@@ -123,7 +123,7 @@ kills_in s l e live = record {
   begins = NumberOf l ∷ frames_of (number_names live);
 }
 
-module _ (setup : Setting) (setting : IsSetting setup) (cores : ℕ → Core) (t : Trace) (stands : Stands setup cores t) (c : ℕ)
+module _ (setup : Setting) (setting : IsSetting setup) (cores : ℕ → Core) (t : Trace) (stands : Invariant setup cores t) (c : ℕ)
     (here : c < setup.cores)
     (a : ActiveCall) (active : (cores c).active ≡ Some a) (f by : ℕ) (life : CompWord) (word : ℕ)
     (stage_is : a.stage ≡ Undecided (Act (kill_act (record { comp = f; core = by; at = Draw life word }))))
@@ -474,7 +474,7 @@ module _ (setup : Setting) (setting : IsSetting setup) (cores : ℕ → Core) (t
   draw_good = draw_at (drawn_stamp x) drawn
 
 -- The step of a killing.
-pub killing_good : (setup : Setting) → IsSetting setup → (cores : ℕ → Core) (t : Trace) → Stands setup cores t → (c : ℕ) → c < setup.cores
+pub killing_good : (setup : Setting) → IsSetting setup → (cores : ℕ → Core) (t : Trace) → Invariant setup cores t → (c : ℕ) → c < setup.cores
     → (a : ActiveCall) → (cores c).active ≡ Some a → (f by : ℕ) (at : KillingAt)
     → a.stage ≡ Undecided (Act (kill_act (record { comp = f; core = by; at = at })))
     → KnowsUndecided setup t c (cores c).own.table a (Act (kill_act (record { comp = f; core = by; at = at })))
@@ -491,7 +491,7 @@ killing_good setup setting cores t stands c here a active f by (Draw life word) 
     draw_good setup setting cores t stands c here a active f by life word is has
 
 -- The store of the word of a number that was killed.
-module _ (setup : Setting) (setting : IsSetting setup) (cores : ℕ → Core) (t : Trace) (stands : Stands setup cores t) (c : ℕ)
+module _ (setup : Setting) (setting : IsSetting setup) (cores : ℕ → Core) (t : Trace) (stands : Invariant setup cores t) (c : ℕ)
     (here : c < setup.cores)
     (a : ActiveCall) (active : (cores c).active ≡ Some a) (r : Reply) (drawn : Option ℕ) (life : CompWord) (x : ℕ)
     (stage_is : a.stage ≡ Decided r drawn (StoreDead life x)) (has : KnowsDead setup t c a.call life) where
@@ -534,7 +534,7 @@ module _ (setup : Setting) (setting : IsSetting setup) (cores : ℕ → Core) (t
   dead_good lands =
       let next : ActiveCall = went_with a a.counts (Decided r drawn Nothing) in
       let e : Step = inner setup setting cores t stands c here a active store None None in
-      let after : Core = core_at (cores c) (cores c).own.made next in
+      let after : Core = core_in_call (cores c) (cores c).own.made next in
       counters.holds_on setup setting cores t stands c here a active store next (λ b. refl) (λ h. cc) refl
       (record { moves = has.numbers; near = inr has.near }) lands says.small
       (λ w there. (

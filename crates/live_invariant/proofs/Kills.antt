@@ -42,11 +42,11 @@ use Rattle.call_stages.specs.View.{Core}
 use Rattle.core_invariant.specs.Holding.{holds_counts, settled_by}
 use Rattle.core_invariant.specs.Words.{IsFrameWord, NumberIs, count_room}
 use Rattle.core_invariant.specs.Knows.{due_of, KnowsUndecided}
-use Rattle.core_invariant.specs.Stands.{holds_at, holds_in, holds, held_by, Stands}
+use Rattle.core_invariant.specs.Invariant.{holds_at, holds_in, holds, held_by, Invariant}
 use Rattle.kept_knowledge.proofs.Carries.{names_on, has_comp_on, life_on, counts_on}
 use Rattle.step_ways.proofs.Counting as counters
 use Rattle.step_ways.proofs.Good.{spares_other}
-use Rattle.step_ways.proofs.Loads.{IsOfCall, OnlyLooks, step_to, next_at, core_at, inner, call_is, loads_on}
+use Rattle.step_ways.proofs.Loads.{IsOfCall, OnlyLooks, step_to, next_at, core_in_call, inner, call_is, loads_on}
 use Rattle.step_ways.proofs.Refusals.{GoodTook, refuses_raced, refuses_busy, refuses_dead, ticks_at}
 use Rattle.count_invariant.proofs.Acquiring.{knows_next, next_holds, one_apart}
 use Rattle.live_invariant.proofs.Numbers.{no_number, shows_live, lives_as_shown, shows_some}
@@ -56,7 +56,7 @@ none_some : (d : ℕ) → None ≡ Some d → ⊥
 none_some d h = cc
 
 -- The component's word.
-module _ (setup : Setting) (setting : IsSetting setup) (cores : ℕ → Core) (t : Trace) (stands : Stands setup cores t) (c : ℕ)
+module _ (setup : Setting) (setting : IsSetting setup) (cores : ℕ → Core) (t : Trace) (stands : Invariant setup cores t) (c : ℕ)
     (here : c < setup.cores)
     (a : ActiveCall) (active : (cores c).active ≡ Some a) (f by : ℕ)
     (stage_is : a.stage ≡ Undecided (Act (kill_act (record { comp = f; core = by; at = LoadComp }))))
@@ -119,7 +119,7 @@ module _ (setup : Setting) (setting : IsSetting setup) (cores : ℕ → Core) (t
   load_comp_good = subst (λ o. GoodTook setup cores t c (LoadOf (EntryAt f 2)) (landed a (meets_comp m o))) (sym says_life) life_good
 
 -- Its number's word.
-module _ (setup : Setting) (setting : IsSetting setup) (cores : ℕ → Core) (t : Trace) (stands : Stands setup cores t) (c : ℕ)
+module _ (setup : Setting) (setting : IsSetting setup) (cores : ℕ → Core) (t : Trace) (stands : Invariant setup cores t) (c : ℕ)
     (here : c < setup.cores)
     (a : ActiveCall) (active : (cores c).active ≡ Some a) (f by : ℕ) (life : CompWord)
     (stage_is : a.stage ≡ Undecided (Act (kill_act (record { comp = f; core = by; at = LoadLive life }))))
@@ -242,7 +242,7 @@ module _ (setup : Setting) (setting : IsSetting setup) (cores : ℕ → Core) (t
   load_live_good = by_word (live_of_word found) refl
 
 -- The compare.
-module _ (setup : Setting) (setting : IsSetting setup) (cores : ℕ → Core) (t : Trace) (stands : Stands setup cores t) (c : ℕ)
+module _ (setup : Setting) (setting : IsSetting setup) (cores : ℕ → Core) (t : Trace) (stands : Invariant setup cores t) (c : ℕ)
     (here : c < setup.cores)
     (a : ActiveCall) (active : (cores c).active ≡ Some a) (f by : ℕ) (life : CompWord) (word : ℕ)
     (stage_is : a.stage ≡ Undecided (Act (kill_act (record { comp = f; core = by; at = Close life word }))))
@@ -313,7 +313,7 @@ module _ (setup : Setting) (setting : IsSetting setup) (cores : ℕ → Core) (t
     next = went a (Undecided (Act (kill_act (record { comp = f; core = by; at = Draw life word }))))
 
     abbrev after : Core
-    after = core_at (cores c) (cores c).own.made next
+    after = core_in_call (cores c) (cores c).own.made next
 
     held_before : holds (cores c) ≡ holds_counts None a.counts
     held_before = ap holds_in active ∙ counts_held

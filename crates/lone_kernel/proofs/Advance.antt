@@ -19,7 +19,7 @@ use Rattle.kernel_history.specs.BootWords.{shape_of}
 use Rattle.call_stages.specs.View.{Core}
 use Rattle.call_stages.specs.Fits.{IsCore}
 use Rattle.call_stages.specs.Cores.{move_of}
-use Rattle.flight.specs.Made.{turned, MayStep, core_after, cores_after, core_at as core_of_step, IsMadeStep}
+use Rattle.flight.specs.Made.{turned, MayStep, core_after, cores_after, stepping_core as core_of_step, IsMadeStep}
 use Rattle.flight.specs.Phases.{IsWord, IsInPhase}
 use Rattle.flight.proofs.Phases.{made_phases}
 use Rattle.flight.proofs.Spelling.{moves_are_words}

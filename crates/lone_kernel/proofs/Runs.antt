@@ -15,7 +15,7 @@ use Rattle.call_stages.specs.Fits.{left_for}
 use Rattle.call_stages.specs.View.{Core}
 use Rattle.call_stages.specs.Cores.{ready_of}
 use Rattle.flight.specs.Decided.{is_decided_in}
-use Rattle.flight.specs.Made.{turned, core_after, cores_after, core_at as core_of_step, ready_after}
+use Rattle.flight.specs.Made.{turned, core_after, cores_after, stepping_core as core_of_step, ready_after}
 use Rattle.flight.specs.Phases.{AreEvents}
 use Rattle.flight.proofs.Phases.{made_events, decided_is_ready}
 use Rattle.call_stages.specs.declared.stages.ActiveCall.{ActiveCall}

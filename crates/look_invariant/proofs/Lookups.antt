@@ -47,7 +47,7 @@ use Rattle.core_invariant.specs.Holding.{holds_counts}
 use Rattle.call_stages.specs.Fits.{CountsAt}
 use Rattle.core_invariant.specs.Words.{PlaceIs}
 use Rattle.core_invariant.specs.Knows.{ReliesOn, LooksUp, Knows, phase_at}
-use Rattle.core_invariant.specs.Stands.{holds_at, holds_in, Stands}
+use Rattle.core_invariant.specs.Invariant.{holds_at, holds_in, Invariant}
 use Rattle.step_ways.proofs.Loads.{OnlyLooks, step_to, next_at, is_active, loads_on}
 use Rattle.step_ways.proofs.Places.{IsMarked, IsPlain, place_reads}
 use Rattle.step_ways.proofs.Refusals.{GoodTook, ticks_at, NobodyWaits, refuses_no_slot, refuses_busy}
@@ -189,7 +189,7 @@ link_none k is = ap (λ b. if b then Some k.frame else None) is
 pub use_removed : (p : Place) (k : Capability) (waits : Bool) → p ≡ Removed k → waits ≡ false → usable_in p waits ≡ None
 use_removed p k waits is not = ap (λ q. usable_in q waits) is ∙ ap (λ b. usable_in (Removed k) b) not
 
-module _ (setup : Setting) (setting : IsSetting setup) (cores : ℕ → Core) (t : Trace) (stands : Stands setup cores t) (c : ℕ)
+module _ (setup : Setting) (setting : IsSetting setup) (cores : ℕ → Core) (t : Trace) (stands : Invariant setup cores t) (c : ℕ)
     (here : c < setup.cores)
     (a : ActiveCall) (active : (cores c).active ≡ Some a) (target : Target) (is_open : phase t c ≡ Open a.call)
     (no_slot : IsTrue (has_no_slot (state_after setup t) target) → RuleMay (state_after setup t) c
@@ -261,7 +261,7 @@ module _ (setup : Setting) (setting : IsSetting setup) (cores : ℕ → Core) (t
           opens (λ carries. goes e next carries (looks e carries (own_left-here c e t refl (EntryAt g i) refl)))
 
 -- Under a number of a table.
-module _ (setup : Setting) (setting : IsSetting setup) (cores : ℕ → Core) (t : Trace) (stands : Stands setup cores t) (c : ℕ)
+module _ (setup : Setting) (setting : IsSetting setup) (cores : ℕ → Core) (t : Trace) (stands : Invariant setup cores t) (c : ℕ)
     (here : c < setup.cores)
     (a : ActiveCall) (active : (cores c).active ≡ Some a) (table : Named) (n : ℕ) (is_open : phase t c ≡ Open a.call)
     (no_slot : IsTrue (has_no_slot (state_after setup t) (Under table n)) → RuleMay (state_after setup t) c
@@ -436,7 +436,7 @@ module _ (setup : Setting) (setting : IsSetting setup) (cores : ℕ → Core) (t
   under_step (AtEntry root index) at looks = absurd looks.at
 
 -- At a root entry that is itself the target.
-module _ (setup : Setting) (setting : IsSetting setup) (cores : ℕ → Core) (t : Trace) (stands : Stands setup cores t) (c : ℕ)
+module _ (setup : Setting) (setting : IsSetting setup) (cores : ℕ → Core) (t : Trace) (stands : Invariant setup cores t) (c : ℕ)
     (here : c < setup.cores)
     (a : ActiveCall) (active : (cores c).active ≡ Some a) (table : Named) (i : ℕ) (is_open : phase t c ≡ Open a.call)
     (no_slot : IsTrue (has_no_slot (state_after setup t) (InRoot table i)) → RuleMay (state_after setup t) c

@@ -18,7 +18,7 @@ use Rattle.kept_words.proofs.Calm.{plain_exit}
 use Rattle.kept_knowledge.proofs.Carries.{counts_on}
 use Rattle.kept_words.proofs.CountSums.{counted_refs, calm_refs}
 use Rattle.step_ways.proofs.Good.{spares_kept, spares_other}
-use Rattle.step_ways.proofs.Loads.{IsOfCall, next_at, core_at, core_is, call_is, in_call, inner, inner_within, inner_disciplined, inner_near, is_active}
+use Rattle.step_ways.proofs.Loads.{IsOfCall, next_at, core_in_call, core_is, call_is, in_call, inner, inner_within, inner_disciplined, inner_near, is_active}
 use Rattle.step_ways.proofs.OwnChanges.{decides_owning}
 use Rattle.step_ways.proofs.Refusals.{GoodTook, not_spent}
 use Rattle.core_invariant.proofs.Sounds.{limits_of}
@@ -30,7 +30,7 @@ use Rattle.lent_words.proofs.Lent.{lent_none, lent_kept, lent_elsewhere}
 use Rattle.step_ways.proofs.Writes.{clock_small}
 use Rattle.core_invariant.specs.Holding.{Holding, holds_counts, settled_by, settled}
 use Rattle.core_invariant.specs.Knows.{due_of, KnowsUndecided, KnowsFlush, WorksIn, CoreIs, phase_at, untypes}
-use Rattle.core_invariant.specs.Stands.{is_done, holds_at, holds_in, holds, held_by, times_of, counted_in, Stands}
+use Rattle.core_invariant.specs.Invariant.{is_done, holds_at, holds_in, holds, held_by, times_of, counted_in, Invariant}
 use Rattle.core_invariant.specs.Words.{WordIs, count_room}
 use Rattle.frame_words.proofs.FlushLemmas.{spelling}
 use Rattle.frame_words.specs.Flush.{word_of_flush}
@@ -75,7 +75,7 @@ abbrev one_more : CoreFields → CoreFields
 one_more k = record k { counted = k.counted + 1 }
 
 -- The load of the clock.
-module _ (setup : Setting) (setting : IsSetting setup) (cores : ℕ → Core) (t : Trace) (stands : Stands setup cores t) (c : ℕ)
+module _ (setup : Setting) (setting : IsSetting setup) (cores : ℕ → Core) (t : Trace) (stands : Invariant setup cores t) (c : ℕ)
     (here : c < setup.cores)
     (a : ActiveCall) (active : (cores c).active ≡ Some a) (by : ℕ)
     (stage_is : a.stage ≡ Undecided (Act (flush_act by)))
@@ -305,7 +305,7 @@ module _ (setup : Setting) (setting : IsSetting setup) (cores : ℕ → Core) (t
       fits = let low = clock_small setup setting cores t stands in omega arith
 
 -- The store of the core's flush word.
-module _ (setup : Setting) (setting : IsSetting setup) (cores : ℕ → Core) (t : Trace) (stands : Stands setup cores t) (c : ℕ)
+module _ (setup : Setting) (setting : IsSetting setup) (cores : ℕ → Core) (t : Trace) (stands : Invariant setup cores t) (c : ℕ)
     (here : c < setup.cores)
     (a : ActiveCall) (active : (cores c).active ≡ Some a) (r : Reply) (drawn : Option ℕ) (by x : ℕ)
     (stage_is : a.stage ≡ Decided r drawn (StoreFlush by x)) (has : KnowsFlush t c a.call by x) where
@@ -322,7 +322,7 @@ module _ (setup : Setting) (setting : IsSetting setup) (cores : ℕ → Core) (t
   next = went_with a a.counts (Decided r drawn Nothing)
 
   abbrev stored_core : Core
-  stored_core = core_at (cores c) (cores c).own.made next
+  stored_core = core_in_call (cores c) (cores c).own.made next
 
   abbrev rest : Holding
   rest = holds_counts (is_done (Decided r drawn Nothing)) a.counts

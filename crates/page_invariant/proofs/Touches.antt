@@ -72,17 +72,17 @@ use Rattle.call_stages.specs.Steps.{landed}
 use Rattle.call_stages.specs.View.{Core}
 use Rattle.core_invariant.specs.Holding.{holds_counts, settled}
 use Rattle.core_invariant.specs.Knows.{due_of, LooksUp, KnowsTouch, KnowsUndecided, WorksIn, phase_at, untypes}
-use Rattle.core_invariant.specs.Stands.{holds_at, holds_in, holds, held_by, times_of, counted_in, Stands}
+use Rattle.core_invariant.specs.Invariant.{holds_at, holds_in, holds, held_by, times_of, counted_in, Invariant}
 use Rattle.core_invariant.specs.Words.{WordIs, count_room}
 use Rattle.core_invariant.proofs.Bare.{counts_bare}
 use Rattle.lent_words.proofs.Lent.{lent_none, lent_kept}
-use Rattle.kept_words.proofs.Calm.{IsPlain, plain_begins, plain_stamp, plain_flush, plain_exit}
+use Rattle.kept_words.proofs.Calm.{IsUntimed, plain_begins, plain_stamp, plain_flush, plain_exit}
 use Rattle.kept_knowledge.proofs.Carries.{names_on}
 use Rattle.kept_words.proofs.CountSums.{counted_refs}
 use Rattle.step_ways.proofs.Good.{spares_kept}
 use Rattle.step_ways.proofs.Loads.{OnlyLooks, step_to, next_at, inner, call_is, core_is, is_active, loads_on, decides_on}
 use Rattle.step_ways.proofs.OwnChanges.{decides_changing}
-use Rattle.step_ways.proofs.Places.{IsMarked, IsPlain as ReadsPlain, place_reads}
+use Rattle.step_ways.proofs.Places.{IsMarked, IsUntimed as ReadsPlain, place_reads}
 use Rattle.step_ways.proofs.Refusals.{GoodTook, NobodyWaits, ticks_at, not_spent, refuses_fault, refuses_busy}
 use Rattle.core_invariant.proofs.Sounds.{limits_of}
 use Rattle.kept_words.proofs.Sums.{sums_keep}
@@ -123,7 +123,7 @@ flags_of m k page fits =
     small : k.arg < 4 → k.arg % 4 ≡ k.arg
     small low = omega (arith, low)
 
-module _ (setup : Setting) (setting : IsSetting setup) (cores : ℕ → Core) (t : Trace) (stands : Stands setup cores t) (c : ℕ)
+module _ (setup : Setting) (setting : IsSetting setup) (cores : ℕ → Core) (t : Trace) (stands : Invariant setup cores t) (c : ℕ)
     (here : c < setup.cores)
     (a : ActiveCall) (active : (cores c).active ≡ Some a) (m : Touching)
     (stage_is : a.stage ≡ Undecided (Act (touch_act m)))
@@ -420,7 +420,7 @@ module _ (setup : Setting) (setting : IsSetting setup) (cores : ℕ → Core) (t
         same_holds : holds after ≡ holds (cores c)
         same_holds = still (Some None) ∙ ap holds_in (sym active)
 
-        plain : IsPlain setup t e
+        plain : IsUntimed setup t e
         plain = record {
           begins = λ x. ap (λ p. begins_in (Some r) p s c x) is_open
               ∙ ap (λ j. Rattle.kernel_rules.specs.CallRelation.begins_in j x) caches_it;

@@ -11,7 +11,7 @@ use Rattle.word_map.specs.Word.{Word, EntryAt}
 use Rattle.word_map.specs.Moves.{LoadOf}
 use Rattle.kernel_history.specs.Marks.{head_mark}
 use Rattle.kernel_history.specs.Marking.{marked_by}
-use Rattle.kernel_history.specs.ObjectWords.{is_node}
+use Rattle.kernel_history.specs.ObjectWords.{holds_node}
 use Rattle.kernel_history.specs.Trace.{Step, Trace, state_after, last_left}
 use Rattle.kernel_history.proofs.Steps.{own_read-here}
 use Rattle.stage_tcap.specs.Charging.{end_by_mark, head_end}
@@ -34,7 +34,7 @@ use Rattle.call_stages.specs.View.{Core}
 use Rattle.core_invariant.specs.Holding.{holds_counts}
 use Rattle.core_invariant.specs.Knows.{KnowsUndecided}
 use Rattle.core_invariant.specs.Shares.{list_word, read_up, HasMarkedA, KnowsPairAt}
-use Rattle.core_invariant.specs.Stands.{Stands}
+use Rattle.core_invariant.specs.Invariant.{Invariant}
 use Rattle.step_ways.proofs.Loads.{step_to}
 use Rattle.lent_words.proofs.Pairs.{marked_on}
 use Rattle.step_ways.proofs.Refusals.{GoodTook, ticks_at, refuses_busy}
@@ -42,7 +42,7 @@ use Rattle.pair_invariant.proofs.ShareCalls as calls
 use Rattle.pair_invariant.proofs.ShareSteps.{mark_is, head_says, a_list, loading, load_goes}
 
 -- The load of head A.
-module _ (setup : Setting) (setting : IsSetting setup) (cores : ℕ → Core) (t : Trace) (stands : Stands setup cores t) (c : ℕ)
+module _ (setup : Setting) (setting : IsSetting setup) (cores : ℕ → Core) (t : Trace) (stands : Invariant setup cores t) (c : ℕ)
     (here : c < setup.cores)
     (a : ActiveCall) (active : (cores c).active ≡ Some a) (p : Pair)
     (stage_is : a.stage ≡ Undecided (Act (share_act (record p { at = LoadA }))))
@@ -91,7 +91,7 @@ module _ (setup : Setting) (setting : IsSetting setup) (cores : ℕ → Core) (t
       (calls.room setup setting cores t stands c here a active now_p stage_is has) (LoadOf at)
       (loading setup setting cores t stands c here a active now_p stage_is has p.a 0 near) (ap ticks_at stage_is) d
       (ap (λ xs. (holds_counts None xs).marks at) (calls.no_counts setup setting cores t stands c here a active now_p stage_is has)) mark
-      (λ node. absurd (false≢true (ap is_node (sym tcap.is) ∙ node)))
+      (λ node. absurd (false≢true (ap holds_node (sym tcap.is) ∙ node)))
 
   by_mark : (budget version : ℕ) (mark : Option ℕ) → head_of_word was ≡ Some (record { budget = budget; mark = mark; version = version })
       → GoodTook setup cores t c (LoadOf at)
@@ -112,7 +112,7 @@ module _ (setup : Setting) (setting : IsSetting setup) (cores : ℕ → Core) (t
   load_a_good = by_word (head_of_word was) refl
 
 -- The load of a word of list A.
-module _ (setup : Setting) (setting : IsSetting setup) (cores : ℕ → Core) (t : Trace) (stands : Stands setup cores t) (c : ℕ)
+module _ (setup : Setting) (setting : IsSetting setup) (cores : ℕ → Core) (t : Trace) (stands : Invariant setup cores t) (c : ℕ)
     (here : c < setup.cores)
     (a : ActiveCall) (active : (cores c).active ≡ Some a) (p : Pair) (n : ℕ)
     (stage_is : a.stage ≡ Undecided (Act (share_act (record p { at = ListA (suc n) }))))
@@ -153,8 +153,8 @@ module _ (setup : Setting) (setting : IsSetting setup) (cores : ℕ → Core) (t
       }
 
   goes : (to : PairAt)
-      → Rattle.core_invariant.specs.Stands.holds_share (record p { list_a = next_list; at = to }) to (holds_counts None a.counts)
-      ≡ Rattle.core_invariant.specs.Stands.holds_share list_p (ListA (suc n)) (holds_counts None a.counts)
+      → Rattle.core_invariant.specs.Invariant.holds_share (record p { list_a = next_list; at = to }) to (holds_counts None a.counts)
+      ≡ Rattle.core_invariant.specs.Invariant.holds_share list_p (ListA (suc n)) (holds_counts None a.counts)
       → KnowsPairAt setup (loads ∷ t) c (record p { list_a = next_list; at = to }) to
       → GoodTook setup cores t c (LoadOf word_at) (landed a (Goes (Act (share_act (record p { list_a = next_list; at = to })))))
   goes to holds_same knows =

@@ -19,7 +19,7 @@ use Rattle.kernel_rules.specs.CallRelation.{owed_by, counted, rule_of}
 use Rattle.kernel_history.specs.Justified.{IsHeldUp}
 use Rattle.kernel_history.specs.Marks.{head_mark}
 use Rattle.kernel_history.specs.Marking.{marked_by}
-use Rattle.kernel_history.specs.ObjectWords.{is_node}
+use Rattle.kernel_history.specs.ObjectWords.{holds_node}
 use Rattle.kernel_history.specs.Trace.{Step, Trace, state_after, last_left}
 use Rattle.kernel_history.proofs.Laws.{not_inside}
 use Rattle.kernel_history.proofs.Names.{same_word-other}
@@ -43,7 +43,7 @@ use Rattle.call_stages.specs.View.{Core}
 use Rattle.core_invariant.specs.Holding.{Holding, holds_counts}
 use Rattle.core_invariant.specs.Knows.{KnowsUndecided}
 use Rattle.core_invariant.specs.Shares.{list_word, read_up, SparesTcap, HasMarkedA, HasSeenB, HasReadB, HasBoth, ReadsHead, SharesBy, KnowsPairAt}
-use Rattle.core_invariant.specs.Stands.{holds_in, holds_head, holds_share, held_by, Stands}
+use Rattle.core_invariant.specs.Invariant.{holds_in, holds_head, holds_share, held_by, Invariant}
 use Rattle.step_ways.proofs.Loads.{step_to, inner, core_is}
 use Rattle.core_invariant.proofs.Markers.{marker_inside}
 use Rattle.lent_words.proofs.Pairs.{marked_on, seen_on, tcap_mark, left_same}
@@ -102,7 +102,7 @@ is_judged setup t c q h (Delegate m) p = by p.list_b
     by (Some xs) = record { holds_same = refl; knows = λ has. has }
 is_judged setup t c q h Test p = record { holds_same = refl; knows = λ has. has }
 
-module _ (setup : Setting) (setting : IsSetting setup) (cores : ℕ → Core) (t : Trace) (stands : Stands setup cores t) (c : ℕ)
+module _ (setup : Setting) (setting : IsSetting setup) (cores : ℕ → Core) (t : Trace) (stands : Invariant setup cores t) (c : ℕ)
     (here : c < setup.cores)
     (a : ActiveCall) (active : (cores c).active ≡ Some a) (p : Pair)
     (stage_is : a.stage ≡ Undecided (Act (share_act (record p { at = LoadB }))))
@@ -198,7 +198,7 @@ module _ (setup : Setting) (setting : IsSetting setup) (cores : ℕ → Core) (t
             ∙ (stands.marks at d).owned mark);
         is_inside = marker_inside setup cores t stands at d mark;
         has_marked = stands.marked at d mark;
-        on_way = λ node. absurd (false≢true (ap is_node (sym tcap.is) ∙ node));
+        on_way = λ node. absurd (false≢true (ap holds_node (sym tcap.is) ∙ node));
       }
 
   by_mark : (budget version : ℕ) (mark : Option ℕ) → head_of_word was ≡ Some (record { budget = budget; mark = mark; version = version })
@@ -224,7 +224,7 @@ module _ (setup : Setting) (setting : IsSetting setup) (cores : ℕ → Core) (t
   load_b_good = by_word (head_of_word was) refl
 
 -- The load of a word of list B.
-module _ (setup : Setting) (setting : IsSetting setup) (cores : ℕ → Core) (t : Trace) (stands : Stands setup cores t) (c : ℕ)
+module _ (setup : Setting) (setting : IsSetting setup) (cores : ℕ → Core) (t : Trace) (stands : Invariant setup cores t) (c : ℕ)
     (here : c < setup.cores)
     (a : ActiveCall) (active : (cores c).active ≡ Some a) (p : Pair) (n : ℕ)
     (stage_is : a.stage ≡ Undecided (Act (share_act (record p { at = ListB (suc n) }))))

@@ -38,7 +38,7 @@ use Rattle.call_stages.specs.View.{Core}
 use Rattle.core_invariant.specs.Holding.{holds_counts}
 use Rattle.core_invariant.specs.Knows.{HasFound, own_in, KnowsUndecided}
 use Rattle.core_invariant.specs.Shares.{list_changed, list_word, read_up, HasBoth}
-use Rattle.core_invariant.specs.Stands.{holds_in, holds_head, Stands}
+use Rattle.core_invariant.specs.Invariant.{holds_in, holds_head, Invariant}
 use Rattle.core_invariant.specs.Words.{HeadIs, count_room}
 use Rattle.kept_knowledge.proofs.Carries.{own_kept}
 use Rattle.lent_words.proofs.Tcaps.{TcapOf}
@@ -57,7 +57,7 @@ same_alike [] (y ∷ ys) = refl
 same_alike (x ∷ xs) [] = refl
 same_alike (x ∷ xs) (y ∷ ys) = ap (λ b. x.0 == y.0 && (x.1 == y.1 && b)) (same_alike xs ys)
 
-pub range_of : (setup : Setting) → IsSetting setup → (cores : ℕ → Core) (t : Trace) → Stands setup cores t → (f : ℕ) (q : TcapFields)
+pub range_of : (setup : Setting) → IsSetting setup → (cores : ℕ → Core) (t : Trace) → Invariant setup cores t → (f : ℕ) (q : TcapFields)
     → (state_after setup t).frame f ≡ Kernel (Tcap q) → TcapInRange q
 range_of setup setting cores t stands f q is =
     subst (FrameInRange (state_after setup t).limits.epochs) is ((ranges_of setup setting t stands.legal).frames f)
@@ -72,7 +72,7 @@ pub record AreRead (s : State) (p : Pair) (read : Option (List (ℕ × ℕ))) : 
   pub version_b : p.head_b.version ≤ count_room s
   pub sum : (tcap_at s p.a).budget + (tcap_at s p.b).budget < 2 ^ 32
 
-module _ (setup : Setting) (setting : IsSetting setup) (cores : ℕ → Core) (t : Trace) (stands : Stands setup cores t) (c : ℕ)
+module _ (setup : Setting) (setting : IsSetting setup) (cores : ℕ → Core) (t : Trace) (stands : Invariant setup cores t) (c : ℕ)
     (here : c < setup.cores)
     (a : ActiveCall) (active : (cores c).active ≡ Some a) (p : Pair) (stage_is : a.stage ≡ Undecided (Act (share_act p)))
     (has : KnowsUndecided setup t c (cores c).own.table a (Act (share_act p)))
@@ -147,7 +147,7 @@ module _ (setup : Setting) (setting : IsSetting setup) (cores : ℕ → Core) (t
         }
 
 -- The call has stepped on each place through which its names are reached.
-module _ (setup : Setting) (setting : IsSetting setup) (cores : ℕ → Core) (t : Trace) (stands : Stands setup cores t) (c : ℕ)
+module _ (setup : Setting) (setting : IsSetting setup) (cores : ℕ → Core) (t : Trace) (stands : Invariant setup cores t) (c : ℕ)
     (here : c < setup.cores)
     (a : ActiveCall) (active : (cores c).active ≡ Some a) (p : Pair) (stage_is : a.stage ≡ Undecided (Act (share_act p)))
     (has : KnowsUndecided setup t c (cores c).own.table a (Act (share_act p)))

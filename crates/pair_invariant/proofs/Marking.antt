@@ -23,25 +23,25 @@ use Rattle.call_stages.specs.declared.stages.ActiveCall.{ActiveCall}
 use Rattle.call_stages.specs.View.{Core}
 use Rattle.core_invariant.specs.Holding.{settled_by, settled}
 use Rattle.core_invariant.specs.Knows.{phase_at, KnowsTail}
-use Rattle.core_invariant.specs.Stands.{holds, held_by, Stands}
+use Rattle.core_invariant.specs.Invariant.{holds, held_by, Invariant}
 use Rattle.core_invariant.proofs.Bare.{AsBefore}
-use Rattle.kept_words.proofs.Calm.{IsCalm, calm_counted, calm_words, counted_rises, none_stored, IsPlain, plain_time, plain_exit, plain_begins}
+use Rattle.kept_words.proofs.Calm.{IsCalm, calm_counted, calm_words, counted_rises, none_stored, IsUntimed, plain_time, plain_exit, plain_begins}
 use Rattle.step_ways.proofs.Flushing.{open_flushed}
 use Rattle.step_ways.proofs.Good.{IsGood, SparesBlanks}
 use Rattle.lent_words.proofs.Lent.{SparesLent, given_kept, lent_open}
-use Rattle.step_ways.proofs.Loads.{Lands, IsOfCall, next_at, core_at, core_is, call_is, in_call, inner, inner_within, inner_disciplined, inner_near, inner_works, inner_own}
+use Rattle.step_ways.proofs.Loads.{Lands, IsOfCall, next_at, core_in_call, core_is, call_is, in_call, inner, inner_within, inner_disciplined, inner_near, inner_works, inner_own}
 use Rattle.kept_words.proofs.Sums.{sums_stay}
 use Rattle.step_ways.proofs.Users.{spares_none}
 use Rattle.kept_words.proofs.WordFrames.{marks_own, hold_marks, hold_words, settled_stays}
 
-module _ (setup : Setting) (setting : IsSetting setup) (cores : ℕ → Core) (t : Trace) (stands : Stands setup cores t) (c : ℕ)
+module _ (setup : Setting) (setting : IsSetting setup) (cores : ℕ → Core) (t : Trace) (stands : Invariant setup cores t) (c : ℕ)
     (here : c < setup.cores)
     (a : ActiveCall) (active : (cores c).active ≡ Some a) (move : Move) (r : Reply) (tail : Tail) where
   abbrev pub e : Step
   e = inner setup setting cores t stands c here a active move (Some r) None
 
   abbrev pub after : Core
-  after = core_at (cores c) ((cores c).own.made + calls_counted r) (next_at a a.found (Decided r None tail))
+  after = core_in_call (cores c) ((cores c).own.made + calls_counted r) (next_at a a.found (Decided r None tail))
 
   abbrev pub was : ℕ
   was = last_left setup t (word_of move)
@@ -73,7 +73,7 @@ module _ (setup : Setting) (setting : IsSetting setup) (cores : ℕ → Core) (t
       ap (λ p. state_decided_in p r (state_after setup t) c) is_open ∙ state in
       let calm : IsCalm (state_after setup t) (state_after setup (e ∷ t)) c = subst (λ s. IsCalm (state_after setup t) s c) (sym after_it)
       (calm_counted (state_after setup t) c) in
-      let plain : IsPlain setup t e = record {
+      let plain : IsUntimed setup t e = record {
         begins = λ x. ap (λ p. begins_in (Some r) p (state_after setup t) c x) is_open ∙ none_begins x;
         ends = λ x. ap (λ p. ends_in (Some r) p x) is_open ∙ none_ends x;
         flushes = ap (flushes_in (Some r)) is_open ∙ no_flush;

@@ -46,13 +46,13 @@ use Rattle.core_invariant.specs.Holding.{holds_counts, settled_by}
 use Rattle.core_invariant.specs.Words.{HeadIs, count_room}
 use Rattle.core_invariant.specs.Knows.{KnowsUndecided}
 use Rattle.core_invariant.specs.Shares.{list_changed, TurnsHead, SparesTcap, HasTcap, HasMarkedA}
-use Rattle.core_invariant.specs.Stands.{holds_in, holds, held_by, Stands}
+use Rattle.core_invariant.specs.Invariant.{holds_in, holds, held_by, Invariant}
 use Rattle.core_invariant.proofs.Bare.{as_none, counts_bare}
 use Rattle.kept_knowledge.proofs.Carries.{names_on, counts_on}
 use Rattle.step_ways.proofs.Counting as counters
 use Rattle.step_ways.proofs.Good.{Spared, SparesBlanks}
 use Rattle.lent_words.proofs.Lent.{unlent_head_value, unlent_head_word, lent_free}
-use Rattle.step_ways.proofs.Loads.{IsOfCall, core_at, core_is, call_is, inner}
+use Rattle.step_ways.proofs.Loads.{IsOfCall, core_in_call, core_is, call_is, inner}
 use Rattle.step_ways.proofs.Refusals.{GoodTook, ticks_at, not_spent, refuses_raced}
 use Rattle.lent_words.proofs.Tcaps.{TcapOf}
 use Rattle.step_ways.proofs.Writes.{room_left}
@@ -75,7 +75,7 @@ spares_one setup t e f i q at is turns g j on =
     same_index : (g j : ℕ) → EntryAt f i ≡ EntryAt g j → i ≡ j
     same_index g j h = cc
 
-module _ (setup : Setting) (setting : IsSetting setup) (cores : ℕ → Core) (t : Trace) (stands : Stands setup cores t) (c : ℕ)
+module _ (setup : Setting) (setting : IsSetting setup) (cores : ℕ → Core) (t : Trace) (stands : Invariant setup cores t) (c : ℕ)
     (here : c < setup.cores)
     (a : ActiveCall) (active : (cores c).active ≡ Some a) (p : Pair)
     (stage_is : a.stage ≡ Undecided (Act (share_act (record p { at = MarkA }))))
@@ -276,7 +276,7 @@ module _ (setup : Setting) (setting : IsSetting setup) (cores : ℕ → Core) (t
         (now_marked ∙ sym (ap (λ b. if b then Some c else None)
         (ap (λ b. if b then true else (holds_counts None a.counts).marks at) (same_same at))))
         (λ b other is_marked. none_some b (sym bare ∙ is_marked))
-        (settles (core_at (cores c) ((cores c).own.made + 1)
+        (settles (core_in_call (cores c) ((cores c).own.made + 1)
         (Rattle.step_ways.proofs.Loads.next_at a a.found (Decided r None (share_tail (record p { at = giving_back })))))
         (ap (λ b. if b then true else (holds_counts None a.counts).marks at) (same_same at))
         (ap (λ b. if b then old else (holds_counts None a.counts).stands at) (same_same at)))
@@ -320,7 +320,7 @@ module _ (setup : Setting) (setting : IsSetting setup) (cores : ℕ → Core) (t
     next = went a (Undecided (Act (share_act goes_p)))
 
     abbrev after : Core
-    after = core_at (cores c) (cores c).own.made next
+    after = core_in_call (cores c) (cores c).own.made next
 
     marks_it : (holds after).marks at ≡ true
     marks_it = ap (λ b. if b then true else (holds_counts None a.counts).marks at) (same_same at)

@@ -25,9 +25,9 @@ use Rattle.call_stages.specs.View.{Core}
 use Rattle.core_invariant.specs.Holding.{settled}
 use Rattle.core_invariant.specs.Knows.{WorksIn}
 use Rattle.core_invariant.specs.Shares.{HasTcap}
-use Rattle.core_invariant.specs.Stands.{held_by, times_of, counted_in, Stands}
+use Rattle.core_invariant.specs.Invariant.{held_by, times_of, counted_in, Invariant}
 use Rattle.core_invariant.specs.Words.{IsFrameWord, count_room}
-use Rattle.kept_words.proofs.Calm.{IsPlain, plain_stamp, plain_flush, plain_exit}
+use Rattle.kept_words.proofs.Calm.{IsUntimed, plain_stamp, plain_flush, plain_exit}
 use Rattle.kept_words.proofs.CountSums.{counted_refs}
 use Rattle.step_ways.proofs.Loads.{inner}
 use Rattle.core_invariant.proofs.Sounds.{limits_of}
@@ -98,9 +98,9 @@ pub record IsMoved (setup : Setting) (t : Trace) (e : Step) (f g : ℕ) (q r q' 
   pub below_first : f < (state_after setup t).limits.frames
   pub below_second : g < (state_after setup t).limits.frames
   pub now : state_after setup (e ∷ t) ≡ counted (with_both (state_after setup t) f q' g r') e.core
-  pub plain : IsPlain setup t e
+  pub plain : IsUntimed setup t e
 
-module _ (setup : Setting) (setting : IsSetting setup) (cores : ℕ → Core) (t : Trace) (stands : Stands setup cores t) (c : ℕ)
+module _ (setup : Setting) (setting : IsSetting setup) (cores : ℕ → Core) (t : Trace) (stands : Invariant setup cores t) (c : ℕ)
     (here : c < setup.cores)
     (a : ActiveCall) (active : (cores c).active ≡ Some a) (move : Move) (f g : ℕ) (q r q' r' : TcapFields)
     (is : IsMoved setup t (inner setup setting cores t stands c here a active move (Some (reply.Ok value.Nothing)) None) f g q r q'

@@ -42,7 +42,7 @@ use Rattle.call_stages.specs.View.{Core}
 use Rattle.core_invariant.specs.Holding.{holds_counts}
 use Rattle.core_invariant.specs.Knows.{due_of, KnowsUndecided, phase_at, HasFound, own_in}
 use Rattle.core_invariant.specs.Shares.{IsShared, SharesBy}
-use Rattle.core_invariant.specs.Stands.{holds_share, holds_at, holds_in, Stands}
+use Rattle.core_invariant.specs.Invariant.{holds_share, holds_at, holds_in, Invariant}
 use Rattle.step_ways.proofs.Loads.{call_is, is_active}
 use Rattle.lent_words.proofs.Tcaps.{TcapOf, tcap_of}
 
@@ -109,7 +109,7 @@ name_near s c call ks leads at k is kind_is f frame_is =
     near_found s c call ks leads at k is f
     (ap (λ (j : Kind). is_one_of f (named_by j k.frame)) kind_is ∙ ap (λ b. b || false) (eq-eqb k.frame f (sym frame_is)))
 
-module _ (setup : Setting) (setting : IsSetting setup) (cores : ℕ → Core) (t : Trace) (stands : Stands setup cores t) (c : ℕ)
+module _ (setup : Setting) (setting : IsSetting setup) (cores : ℕ → Core) (t : Trace) (stands : Invariant setup cores t) (c : ℕ)
     (here : c < setup.cores)
     (a : ActiveCall) (active : (cores c).active ≡ Some a) (p : Pair) (stage_is : a.stage ≡ Undecided (Act (share_act p)))
     (has : KnowsUndecided setup t c (cores c).own.table a (Act (share_act p))) where

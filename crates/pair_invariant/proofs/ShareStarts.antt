@@ -46,7 +46,7 @@ use Rattle.call_stages.specs.View.{Core}
 use Rattle.core_invariant.specs.Holding.{holds_counts}
 use Rattle.core_invariant.specs.Knows.{due_of, NamesAre, phase_at}
 use Rattle.core_invariant.specs.Shares.{HasTcap, IsShared, SharesBy}
-use Rattle.core_invariant.specs.Stands.{holds_in, Stands}
+use Rattle.core_invariant.specs.Invariant.{holds_in, Invariant}
 use Rattle.step_ways.proofs.Loads.{OnlyLooks, step_to, call_is, core_is, is_active, loads_on, decides_on}
 use Rattle.step_ways.proofs.Refusals.{GoodTook, not_spent}
 use Rattle.pair_invariant.proofs.ShareCalls.{causes_of, change_by}
@@ -102,7 +102,7 @@ two_led s c x y (j ∷ []) leads none = absurd (cc)
 two_led s c x y (j ∷ k ∷ []) leads none = record { first = j; second = k; both = refl; first_led = leads.0; second_led = leads.1.0 }
 two_led s c x y (j ∷ k ∷ l ∷ ks) leads none = absurd (leads.1.1)
 
-module _ (setup : Setting) (setting : IsSetting setup) (cores : ℕ → Core) (t : Trace) (stands : Stands setup cores t) (c : ℕ)
+module _ (setup : Setting) (setting : IsSetting setup) (cores : ℕ → Core) (t : Trace) (stands : Invariant setup cores t) (c : ℕ)
     (here : c < setup.cores)
     (a : ActiveCall) (active : (cores c).active ≡ Some a) (opens : phase_at a.call a.stage ≡ Open a.call)
     (held_is : holds_in (Some a) ≡ holds_counts None a.counts) (no_counts : a.counts ≡ [])

@@ -45,12 +45,12 @@ use Rattle.core_invariant.specs.Holding.{holds_counts, settled_by, settled}
 use Rattle.core_invariant.specs.Words.{HeadIs, IsFrameWord, count_room}
 use Rattle.core_invariant.specs.Knows.{due_of, KnowsUndecided, phase_at}
 use Rattle.core_invariant.specs.Shares.{HasTcap, HasMarkedA, IsShared, SharesBy, KnowsPairAt, StoresA, KnowsShared}
-use Rattle.core_invariant.specs.Stands.{holds_share, holds_at, holds_in, holds, held_by, Stands}
+use Rattle.core_invariant.specs.Invariant.{holds_share, holds_at, holds_in, holds, held_by, Invariant}
 use Rattle.kept_knowledge.proofs.Carries.{names_on}
 use Rattle.kept_words.proofs.CountSums.{counted_refs}
 use Rattle.core_invariant.proofs.ActBares.{open_bare}
 use Rattle.lent_words.proofs.Lent.{unlent_head_value, unlent_list_value}
-use Rattle.step_ways.proofs.Loads.{OnlyLooks, Lands, step_to, next_at, core_at, inner, loads_on, decides_with}
+use Rattle.step_ways.proofs.Loads.{OnlyLooks, Lands, step_to, next_at, core_in_call, inner, loads_on, decides_with}
 use Rattle.lent_words.proofs.Pairs.{marked_on}
 use Rattle.step_ways.proofs.Refusals.{GoodTook}
 use Rattle.step_ways.proofs.Writes.{room_left}
@@ -89,7 +89,7 @@ counted_tcap s c f has = record { tcap = has.tcap; guarded = by has.guarded }
     by (inl some) = inl (subst (λ (n : ℕ). 0 < n) (sym (counted_refs s c f)) some)
     by (inr waits) = inr waits
 
-module _ (setup : Setting) (setting : IsSetting setup) (cores : ℕ → Core) (t : Trace) (stands : Stands setup cores t) where
+module _ (setup : Setting) (setting : IsSetting setup) (cores : ℕ → Core) (t : Trace) (stands : Invariant setup cores t) where
   abbrev s : State
   s = state_after setup t
 
@@ -142,7 +142,7 @@ module _ (setup : Setting) (setting : IsSetting setup) (cores : ℕ → Core) (t
         not_none d h = cc
 
 -- The steps of the call.
-module _ (setup : Setting) (setting : IsSetting setup) (cores : ℕ → Core) (t : Trace) (stands : Stands setup cores t) (c : ℕ)
+module _ (setup : Setting) (setting : IsSetting setup) (cores : ℕ → Core) (t : Trace) (stands : Invariant setup cores t) (c : ℕ)
     (here : c < setup.cores)
     (a : ActiveCall) (active : (cores c).active ≡ Some a) (p : Pair) (stage_is : a.stage ≡ Undecided (Act (share_act p)))
     (has : KnowsUndecided setup t c (cores c).own.table a (Act (share_act p))) where
@@ -186,7 +186,7 @@ module _ (setup : Setting) (setting : IsSetting setup) (cores : ℕ → Core) (t
 
   -- From when head A is marked.
   module _ (n : ℕ) (marked_a : HasMarkedA setup t p n)
-      (held : holds_in (Some a) ≡ Rattle.core_invariant.specs.Stands.holds_head p false (holds_counts None a.counts)) where
+      (held : holds_in (Some a) ≡ Rattle.core_invariant.specs.Invariant.holds_head p false (holds_counts None a.counts)) where
     abbrev at_a : Word
     at_a = EntryAt p.a 0
 
@@ -259,15 +259,15 @@ module _ (setup : Setting) (setting : IsSetting setup) (cores : ℕ → Core) (t
     -- it is decided by a load, or by a lost compare, and head A is given back
     pub load_decides : (move : Move) → OnlyLooks setup t c a.call move → (r : Reply) (q : Pair) (v : Value)
         → q.a ≡ p.a → q.core ≡ p.core → q.head_a ≡ p.head_a → q.at ≡ StoreA false v
-        → Rattle.core_invariant.specs.Stands.holds_shared q q.at (holds_counts (Rattle.core_invariant.specs.Stands.done_by r None) a.counts)
+        → Rattle.core_invariant.specs.Invariant.holds_shared q q.at (holds_counts (Rattle.core_invariant.specs.Invariant.done_by r None) a.counts)
         ≡ holds_in (Some a)
         → state_by before c a.call r ≡ counted before c → calls_counted r ≡ 1
         → ((x : Thing) → begins before c a.call r x ≡ false) → ((x : Thing) → ends a.call r x ≡ false) → flushes a.call r ≡ false
         → MayReply before c a.call r → IsJustified setup t (inner setup setting cores t stands c here a active move (Some r) None) a.call r
         → (IsAlone t (inner setup setting cores t stands c here a active move (Some r) None) → r ≡ alone before c a.call)
-        → Lands setup (core_at (cores c) ((cores c).own.made + calls_counted r) (next_at a a.found (Decided r None (share_tail q)))) (word_of move)
+        → Lands setup (core_in_call (cores c) ((cores c).own.made + calls_counted r) (next_at a a.found (Decided r None (share_tail q)))) (word_of move)
         → Rattle.step_ways.proofs.Good.IsGood setup cores t (inner setup setting cores t stands c here a active move (Some r) None)
-        (core_at (cores c) ((cores c).own.made + calls_counted r) (next_at a a.found (Decided r None (share_tail q))))
+        (core_in_call (cores c) ((cores c).own.made + calls_counted r) (next_at a a.found (Decided r None (share_tail q))))
     load_decides move looks r q v first core head at_is held_so state one none_begins none_ends no_flush permitted justified answers lands =
         let e : Step = inner setup setting cores t stands c here a active move (Some r) None in
         let now : state_after setup (e ∷ t) ≡ counted before c = ap (λ x. state_decided_in x r before c) open_now ∙ state in

@@ -47,10 +47,10 @@ use Rattle.call_stages.specs.View.{Core}
 use Rattle.core_invariant.specs.Holding.{Holding, holds_counts, settled_by, settled}
 use Rattle.core_invariant.specs.Words.{PlaceIs, count_room}
 use Rattle.core_invariant.specs.Knows.{IsStored, KnowsUndecided, phase_at}
-use Rattle.core_invariant.specs.Stands.{done_by, holds_at, holds_in, holds, held_by, times_of, Stands}
+use Rattle.core_invariant.specs.Invariant.{done_by, holds_at, holds_in, holds, held_by, times_of, Invariant}
 use Rattle.kept_knowledge.proofs.Carries.{names_on, removal_on, slot_relies, counts_on}
 use Rattle.step_ways.proofs.Counting as counters
-use Rattle.step_ways.proofs.Loads.{IsOfCall, core_at, inner, call_is, is_active}
+use Rattle.step_ways.proofs.Loads.{IsOfCall, core_in_call, inner, call_is, is_active}
 use Rattle.step_ways.proofs.Places.{node_mark, node_says}
 use Rattle.step_ways.proofs.Refusals.{GoodTook, ticks_at, refuses_raced}
 use Rattle.count_invariant.proofs.Acquiring.{removal_places, plan_leads, goes_by}
@@ -85,7 +85,7 @@ spelled n Free r x is = by_value entry.Free x is refl
 spelled n (Holds k) r x is = by_value (entry.Held k) x is.0 refl
 spelled n (Quiescing k) r x is = by_value (entry.Quiescing r) x is.says refl
 
-module _ (setup : Setting) (setting : IsSetting setup) (cores : ℕ → Core) (t : Trace) (stands : Stands setup cores t) (c : ℕ)
+module _ (setup : Setting) (setting : IsSetting setup) (cores : ℕ → Core) (t : Trace) (stands : Invariant setup cores t) (c : ℕ)
     (here : c < setup.cores)
     (a : ActiveCall) (active : (cores c).active ≡ Some a) (node index : ℕ) where
   abbrev s : State
@@ -187,7 +187,7 @@ module _ (setup : Setting) (setting : IsSetting setup) (cores : ℕ → Core) (t
       next = went a (Undecided (Act (remove_act (AtDraw node index) cap)))
 
       abbrev after : Core
-      after = core_at (cores c) (cores c).own.made next
+      after = core_in_call (cores c) (cores c).own.made next
 
       before : holds (cores c) ≡ holds_counts None a.counts
       before = ap holds_in active ∙ held_is
@@ -282,7 +282,7 @@ module _ (setup : Setting) (setting : IsSetting setup) (cores : ℕ → Core) (t
     store_at lands =
         let next : ActiveCall = went_with a a.counts (Decided r drawn Nothing) in
         let e : Step = inner setup setting cores t stands c here a active store None None in
-        let after : Core = core_at (cores c) (cores c).own.made next in
+        let after : Core = core_in_call (cores c) (cores c).own.made next in
         counters.holds_on setup setting cores t stands c here a active store next (λ b. refl) (not_clock node index) refl
         (record { moves = changes_node a.call (s.frame node) has.places has.relies.node; near = inr has.near }) lands says.small
         (λ w there. (

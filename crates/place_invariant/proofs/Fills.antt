@@ -60,7 +60,7 @@ use Rattle.act_states.specs.Acts.{cap_dues, gate_if, gate_to, put_by, reads_of, 
 use Rattle.act_fits.proofs.DuesFit.{cap_one}
 use Rattle.kernel_rules.specs.References.{named_by, times, refs}
 use Rattle.kept_words.proofs.WordFrames.{reads_alike}
-use Rattle.kept_words.proofs.Calm.{room_grows, IsCalm, calm_core, IsPlain, plain_stamp}
+use Rattle.kept_words.proofs.Calm.{room_grows, IsCalm, calm_core, IsUntimed, plain_stamp}
 use Rattle.kept_words.proofs.CountSums.{fill_refs}
 use Rattle.core_invariant.proofs.Sounds.{limits_of}
 use Rattle.count_invariant.proofs.CapChanges.{counts_commit, counts_sum}
@@ -74,10 +74,10 @@ use Rattle.call_stages.specs.View.{Core}
 use Rattle.call_stages.specs.Fits.{StageFits, HasRoom}
 use Rattle.core_invariant.specs.Words.{PlaceIs, IsFrameWord, WordIs, count_room}
 use Rattle.core_invariant.specs.Knows.{HasFound, IsRead, ReadIs, MayFill, KnowsUndecided, own_in, phase_at, HasUser}
-use Rattle.core_invariant.specs.Stands.{holds_at, holds_in, holds, times_of, Stands}
+use Rattle.core_invariant.specs.Invariant.{holds_at, holds_in, holds, times_of, Invariant}
 use Rattle.kept_knowledge.proofs.Carries.{own_kept, slot_relies}
-use Rattle.step_ways.proofs.Loads.{IsOfCall, next_at, core_at, inner, call_is, is_active}
-use Rattle.step_ways.proofs.Places.{IsMarked, IsPlain as IsUnmarked, node_mark, place_reads}
+use Rattle.step_ways.proofs.Loads.{IsOfCall, next_at, core_in_call, inner, call_is, is_active}
+use Rattle.step_ways.proofs.Places.{IsMarked, IsUntimed as IsUnmarked, node_mark, place_reads}
 use Rattle.step_ways.proofs.Refusals.{GoodTook, ticks_at, not_spent, refuses_raced}
 use Rattle.look_invariant.proofs.Lookups.{slot_right, slot_one, near_way}
 use Rattle.look_invariant.proofs.Findings.{own_is, found_named, way_gone}
@@ -155,7 +155,7 @@ target_way s c (InRoot table i) at is =
     slot_right (root_passed (InRoot table i)) (option_to_list (led_to s (InRoot table i))) at.node at.index
     (ap (λ o. is_slot_in (option_to_list o) at.node at.index) is ∙ slot_one at.node at.index)
 
-module _ (setup : Setting) (setting : IsSetting setup) (cores : ℕ → Core) (t : Trace) (stands : Stands setup cores t) (c : ℕ)
+module _ (setup : Setting) (setting : IsSetting setup) (cores : ℕ → Core) (t : Trace) (stands : Invariant setup cores t) (c : ℕ)
     (here : c < setup.cores)
     (a : ActiveCall) (node index word : ℕ) (k : Capability) (active : (cores c).active ≡ Some a)
     (stage_is : a.stage ≡ Undecided (Act (fill_act (record { node = node; entry = index; word = word; cap = k }))))
@@ -273,7 +273,7 @@ module _ (setup : Setting) (setting : IsSetting setup) (cores : ℕ → Core) (t
     calm = subst (λ x. IsCalm s x c) (sym now) (calm_core s (counted (with_place s node index (Holds k)) c) c _ refl (λ g. refl)
         (λ l. refl) refl refl (omega arith))
 
-    plain : IsPlain setup t e
+    plain : IsUntimed setup t e
     plain = record {
       begins = λ x. ap (λ p. begins_then (Some (reply.Ok Nothing)) p s c x) is_open ∙ ap (λ y. begins_in y x) change;
       ends = λ x. ap (λ p. ends_in (Some (reply.Ok Nothing)) p x) is_open ∙ puts.ends x;
@@ -351,7 +351,7 @@ module _ (setup : Setting) (setting : IsSetting setup) (cores : ℕ → Core) (t
 
     -- what it makes of the counts
     abbrev after : Core
-    after = core_at (cores c) ((cores c).own.made + calls_counted (reply.Ok Nothing))
+    after = core_in_call (cores c) ((cores c).own.made + calls_counted (reply.Ok Nothing))
         (next_at a a.found (Decided (reply.Ok Nothing) None no_tail))
 
     bare_now : mark_of s (EntryAt node index) (left_of compare was) ≡ None
@@ -563,7 +563,7 @@ puts_by s c target q (Delegate x y m) ks lead none next read has_read puts user 
 puts_by s c target q (Test x y) ks lead none next read has_read puts user = absurd (cc)
 puts_by s c target q (Switch x y) ks lead none next read has_read puts user = absurd (cc)
 
-module _ (setup : Setting) (setting : IsSetting setup) (cores : ℕ → Core) (t : Trace) (stands : Stands setup cores t) (c : ℕ)
+module _ (setup : Setting) (setting : IsSetting setup) (cores : ℕ → Core) (t : Trace) (stands : Invariant setup cores t) (c : ℕ)
     (here : c < setup.cores)
     (a : ActiveCall) (fill : Fill) (active : (cores c).active ≡ Some a) (stage_is : a.stage ≡ Undecided (Act (fill_act fill)))
     (has : KnowsUndecided setup t c (cores c).own.table a (Act (fill_act fill))) where

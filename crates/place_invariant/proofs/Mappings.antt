@@ -58,7 +58,7 @@ use Rattle.call_stages.specs.Steps.{landed}
 use Rattle.call_stages.specs.View.{Core}
 use Rattle.core_invariant.specs.Holding.{holds_counts, settled_by}
 use Rattle.core_invariant.specs.Knows.{ReadIs, HasUser, IsUser, IsCount, due_of, IsMapping, mapped_frame, is_mapping, KnowsUndecided, phase_at}
-use Rattle.core_invariant.specs.Stands.{holds_at, holds_in, held_by, Stands}
+use Rattle.core_invariant.specs.Invariant.{holds_at, holds_in, held_by, Invariant}
 use Rattle.step_ways.proofs.Counting.{first_marked}
 use Rattle.kept_knowledge.proofs.Carries.{names_on, spot_on, slot_relies}
 use Rattle.step_ways.proofs.Loads.{OnlyLooks, step_to, inner, core_is, call_is, is_active, loads_on, decides_on}
@@ -151,7 +151,7 @@ map_rule_of s c p v r f w [] k target leads next puts = absurd (cc)
 map_rule_of s c p v r f w (x ∷ []) k target leads next puts = absurd (cc)
 map_rule_of s c p v r f w (x ∷ y ∷ z ∷ ks) k target leads next puts = absurd leads.1.1
 
-module _ (setup : Setting) (setting : IsSetting setup) (cores : ℕ → Core) (t : Trace) (stands : Stands setup cores t) (c : ℕ)
+module _ (setup : Setting) (setting : IsSetting setup) (cores : ℕ → Core) (t : Trace) (stands : Invariant setup cores t) (c : ℕ)
     (here : c < setup.cores)
     (a : ActiveCall) (active : (cores c).active ≡ Some a) (fill : Fill) (stage_is : a.stage ≡ Undecided (Act (map_act fill)))
     (has : KnowsUndecided setup t c (cores c).own.table a (Act (map_act fill))) where

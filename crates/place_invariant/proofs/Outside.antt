@@ -36,7 +36,7 @@ use Rattle.act_states.specs.Objects.{object_kind, object_made}
 use Rattle.call_stages.specs.declared.stages.ActiveCall.{ActiveCall}
 use Rattle.call_stages.specs.View.{Core}
 use Rattle.core_invariant.specs.Knows.{IsSpot, MayFill, OutsideBy, OutsideObject, OutsideComp, NamesAre, phase_at}
-use Rattle.core_invariant.specs.Stands.{Stands}
+use Rattle.core_invariant.specs.Invariant.{Invariant}
 use Rattle.step_ways.proofs.Loads.{step_to, call_is, is_active}
 use Rattle.step_ways.proofs.Places.{IsMarked, IsPlain as IsUnmarked, place_reads}
 use Rattle.core_invariant.proofs.Sounds.{limits_of}
@@ -190,7 +190,7 @@ refusable s c (Map p v r f w) (k ∷ j ∷ i ∷ ks) target out leads next = abs
 refusable s c call ks target out leads next = absurd out
 
 -- A call is refused whose frame is outside its range, where its target is reached and, if the call is alone, vacant.
-module _ (setup : Setting) (setting : IsSetting setup) (cores : ℕ → Core) (t : Trace) (stands : Stands setup cores t) (c : ℕ)
+module _ (setup : Setting) (setting : IsSetting setup) (cores : ℕ → Core) (t : Trace) (stands : Invariant setup cores t) (c : ℕ)
     (here : c < setup.cores)
     (a : ActiveCall) (active : (cores c).active ≡ Some a)
     (names : NamesAre setup t c (cores c).own.table a.plan a.found) (node index : ℕ) (target : Target)
@@ -247,7 +247,7 @@ stands_alone setup t c node index word own move r alone = elim (cases_eq (last_l
 ]
 
 -- It is vacant where its word stands still that the call has read there, as it does if the call is alone.
-module _ (setup : Setting) (setting : IsSetting setup) (cores : ℕ → Core) (t : Trace) (stands : Stands setup cores t) (c : ℕ)
+module _ (setup : Setting) (setting : IsSetting setup) (cores : ℕ → Core) (t : Trace) (stands : Invariant setup cores t) (c : ℕ)
     (here : c < setup.cores)
     (a : ActiveCall) (active : (cores c).active ≡ Some a) (opens : phase_at a.call a.stage ≡ Open a.call)
     (names : NamesAre setup t c (cores c).own.table a.plan a.found) (node index word : ℕ)

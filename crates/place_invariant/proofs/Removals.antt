@@ -71,7 +71,7 @@ use Rattle.core_invariant.specs.CountWords.{IsWithin}
 use Rattle.core_invariant.specs.Holding.{Holding, holds_counts, settled_by, settled}
 use Rattle.core_invariant.specs.Words.{PlaceIs, WordIs, count_room}
 use Rattle.core_invariant.specs.Knows.{HasFound, KnowsStore, KnowsUndecided, own_in, phase_at}
-use Rattle.core_invariant.specs.Stands.{holds_at, holds_in, holds, held_by, times_of, Stands}
+use Rattle.core_invariant.specs.Invariant.{holds_at, holds_in, holds, held_by, times_of, Invariant}
 use Rattle.kept_words.proofs.Calm.{IsCalm, calm_core, plain_exit, room_rises, room_grows, counted_grows}
 use Rattle.kept_knowledge.proofs.Carries.{own_kept, slot_relies}
 use Rattle.kept_words.proofs.CountSums.{removed_refs}
@@ -202,7 +202,7 @@ one_less : (m n : ℕ) → n + 1 ≡ m → pos n ≡ pos m +ℤ negsuc 0
 one_less m n is = sym (ap (λ (k : ℕ). pos k +ℤ negsuc 0) (sym is) ∙ ap (λ z. z +ℤ negsuc 0) (sym (pos-+ℤ-pos n 1)) ∙ +ℤ_assoc (pos n)
     (pos 1) (negsuc 0) ∙ ap (λ z. pos n +ℤ z) (+ℤ_invr (pos 1)) ∙ +ℤ_idr (pos n))
 
-module _ (setup : Setting) (setting : IsSetting setup) (cores : ℕ → Core) (t : Trace) (stands : Stands setup cores t) (c : ℕ)
+module _ (setup : Setting) (setting : IsSetting setup) (cores : ℕ → Core) (t : Trace) (stands : Invariant setup cores t) (c : ℕ)
     (here : c < setup.cores)
     (a : ActiveCall) (active : (cores c).active ≡ Some a) (node index : ℕ) (cap : Capability)
     (stage_is : a.stage ≡ Undecided (Act (remove_act (AtDraw node index) cap)))
@@ -547,7 +547,7 @@ module _ (setup : Setting) (setting : IsSetting setup) (cores : ℕ → Core) (t
   draw_good = draw_at (drawn_stamp x) drawn
 
 -- The step of a removal.
-pub remove_good : (setup : Setting) → IsSetting setup → (cores : ℕ → Core) (t : Trace) → Stands setup cores t → (c : ℕ) → c < setup.cores
+pub remove_good : (setup : Setting) → IsSetting setup → (cores : ℕ → Core) (t : Trace) → Invariant setup cores t → (c : ℕ) → c < setup.cores
     → (a : ActiveCall) → (cores c).active ≡ Some a
     → (close : Close) (cap : Capability) → a.stage ≡ Undecided (Act (remove_act close cap))
     → KnowsUndecided setup t c (cores c).own.table a (Act (remove_act close cap))
@@ -581,7 +581,7 @@ remove_good setup setting cores t stands c here a active (AtDraw node index) cap
         by (NoneLeft none) = none
 
 -- The store of a decided removal.
-pub store_good : (setup : Setting) → IsSetting setup → (cores : ℕ → Core) (t : Trace) → Stands setup cores t → (c : ℕ) → c < setup.cores
+pub store_good : (setup : Setting) → IsSetting setup → (cores : ℕ → Core) (t : Trace) → Invariant setup cores t → (c : ℕ) → c < setup.cores
     → (a : ActiveCall) → (cores c).active ≡ Some a
     → (r : Reply) (drawn : Option ℕ) (close : Close) → a.stage ≡ Decided r drawn (Quiesce close) → KnowsStore setup t c a.call close
     → GoodTook setup cores t c (close_move close) (GoesOn (went_with a a.counts (Decided r drawn Nothing)))

@@ -36,7 +36,7 @@ use Rattle.call_stages.specs.Steps.{landed}
 use Rattle.call_stages.specs.View.{Core}
 use Rattle.core_invariant.specs.Holding.{Holding, holds_counts}
 use Rattle.core_invariant.specs.Knows.{AreDuesApart, due_of, KnowsAct, NamesAre, is_start, is_counting, goes_on, phase_at}
-use Rattle.core_invariant.specs.Stands.{holds_act, holds_making, holds_in, Stands, holds_killing, holds_comp}
+use Rattle.core_invariant.specs.Invariant.{holds_act, holds_making, holds_in, Invariant, holds_killing, holds_comp}
 use Rattle.kept_knowledge.proofs.Carries.{names_on}
 use Rattle.step_ways.proofs.Loads.{OnlyLooks, step_to, next_at, core_is, call_is, loads_on, decides_on}
 use Rattle.step_ways.proofs.Refusals.{GoodTook, not_spent}
@@ -157,7 +157,7 @@ pub record IsRefusedOutside (setup : Setting) (t : Trace) (c : ℕ) (call : Call
   pub first : IsAlone t (step_to c None move (last_left setup t (word_of move)) (Some reply.OutOfRange) None)
       → change_of (state_after setup t) c call ≡ Refused reply.OutOfRange
 
-module _ (setup : Setting) (setting : IsSetting setup) (cores : ℕ → Core) (t : Trace) (stands : Stands setup cores t) (c : ℕ)
+module _ (setup : Setting) (setting : IsSetting setup) (cores : ℕ → Core) (t : Trace) (stands : Invariant setup cores t) (c : ℕ)
     (here : c < setup.cores)
     (a : ActiveCall) (active : (cores c).active ≡ Some a) (opens : phase_at a.call a.stage ≡ Open a.call)
     (held_is : holds_in (Some a) ≡ holds_counts None a.counts) (no_counts : a.counts ≡ [])

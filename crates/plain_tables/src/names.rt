@@ -3,7 +3,7 @@
 ghost use Rattle.std.specs.Prelude.{◌≡◌, ◌<◌, ◌++◌, OnOk, [], ◌∷◌, Some, length, slice_get, reverse};
 ghost use Rattle.kernel_rules.specs.State.{Kernel};
 ghost use Rattle.kernel_rules.specs.References.{sum_below, times, named_by, place_names, frame_names, number_names, core_names, refs};
-ghost use Rattle.seq_state.specs.Parts.{place_of, object_of, frame_of, number_of, core_of};
+ghost use Rattle.seq_state.specs.Parts.{place_held, object_of, frame_of, number_of, core_of};
 ghost use Rattle.seq_state.specs.Maps.{state_of};
 ghost use Rattle.table_lines.specs.Counting.{Adds};
 
@@ -31,7 +31,7 @@ fn push_cap(names: &mut Vec<u64>, cap: &Cap) -> Result<(), AllocError>
 }
 
 fn push_place(names: &mut Vec<u64>, place: &Place) -> Result<(), AllocError>
-    ensures { OnOk result (names.new.items ≡ names.old.items ++ place_names (place_of place.now)) }
+    ensures { OnOk result (names.new.items ≡ names.old.items ++ place_names (place_held place.now)) }
 {
     match place {
         Place::Free => Ok(()),

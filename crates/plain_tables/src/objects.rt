@@ -3,7 +3,7 @@
 ghost use Rattle.std.specs.Prelude.{◌≡◌, ◌<◌, ◌++◌, OnOk, string_bytes, reverse, Some, length, slice_get};
 ghost use Rattle.std.specs.List.{flat_map};
 ghost use Rattle.kernel_history.specs.Tables.{number, entry_line, node_lines, comp_line, thread_line, quality_line, tcap_lines};
-ghost use Rattle.seq_state.specs.Parts.{place_of, comp_fields_of, thread_fields_of, tcap_fields_of};
+ghost use Rattle.seq_state.specs.Parts.{place_held, comp_fields_of, thread_fields_of, tcap_fields_of};
 ghost use Rattle.seq_state.specs.Maps.{state_of};
 
 use crate::names::frame_at;
@@ -16,7 +16,7 @@ use table_lines::{
 
 // Appends the line of an entry that is held.
 fn push_place(text: &mut String, index: u16, place: &Place) -> Result<(), AllocError>
-    ensures { OnOk result (string_bytes text.new ≡ string_bytes text.old ++ entry_line index (place_of place.now)) }
+    ensures { OnOk result (string_bytes text.new ≡ string_bytes text.old ++ entry_line index (place_held place.now)) }
 {
     match place {
         Place::Free => Ok(()),

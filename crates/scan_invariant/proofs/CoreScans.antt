@@ -49,7 +49,7 @@ use Rattle.call_stages.specs.Steps.{landed, took_scan}
 use Rattle.call_stages.specs.View.{Core}
 use Rattle.core_invariant.specs.Holding.{holds_counts}
 use Rattle.core_invariant.specs.Knows.{HasPassed, IsScanned, MayFill, KnowsAct, KnowsUndecided, phase_at, IsSpot, goes_on as goes_on_act, HasFlushed, KnowsScan, KnowsQuiet, scanned_for}
-use Rattle.core_invariant.specs.Stands.{holds_at, holds_in, Stands}
+use Rattle.core_invariant.specs.Invariant.{holds_at, holds_in, Invariant}
 use Rattle.kept_knowledge.proofs.Carries.{start_pairs, names_on, act_on, ReadsSame, slot_relies}
 use Rattle.step_ways.proofs.Users.{users_kept}
 use Rattle.step_ways.proofs.Loads.{OnlyLooks, step_to, inner, core_is, call_is, is_active, loads_on, decides_on, next_at}
@@ -63,7 +63,7 @@ use Rattle.call_plans.specs.PlanOf.{plan_for}
 use Rattle.place_invariant.proofs.Paging.{paging_by}
 use Rattle.place_invariant.proofs.Vacancy.{unpaged_flushed}
 
-module _ (setup : Setting) (setting : IsSetting setup) (cores : ℕ → Core) (t : Trace) (stands : Stands setup cores t) (c : ℕ)
+module _ (setup : Setting) (setting : IsSetting setup) (cores : ℕ → Core) (t : Trace) (stands : Invariant setup cores t) (c : ℕ)
     (here : c < setup.cores)
     (a : ActiveCall) (active : (cores c).active ≡ Some a) (x by at : ℕ) (page : Bool) (act : ActOf) (node index word : ℕ)
     (stage_is : a.stage ≡ Undecided (Scan (AtCore x by at page) act))

@@ -54,7 +54,7 @@ use Rattle.call_stages.specs.View.{Core}
 use Rattle.core_invariant.specs.Holding.{holds_counts}
 use Rattle.core_invariant.specs.Words.{PlaceIs}
 use Rattle.core_invariant.specs.Knows.{HasPassed, HasFlushed, MayFill, KnowsAct, KnowsUndecided, scanned_for, phase_at, IsSpot, CallIs, goes_on as goes_on_act}
-use Rattle.core_invariant.specs.Stands.{holds_at, holds_in, Stands}
+use Rattle.core_invariant.specs.Invariant.{holds_at, holds_in, Invariant}
 use Rattle.kept_words.proofs.Calm.{stored_by}
 use Rattle.step_ways.proofs.Flushing.{none_flushing}
 use Rattle.kept_knowledge.proofs.Carries.{start_pairs, ReadsSame, slot_relies, names_on, act_on}
@@ -72,7 +72,7 @@ use Rattle.place_invariant.proofs.Vacancy.{IsRemovedSince, removed_is, none_wait
 
 -- what a flush word tells
 
-module _ (setup : Setting) (cores : ℕ → Core) (t : Trace) (stands : Stands setup cores t) where
+module _ (setup : Setting) (cores : ℕ → Core) (t : Trace) (stands : Invariant setup cores t) where
   -- a core whose flush word is later than a stamp has flushed since: its last flush is no earlier than the one stored
   pub flush_shown : (x : Thing) (s d : ℕ) → s < flush_stored t d → HasFlushed setup t x s d
   flush_shown x s d later = later_flushed setup t x (stands.graces x) d s (stands.times d).stored later
@@ -123,7 +123,7 @@ vacant_unflushed s c target at d is waits =
     ap (λ o. and_then (or_refuse o reply.NoSlot) λ at. unless (not_vacant s c (PlaceOf at.node at.index) (place_at s at)) at) is
     ∙ ap (λ o. unless o at) waits
 
-module _ (setup : Setting) (setting : IsSetting setup) (cores : ℕ → Core) (t : Trace) (stands : Stands setup cores t) (c : ℕ)
+module _ (setup : Setting) (setting : IsSetting setup) (cores : ℕ → Core) (t : Trace) (stands : Invariant setup cores t) (c : ℕ)
     (here : c < setup.cores)
     (a : ActiveCall) (active : (cores c).active ≡ Some a) (x at : ℕ) (act : ActOf) (node index word : ℕ) (small : index < 64)
     (stage_is : a.stage ≡ Undecided (Scan (AtFlush x at) act))

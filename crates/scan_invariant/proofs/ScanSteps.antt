@@ -21,7 +21,7 @@ use Rattle.call_stages.specs.Fits.{StageFits}
 use Rattle.call_stages.specs.Steps.{landed, took_scan}
 use Rattle.call_stages.specs.View.{Core}
 use Rattle.core_invariant.specs.Knows.{KnowsAct, KnowsUndecided, NamesAre, IsSpot, phase_at, scanned_for, goes_on}
-use Rattle.core_invariant.specs.Stands.{Stands}
+use Rattle.core_invariant.specs.Invariant.{Invariant}
 use Rattle.step_ways.proofs.Loads.{is_active}
 use Rattle.step_ways.proofs.Refusals.{GoodTook}
 use Rattle.scan_invariant.proofs.CoreScans.{core_good}
@@ -42,7 +42,7 @@ record ScansPlace (setup : Setting) (t : Trace) (c : ℕ) (a : ActiveCall) (flus
   again : (upto : ℕ) → IsSpot setup t c a.plan a.found upto node index word → KnowsAct setup t c a.call a.plan a.found upto act
   outside : goes_on act ≡ false → IsSpot setup t c a.plan a.found setup.cores node index word → RefusedOutside setup t c a.call move
 
-module _ (setup : Setting) (setting : IsSetting setup) (cores : ℕ → Core) (t : Trace) (stands : Stands setup cores t) (c : ℕ)
+module _ (setup : Setting) (setting : IsSetting setup) (cores : ℕ → Core) (t : Trace) (stands : Invariant setup cores t) (c : ℕ)
     (here : c < setup.cores)
     (a : ActiveCall) (active : (cores c).active ≡ Some a) (q : Quiet) (x flushes : ℕ) (some : 1 ≤ x) (move : Move) where
   scans_place : (act : ActOf) → a.stage ≡ Undecided (Scan q act) → ActFits (cores c).own.layout act → stamp_of_act act ≡ x
@@ -134,7 +134,7 @@ module _ (setup : Setting) (setting : IsSetting setup) (cores : ℕ → Core) (t
         fits.1 knows.outside move;
   }
 
-pub scan_good : (setup : Setting) → IsSetting setup → (cores : ℕ → Core) (t : Trace) → Stands setup cores t → (c : ℕ) → c < setup.cores
+pub scan_good : (setup : Setting) → IsSetting setup → (cores : ℕ → Core) (t : Trace) → Invariant setup cores t → (c : ℕ) → c < setup.cores
     → (a : ActiveCall) → (cores c).active ≡ Some a
     → (q : Quiet) (act : ActOf) → a.stage ≡ Undecided (Scan q act) → KnowsUndecided setup t c (cores c).own.table a (Scan q act)
     → GoodTook setup cores t c (quiet_move q) (landed a (took_scan (cores c).own.core act

@@ -3,7 +3,7 @@
 ghost use Rattle.std.specs.Prelude.{◌≡◌, ◌<◌, ◌≤◌, ◌+◌, IfOk};
 ghost use Rattle.kernel_rules.specs.Access.{held_in, found, only, usable, reached};
 ghost use Rattle.kernel_rules.specs.Rules.{named, vacant, not_vacant, held, mapped, of_kind, and_then, or_refuse, unless, refusal_of};
-ghost use Rattle.seq_state.specs.Parts.{place_of, thing_of};
+ghost use Rattle.seq_state.specs.Parts.{place_held, thing_of};
 ghost use Rattle.seq_state.specs.Maps.{state_of};
 ghost use Rattle.seq_lookups.specs.Judged.{judged, wants};
 ghost use Rattle.seq_lookups.specs.Places.{target_of};
@@ -111,7 +111,7 @@ pub fn frame_in(k: &SeqKernel, range: &Cap, frame: FrameArg) -> Result<FrameNo, 
 
 /// Why a core may not fill a place.
 fn not_vacant(k: &SeqKernel, core: CoreNo, at: Slot, place: Place) -> Option<Reply>
-    ensures { result ≡ not_vacant (state_of k.now) core (PlaceOf at.node at.index) (place_of place) }
+    ensures { result ≡ not_vacant (state_of k.now) core (PlaceOf at.node at.index) (place_held place) }
 {
     match place {
         Place::Free => None,
@@ -139,7 +139,7 @@ pub fn vacant(k: &SeqKernel, core: CoreNo, target: Target) -> Result<Slot, Reply
 
 /// What a place holds.
 fn held_in(place: Place) -> Option<Cap>
-    ensures { result ≡ held_in (place_of place) }
+    ensures { result ≡ held_in (place_held place) }
 {
     match place {
         Place::Free => None,

@@ -2,7 +2,7 @@
 
 ghost use Rattle.std.specs.Prelude.{◌≡◌, ◌<◌, ◌≤◌, Some};
 ghost use Rattle.kernel_rules.specs.Access.{place_at, usable, usable_in, linked, slot_in, reached, root_slot};
-ghost use Rattle.seq_state.specs.Parts.{place_of, thing_of};
+ghost use Rattle.seq_state.specs.Parts.{place_held, thing_of};
 ghost use Rattle.seq_state.specs.Maps.{state_of};
 ghost use Rattle.seq_lookups.specs.Places.{target_of};
 
@@ -88,7 +88,7 @@ pub enum Target {
 
 /// What stands at a slot.
 pub(crate) fn place_at(k: &SeqKernel, at: Slot) -> Place
-    ensures { place_of result ≡ place_at (state_of k.now) at }
+    ensures { place_held result ≡ place_at (state_of k.now) at }
 {
     k.place(at.node(), at.index())
 }
@@ -102,7 +102,7 @@ fn waits_at(k: &SeqKernel, core: CoreNo, at: Slot) -> bool
 
 /// What a core may use of a place, in whose grace period it waits or not.
 fn usable_in(place: Place, waits: bool) -> Option<Cap>
-    ensures { result ≡ usable_in (place_of place) waits }
+    ensures { result ≡ usable_in (place_held place) waits }
 {
     match place {
         Place::Free => None,

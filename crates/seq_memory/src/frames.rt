@@ -6,7 +6,7 @@ ghost use Rattle.kernel_rules.specs.Access.{found, held_in};
 ghost use Rattle.kernel_rules.specs.Rules.{unless, first_cause};
 ghost use Rattle.kernel_rules.specs.CapabilityCalls.{outside};
 ghost use Rattle.kernel_rules.specs.MemoryCalls.{is_untyped, is_user, holds_nothing, is_empty_object, is_empty, not_retyped, not_user};
-ghost use Rattle.seq_state.specs.Parts.{object_of, frame_of, place_of};
+ghost use Rattle.seq_state.specs.Parts.{object_of, frame_of, place_held};
 ghost use Rattle.seq_state.specs.Maps.{state_of};
 ghost use Rattle.seq_lookups.specs.Judged.{judged};
 
@@ -36,7 +36,7 @@ fn is_user(frame: &Frame) -> bool
 
 /// Whether a place holds something.
 fn is_held(place: &Place) -> bool
-    ensures { result ≡ is_some (held_in (place_of place.now)) }
+    ensures { result ≡ is_some (held_in (place_held place.now)) }
 {
     match place {
         Place::Holds(_) => true,

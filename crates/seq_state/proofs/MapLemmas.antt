@@ -11,7 +11,7 @@ use Rattle.seq_state.specs.declared.parts.Liveness.{Liveness}
 use Rattle.seq_state.specs.declared.parts.Core.{Core}
 use Rattle.seq_state.specs.declared.parts.Grace.{Grace}
 use Rattle.kernel_rules.proofs.Within.{put_same, put_other}
-use Rattle.seq_state.specs.Parts.{place_of, frame_of, number_of, core_of, grace_of}
+use Rattle.seq_state.specs.Parts.{place_held, frame_of, number_of, core_of, grace_of}
 use Rattle.seq_state.specs.Maps.{Maps, at, at_place, state_of, place_or_free, frame_or_untyped, number_or_unused, core_or_none, grace_or_none, grace_in}
 use Rattle.seq_state.specs.Representation.{with_grace_of}
 
@@ -51,13 +51,13 @@ place_apart old new f i k x small is w g j apart = elim (cases_lt j 64) [
       ap (λ b. if b then at new (64 * g + j) else None) t ∙ sym (ap (λ b. if b then at old (64 * g + j) else None) t)
 ]
 
-pub place_reads : (t : Maps) (f i k : ℕ) (d : Place) → i < 64 → k ≡ 64 * f + i → place_of d ≡ state.Free
-    → place_of (unwrap_or (at t.places k) d) ≡ (state_of t).place f i
+pub place_reads : (t : Maps) (f i k : ℕ) (d : Place) → i < 64 → k ≡ 64 * f + i → place_held d ≡ state.Free
+    → place_held (unwrap_or (at t.places k) d) ≡ (state_of t).place f i
 unfolding state_of
 place_reads t f i k d small is free = or_default place_or_free d free (at t.places k) ∙ sym (ap place_or_free (at_place_is t.places f i k small is))
 
 pub places_written : (t : Maps) (es : List (ℕ × Place)) (f i k : ℕ) (p : Place) → i < 64 → k ≡ 64 * f + i → IsWritten t.places es k p
-    → state_of (record t { places = es }) ≡ with_place (state_of t) f i (place_of p)
+    → state_of (record t { places = es }) ≡ with_place (state_of t) f i (place_held p)
 unfolding state_of
 places_written t es f i k p small is w = λ j. record {
   place = λ g h. point g h j;
@@ -71,20 +71,20 @@ places_written t es f i k p small is w = λ j. record {
     row : ℕ → ℕ → state.Place
     row = λ g h. place_or_free (at_place t.places g h)
 
-    point : (g h : ℕ) → place_or_free (at_place es g h) ≡ put row f (put (row f) i (place_of p)) g h
+    point : (g h : ℕ) → place_or_free (at_place es g h) ≡ put row f (put (row f) i (place_held p)) g h
     point g h = elim (cases_eq g f) [
       | inl e ↦ elim (cases_eq h i) [
         | inl e' ↦
             let a : at_place es g h ≡ Some p = place_at_key es g h k p (omega arith) (omega arith) w.here in
-            ap place_or_free a ∙ sym (ap (λ r. r h) (put_same row f (put (row f) i (place_of p)) g e) ∙ put_same (row f) i (place_of p) h e')
+            ap place_or_free a ∙ sym (ap (λ r. r h) (put_same row f (put (row f) i (place_held p)) g e) ∙ put_same (row f) i (place_held p) h e')
         | inr ne' ↦
             ap place_or_free (place_apart t.places es f i k p small is w g h (λ _ e'. ne' e'))
             ∙ ap (λ x. row x h) e
-            ∙ sym (ap (λ r. r h) (put_same row f (put (row f) i (place_of p)) g e) ∙ put_other (row f) i (place_of p) h ne')
+            ∙ sym (ap (λ r. r h) (put_same row f (put (row f) i (place_held p)) g e) ∙ put_other (row f) i (place_held p) h ne')
       ]
       | inr ne ↦
           ap place_or_free (place_apart t.places es f i k p small is w g h (λ e _. ne e))
-          ∙ sym (ap (λ r. r h) (put_other row f (put (row f) i (place_of p)) g ne))
+          ∙ sym (ap (λ r. r h) (put_other row f (put (row f) i (place_held p)) g ne))
     ]
 
 -- ---- frames, liveness numbers and cores

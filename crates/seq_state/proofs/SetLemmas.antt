@@ -7,7 +7,7 @@ use Rattle.seq_state.specs.declared.parts.Place.{Place}
 use Rattle.seq_state.specs.declared.parts.Frame.{Frame}
 use Rattle.seq_state.specs.declared.parts.Liveness.{Liveness}
 use Rattle.seq_state.specs.declared.parts.Grace.{Grace as GraceSets}
-use Rattle.seq_state.specs.Parts.{place_of, frame_of, number_of, grace_of}
+use Rattle.seq_state.specs.Parts.{place_held, frame_of, number_of, grace_of}
 use Rattle.seq_state.specs.Maps.{Maps, at, at_place, IsWhole, state_of, place_or_free, frame_or_untyped, number_or_unused, grace_or_none, grace_in}
 use Rattle.seq_state.specs.Representation.{IsThing, with_grace_of, SameState}
 use Rattle.seq_state.proofs.MapLemmas.{IsWritten, at_place_is, places_written, frames_written, numbers_written, place_graces_written, frame_graces_written, number_graces_written}
@@ -27,7 +27,7 @@ at_apart : {X : Type 0} (new old : List (ℕ × X)) (g j : ℕ) → j < 64 → a
 at_apart new old g j small same = at_place_is new g j (64 * g + j) small refl ∙ same ∙ sym (at_place_is old g j (64 * g + j) small refl)
 
 pub places_set : (t : Maps) (es : List (ℕ × Place)) (f i k : ℕ) (p : Place) → IsWhole t → i < 64 → k ≡ 64 * f + i → IsSet t.places es k p
-    → SameState (state_of (record t { places = es })) (with_place (state_of t) f i (place_of p))
+    → SameState (state_of (record t { places = es })) (with_place (state_of t) f i (place_held p))
 unfolding state_of
 places_set t es f i k p whole small is s = elim (cases_lt f t.limits.frames) [
   | inl below ↦ same_by _ _ (places_written t es f i k p small is (written t.places es k p (whole.places k (omega arith)) s))
@@ -37,7 +37,7 @@ places_set t es f i k p whole small is s = elim (cases_lt f t.limits.frames) [
         let ne : 64 * g + j ≢ k = λ e. omega arith in
         let apart : g ≢ f = λ e. omega arith in
         ap place_or_free (at_apart es t.places g j j_below (s.others (64 * g + j) ne))
-        ∙ sym (ap (λ r. r j) (put_other (λ g j. place_or_free (at_place t.places g j)) f (put (λ j. place_or_free (at_place t.places f j)) i (place_of p)) g apart));
+        ∙ sym (ap (λ r. r j) (put_other (λ g j. place_or_free (at_place t.places g j)) f (put (λ j. place_or_free (at_place t.places f j)) i (place_held p)) g apart));
     frame = λ g _. refl;
     number = λ l _. refl;
     core = λ c _. refl;

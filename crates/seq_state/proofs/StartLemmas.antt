@@ -4,7 +4,7 @@ use Rattle.std.proofs.lemmas.Bool.{cases_eq, lt-ltb}
 use Rattle.spk_nums.specs.Setting.{Setting}
 use Rattle.kernel_rules.specs.State.{Thing, PlaceOf, FrameOf, NumberOf, Limits}
 use Rattle.kernel_rules.specs.Start.{start, start_place, start_frame, start_number, start_core, no_grace}
-use Rattle.seq_state.specs.Parts.{place_of, frame_of, number_of, core_of, grace_of}
+use Rattle.seq_state.specs.Parts.{place_held, frame_of, number_of, core_of, grace_of}
 use Rattle.seq_state.specs.Maps.{Maps, at, at_place, HasAll, state_of, place_or_free, frame_or_untyped, number_or_unused, core_or_none, grace_or_none, grace_in}
 use Rattle.seq_state.specs.Representation.{IsThing, SameState}
 use Rattle.seq_state.proofs.Same.{same_grace_by}
@@ -39,7 +39,7 @@ none_in t l places frames numbers (FrameOf f) h = part_is grace_or_none (at t.fr
 none_in t l places frames numbers (NumberOf n) h = part_is grace_or_none (at t.number_graces n) no_grace (numbers n h)
 
 pub starts : (t : Maps) (s : Setting) → t.limits ≡ (start s).limits
-    → HasAll (64 * s.frames) t.places (λ k p. place_of p ≡ start_place s (k / 64) (k % 64))
+    → HasAll (64 * s.frames) t.places (λ k p. place_held p ≡ start_place s (k / 64) (k % 64))
     → HasAll s.frames t.frames (λ k x. frame_of x ≡ start_frame s k)
     → HasAll 64 t.numbers (λ k x. number_of x ≡ start_number k)
     → HasAll s.cores t.cores (λ k x. core_of x ≡ start_core s k)

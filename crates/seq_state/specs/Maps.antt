@@ -10,7 +10,7 @@ use Rattle.seq_state.specs.declared.parts.Frame.{Frame}
 use Rattle.seq_state.specs.declared.parts.Liveness.{Liveness}
 use Rattle.seq_state.specs.declared.parts.Core.{Core}
 use Rattle.seq_state.specs.declared.parts.Grace.{Grace}
-use Rattle.seq_state.specs.Parts.{place_of, frame_of, number_of, core_of, grace_of}
+use Rattle.seq_state.specs.Parts.{place_held, frame_of, number_of, core_of, grace_of}
 
 -- The maps, each by its entries in the order of their keys, and the limits. The key of place i of node f is 64 f + i.
 pub record Maps : Type 0 where
@@ -59,7 +59,7 @@ pub record IsWhole (t : Maps) : Type 0 where
 -- The place in a map, or a free one.
 abbrev pub place_or_free : Option Place → state.Place
 place_or_free None = state.Free
-place_or_free (Some p) = place_of p
+place_or_free (Some p) = place_held p
 
 -- The frame in a map, or an untyped one.
 abbrev pub frame_or_untyped : Option Frame → state.Frame

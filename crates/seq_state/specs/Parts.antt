@@ -18,10 +18,10 @@ use Rattle.seq_state.specs.declared.parts.Thing.{Thing}
 use Rattle.seq_state.specs.declared.parts.Thing.TheVariants as thing
 
 -- A place.
-abbrev pub place_of : Place → state.Place
-place_of place.Free = state.Free
-place_of (place.Holds k) = state.Holds k
-place_of (place.Quiescing k) = state.Quiescing k
+abbrev pub place_held : Place → state.Place
+place_held place.Free = state.Free
+place_held (place.Holds k) = state.Holds k
+place_held (place.Quiescing k) = state.Quiescing k
 
 -- The fields of a component.
 abbrev pub comp_fields_of : CompFields → state.CompFields

@@ -2,7 +2,7 @@
 
 ghost use Rattle.std.specs.Prelude.{◌≡◌, ◌<◌, ◌≤◌, ◌*◌, [], ◌∷◌};
 ghost use Rattle.kernel_rules.specs.References.{named_by, place_names, frame_names, number_names, core_names, sum_below, times, node_refs, refs};
-ghost use Rattle.seq_state.specs.Parts.{place_of, object_of, frame_of, number_of, core_of};
+ghost use Rattle.seq_state.specs.Parts.{place_held, object_of, frame_of, number_of, core_of};
 ghost use Rattle.seq_state.specs.Maps.{state_of};
 
 use crate::kernel::SeqKernel;
@@ -30,7 +30,7 @@ fn refs_in_cap(cap: Cap, frame: FrameNo) -> u32
 
 /// How often a place has a reference to the frame.
 fn refs_in_place(place: Place, frame: FrameNo) -> u32
-    ensures count { result ≡ times frame (place_names (place_of place)) }
+    ensures count { result ≡ times frame (place_names (place_held place)) }
     ensures most { result ≤ 1 }
 {
     match place {

@@ -2,7 +2,7 @@
 
 ghost use Rattle.std.specs.Prelude.{◌≡◌, ◌<◌, ◌+◌, ◌*◌};
 ghost use Rattle.kernel_rules.specs.State.{FrameOf};
-ghost use Rattle.seq_state.specs.Parts.{place_of, frame_of, number_of, core_of, grace_of, thing_of};
+ghost use Rattle.seq_state.specs.Parts.{place_held, frame_of, number_of, core_of, grace_of, thing_of};
 ghost use Rattle.spk_nums.specs.CoreSets.{has_core};
 ghost use Rattle.seq_state.specs.Maps.{state_of, LimitsFit};
 ghost use Rattle.seq_state.specs.Representation.{HasIndex};
@@ -90,7 +90,7 @@ impl SeqKernel {
     /// machine's frames.
     pub fn place(&self, node: FrameNo, index: EntryNo) -> Place
         requires { index < 64 }
-        ensures { place_of result ≡ (state_of self.now).place node index }
+        ensures { place_held result ≡ (state_of self.now).place node index }
     {
         held(&self.places, place_key(node, index)).unwrap_or(Place::Free)
     }

@@ -4,7 +4,7 @@
 
 ghost use Rattle.std.specs.Prelude.{◌≡◌, ◌<◌};
 ghost use Rattle.kernel_rules.specs.State.{with_place, with_frame, with_number, with_core};
-ghost use Rattle.seq_state.specs.Parts.{place_of, frame_of, number_of, core_of, grace_of, thing_of};
+ghost use Rattle.seq_state.specs.Parts.{place_held, frame_of, number_of, core_of, grace_of, thing_of};
 ghost use Rattle.seq_state.specs.Maps.{state_of};
 ghost use Rattle.seq_state.specs.Representation.{HasIndex, IsThing, with_grace_of, Represents};
 
@@ -17,8 +17,8 @@ impl SeqKernel {
     /// Sets a place of a node, the index below 64.
     pub fn set_place(&mut self, node: FrameNo, index: EntryNo, place: Place)
         requires { index < 64 }
-        ensures machine { Represents self.new (with_place (state_of self.old) node index (place_of place)) }
-        ensures exact { node < (state_of self.old).limits.frames → state_of self.new ≡ with_place (state_of self.old) node index (place_of place) }
+        ensures machine { Represents self.new (with_place (state_of self.old) node index (place_held place)) }
+        ensures exact { node < (state_of self.old).limits.frames → state_of self.new ≡ with_place (state_of self.old) node index (place_held place) }
     {
         write_at(&mut self.places, place_key(node, index), place);
     }

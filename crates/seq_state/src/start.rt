@@ -3,7 +3,7 @@
 ghost use Rattle.std.specs.Prelude.{◌≡◌, ◌<◌, ◌≤◌, ◌+◌, ◌-◌, ◌*◌, ◌/◌, ◌%◌, IfOk, Some, IsSome, slice_get, [], ◌∷◌};
 ghost use Rattle.spk_nums.specs.Limits.{least_arg, end_of_arg};
 ghost use Rattle.kernel_rules.specs.Start.{plain_cap, start_range, core_cap, start_cap, start_place, granted, start_frame, start_number, start_core, no_grace, start, place_with};
-ghost use Rattle.seq_state.specs.Parts.{place_of, tcap_fields_of, frame_of, number_of, core_of, grace_of, thread_fields_of};
+ghost use Rattle.seq_state.specs.Parts.{place_held, tcap_fields_of, frame_of, number_of, core_of, grace_of, thread_fields_of};
 ghost use Rattle.seq_state.specs.Maps.{HasAll};
 ghost use Rattle.seq_state.specs.Representation.{Represents};
 
@@ -76,7 +76,7 @@ fn cap_at(setup: &Setup, index: u16) -> Option<Cap>
 
 /// A place that holds the capability, or is free.
 fn place_with(cap: Option<Cap>) -> Place
-    ensures { place_of result ≡ place_with cap }
+    ensures { place_held result ≡ place_with cap }
 {
     match cap {
         None => Place::Free,
@@ -86,7 +86,7 @@ fn place_with(cap: Option<Cap>) -> Place
 
 /// The place of a node.
 fn place_at(setup: &Setup, node: u16, index: u16) -> Place
-    ensures { place_of result ≡ start_place setup.now node index }
+    ensures { place_held result ≡ start_place setup.now node index }
 {
     if node == 0 {
         if index == 0 {
@@ -195,7 +195,7 @@ fn core_at(setup: &Setup, core: u16) -> Core
 
 /// The places of all frames.
 fn all_places(alloc: Global, setup: &Setup) -> Result<BTreeMap<u16, Place>, Memory>
-    ensures { IfOk result (λ m. HasAll (64 * setup.now.frames) m.entries (λ k p. place_of p ≡ start_place setup.now (k / 64) (k % 64))) }
+    ensures { IfOk result (λ m. HasAll (64 * setup.now.frames) m.entries (λ k p. place_held p ≡ start_place setup.now (k / 64) (k % 64))) }
 {
     let mut map = BTreeMap::new(alloc);
     'each: for key in 0..64 * setup.frames() {

@@ -36,7 +36,7 @@ use Rattle.call_stages.specs.View.{Core}
 use Rattle.core_invariant.specs.Holding.{holds_counts}
 use Rattle.core_invariant.specs.Knows.{KnowsUndecided}
 use Rattle.core_invariant.specs.Shares.{HasBoth}
-use Rattle.core_invariant.specs.Stands.{holds_in, holds_head, Stands}
+use Rattle.core_invariant.specs.Invariant.{holds_in, holds_head, Invariant}
 use Rattle.step_ways.proofs.Loads.{OnlyLooks, core_is, inner}
 use Rattle.step_ways.proofs.Refusals.{GoodTook, not_spent}
 use Rattle.lent_words.proofs.Tcaps.{TcapOf}
@@ -58,7 +58,7 @@ no_room xs none = lt-ltb 8 (length xs) (by (nat_le (length xs) 8) refl none)
     by true told h = absurd (some_none h)
     by false told h = let more = leb-false (length xs) 8 told in omega (arith, more)
 
-module _ (setup : Setting) (setting : IsSetting setup) (cores : ℕ → Core) (t : Trace) (stands : Stands setup cores t) (c : ℕ)
+module _ (setup : Setting) (setting : IsSetting setup) (cores : ℕ → Core) (t : Trace) (stands : Invariant setup cores t) (c : ℕ)
     (here : c < setup.cores)
     (a : ActiveCall) (active : (cores c).active ≡ Some a) (p : Pair) (r : Reply)
     (stage_is : a.stage ≡ Undecided (Act (share_act (record p { at = AgainB r }))))

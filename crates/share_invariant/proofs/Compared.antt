@@ -34,7 +34,7 @@ use Rattle.call_stages.specs.View.{Core}
 use Rattle.core_invariant.specs.Holding.{holds_counts}
 use Rattle.core_invariant.specs.Knows.{KnowsUndecided}
 use Rattle.core_invariant.specs.Shares.{HasBoth}
-use Rattle.core_invariant.specs.Stands.{holds_in, holds_head, Stands}
+use Rattle.core_invariant.specs.Invariant.{holds_in, holds_head, Invariant}
 use Rattle.core_invariant.specs.Words.{HeadIs, count_room}
 use Rattle.step_ways.proofs.Loads.{IsOfCall, core_is, inner}
 use Rattle.step_ways.proofs.Refusals.{GoodTook, not_spent}
@@ -47,7 +47,7 @@ use Rattle.pair_invariant.proofs.ListsKnown.{AreRead}
 use Rattle.pair_invariant.proofs.ShareCalls as calls
 use Rattle.pair_invariant.proofs.ShareSteps.{own_mark, load_decides}
 
-module _ (setup : Setting) (setting : IsSetting setup) (cores : ℕ → Core) (t : Trace) (stands : Stands setup cores t) (c : ℕ)
+module _ (setup : Setting) (setting : IsSetting setup) (cores : ℕ → Core) (t : Trace) (stands : Invariant setup cores t) (c : ℕ)
     (here : c < setup.cores)
     (a : ActiveCall) (active : (cores c).active ≡ Some a) (p : Pair)
     (stage_is : a.stage ≡ Undecided (Act (share_act (record p { at = CompareB }))))

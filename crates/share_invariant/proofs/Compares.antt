@@ -38,12 +38,12 @@ use Rattle.call_stages.specs.View.{Core}
 use Rattle.core_invariant.specs.Holding.{holds_counts}
 use Rattle.core_invariant.specs.Knows.{KnowsUndecided}
 use Rattle.core_invariant.specs.Shares.{list_changed, TurnsHead, SparesTcap, HasTcap, HasBoth}
-use Rattle.core_invariant.specs.Stands.{holds_at, holds_in, holds_head, holds, held_by, times_of, Stands}
+use Rattle.core_invariant.specs.Invariant.{holds_at, holds_in, holds_head, holds, held_by, times_of, Invariant}
 use Rattle.core_invariant.specs.Words.{IsFrameWord, WordIs, count_room}
 use Rattle.core_invariant.proofs.Bare.{counts_bare}
-use Rattle.kept_words.proofs.Calm.{IsPlain, plain_begins}
+use Rattle.kept_words.proofs.Calm.{IsUntimed, plain_begins}
 use Rattle.lent_words.proofs.Lent.{unlent_head_word}
-use Rattle.step_ways.proofs.Loads.{next_at, core_at, core_is, inner}
+use Rattle.step_ways.proofs.Loads.{next_at, core_in_call, core_is, inner}
 use Rattle.step_ways.proofs.Refusals.{GoodTook, not_spent}
 use Rattle.kept_words.proofs.Sums.{sums_keep}
 use Rattle.lent_words.proofs.Tcaps.{TcapOf}
@@ -60,7 +60,7 @@ use Rattle.pair_invariant.proofs.ShareCalls as calls
 use Rattle.pair_invariant.proofs.ShareCalls.{causes_of, change_by}
 use Rattle.pair_invariant.proofs.ShareSteps.{mark_is, stores_a}
 
-module _ (setup : Setting) (setting : IsSetting setup) (cores : ℕ → Core) (t : Trace) (stands : Stands setup cores t) (c : ℕ)
+module _ (setup : Setting) (setting : IsSetting setup) (cores : ℕ → Core) (t : Trace) (stands : Invariant setup cores t) (c : ℕ)
     (here : c < setup.cores)
     (a : ActiveCall) (active : (cores c).active ≡ Some a) (p : Pair) (m : ℕ)
     (stage_is : a.stage ≡ Undecided (Act (share_act (record p { what = Transfer m; at = CompareB }))))
@@ -140,7 +140,7 @@ module _ (setup : Setting) (setting : IsSetting setup) (cores : ℕ → Core) (t
     stage = Decided (reply.Ok value.Nothing) None (share_tail left_p)
 
     abbrev after : Core
-    after = core_at (cores c) ((cores c).own.made + 1) (next_at a a.found stage)
+    after = core_in_call (cores c) ((cores c).own.made + 1) (next_at a a.found stage)
 
     leaves_it : left_of compare was ≡ word_of_head new_head
     leaves_it = compared.leaves_it setup setting cores t stands c here a active what_p stage_is has equal
@@ -222,7 +222,7 @@ module _ (setup : Setting) (setting : IsSetting setup) (cores : ℕ → Core) (t
         ∙ ap (λ x. counted (changed s x) c) change_is
         ∙ ap (λ x. counted x c) (moves.moved_both s p.a p.b m qa qb differ tcap_a.is tcap_b.is)
 
-    plain : IsPlain setup t e
+    plain : IsUntimed setup t e
     plain = record {
       begins = λ x. ap (λ ph. begins_in (Some (reply.Ok value.Nothing)) ph s c x) is_open ∙ ap (λ j. begun_by j x) change_is;
       ends = λ x. ap (λ ph. ends_in (Some (reply.Ok value.Nothing)) ph x) is_open ∙ is.ends_none x;

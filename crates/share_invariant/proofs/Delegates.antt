@@ -49,12 +49,12 @@ use Rattle.call_stages.specs.View.{Core}
 use Rattle.core_invariant.specs.Holding.{holds_counts, settled, MarkIs}
 use Rattle.core_invariant.specs.Knows.{KnowsUndecided}
 use Rattle.core_invariant.specs.Shares.{list_changed, TurnsHead, SparesTcap, HasTcap, HasBoth, StoresA, KnowsShared}
-use Rattle.core_invariant.specs.Stands.{holds_in, holds_head, holds, held_by, times_of, IsLent, Stands}
+use Rattle.core_invariant.specs.Invariant.{holds_in, holds_head, holds, held_by, times_of, IsLent, Invariant}
 use Rattle.core_invariant.specs.Words.{IsFrameWord, WordIs, count_room}
 use Rattle.core_invariant.proofs.Bare.{counts_bare}
-use Rattle.kept_words.proofs.Calm.{IsPlain, plain_begins}
+use Rattle.kept_words.proofs.Calm.{IsUntimed, plain_begins}
 use Rattle.lent_words.proofs.Lent.{lent_free, unlent_list, unlent_head_word}
-use Rattle.step_ways.proofs.Loads.{next_at, core_at, core_is, inner}
+use Rattle.step_ways.proofs.Loads.{next_at, core_in_call, core_is, inner}
 use Rattle.step_ways.proofs.OwnChanges.{decides_changing}
 use Rattle.lent_words.proofs.Pairs.{marked_on}
 use Rattle.step_ways.proofs.Refusals.{GoodTook, not_spent}
@@ -112,7 +112,7 @@ listed f from words g i v rest none is = by (g == f && (nat_le from i && nat_le 
         record { frame = eqb-true g f at; least = leb-true from i low; most = leb-true i 8 high; word = sym (same (words i) v h) }
     by false told h = absurd (none_some (sym none ∙ h))
 
-module _ (setup : Setting) (setting : IsSetting setup) (cores : ℕ → Core) (t : Trace) (stands : Stands setup cores t) (c : ℕ)
+module _ (setup : Setting) (setting : IsSetting setup) (cores : ℕ → Core) (t : Trace) (stands : Invariant setup cores t) (c : ℕ)
     (here : c < setup.cores)
     (a : ActiveCall) (active : (cores c).active ≡ Some a) (p : Pair) (m : ℕ)
     (stage_is : a.stage ≡ Undecided (Act (share_act (record p { what = Delegate m; at = CompareB }))))
@@ -192,7 +192,7 @@ module _ (setup : Setting) (setting : IsSetting setup) (cores : ℕ → Core) (t
     stage = Decided (reply.Ok value.Nothing) None (share_tail left_p)
 
     abbrev after : Core
-    after = core_at (cores c) ((cores c).own.made + 1) (next_at a a.found stage)
+    after = core_in_call (cores c) ((cores c).own.made + 1) (next_at a a.found stage)
 
     leaves_it : left_of compare was ≡ word_of_head new_head
     leaves_it = compared.leaves_it setup setting cores t stands c here a active what_p stage_is has equal
@@ -291,7 +291,7 @@ module _ (setup : Setting) (setting : IsSetting setup) (cores : ℕ → Core) (t
         ∙ ap (λ xs. counted (with_qualities (moved s p.a p.b m) p.b xs) c) (sym list_is)
         ∙ ap (λ x. counted x c) (moves.listed_both s p.a p.b m qa qb differ tcap_a.is tcap_b.is list)
 
-    plain : IsPlain setup t e
+    plain : IsUntimed setup t e
     plain = record {
       begins = λ x. ap (λ ph. begins_in (Some (reply.Ok value.Nothing)) ph s c x) is_open ∙ ap (λ j. begun_by j x) change_is;
       ends = λ x. ap (λ ph. ends_in (Some (reply.Ok value.Nothing)) ph x) is_open ∙ is.ends_none x;

@@ -21,13 +21,13 @@ use Rattle.call_stages.specs.View.{Core}
 use Rattle.core_invariant.specs.Holding.{holds_counts}
 use Rattle.core_invariant.specs.Knows.{KnowsTail}
 use Rattle.core_invariant.specs.Shares.{StoresB}
-use Rattle.core_invariant.specs.Stands.{done_by, Stands}
+use Rattle.core_invariant.specs.Invariant.{done_by, Invariant}
 use Rattle.core_invariant.proofs.Bare.{counts_bare}
 use Rattle.step_ways.proofs.Loads.{inner}
 use Rattle.step_ways.proofs.Refusals.{GoodTook}
 use Rattle.share_invariant.proofs.HeadStores.{counts_free, a_stored, shared_on, head_good}
 
-module _ (setup : Setting) (setting : IsSetting setup) (cores : ℕ → Core) (t : Trace) (stands : Stands setup cores t) (c : ℕ)
+module _ (setup : Setting) (setting : IsSetting setup) (cores : ℕ → Core) (t : Trace) (stands : Invariant setup cores t) (c : ℕ)
     (here : c < setup.cores)
     (a : ActiveCall) (active : (cores c).active ≡ Some a) (r : Reply) (drawn : Option ℕ) (p : Pair)
     (stage_is : a.stage ≡ Decided r drawn (share_tail (record p { at = StoreB })))

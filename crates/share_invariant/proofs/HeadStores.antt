@@ -33,12 +33,12 @@ use Rattle.call_stages.specs.View.{Core}
 use Rattle.core_invariant.specs.Holding.{Holding, keeps, holds_counts, settled_by}
 use Rattle.core_invariant.specs.Knows.{KnowsTail, phase_at}
 use Rattle.core_invariant.specs.Shares.{turns_list, list_changed, TurnsHead, SparesTcap, HasTcap, StoresA, KnowsStoresAt, KnowsShared}
-use Rattle.core_invariant.specs.Stands.{done_by, holds_tail, holds_at, holds_in, holds, held_by, Stands}
+use Rattle.core_invariant.specs.Invariant.{done_by, holds_tail, holds_at, holds_in, holds, held_by, Invariant}
 use Rattle.core_invariant.proofs.Bare.{IsNotKept, as_none, free_value}
 use Rattle.kept_knowledge.proofs.Carries.{counts_on}
 use Rattle.step_ways.proofs.Counting as counters
 use Rattle.lent_words.proofs.Lent.{unlent_head_word, lent_free}
-use Rattle.step_ways.proofs.Loads.{IsOfCall, core_at, call_is, inner}
+use Rattle.step_ways.proofs.Loads.{IsOfCall, core_in_call, call_is, inner}
 use Rattle.step_ways.proofs.Refusals.{GoodTook}
 use Rattle.lent_words.proofs.Tcaps.{TcapOf, tcap_of}
 use Rattle.pair_invariant.proofs.MarksA.{spares_one}
@@ -96,7 +96,7 @@ pub record GivesBack (setup : Setting) (t : Trace) (c : ℕ) (call : Call) (f : 
   pub free : rest.marks (EntryAt f 0) ≡ false
   pub none : (g i : ℕ) → rest.bare g i ≡ None
 
-module _ (setup : Setting) (setting : IsSetting setup) (cores : ℕ → Core) (t : Trace) (stands : Stands setup cores t) (c : ℕ)
+module _ (setup : Setting) (setting : IsSetting setup) (cores : ℕ → Core) (t : Trace) (stands : Invariant setup cores t) (c : ℕ)
     (here : c < setup.cores)
     (a : ActiveCall) (active : (cores c).active ≡ Some a) (r : Reply) (drawn : Option ℕ) (tail left : Tail)
     (stage_is : a.stage ≡ Decided r drawn tail) (f : ℕ) (head final : HeadWord)
@@ -121,7 +121,7 @@ module _ (setup : Setting) (setting : IsSetting setup) (cores : ℕ → Core) (t
   next = went_with a a.counts (Decided r drawn left)
 
   abbrev after : Core
-  after = core_at (cores c) (cores c).own.made next
+  after = core_in_call (cores c) (cores c).own.made next
 
   abbrev e : Step
   e = inner setup setting cores t stands c here a active give_back None None

@@ -33,12 +33,12 @@ use Rattle.call_stages.specs.View.{Core}
 use Rattle.core_invariant.specs.Holding.{Holding, holds_counts, settled_by}
 use Rattle.core_invariant.specs.Knows.{KnowsTail, phase_at}
 use Rattle.core_invariant.specs.Shares.{SparesTcap, HasTcap, StoresB, KnowsStoresAt}
-use Rattle.core_invariant.specs.Stands.{done_by, holds_head, holds_heads, holds_list, holds_shared, holds_at, holds_in, holds, held_by, Stands}
+use Rattle.core_invariant.specs.Invariant.{done_by, holds_head, holds_heads, holds_list, holds_shared, holds_at, holds_in, holds, held_by, Invariant}
 use Rattle.core_invariant.proofs.Bare.{AsBefore, counts_bare, none_kept}
 use Rattle.kept_knowledge.proofs.Carries.{counts_on}
 use Rattle.step_ways.proofs.Counting as counters
 use Rattle.lent_words.proofs.Lent.{one_keeper, own_value}
-use Rattle.step_ways.proofs.Loads.{IsOfCall, core_at, call_is, inner}
+use Rattle.step_ways.proofs.Loads.{IsOfCall, core_in_call, call_is, inner}
 use Rattle.step_ways.proofs.Refusals.{GoodTook}
 use Rattle.lent_words.proofs.Tcaps.{TcapOf, tcap_of}
 use Rattle.share_invariant.proofs.HeadStores.{counts_free, a_stored, shared_on}
@@ -144,7 +144,7 @@ module _ (p : Pair) (rest : Holding) (bare : (g i : ℕ) → rest.bare g i ≡ N
       ∙ ap (λ b. if b && nat_le n 8 then Some (words n) else None) (le-leb n n (omega arith))
       ∙ ap (λ b. if b then Some (words n) else None) (le-leb n 8 last)
 
-module _ (setup : Setting) (setting : IsSetting setup) (cores : ℕ → Core) (t : Trace) (stands : Stands setup cores t) (c : ℕ)
+module _ (setup : Setting) (setting : IsSetting setup) (cores : ℕ → Core) (t : Trace) (stands : Invariant setup cores t) (c : ℕ)
     (here : c < setup.cores)
     (a : ActiveCall) (active : (cores c).active ≡ Some a) (r : Reply) (drawn : Option ℕ) (p : Pair) where
   -- the word after the head by j more
@@ -179,7 +179,7 @@ module _ (setup : Setting) (setting : IsSetting setup) (cores : ℕ → Core) (t
     next = went_with a a.counts (Decided r drawn left)
 
     abbrev after : Core
-    after = core_at (cores c) (cores c).own.made next
+    after = core_in_call (cores c) (cores c).own.made next
 
     abbrev rest : Holding
     rest = holds_counts (done_by r drawn) a.counts

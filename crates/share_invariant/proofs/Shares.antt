@@ -19,7 +19,7 @@ use Rattle.call_stages.specs.declared.stages.ActiveCall.{ActiveCall}
 use Rattle.call_stages.specs.Steps.{landed, went_with, GoesOn}
 use Rattle.call_stages.specs.View.{Core}
 use Rattle.core_invariant.specs.Knows.{KnowsUndecided, KnowsTail}
-use Rattle.core_invariant.specs.Stands.{Stands}
+use Rattle.core_invariant.specs.Invariant.{Invariant}
 use Rattle.step_ways.proofs.Refusals.{GoodTook}
 use Rattle.share_invariant.proofs.Agains.{again_good}
 use Rattle.share_invariant.proofs.Compares.{compare_good}
@@ -31,7 +31,7 @@ use Rattle.share_invariant.proofs.ListStores.{store_list_good}
 use Rattle.pair_invariant.proofs.MarksA.{mark_a_good}
 use Rattle.share_invariant.proofs.Stores.{store_a_good}
 
-module _ (setup : Setting) (setting : IsSetting setup) (cores : ℕ → Core) (t : Trace) (stands : Stands setup cores t) (c : ℕ)
+module _ (setup : Setting) (setting : IsSetting setup) (cores : ℕ → Core) (t : Trace) (stands : Invariant setup cores t) (c : ℕ)
     (here : c < setup.cores) (a : ActiveCall) (active : (cores c).active ≡ Some a) where
   abbrev pub ShareGood : Pair → Type 0
   ShareGood p = GoodTook setup cores t c (pair_move p)

@@ -19,12 +19,12 @@ use Rattle.call_stages.specs.Steps.{went_with, GoesOn}
 use Rattle.call_stages.specs.View.{Core}
 use Rattle.core_invariant.specs.Knows.{KnowsTail}
 use Rattle.core_invariant.specs.Shares.{list_changed, StoresA}
-use Rattle.core_invariant.specs.Stands.{done_by, Stands}
+use Rattle.core_invariant.specs.Invariant.{done_by, Invariant}
 use Rattle.core_invariant.proofs.Bare.{counts_bare}
 use Rattle.step_ways.proofs.Refusals.{GoodTook}
 use Rattle.share_invariant.proofs.HeadStores.{counts_free, head_good}
 
-module _ (setup : Setting) (setting : IsSetting setup) (cores : ℕ → Core) (t : Trace) (stands : Stands setup cores t) (c : ℕ)
+module _ (setup : Setting) (setting : IsSetting setup) (cores : ℕ → Core) (t : Trace) (stands : Invariant setup cores t) (c : ℕ)
     (here : c < setup.cores)
     (a : ActiveCall) (active : (cores c).active ≡ Some a) (r : Reply) (drawn : Option ℕ) (p : Pair) (moved : Bool) (v : Value)
     (stage_is : a.stage ≡ Decided r drawn (share_tail (record p { at = StoreA moved v })))

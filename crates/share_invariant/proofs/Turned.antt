@@ -15,7 +15,7 @@ use Rattle.kernel_history.proofs.Steps.{last_left-here, last_left-there}
 use Rattle.call_stages.specs.View.{Core}
 use Rattle.core_invariant.specs.Holding.{Holding, settled_by, settled, MarkIs}
 use Rattle.core_invariant.specs.Words.{WordIs}
-use Rattle.core_invariant.specs.Stands.{holds, held_by, times_of, Stands}
+use Rattle.core_invariant.specs.Invariant.{holds, held_by, times_of, Invariant}
 use Rattle.core_invariant.proofs.Bare.{own_kept, same_value, core_bare}
 use Rattle.kept_words.proofs.WordFrames.{ReadsAlike, StaysSaid}
 
@@ -31,7 +31,7 @@ pub record IsTaken (setup : Setting) (cores : ℕ → Core) (t : Trace) (w : Wor
   pub bare : marked_by setup t (EntryAt f i) ≡ None
   pub free : (d : ℕ) → (held_by cores d).bare f i ≡ None
 
-module _ (setup : Setting) (setting : IsSetting setup) (cores : ℕ → Core) (t : Trace) (stands : Stands setup cores t) (e : Step)
+module _ (setup : Setting) (setting : IsSetting setup) (cores : ℕ → Core) (t : Trace) (stands : Invariant setup cores t) (e : Step)
     (after : Core) (below : e.core < setup.cores) (alike : ReadsAlike setup t e)
     (elsewhere : (w : Word) → w ≢ word_of e.move → (holds after).marks w ≡ (holds (cores e.core)).marks w)
     (was : marked_by setup t (word_of e.move) ≡ None)

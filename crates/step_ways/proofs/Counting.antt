@@ -19,27 +19,27 @@ use Rattle.call_stages.specs.declared.stages.ActiveCall.{ActiveCall}
 use Rattle.call_stages.specs.View.{Core}
 use Rattle.core_invariant.specs.Holding.{count_of, committed, holds_counts, AreApart, settled_by, settled}
 use Rattle.core_invariant.specs.Knows.{phase_at, Knows, IsCount, CoreIs, flushing_in}
-use Rattle.core_invariant.specs.Stands.{holds_in, holds, held_by, Stands}
+use Rattle.core_invariant.specs.Invariant.{holds_in, holds, held_by, Invariant}
 use Rattle.kept_words.proofs.WordFrames.{marks_own, hold_marks, hold_words, settled_stays}
 use Rattle.kept_words.proofs.Sums.{sums_stay}
-use Rattle.kept_words.proofs.Calm.{calm_same, calm_words, none_stored, IsPlain, plain_time, plain_exit, plain_flushed}
+use Rattle.kept_words.proofs.Calm.{calm_same, calm_words, none_stored, IsUntimed, plain_time, plain_exit, plain_flushed}
 use Rattle.step_ways.proofs.Flushing.{still_flushed}
 use Rattle.core_invariant.proofs.Bare.{AsBefore}
 use Rattle.lent_words.proofs.Lent.{SparesLent, keeps_given, lent_still}
 use Rattle.step_ways.proofs.Good.{IsGood, SparesBlanks}
 use Rattle.step_ways.proofs.Users.{spares_none}
-use Rattle.step_ways.proofs.Loads.{Lands, IsOfCall, core_at, core_is, call_is, in_call, inner, inner_within, inner_disciplined, inner_near}
+use Rattle.step_ways.proofs.Loads.{Lands, IsOfCall, core_in_call, core_is, call_is, in_call, inner, inner_within, inner_disciplined, inner_near}
 
 -- A step of a call, within it, on the word of a count, of an entry or of a frame: what the core holds of other words stays, no other core has marked
 -- the word, and what the word stands for stays too.
-module _ (setup : Setting) (setting : IsSetting setup) (cores : ℕ → Core) (t : Trace) (stands : Stands setup cores t) (c : ℕ)
+module _ (setup : Setting) (setting : IsSetting setup) (cores : ℕ → Core) (t : Trace) (stands : Invariant setup cores t) (c : ℕ)
     (here : c < setup.cores)
     (a : ActiveCall) (active : (cores c).active ≡ Some a) (move : Move) (next : ActiveCall) where
   abbrev pub e : Step
   e = inner setup setting cores t stands c here a active move None None
 
   abbrev pub after : Core
-  after = core_at (cores c) (cores c).own.made next
+  after = core_in_call (cores c) (cores c).own.made next
 
   abbrev pub was : ℕ
   was = last_left setup t (word_of move)
@@ -59,7 +59,7 @@ module _ (setup : Setting) (setting : IsSetting setup) (cores : ℕ → Core) (t
       → SparesBlanks setup t e → SparesLent cores e
       → IsGood setup cores t e after
   holds_on flushes not_clock one_more of_call lands small elsewhere bares now unowned settles same_phase knows counts apart blanks spares =
-      let plain : IsPlain setup t e = record {
+      let plain : IsUntimed setup t e = record {
         begins = λ x. refl;
         ends = λ x. refl;
         flushes = refl;

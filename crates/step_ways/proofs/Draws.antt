@@ -18,7 +18,7 @@ use Rattle.call_stages.specs.declared.stages.ActiveCall.{ActiveCall}
 use Rattle.call_stages.specs.View.{Core}
 use Rattle.core_invariant.specs.Words.{WordIs}
 use Rattle.core_invariant.specs.Knows.{phase_at, Knows, WorksIn, CoreIs, flushing_in}
-use Rattle.core_invariant.specs.Stands.{holds, held_by, times_of, counted_in, SumIs, Stands}
+use Rattle.core_invariant.specs.Invariant.{holds, held_by, times_of, counted_in, SumIs, Invariant}
 use Rattle.kept_words.proofs.WordFrames.{ReadsAlike, StaysSaid, marks_own, carry_marks, carry_words}
 use Rattle.kept_words.proofs.Calm.{plain_exit}
 use Rattle.lent_words.proofs.Lent.{lent_open, lent_elsewhere}
@@ -27,9 +27,9 @@ use Rattle.step_ways.proofs.Flushing.{open_flushed}
 use Rattle.step_ways.proofs.Good.{IsGood, spares_other}
 use Rattle.step_ways.proofs.Users.{SparesBy, spared}
 use Rattle.step_ways.proofs.Writes.{clock_small}
-use Rattle.step_ways.proofs.Loads.{Lands, core_at, next_at, core_is, call_is, in_call, inner, inner_within, inner_disciplined, inner_near}
+use Rattle.step_ways.proofs.Loads.{Lands, core_in_call, next_at, core_is, call_is, in_call, inner, inner_within, inner_disciplined, inner_near}
 
-module _ (setup : Setting) (setting : IsSetting setup) (cores : ℕ → Core) (t : Trace) (stands : Stands setup cores t) (c : ℕ)
+module _ (setup : Setting) (setting : IsSetting setup) (cores : ℕ → Core) (t : Trace) (stands : Invariant setup cores t) (c : ℕ)
     (here : c < setup.cores)
     (a : ActiveCall) (active : (cores c).active ≡ Some a) (r : Reply) (stage : Stage) (made : ℕ) where
   abbrev pub draw : Move
@@ -39,7 +39,7 @@ module _ (setup : Setting) (setting : IsSetting setup) (cores : ℕ → Core) (t
   e = inner setup setting cores t stands c here a active draw (Some r) None
 
   abbrev pub after : Core
-  after = core_at (cores c) made (next_at a a.found stage)
+  after = core_in_call (cores c) made (next_at a a.found stage)
 
   none_some : (d : ℕ) → None ≡ Some d → ⊥
   none_some d h = cc

@@ -1,6 +1,6 @@
 -- What a core's flush word shows: the flush that the core has stored, which is not later than its last.
 use Rattle.call_stages.specs.View.{Core}
-use Rattle.core_invariant.specs.Stands.{Stands}
+use Rattle.core_invariant.specs.Invariant.{Invariant}
 use Rattle.frame_words.specs.declared.flush_word.FlushWord.{FlushWord}
 use Rattle.frame_words.specs.Flush.{flush_of_word}
 use Rattle.trace_laws.proofs.Waiting.{Flushed, later_flushed, may_be_unflushed}
@@ -13,7 +13,7 @@ use Rattle.std.proofs.Common.{◌≡◌, ℕ, ◌<◌, ◌≤◌, true, Some, ar
 use Rattle.core_invariant.proofs.Sounds.{limits_of}
 use Rattle.word_map.specs.Word.{FlushAt}
 
-module _ (setup : Setting) (cores : ℕ → Core) (t : Trace) (stands : Stands setup cores t) (c : ℕ) (shown : FlushWord)
+module _ (setup : Setting) (cores : ℕ → Core) (t : Trace) (stands : Invariant setup cores t) (c : ℕ) (shown : FlushWord)
     (shows : flush_of_word (last_left setup t (FlushAt c)) ≡ Some shown) where
   pub flush_shown : shown.stamp ≡ flush_stored t c
   flush_shown = ap (λ k. k.stamp) (same shown (record { stamp = flush_stored t c }) (sym shows ∙ stands.words (FlushAt c)))

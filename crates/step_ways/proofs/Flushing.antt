@@ -25,7 +25,7 @@ use Rattle.core_invariant.proofs.Freezing.{release_flush}
 use Rattle.core_invariant.specs.Holding.{Holding, holds_counts, holds_closed, holds_drawn}
 use Rattle.core_invariant.specs.Knows.{flushes_tail, is_flushing, flushing_in, phase_at, KnowsAt}
 use Rattle.core_invariant.proofs.ThreadHolds.{switching_flush}
-use Rattle.core_invariant.specs.Stands.{is_done, holds_making, holds_killing, holds_comp, holds_act, holds_tail, holds_work, holds_stage, holds_at, holds_share, holds_shared, holds_push, holds_pop}
+use Rattle.core_invariant.specs.Invariant.{is_done, holds_making, holds_killing, holds_comp, holds_act, holds_tail, holds_work, holds_stage, holds_at, holds_share, holds_shared, holds_push, holds_pop}
 use Rattle.stage_thread.specs.declared.stack.Push.{Push as PushOf}
 use Rattle.stage_thread.specs.declared.stack.Push.TheVariants as push
 use Rattle.stage_thread.specs.declared.stack.Pop.{Pop as PopOf}

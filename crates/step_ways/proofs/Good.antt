@@ -61,7 +61,7 @@ use Rattle.core_invariant.specs.Holding.{settled, MarkIs, Holding, keeps, holds_
 use Rattle.core_invariant.specs.Words.{WordIs}
 use Rattle.core_invariant.specs.Shares.{SparesTcap}
 use Rattle.core_invariant.specs.Knows.{phase_at, CallIs, KnowsAt, WorksIn, CoreIs, blank_word, is_start, KnowsMakingAt, KnowsAct, KnowsWork, KnowsCompAt}
-use Rattle.core_invariant.specs.Stands.{held_by, times_of, counted_in, SumIs, Stands, is_done, holds_making, holds_act, holds_work, holds_at, holds_in, holds, holds_comp, IsLent}
+use Rattle.core_invariant.specs.Invariant.{held_by, times_of, counted_in, SumIs, Invariant, is_done, holds_making, holds_act, holds_work, holds_at, holds_in, holds, holds_comp, IsLent}
 use Rattle.core_invariant.proofs.Markers.{marker_inside}
 use Rattle.kept_knowledge.proofs.Carries.{KeepsUsers, undecided_on, counts_on, store_on, stores_in, stores_of, dead_on, live_on, looks_at, looks_in, looked_in, looked_of, claimed_in, claimed_of, KeepsThreads}
 use Rattle.stage_sweep.specs.Counters.{latest_stamp}
@@ -296,7 +296,7 @@ works_on setup t e core c on is = record {
   made = is.made ∙ ap (λ k. k.counted) (sym on.core);
 }
 
-module _ (setup : Setting) (setting : IsSetting setup) (cores : ℕ → Core) (t : Trace) (stands : Stands setup cores t) (e : Step) where
+module _ (setup : Setting) (setting : IsSetting setup) (cores : ℕ → Core) (t : Trace) (stands : Invariant setup cores t) (e : Step) where
   open_carries : MayFollow setup t e → KeepsTime setup t e → (c : ℕ) (call : Call) → c ≢ e.core → phase t c ≡ Open call
       → Carries setup t e c
   open_carries follows time c call other is = carries_other setup setting t stands.legal e follows time stands.graces c other call is
@@ -566,7 +566,7 @@ module _ (setup : Setting) (setting : IsSetting setup) (cores : ℕ → Core) (t
   bare call is out w h = true≢false (sym (marker_inside setup cores t stands w e.core h) ∙ inside_is setup t e.core ∙ ap is_in out)
 
   -- a good step leaves cores that stand for the trace with it
-  pub stands_on : (after : Core) → IsGood setup cores t e after → Stands setup (put cores e.core after) (e ∷ t)
+  pub stands_on : (after : Core) → IsGood setup cores t e after → Invariant setup (put cores e.core after) (e ∷ t)
   stands_on after good = record {
     legal = (stands.legal, good.follows);
     bounds = (stands.bounds, good.within);

@@ -15,7 +15,7 @@ use Rattle.kernel_history.proofs.Steps.{last_left-here, last_left-there}
 use Rattle.call_stages.specs.View.{Core}
 use Rattle.core_invariant.specs.Holding.{bare_value, settled_by, settled}
 use Rattle.core_invariant.specs.Words.{WordIs}
-use Rattle.core_invariant.specs.Stands.{holds, held_by, times_of, Stands}
+use Rattle.core_invariant.specs.Invariant.{holds, held_by, times_of, Invariant}
 use Rattle.core_invariant.proofs.Bare.{own_kept, same_value, core_bare, free_value}
 use Rattle.lent_words.proofs.Lent.{runs_on_own, runs_no_tcap, lent_thread}
 use Rattle.kept_words.proofs.WordFrames.{ReadsAlike, StaysSaid, others_settled, own_settled}
@@ -26,7 +26,7 @@ none_some v h = cc
 same_number : (x y : ℕ) → Some x ≡ Some y → x ≡ y
 same_number x y h = cc
 
-module _ (setup : Setting) (setting : IsSetting setup) (cores : ℕ → Core) (t : Trace) (stands : Stands setup cores t) (e : Step)
+module _ (setup : Setting) (setting : IsSetting setup) (cores : ℕ → Core) (t : Trace) (stands : Invariant setup cores t) (e : Step)
     (after : Core) (below : e.core < setup.cores)
     (still : (w : Word) → (holds after).marks w ≡ (holds (cores e.core)).marks w)
     (alike : ReadsAlike setup t e)

@@ -35,7 +35,7 @@ use Rattle.call_stages.specs.declared.stages.ActiveCall.{ActiveCall}
 use Rattle.call_stages.specs.View.{Core}
 use Rattle.call_stages.specs.Fits.{IsCore, IsActive, CallFits, left_at}
 use Rattle.core_invariant.specs.Knows.{phase_at, Knows, IsIn, CallIs, WorksIn, CoreIs, KnowsTail, is_flushing, flushing_in}
-use Rattle.core_invariant.specs.Stands.{done_by, holds_at, holds_in, holds, held_by, Stands}
+use Rattle.core_invariant.specs.Invariant.{done_by, holds_at, holds_in, holds, held_by, Invariant}
 use Rattle.core_invariant.proofs.Markers.{phase_in, phase_call}
 use Rattle.kept_words.proofs.WordFrames.{marks_own, settled_on, load_keeps, load_marks, load_words}
 use Rattle.kept_words.proofs.Sums.{sums_stay}
@@ -44,7 +44,7 @@ use Rattle.core_invariant.specs.Holding.{holds_counts}
 use Rattle.step_ways.proofs.Flushing.{still_flushed, open_flushed}
 use Rattle.step_ways.proofs.Good.{IsGood, spares_kept}
 use Rattle.step_ways.proofs.Users.{spares_none}
-use Rattle.kept_words.proofs.Calm.{IsCalm, calm_same, calm_counted, calm_own, calm_words, counted_rises, stored_by, IsPlain, plain_time, plain_exit, BeginsNone, plain_begins, none_flushed}
+use Rattle.kept_words.proofs.Calm.{IsCalm, calm_same, calm_counted, calm_own, calm_words, counted_rises, stored_by, IsUntimed, plain_time, plain_exit, BeginsNone, plain_begins, none_flushed}
 use Rattle.lent_words.proofs.Lent.{keeps_loads, lent_still, lent_open, lent_kept}
 
 -- A step of core c.
@@ -68,8 +68,8 @@ abbrev pub next_at : ActiveCall → List Capability → Stage → ActiveCall
 next_at a found stage = next_with a found a.read stage
 
 -- The core with so many calls made, and this call.
-abbrev pub core_at : Core → ℕ → ActiveCall → Core
-core_at core made a = record { own = record core.own { made = made }; active = Some a }
+abbrev pub core_in_call : Core → ℕ → ActiveCall → Core
+core_in_call core made a = record { own = record core.own { made = made }; active = Some a }
 
 -- The core after a step is in its ranges, and the word of the step is one of the machine, by the one name of its place.
 pub record Lands (setup : Setting) (core : Core) (w : Word) : Type 0 where
@@ -96,7 +96,7 @@ some_left cores a (Decided r drawn tail) = omega arith
 some_left cores a (Leave r x) = omega arith
 
 -- The core c is in the call a.
-module _ (setup : Setting) (setting : IsSetting setup) (cores : ℕ → Core) (t : Trace) (stands : Stands setup cores t) (c : ℕ)
+module _ (setup : Setting) (setting : IsSetting setup) (cores : ℕ → Core) (t : Trace) (stands : Invariant setup cores t) (c : ℕ)
     (here : c < setup.cores)
     (a : ActiveCall) (active : (cores c).active ≡ Some a) where
   pub core_is : CoreIs setup (cores c) t c
@@ -154,11 +154,11 @@ module _ (setup : Setting) (setting : IsSetting setup) (cores : ℕ → Core) (t
 
     pub inner_with : returns ≡ None → BeginsNone setup t inner → (made : ℕ) (found : List Capability) (read : Option ℕ) (stage : Stage)
         → (is_flushing stage ≡ false → is_flushing a.stage ≡ false)
-        → IsCore (core_at (cores c) made (next_with a found read stage))
+        → IsCore (core_in_call (cores c) made (next_with a found read stage))
         → WorksIn (record (cores c).own { made = made }) (state_after setup (inner ∷ t)) c
         → after_decide decides (phase_at a.call a.stage) ≡ phase_at a.call stage
         → Knows setup (inner ∷ t) c (cores c).own.table (next_with a found read stage)
-        → CoreIs setup (core_at (cores c) made (next_with a found read stage)) (inner ∷ t) c
+        → CoreIs setup (core_in_call (cores c) made (next_with a found read stage)) (inner ∷ t) c
     inner_with none plain made found read stage was fits works at knows = record {
       fits = fits;
       number = core_is.number;
@@ -180,20 +180,20 @@ module _ (setup : Setting) (setting : IsSetting setup) (cores : ℕ → Core) (t
 
     pub inner_own : returns ≡ None → BeginsNone setup t inner → (made : ℕ) (found : List Capability) (stage : Stage)
         → (is_flushing stage ≡ false → is_flushing a.stage ≡ false)
-        → IsCore (core_at (cores c) made (next_at a found stage))
+        → IsCore (core_in_call (cores c) made (next_at a found stage))
         → WorksIn (record (cores c).own { made = made }) (state_after setup (inner ∷ t)) c
         → after_decide decides (phase_at a.call a.stage) ≡ phase_at a.call stage
         → Knows setup (inner ∷ t) c (cores c).own.table (next_at a found stage)
-        → CoreIs setup (core_at (cores c) made (next_at a found stage)) (inner ∷ t) c
+        → CoreIs setup (core_in_call (cores c) made (next_at a found stage)) (inner ∷ t) c
     inner_own none plain made found stage was fits works at knows = inner_with none plain made found a.read stage was fits works at knows
 
     -- the core holds at the next stage what it held
     pub still_with : (made : ℕ) (found : List Capability) (read : Option ℕ) (stage : Stage) → holds_at stage a.counts ≡ holds_in (Some a)
-        → holds (core_at (cores c) made (next_with a found read stage)) ≡ holds (cores c)
+        → holds (core_in_call (cores c) made (next_with a found read stage)) ≡ holds (cores c)
     still_with made found read stage same = same ∙ ap holds_in (sym active)
 
     pub still_holds : (made : ℕ) (found : List Capability) (stage : Stage) → holds_at stage a.counts ≡ holds_in (Some a)
-        → holds (core_at (cores c) made (next_at a found stage)) ≡ holds (cores c)
+        → holds (core_in_call (cores c) made (next_at a found stage)) ≡ holds (cores c)
     still_holds made found stage same = still_with made found a.read stage same
 
     -- a step that leaves its word as found leaves one of 64 bits
@@ -203,16 +203,16 @@ module _ (setup : Setting) (setting : IsSetting setup) (cores : ℕ → Core) (t
 
   -- An undecided load, after which the call has read this and is at this stage; what it knew it still knows.
   pub reads_on : (move : Move) (found : List Capability) (read : Option ℕ) (stage : Stage) → OnlyLooks setup t c a.call move
-      → Lands setup (core_at (cores c) (cores c).own.made (next_with a found read stage)) (word_of move)
+      → Lands setup (core_in_call (cores c) (cores c).own.made (next_with a found read stage)) (word_of move)
       → holds_at stage a.counts ≡ holds_in (Some a) → phase_at a.call a.stage ≡ phase_at a.call stage
       → (Carries setup t (inner move None None) c
       → Knows setup (inner move None None ∷ t) c (cores c).own.table (next_with a found read stage))
-      → IsGood setup cores t (inner move None None) (core_at (cores c) (cores c).own.made (next_with a found read stage))
+      → IsGood setup cores t (inner move None None) (core_in_call (cores c) (cores c).own.made (next_with a found read stage))
   reads_on move found read stage looks lands same at knows =
       let e : Step = inner move None None in
-      let after : Core = core_at (cores c) (cores c).own.made (next_with a found read stage) in
+      let after : Core = core_in_call (cores c) (cores c).own.made (next_with a found read stage) in
       let still = still_with move None None (cores c).own.made found read stage same in
-      let plain : IsPlain setup t e = record {
+      let plain : IsUntimed setup t e = record {
         begins = λ x. refl;
         ends = λ x. refl;
         flushes = refl;
@@ -261,15 +261,15 @@ module _ (setup : Setting) (setting : IsSetting setup) (cores : ℕ → Core) (t
 
   -- An undecided load, after which the call is at this stage, and has read nothing more.
   pub loads_on : (move : Move) (found : List Capability) (stage : Stage) → OnlyLooks setup t c a.call move
-      → Lands setup (core_at (cores c) (cores c).own.made (next_at a found stage)) (word_of move)
+      → Lands setup (core_in_call (cores c) (cores c).own.made (next_at a found stage)) (word_of move)
       → holds_at stage a.counts ≡ holds_in (Some a) → phase_at a.call a.stage ≡ phase_at a.call stage
       → (Carries setup t (inner move None None) c → Knows setup (inner move None None ∷ t) c (cores c).own.table (next_at a found stage))
-      → IsGood setup cores t (inner move None None) (core_at (cores c) (cores c).own.made (next_at a found stage))
+      → IsGood setup cores t (inner move None None) (core_in_call (cores c) (cores c).own.made (next_at a found stage))
   loads_on move found stage looks lands same at knows = reads_on move found a.read stage looks lands same at knows
 
   -- A decision at a load or at a lost compare, which leaves all as it was but counts the call.
   pub decides_with : (move : Move) (r : Reply) (tail : Tail) (found : List Capability) → OnlyLooks setup t c a.call move
-      → Lands setup (core_at (cores c) ((cores c).own.made + calls_counted r) (next_at a found (Decided r None tail))) (word_of move)
+      → Lands setup (core_in_call (cores c) ((cores c).own.made + calls_counted r) (next_at a found (Decided r None tail))) (word_of move)
       → holds_at (Decided r None tail) a.counts ≡ holds_in (Some a)
       → phase_at a.call a.stage ≡ Open a.call → state_by (state_after setup t) c a.call r ≡ counted (state_after setup t) c
       → calls_counted r ≡ 1
@@ -278,18 +278,18 @@ module _ (setup : Setting) (setting : IsSetting setup) (cores : ℕ → Core) (t
       → MayReply (state_after setup t) c a.call r → IsJustified setup t (inner move (Some r) None) a.call r
       → (IsAlone t (inner move (Some r) None) → r ≡ alone (state_after setup t) c a.call)
       → KnowsTail setup (inner move (Some r) None ∷ t) c a.call a.counts tail
-      → IsGood setup cores t (inner move (Some r) None) (core_at (cores c) ((cores c).own.made + calls_counted r)
+      → IsGood setup cores t (inner move (Some r) None) (core_in_call (cores c) ((cores c).own.made + calls_counted r)
       (next_at a found (Decided r None tail)))
   decides_with move r tail found looks lands same opens state one none_begins none_ends no_flush permitted justified first knows =
       let e : Step = inner move (Some r) None in
-      let after : Core = core_at (cores c) ((cores c).own.made + calls_counted r) (next_at a found (Decided r None tail)) in
+      let after : Core = core_in_call (cores c) ((cores c).own.made + calls_counted r) (next_at a found (Decided r None tail)) in
       let still = still_holds move (Some r) None ((cores c).own.made + calls_counted r) found (Decided r None tail) same in
       let is_open : phase t c ≡ Open a.call = call_is.phase ∙ opens in
       let now : state_after setup (e ∷ t) ≡ counted (state_after setup t) c = ap (λ p. state_decided_in p r (state_after setup t) c)
       is_open ∙ state in
       let calm : IsCalm (state_after setup t) (state_after setup (e ∷ t)) c = subst (λ s. IsCalm (state_after setup t) s c) (sym now)
       (calm_counted (state_after setup t) c) in
-      let plain : IsPlain setup t e = record {
+      let plain : IsUntimed setup t e = record {
         begins = λ x. ap (λ p. begins_in (Some r) p (state_after setup t) c x) is_open ∙ none_begins x;
         ends = λ x. ap (λ p. ends_in (Some r) p x) is_open ∙ none_ends x;
         flushes = ap (flushes_in (Some r)) is_open ∙ no_flush;
@@ -348,7 +348,7 @@ module _ (setup : Setting) (setting : IsSetting setup) (cores : ℕ → Core) (t
 
   -- It has nothing to store.
   pub decides_on : (move : Move) (r : Reply) (found : List Capability) → OnlyLooks setup t c a.call move
-      → Lands setup (core_at (cores c) ((cores c).own.made + calls_counted r) (next_at a found (Decided r None Nothing))) (word_of move)
+      → Lands setup (core_in_call (cores c) ((cores c).own.made + calls_counted r) (next_at a found (Decided r None Nothing))) (word_of move)
       → holds_counts (done_by r None) a.counts ≡ holds_in (Some a)
       → phase_at a.call a.stage ≡ Open a.call → state_by (state_after setup t) c a.call r ≡ counted (state_after setup t) c
       → calls_counted r ≡ 1
@@ -356,7 +356,7 @@ module _ (setup : Setting) (setting : IsSetting setup) (cores : ℕ → Core) (t
       → flushes a.call r ≡ false
       → MayReply (state_after setup t) c a.call r → IsJustified setup t (inner move (Some r) None) a.call r
       → (IsAlone t (inner move (Some r) None) → r ≡ alone (state_after setup t) c a.call)
-      → IsGood setup cores t (inner move (Some r) None) (core_at (cores c) ((cores c).own.made + calls_counted r)
+      → IsGood setup cores t (inner move (Some r) None) (core_in_call (cores c) ((cores c).own.made + calls_counted r)
       (next_at a found (Decided r None Nothing)))
   decides_on move r found looks lands same opens state one none_begins none_ends no_flush permitted justified first =
       decides_with move r Nothing found looks lands same opens state one none_begins none_ends no_flush permitted justified first tt

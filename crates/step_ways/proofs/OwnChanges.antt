@@ -21,7 +21,7 @@ use Rattle.call_stages.specs.View.{Core}
 use Rattle.core_invariant.specs.Holding.{MarkIs, settled}
 use Rattle.core_invariant.specs.Words.{WordIs}
 use Rattle.core_invariant.specs.Knows.{phase_at, Knows, WorksIn, CoreIs, is_flushing, flushing_in}
-use Rattle.core_invariant.specs.Stands.{held_by, times_of, counted_in, SumIs, Stands, holds, IsLent}
+use Rattle.core_invariant.specs.Invariant.{held_by, times_of, counted_in, SumIs, Invariant, holds, IsLent}
 use Rattle.kept_words.proofs.Calm.{BeginsNone, none_time, none_flushed, plain_exit}
 use Rattle.kept_knowledge.proofs.Carries.{counts_on}
 use Rattle.step_ways.proofs.Flushing.{open_flushed}
@@ -38,7 +38,7 @@ pub record IsSameCore (own own' : Own) : Type 0 where
   pub epochs : own'.epochs ≡ own.epochs
   pub exit : own'.exit ≡ own.exit
 
-module _ (setup : Setting) (setting : IsSetting setup) (cores : ℕ → Core) (t : Trace) (stands : Stands setup cores t) (c : ℕ)
+module _ (setup : Setting) (setting : IsSetting setup) (cores : ℕ → Core) (t : Trace) (stands : Invariant setup cores t) (c : ℕ)
     (here : c < setup.cores)
     (a : ActiveCall) (active : (cores c).active ≡ Some a) (move : Move) (r : Reply) (own : Own) (stage : Stage)
     (same : IsSameCore (cores c).own own) where

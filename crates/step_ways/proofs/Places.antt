@@ -16,7 +16,7 @@ use Rattle.call_stages.specs.View.{Core}
 use Rattle.kernel_history.specs.Marking.{marked_by}
 use Rattle.core_invariant.specs.Holding.{settled_by}
 use Rattle.core_invariant.specs.Words.{PlaceIs, IsFrameWord, count_room}
-use Rattle.core_invariant.specs.Stands.{held_by, Stands}
+use Rattle.core_invariant.specs.Invariant.{held_by, Invariant}
 use Rattle.core_invariant.proofs.Sounds.{limits_of}
 use Rattle.lent_words.proofs.Lent.{unlent_value, node_keeps_none}
 
@@ -55,7 +55,7 @@ closing_by (Some (Closing e)) d h = ap (λ o. Rattle.std.specs.Prelude.option_ma
 closing_by (Some (Quiescing s)) d h = absurd (cc)
 
 -- What is read at a place of a node.
-pub place_reads : (setup : Setting) (cores : ℕ → Core) (t : Trace) → Stands setup cores t → (f i : ℕ)
+pub place_reads : (setup : Setting) (cores : ℕ → Core) (t : Trace) → Invariant setup cores t → (f i : ℕ)
     → IsTrue (is_node ((state_after setup t).frame f)) → i < 64
     → IsMarked setup t f i ⊎ IsPlain setup t f i
 place_reads setup cores t stands f i node below = by_mark (marked_by setup t (EntryAt f i)) refl

@@ -40,10 +40,10 @@ use Rattle.call_stages.specs.Cores.{core_after, told_by}
 use Rattle.kernel_history.specs.Marking.{marked_by}
 use Rattle.core_invariant.specs.Holding.{holds_counts}
 use Rattle.core_invariant.specs.Knows.{phase_at, CoreIs, KnowsTail, NamesAre, LooksFor, KnowsAct, KnowsUndecided, KnowsAt}
-use Rattle.core_invariant.specs.Stands.{holds_in, held_by, Stands, holds_tail}
+use Rattle.core_invariant.specs.Invariant.{holds_in, held_by, Invariant, holds_tail}
 use Rattle.core_invariant.specs.Events.{decided_in, returned_in}
 use Rattle.step_ways.proofs.Good.{IsGood}
-use Rattle.step_ways.proofs.Loads.{Lands, OnlyLooks, step_to, next_at, core_at, core_is, call_is, is_active, inner, decides_on, decides_with}
+use Rattle.step_ways.proofs.Loads.{Lands, OnlyLooks, step_to, next_at, core_in_call, core_is, call_is, is_active, inner, decides_on, decides_with}
 use Rattle.core_invariant.proofs.Sounds.{limits_of}
 use Rattle.core_invariant.proofs.Markers.{marker_inside}
 
@@ -190,7 +190,7 @@ not_spent setup core t c is room =
     let most : core.own.limit ≡ setup.calls = is.limit in
     lt-leb (state_after setup t).limits.calls ((state_after setup t).core c).counted (omega arith)
 
-module _ (setup : Setting) (setting : IsSetting setup) (cores : ℕ → Core) (t : Trace) (stands : Stands setup cores t) (c : ℕ)
+module _ (setup : Setting) (setting : IsSetting setup) (cores : ℕ → Core) (t : Trace) (stands : Invariant setup cores t) (c : ℕ)
     (here : c < setup.cores)
     (a : ActiveCall) (active : (cores c).active ≡ Some a) (opens : phase_at a.call a.stage ≡ Open a.call)
     (held : holds_in (Some a) ≡ holds_counts None a.counts)
@@ -215,10 +215,10 @@ module _ (setup : Setting) (setting : IsSetting setup) (cores : ℕ → Core) (t
 
   -- the call is refused with this reply, and its names have led to what they had
   abbrev pub RefusedWith : Reply → Type 0
-  RefusedWith r = Lands setup (core_at (cores c) ((cores c).own.made + calls_counted r) (next_at a a.found (Decided r None Nothing)))
+  RefusedWith r = Lands setup (core_in_call (cores c) ((cores c).own.made + calls_counted r) (next_at a a.found (Decided r None Nothing)))
       (word_of move)
       → IsGood setup cores t (inner setup setting cores t stands c here a active move (Some r) None)
-      (core_at (cores c) ((cores c).own.made + calls_counted r) (next_at a a.found (Decided r None Nothing)))
+      (core_in_call (cores c) ((cores c).own.made + calls_counted r) (next_at a a.found (Decided r None Nothing)))
 
   first_of : (r : Reply) → IsFirstCause r → IsAlone t (inner setup setting cores t stands c here a active move (Some r) None)
       → r ≡ alone (state_after setup t) c a.call
@@ -324,7 +324,7 @@ pub record IsRefusing (setup : Setting) (t : Trace) (c : ℕ) (e : Step) : Type 
   pub state : state_after setup (e ∷ t) ≡ counted (state_after setup t) c
 
 -- Refusals that leave something to be stored, of which this is known at such a step.
-module _ (setup : Setting) (setting : IsSetting setup) (cores : ℕ → Core) (t : Trace) (stands : Stands setup cores t) (c : ℕ)
+module _ (setup : Setting) (setting : IsSetting setup) (cores : ℕ → Core) (t : Trace) (stands : Invariant setup cores t) (c : ℕ)
     (here : c < setup.cores)
     (a : ActiveCall) (active : (cores c).active ≡ Some a) (opens : phase_at a.call a.stage ≡ Open a.call) (tail : Tail)
     (same : holds_tail tail (holds_counts None a.counts) ≡ holds_in (Some a))
@@ -334,10 +334,10 @@ module _ (setup : Setting) (setting : IsSetting setup) (cores : ℕ → Core) (t
   unspent_here = not_spent setup (cores c) t c (core_is setup setting cores t stands c here a active) room
 
   abbrev pub RefusedLeaving : Reply → Type 0
-  RefusedLeaving r = Lands setup (core_at (cores c) ((cores c).own.made + calls_counted r) (next_at a a.found (Decided r None tail)))
+  RefusedLeaving r = Lands setup (core_in_call (cores c) ((cores c).own.made + calls_counted r) (next_at a a.found (Decided r None tail)))
       (word_of move)
       → IsGood setup cores t (inner setup setting cores t stands c here a active move (Some r) None)
-      (core_at (cores c) ((cores c).own.made + calls_counted r) (next_at a a.found (Decided r None tail)))
+      (core_in_call (cores c) ((cores c).own.made + calls_counted r) (next_at a a.found (Decided r None tail)))
 
   owes_not : ticks_at a.stage ≡ false → owed_by (state_after setup t) c a.call ≡ state_after setup t
   owes_not plain = only_tick_owes (state_after setup t) c a.call
@@ -387,7 +387,7 @@ module _ (setup : Setting) (setting : IsSetting setup) (cores : ℕ → Core) (t
       }
 
 -- The same, where this is known at each step.
-module _ (setup : Setting) (setting : IsSetting setup) (cores : ℕ → Core) (t : Trace) (stands : Stands setup cores t) (c : ℕ)
+module _ (setup : Setting) (setting : IsSetting setup) (cores : ℕ → Core) (t : Trace) (stands : Invariant setup cores t) (c : ℕ)
     (here : c < setup.cores)
     (a : ActiveCall) (active : (cores c).active ≡ Some a) (opens : phase_at a.call a.stage ≡ Open a.call) (tail : Tail)
     (same : holds_tail tail (holds_counts None a.counts) ≡ holds_in (Some a))

@@ -36,7 +36,7 @@ use Rattle.kernel_history.specs.Marking.{marked_by}
 use Rattle.core_invariant.specs.Words.{count_room, WordIs}
 use Rattle.core_invariant.proofs.Sounds.{limits_of}
 use Rattle.core_invariant.specs.Knows.{phase_at, KnowsAt, Knows, IsCount, CallIs, WorksIn, CoreIs, is_flushing, flushing_in}
-use Rattle.core_invariant.specs.Stands.{is_done, holds_at, holds_in, holds, held_by, times_of, counted_in, SumIs, Stands}
+use Rattle.core_invariant.specs.Invariant.{is_done, holds_at, holds_in, holds, held_by, times_of, counted_in, SumIs, Invariant}
 use Rattle.kept_words.proofs.WordFrames.{marks_own, settled_on, write_marks, write_words, ReadsAlike, reads_alike, StaysSaid, word_stays, carry_marks, carry_words}
 use Rattle.kept_words.proofs.Sums.{sums_stay}
 use Rattle.core_invariant.proofs.Bare.{IsNotKept, free_value, counts_bare}
@@ -48,8 +48,8 @@ use Rattle.std.proofs.lemmas.List.Elements.{All-nil}
 use Rattle.step_ways.proofs.Flushing.{still_flushed, open_flushed}
 use Rattle.step_ways.proofs.Good.{IsGood, SparesBlanks, spares_other}
 use Rattle.step_ways.proofs.Users.{SparesBy, spared, spares_none}
-use Rattle.kept_words.proofs.Calm.{IsCalm, calm_returned, calm_own, calm_words, counted_rises, none_stored, IsPlain, plain_time, plain_exit, plain_flushed, BeginsNone, plain_begins, none_time, calm_same}
-use Rattle.step_ways.proofs.Loads.{Lands, IsOfCall, step_to, next_at, core_at, some_left, core_is, call_is, in_call, inner, inner_within, inner_disciplined, inner_near, inner_works, inner_own, is_active}
+use Rattle.kept_words.proofs.Calm.{IsCalm, calm_returned, calm_own, calm_words, counted_rises, none_stored, IsUntimed, plain_time, plain_exit, plain_flushed, BeginsNone, plain_begins, none_time, calm_same}
+use Rattle.step_ways.proofs.Loads.{Lands, IsOfCall, step_to, next_at, core_in_call, some_left, core_is, call_is, in_call, inner, inner_within, inner_disciplined, inner_near, inner_works, inner_own, is_active}
 
 -- The clock fits a stamp: each stamp was drawn by a call that was counted.
 
@@ -58,7 +58,7 @@ unfolding sum_below
 sum_most f zero most = omega arith
 sum_most f (suc n) most = let a = sum_most f n (λ i h. most i (omega arith)) in let b = most n (omega arith) in omega arith
 
-made_most : (setup : Setting) (cores : ℕ → Core) (t : Trace) → Stands setup cores t → (c : ℕ) → c < setup.cores
+made_most : (setup : Setting) (cores : ℕ → Core) (t : Trace) → Invariant setup cores t → (c : ℕ) → c < setup.cores
     → ((state_after setup t).core c).counted ≤ 4194304
 made_most setup cores t stands c here =
     let is = stands.each c here in
@@ -67,7 +67,7 @@ made_most setup cores t stands c here =
     let limit = is.fits.own.most_calls in
     omega arith
 
-pub clock_small : (setup : Setting) → IsSetting setup → (cores : ℕ → Core) (t : Trace) → Stands setup cores t → clock setup t < 2 ^ 28
+pub clock_small : (setup : Setting) → IsSetting setup → (cores : ℕ → Core) (t : Trace) → Invariant setup cores t → clock setup t < 2 ^ 28
 clock_small setup setting cores t stands =
     let most = sum_most (λ c. ((state_after setup t).core c).counted) setup.cores (made_most setup cores t stands) in
     let draws = stands.draws in
@@ -75,7 +75,7 @@ clock_small setup setting cores t stands =
     omega arith
 
 -- So few calls leave room in each count's field, and in that of each version.
-pub room_left : (setup : Setting) → IsSetting setup → (cores : ℕ → Core) (t : Trace) → Stands setup cores t
+pub room_left : (setup : Setting) → IsSetting setup → (cores : ℕ → Core) (t : Trace) → Invariant setup cores t
     → count_room (state_after setup t) + 1 < 2 ^ 28
 room_left setup setting cores t stands =
     subst (λ (n : ℕ). 16 + 4 * sum_below (λ c. ((state_after setup t).core c).counted) n + 1 < 2 ^ 28)
@@ -84,7 +84,7 @@ room_left setup setting cores t stands =
     let few = setting.most_cores in
     omega arith)
 
-pub room_small : (setup : Setting) → IsSetting setup → (cores : ℕ → Core) (t : Trace) → Stands setup cores t
+pub room_small : (setup : Setting) → IsSetting setup → (cores : ℕ → Core) (t : Trace) → Invariant setup cores t
     → count_room (state_after setup t) < 2 ^ 28
 room_small setup setting cores t stands = let more = room_left setup setting cores t stands in omega arith
 
@@ -112,7 +112,7 @@ pub same_marks : (fate fate' : Option (Option ℕ)) (xs : List Acquired) (w : Wo
 same_marks fate fate' [] w = refl
 same_marks fate fate' (x ∷ xs) w = ap (λ b. if same_word w (count_of x) then true else b) (same_marks fate fate' xs w)
 
-module _ (setup : Setting) (setting : IsSetting setup) (cores : ℕ → Core) (t : Trace) (stands : Stands setup cores t) (c : ℕ)
+module _ (setup : Setting) (setting : IsSetting setup) (cores : ℕ → Core) (t : Trace) (stands : Invariant setup cores t) (c : ℕ)
     (here : c < setup.cores) where
   -- A decision that writes a word, which carried no mark and carries none. The words that the call holds it holds still, and each stands
   -- for what the call will store there. The step may change the state in any part, so long as what is said of each other word holds of it.
@@ -121,7 +121,7 @@ module _ (setup : Setting) (setting : IsSetting setup) (cores : ℕ → Core) (t
         → marked_by setup t (word_of move) ≡ None
         → mark_of (state_after setup t) (word_of move) (left_of move (last_left setup t (word_of move))) ≡ None
         → left_of move (last_left setup t (word_of move)) < 2 ^ 64 → IsOfCall setup t c a.call move
-        → Lands setup (core_at (cores c) made (next_at a found stage)) (word_of move)
+        → Lands setup (core_in_call (cores c) made (next_at a found stage)) (word_of move)
         → phase_at a.call a.stage ≡ Open a.call → phase_at a.call stage ≡ Decided a.call r
         → ((w : Word) → (holds_at stage a.counts).marks w ≡ (holds_in (Some a)).marks w)
         → ((f i : ℕ) → (holds_at stage a.counts).bare f i ≡ (holds_in (Some a)).bare f i)
@@ -134,16 +134,16 @@ module _ (setup : Setting) (setting : IsSetting setup) (cores : ℕ → Core) (t
         → WordIs (state_after setup (e ∷ t)) (times_of setup (e ∷ t)) (word_of move) (left_of move (last_left setup t (word_of move)))
         → ((w : Word) → marked_by setup t w ≡ Some c
         → WordIs (state_after setup (e ∷ t)) (times_of setup (e ∷ t)) w ((holds_at stage a.counts).stands w))
-        → ((f : ℕ) → SumIs setup (held_by (put cores c (core_at (cores c) made (next_at a found stage)))) (e ∷ t) f)
+        → ((f : ℕ) → SumIs setup (held_by (put cores c (core_in_call (cores c) made (next_at a found stage)))) (e ∷ t) f)
         → MayDecide setup t e (Some r) (phase t c)
         → (IsAlone t e → r ≡ alone (state_after setup t) c a.call)
         → Knows setup (e ∷ t) c (cores c).own.table (next_at a found stage)
-        → IsGood setup cores t e (core_at (cores c) made (next_at a found stage)))
+        → IsGood setup cores t e (core_in_call (cores c) made (next_at a found stage)))
     decides_writing move made r found stage was now small of_call lands opens closes same_held same_bare unlent alike plain blanks counted rises
         works same
         new commits sums may first knows =
         let e : Step = inner setup setting cores t stands c here a active move (Some r) None in
-        let after : Core = core_at (cores c) made (next_at a found stage) in
+        let after : Core = core_in_call (cores c) made (next_at a found stage) in
         let still : (w : Word) → (holds after).marks w ≡ (holds (cores c)).marks w =
         λ w. same_held w ∙ ap (λ o. (holds_in o).marks w) (sym active) in
         let bares : (f i : ℕ) → (holds after).bare f i ≡ (holds (cores c)).bare f i =
@@ -189,7 +189,7 @@ module _ (setup : Setting) (setting : IsSetting setup) (cores : ℕ → Core) (t
         → marked_by setup t (word_of move) ≡ None
         → mark_of (state_after setup t) (word_of move) (left_of move (last_left setup t (word_of move))) ≡ None
         → left_of move (last_left setup t (word_of move)) < 2 ^ 64 → IsOfCall setup t c a.call move
-        → Lands setup (core_at (cores c) made (next_at a found stage)) (word_of move)
+        → Lands setup (core_in_call (cores c) made (next_at a found stage)) (word_of move)
         → phase_at a.call a.stage ≡ Open a.call → phase_at a.call stage ≡ Decided a.call r
         → holds_at stage a.counts ≡ holds_counts (is_done stage) a.counts
         → IsNotKept (held_by cores) (word_of move)
@@ -202,11 +202,11 @@ module _ (setup : Setting) (setting : IsSetting setup) (cores : ℕ → Core) (t
         → holds_in (Some a) ≡ holds_counts None a.counts
         → ((w : Word) → marked_by setup t w ≡ Some c
         → WordIs (state_after setup (e ∷ t)) (times_of setup (e ∷ t)) w ((holds_counts (is_done stage) a.counts).stands w))
-        → ((f : ℕ) → SumIs setup (held_by (put cores c (core_at (cores c) made (next_at a found stage)))) (e ∷ t) f)
+        → ((f : ℕ) → SumIs setup (held_by (put cores c (core_in_call (cores c) made (next_at a found stage)))) (e ∷ t) f)
         → MayDecide setup t e (Some r) (phase t c)
         → (IsAlone t e → r ≡ alone (state_after setup t) c a.call)
         → Knows setup (e ∷ t) c (cores c).own.table (next_at a found stage)
-        → IsGood setup cores t e (core_at (cores c) made (next_at a found stage)))
+        → IsGood setup cores t e (core_in_call (cores c) made (next_at a found stage)))
     writes_on move made r found stage was now small of_call lands opens closes bare_stage unlent alike plain blanks counted rises works same new
         held
         commits sums may first knows =
@@ -225,12 +225,12 @@ module _ (setup : Setting) (setting : IsSetting setup) (cores : ℕ → Core) (t
         → marked_by setup t (EntryAt node index) ≡ None
         → mark_of (state_after setup t) (EntryAt node index) (left_of move (last_left setup t (EntryAt node index))) ≡ None
         → left_of move (last_left setup t (EntryAt node index)) < 2 ^ 64 → IsOfCall setup t c a.call move
-        → Lands setup (core_at (cores c) made (next_at a found stage)) (word_of move)
+        → Lands setup (core_in_call (cores c) made (next_at a found stage)) (word_of move)
         → phase_at a.call a.stage ≡ Open a.call → phase_at a.call stage ≡ Decided a.call r
         → holds_at stage a.counts ≡ holds_counts (is_done stage) a.counts
         → IsNotKept (held_by cores) (EntryAt node index)
         → (let e : Step = inner setup setting cores t stands c here a active move (Some r) None in
-        IsCalm (state_after setup t) (state_after setup (e ∷ t)) c → IsPlain setup t e → SparesBlanks setup t e
+        IsCalm (state_after setup t) (state_after setup (e ∷ t)) c → IsUntimed setup t e → SparesBlanks setup t e
         → made ≡ ((state_after setup (e ∷ t)).core c).counted
         → ((g i : ℕ) → EntryAt g i ≢ EntryAt node index → (state_after setup (e ∷ t)).place g i ≡ (state_after setup t).place g i)
         → WordIs (state_after setup (e ∷ t)) (times_of setup (e ∷ t)) (EntryAt node index)
@@ -238,11 +238,11 @@ module _ (setup : Setting) (setting : IsSetting setup) (cores : ℕ → Core) (t
         → holds_in (Some a) ≡ holds_counts None a.counts
         → ((w : Word) → marked_by setup t w ≡ Some c
         → WordIs (state_after setup (e ∷ t)) (times_of setup (e ∷ t)) w ((holds_counts (is_done stage) a.counts).stands w))
-        → ((f : ℕ) → SumIs setup (held_by (put cores c (core_at (cores c) made (next_at a found stage)))) (e ∷ t) f)
+        → ((f : ℕ) → SumIs setup (held_by (put cores c (core_in_call (cores c) made (next_at a found stage)))) (e ∷ t) f)
         → MayDecide setup t e (Some r) (phase t c)
         → (IsAlone t e → r ≡ alone (state_after setup t) c a.call)
         → Knows setup (e ∷ t) c (cores c).own.table (next_at a found stage)
-        → IsGood setup cores t e (core_at (cores c) made (next_at a found stage)))
+        → IsGood setup cores t e (core_in_call (cores c) made (next_at a found stage)))
     writes_entry move node index made r found stage at was now small of_call lands opens closes bare_stage unlent calm plain blanks
         counts places
         new
@@ -268,7 +268,7 @@ module _ (setup : Setting) (setting : IsSetting setup) (cores : ℕ → Core) (t
         → left_of move (last_left setup t (word_of move)) < 2 ^ 64 → IsOfCall setup t c a.call move
         → ((b : ℕ) → same_word (FlushAt b) (word_of move) ≡ false) → ClockAt ≢ word_of move
         → ((f b : ℕ) → CountAt f b ≢ word_of move)
-        → Lands setup (core_at (cores c) (cores c).own.made (next_at a found stage)) (word_of move)
+        → Lands setup (core_in_call (cores c) (cores c).own.made (next_at a found stage)) (word_of move)
         → holds_at stage a.counts ≡ holds_in (Some a)
         → IsNotKept (held_by cores) (word_of move)
         → phase_at a.call a.stage ≡ phase_at a.call stage
@@ -276,12 +276,12 @@ module _ (setup : Setting) (setting : IsSetting setup) (cores : ℕ → Core) (t
         WordIs (state_after setup t) (times_of setup t) (word_of move) (left_of move (last_left setup t (word_of move)))
         → SparesBlanks setup t e
         → (Carries setup t e c → Knows setup (e ∷ t) c (cores c).own.table (next_at a found stage))
-        → IsGood setup cores t e (core_at (cores c) (cores c).own.made (next_at a found stage)))
+        → IsGood setup cores t e (core_in_call (cores c) (cores c).own.made (next_at a found stage)))
     stores_on move found stage was now small of_call flushes not_clock no_count lands same unlent at new blanks knows =
         let e : Step = inner setup setting cores t stands c here a active move None None in
-        let after : Core = core_at (cores c) (cores c).own.made (next_at a found stage) in
+        let after : Core = core_in_call (cores c) (cores c).own.made (next_at a found stage) in
         let still : holds after ≡ holds (cores c) = same ∙ ap holds_in (sym active) in
-        let plain : IsPlain setup t e = record {
+        let plain : IsUntimed setup t e = record {
           begins = λ x. refl;
           ends = λ x. refl;
           flushes = refl;
@@ -351,7 +351,7 @@ module _ (setup : Setting) (setting : IsSetting setup) (cores : ℕ → Core) (t
         let still : holds after ≡ holds (cores c) = sym (ap holds_in active ∙ ap (λ s. holds_at s a.counts) at ∙ ap (holds_counts None)
         none) in
         let calm : IsCalm (state_after setup t) (state_after setup (e ∷ t)) c = calm_returned (state_after setup t) c in
-        let plain : IsPlain setup t e = record { begins = λ y. refl; ends = λ y. refl; flushes = refl; apart = λ d. refl; same = refl } in
+        let plain : IsUntimed setup t e = record { begins = λ y. refl; ends = λ y. refl; flushes = refl; apart = λ d. refl; same = refl } in
         let out : exit_of (e ∷ t) c ≡ x = exit_of-own c e t refl ∙ leave.seen in
         let small = clock_small setup setting cores t stands in
         let low = leave.low in
@@ -426,21 +426,21 @@ module _ (setup : Setting) (setting : IsSetting setup) (cores : ℕ → Core) (t
 
   -- A call enters, and may be decided at once: the core's word says that it is inside, with the stamp of its last exit.
   pub enters_on : (made : ℕ) (call : Call) (d : Option Reply) (stage : Stage) → (cores c).active ≡ None
-      → InLimits call → Lands setup (core_at (cores c) made (next_at (fresh call) [] stage)) (CoreAt c) → holds_at stage [] ≡ nothing
+      → InLimits call → Lands setup (core_in_call (cores c) made (next_at (fresh call) [] stage)) (CoreAt c) → holds_at stage [] ≡ nothing
       → after_decide d (Open call) ≡ phase_at call stage
       → (let e : Step = step_to c (Some call) (StoreOf (CoreAt c) (core_word true (cores c).own.exit)) (last_left setup t (CoreAt c)) d
       None in
-      IsCalm (state_after setup t) (state_after setup (e ∷ t)) c → IsPlain setup t e
+      IsCalm (state_after setup t) (state_after setup (e ∷ t)) c → IsUntimed setup t e
       → made ≡ ((state_after setup (e ∷ t)).core c).counted
       → ((g i : ℕ) → (state_after setup (e ∷ t)).place g i ≡ (state_after setup t).place g i)
       → MayDecide setup t e d (Open call)
       → IsFirst setup t e d (Open call)
       → Knows setup (e ∷ t) c (cores c).own.table (next_at (fresh call) [] stage)
-      → IsGood setup cores t e (core_at (cores c) made (next_at (fresh call) [] stage)))
+      → IsGood setup cores t e (core_in_call (cores c) made (next_at (fresh call) [] stage)))
   enters_on made call d stage between limits lands bare at calm plain counts places may first knows =
       let e : Step = step_to c (Some call) (StoreOf (CoreAt c) (core_word true (cores c).own.exit)) (last_left setup t (CoreAt c)) d None
       in
-      let after : Core = core_at (cores c) made (next_at (fresh call) [] stage) in
+      let after : Core = core_in_call (cores c) made (next_at (fresh call) [] stage) in
       let now : CoreIs setup (cores c) t c = stands.each c here in
       let out : phase t c ≡ Out = subst (CallIs setup t c (cores c).own.table) between now.active in
       let still : holds after ≡ holds (cores c) = bare ∙ sym (ap holds_in between) in

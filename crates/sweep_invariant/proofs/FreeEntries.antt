@@ -58,7 +58,7 @@ use Rattle.core_invariant.specs.Holding.{Holding, holds_counts, holds_closed, ho
 use Rattle.core_invariant.specs.Frozen.{holds_untyping}
 use Rattle.core_invariant.specs.Knows.{KnowsAct, KnowsAt, KnowsClose, KnowsStore, KnowsTail, KnowsWork, CallIs, phase_at}
 use Rattle.core_invariant.specs.Shares.{KnowsShare, KnowsShared, KnowsStoresAt}
-use Rattle.core_invariant.specs.Stands.{Stands, holds, held_by, holds_act, holds_at, holds_comp, holds_head, holds_heads, holds_in, holds_killing, holds_making, holds_pop, holds_push, holds_share, holds_shared, holds_stage, holds_tail, holds_work, is_done}
+use Rattle.core_invariant.specs.Invariant.{Invariant, holds, held_by, holds_act, holds_at, holds_comp, holds_head, holds_heads, holds_in, holds_killing, holds_making, holds_pop, holds_push, holds_share, holds_shared, holds_stage, holds_tail, holds_work, is_done}
 use Rattle.core_invariant.specs.Threads.{KnowsSwitch, holds_switching}
 use Rattle.kept_knowledge.proofs.Carries.{slot_relies}
 use Rattle.core_invariant.proofs.Freezing.{release_entry}
@@ -137,7 +137,7 @@ module _ (f i : ℕ) where
   switch_entry m (switch_at.Draw to table pages) h old new =
       keep_other to.thread 0 (if f == m.old && i == 0 then true else h.marks (EntryAt f i)) f i new ∙ keep_other m.old 0 (h.marks (EntryAt f i)) f i old
 
-module _ (setup : Setting) (setting : IsSetting setup) (cores : ℕ → Core) (t : Trace) (stands : Stands setup cores t) (f : ℕ)
+module _ (setup : Setting) (setting : IsSetting setup) (cores : ℕ → Core) (t : Trace) (stands : Invariant setup cores t) (f : ℕ)
     (zero_refs : refs (state_after setup t) f ≡ 0) where
   abbrev s : State
   s = state_after setup t

@@ -63,7 +63,7 @@ use Rattle.call_stages.specs.View.{Core}
 use Rattle.core_invariant.specs.Frozen.{holds_release}
 use Rattle.core_invariant.specs.Holding.{Holding, holds_counts}
 use Rattle.core_invariant.specs.Knows.{KnowsUndecided, KnowsWork, AreDuesApart}
-use Rattle.core_invariant.specs.Stands.{holds_in, holds_work, Stands, holds, held_by}
+use Rattle.core_invariant.specs.Invariant.{holds_in, holds_work, Invariant, holds, held_by}
 use Rattle.core_invariant.specs.Sweeps.{AreFrozen, IsQuiet, IsScanning, KnowsSweep, KnowsSweepScan, IsLookedAt, IsSwept, names_of}
 use Rattle.kept_knowledge.proofs.Carries.{names_on, quiet_frame_on}
 use Rattle.step_ways.proofs.Loads.{OnlyLooks, step_to, next_at, inner, loads_on, decides_with}
@@ -90,7 +90,7 @@ use Rattle.freeze_invariant.proofs.Continuing as going
 use Rattle.sweep_invariant.proofs.FreeEntries.{counts_entry, entry_settles}
 use Rattle.sweep_invariant.proofs.OwnedFrames.{OwnedApart, owned_apart, names_differ}
 
-module _ (setup : Setting) (setting : IsSetting setup) (cores : ℕ → Core) (t : Trace) (stands : Stands setup cores t) (c : ℕ)
+module _ (setup : Setting) (setting : IsSetting setup) (cores : ℕ → Core) (t : Trace) (stands : Invariant setup cores t) (c : ℕ)
     (here : c < setup.cores)
     (a : ActiveCall) (active : (cores c).active ≡ Some a) (f core word g : ℕ) (v : FrameWord) (b : ℕ) (kept : List CountWord) (o : Owned)
     (i : ℕ)

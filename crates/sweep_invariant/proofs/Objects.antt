@@ -44,7 +44,7 @@ use Rattle.call_stages.specs.declared.stages.ActiveCall.{ActiveCall}
 use Rattle.call_stages.specs.declared.stages.Stage.TheVariants.{Undecided}
 use Rattle.call_stages.specs.View.{Core}
 use Rattle.core_invariant.specs.Knows.{KnowsUndecided}
-use Rattle.core_invariant.specs.Stands.{Stands}
+use Rattle.core_invariant.specs.Invariant.{Invariant}
 use Rattle.core_invariant.specs.Sweeps.{HoldsNone, IsLookedAt, NamesBottom, NamesFields, names_of}
 use Rattle.core_invariant.specs.Words.{HeadIs, IsFrameWord, PlaceIs, count_room}
 use Rattle.core_invariant.proofs.Sounds.{limits_of}
@@ -60,7 +60,7 @@ section_below s o h k none f fit = elim (cases_lt f s.limits.frames) [
   | inr past ↦ absurd (false≢true (sym none ∙ sym (ap (fits k) (h.beyond f past)) ∙ fit))
 ]
 
-module _ (setup : Setting) (setting : IsSetting setup) (cores : ℕ → Core) (t : Trace) (stands : Stands setup cores t) (c : ℕ)
+module _ (setup : Setting) (setting : IsSetting setup) (cores : ℕ → Core) (t : Trace) (stands : Invariant setup cores t) (c : ℕ)
     (here : c < setup.cores)
     (a : ActiveCall) (active : (cores c).active ≡ Some a) (f core word g : ℕ) (v : FrameWord) (b : ℕ) (kept : List CountWord) (o : Owned)
     (i : ℕ)

@@ -36,7 +36,7 @@ use Rattle.call_stages.specs.View.{Core}
 use Rattle.core_invariant.specs.Frozen.{holds_release, holds_thaw, is_frozen}
 use Rattle.core_invariant.specs.Holding.{AreApart, Holding, committed, count_of, holds_counts, settled, settled_by}
 use Rattle.core_invariant.specs.Knows.{IsCount, KnowsTail, KnowsUnmark, phase_at}
-use Rattle.core_invariant.specs.Stands.{Stands, done_by, held_by, holds, holds_at, holds_in}
+use Rattle.core_invariant.specs.Invariant.{Invariant, done_by, held_by, holds, holds_at, holds_in}
 use Rattle.core_invariant.specs.Sweeps.{KnowsRelease, ThawsFrame}
 use Rattle.core_invariant.specs.Words.{SaysCount, count_room}
 use Rattle.core_invariant.proofs.Bare.{as_none, counts_bare}
@@ -45,7 +45,7 @@ use Rattle.step_ways.proofs.Counting as counting
 use Rattle.core_invariant.proofs.Freezing.{SameAt, is_count, release_away, release_bare, release_frame, release_over, thaw_here, thaw_plain}
 use Rattle.step_ways.proofs.Good.{spares_other}
 use Rattle.lent_words.proofs.Lent.{lent_elsewhere}
-use Rattle.step_ways.proofs.Loads.{call_is, core_at, inner, is_active}
+use Rattle.step_ways.proofs.Loads.{call_is, core_in_call, inner, is_active}
 use Rattle.step_ways.proofs.Refusals.{GoodTook}
 use Rattle.step_ways.proofs.Writes.{same_marks}
 use Rattle.count_invariant.proofs.MakingCounts.{argument_near}
@@ -184,7 +184,7 @@ module _ (th : Thaw) (h : Holding) where
       by true = same
       by false = tt
 
-module _ (setup : Setting) (setting : IsSetting setup) (cores : ℕ → Core) (t : Trace) (stands : Stands setup cores t) (c : ℕ)
+module _ (setup : Setting) (setting : IsSetting setup) (cores : ℕ → Core) (t : Trace) (stands : Invariant setup cores t) (c : ℕ)
     (here : c < setup.cores)
     (a : ActiveCall) (active : (cores c).active ≡ Some a) (r : Reply) (drawn : Option ℕ) (f word : ℕ) where
   abbrev s : State
@@ -259,7 +259,7 @@ module _ (setup : Setting) (setting : IsSetting setup) (cores : ℕ → Core) (t
     commit_beside lands =
         let next : ActiveCall = went_with a xs (Decided r drawn (release_tail (release o))) in
         let e : Step = inner setup setting cores t stands c here a active store None None in
-        let after : Core = core_at (cores c) (cores c).own.made next in
+        let after : Core = core_in_call (cores c) (cores c).own.made next in
         let spells = counts.spelling.spells stored _ stored_says.says in
         counting.holds_on setup setting cores t stands c here a active store next (λ b. refl) (λ h. cc) refl
         (record { moves = first.counts; near = inr first.near }) lands
@@ -337,7 +337,7 @@ module _ (setup : Setting) (setting : IsSetting setup) (cores : ℕ → Core) (t
     thaw_good lands =
         let next : ActiveCall = went_with a [] (Decided r drawn (release_tail (release left))) in
         let e : Step = inner setup setting cores t stands c here a active (thaw_move th) None None in
-        let after : Core = core_at (cores c) (cores c).own.made next in
+        let after : Core = core_in_call (cores c) (cores c).own.made next in
         let spells = counts.spelling.spells given _ given_says.says in
         counting.holds_on setup setting cores t stands c here a active (thaw_move th) next (λ b. refl) (λ h. cc) refl
         (record { moves = has.1.counting; near = inl near_counter }) lands
@@ -386,7 +386,7 @@ module _ (setup : Setting) (setting : IsSetting setup) (cores : ℕ → Core) (t
     bare_good lands =
         let next : ActiveCall = went_with a [] (Decided r drawn Nothing) in
         let e : Step = inner setup setting cores t stands c here a active give_back None None in
-        let after : Core = core_at (cores c) (cores c).own.made next in
+        let after : Core = core_in_call (cores c) (cores c).own.made next in
         counting.holds_on setup setting cores t stands c here a active give_back next (λ b. refl) (λ h. cc) refl
         (record { moves = has.0.changes; near = inl (frame_near has.0) }) lands has.0.small
         (λ w there. (
@@ -405,7 +405,7 @@ module _ (setup : Setting) (setting : IsSetting setup) (cores : ℕ → Core) (t
         (spares_other setup t e (λ g i h. cc)) (lent_elsewhere cores e (λ g i h. cc))
 
 -- The step of a call that has still to release a frame.
-pub release_good : (setup : Setting) → IsSetting setup → (cores : ℕ → Core) (t : Trace) → Stands setup cores t → (c : ℕ) → c < setup.cores
+pub release_good : (setup : Setting) → IsSetting setup → (cores : ℕ → Core) (t : Trace) → Invariant setup cores t → (c : ℕ) → c < setup.cores
     → (a : ActiveCall) → (cores c).active ≡ Some a → (r : Reply) (drawn : Option ℕ) (x : Release)
     → a.stage ≡ Decided r drawn (release_tail x) → KnowsTail setup t c a.call a.counts (release_tail x)
     → GoodTook setup cores t c (tail_move r drawn (release_tail x) a.counts)

@@ -32,7 +32,7 @@ use Rattle.call_stages.specs.declared.stages.Stage.TheVariants.{Undecided}
 use Rattle.call_stages.specs.Steps.{landed}
 use Rattle.call_stages.specs.View.{Core}
 use Rattle.core_invariant.specs.Knows.{KnowsUndecided}
-use Rattle.core_invariant.specs.Stands.{Stands}
+use Rattle.core_invariant.specs.Invariant.{Invariant}
 use Rattle.step_ways.proofs.Refusals.{GoodTook}
 use Rattle.freeze_invariant.proofs.Counters.{counter_load_good, sweeping, untyping_by}
 use Rattle.freeze_invariant.proofs.FrameCores.{core_scan_good}
@@ -43,7 +43,7 @@ use Rattle.sweep_invariant.proofs.Objects.{object_good}
 use Rattle.sweep_invariant.proofs.Untyped.{untyped_good}
 use Rattle.freeze_invariant.proofs.UntypeCalls as calls
 
-module _ (setup : Setting) (setting : IsSetting setup) (cores : ℕ → Core) (t : Trace) (stands : Stands setup cores t) (c : ℕ)
+module _ (setup : Setting) (setting : IsSetting setup) (cores : ℕ → Core) (t : Trace) (stands : Invariant setup cores t) (c : ℕ)
     (here : c < setup.cores)
     (a : ActiveCall) (active : (cores c).active ≡ Some a) where
   -- what its step leads to on a machine of this shape

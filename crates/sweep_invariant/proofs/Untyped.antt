@@ -84,7 +84,7 @@ use Rattle.core_invariant.specs.Frozen.{holds_release, holds_thaw, is_frozen, th
 use Rattle.core_invariant.specs.Holding.{Holding, holds_counts, settled_by, settled}
 use Rattle.core_invariant.specs.Words.{WordIs, count_room}
 use Rattle.core_invariant.specs.Knows.{HasFound, KnowsUndecided, WorksIn, own_in, due_of}
-use Rattle.core_invariant.specs.Stands.{holds, holds_in, held_by, times_of, counted_in, count_shown, SumIs, Stands}
+use Rattle.core_invariant.specs.Invariant.{holds, holds_in, held_by, times_of, counted_in, count_shown, SumIs, Invariant}
 use Rattle.core_invariant.specs.Sweeps.{IsLookedAt, KnowsSwept, ThawsFrame, names_of}
 use Rattle.core_invariant.proofs.Bare.{counts_bare}
 use Rattle.kept_words.proofs.Calm.{counts as calm_counts, calm_counted, same_works, plain_exit, room_grows, counted_grows}
@@ -145,7 +145,7 @@ bare_fits = (tt, (omega arith))
 bare_reads : frame_of_word (word_of_frame (typed kind.Untyped)) ≡ Some (typed kind.Untyped)
 bare_reads = frames.spelling.reads (typed kind.Untyped) bare_fits
 
-module _ (setup : Setting) (setting : IsSetting setup) (cores : ℕ → Core) (t : Trace) (stands : Stands setup cores t) (c : ℕ)
+module _ (setup : Setting) (setting : IsSetting setup) (cores : ℕ → Core) (t : Trace) (stands : Invariant setup cores t) (c : ℕ)
     (here : c < setup.cores)
     (a : ActiveCall) (active : (cores c).active ≡ Some a) (f core word : ℕ) (w : Swept)
     (stage_is : a.stage ≡ Undecided (Act (untype_act (record { frame = f; core = core; at = Draw word w }))))

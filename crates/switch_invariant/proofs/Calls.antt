@@ -48,7 +48,7 @@ use Rattle.call_stages.specs.Steps.{landed}
 use Rattle.call_stages.specs.View.{Core}
 use Rattle.core_invariant.specs.Holding.{holds_counts}
 use Rattle.core_invariant.specs.Knows.{due_of, KnowsUndecided, phase_at}
-use Rattle.core_invariant.specs.Stands.{holds, holds_at, holds_in, Stands}
+use Rattle.core_invariant.specs.Invariant.{holds, holds_at, holds_in, Invariant}
 use Rattle.core_invariant.specs.Threads.{HasThread, KnowsSwitch, KnowsSwitchAt, SwitchesBy, claimed_by, holds_switching}
 use Rattle.core_invariant.proofs.Bare.{counts_bare}
 use Rattle.kept_knowledge.proofs.Carries.{names_on}
@@ -75,7 +75,7 @@ thread_about s c call ks f q is lead =
     names_it = ap (λ k. is_one_of f (named_by k is.thread.frame)) (thread_kind s c call ks f q is lead)
         ∙ ap (λ b. b || false) (eq-eqb is.thread.frame f (sym is.thread_is))
 
-module _ (setup : Setting) (setting : IsSetting setup) (cores : ℕ → Core) (t : Trace) (stands : Stands setup cores t) (c : ℕ)
+module _ (setup : Setting) (setting : IsSetting setup) (cores : ℕ → Core) (t : Trace) (stands : Invariant setup cores t) (c : ℕ)
     (here : c < setup.cores)
     (a : ActiveCall) (active : (cores c).active ≡ Some a) (m : Switching) (stage_is : a.stage ≡ Undecided (Act (switch_act m)))
     (has : KnowsUndecided setup t c (cores c).own.table a (Act (switch_act m))) where

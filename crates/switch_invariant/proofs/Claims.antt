@@ -39,7 +39,7 @@ use Rattle.call_stages.specs.Steps.{GoesOn, landed, went}
 use Rattle.call_stages.specs.View.{Core}
 use Rattle.core_invariant.specs.Holding.{holds_counts, settled_by}
 use Rattle.core_invariant.specs.Knows.{KnowsUndecided}
-use Rattle.core_invariant.specs.Stands.{holds, held_by, holds_in, Stands}
+use Rattle.core_invariant.specs.Invariant.{holds, held_by, holds_in, Invariant}
 use Rattle.core_invariant.specs.Components.{HasComp}
 use Rattle.core_invariant.specs.Threads.{IsTop, claimed_by, holds_idle}
 use Rattle.core_invariant.proofs.Bare.{IsNotKept, as_none, counts_bare, none_kept}
@@ -47,7 +47,7 @@ use Rattle.kept_knowledge.proofs.Carries.{names_on, counts_on}
 use Rattle.step_ways.proofs.Counting as counters
 use Rattle.step_ways.proofs.Good.{Spared, SparesBlanks}
 use Rattle.lent_words.proofs.Lent.{lent_free}
-use Rattle.step_ways.proofs.Loads.{IsOfCall, core_at, inner, call_is}
+use Rattle.step_ways.proofs.Loads.{IsOfCall, core_in_call, inner, call_is}
 use Rattle.step_ways.proofs.Refusals.{GoodTook, refuses_raced, refuses_busy, refuses_running}
 use Rattle.thread_invariant.proofs.CompWords.{comp_below}
 use Rattle.thread_invariant.proofs.EntryMarks.{counts_apart}
@@ -78,7 +78,7 @@ not_kept cores f i none g j at d =
     same_index : (f i g j : ℕ) → EntryAt f i ≡ EntryAt g j → i ≡ j
     same_index f i g j h = cc
 
-module _ (setup : Setting) (setting : IsSetting setup) (cores : ℕ → Core) (t : Trace) (stands : Stands setup cores t) (c : ℕ)
+module _ (setup : Setting) (setting : IsSetting setup) (cores : ℕ → Core) (t : Trace) (stands : Invariant setup cores t) (c : ℕ)
     (here : c < setup.cores)
     (a : ActiveCall) (active : (cores c).active ≡ Some a) (m : Switching) (stage_is : a.stage ≡ Undecided (Act (switch_act m)))
     (has : KnowsUndecided setup t c (cores c).own.table a (Act (switch_act m))) where
@@ -277,7 +277,7 @@ module _ (setup : Setting) (setting : IsSetting setup) (cores : ℕ → Core) (t
       next = went a (Undecided (Act (switch_act (record m { at = Claim (AtStack f depth) }))))
 
       abbrev after : Core
-      after = core_at (cores c) (cores c).own.made next
+      after = core_in_call (cores c) (cores c).own.made next
 
       held_before : holds (cores c) ≡ holds_counts None a.counts
       held_before = ap holds_in active ∙ counts_held

@@ -29,13 +29,13 @@ use Rattle.call_stages.specs.Steps.{landed, went}
 use Rattle.call_stages.specs.View.{Core}
 use Rattle.core_invariant.specs.Holding.{Holding, holds_counts, settled_by}
 use Rattle.core_invariant.specs.Knows.{KnowsUndecided}
-use Rattle.core_invariant.specs.Stands.{holds, holds_in, held_by, Stands}
+use Rattle.core_invariant.specs.Invariant.{holds, holds_in, held_by, Invariant}
 use Rattle.core_invariant.specs.Threads.{claimed_by, holds_idle, is_claimed}
 use Rattle.core_invariant.proofs.Bare.{as_none, counts_bare, none_kept}
 use Rattle.kept_knowledge.proofs.Carries.{names_on, counts_on}
 use Rattle.step_ways.proofs.Counting as counters
 use Rattle.lent_words.proofs.Lent.{lent_free, runs_on_own}
-use Rattle.step_ways.proofs.Loads.{IsOfCall, core_at, inner, call_is}
+use Rattle.step_ways.proofs.Loads.{IsOfCall, core_in_call, inner, call_is}
 use Rattle.step_ways.proofs.Refusals.{GoodTook}
 use Rattle.thread_invariant.proofs.EntryMarks.{counts_apart, thread_unmarked}
 use Rattle.switch_invariant.proofs.Calls as calls
@@ -44,7 +44,7 @@ use Rattle.switch_invariant.proofs.ThreadWords.{first_mark, none_some, same_some
 use Rattle.switch_invariant.proofs.Tops.{apart_own}
 use Rattle.switch_invariant.proofs.Words.{no_keeper, plain_says}
 
-module _ (setup : Setting) (setting : IsSetting setup) (cores : ℕ → Core) (t : Trace) (stands : Stands setup cores t) (c : ℕ)
+module _ (setup : Setting) (setting : IsSetting setup) (cores : ℕ → Core) (t : Trace) (stands : Invariant setup cores t) (c : ℕ)
     (here : c < setup.cores)
     (a : ActiveCall) (active : (cores c).active ≡ Some a) (m : Switching) (stage_is : a.stage ≡ Undecided (Act (switch_act m)))
     (has : KnowsUndecided setup t c (cores c).own.table a (Act (switch_act m))) (to : ClaimedOf) (table pages : ℕ)
@@ -126,7 +126,7 @@ module _ (setup : Setting) (setting : IsSetting setup) (cores : ℕ → Core) (t
   next = went a (Undecided (Act (switch_act (record m { at = Draw to table pages }))))
 
   abbrev after : Core
-  after = core_at (cores c) (cores c).own.made next
+  after = core_in_call (cores c) (cores c).own.made next
 
   marks_it : (holds after).marks (EntryAt m.old 0) ≡ true
   marks_it = ap (λ b. if b then true else if same_word at at then true else rest.marks at) (same_word-other at new there)

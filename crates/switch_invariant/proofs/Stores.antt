@@ -30,13 +30,13 @@ use Rattle.call_stages.specs.Steps.{GoesOn, went_with}
 use Rattle.call_stages.specs.View.{Core}
 use Rattle.core_invariant.specs.Holding.{Holding, holds_counts, keeps, settled_by}
 use Rattle.core_invariant.specs.Knows.{KnowsTail, phase_at}
-use Rattle.core_invariant.specs.Stands.{done_by, holds, holds_at, holds_in, holds_tail, held_by, Stands}
+use Rattle.core_invariant.specs.Invariant.{done_by, holds, holds_at, holds_in, holds_tail, held_by, Invariant}
 use Rattle.core_invariant.specs.Threads.{KnowsIdle, KnowsRunning, holds_idle}
 use Rattle.core_invariant.proofs.Bare.{as_none, core_bare, counts_bare, none_kept}
 use Rattle.kept_knowledge.proofs.Carries.{counts_on}
 use Rattle.step_ways.proofs.Counting as counters
 use Rattle.lent_words.proofs.Lent.{lent_free}
-use Rattle.step_ways.proofs.Loads.{core_at, inner, call_is, is_active}
+use Rattle.step_ways.proofs.Loads.{core_in_call, inner, call_is, is_active}
 use Rattle.step_ways.proofs.Refusals.{GoodTook}
 use Rattle.thread_invariant.proofs.EntryMarks.{counts_apart}
 use Rattle.thread_invariant.proofs.OwnStack.{own_thread}
@@ -44,7 +44,7 @@ use Rattle.switch_invariant.proofs.Claims.{not_kept, spares_thread}
 use Rattle.switch_invariant.proofs.ThreadWords.{first_mark, none_some, thread_is}
 
 -- A word of a thread that its core has marked, and that is now stored as what it stands for.
-module _ (setup : Setting) (setting : IsSetting setup) (cores : ℕ → Core) (t : Trace) (stands : Stands setup cores t) (c : ℕ)
+module _ (setup : Setting) (setting : IsSetting setup) (cores : ℕ → Core) (t : Trace) (stands : Invariant setup cores t) (c : ℕ)
     (here : c < setup.cores)
     (a : ActiveCall) (active : (cores c).active ≡ Some a) (r : Reply) (drawn : Option ℕ) (tail left : Tail)
     (stage_is : a.stage ≡ Decided r drawn tail) (f : ℕ) (v : ThreadWord)
@@ -76,7 +76,7 @@ module _ (setup : Setting) (setting : IsSetting setup) (cores : ℕ → Core) (t
   next = went_with a a.counts (Decided r drawn left)
 
   abbrev after : Core
-  after = core_at (cores c) (cores c).own.made next
+  after = core_in_call (cores c) (cores c).own.made next
 
   held_is : holds (cores c) ≡ holds_tail tail (holds_counts (done_by r drawn) a.counts)
   held_is = ap holds_in active ∙ ap (λ stage. holds_at stage a.counts) stage_is
@@ -132,7 +132,7 @@ module _ (setup : Setting) (setting : IsSetting setup) (cores : ℕ → Core) (t
       same_core : (b d : ℕ) → Some b ≡ Some d → b ≡ d
       same_core b d h = cc
 
-module _ (setup : Setting) (setting : IsSetting setup) (cores : ℕ → Core) (t : Trace) (stands : Stands setup cores t) (c : ℕ)
+module _ (setup : Setting) (setting : IsSetting setup) (cores : ℕ → Core) (t : Trace) (stands : Invariant setup cores t) (c : ℕ)
     (here : c < setup.cores)
     (a : ActiveCall) (active : (cores c).active ≡ Some a) (r : Reply) (drawn : Option ℕ) where
   abbrev rest : Holding

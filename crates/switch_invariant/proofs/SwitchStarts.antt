@@ -35,7 +35,7 @@ use Rattle.call_stages.specs.Steps.{landed, found_more}
 use Rattle.call_stages.specs.View.{Core}
 use Rattle.core_invariant.specs.Holding.{holds_counts}
 use Rattle.core_invariant.specs.Knows.{due_of, NamesAre, phase_at}
-use Rattle.core_invariant.specs.Stands.{holds_in, Stands}
+use Rattle.core_invariant.specs.Invariant.{holds_in, Invariant}
 use Rattle.core_invariant.specs.Threads.{HasThread, SwitchesBy}
 use Rattle.step_ways.proofs.Loads.{OnlyLooks, step_to, call_is, is_active, loads_on}
 use Rattle.step_ways.proofs.Refusals.{GoodTook}
@@ -82,7 +82,7 @@ two_led s c x y (j ∷ []) leads none = absurd (cc)
 two_led s c x y (j ∷ k ∷ []) leads none = record { first = j; second = k; both = refl; first_led = leads.0 }
 two_led s c x y (j ∷ k ∷ l ∷ ks) leads none = absurd (leads.1.1)
 
-module _ (setup : Setting) (setting : IsSetting setup) (cores : ℕ → Core) (t : Trace) (stands : Stands setup cores t) (c : ℕ)
+module _ (setup : Setting) (setting : IsSetting setup) (cores : ℕ → Core) (t : Trace) (stands : Invariant setup cores t) (c : ℕ)
     (here : c < setup.cores)
     (a : ActiveCall) (active : (cores c).active ≡ Some a) (opens : phase_at a.call a.stage ≡ Open a.call)
     (held_is : holds_in (Some a) ≡ holds_counts None a.counts) (no_counts : a.counts ≡ [])

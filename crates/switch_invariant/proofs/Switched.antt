@@ -81,7 +81,7 @@ use Rattle.core_invariant.specs.CountWords.{IsWithin}
 use Rattle.core_invariant.specs.Holding.{Holding, holds_counts, settled}
 use Rattle.core_invariant.specs.Words.{IsFrameWord, IsThreadWord, WordIs, count_room}
 use Rattle.core_invariant.specs.Knows.{HasFound, due_of, flushing_in, KnowsUndecided, own_in, WorksIn}
-use Rattle.core_invariant.specs.Stands.{holds, holds_in, held_by, times_of, counted_in, SumIs, Stands}
+use Rattle.core_invariant.specs.Invariant.{holds, holds_in, held_by, times_of, counted_in, SumIs, Invariant}
 use Rattle.core_invariant.specs.Threads.{HasRoots, HasThread, KnowsRunning, claimed_by, is_claimed, holds_idle}
 use Rattle.core_invariant.proofs.Bare.{counts_bare}
 use Rattle.kept_words.proofs.Calm.{plain_exit}
@@ -112,7 +112,7 @@ use Rattle.switch_invariant.proofs.Words.{marked_says}
 comp_no_thread : (k : CompFields) (u : ThreadFields) → Kernel (Comp k) ≡ Kernel (Thread u) → ⊥
 comp_no_thread k u h = cc
 
-module _ (setup : Setting) (setting : IsSetting setup) (cores : ℕ → Core) (t : Trace) (stands : Stands setup cores t) (c : ℕ)
+module _ (setup : Setting) (setting : IsSetting setup) (cores : ℕ → Core) (t : Trace) (stands : Invariant setup cores t) (c : ℕ)
     (here : c < setup.cores)
     (a : ActiveCall) (active : (cores c).active ≡ Some a) (m : Switching) (stage_is : a.stage ≡ Undecided (Act (switch_act m)))
     (has : KnowsUndecided setup t c (cores c).own.table a (Act (switch_act m))) (to : ClaimedOf) (table pages : ℕ)

@@ -18,7 +18,7 @@ use Rattle.call_stages.specs.declared.stages.ActiveCall.{ActiveCall}
 use Rattle.call_stages.specs.Steps.{landed}
 use Rattle.call_stages.specs.View.{Core}
 use Rattle.core_invariant.specs.Knows.{KnowsUndecided}
-use Rattle.core_invariant.specs.Stands.{Stands}
+use Rattle.core_invariant.specs.Invariant.{Invariant}
 use Rattle.step_ways.proofs.Refusals.{GoodTook}
 use Rattle.step_ways.proofs.Writes.{clock_small}
 use Rattle.switch_invariant.proofs.Claims.{load_good, compare_good, stack_good}
@@ -26,7 +26,7 @@ use Rattle.switch_invariant.proofs.Leaves.{leave_good}
 use Rattle.switch_invariant.proofs.Switched.{switched_good}
 use Rattle.switch_invariant.proofs.Tops.{pages_good, table_good}
 
-pub switch_good : (setup : Setting) → IsSetting setup → (cores : ℕ → Core) (t : Trace) → Stands setup cores t → (c : ℕ) → c < setup.cores
+pub switch_good : (setup : Setting) → IsSetting setup → (cores : ℕ → Core) (t : Trace) → Invariant setup cores t → (c : ℕ) → c < setup.cores
     → (a : ActiveCall) → (cores c).active ≡ Some a → (m : Switching) → a.stage ≡ Undecided (Act (switch_act m))
     → KnowsUndecided setup t c (cores c).own.table a (Act (switch_act m))
     → GoodTook setup cores t c (switching_move m)

@@ -35,7 +35,7 @@ use Rattle.call_stages.specs.Steps.{landed}
 use Rattle.call_stages.specs.View.{Core}
 use Rattle.core_invariant.specs.Holding.{holds_counts}
 use Rattle.core_invariant.specs.Knows.{AreDuesApart, due_of, KnowsUndecided}
-use Rattle.core_invariant.specs.Stands.{holds, holds_in, Stands}
+use Rattle.core_invariant.specs.Invariant.{holds, holds_in, Invariant}
 use Rattle.core_invariant.specs.Threads.{HasRoots, HasTable, IsTop, claimed_by, is_claimed, holds_idle, holds_switching}
 use Rattle.kept_knowledge.proofs.Carries.{names_on}
 use Rattle.lent_words.proofs.Lent.{runs_on_own}
@@ -94,7 +94,7 @@ dues_apart f old q p false test f_old f_q f_p old_q old_p = (
   ),
 )
 
-module _ (setup : Setting) (setting : IsSetting setup) (cores : ℕ → Core) (t : Trace) (stands : Stands setup cores t) (c : ℕ)
+module _ (setup : Setting) (setting : IsSetting setup) (cores : ℕ → Core) (t : Trace) (stands : Invariant setup cores t) (c : ℕ)
     (here : c < setup.cores)
     (a : ActiveCall) (active : (cores c).active ≡ Some a) (m : Switching) (stage_is : a.stage ≡ Undecided (Act (switch_act m)))
     (has : KnowsUndecided setup t c (cores c).own.table a (Act (switch_act m))) where

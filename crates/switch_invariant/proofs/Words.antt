@@ -23,7 +23,7 @@ use Rattle.trace_laws.proofs.Stays.{sound_of}
 use Rattle.call_stages.specs.View.{Core}
 use Rattle.core_invariant.specs.Components.{HasComp}
 use Rattle.core_invariant.specs.Holding.{settled_by}
-use Rattle.core_invariant.specs.Stands.{held_by, IsOfThread, SaysRunning, Stands}
+use Rattle.core_invariant.specs.Invariant.{held_by, IsOfThread, SaysRunning, Invariant}
 use Rattle.core_invariant.specs.Words.{IsFrameWord, IsThreadWord, count_room}
 use Rattle.core_invariant.proofs.Bare.{none_kept}
 use Rattle.lent_words.proofs.Lent.{lent_thread, runs_on_own}
@@ -35,7 +35,7 @@ abbrev pub ShowsRun : Option ℕ → ℕ → ℕ → Type 0
 ShowsRun None depth word = thread_of_word word ≡ Some (Idle depth)
 ShowsRun (Some d) depth word = SaysRunning d word
 
-module _ (setup : Setting) (setting : IsSetting setup) (cores : ℕ → Core) (t : Trace) (stands : Stands setup cores t) (f : ℕ)
+module _ (setup : Setting) (setting : IsSetting setup) (cores : ℕ → Core) (t : Trace) (stands : Invariant setup cores t) (f : ℕ)
     (thread : IsTrue (fits kind.Thread ((state_after setup t).frame f))) where
   abbrev s : State
   s = state_after setup t

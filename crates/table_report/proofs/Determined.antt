@@ -11,18 +11,18 @@ use Rattle.word_map.specs.Places.{Shape}
 use Rattle.kernel_rules.specs.State.{Place, Free, Holds, Quiescing, Object, Blank, Table, Leaf, Pages, Pleaf, Comp, Thread, Tcap, Frame, Untyped, User, Kernel, Liveness, Unused, Live, Dead, State, first_of_stack, thread_of, tcap_in}
 use Rattle.kernel_rules.specs.References.{sum_below, refs}
 use Rattle.kernel_rules.specs.Laws.{ticks}
-use Rattle.kernel_history.specs.ObjectWords.{is_node, is_node_object}
+use Rattle.kernel_history.specs.ObjectWords.{holds_node, is_node_object}
 use Rattle.kernel_history.specs.FinalWords.{SaysPlace, AreEntries, AreFrame, SaysNumber, Represent, word_in, end_in}
 use Rattle.kernel_history.specs.Counts.{counters, count_at, count_sum, RepresentCounts}
 use Rattle.kernel_history.specs.Tables.{lines_below, frame_line, object_word, entry_line, object_lines, frame_lines, number_line, core_lines, total_line, tables_of}
 use Rattle.kernel_history.proofs.Sums.{sum_same}
 use Rattle.table_lines.specs.Ends.{core_shown}
-use Rattle.table_report.specs.Shown.{place_shown, place_in, number_shown, frame_shown, words_of, frame_at, place_at, number_at, natural, counted_at, core_at, shown, frames_text, numbers_text, cores_text, tables_shown}
+use Rattle.table_report.specs.Shown.{place_shown, place_in, number_shown, frame_shown, words_of, frame_at, place_at, number_at, natural, counted_at, core_shown_at, shown, frames_text, numbers_text, cores_text, tables_shown}
 use Rattle.table_lines.proofs.Lines.{lines_same}
 use Rattle.table_report.proofs.ShownObjects.{told, frame_is}
 
 -- What the tables say of a frame does not hang on where its thread runs.
-told_node : (x : Frame) → is_node (told x) ≡ is_node x
+told_node : (x : Frame) → holds_node (told x) ≡ holds_node x
 told_node Untyped = refl
 told_node User = refl
 told_node (Kernel Blank) = refl
@@ -59,7 +59,7 @@ told_budget (Kernel (Thread t)) = refl
 told_budget (Kernel (Tcap q)) = refl
 
 -- The words of a node are its entries.
-entries_of : (x : Frame) (place : ℕ → Place) (word : ℕ → ℕ) → is_node x ≡ true → AreFrame x place word → AreEntries place word
+entries_of : (x : Frame) (place : ℕ → Place) (word : ℕ → ℕ) → holds_node x ≡ true → AreFrame x place word → AreEntries place word
 entries_of Untyped place word node h = absurd (true≢false (sym node))
 entries_of User place word node h = absurd (true≢false (sym node))
 entries_of (Kernel Blank) place word node h = absurd (true≢false (sym node))
@@ -89,7 +89,7 @@ object_lines_same (Comp k) p q same = refl
 object_lines_same (Thread t) p q same = refl
 object_lines_same (Tcap fields) p q same = refl
 
-frame_lines_same : (f : ℕ) (x : Frame) (p q : ℕ → Place) (k : ℕ) → (is_node x ≡ true → (i : ℕ) → i < 64 → entry_line i (p i) ≡ entry_line i (q i))
+frame_lines_same : (f : ℕ) (x : Frame) (p q : ℕ → Place) (k : ℕ) → (holds_node x ≡ true → (i : ℕ) → i < 64 → entry_line i (p i) ≡ entry_line i (q i))
     → frame_lines f x p k ≡ frame_lines f x q k
 frame_lines_same f Untyped p q k same = refl
 frame_lines_same f User p q k same = refl
@@ -111,13 +111,13 @@ module _ (shape : Shape) (words : List ℕ) (ends : List CoreEnd) (s : State)
       ap (λ o. frame_shown o (words_of shape words f)) (h.kinds f (within f below))
       ∙ frame_is (s.frame f) (s.place f) (words_of shape words f) (h.objects f (within f below))
 
-  node_told : (f : ℕ) → f < shape.frames → is_node (frame_at shape words f) ≡ is_node (s.frame f)
-  node_told f below = ap is_node (frame_told f below) ∙ told_node (s.frame f)
+  node_told : (f : ℕ) → f < shape.frames → holds_node (frame_at shape words f) ≡ holds_node (s.frame f)
+  node_told f below = ap holds_node (frame_told f below) ∙ told_node (s.frame f)
 
-  node_place : (f i : ℕ) → f < shape.frames → is_node (s.frame f) ≡ true → place_at shape words f i ≡ place_shown (entry_of_word (words_of shape words f i))
+  node_place : (f i : ℕ) → f < shape.frames → holds_node (s.frame f) ≡ true → place_at shape words f i ≡ place_shown (entry_of_word (words_of shape words f i))
   node_place f i below node = ap (λ b. place_in b (words_of shape words f i)) (node_told f below ∙ node)
 
-  says : (f i : ℕ) → f < shape.frames → i < 64 → is_node (s.frame f) ≡ true → SaysPlace (s.place f i) (entry_of_word (words_of shape words f i))
+  says : (f i : ℕ) → f < shape.frames → i < 64 → holds_node (s.frame f) ≡ true → SaysPlace (s.place f i) (entry_of_word (words_of shape words f i))
   says f i below small node = entries_of (s.frame f) (s.place f) (words_of shape words f) node (h.objects f (within f below)) i small
 
   lines_told : (f k n : ℕ) → f < shape.frames → k ≡ n → frame_lines f (frame_at shape words f) (place_at shape words f) k ≡ frame_lines f (s.frame f) (s.place f) n
@@ -132,7 +132,7 @@ module _ (shape : Shape) (words : List ℕ) (ends : List CoreEnd) (s : State)
   ticks_told =
       let a = sum_same (λ f. (tcap_in (frame_at shape words f)).budget) (λ f. (tcap_in (s.frame f)).budget) shape.frames
       (λ f below. ap (λ x. (tcap_in x).budget) (frame_told f below) ∙ told_budget (s.frame f)) in
-      let b = sum_same (λ c. (core_at ends c).spent) (λ c. (s.core c).spent) shape.cores
+      let b = sum_same (λ c. (core_shown_at ends c).spent) (λ c. (s.core c).spent) shape.cores
       (λ c below. ap (λ e. (core_shown e).spent) (h.ends c (omega (arith, below, cores)))) in
       let fa = ap (sum_below (λ f. (tcap_in (s.frame f)).budget)) frames in
       let fb = ap (sum_below (λ c. (s.core c).spent)) cores in
@@ -144,7 +144,7 @@ module _ (shape : Shape) (words : List ℕ) (ends : List CoreEnd) (s : State)
 
   cores_told : cores_text ends shape.cores ≡ lines_below (λ c. core_lines c (s.core c) (first_of_stack (thread_of s c).stack)) s.limits.cores
   cores_told =
-      lines_same (λ c. core_lines c (core_at ends c) (end_in ends c).comp) (λ c. core_lines c (s.core c) (first_of_stack (thread_of s c).stack)) shape.cores
+      lines_same (λ c. core_lines c (core_shown_at ends c) (end_in ends c).comp) (λ c. core_lines c (s.core c) (first_of_stack (thread_of s c).stack)) shape.cores
       (λ c below. ap (λ e. core_lines c (core_shown e) e.comp) (h.ends c (omega (arith, below, cores))))
       ∙ ap (lines_below (λ c. core_lines c (s.core c) (first_of_stack (thread_of s c).stack))) (sym cores)
 

@@ -27,7 +27,7 @@ use Rattle.word_map.specs.Places.{Shape}
 use Rattle.kernel_rules.specs.State.{Place, Free, Holds, CompFields, Object, Blank, Table, Leaf, Pages, Pleaf, Comp, Thread, Tcap, Frame, Untyped, User, Kernel, Liveness, Unused, Live, Dead, Core, State}
 use Rattle.kernel_rules.specs.Start.{no_grace}
 use Rattle.kernel_rules.specs.Laws.{ticks}
-use Rattle.kernel_history.specs.ObjectWords.{is_node}
+use Rattle.kernel_history.specs.ObjectWords.{holds_node}
 use Rattle.table_lines.specs.Ends.{core_shown}
 use Rattle.kernel_history.specs.FinalWords.{word_in, end_in}
 use Rattle.kernel_history.specs.Counts.{counters, count_at, count_sum}
@@ -116,7 +116,7 @@ frame_at shape words f = frame_shown (frame_of_word (word_in shape words (FrameA
 
 -- The place i of frame f that the words show.
 abbrev pub place_at : Shape → List ℕ → ℕ → ℕ → Place
-place_at shape words f i = place_in (is_node (frame_at shape words f)) (words_of shape words f i)
+place_at shape words f i = place_in (holds_node (frame_at shape words f)) (words_of shape words f i)
 
 -- The liveness number l that the words show.
 abbrev pub number_at : Shape → List ℕ → ℕ → Liveness
@@ -132,8 +132,8 @@ abbrev pub counted_at : Shape → List ℕ → ℕ → ℕ
 counted_at shape words f = natural (count_sum (count_at (word_in shape words) f) (counters shape.cores))
 
 -- The core c that the ends show.
-abbrev pub core_at : List CoreEnd → ℕ → Core
-core_at ends c = core_shown (end_in ends c)
+abbrev pub core_shown_at : List CoreEnd → ℕ → Core
+core_shown_at ends c = core_shown (end_in ends c)
 
 -- The state that the words and the ends show.
 abbrev pub shown : Shape → List ℕ → List CoreEnd → State
@@ -141,7 +141,7 @@ shown shape words ends = record {
   place = place_at shape words;
   frame = frame_at shape words;
   number = number_at shape words;
-  core = core_at ends;
+  core = core_shown_at ends;
   grace = λ x. no_grace;
   limits = record { cores = shape.cores; frames = shape.frames; calls = 0; epochs = 0 };
 }
@@ -156,7 +156,7 @@ numbers_text shape words n = lines_below (λ l. number_line l (number_at shape w
 
 -- The lines of the cores.
 abbrev pub cores_text : List CoreEnd → ℕ → List ℕ
-cores_text ends n = lines_below (λ c. core_lines c (core_at ends c) (end_in ends c).comp) n
+cores_text ends n = lines_below (λ c. core_lines c (core_shown_at ends c) (end_in ends c).comp) n
 
 -- The tables of what the words and the ends show.
 abbrev pub tables_shown : Shape → List ℕ → List CoreEnd → List ℕ

@@ -7,7 +7,7 @@ ghost use Rattle.kernel_rules.specs.References.{sum_below};
 ghost use Rattle.word_map.specs.Places.{size_of};
 ghost use Rattle.kernel_history.specs.Tables.{number, number_line, translation_line, core_lines, total_line};
 ghost use Rattle.table_lines.specs.Ends.{core_shown};
-ghost use Rattle.table_report.specs.Shown.{number_shown, numbers_text, core_at, cores_text};
+ghost use Rattle.table_report.specs.Shown.{number_shown, numbers_text, core_shown_at, cores_text};
 
 use crate::words::live_word;
 use frame_words::LiveWord;
@@ -61,7 +61,7 @@ pub fn push_cores(alloc: Global, text: &mut String, ends: &[CoreEnd]) -> Result<
 /// The sum of the ticks that the cores have spent.
 pub fn spent(ends: &[CoreEnd]) -> u128
     requires { length ends.now ≤ 8 }
-    ensures sum { result ≡ sum_below (λ c. (core_at ends.now c).spent) (length ends.now) }
+    ensures sum { result ≡ sum_below (λ c. (core_shown_at ends.now c).spent) (length ends.now) }
     ensures most { result ≤ 2 ^ 67 }
 {
     let mut sum: u128 = 0;

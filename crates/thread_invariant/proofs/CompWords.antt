@@ -17,13 +17,13 @@ use Rattle.kernel_history.specs.Trace.{Trace, state_after, last_left}
 use Rattle.trace_laws.proofs.Stays.{sound_of}
 use Rattle.call_stages.specs.View.{Core}
 use Rattle.core_invariant.specs.Holding.{settled_by}
-use Rattle.core_invariant.specs.Stands.{held_by, Stands}
+use Rattle.core_invariant.specs.Invariant.{held_by, Invariant}
 use Rattle.core_invariant.specs.Words.{IsCompWord, IsFrameWord, count_room}
 use Rattle.lent_words.proofs.Lent.{may_keep, unlent_value}
 use Rattle.core_invariant.proofs.Sounds.{limits_of}
 use Rattle.live_invariant.proofs.Numbers.{comp_is}
 
-module _ (setup : Setting) (setting : IsSetting setup) (cores : ℕ → Core) (t : Trace) (stands : Stands setup cores t) (f : ℕ)
+module _ (setup : Setting) (setting : IsSetting setup) (cores : ℕ → Core) (t : Trace) (stands : Invariant setup cores t) (f : ℕ)
     (comp : IsTrue (fits kind.Comp ((state_after setup t).frame f))) where
   abbrev s : State
   s = state_after setup t

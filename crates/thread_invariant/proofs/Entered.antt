@@ -59,9 +59,9 @@ use Rattle.core_invariant.specs.CountWords.{IsWithin}
 use Rattle.core_invariant.specs.Holding.{Holding, keeps_bare, holds_counts}
 use Rattle.core_invariant.specs.Words.{WordIs, NumberIs}
 use Rattle.core_invariant.specs.Knows.{KnowsUndecided, WorksIn}
-use Rattle.core_invariant.specs.Stands.{holds_at, holds_in, holds, held_by, times_of, Stands}
+use Rattle.core_invariant.specs.Invariant.{holds_at, holds_in, holds, held_by, times_of, Invariant}
 use Rattle.core_invariant.proofs.Bare.{counts_bare}
-use Rattle.kept_words.proofs.Calm.{IsPlain, plain_begins, plain_stamp, plain_flush}
+use Rattle.kept_words.proofs.Calm.{IsUntimed, plain_begins, plain_stamp, plain_flush}
 use Rattle.step_ways.proofs.Good.{spares_kept}
 use Rattle.lent_words.proofs.Lent.{lent_kept}
 use Rattle.step_ways.proofs.Loads.{inner, next_at}
@@ -87,7 +87,7 @@ use Rattle.thread_invariant.proofs.Stacks.{kept_here, kept_there, kept_is}
 comp_no_thread : (k : CompFields) (u : ThreadFields) → Kernel (Comp k) ≡ Kernel (Thread u) → ⊥
 comp_no_thread k u h = cc
 
-module _ (setup : Setting) (setting : IsSetting setup) (cores : ℕ → Core) (t : Trace) (stands : Stands setup cores t) (c : ℕ)
+module _ (setup : Setting) (setting : IsSetting setup) (cores : ℕ → Core) (t : Trace) (stands : Invariant setup cores t) (c : ℕ)
     (here : c < setup.cores)
     (a : ActiveCall) (active : (cores c).active ≡ Some a) (m : Invoking) (stage_is : a.stage ≡ Undecided (Act (invoke_act m)))
     (has : KnowsUndecided setup t c (cores c).own.table a (Act (invoke_act m))) (table pages : ℕ) (life : CompWord)
@@ -177,7 +177,7 @@ module _ (setup : Setting) (setting : IsSetting setup) (cores : ℕ → Core) (t
   no_flush = ap (flushes_in (Some r)) is_open
       ∙ ap flushes_by (calls.is setup setting cores t stands c here a active m stage_is has).call_is
 
-  plain : IsPlain setup t e
+  plain : IsUntimed setup t e
   plain = record {
     begins = none_begins;
     ends = none_ends;
@@ -402,7 +402,7 @@ module _ (setup : Setting) (setting : IsSetting setup) (cores : ℕ → Core) (t
       })
 
 -- A step by which a core enters a component is good.
-module _ (setup : Setting) (setting : IsSetting setup) (cores : ℕ → Core) (t : Trace) (stands : Stands setup cores t) (c : ℕ)
+module _ (setup : Setting) (setting : IsSetting setup) (cores : ℕ → Core) (t : Trace) (stands : Invariant setup cores t) (c : ℕ)
     (here : c < setup.cores)
     (a : ActiveCall) (active : (cores c).active ≡ Some a) (m : Invoking) (stage_is : a.stage ≡ Undecided (Act (invoke_act m)))
     (has : KnowsUndecided setup t c (cores c).own.table a (Act (invoke_act m))) where

@@ -57,7 +57,7 @@ use Rattle.core_invariant.specs.Threads.{holds_idle, holds_switching, claimed_by
 use Rattle.core_invariant.specs.Words.{IsFrameWord, count_room}
 use Rattle.core_invariant.specs.Knows.{KnowsAct, KnowsWork, KnowsTail, KnowsAt, CallIs, phase_at}
 use Rattle.core_invariant.specs.Shares.{KnowsStoresAt}
-use Rattle.core_invariant.specs.Stands.{holds_act, holds_making, holds_killing, holds_comp, holds_share, holds_shared, holds_head, holds_heads, holds_work, holds_tail, is_done, holds_at, holds_in, holds, held_by, Stands}
+use Rattle.core_invariant.specs.Invariant.{holds_act, holds_making, holds_killing, holds_comp, holds_share, holds_shared, holds_head, holds_heads, holds_work, holds_tail, is_done, holds_at, holds_in, holds, held_by, Invariant}
 use Rattle.kept_knowledge.proofs.Carries.{slot_relies}
 use Rattle.core_invariant.proofs.Freezing.{release_entry}
 use Rattle.lent_words.proofs.Lent.{runs_on_own}
@@ -95,7 +95,7 @@ unlike depth d n same = omega (arith, same)
 not_running : (x c n : ℕ) → SaysIdle x → thread_of_word x ≡ Some (Running c n) → ⊥
 not_running x c n idle says = unlike idle.depth c n ((threads.spelling.spells x (Running c n) says).1 ∙ idle.is)
 
-module _ (setup : Setting) (setting : IsSetting setup) (cores : ℕ → Core) (t : Trace) (stands : Stands setup cores t) (d f i : ℕ) where
+module _ (setup : Setting) (setting : IsSetting setup) (cores : ℕ → Core) (t : Trace) (stands : Invariant setup cores t) (d f i : ℕ) where
   -- the frame has no thread, or the word is to be that of an idle one, or the core runs the thread
   abbrev Claims : Holding → Type 0
   Claims h = (is_thread ((state_after setup t).frame f) ≡ false)
@@ -297,7 +297,7 @@ unmarked_above (Kernel (Thread k)) h v is =
     ap (λ b. if b then thread_mark (thread_of_word v) else None) (ne_eqb (suc h) 0 (λ same. omega (arith, same)))
 unmarked_above _ h v is = absurd (false≢true is)
 
-module _ (setup : Setting) (setting : IsSetting setup) (cores : ℕ → Core) (t : Trace) (stands : Stands setup cores t) (c : ℕ)
+module _ (setup : Setting) (setting : IsSetting setup) (cores : ℕ → Core) (t : Trace) (stands : Invariant setup cores t) (c : ℕ)
     (here : c < setup.cores) where
   abbrev s : State
   s = state_after setup t

@@ -33,7 +33,7 @@ use Rattle.call_stages.specs.declared.stages.ActiveCall.{ActiveCall}
 use Rattle.call_stages.specs.Fits.{StageFits, HasRoom}
 use Rattle.call_stages.specs.View.{Core}
 use Rattle.core_invariant.specs.Knows.{HasFound, KnowsUndecided, own_in, phase_at}
-use Rattle.core_invariant.specs.Stands.{Stands}
+use Rattle.core_invariant.specs.Invariant.{Invariant}
 use Rattle.kept_knowledge.proofs.Carries.{own_kept}
 use Rattle.step_ways.proofs.Loads.{call_is, is_active}
 use Rattle.look_invariant.proofs.Findings.{own_is, found_named, way_gone}
@@ -49,7 +49,7 @@ entering s c gate f epoch =
     ∷ not_live s (found gate) (comp_in (s.frame f)).number epoch
     ∷ []) (pushes s c f)
 
-module _ (setup : Setting) (setting : IsSetting setup) (cores : ℕ → Core) (t : Trace) (stands : Stands setup cores t) (c : ℕ)
+module _ (setup : Setting) (setting : IsSetting setup) (cores : ℕ → Core) (t : Trace) (stands : Invariant setup cores t) (c : ℕ)
     (here : c < setup.cores)
     (a : ActiveCall) (active : (cores c).active ≡ Some a) (m : Invoking) (stage_is : a.stage ≡ Undecided (Act (invoke_act m)))
     (has : KnowsUndecided setup t c (cores c).own.table a (Act (invoke_act m))) where

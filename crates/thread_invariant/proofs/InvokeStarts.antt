@@ -44,7 +44,7 @@ use Rattle.call_stages.specs.View.{Core}
 use Rattle.core_invariant.specs.Components.{HasComp, InvokesBy}
 use Rattle.core_invariant.specs.Holding.{holds_counts}
 use Rattle.core_invariant.specs.Knows.{due_of, NamesAre, phase_at}
-use Rattle.core_invariant.specs.Stands.{holds_in, Stands}
+use Rattle.core_invariant.specs.Invariant.{holds_in, Invariant}
 use Rattle.kept_knowledge.proofs.Carries.{invoking_on}
 use Rattle.step_ways.proofs.Loads.{OnlyLooks, step_to, call_is, core_is, loads_on, decides_on}
 use Rattle.step_ways.proofs.Refusals.{GoodTook, not_spent}
@@ -77,7 +77,7 @@ gate_named setup setting t legal c call is n k kind_is found =
           (parts.3 ∙ ap (λ (j : Capability). Some j) (same_found (only kind.Gate) parts.2 k parts.4));
     }
 
-module _ (setup : Setting) (setting : IsSetting setup) (cores : ℕ → Core) (t : Trace) (stands : Stands setup cores t) (c : ℕ)
+module _ (setup : Setting) (setting : IsSetting setup) (cores : ℕ → Core) (t : Trace) (stands : Invariant setup cores t) (c : ℕ)
     (here : c < setup.cores)
     (a : ActiveCall) (active : (cores c).active ≡ Some a) (opens : phase_at a.call a.stage ≡ Open a.call)
     (held_is : holds_in (Some a) ≡ holds_counts None a.counts) (no_counts : a.counts ≡ [])

@@ -41,7 +41,7 @@ use Rattle.core_invariant.specs.Components.{IsOnThread, HasLoadedComp, InvokesBy
 use Rattle.core_invariant.specs.Holding.{holds_counts, settled_by}
 use Rattle.core_invariant.specs.Words.{NumberIs}
 use Rattle.core_invariant.specs.Knows.{due_of, KnowsUndecided}
-use Rattle.core_invariant.specs.Stands.{holds_at, holds_in, held_by, Stands}
+use Rattle.core_invariant.specs.Invariant.{holds_at, holds_in, held_by, Invariant}
 use Rattle.kept_knowledge.proofs.Carries.{names_on, invoking_on}
 use Rattle.step_ways.proofs.Loads.{OnlyLooks, step_to, next_at, loads_on}
 use Rattle.step_ways.proofs.Refusals.{GoodTook, refuses_busy, refuses_dead, ticks_at}
@@ -61,7 +61,7 @@ invokes_so : (call : Call) (ks : List Capability) (m : Invoking) (at : InvokingA
 invokes_so (call_gate n) (k ∷ []) m at is = record { kind = is.kind; frame = is.frame; epoch = is.epoch }
 invokes_so call ks m at is = absurd is
 
-module _ (setup : Setting) (setting : IsSetting setup) (cores : ℕ → Core) (t : Trace) (stands : Stands setup cores t) (c : ℕ)
+module _ (setup : Setting) (setting : IsSetting setup) (cores : ℕ → Core) (t : Trace) (stands : Invariant setup cores t) (c : ℕ)
     (here : c < setup.cores)
     (a : ActiveCall) (active : (cores c).active ≡ Some a) (m : Invoking) (stage_is : a.stage ≡ Undecided (Act (invoke_act m)))
     (has : KnowsUndecided setup t c (cores c).own.table a (Act (invoke_act m))) where

@@ -57,7 +57,7 @@ use Rattle.core_invariant.specs.CountWords.{IsWithin}
 use Rattle.core_invariant.specs.Holding.{Holding, keeps_bare, holds_counts}
 use Rattle.core_invariant.specs.Words.{WordIs}
 use Rattle.core_invariant.specs.Knows.{due_of, flushing_in, KnowsUndecided, WorksIn}
-use Rattle.core_invariant.specs.Stands.{holds_at, holds_in, holds, held_by, times_of, counted_in, Stands}
+use Rattle.core_invariant.specs.Invariant.{holds_at, holds_in, holds, held_by, times_of, counted_in, Invariant}
 use Rattle.core_invariant.proofs.Bare.{counts_bare}
 use Rattle.step_ways.proofs.Draws.{raised}
 use Rattle.step_ways.proofs.Flushing.{open_flushed}
@@ -94,7 +94,7 @@ once f = times_cons f f [] ∙ ap (λ b. (if b then 1 else 0) + 0) (eq-eqb f f r
 never : (g f : ℕ) → g ≢ f → times g (f ∷ []) ≡ 0
 never g f other = times_cons g f [] ∙ ap (λ b. (if b then 1 else 0) + 0) (ne_eqb f g (λ h. other (sym h)))
 
-module _ (setup : Setting) (setting : IsSetting setup) (cores : ℕ → Core) (t : Trace) (stands : Stands setup cores t) (c : ℕ)
+module _ (setup : Setting) (setting : IsSetting setup) (cores : ℕ → Core) (t : Trace) (stands : Invariant setup cores t) (c : ℕ)
     (here : c < setup.cores)
     (a : ActiveCall) (active : (cores c).active ≡ Some a) (m : Returning) (stage_is : a.stage ≡ Undecided (Act (return_act m)))
     (has : KnowsUndecided setup t c (cores c).own.table a (Act (return_act m))) (comp table pages : ℕ)
@@ -440,7 +440,7 @@ module _ (setup : Setting) (setting : IsSetting setup) (cores : ℕ → Core) (t
       (record { threads = ap changes_threads knows.call_is; core = knows.core })
 
 -- A step by which a core leaves a component is good.
-pub returning_good : (setup : Setting) → IsSetting setup → (cores : ℕ → Core) (t : Trace) → Stands setup cores t → (c : ℕ) → c < setup.cores
+pub returning_good : (setup : Setting) → IsSetting setup → (cores : ℕ → Core) (t : Trace) → Invariant setup cores t → (c : ℕ) → c < setup.cores
     → (a : ActiveCall) → (cores c).active ≡ Some a → (m : Returning) → a.stage ≡ Undecided (Act (return_act m))
     → KnowsUndecided setup t c (cores c).own.table a (Act (return_act m))
     → GoodTook setup cores t c (returning_move m)

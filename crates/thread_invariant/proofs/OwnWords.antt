@@ -9,13 +9,13 @@ use Rattle.kernel_history.specs.Trace.{Trace, state_after, last_left}
 use Rattle.call_stages.specs.View.{Core}
 use Rattle.core_invariant.specs.Holding.{settled_by}
 use Rattle.core_invariant.specs.Words.{IsFrameWord, IsThreadWord, count_room}
-use Rattle.core_invariant.specs.Stands.{holds, held_by, Stands}
+use Rattle.core_invariant.specs.Invariant.{holds, held_by, Invariant}
 use Rattle.core_invariant.proofs.Bare.{none_kept}
 use Rattle.lent_words.proofs.Lent.{lent_thread, runs_no_tcap, runs_on_own}
 use Rattle.thread_invariant.proofs.EntryMarks.{thread_unmarked}
 use Rattle.thread_invariant.proofs.OwnStack.{own_thread}
 
-module _ (setup : Setting) (setting : IsSetting setup) (cores : ℕ → Core) (t : Trace) (stands : Stands setup cores t) (c : ℕ)
+module _ (setup : Setting) (setting : IsSetting setup) (cores : ℕ → Core) (t : Trace) (stands : Invariant setup cores t) (c : ℕ)
     (here : c < setup.cores) (none : (f i : ℕ) → (holds (cores c)).bare f i ≡ None)
     (mine : (f i : ℕ) → (holds (cores c)).marks (EntryAt f i) ≡ false) where
   abbrev s : State

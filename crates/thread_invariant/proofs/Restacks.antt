@@ -23,7 +23,7 @@ use Rattle.call_stages.specs.declared.stages.ActiveCall.{ActiveCall}
 use Rattle.call_stages.specs.View.{Core}
 use Rattle.core_invariant.specs.Holding.{settled}
 use Rattle.core_invariant.specs.Words.{IsFrameWord, IsThreadWord, WordIs, count_room}
-use Rattle.core_invariant.specs.Stands.{holds, held_by, times_of, counted_in, IsLent, SaysRunning, Stands}
+use Rattle.core_invariant.specs.Invariant.{holds, held_by, times_of, counted_in, IsLent, SaysRunning, Invariant}
 use Rattle.kept_words.proofs.Calm.{plain_exit}
 use Rattle.step_ways.proofs.Keeping.{keeping_words}
 use Rattle.lent_words.proofs.Lent.{runs_on_own}
@@ -58,7 +58,7 @@ pub record IsRestack (setup : Setting) (t : Trace) (e : Step) (c : ℕ) (after :
 none_some : (v : ℕ) → None ≡ Some v → ⊥
 none_some v h = cc
 
-module _ (setup : Setting) (setting : IsSetting setup) (cores : ℕ → Core) (t : Trace) (stands : Stands setup cores t) (c : ℕ)
+module _ (setup : Setting) (setting : IsSetting setup) (cores : ℕ → Core) (t : Trace) (stands : Invariant setup cores t) (c : ℕ)
     (here : c < setup.cores)
     (a : ActiveCall) (active : (cores c).active ≡ Some a) (move : Move) (reply : Reply) (after : Core) (fs : List ℕ) (height : ℕ)
     (graces : Thing → Grace)

@@ -37,7 +37,7 @@ use Rattle.call_stages.specs.View.{Core}
 use Rattle.core_invariant.specs.Components.{HasComp, IsBelow, HasLoadedBelow, KnowsReturning, below_of}
 use Rattle.core_invariant.specs.Holding.{holds_counts}
 use Rattle.core_invariant.specs.Knows.{due_of, KnowsUndecided, phase_at}
-use Rattle.core_invariant.specs.Stands.{holds_at, holds_in, holds, Stands}
+use Rattle.core_invariant.specs.Invariant.{holds_at, holds_in, holds, Invariant}
 use Rattle.core_invariant.proofs.Bare.{counts_bare}
 use Rattle.kept_knowledge.proofs.Carries.{names_on, returning_on}
 use Rattle.step_ways.proofs.Loads.{OnlyLooks, step_to, next_at, call_is, is_active, loads_on}
@@ -60,7 +60,7 @@ height_below (f ∷ g ∷ fs) h deep is = ap (at_height (f ∷ g ∷ fs)) same �
     same : h ≡ length fs
     same = omega (arith, is)
 
-module _ (setup : Setting) (setting : IsSetting setup) (cores : ℕ → Core) (t : Trace) (stands : Stands setup cores t) (c : ℕ)
+module _ (setup : Setting) (setting : IsSetting setup) (cores : ℕ → Core) (t : Trace) (stands : Invariant setup cores t) (c : ℕ)
     (here : c < setup.cores)
     (a : ActiveCall) (active : (cores c).active ≡ Some a) (m : Returning) (stage_is : a.stage ≡ Undecided (Act (return_act m)))
     (has : KnowsUndecided setup t c (cores c).own.table a (Act (return_act m))) where

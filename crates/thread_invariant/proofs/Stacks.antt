@@ -27,7 +27,7 @@ use Rattle.call_stages.specs.Tails.{pushed_on, popped_on}
 use Rattle.call_stages.specs.View.{Core}
 use Rattle.core_invariant.specs.Holding.{Holding, keeps_bare, holds_counts}
 use Rattle.core_invariant.specs.Knows.{KnowsPush, KnowsPop}
-use Rattle.core_invariant.specs.Stands.{done_by, holds_push, holds_pop, Stands}
+use Rattle.core_invariant.specs.Invariant.{done_by, holds_push, holds_pop, Invariant}
 use Rattle.core_invariant.proofs.Bare.{AsBefore, counts_bare}
 use Rattle.step_ways.proofs.Loads.{core_is, is_active}
 use Rattle.step_ways.proofs.Refusals.{GoodTook}
@@ -92,7 +92,7 @@ bare_thread core depth fits k = ap thread_mark (threads.spelling.reads (Running 
 bare_place : (i v : ℕ) → i ≢ 0 → (k : ThreadFields) → mark_in_frame (Kernel (Thread k)) i v ≡ None
 bare_place i v some k = ap (λ b. if b then thread_mark (thread_of_word v) else None) (ne_eqb i 0 some)
 
-module _ (setup : Setting) (setting : IsSetting setup) (cores : ℕ → Core) (t : Trace) (stands : Stands setup cores t) (c : ℕ)
+module _ (setup : Setting) (setting : IsSetting setup) (cores : ℕ → Core) (t : Trace) (stands : Invariant setup cores t) (c : ℕ)
     (here : c < setup.cores)
     (a : ActiveCall) (active : (cores c).active ≡ Some a) (r : Reply) (drawn : Option ℕ) where
   abbrev rest : Holding

@@ -22,13 +22,13 @@ use Rattle.call_stages.specs.Steps.{GoesOn, went_with}
 use Rattle.call_stages.specs.View.{Core}
 use Rattle.core_invariant.specs.Holding.{Holding, holds_counts, settled_by}
 use Rattle.core_invariant.specs.Knows.{phase_at, KnowsTail}
-use Rattle.core_invariant.specs.Stands.{done_by, holds_tail, holds_at, holds_in, holds, held_by, IsLent, IsOfThread, Stands}
+use Rattle.core_invariant.specs.Invariant.{done_by, holds_tail, holds_at, holds_in, holds, held_by, IsLent, IsOfThread, Invariant}
 use Rattle.core_invariant.proofs.Bare.{AsBefore, none_kept}
 use Rattle.kept_knowledge.proofs.Carries.{counts_on}
 use Rattle.step_ways.proofs.Counting as counters
 use Rattle.step_ways.proofs.Good.{Spared}
 use Rattle.lent_words.proofs.Lent.{lent_unmarked, one_keeper, own_value}
-use Rattle.step_ways.proofs.Loads.{core_at, inner, call_is}
+use Rattle.step_ways.proofs.Loads.{core_in_call, inner, call_is}
 use Rattle.step_ways.proofs.Refusals.{GoodTook}
 
 none_some : (d : ℕ) → None ≡ Some d → ⊥
@@ -53,7 +53,7 @@ counts_apart : (fate : Option (Option ℕ)) (xs : List Acquired) (f i : ℕ)
 counts_apart fate [] f i = refl
 counts_apart fate (x ∷ xs) f i = counts_apart fate xs f i
 
-module _ (setup : Setting) (setting : IsSetting setup) (cores : ℕ → Core) (t : Trace) (stands : Stands setup cores t) (c : ℕ)
+module _ (setup : Setting) (setting : IsSetting setup) (cores : ℕ → Core) (t : Trace) (stands : Invariant setup cores t) (c : ℕ)
     (here : c < setup.cores)
     (a : ActiveCall) (active : (cores c).active ≡ Some a) (r : Reply) (drawn : Option ℕ) (tail left : Tail)
     (stage_is : a.stage ≡ Decided r drawn tail) (f i v : ℕ)
@@ -81,7 +81,7 @@ module _ (setup : Setting) (setting : IsSetting setup) (cores : ℕ → Core) (t
   next = went_with a a.counts (Decided r drawn left)
 
   abbrev after : Core
-  after = core_at (cores c) (cores c).own.made next
+  after = core_in_call (cores c) (cores c).own.made next
 
   was_held : holds (cores c) ≡ holds_tail tail rest
   was_held = ap holds_in active ∙ ap (λ stage. holds_at stage a.counts) stage_is

@@ -18,13 +18,13 @@ use Rattle.call_stages.specs.declared.stages.ActiveCall.{ActiveCall}
 use Rattle.call_stages.specs.Steps.{landed}
 use Rattle.call_stages.specs.View.{Core}
 use Rattle.core_invariant.specs.Knows.{ChargesBy, HasHead, KnowsUndecided}
-use Rattle.core_invariant.specs.Stands.{Stands}
+use Rattle.core_invariant.specs.Invariant.{Invariant}
 use Rattle.step_ways.proofs.Refusals.{GoodTook}
 use Rattle.time_invariant.proofs.TickCalls.{tick_of}
 use Rattle.time_invariant.proofs.Ticks.{here_is, load_good, won_good, lost_good}
 
 -- A step of a tick is good.
-pub tick_good : (setup : Setting) → IsSetting setup → (cores : ℕ → Core) (t : Trace) → Stands setup cores t → (c : ℕ) → c < setup.cores
+pub tick_good : (setup : Setting) → IsSetting setup → (cores : ℕ → Core) (t : Trace) → Invariant setup cores t → (c : ℕ) → c < setup.cores
     → (a : ActiveCall) → (cores c).active ≡ Some a → (charge_at : Charge) → a.stage ≡ Undecided (Act (tick_act charge_at))
     → KnowsUndecided setup t c (cores c).own.table a (Act (tick_act charge_at))
     → GoodTook setup cores t c (charge_move charge_at)

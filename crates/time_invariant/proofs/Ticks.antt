@@ -32,7 +32,7 @@ use Rattle.kernel_rules.proofs.Within.{put_same, put_other}
 use Rattle.kernel_history.specs.Marks.{mark_of, mark_in_frame, head_mark}
 use Rattle.kernel_history.specs.Marking.{marked_by}
 use Rattle.kernel_history.specs.Alone.{IsAlone}
-use Rattle.kernel_history.specs.ObjectWords.{is_node, frame_value}
+use Rattle.kernel_history.specs.ObjectWords.{holds_node, frame_value}
 use Rattle.kernel_history.specs.Ways.{ways}
 use Rattle.kernel_rules.specs.Access.{Slot}
 use Rattle.kept_knowledge.proofs.Carries.{names_on}
@@ -68,8 +68,8 @@ use Rattle.call_stages.specs.View.{Core}
 use Rattle.core_invariant.specs.Holding.{holds_counts, settled_by, settled}
 use Rattle.core_invariant.specs.Words.{HeadIs, IsFrameWord, WordIs, count_room}
 use Rattle.core_invariant.specs.Knows.{due_of, charged_tcap, ChargesBy, HasHead, KnowsUndecided, WorksIn, phase_at, untypes}
-use Rattle.core_invariant.specs.Stands.{holds_at, holds_in, holds, held_by, times_of, counted_in, Stands, done_by}
-use Rattle.kept_words.proofs.Calm.{IsPlain, plain_begins, plain_stamp, plain_flush, plain_exit}
+use Rattle.core_invariant.specs.Invariant.{holds_at, holds_in, holds, held_by, times_of, counted_in, Invariant, done_by}
+use Rattle.kept_words.proofs.Calm.{IsUntimed, plain_begins, plain_stamp, plain_flush, plain_exit}
 use Rattle.kept_words.proofs.CountSums.{counted_refs}
 use Rattle.core_invariant.specs.Shares.{list_changed, TurnsHead, SparesTcap}
 use Rattle.step_ways.proofs.Good.{Spared, SparesBlanks, spares_kept}
@@ -88,7 +88,7 @@ use Rattle.time_invariant.proofs.TickCalls.{IsTick, tick_of, own_near, raced_hea
 abbrev one_more : CoreFields → CoreFields
 one_more k = record k { counted = k.counted + 1 }
 
-module _ (setup : Setting) (setting : IsSetting setup) (cores : ℕ → Core) (t : Trace) (stands : Stands setup cores t) (c : ℕ)
+module _ (setup : Setting) (setting : IsSetting setup) (cores : ℕ → Core) (t : Trace) (stands : Invariant setup cores t) (c : ℕ)
     (here : c < setup.cores)
     (a : ActiveCall) (active : (cores c).active ≡ Some a) (charge_at : Charge)
     (stage_is : a.stage ≡ Undecided (Act (tick_act charge_at)))
@@ -238,7 +238,7 @@ module _ (setup : Setting) (setting : IsSetting setup) (cores : ℕ → Core) (t
     still : holds after ≡ holds (cores c)
     still = held_after ∙ sym held_is ∙ ap holds_in (sym active)
 
-    plain : IsPlain setup t e
+    plain : IsUntimed setup t e
     plain = record {
       begins = λ x. ap (λ p. begins_in (Some r) p s c x) is_open ∙ ap (λ y. begins s c y r x) is.call_is ∙ none_begins x;
       ends = λ x. ap (λ p. ends_in (Some r) p x) is_open ∙ ap (λ y. ends y r x) is.call_is ∙ none_ends x;
@@ -343,7 +343,7 @@ module _ (setup : Setting) (setting : IsSetting setup) (cores : ℕ → Core) (t
           ∙ bare None at) ∙ (stands.marks at d).owned mark);
       is_inside = marker_inside setup cores t stands at d mark;
       has_marked = stands.marked at d mark;
-      on_way = λ node. absurd (false≢true (ap is_node (sym tcap.is) ∙ node));
+      on_way = λ node. absurd (false≢true (ap holds_node (sym tcap.is) ∙ node));
     }
 
     pub busy_good : GoodTook setup cores t c (LoadOf at) (landed a (owes (reply.Busy d) (ticks_of charge_at)))
@@ -606,7 +606,7 @@ module _ (setup : Setting) (setting : IsSetting setup) (cores : ℕ → Core) (t
             let more : (s_won.core c).counted ≡ (s.core c).counted + 1 = ap (λ k. k.counted) core_won in
             omega arith
 
-    plain_won : IsPlain setup t e_won
+    plain_won : IsUntimed setup t e_won
     plain_won = record {
       begins = λ x. ap (λ p. begins_in (Some (reply.Ok (Amount charged))) p s c x) is_open
           ∙ ap (λ y. begins s c y (reply.Ok (Amount charged)) x) is.call_is;

@@ -18,7 +18,7 @@ use Rattle.turn_tests.specs.declared.taker.Phase.{Phase}
 use Rattle.turn_tests.specs.declared.taker.Phase.TheVariants.{Idle, Takes, Shows, ReadsBack}
 use Rattle.turn_tests.specs.declared.taker.Taker.{Taker}
 use Rattle.turn_tests.specs.Counting.{GoesOn}
-use Rattle.turn_tests.specs.Taker.{taker_steps, taker, place_of, next_in, after_in}
+use Rattle.turn_tests.specs.Taker.{taker_steps, taker, word_place, next_in, after_in}
 use Rattle.turn_tests.specs.Taking.{shown_in, AreShown, IsOpen, TakesFrom}
 use Rattle.turn_tests.proofs.Scores.{Raises, AllScore, counts_scores}
 
@@ -38,11 +38,11 @@ module _ {A : Type 0} (F : A → Type 0) where
   all_at : (l : List A) → ((k : ℕ) (x : A) → slice_get l k ≡ Some x → F x) → All F l
   all_at l h k d inside = h k (get_or l k d) (slice_get-get_or l k d inside)
 
-own_place : (side : Side) → place_of side ≢ 0
+own_place : (side : Side) → word_place side ≢ 0
 own_place Left e = omega arith
 own_place Right e = omega arith
 
-one_place : (a b : Side) → place_of a ≡ place_of b → a ≡ b
+one_place : (a b : Side) → word_place a ≡ word_place b → a ≡ b
 one_place Left Left e = refl
 one_place Left Right e = absurd (omega arith)
 one_place Right Left e = absurd (omega arith)
@@ -50,7 +50,7 @@ one_place Right Right e = refl
 
 -- the step of q, which is r then, is on word 0 and keeps what is shown, or is on the core's own word and leaves there what is shown
 abbrev StepShows : Taker → ℕ → ℕ → Taker → Type 0
-StepShows q at left r = (r.side ≡ q.side) × (((at ≡ 0) × (shown r ≡ shown q)) ⊎ ((at ≡ place_of q.side) × (left ≡ shown r)))
+StepShows q at left r = (r.side ≡ q.side) × (((at ≡ 0) × (shown r ≡ shown q)) ⊎ ((at ≡ word_place q.side) × (left ≡ shown r)))
 
 -- it takes as many tickets as it adds to word 0, and none elsewhere
 abbrev StepTakes : Taker → ℕ → ℕ → ℕ → Taker → Type 0
@@ -63,10 +63,10 @@ module _ (side : Side) (taken last : ℕ) (op : WordOp) (at left found : ℕ)
   step_shows Idle next = absurd (none-some op next)
   step_shows (Takes count) next = let is : op ≡ Add 0 count = cc in (refl, inl (place ∙ ap place_in is, refl))
   step_shows (Shows ticket) next =
-      let is : op ≡ Store (place_of side) ticket = cc in
+      let is : op ≡ Store (word_place side) ticket = cc in
       (refl, inr (place ∙ ap place_in is, leaves ∙ ap (λ o. left_by o found) is ∙ sym (ap (λ o. told_by o found) is)))
   step_shows (ReadsBack ticket) next =
-      let is : op ≡ Load (place_of side) = cc in
+      let is : op ≡ Load (word_place side) = cc in
       (refl, inr (place ∙ ap place_in is, leaves ∙ ap (λ o. left_by o found) is ∙ sym (ap (λ o. told_by o found) is)))
 
   step_takes : (phase : Phase) → next_in side phase ≡ Some op
@@ -75,9 +75,9 @@ module _ (side : Side) (taken last : ℕ) (op : WordOp) (at left found : ℕ)
   step_takes (Takes count) next =
       let is : op ≡ Add 0 count = cc in inr (place ∙ ap place_in is, inr (count, leaves ∙ ap (λ o. left_by o found) is, refl))
   step_takes (Shows ticket) next =
-      let is : op ≡ Store (place_of side) ticket = cc in inl (λ e. own_place side (sym (place ∙ ap place_in is) ∙ e), refl)
+      let is : op ≡ Store (word_place side) ticket = cc in inl (λ e. own_place side (sym (place ∙ ap place_in is) ∙ e), refl)
   step_takes (ReadsBack ticket) next =
-      let is : op ≡ Load (place_of side) = cc in inl (λ e. own_place side (sym (place ∙ ap place_in is) ∙ e), refl)
+      let is : op ≡ Load (word_place side) = cc in inl (λ e. own_place side (sym (place ∙ ap place_in is) ∙ e), refl)
 
 called_side : (p : Taker) (call : Option ℕ) → (called T p call).side ≡ p.side
 called_side p None = refl
@@ -107,7 +107,7 @@ takes_score p e s =
 module _ (start : Start Taker) (opened : IsOpen start) where
   -- the core's own word shows its ticket, and its side is the one that it had
   abbrev pub OwnShown : List (Entry ℕ) → ℕ → Taker → Type 0
-  OwnShown t c p = (word_after start t (place_of p.side) ≡ shown p)
+  OwnShown t c p = (word_after start t (word_place p.side) ≡ shown p)
       × ((was : Taker) × (slice_get start.programs c ≡ Some was) × (p.side ≡ was.side))
 
   abbrev pub AllOwnShown : List (Entry ℕ) → Type 0
@@ -129,25 +129,25 @@ module _ (start : Start Taker) (opened : IsOpen start) where
     keeps_here : OwnShown (e ∷ t) e.core r
     keeps_here =
         let side : r.side ≡ m.program.side = step.0 ∙ called_side m.program e.call in
-        let was = ap (λ s. word_after start t (place_of s)) side ∙ mine.0 ∙ sym (called_shown m.program e.call m.step.may) in (
+        let was = ap (λ s. word_after start t (word_place s)) side ∙ mine.0 ∙ sym (called_shown m.program e.call m.step.may) in (
           ⊎_elim (λ (z : (e.at ≡ 0) × (shown r ≡ shown q)).
-              word_elsewhere start e t (place_of r.side) (λ at. own_place r.side (sym at ∙ z.0)) ∙ was ∙ sym z.1)
-              (λ (z : (e.at ≡ place_of q.side) × (e.left ≡ shown r)).
-              word_here start e t (place_of r.side) (z.0 ∙ ap place_of (sym step.0)) ∙ z.1)
+              word_elsewhere start e t (word_place r.side) (λ at. own_place r.side (sym at ∙ z.0)) ∙ was ∙ sym z.1)
+              (λ (z : (e.at ≡ word_place q.side) × (e.left ≡ shown r)).
+              word_here start e t (word_place r.side) (z.0 ∙ ap word_place (sym step.0)) ∙ z.1)
               step.1,
           (mine.1.0, mine.1.1, side ∙ mine.1.2),
         )
 
     keeps_elsewhere : (c : ℕ) (p : Taker) → e.core ≢ c → OwnShown t c p → OwnShown (e ∷ t) c p
     keeps_elsewhere c p other its =
-        let apart : place_of q.side ≢ place_of p.side = (λ same.
+        let apart : word_place q.side ≢ word_place p.side = (λ same.
         let sides = sym (called_side m.program e.call ∙ mine.1.2) ∙ one_place q.side p.side same ∙ its.1.2 in
         other (opened.apart e.core c mine.1.0 its.1.0 mine.1.1 its.1.1 sides)) in
-        let elsewhere : e.at ≢ place_of p.side = (λ at.
+        let elsewhere : e.at ≢ word_place p.side = (λ at.
         ⊎_elim (λ (z : (e.at ≡ 0) × (shown r ≡ shown q)). own_place p.side (sym at ∙ z.0))
-        (λ (z : (e.at ≡ place_of q.side) × (e.left ≡ shown r)). apart (sym z.0 ∙ at))
+        (λ (z : (e.at ≡ word_place q.side) × (e.left ≡ shown r)). apart (sym z.0 ∙ at))
         step.1) in
-        (word_elsewhere start e t (place_of p.side) elsewhere ∙ its.0, its.1)
+        (word_elsewhere start e t (word_place p.side) elsewhere ∙ its.0, its.1)
 
     keeps : AllOwnShown (e ∷ t)
     keeps c p runs = dite (ℕ_discrete e.core c)
@@ -160,7 +160,7 @@ module _ (start : Start Taker) (opened : IsOpen start) where
   own_shown : (t : List (Entry ℕ)) → IsSound T start t → AllOwnShown t
   own_shown t sound = kept_along T start AllOwnShown
       (λ c p runs.
-      (at_all (λ q. slice_index start.words (place_of q.side) ≡ shown q) start.programs c p opened.shown.own runs, (p, runs, refl)))
+      (at_all (λ q. slice_index start.words (word_place q.side) ≡ shown q) start.programs c p opened.shown.own runs, (p, runs, refl)))
       (λ t e before m own. keeps t e m own) t sound
 
   -- the words and programs that a sound trace leaves show the tickets
@@ -170,13 +170,13 @@ module _ (start : Start Taker) (opened : IsOpen start) where
   shown_after t sound words word programs program count = record {
     taken = counts_scores T (λ p. p.taken) takes_score start t sound opened.shown.taken (slice_index words 0) (word 0)
         programs program count;
-    own = all_at (λ p. slice_index words (place_of p.side) ≡ shown p) programs
-        (λ c p e. word (place_of p.side) ∙ (own_shown t sound c p (sym (program c) ∙ e)).0);
+    own = all_at (λ p. slice_index words (word_place p.side) ≡ shown p) programs
+        (λ c p e. word (word_place p.side) ∙ (own_shown t sound c p (sym (program c) ∙ e)).0);
   }
 
   -- a step on the core's own word finds what the core shows
   found_own : (a b : Seat) (op : WordOp) → a.table.start ≡ start → FollowsTrace T a → FollowsTrace T b
-      → (s : MakesStep T a None op b) → place_in op ≡ place_of a.program.side → s.found ≡ shown a.program
+      → (s : MakesStep T a None op b) → place_in op ≡ word_place a.program.side → s.found ≡ shown a.program
   found_own a b op same from follows s place =
       let before : List (Entry ℕ) = s.others ++ a.seen in
       let at_b : b.table.start ≡ start = ap (λ t. t.start) s.table ∙ same in
@@ -196,8 +196,8 @@ module _ (start : Start Taker) (opened : IsOpen start) where
   takes_from a b c d count ticket same add from_b may_store from_c may_load from_d is =
       let side : Side = a.program.side in
       let taken : ℕ = (a.program.taken + count) % 2 ^ 64 in
-      let stores : WordOp = Store (place_of side) add.found in
-      let loads : WordOp = Load (place_of side) in
+      let stores : WordOp = Store (word_place side) add.found in
+      let loads : WordOp = Load (word_place side) in
       let store : MakesStep T b None stores c =
       subst (λ (p : Taker). MatchOption (T.next p) (c ≡ b) (λ op. MakesStep T b None op c)) add.program may_store in
       let stored : c.program ≡ taker side (ReadsBack add.found) taken a.program.last =
@@ -207,8 +207,8 @@ module _ (start : Start Taker) (opened : IsOpen start) where
       let loaded : d.program ≡ taker side Idle taken load.found = load.program ∙ ap (λ (p : Taker). T.after p load.found) stored in
       let at_b : b.table.start ≡ start = ap (λ t. t.start) add.table ∙ same in
       let at_c : c.table.start ≡ start = ap (λ t. t.start) store.table ∙ at_b in
-      let place_b = sym (ap (λ (p : Taker). place_of p.side) add.program) in
-      let place_c = sym (ap (λ (p : Taker). place_of p.side) stored) in
+      let place_b = sym (ap (λ (p : Taker). word_place p.side) add.program) in
+      let place_c = sym (ap (λ (p : Taker). word_place p.side) stored) in
       let hid : store.found ≡ a.program.last = found_own b c stores at_b from_b from_c store place_b ∙ ap shown add.program in
       let back : load.found ≡ add.found = found_own c d loads at_c from_c from_d load place_c ∙ ap shown stored in
       let ticket_is : load.found ≡ ticket = sym (is ∙ ap (λ (p : Taker). p.last) loaded) in
@@ -234,8 +234,8 @@ regroup xs ys zs t x y = simp append_assoc
 pub takes_goes_on : (seat made : Seat) (count ticket : ℕ) → TakesFrom seat count ticket made → GoesOn seat made
 takes_goes_on seat made count ticket t =
     let add : Entry ℕ = entry seat.core (Add 0 count) ticket (Some count) in
-    let store : Entry ℕ = entry seat.core (Store (place_of seat.program.side) ticket) seat.program.last None in
-    let load : Entry ℕ = entry seat.core (Load (place_of seat.program.side)) ticket None in
+    let store : Entry ℕ = entry seat.core (Store (word_place seat.program.side) ticket) seat.program.last None in
+    let load : Entry ℕ = entry seat.core (Load (word_place seat.program.side)) ticket None in
     let groups = regroup t.before_load t.before_store t.before_add seat.seen store add in
     record {
       begins = record {

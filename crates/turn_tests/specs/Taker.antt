@@ -13,16 +13,16 @@ abbrev pub taker : Side → Phase → ℕ → ℕ → Taker
 taker side phase taken last = record { side = side; phase = phase; taken = taken; last = last }
 
 -- where the core's own word is
-abbrev pub place_of : Side → ℕ
-place_of Left = 1
-place_of Right = 2
+abbrev pub word_place : Side → ℕ
+word_place Left = 1
+word_place Right = 2
 
 -- an add on the word of all cores, and a store and a load of the core's own
 abbrev pub next_in : Side → Phase → Option WordOp
 next_in side Idle = None
 next_in side (Takes count) = Some (Add 0 count)
-next_in side (Shows ticket) = Some (Store (place_of side) ticket)
-next_in side (ReadsBack ticket) = Some (Load (place_of side))
+next_in side (Shows ticket) = Some (Store (word_place side) ticket)
+next_in side (ReadsBack ticket) = Some (Load (word_place side))
 
 -- once the step was told n
 abbrev pub after_in : Side → Phase → ℕ → ℕ → ℕ → Taker

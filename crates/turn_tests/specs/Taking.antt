@@ -9,7 +9,7 @@ use Rattle.turn_tests.specs.declared.taker.Phase.{Phase}
 use Rattle.turn_tests.specs.declared.taker.Phase.TheVariants.{Idle, Takes, Shows, ReadsBack}
 use Rattle.turn_tests.specs.declared.taker.Taker.{Taker}
 use Rattle.turn_tests.specs.Counting.{GoesOn}
-use Rattle.turn_tests.specs.Taker.{taker, place_of, next_in, taker_steps}
+use Rattle.turn_tests.specs.Taker.{taker, word_place, next_in, taker_steps}
 
 -- the ticket in the core's own word: the last one, or one that was stored and is not read back yet
 abbrev pub shown_in : Phase → ℕ → ℕ
@@ -21,7 +21,7 @@ shown_in (ReadsBack ticket) last = ticket
 -- word 0 is the number of tickets taken, and each core's own word its ticket
 pub record AreShown (words : List ℕ) (programs : List Taker) : Type 0 where
   pub taken : slice_index words 0 ≡ sum_by (λ p. p.taken) programs % 2 ^ 64
-  pub own : All (λ p. slice_index words (place_of p.side) ≡ shown_in p.phase p.last) programs
+  pub own : All (λ p. slice_index words (word_place p.side) ≡ shown_in p.phase p.last) programs
 
 -- the words show the tickets at the start, and no two cores have the same side
 pub record IsOpen (start : Start Taker) : Type 0 where
@@ -38,8 +38,8 @@ pub record TakesFrom (seat : SeatValue Taker ℕ) (count ticket : ℕ) (made : S
   pub before_store : List (Entry ℕ)
   pub before_load : List (Entry ℕ)
   pub apart : AreOfOthers seat.core before_add × AreOfOthers seat.core before_store × AreOfOthers seat.core before_load
-  pub seen : made.seen ≡ entry seat.core (Load (place_of seat.program.side)) ticket None
-      ∷ (before_load ++ entry seat.core (Store (place_of seat.program.side) ticket) seat.program.last None
+  pub seen : made.seen ≡ entry seat.core (Load (word_place seat.program.side)) ticket None
+      ∷ (before_load ++ entry seat.core (Store (word_place seat.program.side) ticket) seat.program.last None
       ∷ (before_store ++ entry seat.core (Add 0 count) ticket (Some count) ∷ (before_add ++ seat.seen)))
   pub program : made.program ≡ taker seat.program.side Idle ((seat.program.taken + count) % 2 ^ 64) ticket
   pub core : made.core ≡ seat.core

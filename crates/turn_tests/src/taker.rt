@@ -2,7 +2,7 @@
 
 ghost use Rattle.std.specs.Prelude.{◌≡◌};
 ghost use Rattle.turn_tests.specs.declared.taker.Phase.TheVariants.{Idle};
-ghost use Rattle.turn_tests.specs.Taker.{place_of, taker};
+ghost use Rattle.turn_tests.specs.Taker.{word_place, taker};
 
 use spk_nums::WordOp;
 use turn_rule::CoreProgram;
@@ -17,7 +17,7 @@ pub enum Side {
 impl Side {
     /// Where the core's own word is.
     pub fn place(self) -> u32
-        ensures { result ≡ place_of self }
+        ensures { result ≡ word_place self }
     {
         match self {
             Side::Left => 1,

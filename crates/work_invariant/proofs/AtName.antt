@@ -41,7 +41,7 @@ use Rattle.call_stages.specs.Steps.{landed, found_more}
 use Rattle.call_stages.specs.View.{Core}
 use Rattle.core_invariant.specs.Holding.{holds_counts}
 use Rattle.core_invariant.specs.Knows.{due_of, TypesBy, NamesAre, phase_at, own_in}
-use Rattle.core_invariant.specs.Stands.{holds_in, Stands}
+use Rattle.core_invariant.specs.Invariant.{holds_in, Invariant}
 use Rattle.std.specs.Prelude.{IsSome}
 use Rattle.std.proofs.lemmas.List.Elements.{All-nil, All-append}
 use Rattle.spk_nums.specs.declared.replies.Value.TheVariants.{Cap}
@@ -94,7 +94,7 @@ abbrev pub IsTypedBy : ℕ → ℕ → FrameKind → Type 0
 IsTypedBy core f k = ((k ≢ Untyped) × (typing_to core f k ≡ type_act (record { frame = f; kind = k; at = Load })))
     ⊎ ((k ≡ Untyped) × (typing_to core f k ≡ untype_act (record { frame = f; core = core; at = untype_load })))
 
-module _ (setup : Setting) (setting : IsSetting setup) (cores : ℕ → Core) (t : Trace) (stands : Stands setup cores t) (c : ℕ)
+module _ (setup : Setting) (setting : IsSetting setup) (cores : ℕ → Core) (t : Trace) (stands : Invariant setup cores t) (c : ℕ)
     (here : c < setup.cores)
     (a : ActiveCall) (active : (cores c).active ≡ Some a) (opens : phase_at a.call a.stage ≡ Open a.call)
     (held_is : holds_in (Some a) ≡ holds_counts None a.counts) (no_counts : a.counts ≡ [])
@@ -197,7 +197,7 @@ module _ (setup : Setting) (setting : IsSetting setup) (cores : ℕ → Core) (t
       by false has = past has
 
 -- A look answers its capability.
-module _ (setup : Setting) (setting : IsSetting setup) (cores : ℕ → Core) (t : Trace) (stands : Stands setup cores t) (c : ℕ)
+module _ (setup : Setting) (setting : IsSetting setup) (cores : ℕ → Core) (t : Trace) (stands : Invariant setup cores t) (c : ℕ)
     (here : c < setup.cores)
     (a : ActiveCall) (active : (cores c).active ≡ Some a) (opens : phase_at a.call a.stage ≡ Open a.call)
     (held_is : holds_in (Some a) ≡ holds_counts None a.counts) (no_counts : a.counts ≡ [])

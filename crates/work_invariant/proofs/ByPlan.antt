@@ -36,7 +36,7 @@ use Rattle.call_plans.specs.declared.plans.Target.TheVariants.{Nowhere, Free, He
 use Rattle.call_plans.specs.declared.plans.Plan.{Plan}
 use Rattle.call_plans.specs.Plans.{at_place}
 use Rattle.call_plans.specs.PlanOf.{any_cap, plan_for, of_kind}
-use Rattle.call_plans.specs.GoesBy.{GoesBy, own_pages, earlier, wants, place_of}
+use Rattle.call_plans.specs.GoesBy.{GoesBy, own_pages, earlier, wants, place_of_spot}
 use Rattle.call_plans.specs.After.{with_found, names_after, Leads, LeadsIn, Next, NextName, NextFree, NextHeld, NextOwn, NextNothing, next_in, next_of, NextMay}
 use Rattle.call_plans.proofs.CallsGoBy.{calls_go}
 use Rattle.call_plans.proofs.FewNames.{few_names}
@@ -79,7 +79,7 @@ use Rattle.act_states.specs.Lookups.{met_name, met_free, met_held}
 use Rattle.call_stages.specs.Steps.{landed, found_more, next_by as what_next, named_one, took_look, took_found}
 use Rattle.act_fits.proofs.DuesFit.{cap_one}
 use Rattle.call_stages.specs.View.{Core}
-use Rattle.core_invariant.specs.Stands.{holds_at, holds_in, Stands}
+use Rattle.core_invariant.specs.Invariant.{holds_at, holds_in, Invariant}
 use Rattle.kept_knowledge.proofs.Carries.{names_on, read_before_on}
 use Rattle.step_ways.proofs.Loads.{OnlyLooks, next_at, call_is, is_active, loads_on}
 use Rattle.core_invariant.proofs.Sounds.{limits_of}
@@ -93,7 +93,7 @@ use Rattle.work_invariant.proofs.FoundFits.{found_fits}
 use Rattle.work_invariant.proofs.ScanStarts.{ScanStarts, scan_starts}
 use Rattle.work_invariant.proofs.NextLooks.{next_good}
 
-module _ (setup : Setting) (setting : IsSetting setup) (cores : ℕ → Core) (t : Trace) (stands : Stands setup cores t) (c : ℕ)
+module _ (setup : Setting) (setting : IsSetting setup) (cores : ℕ → Core) (t : Trace) (stands : Invariant setup cores t) (c : ℕ)
     (here : c < setup.cores)
     (a : ActiveCall) (active : (cores c).active ≡ Some a) (look : Look) (stage_is : a.stage ≡ Undecided (Lookup look))
     (has : KnowsUndecided setup t c (cores c).own.table a (Lookup look)) where
@@ -382,7 +382,7 @@ module _ (setup : Setting) (setting : IsSetting setup) (cores : ℕ → Core) (t
   -- A target that is to be free is looked up.
   module _ (spot : Spot) (to : a.plan.target ≡ Free spot) (none : names_after a.plan.names a.found ≡ []) where
     abbrev target : place
-    target = place_of (with_found [] a.found) spot
+    target = place_of_spot (with_found [] a.found) spot
 
     next_free : next_of a.plan a.found ≡ NextFree target
     next_free = next_end a.plan a.found (Free spot) none to
@@ -545,7 +545,7 @@ module _ (setup : Setting) (setting : IsSetting setup) (cores : ℕ → Core) (t
         (fills_removed at arrives x reads looks)
 
   free_step : (spot : Spot) (to : a.plan.target ≡ Free spot) (none : names_after a.plan.names a.found ≡ [])
-      → LooksUp setup t c (place_of (with_found [] a.found) spot) look → Looked
+      → LooksUp setup t c (place_of_spot (with_found [] a.found) spot) look → Looked
   free_step (spot_of.Under i n) to none looks =
       let spot = spot_of.Under i n in
       let next = next_free spot to none in
@@ -570,7 +570,7 @@ module _ (setup : Setting) (setting : IsSetting setup) (cores : ℕ → Core) (t
   -- A target that is to be held is looked up.
   module _ (spot : Spot) (to : a.plan.target ≡ Held spot) (none : names_after a.plan.names a.found ≡ []) where
     abbrev held_target : place
-    held_target = place_of (with_found [] a.found) spot
+    held_target = place_of_spot (with_found [] a.found) spot
 
     next_held : next_of a.plan a.found ≡ NextHeld held_target
     next_held = next_end a.plan a.found (Held spot) none to
@@ -641,7 +641,7 @@ module _ (setup : Setting) (setting : IsSetting setup) (cores : ℕ → Core) (t
         (λ nobody. first_held reply.Empty (held_empty s c held_target at arrives.reached (ap held_in shows.removed)))
 
   held_step : (spot : Spot) (to : a.plan.target ≡ Held spot) (none : names_after a.plan.names a.found ≡ [])
-      → LooksUp setup t c (place_of (with_found [] a.found) spot) look → Looked
+      → LooksUp setup t c (place_of_spot (with_found [] a.found) spot) look → Looked
   held_step (spot_of.Under i n) to none looks =
       let spot = spot_of.Under i n in
       let next = next_held spot to none in
@@ -672,9 +672,9 @@ module _ (setup : Setting) (setting : IsSetting setup) (cores : ℕ → Core) (t
       by_target : (to : Target) → a.plan.target ≡ to → names_after a.plan.names a.found ≡ [] → Looked
       by_target Nowhere to none = absurd (for NextNothing (next_end a.plan a.found Nowhere none to))
       by_target (Free spot) to none =
-          free_step spot to none (for (NextFree (place_of (with_found [] a.found) spot)) (next_end a.plan a.found (Free spot) none to))
+          free_step spot to none (for (NextFree (place_of_spot (with_found [] a.found) spot)) (next_end a.plan a.found (Free spot) none to))
       by_target (Held spot) to none =
-          held_step spot to none (for (NextHeld (place_of (with_found [] a.found) spot)) (next_end a.plan a.found (Held spot) none to))
+          held_step spot to none (for (NextHeld (place_of_spot (with_found [] a.found) spot)) (next_end a.plan a.found (Held spot) none to))
       by_target (own_page v) to none = absurd (for (NextOwn v) (next_end a.plan a.found (own_page v) none to))
 
       by : Rest a.plan a.found → Looked

@@ -24,7 +24,7 @@ use Rattle.call_plans.specs.declared.plans.Target.{Target}
 use Rattle.call_plans.specs.declared.plans.Target.TheVariants.{Nowhere, Free, Held, Own as own_page}
 use Rattle.call_plans.specs.declared.plans.Plan.{Plan}
 use Rattle.call_plans.specs.PlanOf.{plan_for}
-use Rattle.call_plans.specs.GoesBy.{GoesBy, own_pages, earlier, wants, place_of}
+use Rattle.call_plans.specs.GoesBy.{GoesBy, own_pages, earlier, wants, place_of_spot}
 use Rattle.call_plans.specs.Rooted.{IsRooted}
 use Rattle.call_plans.specs.After.{with_found, names_after, Leads, LeadsIn, Next, NextName, NextFree, NextHeld, next_target, next_of, NextMay}
 use Rattle.call_plans.proofs.CallsGoBy.{calls_go}
@@ -45,7 +45,7 @@ use Rattle.core_invariant.specs.Knows.{ReadIs, ReadBefore, LooksUp, own_in, Name
 use Rattle.act_states.specs.Lookups.{read_first, looks_under, looks_entry, looks_at, next_step}
 use Rattle.call_stages.specs.Steps.{landed, found_more, next_by as what_next}
 use Rattle.call_stages.specs.View.{Core}
-use Rattle.core_invariant.specs.Stands.{holds_in, Stands}
+use Rattle.core_invariant.specs.Invariant.{holds_in, Invariant}
 use Rattle.step_ways.proofs.Loads.{OnlyLooks, core_is, call_is, is_active, loads_on, decides_on, step_to}
 use Rattle.step_ways.proofs.Refusals.{GoodTook, not_spent}
 use Rattle.look_invariant.proofs.Findings.{own_is, past_slot, past_unreached, named_no_slot}
@@ -53,7 +53,7 @@ use Rattle.look_invariant.proofs.Next.{MayUse, spot_relies, Rest, ANameLeft, Non
 use Rattle.work_invariant.proofs.ByCall.{vacant_no_slot, held_no_slot, past_entry, past_entry_unreached, own_unnamed}
 use Rattle.work_invariant.proofs.Reading.{reads_comp}
 
-module _ (setup : Setting) (setting : IsSetting setup) (cores : ℕ → Core) (t : Trace) (stands : Stands setup cores t) (c : ℕ)
+module _ (setup : Setting) (setting : IsSetting setup) (cores : ℕ → Core) (t : Trace) (stands : Invariant setup cores t) (c : ℕ)
     (here : c < setup.cores)
     (a : ActiveCall) (active : (cores c).active ≡ Some a) (opens : phase_at a.call a.stage ≡ Open a.call)
     (held_is : holds_in (Some a) ≡ holds_counts None a.counts) (no_counts : a.counts ≡ []) (room : (cores c).own.made < (cores c).own.limit)
@@ -193,8 +193,8 @@ module _ (setup : Setting) (setting : IsSetting setup) (cores : ℕ → Core) (t
   free_first (Some f) reads target is = reads_next f reads target is
 
   free_good : (spot : Spot) → a.plan.target ≡ Free spot → names_after a.plan.names more ≡ []
-      → next_of a.plan more ≡ NextFree (place_of (with_found [] more) spot)
-      → Begun (reads_of a.call more) (looks_at (place_of (with_found [] more) spot))
+      → next_of a.plan more ≡ NextFree (place_of_spot (with_found [] more) spot)
+      → Begun (reads_of a.call more) (looks_at (place_of_spot (with_found [] more) spot))
   free_good (spot_of.Under i n) to none is =
       let root = spot_relies setup setting t stands.legal c a.call is_open a.plan more (spot_of.Under i n)
       (is_rooted (Free (spot_of.Under i n)) to) uses none in
@@ -214,9 +214,9 @@ module _ (setup : Setting) (setting : IsSetting setup) (cores : ℕ → Core) (t
       (past_entry_unreached s c (earlier (with_found [] more) i) x past))
 
   held_good : (spot : Spot) → a.plan.target ≡ Held spot → names_after a.plan.names more ≡ []
-      → next_of a.plan more ≡ NextHeld (place_of (with_found [] more) spot)
+      → next_of a.plan more ≡ NextHeld (place_of_spot (with_found [] more) spot)
       → GoodTook setup cores t c (LoadOf (EntryAt at.node at.index))
-      (landed (found_more a more) (looks_at (place_of (with_found [] more) spot)))
+      (landed (found_more a more) (looks_at (place_of_spot (with_found [] more) spot)))
   held_good (spot_of.Under i n) to none is =
       let root = spot_relies setup setting t stands.legal c a.call is_open a.plan more (spot_of.Under i n)
       (is_rooted (Held (spot_of.Under i n)) to) uses none in

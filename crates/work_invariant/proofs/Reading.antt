@@ -41,7 +41,7 @@ use Rattle.call_stages.specs.View.{Core}
 use Rattle.core_invariant.specs.Holding.{settled_by}
 use Rattle.core_invariant.specs.Words.{IsFrameWord, count_room}
 use Rattle.core_invariant.specs.Knows.{HasComp, LooksFor, ReadIs, ReadBefore, KnowsUndecided, phase_at}
-use Rattle.core_invariant.specs.Stands.{holds_at, held_by, Stands}
+use Rattle.core_invariant.specs.Invariant.{holds_at, held_by, Invariant}
 use Rattle.kept_knowledge.proofs.Carries.{names_on, looks_on}
 use Rattle.step_ways.proofs.Loads.{OnlyLooks, step_to, call_is, is_active, reads_on}
 use Rattle.step_ways.proofs.Refusals.{GoodTook}
@@ -82,7 +82,7 @@ reads_near setup setting t legal c (Gate n u b) is_open (k ∷ ks) lead f reads 
 reads_near setup setting t legal c call is_open ks lead f reads = absurd (cc)
 
 -- The load of the component's word.
-module _ (setup : Setting) (setting : IsSetting setup) (cores : ℕ → Core) (t : Trace) (stands : Stands setup cores t) (c : ℕ)
+module _ (setup : Setting) (setting : IsSetting setup) (cores : ℕ → Core) (t : Trace) (stands : Invariant setup cores t) (c : ℕ)
     (here : c < setup.cores)
     (a : ActiveCall) (active : (cores c).active ≡ Some a) (f : ℕ) (look : Look) (stage_is : a.stage ≡ Undecided (Read f look))
     (has : KnowsUndecided setup t c (cores c).own.table a (Read f look)) where

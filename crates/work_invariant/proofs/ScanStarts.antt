@@ -19,7 +19,7 @@ use Rattle.act_states.specs.Acts.{fills_page}
 use Rattle.call_stages.specs.declared.stages.ActiveCall.{ActiveCall}
 use Rattle.call_stages.specs.View.{Core}
 use Rattle.core_invariant.specs.Knows.{HasFlushed, IsScanned}
-use Rattle.core_invariant.specs.Stands.{Stands}
+use Rattle.core_invariant.specs.Invariant.{Invariant}
 use Rattle.step_ways.proofs.Loads.{step_to, is_active}
 use Rattle.look_invariant.proofs.Lookups.{Arrives}
 use Rattle.place_invariant.proofs.Paging.{paging_by}
@@ -39,7 +39,7 @@ pub record ScanStarts (setup : Setting) (t : Trace) (c : ℕ) (a : ActiveCall) (
       → ((d : ℕ) → d < upto → HasFlushed setup t (PlaceOf at.node at.index) x d)
       → IsScanned setup (step_to c None (LoadOf (EntryAt at.node at.index)) word None None ∷ t) c (PlaceOf at.node at.index) x upto
 
-module _ (setup : Setting) (setting : IsSetting setup) (cores : ℕ → Core) (t : Trace) (stands : Stands setup cores t) (c : ℕ)
+module _ (setup : Setting) (setting : IsSetting setup) (cores : ℕ → Core) (t : Trace) (stands : Invariant setup cores t) (c : ℕ)
     (here : c < setup.cores)
     (a : ActiveCall) (active : (cores c).active ≡ Some a) (is_open : phase t c ≡ Open a.call)
     (leads : Leads (LeadsIn (state_after setup t) c) a.plan.names [] a.found) (target : place)

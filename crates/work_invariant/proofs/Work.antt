@@ -18,7 +18,7 @@ use Rattle.call_stages.specs.declared.stages.ActiveCall.{ActiveCall}
 use Rattle.call_stages.specs.View.{Core}
 use Rattle.call_stages.specs.Steps.{work_move, took_look, took_work}
 use Rattle.core_invariant.specs.Knows.{KnowsUndecided}
-use Rattle.core_invariant.specs.Stands.{Stands}
+use Rattle.core_invariant.specs.Invariant.{Invariant}
 use Rattle.step_ways.proofs.Refusals.{GoodTook}
 use Rattle.stage_pins.specs.declared.pin.Pin.TheVariants.{AtLoad, AtCompare}
 use Rattle.count_invariant.proofs.Acquiring.{acquire_good}
@@ -40,7 +40,7 @@ use Rattle.page_invariant.proofs.Touches.{touch_good}
 use Rattle.share_invariant.proofs.Shares.{share_good}
 use Rattle.switch_invariant.proofs.Switches.{switch_good}
 
-look_good : (setup : Setting) → IsSetting setup → (cores : ℕ → Core) (t : Trace) → Stands setup cores t → (c : ℕ) → c < setup.cores
+look_good : (setup : Setting) → IsSetting setup → (cores : ℕ → Core) (t : Trace) → Invariant setup cores t → (c : ℕ) → c < setup.cores
     → (a : ActiveCall) → (cores c).active ≡ Some a
     → (look : Look) → a.stage ≡ Undecided (Lookup look) → KnowsUndecided setup t c (cores c).own.table a (Lookup look)
     → GoodTook setup cores t c (look_move look) (took_look (cores c).own a look (last_left setup t (word_of (look_move look)))
@@ -51,7 +51,7 @@ look_good setup setting cores t stands c here a active look is knows =
     (shown_in n (last_left setup t (word_of (look_move look))))))
     (sym (ap (λ s. s.frames) (stands.each c here).shape)) (lookup_good setup setting cores t stands c here a active look is knows)
 
-pub work_good : (setup : Setting) → IsSetting setup → (cores : ℕ → Core) (t : Trace) → Stands setup cores t → (c : ℕ) → c < setup.cores
+pub work_good : (setup : Setting) → IsSetting setup → (cores : ℕ → Core) (t : Trace) → Invariant setup cores t → (c : ℕ) → c < setup.cores
     → (a : ActiveCall) → (cores c).active ≡ Some a
     → (work : Work) → a.stage ≡ Undecided work → KnowsUndecided setup t c (cores c).own.table a work
     → GoodTook setup cores t c (work_move work) (took_work (cores c).own a work

@@ -1,10 +1,10 @@
 use Rattle.std.proofs.Common.{◌≡◌, ◌/◌, ◌%◌}
 use Rattle.kernel_rules.specs.Start.{start_place}
-use Rattle.seq_state.specs.Parts.{place_of}
+use Rattle.seq_state.specs.Parts.{place_held}
 use Rattle.seq_state.proofs.StartLemmas.{all_more}
 use Rattle.seq_state.proofs.start.all_places.Goals as goal
 
 pub each-preserved : goal.each-preserved
 each-preserved c =
-    all_more (λ k p. place_of p ≡ start_place c.args.setup.now (k / 64) (k % 64)) c.each.map.entries c.insert_at.new.map.entries c.each.key c.place_at.result
+    all_more (λ k p. place_held p ≡ start_place c.args.setup.now (k / 64) (k % 64)) c.each.map.entries c.insert_at.new.map.entries c.each.key c.place_at.result
     c.in_ok-insert_at.ensures.here c.in_ok-insert_at.ensures.others c.place_at.ensures c.each.invariant

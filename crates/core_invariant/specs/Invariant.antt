@@ -249,7 +249,7 @@ pub record IsLent (setup : Setting) (t : Trace) (d f i : ℕ) : Type 0 where
   pub word : IsOfThread setup t d f i ⊎ IsOfList setup t d f i
 
 -- The cores stand for the trace.
-pub record Stands (setup : Setting) (cores : ℕ → Core) (t : Trace) : Type 0 where
+pub record Invariant (setup : Setting) (cores : ℕ → Core) (t : Trace) : Type 0 where
   -- the trace is a legal history; its calls keep within their bounds, and are decided in order where they are alone; and its
   -- steps keep the discipline and their footprints
   pub legal : IsLegal setup t
